@@ -20,6 +20,8 @@ pub mod TabLemmas
 pub mod LookLemmas
 -- where a note on a listing does not apply
 pub mod ListingNoteLemmas
+-- modules that a catalog has by name
+pub mod OverlapLemmas
 -- what is kept of the bytes before a place of a log is enough
 pub mod LogContextLemmas
 -- what is inserted at a place, whatever comes behind the bytes that are there

@@ -1,5 +1,5 @@
 -- Where a note on a listing does not apply.
-use Rattle.std.proofs.Common.{◌≡◌, ◌<◌, ℕ, zero, suc, ◌+◌, Bool, true, false, not, ◌&&◌, ◌||◌, cond, nat_lt, List, [], ◌∷◌, length, take, Option, Some, None, refl, sym, ap, ◌∙◌, ⊎_elim, filter, arith}
+use Rattle.std.proofs.Common.{◌≡◌, ◌<◌, ℕ, zero, suc, ◌+◌, Bool, true, false, true≢false, not, ◌&&◌, ◌||◌, cond, nat_lt, List, [], ◌∷◌, length, get_or, take, drop, Option, Some, None, refl, sym, ap, ◌∙◌, ⊎_elim, filter, arith}
 use Rattle.std.specs.Borrow.{Bor}
 use Rattle.std.specs.Prelude.{find, is_none, is_some, nat_eq, slice_get, unwrap_or}
 use Rattle.std.specs.List.{list_any}
@@ -13,7 +13,7 @@ use Rattle.modules.specs.Catalogs.{built_in_of, catalog_of}
 use Rattle.modules.specs.Lines.{bounds_for, built_in_region, first_address, kernel_regions, usual_bounds_of}
 use Rattle.modules.specs.Listed.{BoundNames, ListedModule, ListedRegion, ListedSymbol}
 use Rattle.modules.proofs.SoundnessLemmas.{built_in_of_accepted}
-use Rattle.listing.specs.declared.listing_notes.ListingNote.TheVariants.{NoEnd, NoStart}
+use Rattle.listing.specs.declared.listing_notes.ListingNote.{ListingNote}
 use Rattle.listing.specs.SymbolListing.{is_mapping, symbols_with}
 use Rattle.listing.specs.ListingNotes.{HasBounds, has_symbols, lacks_symbol, lacks_symbols}
 
@@ -31,7 +31,7 @@ both_named None end some = absurd (cc)
 both_named (Some s) None some = absurd (cc)
 both_named (Some s) (Some e) some = (refl, refl)
 
-not_lacked : (name : List ℕ) (symbols : List ListedSymbol) → list_any (is_kernel_symbol name) symbols ≡ true → lacks_symbol name symbols ≡ false
+pub not_lacked : (name : List ℕ) (symbols : List ListedSymbol) → list_any (is_kernel_symbol name) symbols ≡ true → lacks_symbol name symbols ≡ false
 not_lacked name symbols named =
     ap (λ b. list_any is_of_kernel symbols && not b) named ∙ none (list_any is_of_kernel symbols)
   where
@@ -61,14 +61,6 @@ kernel_named with_mapping names symbols some =
       any_with (is_kernel_symbol names.end) with_mapping symbols (sym (first_named names.end those) ∙ both.1),
     )
 
-pub nothing_lacked : (names : BoundNames) (symbols : List ListedSymbol) → HasBounds names symbols
-    → None ≡ cond (lacks_symbol names.start symbols) (Some NoStart) (cond (lacks_symbol names.end symbols) (Some NoEnd) None)
-nothing_lacked names symbols has =
-    let start = not_lacked names.start symbols has.0 in
-    let end = not_lacked names.end symbols has.1 in
-    sym (ap (λ b. cond b (Some NoStart) (cond (lacks_symbol names.end symbols) (Some NoEnd) None)) start
-    ∙ ap (λ b. cond b (Some NoEnd) None) end)
-
 -- what is there is there as a copy
 pub copied_some : {T : Type 0} (o : Option (Bor T)) → is_some o ≡ is_some (option_copied o)
 copied_some None = refl
@@ -96,30 +88,37 @@ kernel_of_listings names modules regions symbols =
     ap (λ rs. is_some (built_in_of rs symbols)) (built_in_of_accepted (kernel_regions (Some names) symbols) regions modules)
     ∙ has_its_region (built_in_region names symbols) symbols
 
--- ---- the symbols of modules
+-- ---- the modules of a catalog
 
--- the modules up to a place have none, nor has the one at the place
-pub none_more : (modules : List ModuleEntry) (place : ℕ) → place < length modules
-    → has_symbols (slice_get modules place) ≡ false
-    → list_any (λ m. has_symbols (Some m)) (take place modules) ≡ false
-    → list_any (λ m. has_symbols (Some m)) (take (place + 1) modules) ≡ false
-none_more [] place low here before = absurd (omega arith)
-none_more (m ∷ modules) zero low here before = ap (λ b. b || false) here
-none_more (m ∷ modules) (suc place) low here before =
-    let parts = or_parts (has_symbols (Some m)) (list_any (λ x. has_symbols (Some x)) (take place modules)) before in
+-- no module up to a place passes, nor does the one at the place
+pub none_more : (passes : Option ModuleEntry → Bool) (modules : List ModuleEntry) (place : ℕ) → place < length modules
+    → passes (slice_get modules place) ≡ false
+    → list_any (λ m. passes (Some m)) (take place modules) ≡ false
+    → list_any (λ m. passes (Some m)) (take (place + 1) modules) ≡ false
+none_more passes [] place low here before = absurd (omega arith)
+none_more passes (m ∷ modules) zero low here before = ap (λ b. b || false) here
+none_more passes (m ∷ modules) (suc place) low here before =
+    let parts = or_parts (passes (Some m)) (list_any (λ x. passes (Some x)) (take place modules)) before in
     let shift : suc place + 1 ≡ suc (place + 1) = omega arith in
-    ap (λ n. list_any (λ x. has_symbols (Some x)) (take n (m ∷ modules))) shift
-    ∙ ap (λ b. b || list_any (λ x. has_symbols (Some x)) (take (place + 1) modules)) parts.0 ∙ none_more modules place (omega arith) here parts.1
+    ap (λ n. list_any (λ x. passes (Some x)) (take n (m ∷ modules))) shift
+    ∙ ap (λ b. b || list_any (λ x. passes (Some x)) (take (place + 1) modules)) parts.0 ∙ none_more passes modules place (omega arith) here parts.1
 
-pub some_at : (modules : List ModuleEntry) (place : ℕ) → has_symbols (slice_get modules place) ≡ true
-    → list_any (λ m. has_symbols (Some m)) modules ≡ true
-some_at [] place here = absurd (cc)
-some_at (m ∷ modules) zero here = ap (λ b. b || list_any (λ x. has_symbols (Some x)) modules) here
-some_at (m ∷ modules) (suc place) here = or_true (has_symbols (Some m)) (some_at modules place here)
+-- one does that passes where no module would
+pub some_at : (passes : Option ModuleEntry → Bool) (modules : List ModuleEntry) (place : ℕ) → passes None ≡ false → passes (slice_get modules place) ≡ true
+    → list_any (λ m. passes (Some m)) modules ≡ true
+some_at passes [] place none here = absurd (true≢false (sym here ∙ none))
+some_at passes (m ∷ modules) zero none here = ap (λ b. b || list_any (λ x. passes (Some x)) modules) here
+some_at passes (m ∷ modules) (suc place) none here = or_true (passes (Some m)) (some_at passes modules place none here)
   where
     or_true : (a : Bool) {b : Bool} → b ≡ true → (a || b) ≡ true
     or_true true e = refl
     or_true false e = e
+
+-- where all of them are gone through
+pub none_at_all : (passes : Option ModuleEntry → Bool) (modules : List ModuleEntry) (count : ℕ) → count ≡ length modules
+    → list_any (λ m. passes (Some m)) (take count modules) ≡ false → list_any (λ m. passes (Some m)) modules ≡ false
+none_at_all passes modules count is none =
+    ap (λ ms. list_any (λ m. passes (Some m)) ms) (sym (take_all count modules (omega (arith, is)))) ∙ none
 
 positive : (n : ℕ) → nat_lt 0 n ≡ (not (nat_eq n 0) && true)
 positive zero = refl
@@ -127,7 +126,7 @@ positive (suc n) = lt-ltb 0 (suc n) (omega arith) ∙ sym (ap (λ b. not b && tr
 
 pub one_has_some : (c : CatalogEntries) (place : ℕ) → has_symbols (slice_get c.modules place) ≡ true → false ≡ lacks_symbols c
 one_has_some c place here =
-    sym (ap (λ b. not (nat_eq (length c.modules) 0) && not b) (some_at c.modules place here) ∙ none (not (nat_eq (length c.modules) 0)))
+    sym (ap (λ b. not (nat_eq (length c.modules) 0) && not b) (some_at has_symbols c.modules place refl here) ∙ none (not (nat_eq (length c.modules) 0)))
   where
     none : (b : Bool) → (b && false) ≡ false
     none true = refl
@@ -136,6 +135,20 @@ one_has_some c place here =
 pub none_has_some : (c : CatalogEntries) (count : ℕ) → count ≡ length c.modules
     → list_any (λ m. has_symbols (Some m)) (take count c.modules) ≡ false → nat_lt 0 count ≡ lacks_symbols c
 none_has_some c count is none =
-    let all : list_any (λ m. has_symbols (Some m)) c.modules ≡ false =
-    ap (λ ms. list_any (λ m. has_symbols (Some m)) ms) (sym (take_all count c.modules (omega (arith, is)))) ∙ none in
-    ap (nat_lt 0) is ∙ positive (length c.modules) ∙ sym (ap (λ b. not (nat_eq (length c.modules) 0) && not b) all)
+    ap (nat_lt 0) is ∙ positive (length c.modules) ∙ sym (ap (λ b. not (nat_eq (length c.modules) 0) && not b) (none_at_all has_symbols c.modules count is none))
+
+-- ---- the first note that applies
+
+pub notes_from : (applies : ListingNote → Bool) (notes : List ListingNote) (i : ℕ) (d : ListingNote) → i < length notes → applies (get_or notes i d) ≡ false
+    → find applies (drop i notes) ≡ find applies (drop (i + 1) notes)
+notes_from applies [] i d low none = absurd (omega arith)
+notes_from applies (n ∷ notes) zero d low none = ap (λ b. cond b (Some n) (find applies notes)) none
+notes_from applies (n ∷ notes) (suc i) d low none =
+    let shift : suc i + 1 ≡ suc (i + 1) = omega arith in
+    notes_from applies notes i d (omega arith) none ∙ ap (λ k. find applies (drop k (n ∷ notes))) (sym shift)
+
+pub note_at : (applies : ListingNote → Bool) (notes : List ListingNote) (i : ℕ) (d : ListingNote) → i < length notes → applies (get_or notes i d) ≡ true
+    → find applies (drop i notes) ≡ Some (get_or notes i d)
+note_at applies [] i d low one = absurd (omega arith)
+note_at applies (n ∷ notes) zero d low one = ap (λ b. cond b (Some n) (find applies notes)) one
+note_at applies (n ∷ notes) (suc i) d low one = note_at applies notes i d (omega arith) one

@@ -11,6 +11,8 @@ pub mod ModuleListing
 pub mod SymbolListing
 -- what a listing looks like of which no line is of use
 pub mod Looks
+-- listed modules that are not in the catalog
+pub mod Overlaps
 -- what is noted of such a listing
 pub mod ListingNotes
 -- what a listing of regions says

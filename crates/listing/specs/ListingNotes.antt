@@ -7,6 +7,8 @@ use Rattle.texts.specs.Lines.{lines_of}
 use Rattle.listing.specs.Looks.{are_modules_hidden, are_symbols_hidden, first_ends_in_cr, is_gzip}
 use Rattle.listing.specs.Looks.{is_kernel_symbol, is_module_line, is_of_kernel, is_symbol_line}
 use Rattle.listing.specs.Looks.{lacks_lines, looks_like_modules, looks_like_symbols}
+use Rattle.listing.specs.ModuleListing.{modules_in}
+use Rattle.listing.specs.Overlaps.{do_modules_overlap}
 use Rattle.listing.specs.SymbolListing.{symbols_in}
 use Rattle.modules.specs.Entries.{CatalogEntries, ModuleEntry}
 use Rattle.modules.specs.Listed.{BoundNames, ListedSymbol}
@@ -16,7 +18,7 @@ use Rattle.listing.specs.declared.listing_notes.ListingNote.TheVariants.{LooksLi
 use Rattle.listing.specs.declared.listing_notes.ListingNote.TheVariants.{LooksLikeModules}
 use Rattle.listing.specs.declared.listing_notes.ListingNote.TheVariants.{LinesEndInCrLf, NoStart}
 use Rattle.listing.specs.declared.listing_notes.ListingNote.TheVariants.{NoEnd, OtherBoot}
-use Rattle.listing.specs.declared.listing_notes.ListingNote.TheVariants.{NoModuleLine}
+use Rattle.listing.specs.declared.listing_notes.ListingNote.TheVariants.{ModulesOverlap, NoModuleLine}
 use Rattle.listing.specs.declared.listing_notes.ListingNote.TheVariants.{NoSymbolLine}
 use Rattle.listing.specs.declared.listing_notes.ListingNotes.{ListingNotes}
 
@@ -24,7 +26,7 @@ use Rattle.listing.specs.declared.listing_notes.ListingNotes.{ListingNotes}
 abbrev pub all_notes : List ListingNote
 all_notes =
     Gzip ∷ AllHidden ∷ LooksLikeSymbols ∷ LooksLikeModules ∷ LinesEndInCrLf ∷ NoStart ∷ NoEnd
-    ∷ OtherBoot ∷ NoModuleLine ∷ NoSymbolLine ∷ []
+    ∷ OtherBoot ∷ ModulesOverlap ∷ NoModuleLine ∷ NoSymbolLine ∷ []
 
 -- no line of the listing of modules is accepted
 abbrev pub has_no_module : CatalogEntries → Bool
@@ -49,15 +51,19 @@ HasBounds names symbols =
     (list_any (is_kernel_symbol names.start) symbols ≡ true)
     × (list_any (is_kernel_symbol names.end) symbols ≡ true)
 
--- what is noted of a listing of modules with this text, where the catalog is this
-abbrev pub is_of_modules : List ℕ → CatalogEntries → ListingNote → Bool
-is_of_modules text c Gzip = is_gzip text
-is_of_modules text c AllHidden = are_modules_hidden (lines_of text)
-is_of_modules text c LooksLikeSymbols = has_no_module c && looks_like_symbols (lines_of text)
-is_of_modules text c LinesEndInCrLf = has_no_module c && first_ends_in_cr (lines_of text)
-is_of_modules text c OtherBoot = lacks_symbols c
-is_of_modules text c NoModuleLine = has_no_module c && lacks_lines is_module_line text
-is_of_modules text c _ = false
+-- what is noted of a listing of modules with this text, where the listing of symbols has that one
+-- and the catalog of both is this
+abbrev pub is_of_modules : List ℕ → List ℕ → CatalogEntries → ListingNote → Bool
+is_of_modules text kallsyms c Gzip = is_gzip text
+is_of_modules text kallsyms c AllHidden = are_modules_hidden (lines_of text)
+is_of_modules text kallsyms c LooksLikeSymbols =
+    has_no_module c && looks_like_symbols (lines_of text)
+is_of_modules text kallsyms c LinesEndInCrLf = has_no_module c && first_ends_in_cr (lines_of text)
+is_of_modules text kallsyms c OtherBoot = lacks_symbols c
+is_of_modules text kallsyms c ModulesOverlap =
+    do_modules_overlap (modules_in (lines_of text)) (symbols_in (lines_of kallsyms)) c
+is_of_modules text kallsyms c NoModuleLine = has_no_module c && lacks_lines is_module_line text
+is_of_modules text kallsyms c _ = false
 
 -- what is noted of a listing of symbols with this text, of which so many are kept, where these
 -- names bound the kernel

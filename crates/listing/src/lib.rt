@@ -16,6 +16,7 @@ mod log_places;
 mod log_words;
 mod looks;
 mod module_listing;
+mod overlaps;
 mod region_listing;
 mod symbol_listing;
 
@@ -28,8 +29,8 @@ pub use laws::{
     addresses_by_their_lines, each_listed_line_is_counted_once, regions_by_their_lines,
 };
 pub use listing_notes::{
-    ListingNote, ListingNotes, ModuleFacts, SymbolFacts, applies_to_kallsyms, applies_to_modules,
-    note_of_kallsyms, note_of_modules, note_of_modules_by,
+    ListingNote, ListingNotes, SymbolFacts, applies_to_kallsyms, applies_to_modules,
+    note_of_kallsyms, note_of_modules,
 };
 pub use looks::{
     KernelSymbols, are_modules_hidden, are_symbols_hidden, first_line_ends_in_cr, is_gzip,

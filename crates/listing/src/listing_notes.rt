@@ -1,15 +1,15 @@
 //! What is noted of listings of which nothing is of use, so that such a run does not look like a
 //! success.
 //!
-//! Notes are decided when the catalog is built, mostly from what was counted for it. A text is gone
-//! through again only where none of its lines is kept, or where the kernel itself has no region.
-ghost use Rattle.std.specs.Prelude.{◌≡◌, find, if◌then◌else◌, true, None, Some};
+//! Notes are decided when the catalog is built, mostly from what was counted for it. That of symbols
+//! is gone through again only where none of its lines is kept, where the kernel itself has no region
+//! or where a module is left out.
+ghost use Rattle.std.specs.Prelude.{◌≡◌, find, true};
 ghost use Rattle.std.specs.Option.{option_copied};
 ghost use Rattle.texts.specs.Lines.{lines_of};
 ghost use Rattle.listing.specs.Looks.{are_modules_hidden, are_symbols_hidden};
 ghost use Rattle.listing.specs.SymbolListing.{symbols_in};
-ghost use Rattle.modules.specs.Entries.{CatalogEntries};
-ghost use Rattle.listing.specs.ListingNotes.{all_notes, has_no_module, has_symbols, HasBounds};
+ghost use Rattle.listing.specs.ListingNotes.{all_notes, has_symbols, HasBounds};
 ghost use Rattle.listing.specs.ListingNotes.{is_of_kallsyms, is_of_modules, is_some_noted};
 ghost use Rattle.listing.specs.ListingNotes.{lacks_symbol, lacks_symbols, no_notes};
 
@@ -17,6 +17,7 @@ use crate::looks::{
     first_line_ends_in_cr, is_gzip, kernel_symbols, lacks_module_lines, lacks_symbol_lines,
     looks_like_modules, looks_like_symbols,
 };
+use crate::overlaps::do_modules_overlap;
 use modules::{Catalog, KernelBounds, Module};
 
 /// What is noted of a listing. The notes stand in the order in which the first that applies to a
@@ -39,6 +40,8 @@ pub enum ListingNote {
     NoEnd,
     /// No symbol of a listed module lies in its region.
     OtherBoot,
+    /// A symbol names a listed module that is left out, since its region meets others.
+    ModulesOverlap,
     /// There are bytes, and no line is well formed in a listing of modules.
     NoModuleLine,
     /// There are bytes, and no line is well formed in a listing of symbols.
@@ -53,7 +56,7 @@ pub struct ListingNotes {
 }
 
 /// All notes, in the order in which the first that applies to a listing is sought.
-const ALL: [ListingNote; 10] = [
+const ALL: [ListingNote; 11] = [
     ListingNote::Gzip,
     ListingNote::AllHidden,
     ListingNote::LooksLikeSymbols,
@@ -62,6 +65,7 @@ const ALL: [ListingNote; 10] = [
     ListingNote::NoStart,
     ListingNote::NoEnd,
     ListingNote::OtherBoot,
+    ListingNote::ModulesOverlap,
     ListingNote::NoModuleLine,
     ListingNote::NoSymbolLine,
 ];
@@ -117,53 +121,51 @@ fn has_symbols(found: Option<&Module>) -> bool
     }
 }
 
-/// The first note on a listing of modules with this text, whose well-formed lines are all hidden or
-/// not.
-pub fn note_of_modules(text: &[u8], hidden: bool, catalog: &Catalog) -> Option<ListingNote>
+/// Whether a note applies to a listing of modules with this text beside one of symbols, where this
+/// catalog is built of both, and all its well-formed lines are hidden or not.
+pub fn applies_to_modules(
+    note: ListingNote,
+    text: &[u8],
+    kallsyms: &[u8],
+    hidden: bool,
+    catalog: &Catalog,
+) -> bool
     requires { hidden ≡ are_modules_hidden (lines_of text.now) }
-    ensures { result ≡ find (is_of_modules text.now catalog.now) all_notes }
+    ensures { result ≡ is_of_modules text.now kallsyms.now catalog.now note }
 {
-    let facts = ModuleFacts {
-        hidden,
-        none: catalog.len() == 0,
-        lacks_symbols: lacks_symbols(catalog),
-    };
-    note_of_modules_by(text, facts)
-}
-
-/// What is known of the modules that listings have.
-#[derive(Clone, Copy, Drop)]
-pub struct ModuleFacts {
-    /// All well-formed lines of their listing are hidden, and there is one.
-    pub hidden: bool,
-    /// None is accepted.
-    pub none: bool,
-    /// Some are accepted, and no symbol of any of them lies in its region.
-    pub lacks_symbols: bool,
-}
-
-/// The first note on a listing of modules with this text, of whose modules this is known.
-pub fn note_of_modules_by(text: &[u8], modules: ModuleFacts) -> Option<ListingNote>
-    requires { modules.hidden ≡ are_modules_hidden (lines_of text.now) }
-    ensures { (c : CatalogEntries) → modules.none ≡ has_no_module c
-        → modules.lacks_symbols ≡ lacks_symbols c
-        → result ≡ find (is_of_modules text.now c) all_notes }
-{
-    if is_gzip(text) {
-        Some(ListingNote::Gzip)
-    } else if modules.hidden {
-        Some(ListingNote::AllHidden)
-    } else if modules.none && looks_like_symbols(text) {
-        Some(ListingNote::LooksLikeSymbols)
-    } else if modules.none && first_line_ends_in_cr(text) {
-        Some(ListingNote::LinesEndInCrLf)
-    } else if modules.lacks_symbols {
-        Some(ListingNote::OtherBoot)
-    } else if modules.none && lacks_module_lines(text) {
-        Some(ListingNote::NoModuleLine)
-    } else {
-        None
+    let none = catalog.len() == 0;
+    match note {
+        ListingNote::Gzip => is_gzip(text),
+        ListingNote::AllHidden => hidden,
+        ListingNote::LooksLikeSymbols => none && looks_like_symbols(text),
+        ListingNote::LinesEndInCrLf => none && first_line_ends_in_cr(text),
+        ListingNote::OtherBoot => lacks_symbols(catalog),
+        ListingNote::ModulesOverlap => do_modules_overlap(text, kallsyms, catalog),
+        ListingNote::NoModuleLine => none && lacks_module_lines(text),
+        ListingNote::LooksLikeModules
+        | ListingNote::NoStart
+        | ListingNote::NoEnd
+        | ListingNote::NoSymbolLine => false,
     }
+}
+
+/// The first note on such a listing of modules.
+pub fn note_of_modules(
+    text: &[u8],
+    kallsyms: &[u8],
+    hidden: bool,
+    catalog: &Catalog,
+) -> Option<ListingNote>
+    requires { hidden ≡ are_modules_hidden (lines_of text.now) }
+    ensures { result ≡ find (is_of_modules text.now kallsyms.now catalog.now) all_notes }
+{
+    let notes = ListingNote::all();
+    for note in notes {
+        if applies_to_modules(*note, text, kallsyms, hidden, catalog) {
+            return Some(*note);
+        }
+    }
+    None
 }
 
 /// What is known of a listing of symbols once it is read.
@@ -173,11 +175,41 @@ pub struct SymbolFacts {
     pub hidden: bool,
     /// How many lines are kept.
     pub kept: u64,
-    /// Both names that bound the kernel are listed, the first below the second.
+    /// Both names that bound the kernel are known to be listed. Where it is not set, they are
+    /// sought in the text.
     pub has_kernel: bool,
 }
 
-/// The first note on a listing of symbols with this text, where these names bound the kernel.
+/// Whether a note applies to a listing of symbols with this text, of which this is known, where
+/// these names bound the kernel.
+pub fn applies_to_kallsyms(
+    note: ListingNote,
+    text: &[u8],
+    names: &KernelBounds,
+    facts: SymbolFacts,
+) -> bool
+    requires hidden { facts.hidden ≡ are_symbols_hidden (lines_of text.now) }
+    requires kernel { facts.has_kernel ≡ true
+        → HasBounds names.now (symbols_in (lines_of text.now)) }
+    ensures { result ≡ is_of_kallsyms names.now text.now facts.kept note }
+{
+    let none = facts.kept == 0;
+    match note {
+        ListingNote::Gzip => is_gzip(text),
+        ListingNote::AllHidden => facts.hidden,
+        ListingNote::LooksLikeModules => none && looks_like_modules(text),
+        ListingNote::LinesEndInCrLf => none && first_line_ends_in_cr(text),
+        ListingNote::NoStart => lacks_start(text, names, facts.has_kernel),
+        ListingNote::NoEnd => lacks_end(text, names, facts.has_kernel),
+        ListingNote::NoSymbolLine => none && lacks_symbol_lines(text),
+        ListingNote::LooksLikeSymbols
+        | ListingNote::OtherBoot
+        | ListingNote::ModulesOverlap
+        | ListingNote::NoModuleLine => false,
+    }
+}
+
+/// The first note on such a listing of symbols.
 pub fn note_of_kallsyms(
     text: &[u8],
     names: &KernelBounds,
@@ -188,105 +220,36 @@ pub fn note_of_kallsyms(
         → HasBounds names.now (symbols_in (lines_of text.now)) }
     ensures { result ≡ find (is_of_kallsyms names.now text.now facts.kept) all_notes }
 {
-    let none = facts.kept == 0;
-    if is_gzip(text) {
-        Some(ListingNote::Gzip)
-    } else if facts.hidden {
-        Some(ListingNote::AllHidden)
-    } else if none && looks_like_modules(text) {
-        Some(ListingNote::LooksLikeModules)
-    } else if none && first_line_ends_in_cr(text) {
-        Some(ListingNote::LinesEndInCrLf)
-    } else if let Some(note) = missing_bound(text, names, facts.has_kernel) {
-        Some(note)
-    } else if none && lacks_symbol_lines(text) {
-        Some(ListingNote::NoSymbolLine)
-    } else {
-        None
+    let notes = ListingNote::all();
+    for note in notes {
+        if applies_to_kallsyms(*note, text, names, facts) {
+            return Some(*note);
+        }
     }
+    None
 }
 
-/// Which of the names that bound the kernel no symbol has, where symbols of the kernel itself are
-/// listed. Where there is a region between them, both are.
-fn missing_bound(text: &[u8], names: &KernelBounds, has_kernel: bool) -> Option<ListingNote>
+/// Whether symbols of the kernel itself are listed, and none at its first address. Where both its
+/// bounds are known to be listed, nothing is sought.
+fn lacks_start(text: &[u8], names: &KernelBounds, has_kernel: bool) -> bool
     requires { has_kernel ≡ true → HasBounds names.now (symbols_in (lines_of text.now)) }
-    ensures { result
-        ≡ (if lacks_symbol names.now.start (symbols_in (lines_of text.now))
-        then Some ListingNote.NoStart
-        else if lacks_symbol names.now.end (symbols_in (lines_of text.now))
-        then Some ListingNote.NoEnd else None) }
-{
-    if has_kernel {
-        return None;
-    }
-    let shown = kernel_symbols(text, names);
-    if shown.any && !shown.start {
-        Some(ListingNote::NoStart)
-    } else if shown.any && !shown.end {
-        Some(ListingNote::NoEnd)
-    } else {
-        None
-    }
-}
-
-/// Whether a note applies to a listing of modules with this text, whose well-formed lines are all
-/// hidden or not.
-pub fn applies_to_modules(note: ListingNote, text: &[u8], hidden: bool, catalog: &Catalog) -> bool
-    requires { hidden ≡ are_modules_hidden (lines_of text.now) }
-    ensures { result ≡ is_of_modules text.now catalog.now note }
-{
-    let none = catalog.len() == 0;
-    match note {
-        ListingNote::Gzip => is_gzip(text),
-        ListingNote::AllHidden => hidden,
-        ListingNote::LooksLikeSymbols => none && looks_like_symbols(text),
-        ListingNote::LinesEndInCrLf => none && first_line_ends_in_cr(text),
-        ListingNote::OtherBoot => lacks_symbols(catalog),
-        ListingNote::NoModuleLine => none && lacks_module_lines(text),
-        ListingNote::LooksLikeModules
-        | ListingNote::NoStart
-        | ListingNote::NoEnd
-        | ListingNote::NoSymbolLine => false,
-    }
-}
-
-/// Whether a note applies to a listing of symbols with this text, of which so many lines are kept,
-/// where these names bound the kernel.
-pub fn applies_to_kallsyms(
-    note: ListingNote,
-    text: &[u8],
-    names: &KernelBounds,
-    hidden: bool,
-    kept: u64,
-) -> bool
-    requires { hidden ≡ are_symbols_hidden (lines_of text.now) }
-    ensures { result ≡ is_of_kallsyms names.now text.now kept note }
-{
-    let none = kept == 0;
-    match note {
-        ListingNote::Gzip => is_gzip(text),
-        ListingNote::AllHidden => hidden,
-        ListingNote::LooksLikeModules => none && looks_like_modules(text),
-        ListingNote::LinesEndInCrLf => none && first_line_ends_in_cr(text),
-        ListingNote::NoStart => lacks_start(text, names),
-        ListingNote::NoEnd => lacks_end(text, names),
-        ListingNote::NoSymbolLine => none && lacks_symbol_lines(text),
-        ListingNote::LooksLikeSymbols | ListingNote::OtherBoot | ListingNote::NoModuleLine => false,
-    }
-}
-
-/// Whether symbols of the kernel itself are listed, and none at its first address.
-fn lacks_start(text: &[u8], names: &KernelBounds) -> bool
     ensures { result ≡ lacks_symbol names.now.start (symbols_in (lines_of text.now)) }
 {
+    if has_kernel {
+        return false;
+    }
     let shown = kernel_symbols(text, names);
     shown.any && !shown.start
 }
 
 /// The same of its end.
-fn lacks_end(text: &[u8], names: &KernelBounds) -> bool
+fn lacks_end(text: &[u8], names: &KernelBounds, has_kernel: bool) -> bool
+    requires { has_kernel ≡ true → HasBounds names.now (symbols_in (lines_of text.now)) }
     ensures { result ≡ lacks_symbol names.now.end (symbols_in (lines_of text.now)) }
 {
+    if has_kernel {
+        return false;
+    }
     let shown = kernel_symbols(text, names);
     shown.any && !shown.end
 }

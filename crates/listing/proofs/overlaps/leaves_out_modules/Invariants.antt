@@ -1,0 +1,14 @@
+use Rattle.std.proofs.Common.{◌≡◌, length}
+use Rattle.std.specs.List.{list_any}
+use Rattle.texts.specs.Lines.{lines_of}
+use Rattle.listing.specs.ModuleListing.{modules_in}
+use Rattle.listing.specs.Overlaps.{is_left_out}
+use Rattle.listing.proofs.overlaps.leaves_out_modules.Given as goal
+
+-- no module before the rest is left out
+abbrev pub invariant-loop-rest : goal.invariant-loop-rest
+invariant-loop-rest l =
+    list_any (λ m. is_left_out l.catalog m.name) (modules_in (lines_of l.rest)) ≡ list_any (λ m. is_left_out l.catalog m.name) (modules_in (lines_of l.text))
+
+abbrev pub decreases-loop-rest : goal.decreases-loop-rest
+decreases-loop-rest l = length l.rest
