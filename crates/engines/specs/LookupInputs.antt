@@ -144,6 +144,6 @@ known_inputs modules kallsyms regions addresses readers options given =
 -- of each listing the first note that applies to it
 abbrev pub notes_of : Inputs → ListingNotes
 notes_of i = record {
-  modules = find (is_of_modules i.modules (catalog_in i)) all_notes;
+  modules = find (is_of_modules i.modules i.kallsyms (catalog_in i)) all_notes;
   kallsyms = find (is_of_kallsyms i.options.kernel i.kallsyms (counts_in i).symbols) all_notes;
 }

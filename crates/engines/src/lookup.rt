@@ -279,7 +279,7 @@ pub fn listings_in<'a>(
         has_kernel: catalog.module(0).is_some(),
     };
     let notes = ListingNotes {
-        modules: note_of_modules(inputs.modules, modules_hidden, &catalog),
+        modules: note_of_modules(inputs.modules, inputs.kallsyms, modules_hidden, &catalog),
         kallsyms: note_of_kallsyms(inputs.kallsyms, &inputs.options.kernel, facts),
     };
     Ok(Listings {

@@ -1,6 +1,7 @@
 -- From what came of a log by the catalog of listings to what the engine returns.
 use Rattle.std.proofs.Common.{◌≡◌, ℕ, List, [], Option, Some, None, Result, Ok, Err, refl, sym, subst, inl, inr, ⊎_elim}
 use Rattle.std.specs.Prelude.{IfSome, IsErrAnd, is_some, true}
+use Rattle.clap.specs.Words.{Text}
 use Rattle.texts.specs.declared.counted.Counted.{Counted}
 use Rattle.listing.specs.AnnotatedLogs.{answered_by}
 use Rattle.order_laws.specs.declared.refusals.Refusal.TheVariants as refusal
@@ -15,16 +16,16 @@ use Rattle.latchsym.specs.declared.annotations.AnnotateOptions.{AnnotateOptions}
 use Rattle.listing.specs.SymbolListing.{is_narrow, symbols_in}
 use Rattle.texts.specs.Lines.{lines_of}
 
-module _ {L W E : Type 0} (remaining : L → Option (List ℕ)) (contents : W → Option (List ℕ)) (errors : E → Option (List ℕ)) (o : AnnotateOptions) (files : ListingFiles) where
+module _ {L W E : Type 0} (remaining : L → Option (List ℕ)) (contents : W → Option (List ℕ)) (errors : E → Option (List ℕ)) (o : AnnotateOptions) (files : ListingFiles) (log : Text) where
   -- a fault on the way
   pub ended : (known : Option Given) (counts : Failures) (l l' : Counted L) (w w' : Counted W) (e e' : Counted E) (result : Result ℕ Fault) (fault : Fault) → IsErrAnd result (λ f. f ≡ fault)
-      → AnnotatesLog remaining contents errors o files known counts l l' w w' e e' (Err fault) → AnnotatesLog remaining contents errors o files known counts l l' w w' e e' result
+      → AnnotatesLog remaining contents errors o files log known counts l l' w w' e e' (Err fault) → AnnotatesLog remaining contents errors o files log known counts l l' w w' e e' result
   ended known counts l l' w w' e e' (Ok done) fault is h = absurd is
-  ended known counts l l' w w' e e' (Err f) fault is h = subst (λ x. AnnotatesLog remaining contents errors o files known counts l l' w w' e e' (Err x)) (sym is) h
+  ended known counts l l' w w' e e' (Err f) fault is h = subst (λ x. AnnotatesLog remaining contents errors o files log known counts l l' w w' e e' (Err x)) (sym is) h
 
   -- the catalog could not be opened
   pub not_opened : (g : Given) (l : Counted L) (w : Counted W) (e : Counted E) (f : Fault) → OpensCatalog o.kernel g (Err f)
-      → AnnotatesLog remaining contents errors o files (Some g) [] l l w w e e (Err f)
+      → AnnotatesLog remaining contents errors o files log (Some g) [] l l w w e e (Err f)
   not_opened g l w e (Refused refusal.OutOfMemory) h = (tt, inl (refl, refl, refl))
   not_opened g l w e (Refused refusal.TooManyRegions) h = (tt, (refl, refl, refl), h)
   not_opened g l w e (BadLine place n) h = (tt, (refl, refl, refl), h.1, (h.0, h.2))
@@ -32,18 +33,18 @@ module _ {L W E : Type 0} (remaining : L → Option (List ℕ)) (contents : W �
 
   -- the listings could not be read
   pub not_read : (known : Option Given) (counts : Failures) (l : Counted L) (w : Counted W) (e : Counted E) (f : Fault) → AreReadAs {A = GivenTexts} counts (Err f)
-      → AnnotatesLog remaining contents errors o files known counts l l w w e e (Err f)
+      → AnnotatesLog remaining contents errors o files log known counts l l w w e e (Err f)
   not_read known counts l w e (Refused refusal.OutOfMemory) h = (h, inl (refl, refl, refl))
   not_read known counts l w e (Read place) h = inl (h, (refl, refl, refl))
   not_read known counts l w e _ h = absurd h
 
   module _ (l l' : Counted L) (w w' : Counted W) (e e' : Counted E) where
     abbrev Told : Option Given → Result ℕ Fault → Type 0
-    Told known r = IsTold errors o.kernel files known e e' (λ c narrow. AnnotatesBy remaining contents (answered_by c o.rule narrow) l l' w w' r)
+    Told known r = IsTold errors o.kernel files known e (λ c narrow noted. AnnotatesBy remaining contents errors log (answered_by c o.rule narrow) l l' w w' noted e' r)
 
     -- the notes were told, and this came of the log
     pub log_annotated : (known : Option Given) (result : Result ℕ Fault) → Told known result
-        → AnnotatesLog remaining contents errors o files known [] l l' w w' e e' result
+        → AnnotatesLog remaining contents errors o files log known [] l l' w w' e e' result
     log_annotated known (Ok done) t = (tt, t)
     log_annotated known (Err (Refused refusal.OutOfMemory)) t = (tt, inr t)
     log_annotated known (Err (Read place)) t = inr (tt, t)
@@ -65,14 +66,15 @@ module _ {L W E : Type 0} (remaining : L → Option (List ℕ)) (contents : W �
         catalog = t.catalog;
         narrow = t.narrow;
         notes = t.notes;
+        noted = t.noted;
         sized = said_of (λ x. t.narrow ≡ is_narrow (symbols_in (lines_of x.kallsyms))) t.sized;
         said = said_of (λ x. IsCatalogOf o.kernel x t.catalog t.notes) t.said;
         told = t.told;
         holds = t.holds;
       }
 
-      pub readers_known : (result : Result ℕ Fault) → AnnotatesLog remaining contents errors o files (Some g) [] l l' w w' e e' result
-          → AnnotatesLog remaining contents errors o files known counts l l' w w' e e' result
+      pub readers_known : (result : Result ℕ Fault) → AnnotatesLog remaining contents errors o files log (Some g) [] l l' w w' e e' result
+          → AnnotatesLog remaining contents errors o files log known counts l l' w w' e e' result
       readers_known (Ok done) h = (none, told_of (Ok done) h.1)
       readers_known (Err (Refused refusal.OutOfMemory)) h = (none, ⊎_elim inl (λ t. inr (told_of (Err (Refused refusal.OutOfMemory)) t)) h.1)
       readers_known (Err (Refused refusal.TooManyRegions)) h = (none, h.1, said_of (λ x. (is_some x.modules ≡ true) × HasCrowdedRegions x.regions) h.2)

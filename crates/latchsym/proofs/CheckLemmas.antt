@@ -65,7 +65,7 @@ module _ (kernel : Option BoundNames) (files : ListingFiles) (bounds : BoundName
   -- the text by the names of the bounds, the catalog and the counts
   abbrev text_by : BoundNames → CatalogEntries → BuildCounts → List ℕ → List ℕ → List ℕ → List ℕ
   text_by names c built of_modules of_symbols of_regions =
-      applying_lines names (modules_name files) (is_of_modules modules c)
+      applying_lines names (modules_name files) (is_of_modules modules kallsyms c)
       ++ applying_lines names files.kallsyms.now (is_of_kallsyms names kallsyms built.symbols)
       ++ (modules_line of_modules built ++ symbols_line of_symbols built.symbols built.stray ++ of_regions)
 

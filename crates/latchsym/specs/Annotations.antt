@@ -9,7 +9,10 @@ use Rattle.modules.specs.Listed.{BoundNames}
 use Rattle.order_laws.specs.declared.refusals.Refusal.TheVariants as refusal
 use Rattle.latchsym.specs.Reports.{IsNoted}
 use Rattle.listing.specs.ListingNotes.{is_some_noted}
-use Rattle.latchsym.specs.NoteTexts.{note_lines}
+use Rattle.latchsym.specs.NoteTexts.{note_lines, other_boot_line}
+use Rattle.listing.specs.LogNames.{is_of_another_boot}
+use Rattle.listing.specs.declared.log_names.LogNames.{LogNames}
+use Rattle.clap.specs.Words.{Text}
 use Rattle.engines.specs.OpenedCatalogs.{Given, HasBadRegion, HasCrowdedRegions, IsCatalogOf}
 use Rattle.listing.specs.SymbolListing.{is_narrow, symbols_in}
 use Rattle.texts.specs.Lines.{lines_of}
@@ -20,36 +23,49 @@ use Rattle.engines.specs.declared.fault.Fault.TheVariants.{Refused, BadLine, Rea
 use Rattle.listing.specs.declared.listing_notes.ListingNotes.{ListingNotes}
 use Rattle.latchsym.specs.declared.annotations.AnnotateOptions.{AnnotateOptions}
 
--- How the end of the log is told. A status of 1 stands for a reader of the output that is gone, of
--- which nothing is said. The log is the file at place 3.
-abbrev pub AnnotatesBy : {L W : Type 0} → (L → Option (List ℕ)) → (W → Option (List ℕ))
-    → Answering → Counted L → Counted L → Counted W → Counted W → Result ℕ Fault → Type 0
-AnnotatesBy remaining contents answer l l' w w' (Ok status) =
-    ((status ≡ 0) × Annotates remaining contents answer l l' w w' (Ok tt))
-    ⊎ ((status ≡ 1) × Annotates remaining contents answer l l' w w' (Err log_fault.Closed))
-AnnotatesBy remaining contents answer l l' w w' (Err (Refused refusal.OutOfMemory)) =
-    Annotates remaining contents answer l l' w w' (Err log_fault.OutOfMemory)
-AnnotatesBy remaining contents answer l l' w w' (Err (Read place)) =
-    (place ≡ 3) × Annotates remaining contents answer l l' w w' (Err log_fault.Read)
-AnnotatesBy remaining contents answer l l' w w' (Err (TooLong place)) =
-    (place ≡ 3) × Annotates remaining contents answer l l' w w' (Err log_fault.TooLong)
-AnnotatesBy remaining contents answer l l' w w' (Err Write) =
-    Annotates remaining contents answer l l' w w' (Err log_fault.Write)
-AnnotatesBy remaining contents answer l l' w w' (Err _) = ⊥
+-- the log was annotated to its end, and where its own names tell that it is of another boot than the
+-- listing, this is noted behind it
+abbrev pub IsAnnotatedLog : {L W E : Type 0} → (L → Option (List ℕ)) → (W → Option (List ℕ))
+    → (E → Option (List ℕ)) → Text → Answering → Counted L → Counted L → Counted W → Counted W
+    → Counted E → Counted E → Type 0
+IsAnnotatedLog remaining contents errors log answer l l' w w' e e' =
+    (names : LogNames) × Annotates remaining contents answer l l' w w' (Ok names)
+    × IsNoted errors e e' (is_of_another_boot names) (other_boot_line log names)
+
+-- How the end of the log in this file is told. A status of 1 stands for a reader of the output that
+-- is gone, of which nothing is said. The log is the file at place 3.
+abbrev pub AnnotatesBy : {L W E : Type 0} → (L → Option (List ℕ)) → (W → Option (List ℕ))
+    → (E → Option (List ℕ)) → Text → Answering → Counted L → Counted L → Counted W → Counted W
+    → Counted E → Counted E → Result ℕ Fault → Type 0
+AnnotatesBy remaining contents errors log answer l l' w w' e e' (Ok status) =
+    ((status ≡ 0) × IsAnnotatedLog remaining contents errors log answer l l' w w' e e')
+    ⊎ ((status ≡ 1) × Annotates remaining contents answer l l' w w' (Err log_fault.Closed)
+    × (e' ≡ e))
+AnnotatesBy remaining contents errors log answer l l' w w' e e' (Err (Refused refusal.OutOfMemory)) =
+    Annotates remaining contents answer l l' w w' (Err log_fault.OutOfMemory) × (e' ≡ e)
+AnnotatesBy remaining contents errors log answer l l' w w' e e' (Err (Read place)) =
+    (place ≡ 3) × Annotates remaining contents answer l l' w w' (Err log_fault.Read) × (e' ≡ e)
+AnnotatesBy remaining contents errors log answer l l' w w' e e' (Err (TooLong place)) =
+    (place ≡ 3) × Annotates remaining contents answer l l' w w' (Err log_fault.TooLong) × (e' ≡ e)
+AnnotatesBy remaining contents errors log answer l l' w w' e e' (Err Write) =
+    Annotates remaining contents answer l l' w w' (Err log_fault.Write) × (e' ≡ e)
+AnnotatesBy remaining contents errors log answer l l' w w' e e' (Err _) = ⊥
 
 -- There is a catalog of the listings, where these are known; what is noted of them was told; and
--- this holds of the catalog, and of whether the listing of symbols is that of a 32-bit kernel.
+-- this holds of the catalog, of whether the listing of symbols is that of a 32-bit kernel, and of
+-- what was told to behind the notes.
 pub record IsTold {E : Type 0} (contents : E → Option (List ℕ)) (kernel : Option BoundNames)
-    (files : ListingFiles) (known : Option Given) (e e' : Counted E)
-    (P : CatalogEntries → Bool → Type 0)
+    (files : ListingFiles) (known : Option Given) (e : Counted E)
+    (P : CatalogEntries → Bool → Counted E → Type 0)
     : Type 0 where
   pub catalog : CatalogEntries
   pub narrow : Bool
   pub notes : ListingNotes
+  pub noted : Counted E
   pub said : IfSome known (λ g. IsCatalogOf kernel g catalog notes)
   pub sized : IfSome known (λ g. narrow ≡ is_narrow (symbols_in (lines_of g.kallsyms)))
-  pub told : IsNoted contents e e' (is_some_noted notes) (note_lines kernel files notes)
-  pub holds : P catalog narrow
+  pub told : IsNoted contents e noted (is_some_noted notes) (note_lines kernel files notes)
+  pub holds : P catalog narrow noted
 
 -- neither the log nor the writers were touched
 abbrev pub IsUntouched : {L W E : Type 0} → Counted L → Counted L → Counted W → Counted W
@@ -78,14 +94,15 @@ AnnotatesAfter known counts Untouched Told (Err Write) =
     NoReaderFailed counts × Told (Err Write)
 AnnotatesAfter known counts Untouched Told (Err _) = ⊥
 
--- What the engine returns. Once it told what is noted of the listings, the log is annotated by the
--- answers of their catalog.
+-- What the engine returns. Once it told what is noted of the listings, the log in this file is
+-- annotated by the answers of their catalog.
 abbrev pub AnnotatesLog : {L W E : Type 0} → (L → Option (List ℕ)) → (W → Option (List ℕ))
-    → (E → Option (List ℕ)) → AnnotateOptions → ListingFiles → Option Given → Failures
+    → (E → Option (List ℕ)) → AnnotateOptions → ListingFiles → Text → Option Given → Failures
     → Counted L → Counted L → Counted W → Counted W → Counted E → Counted E
     → Result ℕ Fault → Type 0
-AnnotatesLog remaining contents errors o files known counts l l' w w' e e' result =
+AnnotatesLog remaining contents errors o files log known counts l l' w w' e e' result =
     AnnotatesAfter known counts (IsUntouched l l' w w' e e')
-    (λ r. IsTold errors o.kernel files known e e'
-    (λ c narrow. AnnotatesBy remaining contents (answered_by c o.rule narrow) l l' w w' r))
+    (λ r. IsTold errors o.kernel files known e
+    (λ c narrow noted. AnnotatesBy remaining contents errors log (answered_by c o.rule narrow)
+    l l' w w' noted e' r))
     result

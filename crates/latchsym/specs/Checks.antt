@@ -35,7 +35,7 @@ modules_name files = unwrap_or (option_map (λ f. f.now) files.modules) []
 -- first, and then the counts of a lookup over the same listings.
 abbrev pub modules_report : ListingFiles → Inputs → List ℕ
 modules_report files i =
-    applying_lines i.options.kernel (modules_name files) (is_of_modules i.modules (catalog_in i))
+    applying_lines i.options.kernel (modules_name files) (is_of_modules i.modules i.kallsyms (catalog_in i))
     ++ applying_lines i.options.kernel files.kallsyms.now
     (is_of_kallsyms i.options.kernel i.kallsyms (counts_in i).symbols)
     ++ count_lines i
@@ -43,7 +43,7 @@ modules_report files i =
 -- the same of listings that were read
 abbrev pub listings_report : ListingFiles → Inputs → Listings → List ℕ
 listings_report files i l =
-    applying_lines i.options.kernel (modules_name files) (is_of_modules i.modules l.catalog)
+    applying_lines i.options.kernel (modules_name files) (is_of_modules i.modules i.kallsyms l.catalog)
     ++ applying_lines i.options.kernel files.kallsyms.now
     (is_of_kallsyms i.options.kernel i.kallsyms l.built.symbols)
     ++ counts_text l

@@ -1,6 +1,6 @@
 -- The lines that say what is noted of listings.
 use Rattle.std.specs.Prelude.{ℕ, Bool, List, [], ◌++◌, codes, flat_map, if◌then◌else◌, Option}
-use Rattle.std.specs.Prelude.{Some, None, unwrap_or}
+use Rattle.std.specs.Prelude.{Some, None, unwrap_or, decimal, min, ◌+◌, ◌-◌, ◌^◌}
 use Rattle.std.specs.Borrow.{Bor}
 use Rattle.std.specs.Option.{option_map_or}
 use Rattle.std.specs.Str.{bytes_eq}
@@ -18,9 +18,10 @@ use Rattle.listing.specs.declared.listing_notes.ListingNote.TheVariants.{LooksLi
 use Rattle.listing.specs.declared.listing_notes.ListingNote.TheVariants.{LooksLikeModules}
 use Rattle.listing.specs.declared.listing_notes.ListingNote.TheVariants.{LinesEndInCrLf, NoStart}
 use Rattle.listing.specs.declared.listing_notes.ListingNote.TheVariants.{NoEnd, OtherBoot}
-use Rattle.listing.specs.declared.listing_notes.ListingNote.TheVariants.{NoModuleLine}
+use Rattle.listing.specs.declared.listing_notes.ListingNote.TheVariants.{ModulesOverlap, NoModuleLine}
 use Rattle.listing.specs.declared.listing_notes.ListingNote.TheVariants.{NoSymbolLine}
 use Rattle.listing.specs.declared.listing_notes.ListingNotes.{ListingNotes}
+use Rattle.listing.specs.declared.log_names.LogNames.{LogNames}
 
 -- what to try where a name is missing: many kernels list no `_end`
 abbrev pub remedy_text : List ℕ → List ℕ
@@ -41,6 +42,8 @@ message_of names NoStart = missing_text names.start
 message_of names NoEnd = missing_text names.end
 message_of names OtherBoot =
     codes "no symbol lies in a listed module; are both listings of one boot?"
+message_of names ModulesOverlap =
+    codes "modules overlap, as sizes do from Linux 6.4 on; leave --modules out"
 message_of names NoModuleLine = codes "no line is of the form of /proc/modules"
 message_of names NoSymbolLine = codes "no line is of the form of /proc/kallsyms"
 
@@ -48,6 +51,15 @@ message_of names NoSymbolLine = codes "no line is of the form of /proc/kallsyms"
 abbrev pub note_line : BoundNames → Text → ListingNote → List ℕ
 note_line names file note =
     codes "latchsym: note: " ++ file ++ codes ": " ++ message_of names note ++ codes "\n"
+
+-- the line that says that the names which the log in this file has itself are not those of the
+-- listing
+abbrev pub other_boot_line : Text → LogNames → List ℕ
+other_boot_line log names =
+    codes "latchsym: note: " ++ log ++ codes ": its own names disagree with the listing ("
+    ++ decimal names.disagreeing ++ codes " of "
+    ++ decimal (min (names.agreeing + names.disagreeing) (2 ^ 64 - 1))
+    ++ codes "); is the listing of this boot?\n"
 
 -- the line of what may be noted of a file
 abbrev pub line_if_noted : BoundNames → Text → Option ListingNote → List ℕ

@@ -83,7 +83,7 @@ abbrev pub IsAnnotated : {R W E : Type 0} → (R → Option (List ℕ)) → (W �
     → Counted W → Counted W → Counted E → Counted E → Result Finished Fault → Type 0
 IsAnnotated remaining contents errors job r r' w w' e e' outcome =
     (result : Result ℕ Fault) × AnnotatesLog remaining contents errors job.options job.listings
-    (known_given remaining remaining remaining r.listings)
+    job.log.now (known_given remaining remaining remaining r.listings)
     (listing_failures r.listings r'.listings) r.log r'.log w w' e e' result
     × (outcome ≡ with_notes no_notes result)
 

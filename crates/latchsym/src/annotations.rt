@@ -9,7 +9,7 @@ ghost use Rattle.latchsym.specs.Annotations.{AnnotatesBy, AnnotatesLog};
 ghost use Rattle.engines.specs.OpenedCatalogs.{given_in, known_given, listing_failures};
 
 use crate::command_line::ListingFiles;
-use crate::reports::note_listings;
+use crate::reports::{note_listings, note_log};
 use engines::{FAILED, Fault, GivenTexts, ListingReaders, SUCCEEDED, open_catalog, read_given};
 use listing::{LogFault, LogRule, annotate, is_narrow};
 use modules::{IndexedCatalog, KernelBounds};
@@ -48,31 +48,26 @@ const LOG_PLACE: u64 = 3;
 /// fault that comes before that leaves the log, the writer and `errors` as they were. Of the log
 /// all that is decided is written, and the writer flushed, after each block that was read; so
 /// whatever ends it, what was written is a beginning of the annotated log. The status is 1 where
-/// nobody reads any more what is written, as before `head`. docs/FORMATS.md has the
-/// listings, and says what is inserted.
+/// nobody reads any more what is written, as before `head`. Behind a log that was annotated to its
+/// end it is noted where the names that it has itself are not those of the listing; `name` is that of
+/// its file. docs/FORMATS.md has the listings, and says what is inserted.
 pub fn annotate_engine<M: Read, K: Read, R: Read, L: Read, E: Write, W: Write>(
     alloc: Global,
     readers: &mut AnnotateReaders<M, K, R, L>,
     options: &AnnotateOptions<'_>,
     files: &ListingFiles<'_>,
+    name: &str,
     errors: &mut Counted<E>,
     writer: &mut Counted<W>,
 ) -> Result<u8, Fault>
-    ensures { AnnotatesLog L.remaining W.contents E.contents options.now files.now
+    ensures { AnnotatesLog L.remaining W.contents E.contents options.now files.now name.now
         (known_given M.remaining K.remaining R.remaining readers.old.listings)
         (listing_failures readers.old.listings readers.new.listings)
         readers.old.log readers.new.log writer.old writer.new errors.old errors.new result }
 {
     let texts = read_given(alloc, &mut readers.listings)?;
-    annotate_over(
-        alloc,
-        &texts,
-        options,
-        files,
-        errors,
-        &mut readers.log,
-        writer,
-    )
+    let log = &mut readers.log;
+    annotate_over(alloc, &texts, options, files, name, errors, log, writer)
 }
 
 /// Writes the log again by the catalog that these texts say, and tells before it what is noted of
@@ -82,11 +77,12 @@ fn annotate_over<L: Read, E: Write, W: Write>(
     texts: &GivenTexts,
     options: &AnnotateOptions<'_>,
     files: &ListingFiles<'_>,
+    name: &str,
     errors: &mut Counted<E>,
     log: &mut Counted<L>,
     writer: &mut Counted<W>,
 ) -> Result<u8, Fault>
-    ensures { AnnotatesLog L.remaining W.contents E.contents options.now files.now
+    ensures { AnnotatesLog L.remaining W.contents E.contents options.now files.now name.now
         (Some (given_in texts.now)) [] log.old log.new writer.old writer.new
         errors.old errors.new result }
 {
@@ -95,23 +91,38 @@ fn annotate_over<L: Read, E: Write, W: Write>(
     let index = IndexedCatalog::new(alloc, opened.catalog)?;
     note_listings(&notes, options.kernel.as_ref(), files, errors);
     let is_narrow = is_narrow(&texts.kallsyms);
-    annotate_by(alloc, &index, options.rule, is_narrow, log, writer)
+    annotate_by(
+        alloc,
+        &index,
+        options.rule,
+        is_narrow,
+        name,
+        errors,
+        log,
+        writer,
+    )
 }
 
-/// Writes the log again by this catalog.
-fn annotate_by<L: Read, W: Write>(
+/// Writes the log again by this catalog, and notes where it is of another boot.
+fn annotate_by<L: Read, E: Write, W: Write>(
     alloc: Global,
     index: &IndexedCatalog<'_>,
     rule: LogRule,
     is_narrow: bool,
+    name: &str,
+    errors: &mut Counted<E>,
     log: &mut Counted<L>,
     writer: &mut Counted<W>,
 ) -> Result<u8, Fault>
-    ensures { AnnotatesBy L.remaining W.contents (answered_by index.now rule is_narrow)
-        log.old log.new writer.old writer.new result }
+    ensures { AnnotatesBy L.remaining W.contents E.contents name.now
+        (answered_by index.now rule is_narrow)
+        log.old log.new writer.old writer.new errors.old errors.new result }
 {
     match annotate(alloc, index, rule, is_narrow, log, writer) {
-        Ok(()) => Ok(SUCCEEDED),
+        Ok(names) => {
+            note_log(names, name, errors);
+            Ok(SUCCEEDED)
+        }
         Err(LogFault::Closed) => Ok(FAILED),
         Err(LogFault::OutOfMemory) => Err(Fault::Refused(Refusal::OutOfMemory)),
         Err(LogFault::Read) => Err(Fault::Read { place: LOG_PLACE }),

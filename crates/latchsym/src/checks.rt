@@ -22,7 +22,7 @@ use engines::{
     SymbolListing, bounds_or_usual, listings_in, put_counts, put_found_counts, read_given,
     region_lines_in, symbol_listing_in,
 };
-use listing::{AddressRule, ListingNote, applies_to_kallsyms, applies_to_modules};
+use listing::{AddressRule, ListingNote, SymbolFacts, applies_to_kallsyms, applies_to_modules};
 use modules::{Asked, Catalog, KernelBounds};
 use std::alloc::Global;
 use std::io;
@@ -166,6 +166,7 @@ fn put_listings_report<W: Write>(
         names,
         modules,
         inputs.modules,
+        inputs.kallsyms,
         listings.modules_hidden,
         &listings.catalog,
     )?;
@@ -225,23 +226,24 @@ fn put_symbols_report<W: Write>(
     put_found_counts(writer, listing)
 }
 
-/// Writes the line of each note that applies to a listing of modules with this text, whose
-/// well-formed lines are all hidden or not.
+/// Writes the line of each note that applies to a listing of modules with this text beside one of
+/// symbols, where this catalog is built of both, and all its well-formed lines are hidden or not.
 fn put_module_notes<W: Write>(
     writer: &mut Counted<W>,
     names: &KernelBounds,
     file: &[u8],
     text: &[u8],
+    kallsyms: &[u8],
     hidden: bool,
     catalog: &Catalog,
 ) -> io::Result<()>
     requires { hidden ≡ are_modules_hidden (lines_of text.now) }
     ensures { Wrote W.contents writer.old writer.new result
-        (applying_lines names.now file.now (is_of_modules text.now catalog.now)) }
+        (applying_lines names.now file.now (is_of_modules text.now kallsyms.now catalog.now)) }
 {
     let notes = ListingNote::all();
     for note in notes {
-        let applies = applies_to_modules(*note, text, hidden, catalog);
+        let applies = applies_to_modules(*note, text, kallsyms, hidden, catalog);
         put_note_where(writer, names, file, *note, applies)?;
     }
     Ok(())
@@ -260,9 +262,14 @@ fn put_symbol_notes<W: Write>(
     ensures { Wrote W.contents writer.old writer.new result
         (applying_lines names.now file.now (is_of_kallsyms names.now text.now kept)) }
 {
+    let facts = SymbolFacts {
+        hidden,
+        kept,
+        has_kernel: false,
+    };
     let notes = ListingNote::all();
     for note in notes {
-        let applies = applies_to_kallsyms(*note, text, names, hidden, kept);
+        let applies = applies_to_kallsyms(*note, text, names, facts);
         put_note_where(writer, names, file, *note, applies)?;
     }
     Ok(())

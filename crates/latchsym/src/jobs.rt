@@ -165,6 +165,7 @@ fn do_annotate<R: Read, W: Write, E: Write>(
         readers,
         &job.options,
         &job.listings,
+        job.log,
         errors,
         writer,
     );

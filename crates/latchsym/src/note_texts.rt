@@ -4,10 +4,11 @@ ghost use Rattle.std.specs.Option.{option_copied};
 ghost use Rattle.texts.specs.Exact.{Wrote};
 ghost use Rattle.latchsym.specs.NoteTexts.{line_if_noted, line_where, lines_for, message_of};
 ghost use Rattle.latchsym.specs.NoteTexts.{missing_text, note_line, note_lines, noted_bounds};
-ghost use Rattle.latchsym.specs.NoteTexts.{notes_text, remedy_text};
+ghost use Rattle.latchsym.specs.NoteTexts.{notes_text, other_boot_line, remedy_text};
 
 use crate::command_line::{Job, ListingFiles};
-use listing::{ListingNote, ListingNotes};
+use engines::put_decimal;
+use listing::{ListingNote, ListingNotes, LogNames};
 use modules::KernelBounds;
 use std::io;
 use std::io::Write;
@@ -145,6 +146,23 @@ fn put_note<W: Write>(
     put(writer, b"\n")
 }
 
+/// Writes that the names which the log in this file has itself are not those of the listing.
+pub fn put_other_boot<W: Write>(
+    writer: &mut Counted<W>,
+    log: &str,
+    names: LogNames,
+) -> io::Result<()>
+    ensures { Wrote W.contents writer.old writer.new result (other_boot_line log.now names) }
+{
+    put(writer, b"latchsym: note: ")?;
+    put(writer, log.as_bytes())?;
+    put(writer, b": its own names disagree with the listing (")?;
+    put_decimal(writer, names.disagreeing)?;
+    put(writer, b" of ")?;
+    put_decimal(writer, names.agreeing.saturating_add(names.disagreeing))?;
+    put(writer, b"); is the listing of this boot?\n")
+}
+
 /// Writes what a note says.
 fn put_message<W: Write>(
     writer: &mut Counted<W>,
@@ -167,6 +185,10 @@ fn put_message<W: Write>(
         ListingNote::OtherBoot => put(
             writer,
             b"no symbol lies in a listed module; are both listings of one boot?",
+        ),
+        ListingNote::ModulesOverlap => put(
+            writer,
+            b"modules overlap, as sizes do from Linux 6.4 on; leave --modules out",
         ),
         ListingNote::NoModuleLine => put(writer, b"no line is of the form of /proc/modules"),
         ListingNote::NoSymbolLine => put(writer, b"no line is of the form of /proc/kallsyms"),

@@ -7,13 +7,14 @@ ghost use Rattle.latchsym.specs.Reports.{IsConcluded, IsFaultTold, IsNoted, IsRe
 ghost use Rattle.latchsym.specs.Reports.{bad_line_text, fault_text, file_of, message_text};
 ghost use Rattle.latchsym.specs.Reports.{unread_text, unwritten_text};
 ghost use Rattle.listing.specs.ListingNotes.{is_some_noted};
-ghost use Rattle.latchsym.specs.NoteTexts.{note_lines, notes_text};
+ghost use Rattle.listing.specs.LogNames.{is_of_another_boot};
+ghost use Rattle.latchsym.specs.NoteTexts.{note_lines, notes_text, other_boot_line};
 
 use crate::command_line::{Job, ListingFiles};
-use crate::note_texts::{put_job_notes, put_notes_of};
+use crate::note_texts::{put_job_notes, put_notes_of, put_other_boot};
 use arrayvec::ArrayString;
 use engines::{FAILED, Fault, Finished, put_decimal, put_refused};
-use listing::ListingNotes;
+use listing::{ListingNotes, LogNames};
 use modules::KernelBounds;
 use std::fmt::Write as _;
 use std::io;
@@ -85,6 +86,23 @@ fn report_listing_notes<W: Write>(
         (note_lines (option_copied kernel.entry) files.now notes.now) }
 {
     let _ = put_notes_of(writer, kernel, files, notes);
+}
+
+/// Writes that the log in this file is of another boot than the listing, where its own names tell so.
+pub fn note_log<W: Write>(names: LogNames, log: &str, writer: &mut Counted<W>)
+    ensures { IsNoted W.contents writer.old writer.new (is_of_another_boot names)
+        (other_boot_line log.now names) }
+{
+    if names.is_of_another_boot() {
+        report_other_boot(names, log, writer);
+    }
+}
+
+/// The same where they do. Where the writer fails, there is nobody to tell.
+fn report_other_boot<W: Write>(names: LogNames, log: &str, writer: &mut Counted<W>)
+    ensures { IsReported W.contents writer.old writer.new (other_boot_line log.now names) }
+{
+    let _ = put_other_boot(writer, log, names);
 }
 
 /// Writes the line that says why the job failed, and returns the program's status. Where the writer

@@ -24,6 +24,7 @@ note_number note.NoEnd = 47
 note_number note.OtherBoot = 48
 note_number note.NoModuleLine = 49
 note_number note.NoSymbolLine = 50
+note_number note.ModulesOverlap = 51
 
 -- the number that is returned for an answer
 abbrev pub answer_number : Answer → ℕ
@@ -51,7 +52,8 @@ all_answers =
     ∷ NoSymbol ∷ Nothing ∷ Retry ∷ Flip ∷ Store ∷ Noted note.Gzip ∷ Noted note.AllHidden
     ∷ Noted note.LooksLikeSymbols ∷ Noted note.LooksLikeModules ∷ Noted note.LinesEndInCrLf
     ∷ Noted note.NoStart ∷ Noted note.NoEnd ∷ Noted note.OtherBoot
-    ∷ Noted note.NoModuleLine ∷ Noted note.NoSymbolLine ∷ BadHandle ∷ BadLength ∷ BadListings ∷ []
+    ∷ Noted note.NoModuleLine ∷ Noted note.NoSymbolLine ∷ Noted note.ModulesOverlap
+    ∷ BadHandle ∷ BadLength ∷ BadListings ∷ []
 
 unfoldable pub has_number : ℕ → Answer → Bool
 has_number number a = nat_eq (answer_number a) number
@@ -89,6 +91,8 @@ note_text note.NoStart = codes "has no symbol at the kernel's first address"
 note_text note.NoEnd = codes "has no symbol at the kernel's end; try the end _einittext"
 note_text note.OtherBoot =
     codes "no symbol lies in a listed module; are both listings of one boot?"
+note_text note.ModulesOverlap =
+    codes "modules overlap, as sizes do from Linux 6.4 on; leave their listing out"
 note_text note.NoModuleLine = codes "no line is of the form of /proc/modules"
 note_text note.NoSymbolLine = codes "no line is of the form of /proc/kallsyms"
 

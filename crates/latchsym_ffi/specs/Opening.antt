@@ -114,7 +114,7 @@ symbols_note t kept = find (is_of_kallsyms (bounds_of_texts t) t.kallsyms kept) 
 -- the same, and the first that applies to this listing of modules
 abbrev pub notes_on : ListingTexts → List ℕ → CatalogEntries → ℕ → ListingNotes
 notes_on t modules c kept = record {
-  modules = find (is_of_modules modules c) all_notes;
+  modules = find (is_of_modules modules t.kallsyms c) all_notes;
   kallsyms = symbols_note t kept;
 }
 

@@ -91,6 +91,7 @@ const ALL: [Answer; 35] = [
     Answer::Noted(ListingNote::OtherBoot),
     Answer::Noted(ListingNote::NoModuleLine),
     Answer::Noted(ListingNote::NoSymbolLine),
+    Answer::Noted(ListingNote::ModulesOverlap),
     Answer::BadHandle,
     Answer::BadLength,
     Answer::BadListings,
@@ -203,6 +204,7 @@ fn number_of_note(note: ListingNote) -> u32
         ListingNote::OtherBoot => 48,
         ListingNote::NoModuleLine => 49,
         ListingNote::NoSymbolLine => 50,
+        ListingNote::ModulesOverlap => 51,
     }
 }
 
@@ -232,6 +234,9 @@ fn text_of_note(note: ListingNote) -> &'static [u8]
         ListingNote::NoEnd => b"has no symbol at the kernel's end; try the end _einittext\0",
         ListingNote::OtherBoot => {
             b"no symbol lies in a listed module; are both listings of one boot?\0"
+        }
+        ListingNote::ModulesOverlap => {
+            b"modules overlap, as sizes do from Linux 6.4 on; leave their listing out\0"
         }
         ListingNote::NoModuleLine => b"no line is of the form of /proc/modules\0",
         ListingNote::NoSymbolLine => b"no line is of the form of /proc/kallsyms\0",

@@ -232,7 +232,7 @@ fn catalog_between(
         has_kernel,
     };
     let notes = ListingNotes {
-        modules: note_of_modules(modules, modules_hidden, &catalog),
+        modules: note_of_modules(modules, texts.kallsyms, modules_hidden, &catalog),
         kallsyms: note_of_kallsyms(texts.kallsyms, &names, facts),
     };
     let counts = counts_of(&skipped_modules, &symbols.skipped, &built, &notes);

@@ -42,7 +42,7 @@ returns-clause-said c =
     let is_built : c.of_listed-built.result ≡ counts_in (inputs_in i) =
     c.of_listed-built.ensures ∙ ap (λ n. build_of_listed n c.in_ok-catalog.counts) c.in_ok-symbols.ensures.listed
     ∙ ap (build_of_listed (length (all_symbols (inputs_in i)))) is_counted in
-    let of_modules : CatalogEntries → Option ListingNote = λ k. find (is_of_modules i.modules.now k) all_notes in
+    let of_modules : CatalogEntries → Option ListingNote = λ k. find (is_of_modules i.modules.now i.kallsyms.now k) all_notes in
     let of_kallsyms : BuildCounts → Option ListingNote = λ b. find (is_of_kallsyms names i.kallsyms.now b.symbols) all_notes in
     let with_modules : Option ListingNote → ListingNotes = λ n. record { modules = n; kallsyms = c.note_of_kallsyms.result } in
     let with_kallsyms : Option ListingNote → ListingNotes = λ n. record { modules = of_modules (catalog_in (inputs_in i)); kallsyms = n } in

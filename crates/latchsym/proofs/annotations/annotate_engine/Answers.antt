@@ -9,9 +9,9 @@ returns-in_err-texts g c =
     let known = known_given g.M.Read.remaining g.K.Read.remaining g.R.Read.remaining readers.listings in
     let counts = listing_failures readers.listings c.read_given.new.readers in
     let fault = c.in_err-texts.field-0.0 in
-    ended g.L.Read.remaining g.W.Write.contents g.E.Write.contents a.options.now a.files.now known counts readers.log readers.log a.writer.now a.writer.now a.errors.now a.errors.now
+    ended g.L.Read.remaining g.W.Write.contents g.E.Write.contents a.options.now a.files.now a.name.now known counts readers.log readers.log a.writer.now a.writer.now a.errors.now a.errors.now
     c.from_residual.result fault c.from_residual.ensures.1
-    (not_read g.L.Read.remaining g.W.Write.contents g.E.Write.contents a.options.now a.files.now known counts readers.log a.writer.now a.errors.now fault c.in_err-texts.ensures.read)
+    (not_read g.L.Read.remaining g.W.Write.contents g.E.Write.contents a.options.now a.files.now a.name.now known counts readers.log a.writer.now a.errors.now fault c.in_err-texts.ensures.read)
 
 pub returns : goal.returns
 returns g c =
@@ -19,5 +19,5 @@ returns g c =
     let readers = a.readers.now in
     let known = known_given g.M.Read.remaining g.K.Read.remaining g.R.Read.remaining readers.listings in
     let counts = listing_failures readers.listings c.read_given.new.readers in
-    readers_known g.L.Read.remaining g.W.Write.contents g.E.Write.contents a.options.now a.files.now readers.log c.annotate_over.new.log a.writer.now c.annotate_over.new.writer a.errors.now c.annotate_over.new.errors
+    readers_known g.L.Read.remaining g.W.Write.contents g.E.Write.contents a.options.now a.files.now a.name.now readers.log c.annotate_over.new.log a.writer.now c.annotate_over.new.writer a.errors.now c.annotate_over.new.errors
     (given_in c.in_ok-texts.texts) known c.in_ok-texts.ensures.bytes counts c.in_ok-texts.ensures.read c.annotate_over.result c.annotate_over.ensures

@@ -15,15 +15,15 @@ returns-in_err-opened g c =
     let a = c.args in
     let given = given_in a.texts.now in
     let fault = c.in_err-opened.field-0.0 in
-    ended g.L.Read.remaining g.W.Write.contents g.E.Write.contents a.options.now a.files.now (Some given) [] a.log.now a.log.now a.writer.now a.writer.now a.errors.now a.errors.now
+    ended g.L.Read.remaining g.W.Write.contents g.E.Write.contents a.options.now a.files.now a.name.now (Some given) [] a.log.now a.log.now a.writer.now a.writer.now a.errors.now a.errors.now
     c.from_residual.result fault c.from_residual.ensures.1
-    (not_opened g.L.Read.remaining g.W.Write.contents g.E.Write.contents a.options.now a.files.now given a.log.now a.writer.now a.errors.now fault
+    (not_opened g.L.Read.remaining g.W.Write.contents g.E.Write.contents a.options.now a.files.now a.name.now given a.log.now a.writer.now a.errors.now fault
     (subst (λ k. OpensCatalog k given (Err fault)) c.as_ref.ensures.value c.in_err-opened.ensures))
 
 pub returns-in_err-index : goal.returns-in_err-index
 returns-in_err-index g c =
     let a = c.args in
-    ended g.L.Read.remaining g.W.Write.contents g.E.Write.contents a.options.now a.files.now (Some (given_in a.texts.now)) [] a.log.now a.log.now a.writer.now a.writer.now a.errors.now a.errors.now
+    ended g.L.Read.remaining g.W.Write.contents g.E.Write.contents a.options.now a.files.now a.name.now (Some (given_in a.texts.now)) [] a.log.now a.log.now a.writer.now a.writer.now a.errors.now a.errors.now
     c.from_residual-in_err-index.result (Refused refusal.OutOfMemory) c.from_residual-in_err-index.ensures.1 (tt, inl (refl, refl, refl))
 
 pub returns : goal.returns
@@ -31,11 +31,12 @@ returns g c =
     let a = c.args in
     let given = given_in a.texts.now in
     let opened = c.in_ok-opened.opened in
-    log_annotated g.L.Read.remaining g.W.Write.contents g.E.Write.contents a.options.now a.files.now a.log.now c.annotate_by.new.log a.writer.now c.annotate_by.new.writer a.errors.now c.note_listings.new.writer
+    log_annotated g.L.Read.remaining g.W.Write.contents g.E.Write.contents a.options.now a.files.now a.name.now a.log.now c.annotate_by.new.log a.writer.now c.annotate_by.new.writer a.errors.now c.annotate_by.new.errors
     (Some given) c.annotate_by.result (record {
       catalog = c.in_ok-index.index;
       narrow = c.is_narrow-is_narrow.result;
       notes = opened.notes;
+      noted = c.note_listings.new.writer;
       sized = c.is_narrow-is_narrow.ensures ∙ ap (λ t. is_narrow (symbols_in (lines_of t))) c.deref.ensures.value;
       said = subst (λ x. IsCatalogOf a.options.now.kernel given x opened.notes) (sym c.in_ok-index.ensures)
           (subst (λ k. IsCatalogOf k given opened.catalog opened.notes) c.as_ref.ensures.value c.in_ok-opened.ensures);

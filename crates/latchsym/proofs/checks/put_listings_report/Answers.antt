@@ -9,7 +9,7 @@ returns g c =
     let i = c.args.inputs.now in
     let l = c.args.listings.now in
     let names = i.options.now.kernel in
-    let of_modules = ap (λ file. applying_lines names file (is_of_modules i.modules.now l.catalog)) (c.as_bytes-modules.ensures.value ∙ c.modules_name.ensures) in
+    let of_modules = ap (λ file. applying_lines names file (is_of_modules i.modules.now i.kallsyms.now l.catalog)) (c.as_bytes-modules.ensures.value ∙ c.modules_name.ensures) in
     let of_symbols = ap (λ file. applying_lines names file (is_of_kallsyms names i.kallsyms.now l.built.symbols)) c.as_bytes.ensures.value in
     then c.in_ok-put_symbol_notes.was
     (then c.in_ok-put_module_notes.was (same_text of_modules c.put_module_notes.ensures) (same_text of_symbols c.put_symbol_notes.ensures))

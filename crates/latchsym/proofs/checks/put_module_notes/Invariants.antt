@@ -9,6 +9,6 @@ use Rattle.latchsym.proofs.checks.put_module_notes.Given as goal
 abbrev pub invariant-loop-note : goal.invariant-loop-note
 invariant-loop-note g l = record {
   written : Appends (g.W.Write.contents (device_of l.fn.writer)) (g.W.Write.contents (device_of l.writer))
-      (flat_map (λ note. line_where (is_of_modules l.text l.catalog note) (note_line l.names l.file note)) (take l.note-index l.notes));
+      (flat_map (λ note. line_where (is_of_modules l.text l.kallsyms l.catalog note) (note_line l.names l.file note)) (take l.note-index l.notes));
   none_failed : NoneFailed l.fn.writer l.writer;
 }

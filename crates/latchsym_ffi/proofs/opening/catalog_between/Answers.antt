@@ -36,7 +36,7 @@ returns-clause-opened c =
     let is_built = c.of_listed-built.ensures ∙ ap (λ n. build_of_listed n c.in_ok-catalog.counts) c.in_ok-symbols.ensures.listed
     ∙ ap (build_of_listed (length (all_symbols texts))) is_counted in
     let indexed = c.in_ok-indexed.indexed in
-    let of_modules : CatalogEntries → Option ListingNote = λ k. find (is_of_modules c.args.modules.now k) all_notes in
+    let of_modules : CatalogEntries → Option ListingNote = λ k. find (is_of_modules c.args.modules.now texts.kallsyms k) all_notes in
     let of_kallsyms : BoundNames → Option ListingNote = λ n. find (is_of_kallsyms n texts.kallsyms built.symbols) all_notes in
     let with_modules : Option ListingNote → ListingNotes = λ n. record { modules = n; kallsyms = c.note_of_kallsyms.result } in
     let with_kallsyms : Option ListingNote → ListingNotes = λ n. record { modules = of_modules indexed; kallsyms = n } in
