@@ -38,6 +38,9 @@ struct AtRandom {
 }
 
 impl LoadSchedule for AtRandom {
+    // Any: what is looked at is what comes of the attempts.
+    ghost chooses = { λ it load word last least most glance. Unit {0} };
+
     fn glance(&self, load: u64, word: usize, last: Glance, least: usize, most: usize) -> Glance {
         let walked = if self.rises && load > 1 && word != 0 {
             last.moment.min(most)

@@ -14,10 +14,10 @@ use Rattle.latch_weak.specs.declared.attempts.ReaderView.{ReaderView}
 use Rattle.latch_weak.specs.Barriers.{last_store, ordered_before}
 use Rattle.latch_weak.specs.Views.{View, Glance, MayLoad, raised, after_load, after_first, before_load}
 use Rattle.latch_weak.specs.Loads.{value_at, AreLoads, values_seen, view_left}
-use Rattle.latch_weak.specs.Readers.{view_of, IsReaderOf, Looks, StandsBefore, LooksFirst, LooksNext, HasAttempted}
+use Rattle.latch_weak.specs.Readers.{Choice, next_load, AreChosen, loads_after, last_of, view_of, IsReaderOf, Looks, StandsBefore, LooksFirst, LooksNext, HasAttempted}
 use Rattle.latch_weak.proofs.BarrierLemmas.{last_at_most, ordered_at_most}
 
-module _ (b : Barriers) (m : List ℕ) (ss : List Store) where
+module _ (chooses : Choice) (b : Barriers) (m : List ℕ) (ss : List Store) where
   -- the least moment of each word after a load of one
   word_after : (old : List ℕ) (floor w j u : ℕ) → w < length old
       → max (get_or (set old w (max (get_or old w 0) j)) u 0) floor ≡ cond (u == w) (max (max (get_or old u 0) floor) j) (max (get_or old u 0) floor)
@@ -41,11 +41,11 @@ module _ (b : Barriers) (m : List ℕ) (ss : List Store) where
 
   module _ (r r' : ReaderView) (w x : ℕ) (g : Glance) (is : IsReaderOf m ss r) (within : w < length m) where
     -- one load
-    pub looked : max (get_or r.least.items w 0) r.floor ≤ g.moment → g.moment ≤ g.made → r.last.made ≤ g.made → g.made ≤ length ss
+    pub looked : chooses r.loads w r.last (max (get_or r.least.items w 0) r.floor) (length ss) g → r'.loads ≡ next_load r.loads → max (get_or r.least.items w 0) r.floor ≤ g.moment → g.moment ≤ g.made → r.last.made ≤ g.made → g.made ≤ length ss
         → r'.least.items ≡ set r.least.items w (max (get_or r.least.items w 0) (last_store ss w g.moment)) → r'.floor ≡ r.floor
         → r'.at_barrier ≡ max r.at_barrier (ordered_before b ss (last_store ss w g.moment)) → r'.last ≡ g → x ≡ at (words_at m ss g.moment) w
-        → Looks b m ss r w x r'
-    looked seen stored later exists least floor barrier last value =
+        → Looks chooses b m ss r w x r'
+    looked chosen counted seen stored later exists least floor barrier last value =
         let j = last_store ss w g.moment in
         let sized = is.sized in
         let behind : j ≤ length ss = omega (arith, last_at_most ss w g.moment) in
@@ -53,6 +53,8 @@ module _ (b : Barriers) (m : List ℕ) (ss : List Store) where
         = λ u. ap (λ l. max (get_or l u 0) r'.floor) least ∙ ap (max (get_or (set r.least.items w (max (get_or r.least.items w 0) j)) u 0)) floor ∙ word_after r.least.items r.floor w j u (omega arith) in
         let view : view_of r' ≡ after_load b ss (view_of r) w g.moment = λ i. record { of_word = λ u. words u i; at_barrier = barrier i } in
         record {
+          chosen = subst (λ q. chooses r.loads w r.last ((view_of r).of_word w) (length ss) q) (sym last) chosen;
+          counted = counted;
           may = subst (λ q. MayLoad ss (view_of r) w r.last.made q) (sym last) (record { seen = seen; stored = stored; later = later; exists = exists });
           value_is = value ∙ ap (λ (q : Glance). at (words_at m ss q.moment) w) (sym last);
           view_is = view ∙ ap (λ (q : Glance). after_load b ss (view_of r) w q.moment) (sym last);
@@ -74,14 +76,16 @@ module _ (b : Barriers) (m : List ℕ) (ss : List Store) where
   }
 
   -- the first load, with what the dependency orders after it
-  pub looked_first : (r n r' : ReaderView) (x least : ℕ) → Looks b m ss r 0 x n → least ≡ cond b.dependency (ordered_before b ss (last_store ss 0 n.last.moment)) 0
-      → view_of r' ≡ raised (view_of n) least → r'.least.items ≡ n.least.items → r'.at_barrier ≡ n.at_barrier → r'.last ≡ n.last → LooksFirst b m ss r x r'
-  looked_first r n r' x least looks is view words barrier last =
+  pub looked_first : (r n r' : ReaderView) (x least : ℕ) → Looks chooses b m ss r 0 x n → least ≡ cond b.dependency (ordered_before b ss (last_store ss 0 n.last.moment)) 0
+      → view_of r' ≡ raised (view_of n) least → r'.least.items ≡ n.least.items → r'.at_barrier ≡ n.at_barrier → r'.last ≡ n.last → r'.loads ≡ n.loads → LooksFirst chooses b m ss r x r'
+  looked_first r n r' x least looks is view words barrier last loads =
       let made = looks.still.made in
       let stored = looks.may.stored in
       let moment = n.last.moment in
       let few : cond b.dependency (ordered_before b ss (last_store ss 0 moment)) 0 ≤ length ss = bounded_first b.dependency (ordered_before b ss (last_store ss 0 moment)) (omega (arith, ordered_at_most b ss (last_store ss 0 moment), last_at_most ss 0 moment)) in
       record {
+        chosen = subst (λ q. chooses r.loads 0 r.last ((view_of r).of_word 0) (length ss) q) (sym last) looks.chosen;
+        counted = loads ∙ looks.counted;
         may = subst (λ q. MayLoad ss (view_of r) 0 r.last.made q) (sym last) looks.may;
         value_is = looks.value_is ∙ ap (λ (q : Glance). value_at m ss 0 q) (sym last);
         view_is = view ∙ ap (λ v. raised v least) looks.view_is ∙ ap (raised (after_load b ss (view_of r) 0 moment)) is ∙ ap (λ (q : Glance). after_first b ss (view_of r) q.moment) (sym last);
@@ -89,10 +93,10 @@ module _ (b : Barriers) (m : List ℕ) (ss : List Store) where
       }
 
   -- before a later load
-  pub behind_barrier : (r n : ReaderView) (w : ℕ) → b.before_last ≡ true → w ≡ 0 → view_of n ≡ raised (view_of r) r.at_barrier → n.least.items ≡ r.least.items → n.at_barrier ≡ r.at_barrier → n.last ≡ r.last → StandsBefore b r n w
-  behind_barrier r n w has is view words barrier last =
+  pub behind_barrier : (r n : ReaderView) (w : ℕ) → b.before_last ≡ true → w ≡ 0 → view_of n ≡ raised (view_of r) r.at_barrier → n.least.items ≡ r.least.items → n.at_barrier ≡ r.at_barrier → n.last ≡ r.last → n.loads ≡ r.loads → StandsBefore b r n w
+  behind_barrier r n w has is view words barrier last loads =
       let stands : (b.before_last && (w == 0)) ≡ true = λ i. (has i && eq-eqb w 0 is i) in
-      record { view = view ∙ ap (λ c. raised (view_of r) (cond c r.at_barrier 0)) (sym stands); words = words; barrier = barrier; last = last }
+      record { view = view ∙ ap (λ c. raised (view_of r) (cond c r.at_barrier 0)) (sym stands); words = words; barrier = barrier; last = last; loads = loads }
 
   pub behind_none : (r : ReaderView) (w : ℕ) → (b.before_last && (w == 0)) ≡ false → StandsBefore b r r w
   behind_none r w none = record {
@@ -101,14 +105,17 @@ module _ (b : Barriers) (m : List ℕ) (ss : List Store) where
     words = refl;
     barrier = refl;
     last = refl;
+    loads = refl;
   }
 
   pub next_ready : (r n : ReaderView) (w : ℕ) → IsReaderOf m ss r → StandsBefore b r n w → IsReaderOf m ss n
   next_ready r n w is h =
       raised_still r n (cond (b.before_last && (w == 0)) r.at_barrier 0) is (bounded_first (b.before_last && (w == 0)) r.at_barrier is.barrier) h.view h.words h.barrier h.last
 
-  pub looked_next : (r n r' : ReaderView) (w x : ℕ) → StandsBefore b r n w → Looks b m ss n w x r' → LooksNext b m ss r w x r'
+  pub looked_next : (r n r' : ReaderView) (w x : ℕ) → StandsBefore b r n w → Looks chooses b m ss n w x r' → LooksNext chooses b m ss r w x r'
   looked_next r n r' w x h looks = record {
+    chosen = subst (λ v. chooses r.loads w r.last (v.of_word w) (length ss) r'.last) h.view (subst (λ i. chooses i w r.last ((view_of n).of_word w) (length ss) r'.last) h.loads (subst (λ q. chooses n.loads w q ((view_of n).of_word w) (length ss) r'.last) h.last looks.chosen));
+    counted = looks.counted ∙ ap next_load h.loads;
     may = subst (λ v. MayLoad ss v w r.last.made r'.last) h.view (subst (λ (q : Glance). MayLoad ss (view_of n) w q.made r'.last) h.last looks.may);
     value_is = looks.value_is;
     view_is = looks.view_is ∙ ap (λ v. after_load b ss v w r'.last.moment) h.view;
@@ -116,13 +123,13 @@ module _ (b : Barriers) (m : List ℕ) (ss : List Store) where
   }
 
   -- a first load that orders nothing after it
-  pub looked_alone : (r n : ReaderView) (x : ℕ) → Looks b m ss r 0 x n → b.dependency ≡ false → LooksFirst b m ss r x n
+  pub looked_alone : (r n : ReaderView) (x : ℕ) → Looks chooses b m ss r 0 x n → b.dependency ≡ false → LooksFirst chooses b m ss r x n
   looked_alone r n x looks none =
       looked_first r n n x 0 looks (ap (λ c. cond c (ordered_before b ss (last_store ss 0 n.last.moment)) 0) (sym none))
-      (λ i. record { of_word = λ u. (let e : max (get_or n.least.items u 0) n.floor ≡ max (max (get_or n.least.items u 0) n.floor) 0 = omega arith in e i); at_barrier = n.at_barrier }) refl refl refl
+      (λ i. record { of_word = λ u. (let e : max (get_or n.least.items u 0) n.floor ≡ max (max (get_or n.least.items u 0) n.floor) 0 = omega arith in e i); at_barrier = n.at_barrier }) refl refl refl refl
 
   abbrev gives : ReaderView → ℕ → ℕ → ReaderView → Type 0
-  gives s w x s' = LooksNext b m ss s w x s'
+  gives s w x s' = LooksNext chooses b m ss s w x s'
 
   -- a reader stays one at each load, so it may make the next
   pub ready : {K : Type 0} (o : Order K) (n : ℕ) (k : K) (first : ℕ) (s : ReaderView) → IsReaderOf m ss s
@@ -138,16 +145,22 @@ module _ (b : Barriers) (m : List ℕ) (ss : List Store) where
     loads : AreLoads b m ss (view_of s) s.last.made r glances
     seen : values_seen m ss r glances ≡ values
     leaves : view_left b m ss (view_of s) r glances ≡ view_of s'
+    chosen : AreChosen chooses b m ss (view_of s) s.loads s.last r glances
+    last : s'.last ≡ last_of s.last glances
+    counted : s'.loads ≡ loads_after s.loads glances
 
-  last_looked : (s s' : ReaderView) (last : ℕ) (go : ℕ → Reading) → LooksNext b m ss s 0 last s' → HasLooked s (Load 0 go) (last ∷ []) s'
+  last_looked : (s s' : ReaderView) (last : ℕ) (go : ℕ → Reading) → LooksNext chooses b m ss s 0 last s' → HasLooked s (Load 0 go) (last ∷ []) s'
   last_looked s s' last go g = record {
     glances = s'.last ∷ [];
     loads = (g.may, tt);
     seen = ap (λ x. x ∷ []) (sym g.value_is);
     leaves = sym g.view_is;
+    chosen = (g.chosen, tt);
+    last = refl;
+    counted = g.counted;
   }
 
-  all_looked : (s s' q : ReaderView) (r : Reading) (v : List ℕ) (last : ℕ) (go : ℕ → Reading) → Leads gives s r v q (Load 0 go) → LooksNext b m ss q 0 last s' → HasLooked s r (v ++ last ∷ []) s'
+  all_looked : (s s' q : ReaderView) (r : Reading) (v : List ℕ) (last : ℕ) (go : ℕ → Reading) → Leads gives s r v q (Load 0 go) → LooksNext chooses b m ss q 0 last s' → HasLooked s r (v ++ last ∷ []) s'
   all_looked s s' q r [] last go h g =
       subst (λ (z : ReaderView × Reading). HasLooked z.0 z.1 (last ∷ []) s') (λ i. (h.0 i, h.1 i)) (last_looked q s' last go g)
   all_looked s s' q (Load w on) (x ∷ v) last go (n, g, h) e =
@@ -160,12 +173,15 @@ module _ (b : Barriers) (m : List ℕ) (ss : List Store) where
         loads = (g.may, subst (λ z. AreLoads b m ss z n.last.made (on (value_at m ss w n.last)) there.glances) g.view_is there.loads);
         seen = ap (λ y. y ∷ values_seen m ss (on (value_at m ss w n.last)) there.glances) (sym is) ∙ ap (λ l. x ∷ l) there.seen;
         leaves = ap (λ z. view_left b m ss z (on (value_at m ss w n.last)) there.glances) (sym g.view_is) ∙ there.leaves;
+        chosen = (g.chosen, subst (λ z. AreChosen chooses b m ss z (next_load s.loads) n.last (on (value_at m ss w n.last)) there.glances) g.view_is (subst (λ i. AreChosen chooses b m ss (view_of n) i n.last (on (value_at m ss w n.last)) there.glances) g.counted there.chosen));
+        last = there.last;
+        counted = there.counted ∙ ap (λ i. loads_after i there.glances) g.counted;
       }
   all_looked s s' q (Ends out) (x ∷ v) last go h e = absurd h
 
   -- a whole attempt
-  pub attempted : {K : Type 0} (o : Order K) (n : ℕ) (k : K) (s f s' : ReaderView) (first : ℕ) (out : Outcome) (count : ℕ) → LooksFirst b m ss s first f
-      → IsReaderOf m ss f → HasTried gives (λ q x q'. LooksNext b m ss q 0 x q') o n k first f s' out count → HasAttempted b o n m ss s k out s'
+  pub attempted : {K : Type 0} (o : Order K) (n : ℕ) (k : K) (s f s' : ReaderView) (first : ℕ) (out : Outcome) (count : ℕ) → LooksFirst chooses b m ss s first f
+      → IsReaderOf m ss f → HasTried gives (λ q x q'. LooksNext chooses b m ss q 0 x q') o n k first f s' out count → HasAttempted chooses b o n m ss s k out s'
   attempted o n k s f s' first out count begun is h =
       let looked = all_looked f s' h.m (attempt_after o n k first) h.values h.last (λ t. Ends (outcome first t h.found)) h.leads h.ended in
       let value : first ≡ value_at m ss 0 f.last = begun.value_is in
@@ -179,6 +195,9 @@ module _ (b : Barriers) (m : List ℕ) (ss : List Store) where
           loads = (begun.may, subst (λ z. AreLoads b m ss z f.last.made r there.glances) begun.view_is there.loads);
           whole = ap (rest_after (attempt o n k)) values ∙ h.whole;
         };
+        chosen = (begun.chosen, subst (λ z. AreChosen chooses b m ss z (next_load s.loads) f.last r there.glances) begun.view_is (subst (λ i. AreChosen chooses b m ss (view_of f) i f.last r there.glances) begun.counted there.chosen));
         leaves = sym (ap (λ z. view_left b m ss z r there.glances) (sym begun.view_is) ∙ there.leaves);
+        last = there.last;
+        counted = there.counted ∙ ap (λ i. loads_after i there.glances) begun.counted;
         still = h.ended.still;
       }

@@ -1,16 +1,16 @@
 -- What a writer has made, after one more deed.
-use Rattle.std.proofs.Common.{◌≡◌, ℕ, ◌<◌, ◌≤◌, List, [], ◌∷◌, ◌++◌, length, Some, None, refl, sym, ◌∙◌, ap, subst}
-use Rattle.std.specs.Prelude.{Result, Ok, Err, IfErr, IsErrAnd}
+use Rattle.std.proofs.Common.{◌≡◌, ℕ, ◌<◌, ◌≤◌, List, [], ◌∷◌, ◌++◌, length, Option, Some, None, refl, sym, ◌∙◌, ap, subst, append_assoc, append-nil}
+use Rattle.std.specs.Prelude.{Result, Ok, Err, IfErr, IsErrAnd, drop, slice_get}
 use Rattle.order_laws.specs.declared.refusals.Refusal.{Refusal}
 use Rattle.order_laws.specs.Orders.{Order}
 use Rattle.word_layout.specs.declared.stores.Store.{Store}
 use Rattle.table_updates.specs.declared.updates.Update.{Update}
 use Rattle.table_updates.specs.Updates.{most_steps}
 use Rattle.latch_core.specs.Latches.{PendingUpdate, Latch, IsWriterStep, latch_after_step, latch_with_update, opening_latch}
-use Rattle.latch_core.specs.Writers.{next_store, why_refused, RefusesAsRepresented, RepresentsLatch, MayBeNext, StoresNext, HasBegun, latch_refusal}
+use Rattle.latch_core.specs.Writers.{next_store, why_refused, writer_after_step, RefusesAsRepresented, RepresentsLatch, MayBeNext, StoresNext, HasBegun, latch_refusal}
 use Rattle.latch_core.specs.WriterViews.{WriterView}
 use Rattle.latch_weak.specs.Works.{Deed, Begins, Stores, Works, stores_of, updates_of}
-use Rattle.latch_weak.specs.Recordings.{WorksTo, HasMade}
+use Rattle.latch_weak.specs.Recordings.{WorksTo, HasMade, writer_after_all, CarriesOut, CarriesOutAll}
 
 -- deeds that lead somewhere are lawful
 pub works_of : {K : Type 0} (o : Order K) (n limit : ℕ) (l l' : Latch) (deeds : List Deed) → WorksTo o n limit l deeds l' → Works o n limit l deeds
@@ -114,3 +114,54 @@ made_nothing o n limit start w pictures capacity most =
 pub passed_on : {T : Type 0} (r : Result T Refusal) (fault : Refusal) (P : Refusal → Type 0) → IsErrAnd r (λ f. f ≡ fault) → P fault → IfErr r P
 passed_on (Ok x) fault P is p = tt
 passed_on (Err f) fault P is p = subst P (sym is) p
+
+-- one store more
+after_one_more : (w : WriterView) (ss : List Store) (s : Store) → writer_after_all w (ss ++ s ∷ []) ≡ writer_after_step (writer_after_all w ss) s
+after_one_more w [] s = refl
+after_one_more w (t ∷ ss) s = after_one_more (writer_after_step w t) ss s
+
+same_store : (a b : Store) → ◌≡◌ {A = Option Store} (Some a) (Some b) → a ≡ b
+same_store a b e = cc
+
+first_of : (ss : List Store) (s : Store) → slice_get ss 0 ≡ Some s → ss ≡ s ∷ drop 1 ss
+first_of [] s e = absurd (cc)
+first_of (t ∷ ss) s e = ap (λ x. x ∷ ss) (same_store t s e)
+
+none_left : (ss : List Store) → slice_get ss 0 ≡ None → ss ≡ []
+none_left [] e = refl
+none_left (t ∷ ss) e = absurd (cc)
+
+-- the core has begun an update at the one view, has made these stores of those that it then had
+-- left, and is now at the other
+pub record IsCarryingOut {K : Type 0} (o : Order K) (w : WriterView) (u : Update)
+    (made : List Store) (now : WriterView) : Type 0 where
+  pub begun : WriterView
+  pub begins : HasBegun o w u begun
+  pub left : begun.stores_left ≡ made ++ now.stores_left
+  pub after : now ≡ writer_after_all begun made
+
+-- an update has begun; one of its stores is made; all are
+pub carrying_begun : {K : Type 0} (o : Order K) (w : WriterView) (u : Update) (b : WriterView) → HasBegun o w u b → IsCarryingOut o w u [] b
+carrying_begun o w u b begins = record { begun = b; begins = begins; left = refl; after = refl }
+
+pub carrying_stored : {K : Type 0} (o : Order K) (w : WriterView) (u : Update) (made : List Store) (now new : WriterView) (s : Store) → IsCarryingOut o w u made now
+    → next_store now ≡ Some s → new ≡ writer_after_step now s → IsCarryingOut o w u (made ++ s ∷ []) new
+carrying_stored o w u made now new s h next stepped = record {
+  begun = h.begun;
+  begins = h.begins;
+  left = h.left ∙ ap (λ ss. made ++ ss) (first_of now.stores_left s next) ∙ sym (append_assoc made (s ∷ []) (drop 1 now.stores_left)) ∙ ap (λ (x : WriterView). (made ++ s ∷ []) ++ x.stores_left) (sym stepped);
+  after = stepped ∙ ap (λ x. writer_after_step x s) h.after ∙ sym (after_one_more h.begun made s);
+}
+
+pub carried : {K : Type 0} (o : Order K) (w : WriterView) (u : Update) (made : List Store) (now : WriterView) → IsCarryingOut o w u made now → next_store now ≡ None → CarriesOut o w u made now
+carried o w u made now h none =
+    let all : h.begun.stores_left ≡ made = h.left ∙ ap (λ ss. made ++ ss) (none_left now.stores_left none) ∙ append-nil made in
+    record { begun = h.begun; begins = h.begins; made_are = sym all; after = h.after ∙ ap (writer_after_all h.begun) (sym all) }
+
+-- one update more
+pub carried_more : {K : Type 0} (o : Order K) (w m w' : WriterView) (us : List Update) (u : Update) (ss made : List Store) → CarriesOutAll o w us ss m → CarriesOut o m u made w'
+    → CarriesOutAll o w (us ++ u ∷ []) (ss ++ made) w'
+carried_more o w m w' [] u ss made (none, same) one =
+    (made, [], w', subst (λ x. CarriesOut o x u made w') same one, ap (λ x. x ++ made) none ∙ sym (append-nil made), (refl, refl))
+carried_more o w m w' (v ∷ us) u ss made (first, rest, x, begun, parts, more) one =
+    (first, rest ++ made, x, begun, ap (λ y. y ++ made) parts ∙ append_assoc first rest made, carried_more o x m w' us u rest made more one)

@@ -1,4 +1,4 @@
--- What a writer has made so far.
+-- What a writer has made so far, and which stores its core hands out.
 use Rattle.std.specs.Prelude.{◌≡◌, ℕ, ◌<◌, ◌≤◌, ◌⊎◌, List, [], ◌∷◌, ◌++◌, Some, None}
 use Rattle.order_laws.specs.declared.refusals.Refusal.{Refusal}
 use Rattle.order_laws.specs.Orders.{Order}
@@ -9,7 +9,8 @@ use Rattle.table_updates.specs.declared.updates.Update.{Update}
 use Rattle.table_updates.specs.Updates.{most_steps}
 use Rattle.latch_core.specs.Latches.{PendingUpdate, Latch, IsWriterStep, latch_after_step}
 use Rattle.latch_core.specs.Latches.{latch_with_update, opening_latch}
-use Rattle.latch_core.specs.Writers.{RepresentsLatch, latch_refusal}
+use Rattle.latch_core.specs.Writers.{RepresentsLatch, HasBegun, latch_refusal, opening_writer}
+use Rattle.latch_core.specs.Writers.{writer_after_step}
 use Rattle.latch_core.specs.Writers.{IsOpeningRefused, IsRefusedBy}
 use Rattle.latch_core.specs.WriterViews.{WriterView}
 use Rattle.latch_weak.specs.Works.{Deed, Begins, Stores, stores_of, updates_of}
@@ -36,8 +37,36 @@ pub record HasMade {K : Type 0} (o : Order K) (n limit start : ℕ) (us : List U
   pub capacity : w.capacity ≡ n
   pub limit_is : w.limit ≡ limit
 
--- the recording stops at an update: the writer has carried out those before it, and refuses it
-pub record StopsAt {K : Type 0} (o : Order K) (n limit start : ℕ) (us : List Update)
+-- the core after it has made these stores
+abbrev pub writer_after_all : WriterView → List Store → WriterView
+writer_after_all w [] = w
+writer_after_all w (s ∷ ss) = writer_after_all (writer_after_step w s) ss
+
+-- the core carries an update out: it begins it, and makes all the stores that it then has left
+pub record CarriesOut {K : Type 0} (o : Order K) (w : WriterView) (u : Update)
+    (made : List Store) (w' : WriterView) : Type 0 where
+  pub begun : WriterView
+  pub begins : HasBegun o w u begun
+  pub made_are : made ≡ begun.stores_left
+  pub after : w' ≡ writer_after_all begun begun.stores_left
+
+-- it carries these updates out, one after another, and makes these stores in all
+abbrev pub CarriesOutAll : {K : Type 0} → Order K → WriterView → List Update → List Store
+    → WriterView → Type 0
+CarriesOutAll o w [] ss w' = (ss ≡ []) × (w' ≡ w)
+CarriesOutAll o w (u ∷ us) ss w' =
+    (made : List Store) × (rest : List Store) × (m : WriterView) × CarriesOut o w u made m
+    × (ss ≡ made ++ rest) × CarriesOutAll o m us rest w'
+
+-- the stores are those of a core that is opened at this layout and sequence, and carries these
+-- updates out, each to its end
+abbrev pub AreStoresOfCore : {K : Type 0} → Order K → Layout → ℕ → List Update → List Store
+    → Type 0
+AreStoresOfCore o l start us ss =
+    (w : WriterView) × CarriesOutAll o (opening_writer l start) us ss w
+
+-- the recording stops at an update: the core has carried out those before it, and refuses it
+pub record StopsAt {K : Type 0} (o : Order K) (l : Layout) (start : ℕ) (us : List Update)
     (e : Refusal) : Type 0 where
   pub before : List Update
   pub stopper : Update
@@ -45,13 +74,20 @@ pub record StopsAt {K : Type 0} (o : Order K) (n limit start : ℕ) (us : List U
   pub split : us ≡ before ++ stopper ∷ rest
   pub stores : List Store
   pub writer : WriterView
-  pub made : HasMade o n limit start before stores writer
+  pub made : HasMade o (capacity_of l) (limit_of l) start before stores writer
+  pub carried : CarriesOutAll o (opening_writer l start) before stores writer
   pub refused : IsRefusedBy o writer stopper e
 
 -- why there is no recording: no table is opened, or an update is refused
 abbrev pub RefusesRecording : {K : Type 0} → Order K → Layout → ℕ → List Update → Refusal → Type 0
 RefusesRecording o l start us e =
-    IsOpeningRefused l start e ⊎ StopsAt o (capacity_of l) (limit_of l) start us e
+    IsOpeningRefused l start e ⊎ StopsAt o l start us e
+
+-- of these stores the last ones are of that update
+abbrev pub HasCarriedOut : {K : Type 0} → Order K → List Store → WriterView → Update → List Store
+    → WriterView → Type 0
+HasCarriedOut o ss w u ss' w' =
+    (made : List Store) × CarriesOut o w u made w' × (ss' ≡ ss ++ made)
 
 -- whatever it has carried out, it has now carried these updates out too
 abbrev pub Continues : {K : Type 0} → Order K → List Store → WriterView → List Update → List Store

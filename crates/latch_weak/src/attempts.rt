@@ -11,11 +11,11 @@
 //!
 //! The walk itself is that of every other reader ([`latch_core::attempt_from`]).
 
-ghost use Rattle.std.specs.Prelude.{◌≡◌, ◌<◌, ◌≤◌, length, IfOk};
+ghost use Rattle.std.specs.Prelude.{◌≡◌, ◌<◌, ◌≤◌, ℕ, length, IfOk};
 ghost use Rattle.word_layout.specs.Layouts.{capacity_of};
 ghost use Rattle.word_layout.specs.Words.{words_for};
 ghost use Rattle.latch_core.specs.Whole.{outcome_of};
-ghost use Rattle.latch_weak.specs.Views.{seen_up_to, raised};
+ghost use Rattle.latch_weak.specs.Views.{Glance, seen_up_to, raised};
 ghost use Rattle.latch_weak.specs.Readers.{view_of, IsReaderOf, Looks, LooksFirst, LooksNext};
 ghost use Rattle.latch_weak.specs.Readers.{StandsBefore, HasAttempted};
 
@@ -36,11 +36,16 @@ pub struct Glance {
 
 /// Chooses what each load of a reader gives.
 pub trait LoadSchedule {
+    /// What it may choose for a load: by its number, its word, the load before it, the least moment
+    /// that it may show and the number of all stores.
+    ghost chooses: { Self → ℕ → ℕ → Glance → ℕ → ℕ → Glance → Type 0 };
+
     /// What load number `load` of the reader gives, of `word`: a moment from `least` on, where the
     /// writer makes at most `most` stores and had made `last.made` at the load before.
     fn glance(&self, load: u64, word: usize, last: Glance, least: usize, most: usize) -> Glance
         requires may { least ≤ most }
         requires made { last.made ≤ most }
+        ensures chosen { chooses self.now load word last least most result }
         ensures seen { least ≤ result.moment }
         ensures stored { result.moment ≤ result.made }
         ensures later { last.made ≤ result.made }
@@ -69,6 +74,7 @@ impl ReaderView {
         ensures words { self.new.least.items ≡ self.old.least.items }
         ensures barrier { self.new.at_barrier ≡ self.old.at_barrier }
         ensures last { self.new.last ≡ self.old.last }
+        ensures loads { self.new.loads ≡ self.old.loads }
     {
         self.floor = self.floor.max(least);
     }
@@ -93,7 +99,9 @@ impl<S: LoadSchedule> Moments<'_, S> {
         requires { from ≤ length self.now.stores.now }
         ensures reader { IfOk result (IsReaderOf self.now.opening.now self.now.stores.now) }
         ensures view { IfOk result (λ reader. view_of reader ≡ seen_up_to from) }
-        ensures made { IfOk result (λ reader. reader.last.made ≡ from) }
+        ensures loads { IfOk result (λ reader. reader.loads ≡ 0) }
+        ensures last { IfOk result (λ reader. (reader.last.moment ≡ from)
+            × (reader.last.made ≡ from)) }
     {
         Ok(ReaderView {
             least: vec![in alloc; 0; self.opening.len()]?,
@@ -111,8 +119,8 @@ impl<S: LoadSchedule> Moments<'_, S> {
     fn look(&self, reader: &mut ReaderView, word: usize) -> u64
         requires word { word < length self.now.opening.now }
         requires reader { IsReaderOf self.now.opening.now self.now.stores.now reader.old }
-        ensures { Looks self.now.barriers self.now.opening.now self.now.stores.now reader.old word
-            result reader.new }
+        ensures { Looks (S.chooses self.now.schedule.now) self.now.barriers self.now.opening.now
+            self.now.stores.now reader.old word result reader.new }
     {
         let least = reader.least[word].max(reader.floor);
         let most = self.stores.len();
@@ -132,8 +140,8 @@ impl<S: LoadSchedule> Moments<'_, S> {
     fn look_first(&self, reader: &mut ReaderView) -> u64
         requires word { 0 < length self.now.opening.now }
         requires reader { IsReaderOf self.now.opening.now self.now.stores.now reader.old }
-        ensures { LooksFirst self.now.barriers self.now.opening.now self.now.stores.now reader.old
-            result reader.new }
+        ensures { LooksFirst (S.chooses self.now.schedule.now) self.now.barriers
+            self.now.opening.now self.now.stores.now reader.old result reader.new }
     {
         let first = self.look(reader, 0);
         if self.barriers.dependency {
@@ -156,8 +164,8 @@ impl<S: LoadSchedule> Moments<'_, S> {
     fn look_next(&self, reader: &mut ReaderView, word: usize) -> u64
         requires word { word < length self.now.opening.now }
         requires reader { IsReaderOf self.now.opening.now self.now.stores.now reader.old }
-        ensures { LooksNext self.now.barriers self.now.opening.now self.now.stores.now reader.old
-            word result reader.new }
+        ensures { LooksNext (S.chooses self.now.schedule.now) self.now.barriers
+            self.now.opening.now self.now.stores.now reader.old word result reader.new }
     {
         self.stand_before(reader, word);
         self.look(reader, word)
@@ -173,8 +181,9 @@ impl<S: LoadSchedule> Moments<'_, S> {
     ) -> Attempted
         requires sized { length self.now.opening.now ≡ words_for (capacity_of l) }
         requires reader { IsReaderOf self.now.opening.now self.now.stores.now reader.old }
-        ensures { HasAttempted self.now.barriers O.order (capacity_of l) self.now.opening.now
-            self.now.stores.now reader.old key (outcome_of result) reader.new }
+        ensures { HasAttempted (S.chooses self.now.schedule.now) self.now.barriers O.order
+            (capacity_of l) self.now.opening.now self.now.stores.now reader.old key
+            (outcome_of result) reader.new }
     {
         let first = self.look_first(reader);
         attempt_from::<O, Moments<'_, S>>(self, reader, l, key, first).0
@@ -189,12 +198,12 @@ impl<S: LoadSchedule> Loads for Moments<'_, S> {
     ghost can_load = { λ it s w. IsReaderOf it.opening.now it.stores.now s };
 
     ghost load_gives = { λ it s w x s'.
-        LooksNext it.barriers it.opening.now it.stores.now s w x s' };
+        LooksNext (S.chooses it.schedule.now) it.barriers it.opening.now it.stores.now s w x s' };
 
     ghost can_end = { λ it s. IsReaderOf it.opening.now it.stores.now s };
 
     ghost end_gives = { λ it s x s'.
-        LooksNext it.barriers it.opening.now it.stores.now s 0 x s' };
+        LooksNext (S.chooses it.schedule.now) it.barriers it.opening.now it.stores.now s 0 x s' };
 
     fn load(&self, reader: &mut ReaderView, word: usize, skipped: usize) -> u64 {
         self.look_next(reader, word + skipped)

@@ -1,20 +1,43 @@
-use Rattle.std.proofs.Common.{sym, ◌∙◌, subst, ◌++◌, ◌∷◌, []}
-use Rattle.latch_weak.specs.Recordings.{HasMade}
-use Rattle.latch_weak.proofs.RecordingLemmas.{made_begun, made_stored}
+use Rattle.std.proofs.Common.{sym, ap, refl, ◌∙◌, subst, ◌++◌, ◌∷◌, [], append_assoc, append-nil}
+use Rattle.latch_weak.specs.Recordings.{CarriesOut, HasMade}
+use Rattle.latch_weak.proofs.RecordingLemmas.{made_begun, made_stored, carrying_begun, carrying_stored, carried}
 use Rattle.latch_weak.proofs.recording.carry_out.Goals as goal
 
 pub loop-store-init : goal.loop-store-init
-loop-store-init g c n limit start us made =
-    made_begun g.O.TreeOrder.order n limit start us _ _ c.begin_from.new.self made c.args.update.now
-    c.in_ok-begin_from.ensures.accepted c.begin_from.ensures.pictured
-    c.in_ok-begin_from.ensures.begun.1 c.begin_from.ensures.same.0 c.begin_from.ensures.same.1
+loop-store-init g c = (
+  λ n limit start us made.
+      made_begun g.O.TreeOrder.order n limit start us _ _ c.begin_from.new.self made c.args.update.now
+      c.in_ok-begin_from.ensures.accepted c.begin_from.ensures.pictured
+      c.in_ok-begin_from.ensures.begun.1 c.begin_from.ensures.same.0 c.begin_from.ensures.same.1,
+  ([], carrying_begun g.O.TreeOrder.order _ c.args.update.now c.begin_from.new.self c.in_ok-begin_from.ensures.begun.1, sym (append-nil _)),
+)
 
 pub loop-store-preserved : goal.loop-store-preserved
-loop-store-preserved g c n limit start us made =
+loop-store-preserved g c =
     let o = g.O.TreeOrder.order in
-    let all = us ++ c.args.update.now ∷ [] in
-    let more = made_stored o n limit start all c.loop-store.stores.items c.loop-store.writer
-    c.step.new.self (c.loop-store.invariant n limit start us made) c.in-Some.store
-    (sym c.step.ensures.which ∙ c.in-Some.is) c.in-Some.ensures.may c.step.ensures.pictures
-    c.step.ensures.same.0 c.step.ensures.same.1 in
-    subst (λ ss. HasMade o n limit start all ss c.step.new.self) (sym c.in_ok-push.ensures.items) more
+    let next = sym c.step.ensures.which ∙ c.in-Some.is in
+    let (made, carrying, all) = c.loop-store.invariant.1 in (
+      λ n limit start us before.
+          let us' = us ++ c.args.update.now ∷ [] in
+          let more = made_stored o n limit start us' c.loop-store.stores.items c.loop-store.writer
+          c.step.new.self (c.loop-store.invariant.0 n limit start us before) c.in-Some.store
+          next c.in-Some.ensures.may c.step.ensures.pictures
+          c.step.ensures.same.0 c.step.ensures.same.1 in
+          subst (λ ss. HasMade o n limit start us' ss c.step.new.self) (sym c.in_ok-push.ensures.items) more,
+      (
+        made ++ c.in-Some.store ∷ [],
+        carrying_stored o _ c.args.update.now made c.loop-store.writer c.step.new.self c.in-Some.store carrying next c.in-Some.ensures.stepped,
+        c.in_ok-push.ensures.items ∙ ap (λ x. x ++ c.in-Some.store ∷ []) all ∙ append_assoc _ made (c.in-Some.store ∷ []),
+      ),
+    )
+
+pub returns-clause-carried : goal.returns-clause-carried
+returns-clause-carried g c =
+    let o = g.O.TreeOrder.order in
+    let (made, carrying, all) = c.loop-store.invariant.1 in
+    let none = sym c.step.ensures.which ∙ c.in_default.is in (
+      made,
+      subst (CarriesOut o c.args.writer.now c.args.update.now made) (sym c.in_default.ensures.none)
+          (carried o c.args.writer.now c.args.update.now made c.loop-store.writer carrying none),
+      all,
+    )
