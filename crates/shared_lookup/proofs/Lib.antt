@@ -5,3 +5,4 @@ pub mod CheckLemmas
 pub mod FoundLemmas
 pub mod ReaderLemmas
 pub mod ThreadLemmas
+pub mod LookedLemmas

@@ -9,7 +9,7 @@ use Rattle.latch_table.specs.Readers.{ReaderState, new_reader}
 use Rattle.latch_table.specs.Seats.{first_knowledge}
 use Rattle.shared_lookup.specs.declared.threads.Found.{Found}
 use Rattle.shared_lookup.specs.Ledgers.{IsNamed}
-use Rattle.shared_lookup.specs.Readers.{IsReaderOf}
+use Rattle.shared_lookup.specs.Readers.{IsNewReaderOf}
 use Rattle.shared_lookup.specs.Threads.{AreHeard}
 
 same_place : (place it : TableId) → ◌≡◌ {A = Option TableId} (Some place) (Some it) → place ≡ it
@@ -19,14 +19,17 @@ same_place place it e = cc
 pub named_itself : (table : Option TableId) (place : TableId) → table ≡ Some place → IsNamed table place
 named_itself table place is = λ it e. same_place place it (sym is ∙ e)
 
-pub readers_named : (table : Option TableId) (place : TableId) (all : List ReaderState) → table ≡ Some place → All (IsReaderOf (Some place)) all → All (IsReaderOf table) all
-readers_named table place all is these = subst (λ (t : Option TableId). All (IsReaderOf t) all) (sym is) these
+pub readers_named : (table : Option TableId) (place : TableId) (all : List ReaderState) → table ≡ Some place → All (IsNewReaderOf (Some place)) all → All (IsNewReaderOf table) all
+readers_named table place all is these = subst (λ (t : Option TableId). All (IsNewReaderOf t) all) (sym is) these
 
 -- the readers that a table is opened with
-pub readers_opened : (l : Layout) (place : TableId) (all : List ReaderState) → All (λ x. x ≡ new_reader place (first_knowledge (Start l 0))) all → All (IsReaderOf (Some place)) all
+pub readers_opened : (l : Layout) (place : TableId) (all : List ReaderState) → All (λ x. x ≡ new_reader place (first_knowledge (Start l 0))) all → All (IsNewReaderOf (Some place)) all
 readers_opened l place all new = λ k d less.
-    let is = new k d less in
-    (λ it e. ap (λ (r : ReaderState). r.place) is ∙ same_place place it e, ap (λ (r : ReaderState). r.knowledge.base) is)
+    let is = new k d less in (
+      (λ it e. ap (λ (r : ReaderState). r.place) is ∙ same_place place it e, ap (λ (r : ReaderState). r.knowledge.base) is),
+      ap (λ (r : ReaderState). r.knowledge.seen) is,
+      ap (λ (r : ReaderState). r.memory) is,
+    )
 
 -- what came back is of the table of the ledger that comes out of the lock
 pub heard_named : (table : Option TableId) (place there : TableId) (keys : List (Vec ℕ)) (all : List Found) → table ≡ Some place → IsNamed table there → AreHeard table keys all → AreHeard (Some there) keys all

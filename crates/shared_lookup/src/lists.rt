@@ -2,7 +2,7 @@
 
 ghost use Rattle.std.specs.Prelude.{◌≡◌, ◌≤◌, [], length, All, IfOk, vec_capacity, vec_len};
 ghost use Rattle.latch_table.specs.Limits.{most_readers};
-ghost use Rattle.shared_lookup.specs.Readers.{IsReaderOf};
+ghost use Rattle.shared_lookup.specs.Readers.{IsNewReaderOf};
 ghost use Rattle.shared_lookup.specs.Servings.{EachHasOutcome};
 ghost use Rattle.shared_lookup.specs.Threads.{AreChanging, AreHeard, AreReading, HaveRoom};
 
@@ -69,7 +69,7 @@ pub(crate) fn start_readers<'s, E, R: Threads + Wait + Sync, G: Gate + Sync, W: 
 ) -> Vec<ReaderThread<'s, W>>
     requires blank { readers.items ≡ [] }
     requires long { length keys.now ≤ vec_capacity readers }
-    requires seats { All (IsReaderOf (W.table changer.now)) seats.items }
+    requires seats { All (IsNewReaderOf (W.table changer.now)) seats.items }
     requires same { vec_len seats ≡ length keys.now }
     requires few { length keys.now ≤ most_readers }
     ensures { AreReading changer.now keys.now result.items }

@@ -5,7 +5,7 @@
 
 ghost use Rattle.std.specs.Prelude.{◌≡◌, ◌≤◌, [], length, Some, IfSome, vec_capacity};
 ghost use mathlib.Core.List.{IsPrefix};
-ghost use Rattle.shared_lookup.specs.Readers.{known_by};
+ghost use Rattle.shared_lookup.specs.Readers.{EachHasLooked, HasMet, known_by};
 ghost use Rattle.shared_lookup.specs.Servings.{EachIsAnswered, EachIsFoundIn};
 ghost use Rattle.shared_lookup.specs.Threads.{AreHeard};
 
@@ -15,34 +15,46 @@ use crate::threads::Found;
 use latch_table::Reader;
 use order_laws::HalfOpen;
 
-/// The ledger, once the reader has met it, if there is one.
-fn met(ledger: Ledger, seat: Option<Reader<HalfOpen>>) -> Ledger
+/// The ledger and the reader, once they have met, if there is a reader.
+fn met(ledger: Ledger, seat: Option<Reader<HalfOpen>>) -> (Ledger, Option<Reader<HalfOpen>>)
     requires { IfSome seat (λ r. r.place ≡ ledger.place) }
-    ensures same { result ≡ ledger }
+    ensures same { result.0 ≡ ledger }
     ensures known { IsPrefix (known_by seat) ledger.log }
+    ensures reader { HasMet ledger.log seat result.1 }
 {
     match seat {
-        Some(reader) => ledger.meet(reader).0,
-        None => ledger,
+        Some(reader) => {
+            let (ledger, reader) = ledger.meet(reader);
+            (ledger, Some(reader))
+        }
+        None => (ledger, None),
     }
 }
 
-/// Each reader meets the ledger's writer. Adds the answers of each list and whether it ended to two
-/// lists.
+/// Each reader meets the ledger's writer. Adds the answers of each list, whether it ended and its
+/// reader to three lists.
 pub(crate) fn meet_all(
     ledger: Ledger,
     keys: &[Vec<u64>],
     heard: Vec<Found>,
     mut answers: Vec<Vec<Answer>>,
     mut ended: Vec<bool>,
-) -> (Ledger, Vec<Vec<Answer>>, Vec<bool>)
+    mut readers: Vec<Option<Reader<HalfOpen>>>,
+) -> (
+    Ledger,
+    Vec<Vec<Answer>>,
+    Vec<bool>,
+    Vec<Option<Reader<HalfOpen>>>,
+)
     requires heard { AreHeard (Some ledger.place) keys.now heard.items }
-    requires blank { (answers.items ≡ []) × (ended.items ≡ []) }
+    requires blank { (answers.items ≡ []) × (ended.items ≡ []) × (readers.items ≡ []) }
     requires long { length keys.now ≤ vec_capacity answers }
     requires told { length keys.now ≤ vec_capacity ended }
+    requires back { length keys.now ≤ vec_capacity readers }
     ensures same { result.0 ≡ ledger }
     ensures answered { EachIsAnswered keys.now result.1.items result.2.items }
     ensures found { EachIsFoundIn ledger.log result.1.items }
+    ensures looked { EachHasLooked ledger.log result.1.items result.3.items }
 {
     let mut ledger = ledger;
     for found in heard {
@@ -51,9 +63,11 @@ pub(crate) fn meet_all(
             ended: end,
             seat,
         } = found;
-        ledger = met(ledger, seat);
+        let (same, reader) = met(ledger, seat);
+        ledger = same;
         answers.push_reserved(list);
         ended.push_reserved(end);
+        readers.push_reserved(reader);
     }
-    (ledger, answers, ended)
+    (ledger, answers, ended, readers)
 }

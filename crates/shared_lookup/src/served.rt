@@ -1,6 +1,7 @@
 //! What several writers and readers come back with.
 
-use order_laws::{Item, Refusal};
+use latch_table::Reader;
+use order_laws::{HalfOpen, Item, Refusal};
 use table_updates::Update;
 
 /// What a reader found.
@@ -27,6 +28,9 @@ pub struct Served {
     pub answers: Vec<Vec<Answer>>,
     /// For each list of keys whether it ended early, because memory ran out.
     pub ended: Vec<bool>,
+    /// For each list of keys its reader, which has met the writer since; none where there was no
+    /// thread.
+    pub readers: Vec<Option<Reader<HalfOpen>>>,
     /// Every accepted update, in order.
     pub log: Vec<Update>,
     /// How many answers, accepted changes and entries of the log do not agree with each other; it

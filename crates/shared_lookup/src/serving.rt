@@ -6,7 +6,7 @@ ghost use Rattle.modules.specs.Catalogs.{regions_of};
 ghost use Rattle.word_layout.specs.Layouts.{capacity_of};
 ghost use Rattle.word_layout.specs.Limits.{most_nodes};
 ghost use Rattle.latch_table.specs.Limits.{most_readers};
-ghost use Rattle.shared_lookup.specs.Readers.{IsReaderOf};
+ghost use Rattle.shared_lookup.specs.Readers.{EachHasLooked, IsNewReaderOf};
 ghost use Rattle.shared_lookup.specs.Servings.{EachHasOutcome, EachIsAnswered, EachIsFoundIn};
 ghost use Rattle.shared_lookup.specs.Servings.{IsWrongCount, MayServe, RefusesServing};
 ghost use Rattle.shared_lookup.specs.Threads.{AreHeard};
@@ -48,7 +48,7 @@ fn run_threads<R: Threads + Wait + Sync, G: Gate + Sync, W: Changer + Sync>(
     keys: &[Vec<u64>],
     seats: Vec<Reader<HalfOpen>>,
 ) -> Result<ThreadResults, AllocError>
-    requires seats { All (IsReaderOf (W.table changer.now)) seats.items }
+    requires seats { All (IsNewReaderOf (W.table changer.now)) seats.items }
     requires same { vec_len seats ≡ length keys.now }
     requires few { length keys.now ≤ most_readers }
     ensures outcomes { IfOk result (λ r.
@@ -60,7 +60,7 @@ fn run_threads<R: Threads + Wait + Sync, G: Gate + Sync, W: Changer + Sync>(
         thread::scope_env(),
         rt,
         |scope| -> Result<ThreadResults, AllocError>
-            requires seats { All (IsReaderOf (W.table changer.now)) seats.items }
+            requires seats { All (IsNewReaderOf (W.table changer.now)) seats.items }
             requires same { vec_len seats ≡ length keys.now }
             requires few { length keys.now ≤ most_readers }
             ensures outcomes { IfOk result (λ r.
@@ -105,13 +105,15 @@ fn serve_from<K: NamesTable + Send + Sync, R: Threads + Wait + Sync, G: Gate + S
     keys: Vec<Vec<u64>>,
 ) -> Result<Served, Refusal>
     requires named { K.table ≡ Some opened.0.place }
-    requires seats { All (IsReaderOf (Some opened.0.place)) opened.1.items }
+    requires seats { All (IsNewReaderOf (Some opened.0.place)) opened.1.items }
     requires same { vec_len opened.1 ≡ vec_len keys }
     requires few { vec_len keys ≤ most_readers }
     ensures outcomes { IfOk result (λ s. EachHasOutcome c.now changes.items s.changes.items) }
     ensures answers { IfOk result (λ s.
         EachIsAnswered keys.items s.answers.items s.ended.items) }
     ensures found { IfOk result (λ s. EachIsFoundIn s.log.items s.answers.items) }
+    ensures looked { IfOk result (λ s.
+        EachHasLooked s.log.items s.answers.items s.readers.items) }
     ensures wrong { IfOk result (λ s.
         IsWrongCount c.now changes.items s.changes.items s.answers.items s.log.items s.wrong) }
     ensures refusal { IfErr result (λ e. e ≡ OutOfMemory) }
@@ -119,6 +121,7 @@ fn serve_from<K: NamesTable + Send + Sync, R: Threads + Wait + Sync, G: Gate + S
     let (ledger, seats) = opened;
     let answers = Vec::with_capacity(alloc, keys.len())?;
     let ended = Vec::with_capacity(alloc, keys.len())?;
+    let readers = Vec::with_capacity(alloc, keys.len())?;
     let mut times = times_for(alloc, &changes)?;
     let shared = SharedWriter::<K>::new(ledger);
     let changer = CatalogWriter {
@@ -128,12 +131,13 @@ fn serve_from<K: NamesTable + Send + Sync, R: Threads + Wait + Sync, G: Gate + S
     let returned = run_threads(rt, alloc, g, &changer, &changes, &keys, seats)?;
     let ThreadResults { outcomes, heard } = returned;
     let ledger = shared.into_ledger();
-    let (ledger, answers, ended) = meet_all(ledger, &keys, heard, answers, ended);
+    let (ledger, answers, ended, readers) = meet_all(ledger, &keys, heard, answers, ended, readers);
     let wrong = wrong_count(alloc, &ledger, c, &changes, &outcomes, &answers, &mut times);
     Ok(Served {
         changes: outcomes,
         answers,
         ended,
+        readers,
         log: ledger.into_log(),
         wrong,
     })
@@ -163,7 +167,8 @@ fn layout_for(c: &Catalog<'_>) -> Result<Layout, Refusal>
 /// it ends at its first key; so does a list of keys end where there is no memory for an answer.
 ///
 /// Each answer is what its key lies in after as many updates of the log as its generation says, and
-/// the generations of a list never fall.
+/// the generations of a list never fall. For each answer the list's reader looked: it loaded the
+/// sequence at the start and at the end of each attempt, or once where it remembered the item.
 ///
 /// Counted as wrong are each answer whose generation is above the log's length or that is not what
 /// the key lies in after as many updates of the log, of which there is none; each accepted change
@@ -187,6 +192,8 @@ pub fn serve<R: Threads + Wait + Sync, G: Gate + Sync>(
     ensures answers { IfOk result (λ s.
         EachIsAnswered keys.items s.answers.items s.ended.items) }
     ensures found { IfOk result (λ s. EachIsFoundIn s.log.items s.answers.items) }
+    ensures looked { IfOk result (λ s.
+        EachHasLooked s.log.items s.answers.items s.readers.items) }
     ensures wrong { IfOk result (λ s.
         IsWrongCount c.now changes.items s.changes.items s.answers.items s.log.items s.wrong) }
     ensures refusal { IfErr result (RefusesServing c.now keys.items) }

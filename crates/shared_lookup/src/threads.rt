@@ -1,11 +1,13 @@
 //! The threads of lists of changes and of lists of keys.
 
-ghost use Rattle.std.specs.Prelude.{◌≡◌, length, All, Err, IfOk};
+ghost use Rattle.std.specs.Prelude.{◌≡◌, ℕ, List, ◌++◌, length, All, Err, IfOk};
 ghost use Rattle.std.specs.Option.{ForNone, ForSome};
 ghost use Rattle.order_laws.specs.declared.refusals.Refusal.TheVariants.{OutOfMemory};
 ghost use Rattle.order_laws.specs.Orders.{half_open};
+ghost use Rattle.latch_table.specs.declared.readers.Try.TheVariants.{Answered};
+ghost use Rattle.latch_table.specs.Memory.{memory_after};
 ghost use Rattle.latch_table.specs.Readers.{Answers, KnowsMore};
-ghost use Rattle.shared_lookup.specs.Readers.{IsHeard, IsReaderOf};
+ghost use Rattle.shared_lookup.specs.Readers.{IsHeard, IsLookedUp, IsNewReaderOf};
 ghost use Rattle.shared_lookup.specs.Servings.{AreOutcomesOf, HasOutcomes};
 
 use crate::changes::Change;
@@ -149,6 +151,11 @@ fn look_until<R: Wait>(rt: &R, seat: &mut Reader<HalfOpen>, key: u64) -> (Option
     ensures place { seat.new.place ≡ seat.old.place }
     ensures more { KnowsMore seat.old.knowledge seat.new.knowledge }
     ensures answers { Answers half_open key seat.new.knowledge result.0 result.1 }
+    ensures looked { (loads : List ℕ)
+        × (seat.new.knowledge.seen ≡ seat.old.knowledge.seen ++ loads)
+        × IsLookedUp seat.old.memory result.0 result.1 loads }
+    ensures memory { seat.new.memory
+        ≡ memory_after seat.old.memory (Answered result.0 result.1) }
 {
     match seat.look(key) {
         Try::Answered(item, generation) => (item, generation),
@@ -167,7 +174,7 @@ fn look_up<R: Wait, G: Gate, W: Changer>(
     mut seat: Reader<HalfOpen>,
     keys: &[u64],
 ) -> Found
-    requires { IsReaderOf (W.table _changer.now) seat }
+    requires { IsNewReaderOf (W.table _changer.now) seat }
     ensures { IsHeard (W.table _changer.now) reader keys.now result.answers.items result.ended
         result.seat }
 {
@@ -251,7 +258,7 @@ pub(crate) fn start_reader<'s, E, R: Threads + Wait + Sync, G: Gate + Sync, W: C
     seat: Reader<HalfOpen>,
     keys: &'s [u64],
 ) -> ReaderThread<'s, W>
-    requires reads { IsReaderOf (W.table changer.now) seat }
+    requires reads { IsNewReaderOf (W.table changer.now) seat }
     ensures { (result.changer.now ≡ changer.now) × (result.reader ≡ reader)
         × (result.keys.now ≡ keys.now) }
 {
@@ -265,7 +272,7 @@ pub(crate) fn start_reader<'s, E, R: Threads + Wait + Sync, G: Gate + Sync, W: C
                 keys,
             },
             move || -> Found
-                requires { IsReaderOf (W.table changer.now) seat }
+                requires { IsNewReaderOf (W.table changer.now) seat }
                 ensures { IsHeard (W.table changer.entry.now) reader keys.entry.now
                     result.answers.items result.ended result.seat }
             { look_up(rt, alloc, g, changer, reader, seat, keys) },

@@ -1,14 +1,14 @@
 use Rattle.std.proofs.Common.{◌≡◌, ◌∙◌, ◌+◌, length, take, Some, sym, subst, arith}
 use Rattle.std.proofs.lemmas.List.{length-take-le}
 use Rattle.std.proofs.lemmas.List.Elements.{All-pop}
-use Rattle.shared_lookup.specs.Readers.{IsReaderOf}
+use Rattle.shared_lookup.specs.Readers.{IsNewReaderOf}
 use Rattle.shared_lookup.specs.Threads.{AreReading}
 use Rattle.shared_lookup.proofs.ThreadLemmas.{reading_more}
 use Rattle.shared_lookup.proofs.lists.start_readers.Goals as goal
 
 pub start_reader-thread-requires-clause-reads : goal.start_reader-thread-requires-clause-reads
 start_reader-thread-requires-clause-reads g c κs lives =
-    (All-pop (IsReaderOf (g.W.Changer.table c.args.changer.now)) c.loop-list.seats.items c.pop.new.self.items (Some c.in-Some.seat) c.in-Some.ensures.items c.loop-list.invariant.seats).1
+    (All-pop (IsNewReaderOf (g.W.Changer.table c.args.changer.now)) c.loop-list.seats.items c.pop.new.self.items (Some c.in-Some.seat) c.in-Some.ensures.items c.loop-list.invariant.seats).1
 
 pub loop-list-preserved : goal.loop-list-preserved
 loop-list-preserved g c =
@@ -21,7 +21,7 @@ loop-list-preserved g c =
     let place : c.len-reader.result ≡ i = c.len-reader.ensures ∙ c.loop-list.readers.ok.0 ∙ count in
     let started = c.start_reader-thread.ensures in
     record {
-      seats = (All-pop (IsReaderOf (g.W.Changer.table c.args.changer.now)) c.loop-list.seats.items c.pop.new.self.items (Some c.in-Some.seat) c.in-Some.ensures.items c.loop-list.invariant.seats).0;
+      seats = (All-pop (IsNewReaderOf (g.W.Changer.table c.args.changer.now)) c.loop-list.seats.items c.pop.new.self.items (Some c.in-Some.seat) c.in-Some.ensures.items c.loop-list.invariant.seats).0;
       left = let a = c.in-Some.ensures.len in let b = c.loop-list.invariant.left in omega (arith, a, b);
       reading =
           subst (AreReading c.args.changer.now (take (i + 1) keys)) (sym c.push_reserved.ensures.items)

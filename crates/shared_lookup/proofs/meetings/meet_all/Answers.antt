@@ -1,4 +1,4 @@
-use Rattle.std.proofs.Common.{◌≡◌, ◌∙◌, ◌++◌, ◌∷◌, [], Bool, List, length, take, sym, subst, ap, append_assoc, arith, refl, Some}
+use Rattle.std.proofs.Common.{◌≡◌, ◌∙◌, ◌++◌, ◌∷◌, [], Bool, List, length, length-append, take, Option, sym, subst, ap, append_assoc, arith, refl, Some}
 use Rattle.std.specs.Global.{Vec}
 use Rattle.std.specs.Prelude.{IfSome}
 use Rattle.std.specs.Vec.Iter.{into_iter_items}
@@ -7,15 +7,17 @@ use mathlib.Core.List.{IsPrefix}
 use Rattle.shared_lookup.specs.declared.served.Answer.{Answer}
 use Rattle.shared_lookup.specs.declared.threads.Found.{Found}
 use Rattle.shared_lookup.specs.Ledgers.{LedgerState}
-use Rattle.shared_lookup.specs.Readers.{known_by}
+use Rattle.shared_lookup.specs.Readers.{EachHasLooked, HasMet, known_by}
 use Rattle.shared_lookup.specs.Servings.{AreFoundIn, EachIsAnswered, EachIsFoundIn}
 use Rattle.shared_lookup.specs.Threads.{AreHeard}
+use Rattle.latch_table.specs.Readers.{ReaderState}
 use Rattle.shared_lookup.proofs.FoundLemmas.{all_found_later}
+use Rattle.shared_lookup.proofs.LookedLemmas.{all_looked_more, looked_met}
 use Rattle.shared_lookup.proofs.ThreadLemmas.{answered_so_far, heard_here, met_here, room_left}
 use Rattle.shared_lookup.proofs.meetings.meet_all.Goals as goal
 
-pub met-ledger-requires : goal.met-ledger-requires
-met-ledger-requires c =
+pub met-same-requires : goal.met-same-requires
+met-same-requires c =
     let i = c.loop-found.invariant in
     let done = c.loop-found.yielded in
     let rest = into_iter_items c.next.new.self in
@@ -40,17 +42,24 @@ loop-found-preserved c =
     let all : c.args.heard.items ≡ done ++ f ∷ rest = i.gone ∙ ap (λ (xs : List Found). done ++ xs) step in
     let heard = subst (AreHeard (Some place) keys) all c.requires.heard in
     let here = heard_here (Some place) keys done rest f heard in
-    let known : IsPrefix (known_by f.seat) log = subst (λ (l : LedgerState). IsPrefix (known_by f.seat) l.log) i.same c.met-ledger.ensures.known in
+    let known : IsPrefix (known_by f.seat) log = subst (λ (l : LedgerState). IsPrefix (known_by f.seat) l.log) i.same c.met-same.ensures.known in
     let answered = answered_so_far (Some place) keys done rest f heard c.loop-found.answers.items c.loop-found.ended.items i.answered in
     let found = All-push (λ (list : Vec Answer). AreFoundIn log list.items) c.loop-found.answers.items f.answers i.found
     (all_found_later (known_by f.seat) log f.answers.items known here.found) in
+    let back = c.met-same.result.1 in
+    let met : HasMet log f.seat back = subst (λ (l : LedgerState). HasMet l.log f.seat back) i.same c.met-same.ensures.reader in
+    let looked = all_looked_more log c.loop-found.answers.items c.loop-found.readers.items f.answers back i.looked (looked_met log f.answers.items f.seat back here.looked met) in
     record {
       gone = i.gone ∙ ap (λ (xs : List Found). done ++ xs) step ∙ sym (append_assoc done (f ∷ []) rest);
-      same = c.met-ledger.ensures.same ∙ i.same;
+      same = c.met-same.ensures.same ∙ i.same;
       answered =
           subst (λ (xs : List (Vec Answer)). EachIsAnswered (take (length (done ++ f ∷ [])) keys) xs c.push_reserved-in-loop-found.new.self.items) (sym c.push_reserved.ensures.items)
           (subst (λ (es : List Bool). EachIsAnswered (take (length (done ++ f ∷ [])) keys) (c.loop-found.answers.items ++ f.answers ∷ []) es) (sym c.push_reserved-in-loop-found.ensures.items) answered);
       found = subst (EachIsFoundIn log) (sym c.push_reserved.ensures.items) found;
+      looked =
+          subst (λ (xs : List (Vec Answer)). EachHasLooked log xs c.push_reserved-in-loop-found-2.new.self.items) (sym c.push_reserved.ensures.items)
+          (subst (λ (rs : List (Option ReaderState)). EachHasLooked log (c.loop-found.answers.items ++ f.answers ∷ []) rs) (sym c.push_reserved-in-loop-found-2.ensures.items) looked);
+      back = let l = i.back in let k = c.push_reserved-in-loop-found-2.ensures.capacity in omega (arith, l, k);
       long = let l = i.long in let k = c.push_reserved.ensures.capacity in omega (arith, l, k);
       told = let l = i.told in let k = c.push_reserved-in-loop-found.ensures.capacity in omega (arith, l, k);
     }
@@ -72,3 +81,12 @@ push_reserved-requires-in-loop-found c =
     let f = c.in-Some.found in
     let all : c.args.heard.items ≡ done ++ f ∷ rest = i.gone ∙ ap (λ (xs : List Found). done ++ xs) c.in-Some.ensures.steps.0 in
     room_left c.args.keys.now done rest f c.loop-found.ended (ap length (sym all) ∙ c.requires.heard.same) i.answered.told i.told
+
+pub push_reserved-requires-in-loop-found-2 : goal.push_reserved-requires-in-loop-found-2
+push_reserved-requires-in-loop-found-2 c =
+    let i = c.loop-found.invariant in
+    let done = c.loop-found.yielded in
+    let rest = into_iter_items c.next.new.self in
+    let f = c.in-Some.found in
+    let all : c.args.heard.items ≡ done ++ f ∷ rest = i.gone ∙ ap (λ (xs : List Found). done ++ xs) c.in-Some.ensures.steps.0 in
+    room_left c.args.keys.now done rest f c.loop-found.readers (ap length (sym all) ∙ c.requires.heard.same) (i.looked.same ∙ i.answered.same) i.back

@@ -1,6 +1,7 @@
 use Rattle.std.proofs.Common.{◌≡◌, ◌≤◌, ◌++◌, length, take}
 use Rattle.std.specs.Prelude.{vec_capacity}
 use Rattle.std.specs.Vec.Iter.{into_iter_items}
+use Rattle.shared_lookup.specs.Readers.{EachHasLooked}
 use Rattle.shared_lookup.specs.Servings.{EachIsAnswered, EachIsFoundIn}
 use Rattle.shared_lookup.proofs.meetings.meet_all.Given as goal
 
@@ -11,6 +12,8 @@ invariant-loop-found l =
       same : l.ledger ≡ l.fn.ledger;
       answered : EachIsAnswered (take (length l.yielded) l.keys) l.answers.items l.ended.items;
       found : EachIsFoundIn l.fn.ledger.log l.answers.items;
+      looked : EachHasLooked l.fn.ledger.log l.answers.items l.readers.items;
       long : length l.keys ≤ vec_capacity l.answers;
       told : length l.keys ≤ vec_capacity l.ended;
+      back : length l.keys ≤ vec_capacity l.readers;
     }

@@ -9,4 +9,4 @@ pub returns-in-Some-clause-known : goal.returns-in-Some-clause-known
 returns-in-Some-clause-known c =
     let log = c.args.ledger.log in
     subst (λ (seat : Option ReaderState). IsPrefix (known_by seat) log) (sym c.in-Some.is)
-    (known_met c.in-Some.reader.knowledge c.meet.result.1.knowledge log c.meet.ensures.reader)
+    (known_met c.in-Some.reader.knowledge c.meet-ledger.result.1.knowledge log c.meet-ledger.ensures.reader)

@@ -4,6 +4,7 @@ use Rattle.table_updates.specs.declared.updates.Update.{Update}
 use Rattle.shared_lookup.specs.declared.changes.Change.{Change}
 use Rattle.shared_lookup.specs.declared.served.Answer.{Answer}
 use Rattle.shared_lookup.specs.Ledgers.{LedgerState}
+use Rattle.shared_lookup.specs.Readers.{EachHasLooked}
 use Rattle.shared_lookup.specs.Servings.{AreAsLong, ChangeOutcome, EachIsFoundIn, IsWrongCount}
 use Rattle.shared_lookup.specs.Threads.{AreHeard}
 use Rattle.shared_lookup.proofs.CountLemmas.{each_as_long}
@@ -27,6 +28,11 @@ pub returns-clause-found : goal.returns-clause-found
 returns-clause-found g c =
     let out = c.meet_all-ledger in
     subst (λ log. EachIsFoundIn log out.result.1.items) (ap (λ (l : LedgerState). l.log) (sym out.ensures.same) ∙ sym c.into_log.ensures) out.ensures.found
+
+pub returns-clause-looked : goal.returns-clause-looked
+returns-clause-looked g c =
+    let out = c.meet_all-ledger in
+    subst (λ log. EachHasLooked log out.result.1.items out.result.3.items) (ap (λ (l : LedgerState). l.log) (sym out.ensures.same) ∙ sym c.into_log.ensures) out.ensures.looked
 
 pub returns-clause-wrong : goal.returns-clause-wrong
 returns-clause-wrong g c =

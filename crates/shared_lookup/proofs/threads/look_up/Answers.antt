@@ -1,10 +1,14 @@
-use Rattle.std.proofs.Common.{◌≡◌, ◌∙◌, ◌++◌, ◌∷◌, [], ℕ, List, length, Some, refl, ap, sym, subst, ⊎_elim, arith, length-append, get_or}
+use Rattle.std.proofs.Common.{◌≡◌, ◌∙◌, ◌++◌, ◌∷◌, [], ℕ, List, length, Some, None, refl, ap, sym, subst, ⊎_elim, arith, length-append, get_or}
 use Rattle.std.specs.Prelude.{slice_get}
 use Rattle.std.proofs.lemmas.Option.{get_or_from_slice_get}
 use Rattle.facts.proofs.Lists.{slice_get-push_cases}
+use Rattle.latch_table.specs.declared.readers.Try.TheVariants.{Answered}
+use Rattle.latch_table.specs.Memory.{memory_after}
 use Rattle.shared_lookup.specs.declared.served.Answer.{Answer}
 use Rattle.shared_lookup.specs.Servings.{AreFoundIn, IsAnswerTo}
 use Rattle.shared_lookup.proofs.FoundLemmas.{found_more}
+use Rattle.shared_lookup.specs.Readers.{AreLookedUp, IsLookedUp}
+use Rattle.shared_lookup.proofs.LookedLemmas.{found_last, last_more, looked_more}
 use Rattle.shared_lookup.proofs.threads.look_up.Goals as goal
 
 -- an answer more, at the place of its key
@@ -35,6 +39,9 @@ loop-index-preserved g c =
     let base = i.reads.1 in
     let known = c.look_until-item.new.seat.knowledge.known in
     let count : c.look_until-item.result.1 ≡ length known = (let counted = answers.counted in let same = more.base in omega (arith, counted, same, base)) in
+    let (loads, seen, looked) = c.look_until-item.ensures.looked in
+    let item = c.look_until-item.result.0 in
+    let generation = c.look_until-item.result.1 in
     let items : c.push_reserved.new.self.items ≡ old ++ new ∷ [] = c.push_reserved.ensures.items ∙ ap (λ (xs : List Answer). xs ++ new ∷ []) c.reserve.ensures.items in
     record {
       few = ap length items ∙ (let n = length-append old (new ∷ []) in omega (arith, n, few));
@@ -43,4 +50,9 @@ loop-index-preserved g c =
           (subst (λ (xs : List Answer). slice_get xs place ≡ Some a) items h);
       reads = (λ it e. c.look_until-item.ensures.place ∙ i.reads.0 it e, more.base ∙ base);
       found = subst (AreFoundIn known) (sym items) (found_more c.loop-index.seat.knowledge.known known old new more.known i.found count answers.found);
+      looked =
+          subst (λ ss. AreLookedUp None c.push_reserved.new.self.items ss) (sym seen)
+          (subst (λ xs. AreLookedUp None xs (c.loop-index.seat.knowledge.seen ++ loads)) (sym items)
+          (looked_more None old new c.loop-index.seat.knowledge.seen loads i.looked (subst (λ m. IsLookedUp m item generation loads) i.memory looked)));
+      memory = c.look_until-item.ensures.memory ∙ ap (λ m. memory_after m (Answered item generation)) i.memory ∙ sym (last_more None old new) ∙ ap (found_last None) (sym items);
     }

@@ -1,8 +1,9 @@
-use Rattle.std.proofs.Common.{◌≡◌, length, Some}
+use Rattle.std.proofs.Common.{◌≡◌, length, Some, None}
 use Rattle.std.specs.Prelude.{slice_get}
 use Rattle.shared_lookup.specs.declared.served.Answer.{Answer}
-use Rattle.shared_lookup.specs.Readers.{IsReaderOf}
+use Rattle.shared_lookup.specs.Readers.{AreLookedUp, IsReaderOf}
 use Rattle.shared_lookup.specs.Servings.{AreFoundIn, IsAnswerTo}
+use Rattle.shared_lookup.proofs.LookedLemmas.{found_last}
 use Rattle.shared_lookup.proofs.threads.look_up.Given as goal
 
 abbrev pub invariant-loop-index : goal.invariant-loop-index
@@ -12,4 +13,6 @@ invariant-loop-index g l =
       each : (place key : _) (a : Answer) → slice_get l.keys place ≡ Some key → slice_get l.answers.items place ≡ Some a → IsAnswerTo l.reader place key a;
       reads : IsReaderOf (g.W.Changer.table l._changer) l.seat;
       found : AreFoundIn l.seat.knowledge.known l.answers.items;
+      looked : AreLookedUp None l.answers.items l.seat.knowledge.seen;
+      memory : l.seat.memory ≡ found_last None l.answers.items;
     }
