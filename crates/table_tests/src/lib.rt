@@ -11,6 +11,8 @@ mod gates;
 #[cfg(test)]
 mod ledgers;
 #[cfg(test)]
+mod long_lists;
+#[cfg(test)]
 mod memory;
 #[cfg(test)]
 mod orders;
