@@ -13,7 +13,7 @@ use Rattle.engines.specs.Lookups.{AreListingsOf}
 use Rattle.engines.specs.OpenedCatalogs.{Given, opening_options, IsByModules, IsCatalogBy, OpensByModules, OpensBySymbols, OpensCatalog}
 use Rattle.engines.specs.declared.fault.Fault.{Fault}
 use Rattle.engines.specs.declared.fault.Fault.TheVariants.{Refused, BadLine}
-use Rattle.engines.specs.declared.lookup.Listings.{Listings}
+use Rattle.listing.specs.declared.opening.Listings.{Listings}
 use Rattle.engines.specs.declared.opened_catalogs.OpenedCatalog.{OpenedCatalog}
 
 -- the catalog of a lookup in the same listings

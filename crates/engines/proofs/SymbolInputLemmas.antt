@@ -13,12 +13,13 @@ use Rattle.engines.specs.LookupInputs.{all_addresses}
 use Rattle.engines.specs.AnswerForms.{line_by}
 use Rattle.engines.specs.Lookups.{GivesAddresses}
 use Rattle.engines.specs.Readings.{Failures, HoldsOf, NoReaderFailed, OnlyFailed, failures_in, last_failures}
-use Rattle.engines.specs.SymbolLookups.{AnswersBySymbols, AnswersSymbolLookup, HoldsOfCatalog, IsSymbolListing, IsWrittenBySymbols, SymbolInputs, found_counts_by, kept_in_text, listed, symbol_inputs_of, symbol_inputs_with, symbol_lookup_text}
+use Rattle.engines.specs.SymbolLookups.{AnswersBySymbols, AnswersSymbolLookup, HoldsOfCatalog, IsWrittenBySymbols, SymbolInputs, found_counts_by, symbol_inputs_of, symbol_inputs_with, symbol_lookup_text}
+use Rattle.listing.specs.Opening.{IsSymbolListing, kept_in_text, listed}
 use Rattle.engines.specs.declared.fault.Fault.{Fault}
 use Rattle.engines.specs.declared.forms.AnswerForm.{AnswerForm}
 use Rattle.engines.specs.declared.fault.Fault.TheVariants.{Refused, BadLine, Read, Write}
 use Rattle.listing.specs.declared.listing_notes.ListingNotes.{ListingNotes}
-use Rattle.engines.specs.declared.symbol_lookup.SymbolListing.{SymbolListing}
+use Rattle.listing.specs.declared.opening.SymbolListing.{SymbolListing}
 use Rattle.engines.specs.declared.symbol_lookup.SymbolLookupOptions.{SymbolLookupOptions}
 use Rattle.engines.specs.declared.table.AddressAnswer.{AddressAnswer}
 

@@ -25,7 +25,7 @@ use Rattle.engines.specs.declared.fault.Fault.{Fault}
 use Rattle.engines.specs.declared.fault.Fault.TheVariants.{Refused, BadLine, Read, Write}
 use Rattle.engines.specs.declared.forms.AnswerForm.{AnswerForm}
 use Rattle.listing.specs.declared.listing_notes.ListingNotes.{ListingNotes}
-use Rattle.engines.specs.declared.lookup.Listings.{Listings}
+use Rattle.listing.specs.declared.opening.Listings.{Listings}
 use Rattle.engines.specs.declared.lookup.LookupReaders.{LookupReaders}
 
 -- the line of counts of a listing of regions, where there is one

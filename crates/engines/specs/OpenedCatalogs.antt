@@ -14,7 +14,7 @@ use Rattle.engines.specs.LookupInputs.{Inputs, catalog_in, known_text, notes_of,
 use Rattle.engines.specs.Readings.{Failures, NoReaderFailed, OnlyFailed, failures_in}
 use Rattle.engines.specs.declared.lookup.LookupOptions.{LookupOptions}
 use Rattle.listing.specs.AddressRules.{as_given}
-use Rattle.engines.specs.SymbolLookups.{SaysOfModules, kept_in_text, listed, notes_with, symbol_note}
+use Rattle.listing.specs.Opening.{SaysOfModules, kept_in_text, listed, notes_with, symbol_note}
 use Rattle.engines.specs.declared.fault.Fault.{Fault}
 use Rattle.engines.specs.declared.fault.Fault.TheVariants.{Refused, BadLine, Read}
 use Rattle.listing.specs.declared.listing_notes.ListingNotes.{ListingNotes}

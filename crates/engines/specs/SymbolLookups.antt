@@ -1,5 +1,5 @@
 -- What a lookup writes whose modules come from a listing of symbols alone.
-use Rattle.std.specs.Prelude.{◌≡◌, ℕ, false, length, List, [], ◌∷◌, ◌++◌, map, flat_map, find, Option, None}
+use Rattle.std.specs.Prelude.{◌≡◌, ℕ, List, [], ◌∷◌, ◌++◌, map, flat_map, Option}
 use Rattle.std.specs.Prelude.{Result, Ok, Err, option_and_then}
 use Rattle.std.specs.Option.{option_map}
 use Rattle.std.specs.Io.KnownBytes.{Appends}
@@ -7,18 +7,15 @@ use Rattle.listing.specs.declared.address_rules.AddressRule.{AddressRule}
 use Rattle.texts.specs.declared.counted.Counted.{Counted}
 use Rattle.texts.specs.Counted.{NoneFailed, Rose, device_of, failures_of}
 use Rattle.texts.specs.Lines.{lines_of}
-use Rattle.listing.specs.Looks.{are_symbols_hidden}
-use Rattle.listing.specs.SymbolListing.{symbol_counts, symbols_in, symbols_with}
+use Rattle.listing.specs.Opening.{SaysOfModules, kept_in_text, listed, notes_with, symbol_note}
+use Rattle.listing.specs.SymbolListing.{symbol_counts}
 use Rattle.modules.specs.declared.catalog.KeptCounts.{KeptCounts}
 use Rattle.modules.specs.Accepted.{Accepted}
-use Rattle.modules.specs.Catalogs.{catalog_with, kept_counts, kept_of_listed}
+use Rattle.modules.specs.Catalogs.{catalog_with}
 use Rattle.modules.specs.Entries.{CatalogEntries}
-use Rattle.modules.specs.FromSymbols.{IsFromSymbols}
-use Rattle.modules.specs.Lines.{bounds_for, usual_bounds_of}
-use Rattle.modules.specs.Listed.{BoundNames, ListedSymbol}
+use Rattle.modules.specs.Listed.{BoundNames}
 use Rattle.order_laws.specs.declared.refusals.Refusal.TheVariants as refusal
 use Rattle.engines.specs.CatalogTables.{HasFewRegions, HasManyRegions, answer_at}
-use Rattle.listing.specs.ListingNotes.{all_notes, is_of_kallsyms}
 use Rattle.engines.specs.LookupInputs.{all_addresses, known_text}
 use Rattle.engines.specs.AnswerForms.{counts_by, line_by}
 use Rattle.engines.specs.JsonTexts.{json_found_counts}
@@ -27,9 +24,8 @@ use Rattle.engines.specs.Readings.{AnswersInputs, Failures, failures_in}
 use Rattle.engines.specs.declared.fault.Fault.{Fault}
 use Rattle.engines.specs.declared.fault.Fault.TheVariants.{Refused, Write}
 use Rattle.engines.specs.declared.forms.AnswerForm.{AnswerForm}
-use Rattle.listing.specs.declared.listing_notes.ListingNote.{ListingNote}
 use Rattle.listing.specs.declared.listing_notes.ListingNotes.{ListingNotes}
-use Rattle.engines.specs.declared.symbol_lookup.SymbolListing.{SymbolListing}
+use Rattle.listing.specs.declared.opening.SymbolListing.{SymbolListing}
 use Rattle.engines.specs.declared.symbol_lookup.SymbolLookupInputs.{SymbolLookupInputs}
 use Rattle.engines.specs.declared.symbol_lookup.SymbolLookupOptions.{SymbolLookupOptions}
 use Rattle.engines.specs.declared.symbol_lookup.SymbolLookupReaders.{SymbolLookupReaders}
@@ -77,38 +73,6 @@ known_symbol_inputs kallsyms addresses readers options given =
     option_and_then (symbol_inputs_of options given (known_text addresses readers.addresses))
     (kallsyms (device_of readers.kallsyms))
 
--- the symbols that a text lists, but mapping symbols
-abbrev pub listed : List ℕ → List ListedSymbol
-listed text = symbols_with false (symbols_in (lines_of text))
-
--- how many modules and regions a text says, and how many of its lines went where; mapping symbols
--- are stray
-abbrev pub kept_in_text : List ℕ → Accepted → KeptCounts
-kept_in_text text a =
-    kept_of_listed (length (symbols_in (lines_of text))) (kept_counts a (listed text))
-
--- what the listing in a text says of the kernel, which lies between the names that are given or
--- else in its usual regions, and of the modules
-abbrev pub SaysOfModules : Option BoundNames → List ℕ → Accepted → Type 0
-SaysOfModules kernel text a = IsFromSymbols kernel (listed text) a
-
--- the first note that applies to such a listing, of which so many lines are kept
-abbrev pub symbol_note : Option BoundNames → List ℕ → ℕ → Option ListingNote
-symbol_note kernel text kept =
-    find (is_of_kallsyms (bounds_for kernel (listed text)) text kept) all_notes
-
--- the catalog, the counts and the note are those of the listing in this text
-pub record IsSymbolListing (kernel : Option BoundNames) (text : List ℕ) (l : SymbolListing)
-    : Type 0 where
-  pub modules : Accepted
-  pub said : SaysOfModules kernel text modules
-  pub catalog : l.catalog ≡ catalog_with modules (listed text)
-  pub kept : l.kept ≡ kept_in_text text modules
-  pub skipped : l.skipped.by_place ≡ symbol_counts (lines_of text)
-  pub hidden : l.hidden ≡ are_symbols_hidden (lines_of text)
-  pub usual : l.usual ≡ usual_bounds_of (listed text)
-  pub note : l.note ≡ symbol_note kernel text (kept_in_text text modules).symbols
-
 -- how many modules and regions were found, and where the lines went
 abbrev pub counts_text_of : KeptCounts → List ℕ → List ℕ
 counts_text_of kept skipped =
@@ -135,10 +99,6 @@ abbrev pub HoldsOfCatalog : (CatalogEntries → Type 0) → SymbolInputs → Typ
 HoldsOfCatalog P i =
     (a : Accepted) × SaysOfModules i.kernel i.kallsyms a
     × P (catalog_with a (listed i.kallsyms))
-
--- the notes of a job whose only listing is one of symbols
-abbrev pub notes_with : Option ListingNote → ListingNotes
-notes_with note = record { modules = None; kallsyms = note }
 
 -- the writer has taken the lines of these inputs, whose table has few regions, and this is noted
 abbrev pub IsWrittenBySymbols : {W : Type 0} → (W → Option (List ℕ)) → AnswerForm → Counted W

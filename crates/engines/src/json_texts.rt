@@ -11,11 +11,10 @@ ghost use Rattle.engines.specs.JsonTexts.{region_counts_object, regions_object};
 ghost use Rattle.engines.specs.JsonTexts.{symbol_members, symbols_object};
 
 use crate::json::{put_json_number, put_json_string};
-use crate::lookup::Listings;
-use crate::symbol_lookup::SymbolListing;
 use crate::table::AddressAnswer;
 use listing::{
-    AddressRule, Cause, Counts, ModuleCounts, SkippedModule, SkippedSymbol, SymbolCounts, sought,
+    AddressRule, Cause, Counts, Listings, ModuleCounts, SkippedModule, SkippedSymbol, SymbolCounts,
+    SymbolListing, sought,
 };
 use modules::{BuildCounts, Catalog, FoundSymbol, KeptCounts, symbol_of};
 use order_laws::Item;

@@ -31,15 +31,14 @@ pub use json_texts::{
     put_address_member, put_named_module, put_offset_members, put_symbol_members,
 };
 pub use lookup::{
-    Listings, LookupInputs, LookupOptions, LookupReaders, listings_in, lookup_engine, put_counts,
+    LookupInputs, LookupOptions, LookupReaders, listings_in, lookup_engine, put_counts,
     region_lines_in,
 };
 pub use opened_catalogs::{GivenTexts, ListingReaders, bounds_or_usual, open_catalog, read_given};
 pub use runs::{RunReaders, run_engine};
 pub use steps::steps_engine;
 pub use symbol_lookup::{
-    SymbolListing, SymbolLookupOptions, SymbolLookupReaders, put_found_counts, symbol_listing_in,
-    symbol_lookup_engine,
+    SymbolLookupOptions, SymbolLookupReaders, put_found_counts, symbol_lookup_engine,
 };
 pub use trace::trace_engine;
 pub use trace_texts::{put_decimal, put_refused};

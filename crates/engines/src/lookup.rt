@@ -1,6 +1,7 @@
 //! From the bytes of the listings to the lines that a lookup of addresses writes.
 ghost use Rattle.std.specs.Prelude.{◌≡◌, ◌++◌, ◌∷◌, [], Err, All, flat_map, is_some, option_map};
 ghost use Rattle.std.specs.Prelude.{true, IfOk, IfErr, IfSome};
+ghost use Rattle.std.specs.Option.{option_copied};
 ghost use Rattle.texts.specs.Counted.{device_of, failures_of};
 ghost use Rattle.texts.specs.Exact.{Wrote};
 ghost use Rattle.modules.specs.Catalogs.{IsBuildRefusal};
@@ -18,12 +19,8 @@ use crate::forms::AnswerForm;
 use crate::json_texts::put_json_counts;
 use crate::lookup_texts::{put_answers, put_module_counts, put_region_counts, put_symbol_counts};
 use crate::table::{AddressAnswer, answers_of};
-use listing::{
-    AddressRule, ListingNotes, ModuleCounts, SymbolCounts, SymbolFacts, are_modules_hidden,
-    are_symbols_hidden, note_of_kallsyms, note_of_modules, read_addresses, read_kallsyms,
-    read_modules, read_regions,
-};
-use modules::{Asked, BuildCounts, Catalog, KernelBounds, RegionLine};
+use listing::{AddressRule, ListingNotes, Listings, open_listings, read_addresses, read_regions};
+use modules::{Asked, KernelBounds, RegionLine};
 use order_laws::Refusal;
 use std::alloc::{AllocError, Global};
 use std::io;
@@ -83,23 +80,6 @@ pub struct LookupInputs<'o, 'a> {
     pub regions: Option<Vec<RegionLine<'a>>>,
     /// The addresses of the command line, and after them those of the file.
     pub addresses: Vec<u64>,
-}
-
-/// What the listings say: a catalog, and how many of their lines went where.
-#[derive(Drop)]
-pub struct Listings<'a> {
-    pub catalog: Catalog<'a>,
-    pub built: BuildCounts,
-    pub skipped_modules: ModuleCounts,
-    pub skipped_symbols: SymbolCounts,
-    /// Whether there is a listing of regions.
-    pub has_regions: bool,
-    /// All well-formed lines of the listing of modules are hidden, and there is one.
-    pub modules_hidden: bool,
-    /// The same of the listing of symbols.
-    pub symbols_hidden: bool,
-    /// What is noted of them.
-    pub notes: ListingNotes,
 }
 
 /// Looks addresses up in the listings of modules and of symbols, and writes a line for each address
@@ -248,7 +228,6 @@ pub(crate) fn places_of(
 /// Reads the lines of the first two listings, and builds the catalog of all three, for who asks
 /// about these addresses. Refused where more than 7 region lines have one name, and when out of
 /// memory.
-#[tactic(auto, unfolding(crate::specs::LookupInputs::catalog_in, crate::specs::LookupInputs::counts_in))]
 pub fn listings_in<'a>(
     alloc: Global,
     inputs: &LookupInputs<'_, 'a>,
@@ -259,48 +238,25 @@ pub fn listings_in<'a>(
     ensures refusal { IfErr result
         (IsBuildRefusal (region_lines_of_inputs (inputs_in inputs.now))) }
 {
-    let (module_lines, skipped_modules) = read_modules(alloc, inputs.modules)?;
-    let symbols = read_kallsyms(alloc, inputs.kallsyms, inputs.options.with_mapping)?;
-    let modules_hidden = are_modules_hidden(module_lines.len(), &skipped_modules);
-    let symbols_hidden = are_symbols_hidden(symbols.listed, &symbols.skipped);
     let regions = region_lines_of(inputs);
-    let (catalog, counts) = Catalog::build(
+    open_listings(
         alloc,
         Some(&inputs.options.kernel),
-        &module_lines,
+        inputs.options.with_mapping,
+        inputs.modules,
+        inputs.kallsyms,
         regions,
-        symbols.lines,
         asked,
-    )?;
-    let built = counts.of_listed(symbols.listed);
-    let facts = SymbolFacts {
-        hidden: symbols_hidden,
-        kept: built.symbols,
-        has_kernel: catalog.module(0).is_some(),
-    };
-    let notes = ListingNotes {
-        modules: note_of_modules(inputs.modules, inputs.kallsyms, modules_hidden, &catalog),
-        kallsyms: note_of_kallsyms(inputs.kallsyms, &inputs.options.kernel, facts),
-    };
-    Ok(Listings {
-        catalog,
-        built,
-        skipped_modules,
-        skipped_symbols: symbols.skipped,
-        has_regions: inputs.regions.is_some(),
-        modules_hidden,
-        symbols_hidden,
-        notes,
-    })
+    )
 }
 
-/// The region lines, of which there are none where there is no listing of them.
-fn region_lines_of<'i, 'a>(inputs: &'i LookupInputs<'_, 'a>) -> &'i [RegionLine<'a>]
-    ensures { result.now ≡ region_lines_of_inputs (inputs_in inputs.now) }
+/// The region lines, where there is a listing of them.
+fn region_lines_of<'i, 'a>(inputs: &'i LookupInputs<'_, 'a>) -> Option<&'i [RegionLine<'a>]>
+    ensures { option_copied result ≡ (inputs_in inputs.now).regions }
 {
     match &inputs.regions {
-        Some(lines) => lines,
-        None => &[],
+        Some(lines) => Some(lines),
+        None => None,
     }
 }
 

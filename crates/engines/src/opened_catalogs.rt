@@ -13,8 +13,7 @@ use crate::lookup::{
     KALLSYMS_PLACE, LookupInputs, LookupOptions, MODULES_PLACE, REGIONS_PLACE, listings_in,
     read_at, read_if_given, region_lines_in,
 };
-use crate::symbol_lookup::symbol_listing_in;
-use listing::{AddressRule, ListingNotes};
+use listing::{AddressRule, ListingNotes, open_symbols};
 use modules::{Asked, Catalog, KernelBounds};
 use std::alloc::Global;
 use std::io::Read;
@@ -134,7 +133,7 @@ fn open_by_symbols<'a>(
 ) -> Result<OpenedCatalog<'a>, Fault>
     ensures { OpensBySymbols (option_copied kernel.entry) kallsyms.now result }
 {
-    let listing = symbol_listing_in(alloc, kernel, kallsyms, Asked::Any)?;
+    let listing = open_symbols(alloc, kernel, kallsyms, Asked::Any)?;
     let notes = listing.notes();
     Ok(OpenedCatalog {
         catalog: listing.catalog,

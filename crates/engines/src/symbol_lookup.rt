@@ -1,13 +1,12 @@
 //! A lookup whose modules, and where they lie, come from the listing of symbols alone.
-ghost use Rattle.std.specs.Prelude.{◌≡◌, ◌++◌, flat_map, IfOk};
-ghost use Rattle.std.specs.Option.{option_copied};
+ghost use Rattle.std.specs.Prelude.{◌++◌, flat_map};
 ghost use Rattle.texts.specs.Counted.{device_of, failures_of};
 ghost use Rattle.texts.specs.Exact.{Wrote};
 ghost use Rattle.engines.specs.LookupInputs.{known_text};
 ghost use Rattle.engines.specs.AnswerForms.{line_by};
 ghost use Rattle.engines.specs.Readings.{failures_in, last_failures};
 ghost use Rattle.engines.specs.SymbolLookups.{AnswersBySymbols, AnswersSymbolLookup};
-ghost use Rattle.engines.specs.SymbolLookups.{IsSymbolListing, failures_of_symbols};
+ghost use Rattle.engines.specs.SymbolLookups.{failures_of_symbols};
 ghost use Rattle.engines.specs.SymbolLookups.{found_counts_by, found_counts_text};
 ghost use Rattle.engines.specs.SymbolLookups.{known_symbol_inputs};
 ghost use Rattle.engines.specs.SymbolLookups.{symbol_inputs_in, symbol_inputs_of};
@@ -18,12 +17,9 @@ use crate::json_texts::put_json_found_counts;
 use crate::lookup::{KALLSYMS_PLACE, all_addresses, places_of, read_at};
 use crate::lookup_texts::{put_answers, put_found_modules, put_symbol_counts};
 use crate::table::{AddressAnswer, answers_of};
-use listing::{
-    AddressRule, ListedSymbols, ListingNote, ListingNotes, SymbolCounts, SymbolFacts,
-    are_symbols_hidden, note_of_kallsyms, read_kallsyms,
-};
-use modules::{Asked, Catalog, KeptCounts, KernelBounds};
-use std::alloc::{AllocError, Global};
+use listing::{AddressRule, ListingNotes, SymbolListing, open_symbols};
+use modules::{Asked, KernelBounds};
+use std::alloc::Global;
 use std::io;
 use std::io::{Read, Write};
 use texts::Counted;
@@ -55,34 +51,6 @@ struct SymbolLookupInputs<'a> {
     kallsyms: &'a [u8],
     /// The addresses of the command line, and after them those of the file.
     addresses: Vec<u64>,
-}
-
-/// What a listing of symbols alone says: a catalog, and how many of its lines went where.
-#[derive(Drop)]
-pub struct SymbolListing<'a> {
-    pub catalog: Catalog<'a>,
-    pub kept: KeptCounts,
-    pub skipped: SymbolCounts,
-    /// All well-formed lines are hidden, and there is one.
-    pub hidden: bool,
-    /// The usual names of both bounds of the kernel, as far as it has them.
-    pub usual: KernelBounds<'static>,
-    /// What is noted of the listing.
-    pub note: Option<ListingNote>,
-}
-
-impl SymbolListing<'_> {
-    ghost use Rattle.engines.specs.SymbolLookups.{notes_with};
-
-    /// The notes of a job whose only listing it is.
-    pub(crate) fn notes(&self) -> ListingNotes
-        ensures { result ≡ notes_with self.now.note }
-    {
-        ListingNotes {
-            modules: None,
-            kallsyms: self.note,
-        }
-    }
 }
 
 /// Looks addresses up in a listing of symbols, which says by the order of its addresses where each
@@ -145,7 +113,7 @@ fn answer_by_symbols<W: Write>(
     let rule = inputs.options.rule;
     let places = places_of(alloc, rule, &inputs.addresses)?;
     let kernel = inputs.options.kernel.as_ref();
-    let listing = symbol_listing_in(alloc, kernel, inputs.kallsyms, Asked::These(&places))?;
+    let listing = open_symbols(alloc, kernel, inputs.kallsyms, Asked::These(&places))?;
     let answers = answers_of(
         alloc,
         &listing.catalog,
@@ -157,43 +125,6 @@ fn answer_by_symbols<W: Write>(
         Ok(()) => Ok(listing.notes()),
         Err(_) => Err(Fault::Write),
     }
-}
-
-/// Reads the lines of a listing of symbols, and builds the catalog that they say, for who asks about
-/// these addresses. The kernel itself lies between the given names, or else in its usual regions.
-pub fn symbol_listing_in<'a>(
-    alloc: Global,
-    kernel: Option<&KernelBounds>,
-    kallsyms: &'a [u8],
-    asked: Asked<'_>,
-) -> Result<SymbolListing<'a>, AllocError>
-    ensures { IfOk result (IsSymbolListing (option_copied kernel.entry) kallsyms.now) }
-{
-    let ListedSymbols {
-        lines,
-        listed,
-        skipped,
-    } = read_kallsyms(alloc, kallsyms, false)?;
-    let hidden = are_symbols_hidden(listed, &skipped);
-    let usual = lines.usual_bounds();
-    let names = kernel.unwrap_or(&usual);
-    let has_kernel = lines.has_region(names);
-    let (catalog, counts) = Catalog::from_symbols(alloc, kernel, lines, asked)?;
-    let kept = counts.of_listed(listed);
-    let facts = SymbolFacts {
-        hidden,
-        kept: kept.symbols,
-        has_kernel,
-    };
-    let note = note_of_kallsyms(kallsyms, names, facts);
-    Ok(SymbolListing {
-        catalog,
-        kept,
-        skipped,
-        hidden,
-        usual,
-        note,
-    })
 }
 
 /// Writes the line of each answer and the counts, and lets the writer keep nothing back.

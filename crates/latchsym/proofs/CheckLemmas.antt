@@ -27,13 +27,14 @@ use Rattle.engines.specs.Lookups.{AreListingsOf, regions_line_of}
 use Rattle.latchsym.specs.NoteTexts.{applying_lines, line_where, note_line}
 use Rattle.engines.specs.OpenedCatalogs.{Given, HasBadRegion, HasCrowdedRegions, opening_options}
 use Rattle.engines.specs.Readings.{Failures, NoReaderFailed}
-use Rattle.engines.specs.SymbolLookups.{IsSymbolListing, counts_text_of, kept_in_text, listed}
+use Rattle.engines.specs.SymbolLookups.{counts_text_of}
+use Rattle.listing.specs.Opening.{IsSymbolListing, kept_in_text, listed}
 use Rattle.latchsym.specs.declared.command_line.ListingFiles.{ListingFiles}
 use Rattle.engines.specs.declared.fault.Fault.{Fault}
 use Rattle.engines.specs.declared.fault.Fault.TheVariants.{Refused, BadLine, Write}
 use Rattle.listing.specs.declared.listing_notes.ListingNote.{ListingNote}
-use Rattle.engines.specs.declared.lookup.Listings.{Listings}
-use Rattle.engines.specs.declared.symbol_lookup.SymbolListing.{SymbolListing}
+use Rattle.listing.specs.declared.opening.Listings.{Listings}
+use Rattle.listing.specs.declared.opening.SymbolListing.{SymbolListing}
 
 -- the text of one element more was written
 written_more : {D X : Type 0} (contents : D → Option (List ℕ)) (f : X → List ℕ) (xs : List X) (n : ℕ) (old mid new : D) (x : X) → n < length xs

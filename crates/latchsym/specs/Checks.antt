@@ -19,13 +19,13 @@ use Rattle.engines.specs.Lookups.{count_lines, counts_text}
 use Rattle.latchsym.specs.NoteTexts.{applying_lines}
 use Rattle.engines.specs.OpenedCatalogs.{Given, HasBadRegion, HasCrowdedRegions, inputs_by}
 use Rattle.engines.specs.Readings.{Failures, NoReaderFailed, OnlyFailed}
-use Rattle.engines.specs.SymbolLookups.{SaysOfModules, counts_text_of, found_counts_text}
-use Rattle.engines.specs.SymbolLookups.{kept_in_text, listed}
+use Rattle.engines.specs.SymbolLookups.{counts_text_of, found_counts_text}
+use Rattle.listing.specs.Opening.{SaysOfModules, kept_in_text, listed}
 use Rattle.latchsym.specs.declared.command_line.ListingFiles.{ListingFiles}
 use Rattle.engines.specs.declared.fault.Fault.{Fault}
 use Rattle.engines.specs.declared.fault.Fault.TheVariants.{Refused, BadLine, Read, Write}
-use Rattle.engines.specs.declared.lookup.Listings.{Listings}
-use Rattle.engines.specs.declared.symbol_lookup.SymbolListing.{SymbolListing}
+use Rattle.listing.specs.declared.opening.Listings.{Listings}
+use Rattle.listing.specs.declared.opening.SymbolListing.{SymbolListing}
 
 -- the name of the file of modules, which is empty where there is none
 abbrev pub modules_name : ListingFiles → Text

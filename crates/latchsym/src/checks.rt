@@ -18,11 +18,13 @@ ghost use Rattle.engines.specs.OpenedCatalogs.{given_in, known_given, listing_fa
 use crate::command_line::ListingFiles;
 use crate::note_texts::put_note_where;
 use engines::{
-    FAILED, Fault, GivenTexts, ListingReaders, Listings, LookupInputs, LookupOptions, SUCCEEDED,
-    SymbolListing, bounds_or_usual, listings_in, put_counts, put_found_counts, read_given,
-    region_lines_in, symbol_listing_in,
+    FAILED, Fault, GivenTexts, ListingReaders, LookupInputs, LookupOptions, SUCCEEDED,
+    bounds_or_usual, listings_in, put_counts, put_found_counts, read_given, region_lines_in,
 };
-use listing::{AddressRule, ListingNote, SymbolFacts, applies_to_kallsyms, applies_to_modules};
+use listing::{
+    AddressRule, ListingNote, Listings, SymbolFacts, SymbolListing, applies_to_kallsyms,
+    applies_to_modules, open_symbols,
+};
 use modules::{Asked, Catalog, KernelBounds};
 use std::alloc::Global;
 use std::io;
@@ -112,7 +114,7 @@ fn check_symbols<W: Write>(
         (IsSymbolsReport (option_copied kernel.entry) file.now kallsyms.now) None
         writer.old writer.new result }
 {
-    let listing = symbol_listing_in(alloc, kernel, kallsyms, Asked::These(&[]))?;
+    let listing = open_symbols(alloc, kernel, kallsyms, Asked::These(&[]))?;
     let names = kernel.unwrap_or(&listing.usual);
     match put_symbol_listing(writer, names, file, kallsyms, &listing) {
         Ok(()) => Ok(status_of_kept(listing.kept.symbols)),

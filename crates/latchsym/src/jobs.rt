@@ -214,10 +214,8 @@ impl<R> OpenedJob<'_, '_, R> {
         match fault {
             Fault::Read { place } => self.error_at(*place),
             Fault::Write if self.tells_errors() => writer.error(),
-            Fault::Write
-            | Fault::Refused(_)
-            | Fault::BadLine { .. }
-            | Fault::TooLong { .. } => None,
+            Fault::Write | Fault::Refused(_) | Fault::BadLine { .. } | Fault::TooLong { .. } =>
+                None,
         }
     }
 

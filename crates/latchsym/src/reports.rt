@@ -149,12 +149,7 @@ pub fn report_before_job<W: Write>(fault: &Fault, writer: &mut Counted<W>) -> u8
 
 /// Writes the line of a fault, with what the system says of it. Where the writer fails, there is
 /// nobody to tell.
-fn report_fault<W: Write>(
-    fault: &Fault,
-    file: &[u8],
-    words: Option<&str>,
-    writer: &mut Counted<W>,
-)
+fn report_fault<W: Write>(fault: &Fault, file: &[u8], words: Option<&str>, writer: &mut Counted<W>)
     ensures { IsReported W.contents writer.old writer.new
         (fault_text file.now (option_map (λ w. w.now) words) fault.now) }
 {
@@ -220,11 +215,7 @@ fn put_of_file<W: Write>(writer: &mut Counted<W>, file: &[u8], message: &[u8]) -
 }
 
 /// Writes that a file cannot be read, and what the system says of it.
-fn put_unread<W: Write>(
-    writer: &mut Counted<W>,
-    file: &[u8],
-    words: Option<&str>,
-) -> io::Result<()>
+fn put_unread<W: Write>(writer: &mut Counted<W>, file: &[u8], words: Option<&str>) -> io::Result<()>
     ensures { Wrote W.contents writer.old writer.new result
         (unread_text file.now (option_map (λ w. w.now) words)) }
 {

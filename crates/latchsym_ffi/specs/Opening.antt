@@ -1,6 +1,6 @@
 -- What the bytes of the listings say.
 use Rattle.std.specs.Prelude.{◌≡◌, ℕ, length, List, [], true, false, Option, Some, None, Result, Ok, Err}
-use Rattle.std.specs.Prelude.{find, slice_index}
+use Rattle.std.specs.Prelude.{slice_index}
 use Rattle.std.specs.Global.{Vec}
 use Rattle.std.specs.Option.{option_copied}
 use Rattle.order_laws.specs.declared.refusals.Refusal.TheVariants as refusal
@@ -9,16 +9,14 @@ use Rattle.listing.specs.declared.listing_notes.ListingNotes.{ListingNotes}
 use Rattle.listing.specs.declared.module_listing.SkippedModule.TheVariants as module_cause
 use Rattle.listing.specs.declared.symbol_listing.SkippedSymbol.TheVariants as symbol_cause
 use Rattle.texts.specs.Lines.{lines_of}
-use Rattle.listing.specs.ListingNotes.{all_notes, is_of_kallsyms, is_of_modules}
-use Rattle.listing.specs.ModuleListing.{module_counts, module_place, modules_in}
-use Rattle.listing.specs.SymbolListing.{symbol_counts, symbol_place, symbols_in, symbols_with}
+use Rattle.listing.specs.ModuleListing.{module_counts, module_place}
+use Rattle.listing.specs.Opening.{SaysOfModules, catalog_of_texts, counts_of_texts, kept_in_text}
+use Rattle.listing.specs.Opening.{listed, notes_of_texts, symbol_note}
+use Rattle.listing.specs.SymbolListing.{symbol_counts, symbol_place}
 use Rattle.modules.specs.Accepted.{Accepted}
-use Rattle.modules.specs.Catalogs.{build_of_listed, catalog_of, catalog_with, counts_of}
-use Rattle.modules.specs.Catalogs.{kept_counts, kept_of_listed}
+use Rattle.modules.specs.Catalogs.{catalog_with}
 use Rattle.modules.specs.Entries.{CatalogEntries}
-use Rattle.modules.specs.FromSymbols.{IsFromSymbols}
-use Rattle.modules.specs.Lines.{bounds_for}
-use Rattle.modules.specs.Listed.{BoundNames, ListedRegion, ListedSymbol}
+use Rattle.modules.specs.Listed.{BoundNames, ListedRegion}
 use Rattle.modules.specs.Placed.{are_few}
 use Rattle.modules.specs.declared.catalog.BuildCounts.{BuildCounts}
 use Rattle.modules.specs.declared.catalog.KeptCounts.{KeptCounts}
@@ -45,17 +43,6 @@ shown_texts t =
       kallsyms = t.kallsyms.now;
       regions = option_copied t.regions;
     }
-
--- the symbols that are listed, and those of them that a catalog may keep: mapping symbols are stray
-abbrev pub all_symbols : ListingTexts → List ListedSymbol
-all_symbols t = symbols_in (lines_of t.kallsyms)
-
-abbrev pub symbols_of_text : ListingTexts → List ListedSymbol
-symbols_of_text t = symbols_with false (all_symbols t)
-
--- the names that are given, or else the usual ones as far as the listing of symbols has them
-abbrev pub bounds_of_texts : ListingTexts → BoundNames
-bounds_of_texts t = bounds_for t.kernel (symbols_of_text t)
 
 -- the region lines of a listing that may be there, or the number of its first bad line
 abbrev pub region_lines_of_text : Option (List ℕ) → Result (List ListedRegion) ℕ
@@ -107,33 +94,16 @@ counts_alone s k note = record {
   symbols_note = number_if_noted note;
 }
 
--- the first note that applies to the listing of symbols, of which so many lines are kept
-abbrev pub symbols_note : ListingTexts → ℕ → Option ListingNote
-symbols_note t kept = find (is_of_kallsyms (bounds_of_texts t) t.kallsyms kept) all_notes
-
--- the same, and the first that applies to this listing of modules
-abbrev pub notes_on : ListingTexts → List ℕ → CatalogEntries → ℕ → ListingNotes
-notes_on t modules c kept = record {
-  modules = find (is_of_modules modules t.kallsyms c) all_notes;
-  kallsyms = symbols_note t kept;
-}
-
 -- the catalog and the counts are those of the texts, with this listing of modules and these region
--- lines
+-- lines; mapping symbols are stray
 pub record IsOpenedCatalog (t : ListingTexts) (modules : List ℕ) (lines : List ListedRegion)
     (c : CatalogEntries) (n : CatalogCounts)
     : Type 0 where
-  pub catalog :
-      c
-      ≡ catalog_of t.kernel (modules_in (lines_of modules)) lines (symbols_of_text t)
-  pub built : BuildCounts
-  pub counted :
-      built
-      ≡ build_of_listed (length (all_symbols t))
-      (counts_of t.kernel (modules_in (lines_of modules)) lines (symbols_of_text t))
+  pub catalog : c ≡ catalog_of_texts t.kernel false modules t.kallsyms lines
   pub counts :
-      n ≡ counts_in (module_counts (lines_of modules)) (symbol_counts (lines_of t.kallsyms)) built
-      (notes_on t modules c built.symbols)
+      n ≡ counts_in (module_counts (lines_of modules)) (symbol_counts (lines_of t.kallsyms))
+      (counts_of_texts t.kernel false modules t.kallsyms lines)
+      (notes_of_texts t.kernel false modules t.kallsyms lines)
 
 -- the same with the region lines that the texts have, of which no more than seven have one name
 pub record AreReadWith (t : ListingTexts) (modules : List ℕ) (c : CatalogEntries)
@@ -147,12 +117,12 @@ pub record AreReadWith (t : ListingTexts) (modules : List ℕ) (c : CatalogEntri
 -- the catalog and the counts are those of the listing of symbols alone
 pub record AreReadAlone (t : ListingTexts) (c : CatalogEntries) (n : CatalogCounts) : Type 0 where
   pub accepted : Accepted
-  pub from_symbols : IsFromSymbols t.kernel (symbols_of_text t) accepted
-  pub catalog : c ≡ catalog_with accepted (symbols_of_text t)
+  pub from_symbols : SaysOfModules t.kernel t.kallsyms accepted
+  pub catalog : c ≡ catalog_with accepted (listed t.kallsyms)
   pub counts :
-      let kept =
-      kept_of_listed (length (all_symbols t)) (kept_counts accepted (symbols_of_text t)) in
-      n ≡ counts_alone (symbol_counts (lines_of t.kallsyms)) kept (symbols_note t kept.symbols)
+      let kept = kept_in_text t.kallsyms accepted in
+      n ≡ counts_alone (symbol_counts (lines_of t.kallsyms)) kept
+      (symbol_note t.kernel t.kallsyms kept.symbols)
 
 -- with a listing of modules, and without
 abbrev pub AreReadFrom : Option (List ℕ) → ListingTexts → CatalogEntries → CatalogCounts → Type 0

@@ -58,7 +58,7 @@ pub enum Answer {
 }
 
 /// All that a call of the crates below and of this one returns, by rising number.
-const ALL: [Answer; 35] = [
+const ALL: [Answer; 36] = [
     Answer::Done,
     Answer::Refused(Refusal::BadItem),
     Answer::Refused(Refusal::Overlap),

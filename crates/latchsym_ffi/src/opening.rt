@@ -4,7 +4,7 @@ ghost use Rattle.std.specs.Prelude.{◌≡◌, true, All, IfOk, IfErr};
 ghost use Rattle.std.specs.Option.{option_copied};
 ghost use Rattle.modules.specs.Catalogs.{IsBuildRefusal};
 ghost use Rattle.modules.specs.Entries.{CatalogEntries};
-ghost use Rattle.modules.specs.Lines.{bounds_for, region_fits};
+ghost use Rattle.modules.specs.Lines.{region_fits};
 ghost use Rattle.modules.specs.Placed.{are_few};
 ghost use Rattle.latchsym_ffi.specs.declared.contents.Content.TheVariants as content;
 ghost use Rattle.latchsym_ffi.specs.Opening.{AreRead, AreReadAlone, GivesRegions};
@@ -16,12 +16,9 @@ use crate::contents::Content;
 use crate::open_catalogs::OpenCatalog;
 use listing::{
     ListingNote, ListingNotes, ModuleCounts, SkippedModule, SkippedSymbol, SymbolCounts,
-    SymbolFacts, are_modules_hidden, are_symbols_hidden, note_of_kallsyms, note_of_modules,
-    read_kallsyms, read_modules, read_regions,
+    open_listings, open_symbols, read_regions,
 };
-use modules::{
-    Asked, BuildCounts, Catalog, IndexedCatalog, KeptCounts, KernelBounds, RegionLine, SymbolLines,
-};
+use modules::{Asked, BuildCounts, IndexedCatalog, KeptCounts, KernelBounds, RegionLine};
 use order_laws::Refusal;
 use std::alloc::{AllocError, AllocFailed, Global};
 use texts::LineFault;
@@ -181,24 +178,7 @@ fn counts_alone(
     }
 }
 
-/// The names that are given, or else the usual ones as far as the listing of symbols has them.
-fn bounds_for(
-    names: &Option<KernelBounds<'static>>,
-    symbols: &SymbolLines<'static>,
-) -> KernelBounds<'static>
-    ensures { result ≡ bounds_for names.now symbols.now }
-{
-    match names {
-        Some(names) => KernelBounds {
-            start: names.start,
-            end: names.end,
-        },
-        None => symbols.usual_bounds(),
-    }
-}
-
-/// Reads the listings of modules and of symbols, and builds the catalog of them and of these region
-/// lines.
+/// Opens the listings of modules and of symbols, with these region lines.
 fn catalog_between(
     alloc: Global,
     texts: &CatalogTexts,
@@ -211,61 +191,37 @@ fn catalog_between(
     ensures few { IfOk result (λ _. are_few regions.now ≡ true) }
     ensures refusal { IfErr result (IsBuildRefusal regions.now) }
 {
-    let (module_lines, skipped_modules) = read_modules(alloc, modules)?;
-    let symbols = read_kallsyms(alloc, texts.kallsyms, false)?;
-    let names = bounds_for(&texts.kernel, &symbols.lines);
-    let has_kernel = symbols.lines.has_region(&names);
-    let modules_hidden = are_modules_hidden(module_lines.len(), &skipped_modules);
-    let symbols_hidden = are_symbols_hidden(symbols.listed, &symbols.skipped);
-    let (catalog, counts) = Catalog::build(
+    let kernel = texts.kernel.as_ref();
+    let kallsyms = texts.kallsyms;
+    let opened = open_listings(
         alloc,
-        texts.kernel.as_ref(),
-        &module_lines,
-        regions,
-        symbols.lines,
+        kernel,
+        false,
+        modules,
+        kallsyms,
+        Some(regions),
         Asked::Any,
     )?;
-    let built = counts.of_listed(symbols.listed);
-    let facts = SymbolFacts {
-        hidden: symbols_hidden,
-        kept: built.symbols,
-        has_kernel,
-    };
-    let notes = ListingNotes {
-        modules: note_of_modules(modules, texts.kallsyms, modules_hidden, &catalog),
-        kallsyms: note_of_kallsyms(texts.kallsyms, &names, facts),
-    };
-    let counts = counts_of(&skipped_modules, &symbols.skipped, &built, &notes);
-    let indexed = IndexedCatalog::new(alloc, catalog)?;
+    let counts = counts_of(
+        &opened.skipped_modules,
+        &opened.skipped_symbols,
+        &opened.built,
+        &opened.notes,
+    );
+    let indexed = IndexedCatalog::new(alloc, opened.catalog)?;
     Ok((indexed, counts))
 }
 
-/// Reads the listing of symbols, and builds the catalog of it alone.
+/// Opens the listing of symbols alone.
 fn catalog_alone(
     alloc: Global,
     texts: &CatalogTexts,
 ) -> Result<(IndexedCatalog<'static>, CatalogCounts), AllocError>
     ensures { IfOk result (λ r. AreReadAlone (shown_texts texts.now) r.0 r.1) }
 {
-    let symbols = read_kallsyms(alloc, texts.kallsyms, false)?;
-    let hidden = are_symbols_hidden(symbols.listed, &symbols.skipped);
-    let names = bounds_for(&texts.kernel, &symbols.lines);
-    let has_kernel = symbols.lines.has_region(&names);
-    let (catalog, counts) = Catalog::from_symbols(
-        alloc,
-        texts.kernel.as_ref(),
-        symbols.lines,
-        Asked::Any,
-    )?;
-    let kept = counts.of_listed(symbols.listed);
-    let facts = SymbolFacts {
-        hidden,
-        kept: kept.symbols,
-        has_kernel,
-    };
-    let note = note_of_kallsyms(texts.kallsyms, &names, facts);
-    let counts = counts_alone(&symbols.skipped, &kept, note);
-    let indexed = IndexedCatalog::new(alloc, catalog)?;
+    let opened = open_symbols(alloc, texts.kernel.as_ref(), texts.kallsyms, Asked::Any)?;
+    let counts = counts_alone(&opened.skipped, &opened.kept, opened.note);
+    let indexed = IndexedCatalog::new(alloc, opened.catalog)?;
     Ok((indexed, counts))
 }
 

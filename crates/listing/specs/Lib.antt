@@ -17,6 +17,8 @@ pub mod Overlaps
 pub mod ListingNotes
 -- what a listing of regions says
 pub mod RegionListing
+-- what listings say: a catalog, how many of their lines went where, and what is noted of them
+pub mod Opening
 -- the words of a log, and the addresses that words are
 pub mod LogWords
 -- what a file of addresses says

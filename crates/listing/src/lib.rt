@@ -16,6 +16,7 @@ mod log_places;
 mod log_words;
 mod looks;
 mod module_listing;
+mod opening;
 mod overlaps;
 mod region_listing;
 mod symbol_listing;
@@ -37,6 +38,7 @@ pub use looks::{
     kernel_symbols, looks_like_modules, looks_like_symbols,
 };
 pub use module_listing::{ModuleCounts, SkippedModule, read_modules};
+pub use opening::{Listings, SymbolListing, open_listings, open_symbols};
 pub use region_listing::read_regions;
 pub use symbol_listing::{
     ListedSymbols, SkippedSymbol, SymbolCounts, cut, cut_tabbed_line, is_mapping, is_narrow,

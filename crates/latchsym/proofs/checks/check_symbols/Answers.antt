@@ -1,7 +1,7 @@
 use Rattle.std.proofs.Common.{None}
 use Rattle.std.specs.Option.{option_copied}
 use Rattle.latchsym.specs.Checks.{IsSymbolsReport, symbol_listing_report}
-use Rattle.engines.specs.SymbolLookups.{listed}
+use Rattle.listing.specs.Opening.{listed}
 use Rattle.latchsym.proofs.CheckLemmas.{symbols_reported, was_not_written, was_written}
 use Rattle.listing.proofs.ListingNoteLemmas.{bounds_are}
 use Rattle.latchsym.proofs.checks.check_symbols.Goals as goal

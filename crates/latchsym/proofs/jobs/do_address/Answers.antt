@@ -15,7 +15,7 @@ returns g c =
     let job = c.args.job.now in (
       c.address_engine-done.result,
       subst (λ kernel. AnswersNames contents job.form kernel (map (λ n. n.now) job.names.items) known counts c.args.writer.now c.address_engine-done.new.writer c.address_engine-done.result) c.as_ref-kernel.ensures.value
-      (subst (λ names. AnswersNames contents job.form (option_copied c.as_ref-kernel.result) (map (λ n. n.now) names) known counts c.args.writer.now c.address_engine-done.new.writer c.address_engine-done.result) c.deref.ensures.value
-      c.address_engine-done.ensures),
+          (subst (λ names. AnswersNames contents job.form (option_copied c.as_ref-kernel.result) (map (λ n. n.now) names) known counts c.args.writer.now c.address_engine-done.new.writer c.address_engine-done.result) c.deref.ensures.value
+          c.address_engine-done.ensures),
       c.with_status.ensures,
     )
