@@ -2,7 +2,7 @@
 
 use crate::portions::Portions;
 use crate::symbol_lists::small_catalog;
-use listing::{Callers, LogFault, LogRule, annotate};
+use listing::{Callers, LogFault, LogNames, LogRule, annotate};
 use modules::IndexedCatalog;
 use std::test::Fail;
 use texts::{BLOCK, Counted, FailAt};
@@ -18,6 +18,9 @@ const LOG: &[u8] = b"RIP: 0xffffffff81000100\n\
     [<ffffffff81000108>]\n\
     [<ffffffff81000108>] do_one+0x8/0x1f00\n\
     [<ffffffff81000108>] do_one+0x8/0x1f01\n\
+    [<ffffffff81000108>] ? do_alias+0x8/0x10\n\
+    [<ffffffff81000108>] do_two+0x8/0x10\n\
+    [<ffffffff81000108>]do_two+0x8/0x10\n\
     0xffffffffc0000040) ext4_a+0x30/0x30 [\n\
     (0xffffffff81000100 pc :0xffffffffc0000044))";
 
@@ -26,8 +29,17 @@ const ANNOTATED: &[u8] = b"RIP: 0xffffffff81000100 do_one+0x0/0x1f00\n\
     [<ffffffff81000108>] do_one+0x8/0x1f00\n\
     [<ffffffff81000108>] do_one+0x8/0x1f00\n\
     [<ffffffff81000108>] do_one+0x8/0x1f00 do_one+0x8/0x1f01\n\
+    [<ffffffff81000108>] do_one+0x8/0x1f00 ? do_alias+0x8/0x10\n\
+    [<ffffffff81000108>] do_one+0x8/0x1f00 do_two+0x8/0x10\n\
+    [<ffffffff81000108>] do_one+0x8/0x1f00do_two+0x8/0x10\n\
     0xffffffffc0000040) ext4_a+0x30/0x30 [ext4] ext4_a+0x30/0x30 [\n\
     (0xffffffff81000100 _stext+0x100/0x100 pc :0xffffffffc0000044)) ext4_b+0x4/0xfc0 [ext4]";
+
+/// The names that it has itself: `do_one` twice, its alias, `ext4_a`, and `do_two` behind a blank.
+const NAMES: LogNames = LogNames {
+    agreeing: 4,
+    disagreeing: 1,
+};
 
 // Blocks end at each place of the log once.
 #[test]
@@ -37,7 +49,7 @@ fn blocks_of_each_length(rt: HostRuntime) -> Result<(), Fail> {
         let mut reader = Counted::new(Portions { rest: LOG, most });
         let mut writer = Counted::new(Vec::new(rt.alloc()));
         let answer = annotate(rt.alloc(), &index, RULE, false, &mut reader, &mut writer);
-        assert_eq!(rt; answer, Ok(()));
+        assert_eq!(rt; answer, Ok(NAMES), "in blocks of {most}");
         let written = writer.into_inner();
         assert_eq!(rt; written.as_slice(), ANNOTATED, "in blocks of {most}");
     }
@@ -77,7 +89,7 @@ fn each_failing_write(rt: HostRuntime) -> Result<(), Fail> {
         (2, Err(LogFault::Write)),
         (3, Err(LogFault::Write)),
         (4, Err(LogFault::Write)),
-        (5, Ok(())),
+        (5, Ok(NAMES)),
     ] {
         let mut reader = Counted::new(LOG);
         let mut writer = Counted::new(FailAt::new(Vec::new(rt.alloc()), call));

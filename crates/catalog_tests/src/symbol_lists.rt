@@ -32,6 +32,7 @@ const SYMBOLS: &[Line] = &[
     (0xffff_ffff_c000_0040, b"ext4_b", Some(b"ext4")),
     (0xffff_ffff_8100_0000, b"_stext", None),
     (0xffff_ffff_8100_0100, b"do_one", None),
+    (0xffff_ffff_8100_0100, b"do_alias", None),
     (0xffff_ffff_8100_2000, b"_end", None),
 ];
 

@@ -1,5 +1,5 @@
 -- Blocks that are read and written one after the other.
-use Rattle.std.proofs.Common.{◌≡◌, ◌∙◌, ℕ, ◌+◌, ◌<◌, ◌≤◌, ◌⊎◌, inl, inr, List, [], ◌++◌, length, length-append, arith, refl, sym, ap, subst, Option, Result, Ok, Err, append_assoc}
+use Rattle.std.proofs.Common.{◌≡◌, ◌∙◌, ℕ, ◌+◌, ◌<◌, ◌≤◌, ◌⊎◌, inl, inr, Bool, true, false, List, [], ◌++◌, length, length-append, arith, refl, sym, ap, subst, Option, Result, Ok, Err, append_assoc}
 use Rattle.std.specs.Prelude.{◌-◌, ◌^◌, reverse, IsErrAnd}
 use Rattle.std.proofs.lemmas.List.{reverse-append}
 use Rattle.std.specs.Io.KnownBytes.{Appends, Consumes, IsAtEnd, Keeps}
@@ -9,8 +9,12 @@ use Rattle.texts.specs.Counted.{NoneFailed, Rose, device_of, failures_of}
 use Rattle.listing.specs.AnnotatedLogs.{Answering, annotated, context_behind}
 use Rattle.listing.specs.LogContexts.{annotated_from, context_over, first_context, kept_in}
 use Rattle.listing.specs.Insertions.{IsWaiting}
-use Rattle.listing.specs.Annotation.{Annotates, IsFollowing, IsUnderWay, PutsMore, PutsText, owed}
+use Rattle.listing.specs.Annotation.{Annotates, IsFollowing, IsUnderWay, PutsMore, PutsRest, owed, owed_count, owed_names}
+use Rattle.listing.specs.LogNames.{counted, names_of_log, no_names}
+use Rattle.listing.specs.LogTallies.{count_in, names_from, open_names}
+use Rattle.listing.proofs.LogNameLemmas.{names_are, names_with}
 use Rattle.listing.specs.declared.annotation.Annotator.{Annotator}
+use Rattle.listing.specs.declared.log_names.LogNames.{LogNames}
 use Rattle.listing.specs.declared.annotation.LogFault.{LogFault}
 use Rattle.listing.specs.declared.annotation.LogFault.TheVariants as fault
 use Rattle.listing.proofs.LogContextLemmas.{from_begin, from_behind, kept_behind, kept_over, waiting_behind}
@@ -30,8 +34,21 @@ pub record IsOn {R W : Type 0} (remaining : R → Option (List ℕ)) (contents :
   pub context : kept_in a.context ≡ kept_behind answer.is_narrow (reverse passed)
   pub rest : (a.held.items ≡ []) ⊎ IsWaiting answer (kept_in a.context) a.held.items
   pub is_owed : (more : List ℕ) → written ++ owed answer a more ≡ annotated_from answer (first_context answer.is_narrow) (read ++ more)
+  pub counts : (wanted : Bool) (more : List ℕ) → owed_count wanted answer a more ≡ counted (names_from wanted answer (first_context answer.is_narrow) (read ++ more))
+
+nothing_found : (wanted : Bool) (others : ℕ) → counted (count_in wanted no_names + (0 + others)) ≡ counted others
+nothing_found true others = let same : 0 + (0 + others) ≡ others = omega arith in ap counted same
+nothing_found false others = let same : 0 + (0 + others) ≡ others = omega arith in ap counted same
 
 module _ {R W : Type 0} (remaining : R → Option (List ℕ)) (contents : W → Option (List ℕ)) (answer : Answering) (r : Counted R) (w : Counted W) where
+  -- the counts of what was read
+  all_counted : (a : Annotator) (read : List ℕ) → ((wanted : Bool) → owed_count wanted answer a [] ≡ counted (names_from wanted answer (first_context answer.is_narrow) (read ++ [])))
+      → owed_names answer a ≡ names_of_log answer (read ++ [])
+  all_counted a read counts =
+      ap (λ n. names_with n (owed_count false answer a [])) (counts true)
+      ∙ ap (names_with (counted (names_from true answer (first_context answer.is_narrow) (read ++ [])))) (counts false)
+      ∙ names_are answer (read ++ [])
+
   -- what was written is a beginning of the annotated log, however much more was read
   pub under_way : (r' r'' : Counted R) (w' : Counted W) (a : Annotator) (n : ℕ) (more : List ℕ) → IsOn remaining contents answer r r' w w' a n → Consumes (remaining (device_of r')) (remaining (device_of r'')) more
       → IsUnderWay remaining contents answer r r'' w w'
@@ -44,8 +61,8 @@ module _ {R W : Type 0} (remaining : R → Option (List ℕ)) (contents : W → 
   )
 
   -- where nothing was read, nothing is written
-  pub begun : (a : Annotator) → kept_in a.context ≡ first_context answer.is_narrow → a.held.items ≡ [] → IsOn remaining contents answer r r w w a 0
-  begun a first none = record {
+  pub begun : (a : Annotator) → kept_in a.context ≡ first_context answer.is_narrow → a.held.items ≡ [] → a.tally.names ≡ no_names → a.tally.places.items ≡ [] → IsOn remaining contents answer r r w w a 0
+  begun a first none names places = record {
     read_all = refl;
     written_all = refl;
     read = [];
@@ -58,6 +75,12 @@ module _ {R W : Type 0} (remaining : R → Option (List ℕ)) (contents : W → 
     context = first;
     rest = inl none;
     is_owed = λ more. ap (λ k. annotated_from answer k (a.held.items ++ more)) first ∙ ap (λ h. annotated_from answer (first_context answer.is_narrow) (h ++ more)) none;
+    counts = λ wanted more.
+        let others : ℕ = names_from wanted answer (kept_in a.context) (a.held.items ++ more) in
+        ap (λ n. counted (count_in wanted n + (open_names wanted answer more a.tally.places.items + others))) names
+        ∙ ap (λ p. counted (count_in wanted no_names + (open_names wanted answer more p + others))) places
+        ∙ nothing_found wanted others
+        ∙ ap (λ k. counted (names_from wanted answer k (a.held.items ++ more))) first ∙ ap (λ h. counted (names_from wanted answer (first_context answer.is_narrow) (h ++ more))) none;
   }
 
   -- what waits, waits behind the bytes that were passed
@@ -117,6 +140,7 @@ module _ {R W : Type 0} (remaining : R → Option (List ℕ)) (contents : W → 
         ∙ kept_over answer.is_narrow (reverse on.passed) decides.passed
         ∙ ap (kept_behind answer.is_narrow) (sym (reverse-append on.passed decides.passed));
     rest = decides.rest;
+    counts = λ wanted more. decides.names wanted more ∙ on.counts wanted (bytes ++ more) ∙ ap (λ l. counted (names_from wanted answer (first_context answer.is_narrow) l)) (sym (append_assoc on.read bytes more));
     is_owed = λ more. append_assoc on.written text (owed answer a' more) ∙ ap (λ t. on.written ++ t) (decides.same more) ∙ on.is_owed (bytes ++ more) ∙ ap (annotated_from answer (first_context answer.is_narrow)) (sym (append_assoc on.read bytes more));
   }
 
@@ -131,14 +155,14 @@ module _ {R W : Type 0} (remaining : R → Option (List ℕ)) (contents : W → 
   not_put r' r'' w' w'' a a' n bytes fault.TooLong on all took puts = absurd puts
 
   -- a fault is told as it came
-  pub passed_on : (r' : Counted R) (w' : Counted W) (result : Result (Unit {0}) LogFault) (e : LogFault) → IsErrAnd result (λ f. f ≡ e) → Annotates remaining contents answer r r' w w' (Err e) → Annotates remaining contents answer r r' w w' result
+  pub passed_on : (r' : Counted R) (w' : Counted W) (result : Result LogNames LogFault) (e : LogFault) → IsErrAnd result (λ f. f ≡ e) → Annotates remaining contents answer r r' w w' (Err e) → Annotates remaining contents answer r r' w w' result
   passed_on r' w' (Ok u) e is told = absurd is
   passed_on r' w' (Err f) e is told = subst (λ x. Annotates remaining contents answer r r' w w' (Err x)) (sym is) told
 
   -- the log is at its end
-  pub ended : (r' r'' : Counted R) (w' w'' : Counted W) (a : Annotator) (n : ℕ) (result : Result (Unit {0}) LogFault) → IsOn remaining contents answer r r' w w' a n → NoneFailed r' r'' → Consumes (remaining (device_of r')) (remaining (device_of r'')) []
-      → IsAtEnd (remaining (device_of r'')) → PutsText contents (owed answer a []) w' w'' result → Annotates remaining contents answer r r'' w w'' result
-  ended r' r'' w' w'' a n (Ok u) on all took at_end (none, put) = (
+  pub ended : (r' r'' : Counted R) (w' w'' : Counted W) (a : Annotator) (n : ℕ) (result : Result LogNames LogFault) → IsOn remaining contents answer r r' w w' a n → NoneFailed r' r'' → Consumes (remaining (device_of r')) (remaining (device_of r'')) []
+      → IsAtEnd (remaining (device_of r'')) → PutsRest contents (owed answer a []) (owed_names answer a) w' w'' result → Annotates remaining contents answer r r'' w w'' result
+  ended r' r'' w' w'' a n (Ok names) on all took at_end (none, put, told) = (
     all ∙ on.read_all,
     none ∙ on.written_all,
     (
@@ -146,6 +170,7 @@ module _ {R W : Type 0} (remaining : R → Option (List ℕ)) (contents : W → 
       Consumes-trans _ _ _ on.read [] on.consumed took,
       at_end,
       subst (Appends (contents (device_of w)) (contents (device_of w''))) (on.is_owed [] ∙ from_begin answer (on.read ++ [])) (Appends-trans _ _ _ on.written (owed answer a []) on.appended put),
+      told ∙ all_counted a on.read (λ wanted. on.counts wanted []),
     ),
   )
   ended r' r'' w' w'' a n (Err fault.OutOfMemory) on all took at_end puts =

@@ -20,7 +20,7 @@ pub nothing_within : (answer : Answering) (context : LogContext) (rest : List �
 nothing_within answer context rest is_last e more may = nothing_inserted (text_behind answer context) context (rest ++ more) (goes_on_more context rest more e)
 
 -- the bytes that come behind do not change whether the word goes on
-stops_more : (context : LogContext) (rest more : List ℕ) (is_last : Bool) → (is_last ≡ false → 0 < length rest) → MayCome is_last more → goes_on context rest ≡ false → goes_on context (rest ++ more) ≡ false
+pub stops_more : (context : LogContext) (rest more : List ℕ) (is_last : Bool) → (is_last ≡ false → 0 < length rest) → MayCome is_last more → goes_on context rest ≡ false → goes_on context (rest ++ more) ≡ false
 stops_more context [] more true there may e = ap (goes_on context) (may refl)
 stops_more context [] more false there may e = absurd (let n = there refl in omega (arith, n))
 stops_more context (b ∷ rest) more is_last there may e = e
@@ -93,7 +93,7 @@ short_word false word few = by (has_prefix word)
     by true = few_digits 9 16 (drop 2 word) (let n = length-drop 2 word in omega (arith, n, few))
     by false = few_digits 16 16 word (omega (arith, few))
 
-always_none : {X : Type 0} (b : Bool) (o : Option X) → o ≡ None → cond b o o ≡ None
+pub always_none : {X : Type 0} (b : Bool) (o : Option X) → o ≡ None → cond b o o ≡ None
 always_none true o e = e
 always_none false o e = e
 

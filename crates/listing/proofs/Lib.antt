@@ -32,3 +32,7 @@ pub mod AnnotationLemmas
 pub mod LogPlainLemmas
 -- bytes of a log that are passed together
 pub mod LogPassLemmas
+-- names that a log has itself behind its addresses
+pub mod LogNameLemmas
+-- names of a log that are counted while it is read
+pub mod LogTallyLemmas

@@ -59,17 +59,17 @@ capped_inserted context rest None = refl
 capped_inserted context [] (Some text) = refl
 capped_inserted context (b ∷ rest) (Some text) = refl
 
-capped_prefix : (word : List ℕ) → has_prefix (take 19 word) ≡ has_prefix word
+pub capped_prefix : (word : List ℕ) → has_prefix (take 19 word) ≡ has_prefix word
 capped_prefix [] = refl
 capped_prefix (x ∷ []) = refl
 capped_prefix (x ∷ y ∷ word) = refl
 
-capped_says : (t : Taking) (word : List ℕ) → says_caller t (take 19 word) ≡ says_caller t word
+pub capped_says : (t : Taking) (word : List ℕ) → says_caller t (take 19 word) ≡ says_caller t word
 capped_says taking.Exact word = refl
 capped_says taking.Prefixed word = capped_prefix word
 capped_says taking.Caller word = refl
 
-capped_text : (answer : Answering) (context : LogContext) → text_behind answer (capped context) ≡ text_behind answer context
+pub capped_text : (answer : Answering) (context : LogContext) → text_behind answer (capped context) ≡ text_behind answer context
 capped_text answer context =
     ap (λ s. cond context.place.is_user None (option_and_then (answer.text s) (address_of_word context.is_narrow (take 19 context.word)))) (capped_says context.place.taking context.word)
     ∙ ap (λ o. cond context.place.is_user None (option_and_then (answer.text (says_caller context.place.taking context.word)) o)) (capped_word context.is_narrow context.word)

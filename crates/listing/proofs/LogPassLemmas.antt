@@ -10,7 +10,7 @@ use Rattle.listing.specs.AnnotatedLogs.{Answering, LogContext, insertion_at, tex
 use Rattle.listing.specs.Insertions.{IsInserted, IsInsertionAt, IsPassed, IsWaiting, KeepsPromise}
 use Rattle.listing.specs.LogContexts.{ArePlain, IsPlain, annotated_from, context_over, first_context, next_context}
 use Rattle.listing.specs.declared.insertions.Insertion.{Insertion}
-use Rattle.listing.specs.declared.insertions.Insertion.TheVariants.{Nothing, Text, Undecided}
+use Rattle.listing.specs.declared.insertions.Insertion.TheVariants.{Again, Nothing, Text, Undecided}
 use Rattle.listing.proofs.InsertionLemmas.{goes_on_more, nothing_inserted, plain_word}
 use Rattle.listing.proofs.LogContextLemmas.{same_narrow}
 use Rattle.listing.proofs.LogPlainLemmas.{take_parts}
@@ -167,6 +167,11 @@ pub nothing : (answer : Answering) (context : LogContext) (bytes : List ℕ) (at
     → IsInserted answer context (drop at bytes) is_last []
 nothing answer context bytes at is_last i is h =
     subst (λ (l : List ℕ). IsInsertionAt answer context l is_last Nothing) (take_rest bytes at) (subst (λ (j : Insertion). IsInsertionAt answer context (take (length bytes - at) (drop at bytes)) is_last j) is h)
+
+pub again : (answer : Answering) (context : LogContext) (bytes : List ℕ) (at : ℕ) (is_last : Bool) (i : Insertion) (text : Vec ℕ) → i ≡ Again text → IsInsertionAt answer context (take (length bytes - at) (drop at bytes)) is_last i
+    → IsInserted answer context (drop at bytes) is_last []
+again answer context bytes at is_last i text is h =
+    subst (λ (l : List ℕ). IsInsertionAt answer context l is_last (Again text)) (take_rest bytes at) (subst (λ (j : Insertion). IsInsertionAt answer context (take (length bytes - at) (drop at bytes)) is_last j) is h)
 
 pub a_text : (answer : Answering) (context : LogContext) (bytes : List ℕ) (at : ℕ) (is_last : Bool) (i : Insertion) (text : Vec ℕ) → i ≡ Text text → IsInsertionAt answer context (take (length bytes - at) (drop at bytes)) is_last i
     → IsInserted answer context (drop at bytes) is_last text.items

@@ -5,12 +5,16 @@
 use Rattle.std.specs.Prelude.{ℕ, ◌&&◌, ◌||◌, not, Bool, true, false, if◌then◌else◌}
 use Rattle.std.specs.Prelude.{List, [], ◌∷◌, ◌++◌, codes, Option, Some, None, nat_eq, reverse}
 use Rattle.std.specs.Prelude.{option_and_then}
-use Rattle.std.specs.List.{starts_with}
+use Rattle.std.specs.List.{list_any, starts_with}
+use Rattle.std.specs.Option.{option_map_or}
 use Rattle.std.specs.Str.{bytes_eq}
-use Rattle.modules.specs.Entries.{CatalogEntries}
+use Rattle.modules.specs.Catalogs.{module_of}
+use Rattle.modules.specs.Entries.{CatalogEntries, ModuleEntry, SymbolEntry}
+use Rattle.modules.specs.Found.{found_in, symbols_from}
 use Rattle.modules.specs.Items.{item_of_address}
+use Rattle.order_laws.specs.declared.items.Item.{Item}
 use Rattle.listing.specs.AddressRules.{place_of, rule_at}
-use Rattle.listing.specs.Answers.{answer_text_by}
+use Rattle.listing.specs.Answers.{answer_text_by, sought}
 use Rattle.listing.specs.LogPlaces.{first_place, next_place}
 use Rattle.listing.specs.LogWords.{address_of_word, has_prefix, is_closer, is_word_byte}
 use Rattle.listing.specs.declared.address_rules.AddressRule.{AddressRule}
@@ -19,11 +23,13 @@ use Rattle.listing.specs.declared.log_places.Place.{Place}
 use Rattle.listing.specs.declared.log_places.Taking.{Taking}
 use Rattle.listing.specs.declared.log_places.Taking.TheVariants as taking
 
--- what is inserted for an address, if anything is, that is taken as a caller's or as it is; and
--- whether the log is of a 32-bit kernel
+-- what is inserted for an address, if anything is, that is taken as a caller's or as it is; whether
+-- a symbol at the address of the one that its answer has is called so; and whether the log is of a
+-- 32-bit kernel
 pub record Answering : Type 0 where
   pub is_narrow : Bool
   pub text : Bool → ℕ → Option (List ℕ)
+  pub is_alias : Bool → ℕ → List ℕ → Bool
 
 -- the text of the answer for an address
 abbrev pub text_of_address : CatalogEntries → AddressRule → ℕ → List ℕ
@@ -39,8 +45,34 @@ behind_blank text = if bytes_eq text (codes "-") then None else Some (codes " " 
 abbrev pub text_by : CatalogEntries → LogRule → Bool → ℕ → Option (List ℕ)
 text_by c rule says_so addr = behind_blank (text_of_address c (rule_at rule says_so) addr)
 
+-- one of the symbols has the address and the name
+abbrev pub lists_symbol : List SymbolEntry → ℕ → List ℕ → Bool
+lists_symbol symbols addr name =
+    list_any (λ s. nat_eq s.addr addr && bytes_eq s.name name) symbols
+
+-- a symbol at the address of the one that an address of the item belongs to has the name
+abbrev pub is_alias_of : ModuleEntry → Item → ℕ → List ℕ → Bool
+is_alias_of m item addr name =
+    option_map_or (λ f. lists_symbol m.symbols f.symbol.addr name)
+    (found_in (symbols_from m.symbols item.a item.b) item.b addr) false
+
+abbrev pub is_alias_in : CatalogEntries → Item → ℕ → List ℕ → Bool
+is_alias_in c item addr name =
+    option_map_or (λ m. is_alias_of m item addr name) (module_of c item.tag) false
+
+-- the same for an address that is taken by this rule
+abbrev pub is_alias_by : CatalogEntries → LogRule → Bool → ℕ → List ℕ → Bool
+is_alias_by c rule says_so addr name =
+    let r = rule_at rule says_so in
+    option_map_or (λ s. is_alias_in c s.0 s.1 name)
+    (sought r (option_and_then (item_of_address c) (place_of r addr)) addr) false
+
 abbrev pub answered_by : CatalogEntries → LogRule → Bool → Answering
-answered_by c rule is_narrow = record { is_narrow = is_narrow; text = text_by c rule }
+answered_by c rule is_narrow = record {
+  is_narrow = is_narrow;
+  text = text_by c rule;
+  is_alias = is_alias_by c rule;
+}
 
 -- What stands before a place: a word, whether closers stand behind it, and where it stands in its
 -- line; and whether the log is of a 32-bit kernel.

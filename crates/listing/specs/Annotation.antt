@@ -1,5 +1,6 @@
 -- What was read of a log, and what was written for it.
-use Rattle.std.specs.Prelude.{◌≡◌, ℕ, ◌-◌, ◌^◌, ◌≤◌, ◌⊎◌, List, [], ◌++◌, length, reverse}
+use Rattle.std.specs.Prelude.{◌≡◌, ℕ, ◌-◌, ◌^◌, ◌≤◌, ◌⊎◌, Bool, true, false, List, [], ◌++◌}
+use Rattle.std.specs.Prelude.{length, reverse}
 use Rattle.std.specs.Prelude.{Option, Result, Ok, Err}
 use Rattle.std.specs.Io.KnownBytes.{Appends, Consumes, IsAtEnd}
 use Rattle.texts.specs.declared.counted.Counted.{Counted}
@@ -7,13 +8,29 @@ use Rattle.texts.specs.Counted.{NoneFailed, Rose, device_of, failures_of}
 use Rattle.listing.specs.AnnotatedLogs.{Answering, annotated, annotated_behind, context_behind}
 use Rattle.listing.specs.LogContexts.{annotated_from, context_over, kept_in}
 use Rattle.listing.specs.Insertions.{IsWaiting}
+use Rattle.listing.specs.LogNames.{names_of_log}
+use Rattle.listing.specs.LogTallies.{comes_to, names_from}
 use Rattle.listing.specs.declared.annotation.Annotator.{Annotator}
 use Rattle.listing.specs.declared.annotation.LogFault.{LogFault}
 use Rattle.listing.specs.declared.annotation.LogFault.TheVariants as fault
+use Rattle.listing.specs.declared.log_names.LogNames.{LogNames}
 
 -- what is still to be put out where these bytes come, and then no more
 abbrev pub owed : Answering → Annotator → List ℕ → List ℕ
 owed answer a more = annotated_from answer (kept_in a.context) (a.held.items ++ more)
+
+-- what a count comes to where these bytes come, and then no more
+abbrev pub owed_count : Bool → Answering → Annotator → List ℕ → ℕ
+owed_count wanted answer a more =
+    comes_to wanted answer a.tally more
+    (names_from wanted answer (kept_in a.context) (a.held.items ++ more))
+
+-- the names where no more bytes come
+abbrev pub owed_names : Answering → Annotator → LogNames
+owed_names answer a = record {
+  agreeing = owed_count true answer a [];
+  disagreeing = owed_count false answer a [];
+}
 
 -- With these bytes the text is decided: what is still owed stands behind it, and what is held back
 -- is none of them, or waits for more.
@@ -23,22 +40,25 @@ pub record Decides (answer : Answering) (a a' : Annotator) (bytes text : List �
   pub context : kept_in a'.context ≡ context_over (kept_in a.context) passed
   pub same : (more : List ℕ) → text ++ owed answer a' more ≡ owed answer a (bytes ++ more)
   pub rest : (a'.held.items ≡ []) ⊎ IsWaiting answer (kept_in a'.context) a'.held.items
+  pub names : (wanted : Bool) (more : List ℕ)
+      → owed_count wanted answer a' more ≡ owed_count wanted answer a (bytes ++ more)
 
 -- the fault that a failed write is: nobody reads any more, or another one
 abbrev pub IsWriteFault : LogFault → Type 0
 IsWriteFault f = (f ≡ fault.Write) ⊎ (f ≡ fault.Closed)
 
--- the text was written, or no call failed and nothing was, or a call failed
-abbrev pub PutsText : {W : Type 0} → (W → Option (List ℕ)) → List ℕ → Counted W → Counted W
-    → Result (Unit {0}) LogFault → Type 0
-PutsText contents text w w' (Ok _) =
+-- the text was written and these are the names, or no call failed and nothing was, or a call failed
+abbrev pub PutsRest : {W : Type 0} → (W → Option (List ℕ)) → List ℕ → LogNames → Counted W
+    → Counted W → Result LogNames LogFault → Type 0
+PutsRest contents text names w w' (Ok told) =
     NoneFailed w w' × Appends (contents (device_of w)) (contents (device_of w')) text
-PutsText contents text w w' (Err fault.OutOfMemory) = w' ≡ w
-PutsText contents text w w' (Err fault.Write) = Rose (failures_of w) (failures_of w')
-PutsText contents text w w' (Err fault.Closed) = Rose (failures_of w) (failures_of w')
-PutsText contents text w w' (Err _) = ⊥
+    × (told ≡ names)
+PutsRest contents text names w w' (Err fault.OutOfMemory) = w' ≡ w
+PutsRest contents text names w w' (Err fault.Write) = Rose (failures_of w) (failures_of w')
+PutsRest contents text names w w' (Err fault.Closed) = Rose (failures_of w) (failures_of w')
+PutsRest contents text names w w' (Err _) = ⊥
 
--- the same of a text that is decided by these bytes
+-- the same of a text that is decided by these bytes, where more may come
 abbrev pub PutsMore : {W : Type 0} → (W → Option (List ℕ)) → Answering → Annotator → Annotator
     → List ℕ → Counted W → Counted W → Result (Unit {0}) LogFault → Type 0
 PutsMore contents answer a a' bytes w w' (Ok _) =
@@ -94,20 +114,21 @@ IsUnderWay remaining contents answer r r' w w' =
     × Appends (contents (device_of w)) (contents (device_of w')) written
     × Begins answer written read
 
--- The reader gave a log and has no more, and the annotated log was written.
+-- The reader gave a log and has no more, the annotated log was written, and these are its names.
 abbrev pub IsWhole : {R W : Type 0} → (R → Option (List ℕ)) → (W → Option (List ℕ)) → Answering
-    → Counted R → Counted R → Counted W → Counted W → Type 0
-IsWhole remaining contents answer r r' w w' =
+    → Counted R → Counted R → Counted W → Counted W → LogNames → Type 0
+IsWhole remaining contents answer r r' w w' names =
     (log : List ℕ)
     × Consumes (remaining (device_of r)) (remaining (device_of r')) log
     × IsAtEnd (remaining (device_of r'))
     × Appends (contents (device_of w)) (contents (device_of w')) (annotated answer log)
+    × (names ≡ names_of_log answer log)
 
 -- what is returned
 abbrev pub Annotates : {R W : Type 0} → (R → Option (List ℕ)) → (W → Option (List ℕ)) → Answering
-    → Counted R → Counted R → Counted W → Counted W → Result (Unit {0}) LogFault → Type 0
-Annotates remaining contents answer r r' w w' (Ok _) =
-    NoneFailed r r' × NoneFailed w w' × IsWhole remaining contents answer r r' w w'
+    → Counted R → Counted R → Counted W → Counted W → Result LogNames LogFault → Type 0
+Annotates remaining contents answer r r' w w' (Ok names) =
+    NoneFailed r r' × NoneFailed w w' × IsWhole remaining contents answer r r' w w' names
 Annotates remaining contents answer r r' w w' (Err fault.OutOfMemory) =
     NoneFailed r r' × NoneFailed w w' × IsUnderWay remaining contents answer r r' w w'
 Annotates remaining contents answer r r' w w' (Err fault.TooLong) =

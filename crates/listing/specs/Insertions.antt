@@ -1,12 +1,13 @@
 -- What is inserted while a log is read: bytes of it are there, and others may come behind them.
 use Rattle.std.specs.Prelude.{◌≡◌, ℕ, ◌≤◌, ◌⊎◌, Bool, true, false, List, [], ◌++◌, drop, length}
-use Rattle.std.specs.Prelude.{take, nat_eq, Some}
+use Rattle.std.specs.Prelude.{take, nat_eq, Some, None}
 use Rattle.std.specs.List.{starts_with}
-use Rattle.listing.specs.AnnotatedLogs.{Answering, LogContext, answered_by, insertion_at}
-use Rattle.listing.specs.AnnotatedLogs.{text_behind}
+use Rattle.listing.specs.AnnotatedLogs.{Answering, LogContext, answered_by, goes_on}
+use Rattle.listing.specs.AnnotatedLogs.{insertion_at, text_behind}
 use Rattle.listing.specs.LogContexts.{annotated_from, context_over}
 use Rattle.listing.specs.declared.insertions.Insertion.{Insertion}
-use Rattle.listing.specs.declared.insertions.Insertion.TheVariants.{Nothing, Text, Undecided}
+use Rattle.listing.specs.declared.insertions.Insertion.TheVariants.{Again, Nothing, Text}
+use Rattle.listing.specs.declared.insertions.Insertion.TheVariants.{Undecided}
 use Rattle.listing.specs.declared.insertions.LogAnswers.{LogAnswers}
 
 -- how the engine answers
@@ -32,10 +33,21 @@ IsInserted answer context rest is_last text =
 
 abbrev pub IsInsertionAt : Answering → LogContext → List ℕ → Bool → Insertion → Type 0
 IsInsertionAt answer context rest is_last Nothing = IsInserted answer context rest is_last []
+IsInsertionAt answer context rest is_last (Again text) = IsInserted answer context rest is_last []
 IsInsertionAt answer context rest is_last (Text text) =
     IsInserted answer context rest is_last text.items
 IsInsertionAt answer context rest is_last Undecided =
     (is_last ≡ false) × IsWaiting answer context rest
+
+-- the place is one behind an address with this text, or is none
+abbrev pub IsPlaceOf : Answering → LogContext → List ℕ → Insertion → Type 0
+IsPlaceOf answer context rest Nothing =
+    (goes_on context rest ≡ true) ⊎ (text_behind answer context ≡ None)
+IsPlaceOf answer context rest (Again text) =
+    (goes_on context rest ≡ false) × (text_behind answer context ≡ Some text.items)
+IsPlaceOf answer context rest (Text text) =
+    (goes_on context rest ≡ false) × (text_behind answer context ≡ Some text.items)
+IsPlaceOf answer context rest Undecided = Unit {0}
 
 -- what is inserted was put out, whatever comes, or is not decided
 abbrev pub IsInsert : Answering → LogContext → List ℕ → Bool → List ℕ → List ℕ → Bool → Type 0

@@ -27,9 +27,13 @@ pub mod Addresses
 pub mod LogPlaces
 -- a log with the text of the answer behind each address that stands in it
 pub mod AnnotatedLogs
+-- names that a log has itself behind its addresses
+pub mod LogNames
 -- what is kept of the bytes before a place of a log
 pub mod LogContexts
 -- what is inserted while a log is read
 pub mod Insertions
+-- what is kept of the names of a log while it is read
+pub mod LogTallies
 -- what was read of a log, and what was written for it
 pub mod Annotation

@@ -14,8 +14,8 @@ has_name name m = option_map_or (λ entry. bytes_eq name entry.name) m false
 abbrev pub has_module : CatalogEntries → List ℕ → Bool
 has_module c name = list_any (λ m. has_name name (Some m)) c.modules
 
--- A listed module of this name is left out. Its line was kept out as one that overlaps, since a line
--- that is double has the name of one that was accepted.
+-- A listed module of this name is left out. Its line was kept out as one that overlaps, since a
+-- line that is double has the name of one that was accepted.
 abbrev pub is_left_out : CatalogEntries → List ℕ → Bool
 is_left_out c name = not (has_module c name)
 

@@ -14,11 +14,15 @@ ghost use Rattle.texts.specs.Exact.{Wrote};
 ghost use Rattle.listing.specs.AnnotatedLogs.{answered_by};
 ghost use Rattle.listing.specs.LogContexts.{first_context, kept_in};
 ghost use Rattle.listing.specs.Insertions.{answering_of};
-ghost use Rattle.listing.specs.Annotation.{Annotates, Decides, IsWriteFault, PutsMore, PutsText, owed};
+ghost use Rattle.listing.specs.Annotation.{Annotates, Decides, IsWriteFault, PutsMore, PutsRest};
+ghost use Rattle.listing.specs.Annotation.{owed, owed_names};
+ghost use Rattle.listing.specs.LogNames.{no_names};
 
 use crate::LogRule;
 use crate::insertions::LogAnswers;
 use crate::log_contexts::Context;
+use crate::log_names::LogNames;
+use crate::log_tallies::Tally;
 use modules::IndexedCatalog;
 use std::alloc::{AllocError, Global};
 use std::io;
@@ -55,16 +59,20 @@ impl From<AllocError> for LogFault {
 struct Annotator {
     context: Context,
     held: Vec<u8>,
+    tally: Tally,
 }
 
 impl Annotator {
     fn new(alloc: Global, is_narrow: bool) -> Annotator
         ensures context { kept_in result.context ≡ first_context is_narrow }
         ensures held { result.held.items ≡ [] }
+        ensures names { result.tally.names ≡ no_names }
+        ensures places { result.tally.places.items ≡ [] }
     {
         Annotator {
             context: Context::new(is_narrow),
             held: Vec::new(alloc),
+            tally: Tally::new(alloc),
         }
     }
 
@@ -73,20 +81,38 @@ impl Annotator {
         ensures { IfOk result
             (λ out. Decides (answering_of answers.now) self.old self.new bytes.now out.items) }
     {
+        self.tally.go_on(answers, bytes, false)?;
         self.held.extend_from_slice(bytes)?;
         let mut out = Vec::with_capacity(answers.alloc, self.held.len())?;
-        let passed = answers.pass(&mut self.context, &self.held, false, &mut out)?;
+        let passed = answers.pass(
+            &mut self.context,
+            &self.held,
+            false,
+            &mut self.tally,
+            &mut out,
+        )?;
         self.held = Vec::from_slice(answers.alloc, &self.held[passed..])?;
         Ok(out)
     }
 
     /// Gives the rest, where no more bytes come.
     fn rest(&mut self, answers: &LogAnswers) -> Result<Vec<u8>, AllocError>
-        ensures { IfOk result (λ out. out.items ≡ owed (answering_of answers.now) self.old []) }
+        ensures out { IfOk result
+            (λ out. out.items ≡ owed (answering_of answers.now) self.old []) }
+        ensures names { IfOk result
+            (λ _. self.new.tally.names ≡ owed_names (answering_of answers.now) self.old) }
     {
+        self.tally.go_on(answers, &[], true)?;
         let mut out = Vec::new(answers.alloc);
-        answers.pass(&mut self.context, &self.held, true, &mut out)?;
+        answers.pass(
+            &mut self.context,
+            &self.held,
+            true,
+            &mut self.tally,
+            &mut out,
+        )?;
         answers.insert(&self.context, &[], true, &mut out)?;
+        self.tally.names.stay_low();
         Ok(out)
     }
 }
@@ -119,6 +145,9 @@ fn put_now<W: Write>(writer: &mut Counted<W>, bytes: &[u8]) -> io::Result<()>
 /// After each block that was read all that is decided is written, and the writer flushed. The
 /// memory that is taken is that of some blocks, however long the log or its lines are. Whatever
 /// ends it, what was written is a beginning of the annotated log.
+///
+/// At its end it is told how often the names that the log has itself behind its addresses agree with
+/// the answers.
 pub fn annotate<R: Read, W: Write>(
     alloc: Global,
     index: &IndexedCatalog<'_>,
@@ -126,7 +155,7 @@ pub fn annotate<R: Read, W: Write>(
     is_narrow: bool,
     reader: &mut Counted<R>,
     writer: &mut Counted<W>,
-) -> Result<(), LogFault>
+) -> Result<LogNames, LogFault>
     ensures { Annotates R.remaining W.contents (answered_by index.now rule is_narrow)
         reader.old reader.new writer.old writer.new result }
 {
@@ -174,13 +203,13 @@ fn put_rest<W: Write>(
     answers: &LogAnswers,
     annotator: &mut Annotator,
     writer: &mut Counted<W>,
-) -> Result<(), LogFault>
-    ensures { PutsText W.contents (owed (answering_of answers.now) annotator.old [])
-        writer.old writer.new result }
+) -> Result<LogNames, LogFault>
+    ensures { PutsRest W.contents (owed (answering_of answers.now) annotator.old [])
+        (owed_names (answering_of answers.now) annotator.old) writer.old writer.new result }
 {
     let out = annotator.rest(answers)?;
     match put_now(writer, &out) {
-        Ok(()) => Ok(()),
+        Ok(()) => Ok(annotator.tally.names),
         Err(error) => Err(fault_of(&error)),
     }
 }

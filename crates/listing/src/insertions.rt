@@ -7,7 +7,7 @@ ghost use Rattle.listing.specs.Answers.{answer_text_by};
 ghost use Rattle.texts.specs.Exact.{Wrote};
 ghost use Rattle.listing.specs.AnnotatedLogs.{goes_on, says_caller, text_behind};
 ghost use Rattle.listing.specs.LogContexts.{kept_in};
-ghost use Rattle.listing.specs.Insertions.{IsInsertionAt, answering_of};
+ghost use Rattle.listing.specs.Insertions.{IsInsertionAt, IsPlaceOf, answering_of};
 
 use crate::log_contexts::Context;
 use crate::log_places::Taking;
@@ -36,7 +36,10 @@ const ROOM: usize = 64;
 /// What is inserted at a place.
 #[derive(Drop)]
 pub(crate) enum Insertion {
+    /// The place is none behind an address with an answer.
     Nothing,
+    /// The text stands there already.
+    Again(Vec<u8>),
     Text(Vec<u8>),
     /// The bytes that are there do not say yet.
     Undecided,
@@ -52,8 +55,10 @@ impl<'i, 'c> LogAnswers<'i, 'c> {
         is_last: bool,
     ) -> Result<Insertion, AllocError>
         requires { is_last ≡ false → 0 < length rest.now }
-        ensures { IfOk result (IsInsertionAt (answering_of self.now) (kept_in context.now)
-            rest.now is_last) }
+        ensures inserted { IfOk result (IsInsertionAt (answering_of self.now)
+            (kept_in context.now) rest.now is_last) }
+        ensures place { IfOk result
+            (IsPlaceOf (answering_of self.now) (kept_in context.now) rest.now) }
     {
         if goes_on(context, rest) {
             return Ok(Insertion::Nothing);
@@ -62,7 +67,7 @@ impl<'i, 'c> LogAnswers<'i, 'c> {
             return Ok(Insertion::Nothing);
         };
         if rest.starts_with(&text) {
-            return Ok(Insertion::Nothing);
+            return Ok(Insertion::Again(text));
         }
         if !is_last && text.starts_with(rest) {
             return Ok(Insertion::Undecided);
@@ -72,7 +77,7 @@ impl<'i, 'c> LogAnswers<'i, 'c> {
 
     /// What may be inserted behind a word: nothing where it is no address, where its line is of a
     /// program, or where there is no answer.
-    fn text_behind(&self, context: &Context) -> Result<Option<Vec<u8>>, AllocError>
+    pub(crate) fn text_behind(&self, context: &Context) -> Result<Option<Vec<u8>>, AllocError>
         ensures { IfOk result (λ o. option_map (λ v. v.items) o
             ≡ text_behind (answering_of self.now) (kept_in context.now)) }
     {
@@ -107,7 +112,7 @@ impl<'i, 'c> LogAnswers<'i, 'c> {
     }
 
     /// The region that holds the address that the rule looks up.
-    fn item_of(&self, rule: AddressRule, addr: u64) -> Option<Item>
+    pub(crate) fn item_of(&self, rule: AddressRule, addr: u64) -> Option<Item>
         ensures { result
             ≡ option_and_then (item_of_address self.now.index.now) (place_of rule addr) }
     {
@@ -131,7 +136,7 @@ impl<'i, 'c> LogAnswers<'i, 'c> {
 }
 
 /// Whether the place of a word says that it is a caller's.
-fn says_caller(taking: Taking, word: &[u8]) -> bool
+pub(crate) fn says_caller(taking: Taking, word: &[u8]) -> bool
     ensures { result ≡ says_caller taking word.now }
 {
     match taking {

@@ -12,7 +12,10 @@ mod laws;
 mod listing_notes;
 mod log_blocks;
 mod log_contexts;
+mod log_names;
 mod log_places;
+mod log_tallies;
+mod log_verdicts;
 mod log_words;
 mod looks;
 mod module_listing;
@@ -33,6 +36,7 @@ pub use listing_notes::{
     ListingNote, ListingNotes, SymbolFacts, applies_to_kallsyms, applies_to_modules,
     note_of_kallsyms, note_of_modules,
 };
+pub use log_names::LogNames;
 pub use looks::{
     KernelSymbols, are_modules_hidden, are_symbols_hidden, first_line_ends_in_cr, is_gzip,
     kernel_symbols, looks_like_modules, looks_like_symbols,

@@ -22,7 +22,7 @@
 //!
 //! Only behind an address the bytes of its line are gone through one by one, to say where it stands.
 ghost use Rattle.std.specs.Prelude.{◌≡◌, ◌≢◌, ◌≤◌, ◌<◌, ◌-◌, false, None, ℕ, length, nat_le};
-ghost use Rattle.std.specs.Prelude.{drop, slice_index, slice_index_or, take, IfSome};
+ghost use Rattle.std.specs.Prelude.{drop, slice_index, slice_index_or, take, IfOk, IfSome};
 ghost use Rattle.listing.specs.AnnotatedLogs.{LogContext};
 ghost use Rattle.listing.specs.LogContexts.{AreOfKind, ArePlain, GoOn, context_over};
 ghost use Rattle.listing.specs.LogContexts.{first_context};
@@ -36,6 +36,7 @@ use crate::log_words::{
 };
 use arrayvec::ArrayVec;
 use memchr::memrchr;
+use std::alloc::AllocError;
 
 /// One byte more than the longest address word has: a longer word is none, however it goes on.
 pub(crate) const KEPT_BYTES: usize = 19;
@@ -64,6 +65,18 @@ impl Context {
             place: Place::FIRST,
             is_narrow,
         }
+    }
+
+    /// The same once more.
+    pub(crate) fn copy(&self) -> Result<Context, AllocError>
+        ensures { IfOk result (λ c. kept_in c ≡ kept_in self.now) }
+    {
+        Ok(Context {
+            word: self.word.clone()?,
+            is_closed: self.is_closed,
+            place: self.place,
+            is_narrow: self.is_narrow,
+        })
     }
 
     /// Whether the word is too short for an address.
