@@ -136,6 +136,21 @@ wait $reader || fail "a log that went on: status $?"
 yes 'at ffffffffc0000018' | timeout 60 "$program" annotate --kallsyms "$work/kallsyms" 2>"$work/err" | head -n 1 >"$work/out" || true
 echo 'at ffffffffc0000018 ext4_a+0x8/0xff0 [ext4]' | cmp -s - "$work/out" || fail "the first line of a log without an end"
 
+# told LINE NAME..: behind a log with these names of its own for an address of do_one stands this line
+told() {
+    local line=$1
+    shift
+    printf '[<ffffffff81000108>] %s+0x8/0x1f00\n' "$@" | "$program" annotate --kallsyms ../listings/basic.kallsyms >"$work/out" 2>"$work/err" &&
+        [ "$(cat "$work/err")" = "$line" ] || fail "the names $*: $(cat "$work/err")"
+}
+other='latchsym: note: -: its own names disagree with the listing'
+told '' do_one a b c d
+told "$other (5 of 6); is the listing of this boot?" do_one a b c d e
+told "$other (6 of 11); is the listing of this boot?" do_one do_one a do_one b do_one c do_one d e f
+told '' do_one do_one a do_one b do_one c do_one d e
+told '' '? do_one' '? do_one' a '? do_one' b do_one c do_one d e
+told "$other (5 of 5); is the listing of this boot?" '? a' b c d e
+
 # refused STATUS LINE ARGUMENT..: nothing on standard output, this line on standard error (any,
 # where it is empty), and this status
 refused() {

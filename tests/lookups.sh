@@ -106,8 +106,12 @@ notes '' '2000 T _stext\n1000 T _end\n' ''
 notes 'a 4096 0 - Live 0x5000\n' "$s" "modules: $other_boot"
 notes 'b 4096 0 - Live 0x3000\n' "$s" "modules: $other_boot"
 notes 'b 4096 0 - Live 0x5000\na 4096 0 - Live 0x3000\n' "$s" ''
-# (the only module lies in the kernel itself, and is not accepted)
-notes 'a 4096 0 - Live 0x1000\n' "$s" ''
+# (a module that is left out since its region meets that of the kernel, or of one before it)
+overlap='modules overlap, as sizes do from Linux 6.4 on; leave --modules out\n'
+notes 'a 4096 0 - Live 0x1000\n' "$s" "modules: $overlap"
+notes 'b 4096 0 - Live 0x3000\na 4096 0 - Live 0x3800\n' "$s"'3020 t b_run\t[b]\n' "modules: $overlap"
+notes 'a 4096 0 - Live 0x3000\nb 4096 0 - Live 0x3800\n' "$s" ''
+notes 'a 4096 0 - Live 0x3000\na 4096 0 - Live 0x3800\n' "$s" ''
 notes - "$s" ''
 notes - '' ''
 notes - '0 T _stext\n0 t a_run\t[a]\n' "kallsyms: $hidden"
@@ -295,7 +299,7 @@ head -n 65537 "$work/owners" >"$work/few"
 # an address of b is told as a's, and by the symbols alone as b's
 printf 'a 36864 0 - Live 0x10000\nb 4096 0 - Live 0x14000\n' >"$work/sums"
 printf '10000 t a_run\t[a]\n14000 t b_run\t[b]\n18000 t a_data\t[a]\n' >"$work/sums.kallsyms"
-"$program" lookup --modules "$work/sums" --kallsyms "$work/sums.kallsyms" 0x14010 | cmp -s - <(printf '0x14010 a_run+0x4010/0x8000 [a]\nmodules 1 hidden 0 empty 0 wraps 0 overlap 1 double 0 long 0 malformed 0\nsymbols 2 hidden 0 stray 1 long 0 malformed 0\n') || fail "sums that overlap"
+"$program" lookup --modules "$work/sums" --kallsyms "$work/sums.kallsyms" 0x14010 2>"$work/err" | cmp -s - <(printf '0x14010 a_run+0x4010/0x8000 [a]\nmodules 1 hidden 0 empty 0 wraps 0 overlap 1 double 0 long 0 malformed 0\nsymbols 2 hidden 0 stray 1 long 0 malformed 0\n') || fail "sums that overlap"
 "$program" lookup --modules-from-symbols --kallsyms "$work/sums.kallsyms" 0x14010 0x18010 | cmp -s - <(printf '0x14010 b_run+0x10/0x1000 [b]\n0x18010 a_data+0x10/0x1000 [a]\nmodules 2 regions 3\nsymbols 3 hidden 0 stray 0 long 0 malformed 0\n') || fail "sums that overlap, by the symbols alone"
 if [ -r /proc/kallsyms ] && ! head -n 1 /proc/kallsyms | grep -q '^0* '; then
     "$program" lookup --modules-from-symbols --kallsyms /proc/kallsyms "0x$(grep -m 1 ' _stext$' /proc/kallsyms | cut -d' ' -f1)" >"$work/out" 2>"$work/err" && [ ! -s "$work/err" ] ||
