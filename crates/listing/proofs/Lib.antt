@@ -22,6 +22,8 @@ pub mod LookLemmas
 pub mod ListingNoteLemmas
 -- modules that a catalog has by name
 pub mod OverlapLemmas
+-- a listed module that a catalog lacks was kept out
+pub mod OverlapLawLemmas
 -- what is kept of the bytes before a place of a log is enough
 pub mod LogContextLemmas
 -- what is inserted at a place, whatever comes behind the bytes that are there

@@ -8,6 +8,10 @@ ghost use Rattle.listing.specs.RegionListing.{regions_of_text};
 ghost use Rattle.texts.specs.Understood.{AreSaidBy, IsFirstBadFrom};
 ghost use Rattle.listing.specs.RegionListing.{IsFirstBadRegion};
 ghost use Rattle.listing.specs.RegionListing.{IsRegionListingBy};
+ghost use Rattle.std.specs.Prelude.{◌<◌, true, Contains, Option};
+ghost use Rattle.listing.specs.Overlaps.{is_left_out};
+ghost use Rattle.modules.specs.Catalogs.{catalog_of, counts_of};
+ghost use Rattle.modules.specs.Listed.{BoundNames, ListedModule, ListedRegion, ListedSymbol};
 
 use crate::causes::each_line_is_counted_once;
 use crate::module_listing::SkippedModule;
@@ -40,3 +44,12 @@ pub fn each_listed_line_is_counted_once()
     each_line_is_counted_once::<ModuleLine<'static>, SkippedModule, 5>();
     each_line_is_counted_once::<SymbolLine<'static>, SkippedSymbol, 3>();
 }
+
+/// A listed module that a catalog lacks has a line that was kept out as one that overlaps.
+pub fn left_out_modules_overlap()
+    ensures { (names : Option BoundNames) → (modules : List ListedModule)
+        → (regions : List ListedRegion) → (symbols : List ListedSymbol) → (m : ListedModule)
+        → Contains modules m
+        → is_left_out (catalog_of names modules regions symbols) m.name ≡ true
+        → 0 < (counts_of names modules regions symbols).overlap }
+{}

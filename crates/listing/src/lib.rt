@@ -30,7 +30,8 @@ pub use annotation::{LogFault, annotate};
 pub use answers::{farther, sought, write_answer, write_answer_by};
 pub use causes::{Cause, Counts, each_line_is_counted_once};
 pub use laws::{
-    addresses_by_their_lines, each_listed_line_is_counted_once, regions_by_their_lines,
+    addresses_by_their_lines, each_listed_line_is_counted_once, left_out_modules_overlap,
+    regions_by_their_lines,
 };
 pub use listing_notes::{
     ListingNote, ListingNotes, SymbolFacts, applies_to_kallsyms, applies_to_modules,
