@@ -13,10 +13,10 @@ use Rattle.latch_table.specs.Readers.{Met}
 use Rattle.shared_lookup.specs.declared.served.Answer.{Answer}
 use Rattle.shared_lookup.specs.Servings.{AreFoundIn, IsFoundIn}
 
-length-prefix : (log log' : List Update) → IsPrefix log log' → length log ≤ length log'
+pub length-prefix : (log log' : List Update) → IsPrefix log log' → length log ≤ length log'
 length-prefix log log' p = let e = ap length p.1 in let n = length-append log p.0 in omega (arith, e, n)
 
-take-prefix : (log log' : List Update) (n : ℕ) → IsPrefix log log' → n ≤ length log → take n log' ≡ take n log
+pub take-prefix : (log log' : List Update) (n : ℕ) → IsPrefix log log' → n ≤ length log → take n log' ≡ take n log
 take-prefix log log' n p few = subst (λ (us : List Update). take n us ≡ take n log) p.1 (take-append-le n log p.0 few)
 
 found_later : (log log' : List Update) (a : Answer) → IsPrefix log log' → IsFoundIn log a → IsFoundIn log' a

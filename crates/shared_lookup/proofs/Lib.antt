@@ -6,3 +6,4 @@ pub mod FoundLemmas
 pub mod ReaderLemmas
 pub mod ThreadLemmas
 pub mod LookedLemmas
+pub mod FollowingLemmas

@@ -1,7 +1,7 @@
 -- Lists of threads, one thread more at a time.
 use Rattle.std.proofs.Common.{◌≡◌, ℕ, ◌+◌, ◌<◌, Bool, List, [], ◌∷◌, ◌++◌, length, take, get_or, Option, Some, None, sym, ◌∙◌, ap, subst, ⊎_elim, arith, append_assoc, length-append}
 use Rattle.std.specs.Global.{Vec}
-use Rattle.std.specs.Prelude.{◌≤◌, IfSome, vec_capacity, vec_len}
+use Rattle.std.specs.Prelude.{◌≤◌, ◌⊎◌, IfSome, vec_capacity, vec_len}
 use Rattle.std.proofs.lemmas.List.{take_more, length-take-le}
 use Rattle.std.proofs.lemmas.Option.{get_or_from_slice_get}
 use Rattle.atomic_table.specs.Seated.{TableId}
@@ -15,9 +15,12 @@ use Rattle.modules.specs.Entries.{CatalogEntries}
 use Rattle.shared_lookup.specs.declared.changes.Change.{Change}
 use Rattle.shared_lookup.specs.declared.threads.Changing.{Changing}
 use Rattle.shared_lookup.specs.declared.threads.WriterThread.{WriterThread}
-use Rattle.shared_lookup.specs.Servings.{AreAnswered, AreOutcomesOf, ChangeOutcome, EachHasOutcome, EachIsAnswered}
+use Rattle.shared_lookup.specs.declared.threads.Made.{Made}
+use Rattle.shared_lookup.specs.Followings.{AreMade, EachFollowsLog, FollowLog}
+use Rattle.shared_lookup.specs.Ledgers.{LedgerState}
+use Rattle.shared_lookup.specs.Servings.{AreAnswered, AreNotMade, AreOutcomesOf, ChangeOutcome, EachHasOutcome, EachIsAnswered}
 use Rattle.shared_lookup.specs.Readers.{IsHeard, IsReaderOf}
-use Rattle.shared_lookup.specs.Threads.{AreChanging, AreHeard, AreReading, HaveRoom}
+use Rattle.shared_lookup.specs.Threads.{AreAllMade, AreChanging, AreHeard, AreReading, HaveRoom}
 
 -- what a loop has yielded, the next, and what is left are all that it goes over
 pub next_yielded : {A : Type 0} (all done left rest : List A) (x : A) → all ≡ done ++ left → left ≡ x ∷ rest
@@ -168,20 +171,54 @@ changing_more c changes done rest l ws w room all ec ek =
     })
 
 -- one list more whose thread has come back
-pub made_more : {W : Type 0} (catalog : W → CatalogEntries) (c : W) (changes : List (Vec Change)) (done rest : List (WriterThread W)) (w : WriterThread W) (outcomes : List (Vec ChangeOutcome)) (made : Vec ChangeOutcome)
-    → AreChanging c changes (done ++ w ∷ rest) → EachHasOutcome (catalog c) (take (length done) changes) outcomes
-    → AreOutcomesOf (catalog w.changer.now) w.changes.now made.items
-    → EachHasOutcome (catalog c) (take (length (done ++ w ∷ [])) changes) (outcomes ++ made ∷ [])
-made_more catalog c changes done rest w outcomes made changing all last =
+pub made_more : {W : Type 0} (table : W → Option TableId) (opened : W → Option LedgerState) (catalog : W → CatalogEntries) (c : W) (changes : List (Vec Change)) (done rest : List (WriterThread W)) (w : WriterThread W) (all : List Made) (made : Made)
+    → AreChanging c changes (done ++ w ∷ rest) → AreAllMade (table c) (opened c) (catalog c) (take (length done) changes) all
+    → AreMade (table w.changer.now) (opened w.changer.now) (catalog w.changer.now) w.changes.now made.outcomes.items made.seat
+    → AreAllMade (table c) (opened c) (catalog c) (take (length (done ++ w ∷ [])) changes) (all ++ made ∷ [])
+made_more table opened catalog c changes done rest w all made changing before last =
     let n = length done in
     let less : n < length changes = (let s = changing.same in let m = length-append done (w ∷ rest) in omega (arith, s, m)) in
     let list = next_list changes n less in
     let of = changing.each n list w (slice_get_some changes n less).1 (slice_get-between done rest w) in
     let more : take (length (done ++ w ∷ [])) changes ≡ take n changes ++ list ∷ [] = ap (λ k. take k changes) (length-append done (w ∷ [])) ∙ next_taken changes n less in
-    let here : AreOutcomesOf (catalog c) list.items made.items =
-    subst (λ z. AreOutcomesOf (catalog z) list.items made.items) of.0 (subst (λ z. AreOutcomesOf (catalog w.changer.now) z made.items) of.1 last) in
-    subst (λ (ks : List (Vec Change)). EachHasOutcome (catalog c) ks (outcomes ++ made ∷ [])) (sym more)
+    let here : AreMade (table c) (opened c) (catalog c) list.items made.outcomes.items made.seat =
+    subst (λ z. AreMade (table z) (opened z) (catalog z) list.items made.outcomes.items made.seat) of.0 (subst (λ z. AreMade (table w.changer.now) (opened w.changer.now) (catalog w.changer.now) z made.outcomes.items made.seat) of.1 last) in
+    subst (λ (ks : List (Vec Change)). AreAllMade (table c) (opened c) (catalog c) ks (all ++ made ∷ [])) (sym more)
     (record {
-      same = length-append outcomes (made ∷ []) ∙ (let s = all.same in omega (arith, s)) ∙ sym (length-append (take n changes) (list ∷ []));
-      each = both_pushed (λ place (k : Vec Change) (m : Vec ChangeOutcome). AreOutcomesOf (catalog c) k.items m.items) (take n changes) outcomes list made all.same all.each here;
+      same = length-append all (made ∷ []) ∙ (let s = before.same in omega (arith, s)) ∙ sym (length-append (take n changes) (list ∷ []));
+      each = both_pushed (λ place (k : Vec Change) (m : Made). AreMade (table c) (opened c) (catalog c) k.items m.outcomes.items m.seat) (take n changes) all list made before.same before.each here;
     })
+
+-- what came back of the list of changes at the place behind those that are settled
+module _ (table : Option TableId) (opened : Option LedgerState) (c : CatalogEntries) (changes : List (Vec Change)) (done rest : List Made) (m : Made) (all : AreAllMade table opened c changes (done ++ m ∷ rest)) where
+  pub made_left : length done < length changes
+  made_left = let s = all.same in let n = length-append done (m ∷ rest) in omega (arith, s, n)
+
+  abbrev pub of_changes : Vec Change
+  of_changes = next_list changes (length done) made_left
+
+  pub made_here : AreMade table opened c of_changes.items m.outcomes.items m.seat
+  made_here = all.each (length done) of_changes m (slice_get_some changes (length done) made_left).1 (slice_get-between done rest m)
+
+  settled : take (length (done ++ m ∷ [])) changes ≡ take (length done) changes ++ of_changes ∷ []
+  settled = ap (λ k. take k changes) (length-append done (m ∷ [])) ∙ next_taken changes (length done) made_left
+
+  pub outcomes_so_far : (outcomes : List (Vec ChangeOutcome)) → EachHasOutcome c (take (length done) changes) outcomes
+      → EachHasOutcome c (take (length (done ++ m ∷ [])) changes) (outcomes ++ m.outcomes ∷ [])
+  outcomes_so_far outcomes before =
+      let here = made_here in
+      subst (λ (ks : List (Vec Change)). EachHasOutcome c ks (outcomes ++ m.outcomes ∷ [])) (sym settled)
+      (record {
+        same = length-append outcomes (m.outcomes ∷ []) ∙ (let s = before.same in omega (arith, s)) ∙ sym (length-append (take (length done) changes) (of_changes ∷ []));
+        each = both_pushed (λ place (k : Vec Change) (o : Vec ChangeOutcome). AreOutcomesOf c k.items o.items) (take (length done) changes) outcomes of_changes m.outcomes before.same before.each here.outcomes_of;
+      })
+
+  pub follow_so_far : (l : LedgerState) (outcomes : List (Vec ChangeOutcome)) → EachFollowsLog c l (take (length done) changes) outcomes
+      → FollowLog c l 0 of_changes.items m.outcomes.items ⊎ AreNotMade of_changes.items m.outcomes.items
+      → EachFollowsLog c l (take (length (done ++ m ∷ [])) changes) (outcomes ++ m.outcomes ∷ [])
+  follow_so_far l outcomes before here =
+      subst (λ (ks : List (Vec Change)). EachFollowsLog c l ks (outcomes ++ m.outcomes ∷ [])) (sym settled)
+      (record {
+        same = length-append outcomes (m.outcomes ∷ []) ∙ (let s = before.same in omega (arith, s)) ∙ sym (length-append (take (length done) changes) (of_changes ∷ []));
+        each = both_pushed (λ place (k : Vec Change) (o : Vec ChangeOutcome). FollowLog c l 0 k.items o.items ⊎ AreNotMade k.items o.items) (take (length done) changes) outcomes of_changes m.outcomes before.same before.each here;
+      })

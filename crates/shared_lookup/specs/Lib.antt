@@ -15,5 +15,7 @@ pub mod Servings
 pub mod Readers
 -- how their answers are checked
 pub mod Checks
+-- what became of the changes of a list, in the order of a log
+pub mod Followings
 -- what their threads are given
 pub mod Threads

@@ -5,8 +5,12 @@ use Rattle.atomic_table.specs.Seated.{TableId}
 use Rattle.shared_lookup.specs.declared.changes.Change.{Change}
 use Rattle.shared_lookup.specs.declared.threads.Changing.{Changing}
 use Rattle.shared_lookup.specs.declared.threads.Found.{Found}
+use Rattle.shared_lookup.specs.declared.threads.Made.{Made}
 use Rattle.shared_lookup.specs.declared.threads.ReaderThread.{ReaderThread}
 use Rattle.shared_lookup.specs.declared.threads.WriterThread.{WriterThread}
+use Rattle.modules.specs.Entries.{CatalogEntries}
+use Rattle.shared_lookup.specs.Followings.{AreMade}
+use Rattle.shared_lookup.specs.Ledgers.{LedgerState}
 use Rattle.shared_lookup.specs.Readers.{IsHeard}
 
 -- each list of changes has room for its outcomes
@@ -38,3 +42,11 @@ pub record AreHeard (table : Option TableId) (keys : List (Vec ℕ)) (all : List
   pub each : (place : ℕ) (list : Vec ℕ) (f : Found) → slice_get keys place ≡ Some list
       → slice_get all place ≡ Some f
       → IsHeard table place list.items f.answers.items f.ended f.seat
+
+-- each list of changes has come back with what its thread had
+pub record AreAllMade (table : Option TableId) (opened : Option LedgerState) (c : CatalogEntries)
+    (changes : List (Vec Change)) (all : List Made) : Type 0 where
+  pub same : length all ≡ length changes
+  pub each : (writer : ℕ) (list : Vec Change) (m : Made) → slice_get changes writer ≡ Some list
+      → slice_get all writer ≡ Some m
+      → AreMade table opened c list.items m.outcomes.items m.seat

@@ -133,6 +133,14 @@ impl Ledger {
         }
     }
 
+    /// One more reader of the table.
+    pub(crate) fn add_reader(&mut self) -> Result<Reader<HalfOpen>, Refusal>
+        ensures same { self.new ≡ record self.old { readers = self.new.readers } }
+        ensures place { IfOk result (λ r. r.place ≡ self.old.place) }
+    {
+        self.writer.add_reader()
+    }
+
     /// How many readers came with the table.
     pub fn readers(&self) -> u32
         ensures { result ≡ self.now.readers }

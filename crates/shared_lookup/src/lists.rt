@@ -1,17 +1,17 @@
 //! The threads of all lists.
 
-ghost use Rattle.std.specs.Prelude.{◌≡◌, ◌≤◌, [], length, All, IfOk, vec_capacity, vec_len};
+ghost use Rattle.std.specs.Prelude.{◌≡◌, ◌≤◌, [], length, All, Some, IfOk, vec_capacity, vec_len};
 ghost use Rattle.latch_table.specs.Limits.{most_readers};
 ghost use Rattle.shared_lookup.specs.Readers.{IsNewReaderOf};
-ghost use Rattle.shared_lookup.specs.Servings.{EachHasOutcome};
-ghost use Rattle.shared_lookup.specs.Threads.{AreChanging, AreHeard, AreReading, HaveRoom};
+ghost use Rattle.shared_lookup.specs.Threads.{AreAllMade, AreChanging, AreHeard, AreReading};
+ghost use Rattle.shared_lookup.specs.Threads.{HaveRoom};
 
 use crate::changes::Change;
 use crate::gates::Gate;
 use crate::shared::Changer;
 use crate::threads::{
-    Changing, Found, Outcomes, ReaderThread, WriterThread, join_reader, join_writer,
-    list_with_room, start_reader, start_writer,
+    Changing, Found, Made, ReaderThread, WriterThread, join_reader, join_writer, list_with_room,
+    start_reader, start_writer,
 };
 use latch_table::Reader;
 use order_laws::HalfOpen;
@@ -34,7 +34,8 @@ pub(crate) fn with_room<'s>(
     Ok(lists)
 }
 
-/// Starts the threads of lists of changes, and adds them to a list.
+/// Starts the threads of lists of changes, each beside one of these readers while there are any,
+/// and adds them to a list.
 pub(crate) fn start_writers<'s, E, R: Threads + Wait + Sync, G: Gate + Sync, W: Changer + Sync>(
     scope: &Scope<'s, E>,
     rt: &'s R,
@@ -43,15 +44,18 @@ pub(crate) fn start_writers<'s, E, R: Threads + Wait + Sync, G: Gate + Sync, W: 
     changer: &'s W,
     changes: &[Vec<Change>],
     lists: Vec<Changing<'s>>,
+    mut seats: Vec<Reader<HalfOpen>>,
     mut writers: Vec<WriterThread<'s, W>>,
 ) -> Vec<WriterThread<'s, W>>
     requires blank { writers.items ≡ [] }
     requires long { length changes.now ≤ vec_capacity writers }
     requires room { HaveRoom changes.now lists.items }
+    requires seats { All (λ r. W.table changer.now ≡ Some r.place) seats.items }
     ensures { AreChanging changer.now changes.now result.items }
 {
     for list in lists {
-        writers.push_reserved(start_writer(scope, rt, alloc, g, changer, list));
+        let seat = seats.pop();
+        writers.push_reserved(start_writer(scope, rt, alloc, g, changer, list, seat));
     }
     writers
 }
@@ -91,17 +95,18 @@ pub(crate) fn join_writers<R: Threads, W: Changer>(
     changer: &W,
     changes: &[Vec<Change>],
     writers: Vec<WriterThread<'_, W>>,
-    mut outcomes: Vec<Outcomes>,
-) -> Vec<Outcomes>
-    requires blank { outcomes.items ≡ [] }
-    requires long { length changes.now ≤ vec_capacity outcomes }
+    mut made: Vec<Made>,
+) -> Vec<Made>
+    requires blank { made.items ≡ [] }
+    requires long { length changes.now ≤ vec_capacity made }
     requires changing { AreChanging changer.now changes.now writers.items }
-    ensures { EachHasOutcome (W.catalog changer.now) changes.now result.items }
+    ensures { AreAllMade (W.table changer.now) (W.opened changer.now) (W.catalog changer.now)
+        changes.now result.items }
 {
     for writer in writers {
-        outcomes.push_reserved(join_writer(rt, writer));
+        made.push_reserved(join_writer(rt, writer));
     }
-    outcomes
+    made
 }
 
 /// Waits for the threads of lists of keys, and adds what they came back with to a list.

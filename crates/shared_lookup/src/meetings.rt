@@ -1,18 +1,22 @@
 //! The readers that came back meet the writer.
 //!
 //! What a reader knew when it gave its last answer is a beginning of what it knows once it has met
-//! the writer, which is the whole log. So all its answers are those of the log.
+//! the writer, which is the whole log. So all its answers are those of the log, and the changes
+//! that were made beside a reader follow the log.
 
 ghost use Rattle.std.specs.Prelude.{◌≡◌, ◌≤◌, [], length, Some, IfSome, vec_capacity};
 ghost use mathlib.Core.List.{IsPrefix};
 ghost use Rattle.shared_lookup.specs.Readers.{EachHasLooked, HasMet, known_by};
-ghost use Rattle.shared_lookup.specs.Servings.{EachIsAnswered, EachIsFoundIn};
-ghost use Rattle.shared_lookup.specs.Threads.{AreHeard};
+ghost use Rattle.shared_lookup.specs.Followings.{EachFollowsLog};
+ghost use Rattle.shared_lookup.specs.Servings.{EachHasOutcome, EachIsAnswered, EachIsFoundIn};
+ghost use Rattle.shared_lookup.specs.Threads.{AreAllMade, AreHeard};
 
+use crate::changes::Change;
 use crate::ledgers::Ledger;
 use crate::served::Answer;
-use crate::threads::Found;
+use crate::threads::{Found, Made, Outcomes};
 use latch_table::Reader;
+use modules::Catalog;
 use order_laws::HalfOpen;
 
 /// The ledger and the reader, once they have met, if there is a reader.
@@ -70,4 +74,33 @@ pub(crate) fn meet_all(
         readers.push_reserved(reader);
     }
     (ledger, answers, ended, readers)
+}
+
+/// The reader beside each list of changes meets the ledger's writer. Adds the outcomes of each list
+/// to a list.
+pub(crate) fn settle_all(
+    ledger: Ledger,
+    _c: &Catalog<'_>,
+    changes: &[Vec<Change>],
+    all: Vec<Made>,
+    mut outcomes: Vec<Outcomes>,
+) -> (Ledger, Vec<Outcomes>)
+    requires made { AreAllMade (Some ledger.place) (Some ledger) _c.now changes.now all.items }
+    requires blank { outcomes.items ≡ [] }
+    requires long { length changes.now ≤ vec_capacity outcomes }
+    ensures same { result.0 ≡ ledger }
+    ensures outcomes { EachHasOutcome _c.now changes.now result.1.items }
+    ensures follow { EachFollowsLog _c.now ledger changes.now result.1.items }
+{
+    let mut ledger = ledger;
+    for made in all {
+        let Made {
+            outcomes: list,
+            seat,
+        } = made;
+        let (same, _seat) = met(ledger, seat);
+        ledger = same;
+        outcomes.push_reserved(list);
+    }
+    (ledger, outcomes)
 }

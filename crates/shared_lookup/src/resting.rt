@@ -149,6 +149,14 @@ impl RestingWriter {
         self.writer.holds(a)
     }
 
+    /// One more reader of the table, as [`Writer::add_reader`] adds it.
+    pub(crate) fn add_reader(&mut self) -> Result<Reader<HalfOpen>, Refusal>
+        ensures same { self.new ≡ record self.old { readers = self.new.readers } }
+        ensures place { IfOk result (λ r. r.place ≡ self.old.place) }
+    {
+        self.writer.add_reader()
+    }
+
     /// How many readers came with the writer.
     pub(crate) fn readers(&self) -> u32
         ensures { result ≡ self.now.readers }

@@ -6,20 +6,21 @@ ghost use Rattle.modules.specs.Catalogs.{regions_of};
 ghost use Rattle.word_layout.specs.Layouts.{capacity_of};
 ghost use Rattle.word_layout.specs.Limits.{most_nodes};
 ghost use Rattle.latch_table.specs.Limits.{most_readers};
+ghost use Rattle.shared_lookup.specs.Followings.{FollowServed, IsServedLedger};
 ghost use Rattle.shared_lookup.specs.Readers.{EachHasLooked, IsNewReaderOf};
 ghost use Rattle.shared_lookup.specs.Servings.{EachHasOutcome, EachIsAnswered, EachIsFoundIn};
 ghost use Rattle.shared_lookup.specs.Servings.{IsWrongCount, MayServe, RefusesServing};
-ghost use Rattle.shared_lookup.specs.Threads.{AreHeard};
+ghost use Rattle.shared_lookup.specs.Threads.{AreAllMade, AreHeard};
 
 use crate::changes::Change;
 use crate::checks::wrong_count;
 use crate::gates::Gate;
 use crate::ledgers::Ledger;
 use crate::lists::{join_readers, join_writers, start_readers, start_writers, with_room};
-use crate::meetings::meet_all;
+use crate::meetings::{meet_all, settle_all};
 use crate::served::Served;
 use crate::shared::{CatalogWriter, Changer, NamesTable, SharedWriter};
-use crate::threads::{Found, Outcomes};
+use crate::threads::{Found, Made};
 use latch_table::{MOST_READERS, Reader};
 use modules::Catalog;
 use order_laws::{HalfOpen, Refusal};
@@ -33,7 +34,7 @@ use word_layout::Layout;
 /// What all threads came back with.
 #[derive(Drop)]
 struct ThreadResults {
-    outcomes: Vec<Outcomes>,
+    made: Vec<Made>,
     heard: Vec<Found>,
 }
 
@@ -46,13 +47,16 @@ fn run_threads<R: Threads + Wait + Sync, G: Gate + Sync, W: Changer + Sync>(
     changer: &W,
     changes: &[Vec<Change>],
     keys: &[Vec<u64>],
+    beside: Vec<Reader<HalfOpen>>,
     seats: Vec<Reader<HalfOpen>>,
 ) -> Result<ThreadResults, AllocError>
+    requires beside { All (λ r. W.table changer.now ≡ Some r.place) beside.items }
     requires seats { All (IsNewReaderOf (W.table changer.now)) seats.items }
     requires same { vec_len seats ≡ length keys.now }
     requires few { length keys.now ≤ most_readers }
-    ensures outcomes { IfOk result (λ r.
-        EachHasOutcome (W.catalog changer.now) changes.now r.outcomes.items) }
+    ensures made { IfOk result (λ r.
+        AreAllMade (W.table changer.now) (W.opened changer.now) (W.catalog changer.now)
+        changes.now r.made.items) }
     ensures heard { IfOk result (λ r.
         AreHeard (W.table changer.now) keys.now r.heard.items) }
 {
@@ -60,24 +64,28 @@ fn run_threads<R: Threads + Wait + Sync, G: Gate + Sync, W: Changer + Sync>(
         thread::scope_env(),
         rt,
         |scope| -> Result<ThreadResults, AllocError>
+            requires beside { All (λ r. W.table changer.now ≡ Some r.place) beside.items }
             requires seats { All (IsNewReaderOf (W.table changer.now)) seats.items }
             requires same { vec_len seats ≡ length keys.now }
             requires few { length keys.now ≤ most_readers }
-            ensures outcomes { IfOk result (λ r.
-                EachHasOutcome (W.catalog changer.entry.now) changes.entry.now r.outcomes.items) }
+            ensures made { IfOk result (λ r.
+                AreAllMade (W.table changer.entry.now) (W.opened changer.entry.now)
+                (W.catalog changer.entry.now) changes.entry.now r.made.items) }
             ensures heard { IfOk result (λ r.
                 AreHeard (W.table changer.entry.now) keys.entry.now r.heard.items) }
         {
             let lists = with_room(alloc, changes)?;
-            let outcomes = Vec::with_capacity(alloc, changes.len())?;
+            let made = Vec::with_capacity(alloc, changes.len())?;
             let heard = Vec::with_capacity(alloc, keys.len())?;
             let writers = Vec::with_capacity(alloc, changes.len())?;
             let readers = Vec::with_capacity(alloc, keys.len())?;
-            let writers = start_writers(scope, rt, alloc, g, changer, changes, lists, writers);
+            let writers = start_writers(
+                scope, rt, alloc, g, changer, changes, lists, beside, writers,
+            );
             let readers = start_readers(scope, rt, alloc, g, changer, seats, keys, readers);
-            let outcomes = join_writers(rt, changer, changes, writers, outcomes);
+            let made = join_writers(rt, changer, changes, writers, made);
             let heard = join_readers(rt, alloc, changer, keys, readers, heard);
-            Ok(ThreadResults { outcomes, heard })
+            Ok(ThreadResults { made, heard })
         },
     )
 }
@@ -101,14 +109,19 @@ fn serve_from<K: NamesTable + Send + Sync, R: Threads + Wait + Sync, G: Gate + S
     g: &G,
     c: &Catalog<'_>,
     opened: (Ledger, Vec<Reader<HalfOpen>>),
+    beside: Vec<Reader<HalfOpen>>,
     changes: Vec<Vec<Change>>,
     keys: Vec<Vec<u64>>,
 ) -> Result<Served, Refusal>
-    requires named { K.table ≡ Some opened.0.place }
+    requires named { (K.table ≡ Some opened.0.place) × (K.opened ≡ Some opened.0) }
+    requires fresh { IsServedLedger c.now opened.0.log opened.0 }
+    requires beside { All (λ r. r.place ≡ opened.0.place) beside.items }
     requires seats { All (IsNewReaderOf (Some opened.0.place)) opened.1.items }
     requires same { vec_len opened.1 ≡ vec_len keys }
     requires few { vec_len keys ≤ most_readers }
     ensures outcomes { IfOk result (λ s. EachHasOutcome c.now changes.items s.changes.items) }
+    ensures follow { IfOk result (λ s.
+        FollowServed c.now s.log.items changes.items s.changes.items) }
     ensures answers { IfOk result (λ s.
         EachIsAnswered keys.items s.answers.items s.ended.items) }
     ensures found { IfOk result (λ s. EachIsFoundIn s.log.items s.answers.items) }
@@ -119,6 +132,7 @@ fn serve_from<K: NamesTable + Send + Sync, R: Threads + Wait + Sync, G: Gate + S
     ensures refusal { IfErr result (λ e. e ≡ OutOfMemory) }
 {
     let (ledger, seats) = opened;
+    let outcomes = Vec::with_capacity(alloc, changes.len())?;
     let answers = Vec::with_capacity(alloc, keys.len())?;
     let ended = Vec::with_capacity(alloc, keys.len())?;
     let readers = Vec::with_capacity(alloc, keys.len())?;
@@ -128,9 +142,10 @@ fn serve_from<K: NamesTable + Send + Sync, R: Threads + Wait + Sync, G: Gate + S
         shared: &shared,
         catalog: c,
     };
-    let returned = run_threads(rt, alloc, g, &changer, &changes, &keys, seats)?;
-    let ThreadResults { outcomes, heard } = returned;
+    let returned = run_threads(rt, alloc, g, &changer, &changes, &keys, beside, seats)?;
+    let ThreadResults { made, heard } = returned;
     let ledger = shared.into_ledger();
+    let (ledger, outcomes) = settle_all(ledger, c, &changes, made, outcomes);
     let (ledger, answers, ended, readers) = meet_all(ledger, &keys, heard, answers, ended, readers);
     let wrong = wrong_count(alloc, &ledger, c, &changes, &outcomes, &answers, &mut times);
     Ok(Served {
@@ -143,10 +158,33 @@ fn serve_from<K: NamesTable + Send + Sync, R: Threads + Wait + Sync, G: Gate + S
     })
 }
 
+/// A reader of the table for each list of changes, to be beside it while there can be one.
+#[tactic(auto, using(crate::proofs::FollowingLemmas::with_readers))]
+fn readers_beside(
+    alloc: Global,
+    ledger: &mut Ledger,
+    lists: usize,
+) -> Result<Vec<Reader<HalfOpen>>, AllocError>
+    ensures same { ledger.new ≡ record ledger.old { readers = ledger.new.readers } }
+    ensures beside { IfOk result (λ all. All (λ r. r.place ≡ ledger.old.place) all.items) }
+{
+    let mut readers = Vec::with_capacity(alloc, lists)?;
+    for _ in 0..lists {
+        let Ok(reader) = ledger.add_reader() else {
+            break;
+        };
+        if readers.push(reader).is_err() {
+            break;
+        }
+    }
+    Ok(readers)
+}
+
 /// The layout of a table for all regions of a catalog. Refused by [`Refusal::BadCapacity`] where
 /// they are more than a table can have.
 fn layout_for(c: &Catalog<'_>) -> Result<Layout, Refusal>
     ensures may { IfOk result (λ _. length (regions_of c.now) ≤ most_nodes) }
+    ensures room { IfOk result (λ l. length (regions_of c.now) ≤ capacity_of l) }
     ensures refused { IfErr result (λ e. (e ≡ Refusal.BadCapacity)
         × (length (regions_of c.now) ≤ most_nodes → ⊥)) }
 {
@@ -170,6 +208,10 @@ fn layout_for(c: &Catalog<'_>) -> Result<Layout, Refusal>
 /// the generations of a list never fall. For each answer the list's reader looked: it loaded the
 /// sequence at the start and at the end of each attempt, or once where it remembered the item.
 ///
+/// The changes of a list follow the log: each is accepted as a later update of it than those before,
+/// or refused as a beginning of the log refuses it that is no shorter than theirs. For that a reader
+/// of its own is beside each list, and meets the writer before and after each change.
+///
 /// Counted as wrong are each answer whose generation is above the log's length or that is not what
 /// the key lies in after as many updates of the log, of which there is none; each accepted change
 /// whose generation's entry of the log is none that the catalog gives for it; and each entry whose
@@ -189,6 +231,8 @@ pub fn serve<R: Threads + Wait + Sync, G: Gate + Sync>(
 ) -> Result<Served, Refusal>
     ensures may { IfOk result (λ s. MayServe c.now keys.items) }
     ensures outcomes { IfOk result (λ s. EachHasOutcome c.now changes.items s.changes.items) }
+    ensures follow { IfOk result (λ s.
+        FollowServed c.now s.log.items changes.items s.changes.items) }
     ensures answers { IfOk result (λ s.
         EachIsAnswered keys.items s.answers.items s.ended.items) }
     ensures found { IfOk result (λ s. EachIsFoundIn s.log.items s.answers.items) }
@@ -202,6 +246,8 @@ pub fn serve<R: Threads + Wait + Sync, G: Gate + Sync>(
     if keys.is_empty() || keys.len() > MOST_READERS as usize {
         return Err(Refusal::BadCapacity);
     }
-    let opened = Ledger::open(alloc, layout, 0, keys.len() as u32)?;
-    serve_from::<Brand, R, G>(rt, alloc, g, c, opened, changes, keys)
+    let (mut ledger, readers) = Ledger::open(alloc, layout, 0, keys.len() as u32)?;
+    let beside = readers_beside(alloc, &mut ledger, changes.len())?;
+    let opened = (ledger, readers);
+    serve_from::<Brand, R, G>(rt, alloc, g, c, opened, beside, changes, keys)
 }

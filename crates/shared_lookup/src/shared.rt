@@ -1,15 +1,17 @@
 //! A ledger under a lock.
 
-ghost use Rattle.std.specs.Prelude.{None};
+ghost use Rattle.std.specs.Prelude.{◌≡◌, None, Some};
 ghost use Rattle.shared_lookup.specs.Changes.{IsOutcomeOf};
+ghost use Rattle.shared_lookup.specs.Followings.{IsMadeBeside, IsOpenedAs};
 ghost use Rattle.shared_lookup.specs.Ledgers.{IsNamed};
 
 use crate::changes::Change;
 use crate::gates::Gate;
 use crate::ledgers::Ledger;
+use latch_table::Reader;
 use modules::Catalog;
-use order_laws::Refusal;
-use std::marker::{Brand, PhantomData};
+use order_laws::{HalfOpen, Refusal};
+use std::marker::{Brand, Model, PhantomData};
 use std::sync::{Mutex, Wait};
 
 /// Names the table of a ledger, in proofs alone. Of what lies under a lock only its type is known,
@@ -18,20 +20,38 @@ use std::sync::{Mutex, Wait};
 pub trait NamesTable {
     ghost use Rattle.std.specs.Prelude.{Option};
     ghost use Rattle.atomic_table.specs.Seated.{TableId};
+    ghost use Rattle.shared_lookup.specs.Ledgers.{LedgerState};
 
     ghost table: { Option TableId };
+
+    /// The ledger of it as it was opened.
+    ghost opened: { Option LedgerState };
 }
 
 impl NamesTable for Brand {
     ghost table = { None };
+
+    ghost opened = { None };
 }
 
-/// A ledger of the table that is named.
+/// A ledger of the table that is named, as it was opened but for its log.
 #[derive(Drop)]
 struct NamedLedger<K: NamesTable> {
-    ledger: Ledger,
+    /// None while a reader meets it.
+    ledger: Option<Ledger>,
     named: PhantomData<K>,
-    ghost here: { IsNamed K.table ledger.place },
+}
+
+impl<K: NamesTable> Model for NamedLedger<K> {
+    ghost use Rattle.std.specs.Prelude.{Option};
+    ghost use Rattle.shared_lookup.specs.Followings.{IsHeld};
+    ghost use Rattle.shared_lookup.specs.Ledgers.{LedgerState};
+
+    ghost Value = { Option LedgerState };
+
+    ghost view = { λ n. n.ledger };
+
+    ghost invariant = { λ n. IsHeld K.table K.opened n.ledger };
 }
 
 impl<K: NamesTable> NamedLedger<K> {
@@ -45,7 +65,35 @@ impl<K: NamesTable> NamedLedger<K> {
     ) -> Result<u64, Refusal>
         ensures { IsOutcomeOf c.now ch result }
     {
-        self.ledger.change(g, who, c, ch)
+        let Some(ledger) = &mut self.ledger else {
+            unreachable!()
+        };
+        ledger.change(g, who, c, ch)
+    }
+
+    /// The same beside a reader of the table, which meets the writer before and after it.
+    fn change_beside<G: Gate>(
+        &mut self,
+        g: &G,
+        who: u32,
+        seat: Reader<HalfOpen>,
+        c: &Catalog<'_>,
+        ch: Change,
+    ) -> (Result<u64, Refusal>, Reader<HalfOpen>)
+        requires { K.table ≡ Some seat.place }
+        ensures outcome { IsOutcomeOf c.now ch result.0 }
+        ensures place { result.1.place ≡ seat.place }
+        ensures made { IsMadeBeside c.now K.opened ch seat.knowledge.known
+            result.1.knowledge.known result.0 }
+    {
+        let Some(ledger) = self.ledger.take() else {
+            unreachable!()
+        };
+        let (mut ledger, seat) = ledger.meet(seat);
+        let outcome = ledger.change(g, who, c, ch);
+        let (ledger, seat) = ledger.meet(seat);
+        self.ledger = Some(ledger);
+        (outcome, seat)
     }
 }
 
@@ -58,11 +106,12 @@ pub struct SharedWriter<K: NamesTable> {
 impl<K: NamesTable> SharedWriter<K> {
     /// The ledger, under a lock.
     pub fn new(ledger: Ledger) -> SharedWriter<K>
-        requires { IsNamed K.table ledger.place }
+        requires table { IsNamed K.table ledger.place }
+        requires opened { IsOpenedAs K.opened ledger }
     {
         SharedWriter {
             ledger: Mutex::new(NamedLedger {
-                ledger,
+                ledger: Some(ledger),
                 named: PhantomData,
             }),
         }
@@ -83,12 +132,33 @@ impl<K: NamesTable> SharedWriter<K> {
         self.ledger.lock(rt).change(g, who, c, ch)
     }
 
+    /// The same beside a reader of the table, which meets the writer before and after it.
+    pub(crate) fn change_beside<R: Wait, G: Gate>(
+        &self,
+        rt: &R,
+        g: &G,
+        who: u32,
+        seat: Reader<HalfOpen>,
+        c: &Catalog<'_>,
+        ch: Change,
+    ) -> (Result<u64, Refusal>, Reader<HalfOpen>)
+        requires { K.table ≡ Some seat.place }
+        ensures outcome { IsOutcomeOf c.now ch result.0 }
+        ensures place { result.1.place ≡ seat.place }
+        ensures made { IsMadeBeside c.now K.opened ch seat.knowledge.known
+            result.1.knowledge.known result.0 }
+    {
+        self.ledger.lock(rt).change_beside(g, who, seat, c, ch)
+    }
+
     /// The ledger, where nobody else shares it.
     pub fn into_ledger(self) -> Ledger
-        ensures { IsNamed K.table result.place }
+        ensures table { IsNamed K.table result.place }
+        ensures opened { IsOpenedAs K.opened result }
     {
         let SharedWriter { ledger } = self;
         let NamedLedger { ledger, named: _ } = ledger.into_inner();
+        let Some(ledger) = ledger else { unreachable!() };
         ledger
     }
 }
@@ -98,15 +168,30 @@ pub(crate) trait Changer {
     ghost use Rattle.std.specs.Prelude.{Option};
     ghost use Rattle.atomic_table.specs.Seated.{TableId};
     ghost use Rattle.modules.specs.Entries.{CatalogEntries};
+    ghost use Rattle.shared_lookup.specs.Ledgers.{LedgerState};
 
     ghost catalog: { Self → CatalogEntries };
 
-    /// The table, where it is named.
+    /// The table, and its ledger as it was opened, where they are named.
     ghost table: { Self → Option TableId };
 
-    /// The new generation, or why the change was refused.
-    fn change<R: Wait, G: Gate>(&self, rt: &R, g: &G, who: u32, ch: Change) -> Result<u64, Refusal>
-        ensures { IsOutcomeOf (catalog self.now) ch result };
+    ghost opened: { Self → Option LedgerState };
+
+    /// The new generation, or why the change was refused, and the reader of the table, which meets
+    /// the writer before and after it.
+    fn change<R: Wait, G: Gate>(
+        &self,
+        rt: &R,
+        g: &G,
+        who: u32,
+        seat: Reader<HalfOpen>,
+        ch: Change,
+    ) -> (Result<u64, Refusal>, Reader<HalfOpen>)
+        requires { table self.now ≡ Some seat.place }
+        ensures outcome { IsOutcomeOf (catalog self.now) ch result.0 }
+        ensures place { result.1.place ≡ seat.place }
+        ensures made { IsMadeBeside (catalog self.now) (opened self.now) ch seat.knowledge.known
+            result.1.knowledge.known result.0 };
 }
 
 /// A shared writer with the catalog that its changes are of.
@@ -121,13 +206,17 @@ impl<'a, 'c, K: NamesTable> Changer for CatalogWriter<'a, 'c, K> {
 
     ghost table = { λ w. K.table };
 
+    ghost opened = { λ w. K.opened };
+
     fn change<R: Wait, G: Gate>(
         &self,
         rt: &R,
         g: &G,
         who: u32,
+        seat: Reader<HalfOpen>,
         ch: Change,
-    ) -> Result<u64, Refusal> {
-        self.shared.change(rt, g, who, self.catalog, ch)
+    ) -> (Result<u64, Refusal>, Reader<HalfOpen>) {
+        self.shared
+            .change_beside(rt, g, who, seat, self.catalog, ch)
     }
 }

@@ -1,6 +1,6 @@
 //! The threads of lists of changes and of lists of keys.
 
-ghost use Rattle.std.specs.Prelude.{◌≡◌, ℕ, List, ◌++◌, length, All, Err, IfOk};
+ghost use Rattle.std.specs.Prelude.{◌≡◌, ℕ, List, ◌++◌, length, All, Some, Err, IfOk, IfSome};
 ghost use Rattle.std.specs.Option.{ForNone, ForSome};
 ghost use Rattle.order_laws.specs.declared.refusals.Refusal.TheVariants.{OutOfMemory};
 ghost use Rattle.order_laws.specs.Orders.{half_open};
@@ -8,7 +8,7 @@ ghost use Rattle.latch_table.specs.declared.readers.Try.TheVariants.{Answered};
 ghost use Rattle.latch_table.specs.Memory.{memory_after};
 ghost use Rattle.latch_table.specs.Readers.{Answers, KnowsMore};
 ghost use Rattle.shared_lookup.specs.Readers.{IsHeard, IsLookedUp, IsNewReaderOf};
-ghost use Rattle.shared_lookup.specs.Servings.{AreOutcomesOf, HasOutcomes};
+ghost use Rattle.shared_lookup.specs.Followings.{AreMade};
 
 use crate::changes::Change;
 use crate::gates::{Gate, Point};
@@ -42,14 +42,23 @@ pub(crate) struct Changing<'s> {
 pub(crate) struct WriterThread<'s, W: Changer> {
     pub(crate) changer: &'s W,
     pub(crate) changes: &'s [Change],
-    thread: Option<PromisedHandle<Outcomes, OutcomesOf<'s, W>>>,
+    thread: Option<PromisedHandle<Made, OutcomesOf<'s, W>>>,
     outcomes: Outcomes,
     ghost same: { ForSome thread (λ h.
         (h.promise.changer.now ≡ changer.now) × (h.promise.changes.now ≡ changes.now)) },
     ghost room: { ForNone thread (length outcomes.items ≡ length changes.now) },
 }
 
-/// What a writer's thread returns: what became of the changes of its list.
+/// What a writer's thread comes back with.
+#[derive(Drop)]
+pub(crate) struct Made {
+    pub(crate) outcomes: Outcomes,
+    /// The reader beside which the changes were made, where there was a thread.
+    pub(crate) seat: Option<Reader<HalfOpen>>,
+}
+
+/// What a writer's thread returns: what became of the changes of its list, and the reader beside
+/// which they were made.
 #[derive(Drop)]
 pub(crate) struct OutcomesOf<'a, W: Changer> {
     changer: &'a W,
@@ -71,8 +80,9 @@ impl<'s, W: Changer> WriterThread<'s, W> {
     }
 }
 
-impl<'a, W: Changer> Promise<Outcomes> for OutcomesOf<'a, W> {
-    ghost kept_by = { λ p r. HasOutcomes (W.catalog p.changer.now) p.changes.now r.items };
+impl<'a, W: Changer> Promise<Made> for OutcomesOf<'a, W> {
+    ghost kept_by = { λ p r. AreMade (W.table p.changer.now) (W.opened p.changer.now)
+        (W.catalog p.changer.now) p.changes.now r.outcomes.items r.seat };
 }
 
 /// The thread of a list of keys; none where the list is empty or no thread could be made.
@@ -126,7 +136,8 @@ fn refused(mut outcomes: Outcomes) -> Outcomes
     outcomes
 }
 
-/// Makes the changes of one list, and puts each outcome into its place.
+/// Makes the changes of one list beside a reader of the table, and puts each outcome into its
+/// place.
 fn make_changes<R: Wait, G: Gate, W: Changer>(
     rt: &R,
     g: &G,
@@ -134,16 +145,25 @@ fn make_changes<R: Wait, G: Gate, W: Changer>(
     writer: u32,
     changes: &[Change],
     outcomes: Outcomes,
-) -> Outcomes
-    requires { length outcomes.items ≡ length changes.now }
-    ensures { HasOutcomes (W.catalog changer.now) changes.now result.items }
+    seat: Reader<HalfOpen>,
+) -> Made
+    requires room { length outcomes.items ≡ length changes.now }
+    requires seat { W.table changer.now ≡ Some seat.place }
+    ensures { AreMade (W.table changer.now) (W.opened changer.now) (W.catalog changer.now)
+        changes.now result.outcomes.items result.seat }
 {
     let mut outcomes = outcomes;
+    let mut seat = seat;
     for place in 0..changes.len() {
-        outcomes[place] = changer.change(rt, g, writer, changes[place]);
+        let (outcome, back) = changer.change(rt, g, writer, seat, changes[place]);
+        outcomes[place] = outcome;
+        seat = back;
     }
     g.tell(Point::WriterDone { writer });
-    outcomes
+    Made {
+        outcomes,
+        seat: Some(seat),
+    }
 }
 
 /// What a key lies in, by memory or by attempts, and the generation that this is of.
@@ -206,8 +226,9 @@ fn look_up<R: Wait, G: Gate, W: Changer>(
     }
 }
 
-/// Starts the thread of one list of changes, unless it is empty. The room for the outcomes goes with
-/// the thread, even where none can be made; so there is to be room once more before.
+/// Starts the thread of one list of changes, unless it is empty or has no reader beside it. The
+/// room for the outcomes goes with the thread, even where none can be made; so there is to be room
+/// once more before.
 pub(crate) fn start_writer<'s, E, R: Threads + Wait + Sync, G: Gate + Sync, W: Changer + Sync>(
     scope: &Scope<'s, E>,
     rt: &'s R,
@@ -215,7 +236,9 @@ pub(crate) fn start_writer<'s, E, R: Threads + Wait + Sync, G: Gate + Sync, W: C
     g: &'s G,
     changer: &'s W,
     list: Changing<'s>,
+    seat: Option<Reader<HalfOpen>>,
 ) -> WriterThread<'s, W>
+    requires beside { IfSome seat (λ r. W.table changer.now ≡ Some r.place) }
     ensures { (result.changer.now ≡ changer.now)
         × (result.changes.now ≡ list.entry.changes.now) }
 {
@@ -224,6 +247,9 @@ pub(crate) fn start_writer<'s, E, R: Threads + Wait + Sync, G: Gate + Sync, W: C
         changes,
         outcomes,
     } = list;
+    let Some(seat) = seat else {
+        return WriterThread::without(changer, changes, outcomes);
+    };
     let spare = match room_for(alloc, changes) {
         Ok(spare) if !changes.is_empty() => spare,
         _ => return WriterThread::without(changer, changes, outcomes),
@@ -231,10 +257,13 @@ pub(crate) fn start_writer<'s, E, R: Threads + Wait + Sync, G: Gate + Sync, W: C
     let started = Stack::new().stack_size(STACK_SIZE).spawn_scoped_with(
         scope,
         OutcomesOf { changer, changes },
-        move || -> Outcomes
-            requires { length outcomes.items ≡ length changes.now }
-            ensures { HasOutcomes (W.catalog changer.entry.now) changes.entry.now result.items }
-        { make_changes(rt, g, changer, writer, changes, outcomes) },
+        move || -> Made
+            requires room { length outcomes.items ≡ length changes.now }
+            requires seat { W.table changer.now ≡ Some seat.place }
+            ensures { AreMade (W.table changer.entry.now) (W.opened changer.entry.now)
+                (W.catalog changer.entry.now) changes.entry.now result.outcomes.items
+                result.seat }
+        { make_changes(rt, g, changer, writer, changes, outcomes, seat) },
     );
     match started {
         Ok(thread) => WriterThread {
@@ -288,9 +317,10 @@ pub(crate) fn start_reader<'s, E, R: Threads + Wait + Sync, G: Gate + Sync, W: C
 }
 
 /// Waits for the thread of one list of changes. Where there was none, each change is refused.
-pub(crate) fn join_writer<R: Threads, W: Changer>(rt: &R, writer: WriterThread<'_, W>) -> Outcomes
-    ensures { AreOutcomesOf (W.catalog writer.entry.changer.now) writer.entry.changes.now
-        result.items }
+pub(crate) fn join_writer<R: Threads, W: Changer>(rt: &R, writer: WriterThread<'_, W>) -> Made
+    ensures { AreMade (W.table writer.entry.changer.now) (W.opened writer.entry.changer.now)
+        (W.catalog writer.entry.changer.now) writer.entry.changes.now result.outcomes.items
+        result.seat }
 {
     let WriterThread {
         changer: _,
@@ -300,7 +330,10 @@ pub(crate) fn join_writer<R: Threads, W: Changer>(rt: &R, writer: WriterThread<'
     } = writer;
     match thread {
         Some(thread) => thread.join(rt),
-        None => refused(outcomes),
+        None => Made {
+            outcomes: refused(outcomes),
+            seat: None,
+        },
     }
 }
 

@@ -1,7 +1,6 @@
 use Rattle.std.proofs.Common.{◌∙◌, ◌++◌, ◌∷◌, [], length, take, sym, subst, ap, arith}
 use Rattle.std.specs.Vec.Iter.{into_iter_items}
-use Rattle.shared_lookup.specs.Servings.{EachHasOutcome}
-use Rattle.shared_lookup.specs.Threads.{AreChanging}
+use Rattle.shared_lookup.specs.Threads.{AreAllMade, AreChanging}
 use Rattle.shared_lookup.proofs.ThreadLemmas.{made_more, next_yielded, one_yielded, room_left}
 use Rattle.shared_lookup.proofs.lists.join_writers.Goals as goal
 
@@ -15,10 +14,10 @@ loop-writer-preserved g c =
     let left = into_iter_items c.loop-writer.writer-iterator in
     let step = c.in-Some.ensures.steps.0 in
     let all = next_yielded c.args.writers.items done left rest w i.gone step in
-    let more = made_more g.W.Changer.catalog c.args.changer.now changes done rest w c.loop-writer.outcomes.items c.join_writer.result (subst (AreChanging c.args.changer.now changes) all c.requires.changing) i.made c.join_writer.ensures in
+    let more = made_more g.W.Changer.table g.W.Changer.opened g.W.Changer.catalog c.args.changer.now changes done rest w c.loop-writer.made.items c.join_writer.result (subst (AreChanging c.args.changer.now changes) all c.requires.changing) i.made c.join_writer.ensures in
     record {
       gone = one_yielded c.args.writers.items done left rest w i.gone step;
-      made = subst (EachHasOutcome (g.W.Changer.catalog c.args.changer.now) (take (length (done ++ w ∷ [])) changes)) (sym c.push_reserved.ensures.items) more;
+      made = subst (AreAllMade (g.W.Changer.table c.args.changer.now) (g.W.Changer.opened c.args.changer.now) (g.W.Changer.catalog c.args.changer.now) (take (length (done ++ w ∷ [])) changes)) (sym c.push_reserved.ensures.items) more;
       long = let l = i.long in let k = c.push_reserved.ensures.capacity in omega (arith, l, k);
     }
 
@@ -30,4 +29,4 @@ push_reserved-requires g c =
     let w = c.in-Some.writer in
     let left = into_iter_items c.loop-writer.writer-iterator in
     let all = next_yielded c.args.writers.items done left rest w i.gone c.in-Some.ensures.steps.0 in
-    room_left c.args.changes.now done rest w c.loop-writer.outcomes (ap length (sym all) ∙ c.requires.changing.same) i.made.same i.long
+    room_left c.args.changes.now done rest w c.loop-writer.made (ap length (sym all) ∙ c.requires.changing.same) i.made.same i.long

@@ -1,4 +1,6 @@
-use Rattle.std.proofs.Common.{◌∙◌, ◌++◌, ◌∷◌, [], length, take, sym, subst, ap, arith}
+use Rattle.std.proofs.Common.{◌≡◌, Some, ◌∙◌, ◌++◌, ◌∷◌, [], length, take, sym, subst, ap, arith}
+use Rattle.std.proofs.lemmas.List.Elements.{All-pop}
+use Rattle.latch_table.specs.Readers.{ReaderState}
 use Rattle.std.specs.Vec.Iter.{into_iter_items}
 use Rattle.shared_lookup.specs.Threads.{AreChanging, HaveRoom}
 use Rattle.shared_lookup.proofs.ThreadLemmas.{changing_more, next_yielded, one_yielded, room_left}
@@ -20,6 +22,7 @@ loop-list-preserved g c =
     record {
       gone = one_yielded c.args.lists.items done left rest l i.gone step;
       started = subst (AreChanging c.args.changer.now (take (length (done ++ l ∷ [])) changes)) (sym c.push_reserved.ensures.items) more;
+      seats = (All-pop (λ (r : ReaderState). g.W.Changer.table c.args.changer.now ≡ Some r.place) c.loop-list.seats.items c.pop-seat.new.self.items c.pop-seat.result c.pop-seat.ensures.items i.seats).0;
       long = let l = i.long in let k = c.push_reserved.ensures.capacity in omega (arith, l, k);
     }
 
@@ -32,3 +35,7 @@ push_reserved-requires g c =
     let left = into_iter_items c.loop-list.list-iterator in
     let all = next_yielded c.args.lists.items done left rest l i.gone c.in-Some.ensures.steps.0 in
     room_left c.args.changes.now done rest l c.loop-list.writers (ap length (sym all) ∙ c.requires.room.same) i.started.same i.long
+
+pub start_writer-requires-clause-beside : goal.start_writer-requires-clause-beside
+start_writer-requires-clause-beside g c κs lives =
+    (All-pop (λ (r : ReaderState). g.W.Changer.table c.args.changer.now ≡ Some r.place) c.loop-list.seats.items c.pop-seat.new.self.items c.pop-seat.result c.pop-seat.ensures.items c.loop-list.invariant.seats).1

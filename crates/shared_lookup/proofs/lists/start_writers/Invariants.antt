@@ -1,5 +1,5 @@
-use Rattle.std.proofs.Common.{◌≡◌, ◌≤◌, ◌++◌, length, take}
-use Rattle.std.specs.Prelude.{vec_capacity}
+use Rattle.std.proofs.Common.{◌≡◌, ◌≤◌, ◌++◌, length, take, Some}
+use Rattle.std.specs.Prelude.{All, vec_capacity}
 use Rattle.std.specs.Vec.Iter.{into_iter_items}
 use Rattle.shared_lookup.specs.Threads.{AreChanging}
 use Rattle.shared_lookup.proofs.lists.start_writers.Given as goal
@@ -9,5 +9,6 @@ invariant-loop-list g l =
     record {
       gone : l.fn.lists.items ≡ l.yielded ++ into_iter_items l.list-iterator;
       started : AreChanging l.changer (take (length l.yielded) l.changes) l.writers.items;
+      seats : All (λ r. g.W.Changer.table l.changer ≡ Some r.place) l.seats.items;
       long : length l.changes ≤ vec_capacity l.writers;
     }
