@@ -20,18 +20,19 @@ use Rattle.engines.specs.RunInputs.{RunInputs, run_inputs_after, run_inputs_of, 
 use Rattle.engines.specs.Runs.{AnswersLines, AnswersRun, FitsRun, IsRun, IsRunOf, IsServed, MayRun, TellsServed}
 use Rattle.engines.specs.Assignments.{IsAssigned}
 use Rattle.engines.specs.declared.assignments.Assignments.{Assignments}
+use Rattle.shared_lookup.specs.Followings.{FollowServed}
 use Rattle.shared_lookup.specs.Readers.{EachHasLooked}
 use Rattle.shared_lookup.specs.Servings.{EachHasOutcome, EachIsAnswered, EachIsFoundIn, IsWrongCount, MayServe}
 use Rattle.shared_lookup.specs.declared.served.Served.{Served}
 
 -- what came back of the lists of these lines is told
-module _ {W : Type 0} (contents : W → Option (List ℕ)) (c : CatalogEntries) (readers : ℕ) (lines : List ScriptLine) (a : Assignments) (assigned : IsAssigned c readers lines a) (s : Served) (may : MayServe c a.keys.items) (outcomes : EachHasOutcome c a.changes.items s.changes.items) (answers : EachIsAnswered a.keys.items s.answers.items s.ended.items) (found : EachIsFoundIn s.log.items s.answers.items) (looked : EachHasLooked s.log.items s.answers.items s.readers.items) (wrong : IsWrongCount c a.changes.items s.changes.items s.answers.items s.log.items s.wrong) (w w' : Counted W) where
+module _ {W : Type 0} (contents : W → Option (List ℕ)) (c : CatalogEntries) (readers : ℕ) (lines : List ScriptLine) (a : Assignments) (assigned : IsAssigned c readers lines a) (s : Served) (may : MayServe c a.keys.items) (outcomes : EachHasOutcome c a.changes.items s.changes.items) (follow : FollowServed c s.log.items a.changes.items s.changes.items) (answers : EachIsAnswered a.keys.items s.answers.items s.ended.items) (found : EachIsFoundIn s.log.items s.answers.items) (looked : EachHasLooked s.log.items s.answers.items s.readers.items) (wrong : IsWrongCount c a.changes.items s.changes.items s.answers.items s.log.items s.wrong) (w w' : Counted W) where
   may_run : MayRun c readers
   may_run = (may.0, subst (λ n. 0 < n) assigned.keys.same may.1, subst (λ n. n ≤ most_readers) assigned.keys.same may.2)
 
   pub served_answered : (r : Result ℕ Fault) → TellsServed contents c a.names.items s w w' r → AnswersLines contents c readers lines w w' r
   served_answered (Ok status) h =
-      let served : IsServed c a s = record { outcomes = outcomes; answers = answers; found = found; looked = looked; whole = h.1; wrong = wrong } in
+      let served : IsServed c a s = record { outcomes = outcomes; follow = follow; answers = answers; found = found; looked = looked; whole = h.1; wrong = wrong } in
       (h.0, may_run, (a, assigned, (s, served, h.2, h.3)))
   served_answered (Err (Refused refusal.OutOfMemory)) h = h.0
   served_answered (Err (Refused refusal.BadCapacity)) h = absurd h

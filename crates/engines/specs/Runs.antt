@@ -11,6 +11,7 @@ use Rattle.run_files.specs.declared.scripts.ScriptLine.{ScriptLine}
 use Rattle.modules.specs.Entries.{CatalogEntries}
 use Rattle.modules.specs.Placed.{are_few}
 use Rattle.order_laws.specs.declared.refusals.Refusal.TheVariants as refusal
+use Rattle.shared_lookup.specs.Followings.{FollowServed}
 use Rattle.shared_lookup.specs.Readers.{EachHasLooked}
 use Rattle.shared_lookup.specs.Servings.{EachHasOutcome, EachIsAnswered, EachIsFoundIn, IsWrongCount}
 use Rattle.shared_lookup.specs.declared.served.Served.{Served}
@@ -31,11 +32,12 @@ use Rattle.engines.specs.declared.runs.RunReaders.{RunReaders}
 abbrev pub MayRun : CatalogEntries → ℕ → Type 0
 MayRun c readers = HasFewRegions c × (0 < readers) × (readers ≤ most_readers)
 
--- What the writers and readers came back with for what they were assigned. No list of addresses
--- ended early, and each answer is what its address lies in at its generation, for which its reader
--- looked.
+-- What the writers and readers came back with for what they were assigned. The changes of each
+-- writer follow the log; no list of addresses ended early; and each answer is what its address lies
+-- in at its generation, for which its reader looked.
 pub record IsServed (c : CatalogEntries) (a : Assignments) (s : Served) : Type 0 where
   pub outcomes : EachHasOutcome c a.changes.items s.changes.items
+  pub follow : FollowServed c s.log.items a.changes.items s.changes.items
   pub answers : EachIsAnswered a.keys.items s.answers.items s.ended.items
   pub found : EachIsFoundIn s.log.items s.answers.items
   pub looked : EachHasLooked s.log.items s.answers.items s.readers.items
