@@ -111,6 +111,19 @@ run --modules "$work/own" --kallsyms /dev/null --regions "$work/own.regions" --r
 notes=
 grep -v '^[0-9]' "$work/out" | cmp -s - "$work/own.expected" || fail "changes of own modules: other lines"
 
+# a module that is loaded is found, in one run of twenty at least: each has a writer with one change
+# and two readers with 5000 addresses
+{ echo 'load 1 ext4'; for i in {1..5000}; do echo 'look 1 0xffffffffc0000018'; echo 'look 2 0xffffffffc0000018'; done; } >"$work/found.script"
+found=0
+for turn in {1..20}; do
+    run "${basic[@]}" --readers 2 "$work/found.script"
+    if grep -q -- '^[12] 0xffffffffc0000018 -> ext4_a+0x8/0x30 \[ext4\] gen 1$' "$work/out"; then
+        found=1
+        break
+    fi
+done
+[ $found = 1 ] || fail "a module that is loaded is never found"
+
 # the names of changes and the addresses of lookups come in the order of the script, by writer and
 # by reader
 printf 'unload 8 b\nlook 2 7\nunload 1 a\n\nload 8 c\n# last\nlook 1 0x8\nlook 2 9' >"$work/order"
