@@ -36,5 +36,7 @@ pub mod LogPlainLemmas
 pub mod LogPassLemmas
 -- names that a log has itself behind its addresses
 pub mod LogNameLemmas
+-- symbols that a search by address leaves out
+pub mod AliasLemmas
 -- names of a log that are counted while it is read
 pub mod LogTallyLemmas

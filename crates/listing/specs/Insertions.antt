@@ -12,7 +12,7 @@ use Rattle.listing.specs.declared.insertions.LogAnswers.{LogAnswers}
 
 -- how the engine answers
 abbrev pub answering_of : LogAnswers → Answering
-answering_of a = answered_by a.index.now a.rule a.is_narrow
+answering_of a = answered_by a.index a.rule a.is_narrow
 
 -- these bytes may come behind those that are there: none behind the last
 abbrev pub MayCome : Bool → List ℕ → Type 0

@@ -31,6 +31,8 @@ pub mod AnnotatedLogs
 pub mod LogNames
 -- what is kept of the bytes before a place of a log
 pub mod LogContexts
+-- what is known of the order of the symbols that a log is answered from
+pub mod LogIndexes
 -- what is inserted while a log is read
 pub mod Insertions
 -- what is kept of the names of a log while it is read

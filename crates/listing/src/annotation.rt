@@ -21,6 +21,7 @@ ghost use Rattle.listing.specs.LogNames.{no_names};
 use crate::LogRule;
 use crate::insertions::LogAnswers;
 use crate::log_contexts::Context;
+use crate::log_index::LogIndex;
 use crate::log_names::LogNames;
 use crate::log_tallies::Tally;
 use modules::IndexedCatalog;
@@ -161,7 +162,7 @@ pub fn annotate<R: Read, W: Write>(
 {
     let answers = LogAnswers {
         alloc,
-        index,
+        index: LogIndex::new(index),
         rule,
         is_narrow,
     };

@@ -10,10 +10,10 @@ ghost use Rattle.listing.specs.LogContexts.{kept_in};
 ghost use Rattle.listing.specs.Insertions.{IsInsertionAt, IsPlaceOf, answering_of};
 
 use crate::log_contexts::Context;
+use crate::log_index::LogIndex;
 use crate::log_places::Taking;
 use crate::log_words::{address_of_word, has_prefix, is_closer, is_word_byte};
 use crate::{AddressRule, LogRule, write_answer_by};
-use modules::IndexedCatalog;
 use order_laws::Item;
 use std::alloc::{AllocError, Global};
 use std::io;
@@ -24,7 +24,7 @@ use texts::{Counted, put};
 #[derive(Drop)]
 pub(crate) struct LogAnswers<'i, 'c> {
     pub(crate) alloc: Global,
-    pub(crate) index: &'i IndexedCatalog<'c>,
+    pub(crate) index: LogIndex<'i, 'c>,
     pub(crate) rule: LogRule,
     /// Whether the log is of a 32-bit kernel.
     pub(crate) is_narrow: bool,
@@ -114,7 +114,7 @@ impl<'i, 'c> LogAnswers<'i, 'c> {
     /// The region that holds the address that the rule looks up.
     pub(crate) fn item_of(&self, rule: AddressRule, addr: u64) -> Option<Item>
         ensures { result
-            ≡ option_and_then (item_of_address self.now.index.now) (place_of rule addr) }
+            ≡ option_and_then (item_of_address self.now.index) (place_of rule addr) }
     {
         self.index.find(rule.place_of(addr)?)
     }
@@ -128,7 +128,7 @@ impl<'i, 'c> LogAnswers<'i, 'c> {
         addr: u64,
     ) -> io::Result<()>
         ensures { Wrote W.contents writer.old writer.new result
-            (codes " " ++ answer_text_by self.now.index.now rule (Some item) addr) }
+            (codes " " ++ answer_text_by self.now.index rule (Some item) addr) }
     {
         put(writer, b" ")?;
         write_answer_by(writer, self.index.catalog(), rule, Some(item), addr)

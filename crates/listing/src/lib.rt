@@ -12,6 +12,7 @@ mod laws;
 mod listing_notes;
 mod log_blocks;
 mod log_contexts;
+mod log_index;
 mod log_names;
 mod log_places;
 mod log_tallies;

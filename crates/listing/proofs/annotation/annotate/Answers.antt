@@ -17,7 +17,7 @@ returns-then-count-eq0 g c =
     c.in-Ok.ensures.counted
     (subst (λ (n : ℕ). Consumes (g.R.Read.remaining (device_of c.loop-turn.reader)) (g.R.Read.remaining (device_of c.read.new.self)) (take n c.read.new.buf)) c.if-count-eq0.true c.in-Ok.ensures.bytes.0)
     (c.in-Ok.ensures.bytes.1 c.if-count-eq0.true (omega (arith, c.loop-turn.auto.block, c.as_mut_slice-block.ensures.len, c.in_ok-resize.ensures.len, c.read.auto.buf)))
-    c.put_rest.ensures
+    (rw c.new.ensures at c.put_rest.ensures)
 
 pub returns-in_err-put_more : goal.returns-in_err-put_more
 returns-in_err-put_more g c =
@@ -30,7 +30,7 @@ returns-in_err-put_more g c =
 pub loop-turn-preserved : goal.loop-turn-preserved
 loop-turn-preserved g c =
     one_more g.R.Read.remaining g.W.Write.contents (answered_by c.args.index.now c.args.rule c.args.is_narrow) c.args.reader.now c.args.writer.now c.loop-turn.reader c.read.new.self c.loop-turn.writer c.put_more.new.writer c.loop-turn.annotator c.put_more.new.annotator c.loop-turn.turn
-    _ c.in_ok-put_more.field-0 (omega (arith, c.if-count-eq0.false, c.in-Ok.ensures.bound, length-take c.in-Ok.count c.read.new.buf)) c.loop-turn.invariant c.in-Ok.ensures.counted c.in-Ok.ensures.bytes.0 c.in_ok-put_more.ensures
+    _ c.in_ok-put_more.field-0 (omega (arith, c.if-count-eq0.false, c.in-Ok.ensures.bound, length-take c.in-Ok.count c.read.new.buf)) c.loop-turn.invariant c.in-Ok.ensures.counted c.in-Ok.ensures.bytes.0 (rw c.new.ensures at c.in_ok-put_more.ensures)
 
 pub returns : goal.returns
 returns g c = too_long g.R.Read.remaining g.W.Write.contents (answered_by c.args.index.now c.args.rule c.args.is_narrow) c.args.reader.now c.args.writer.now c.loop-turn.reader c.loop-turn.writer c.loop-turn.annotator c.loop-turn.turn c.loop-turn.invariant (omega (arith, c.loop-turn-test.false))
