@@ -1,5 +1,5 @@
 //! What is said at the end of a run: what is noted of its listings, or why it failed.
-ghost use Rattle.std.specs.Prelude.{◌≡◌, ◌++◌, [], None, option_map};
+ghost use Rattle.std.specs.Prelude.{◌≡◌, ◌++◌, [], None};
 ghost use Rattle.std.specs.Option.{option_copied};
 ghost use Rattle.texts.specs.Exact.{Wrote};
 ghost use Rattle.latchsym.specs.Reasons.{reason_text};
@@ -151,7 +151,7 @@ pub fn report_before_job<W: Write>(fault: &Fault, writer: &mut Counted<W>) -> u8
 /// nobody to tell.
 fn report_fault<W: Write>(fault: &Fault, file: &[u8], words: Option<&str>, writer: &mut Counted<W>)
     ensures { IsReported W.contents writer.old writer.new
-        (fault_text file.now (option_map (λ w. w.now) words) fault.now) }
+        (fault_text file.now (option_copied words.entry) fault.now) }
 {
     let _ = put_fault(fault, file, words, writer);
 }
@@ -173,7 +173,7 @@ fn put_fault<W: Write>(
     writer: &mut Counted<W>,
 ) -> io::Result<()>
     ensures { Wrote W.contents writer.old writer.new result
-        (fault_text file.now (option_map (λ w. w.now) words) fault.now) }
+        (fault_text file.now (option_copied words.entry) fault.now) }
 {
     put(writer, b"latchsym: ")?;
     put_message(fault, file, words, writer)
@@ -186,7 +186,7 @@ fn put_message<W: Write>(
     writer: &mut Counted<W>,
 ) -> io::Result<()>
     ensures { Wrote W.contents writer.old writer.new result
-        (message_text file.now (option_map (λ w. w.now) words) fault.now) }
+        (message_text file.now (option_copied words.entry) fault.now) }
 {
     match fault {
         Fault::Refused(refusal) => put_refused(writer, *refusal),
@@ -217,7 +217,7 @@ fn put_of_file<W: Write>(writer: &mut Counted<W>, file: &[u8], message: &[u8]) -
 /// Writes that a file cannot be read, and what the system says of it.
 fn put_unread<W: Write>(writer: &mut Counted<W>, file: &[u8], words: Option<&str>) -> io::Result<()>
     ensures { Wrote W.contents writer.old writer.new result
-        (unread_text file.now (option_map (λ w. w.now) words)) }
+        (unread_text file.now (option_copied words.entry)) }
 {
     put(writer, file)?;
     put(writer, b": cannot be read")?;
@@ -228,7 +228,7 @@ fn put_unread<W: Write>(writer: &mut Counted<W>, file: &[u8], words: Option<&str
 /// Writes that nothing can be written, and what the system says of it.
 fn put_unwritten<W: Write>(writer: &mut Counted<W>, words: Option<&str>) -> io::Result<()>
     ensures { Wrote W.contents writer.old writer.new result
-        (unwritten_text (option_map (λ w. w.now) words)) }
+        (unwritten_text (option_copied words.entry)) }
 {
     put(writer, b"cannot write")?;
     put_reason(writer, words)?;
@@ -238,7 +238,7 @@ fn put_unwritten<W: Write>(writer: &mut Counted<W>, words: Option<&str>) -> io::
 /// Writes what the system says, in brackets, where it says something.
 fn put_reason<W: Write>(writer: &mut Counted<W>, words: Option<&str>) -> io::Result<()>
     ensures { Wrote W.contents writer.old writer.new result
-        (reason_text (option_map (λ w. w.now) words)) }
+        (reason_text (option_copied words.entry)) }
 {
     let Some(words) = words else {
         return Ok(());
