@@ -328,7 +328,7 @@ uint32_t latchsym_catalog_sizes(struct latchsym_catalog *, struct latchsym_sizes
 
 /* Writes the rows of the catalog into these rooms, and a view of them. The rooms have as many rows
  * as latchsym_catalog_sizes tells. 0, LATCHSYM_BAD_LENGTH where they have not, or
- * LATCHSYM_BAD_HANDLE; each but 0 writes no view. Takes no memory. */
+ * LATCHSYM_BAD_HANDLE; each but 0 writes nothing. Takes no memory. */
 uint32_t latchsym_catalog_flatten_nonnull(struct latchsym_catalog *,
                                           struct latchsym_view_region *regions,
                                           size_t regions_len,
@@ -346,8 +346,12 @@ static inline uint32_t latchsym_catalog_flatten(struct latchsym_catalog *catalog
     static struct latchsym_view_region no_region = { 0, 0, 0, LATCHSYM_PLACE_INIT, &no_symbol, 0,
                                                      &no_address, 0 };
     struct latchsym_view view = { &no_region, 0 };
-    uint32_t answer;
+    struct latchsym_sizes sizes = { 0, 0 };
+    uint32_t answer = latchsym_catalog_sizes(catalog, &sizes);
     size_t i;
+    if (answer) return answer == LATCHSYM_OUT_OF_MEMORY ? (uint32_t)LATCHSYM_BAD_LENGTH : answer;
+    if (sizes.regions != regions_len || sizes.symbols != symbols_len || sizes.symbols != addresses_len)
+        return LATCHSYM_BAD_LENGTH;
     for (i = 0; i < regions_len; i++) regions[i] = no_region;
     for (i = 0; i < symbols_len; i++) symbols[i] = no_symbol;
     answer = latchsym_catalog_flatten_nonnull(
