@@ -4,7 +4,7 @@
 # header. Formats the pages without a warning and runs the examples of the program's and of README.md;
 # completes words in bash, and in fish where that is installed; and has zsh read its completion where
 # it is. Follows the links of all pages, and has scripts say so where there is no kit. Needs man and
-# groff (Debian has them in man-db and groff-base).
+# groff (Debian has them in man-db and groff-base), and for the examples gcc, binutils and gzip.
 set -euo pipefail
 . "$(dirname "$0")/program.sh"
 for tool in man groff; do
