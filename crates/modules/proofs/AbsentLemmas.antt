@@ -1,16 +1,7 @@
 -- A number above that of the regions is no module's.
-use Rattle.std.proofs.Common.{◌≡◌, ℕ, suc, ◌<◌, ◌≤◌, true, List, [], ◌∷◌, ◌++◌, length, flat_map, Option, Some, None, arith, length-append}
-use Rattle.std.specs.Prelude.{All}
-use Rattle.std.specs.List.{list_any}
-use Rattle.std.specs.Option.{option_to_list}
-use Rattle.std.proofs.lemmas.List.Elements.{All-head, All-tail}
-use Rattle.std.proofs.lemmas.Option.{slice_get_past}
-use Rattle.modules.specs.Building.{placed_module_of}
-use Rattle.modules.specs.Catalogs.{module_of, regions_of, IsNoneAbsent, IsSoundCatalog}
-use Rattle.modules.specs.Entries.{CatalogEntries, ModuleEntry}
-use Rattle.modules.specs.Parts.{is_core}
-use Rattle.modules.specs.Placed.{IsPlaced}
-use Rattle.modules.specs.declared.lines.Part.{Part}
+use Rattle.modules.proofs.Words.{◌≡◌, ℕ, suc, ◌<◌, ◌≤◌, true, List, [], ◌∷◌, ◌++◌, length, flat_map, Option, Some, None, arith, length-append, All, list_any, option_to_list}
+use Rattle.modules.proofs.Lemmas.{All-head, All-tail, slice_get_past}
+use Rattle.modules.proofs.Definitions.{placed_module_of, module_of, regions_of, IsNoneAbsent, IsSoundCatalog, CatalogEntries, ModuleEntry, is_core, IsPlaced, Part}
 
 abbrev IsPlacedEntry : ModuleEntry → Type 0
 IsPlacedEntry m = IsPlaced (placed_module_of m)

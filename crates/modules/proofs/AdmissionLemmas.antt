@@ -1,17 +1,8 @@
 -- One more module.
-use Rattle.std.proofs.Common.{◌≡◌, ℕ, ◌+◌, Bool, true, false, ◌&&◌, cond, List, [], ◌∷◌, ◌++◌, length, refl, sym, ap, ◌∙◌, arith, length-append, add-one, take, drop, drop-cons, get_or, ◌<◌}
-use Rattle.std.specs.List.{list_any, list_all}
-use Rattle.std.specs.Str.{bytes_eq}
-use Rattle.std.proofs.lemmas.Bool.{and_from, and_parts}
-use Rattle.std.proofs.lemmas.List.Folds.{list_all-append, list_all_more}
-use Rattle.facts.proofs.Bools.{and_rotate}
-use Rattle.facts.proofs.Tests.{list_all-each_agree}
-use Rattle.modules.specs.Accepted.{Accepted, after_module, names_of, taken_regions}
-use Rattle.modules.specs.Placed.{PlacedModule}
-use Rattle.modules.specs.Regions.{are_beside, is_apart, lie_apart}
-use Rattle.modules.specs.Admissions.{admission_view, IsAdmission}
+use Rattle.modules.proofs.Words.{◌≡◌, ℕ, ◌+◌, Bool, true, false, ◌&&◌, cond, List, [], ◌∷◌, ◌++◌, length, refl, sym, ap, ◌∙◌, arith, length-append, add-one, take, drop, drop-cons, get_or, ◌<◌, list_any, list_all, bytes_eq}
+use Rattle.modules.proofs.Lemmas.{and_from, and_parts, list_all-append, list_all_more, and_rotate, list_all-each_agree}
+use Rattle.modules.proofs.Definitions.{Accepted, after_module, names_of, taken_regions, PlacedModule, are_beside, is_apart, lie_apart, admission_view, IsAdmission, Admission}
 use Rattle.modules.proofs.SoundnessLemmas.{taken_more, turned}
-use Rattle.modules.specs.declared.admission.Admission.{Admission}
 
 pub after_double : (a : Accepted) (m : PlacedModule) → list_any (bytes_eq m.name) (names_of a.modules) ≡ true → after_module a m ≡ record a { double = a.double + 1 }
 after_double a m h = rw h

@@ -1,22 +1,10 @@
 -- One answer for all addresses that a found symbol reaches to.
-use Rattle.std.proofs.Common.{◌≡◌, ℕ, ◌+◌, ◌-◌, ◌<◌, ◌≤◌, ◌⊎◌, inl, inr, ⊎_elim, ◌&&◌, ◌||◌, nat_lt, nat_le, List, get_or, Option, None, Some, refl, sym, ap, subst, ◌∙◌, arith}
-use Rattle.std.specs.Prelude.{All, MatchOption}
-use Rattle.std.specs.List.{list_all}
-use Rattle.std.specs.Option.{option_and_then, option_map}
-use Rattle.std.proofs.lemmas.Bool.{le-leb, le-ltb, lt-leb, lt-ltb}
-use Rattle.facts.proofs.Tests.{find-agree, list_all-agree}
-use Rattle.order_laws.specs.declared.items.Item.{Item}
-use Rattle.order_laws.specs.Orders.{half_open}
-use Rattle.order_laws.specs.Tables.{IsLook}
-use Rattle.order_laws.proofs.TableLemmas.{look_is}
+use Rattle.modules.proofs.Words.{◌≡◌, ℕ, ◌+◌, ◌-◌, ◌<◌, ◌≤◌, ◌⊎◌, inl, inr, ⊎_elim, ◌&&◌, ◌||◌, nat_lt, nat_le, List, get_or, Option, None, Some, refl, sym, ap, subst, ◌∙◌, arith, All, MatchOption, list_all, option_and_then, option_map}
+use Rattle.modules.proofs.Lemmas.{le-leb, le-ltb, lt-leb, lt-ltb, find-agree, list_all-agree, look_is}
+use Rattle.modules.proofs.Definitions.{Item, half_open, IsLook, is_nearest, symbol_below, IsSoundCatalog, module_of, CatalogEntries, ModuleEntry, SymbolEntry, Found, IsFound, ReachesUpTo, found_in, symbol_at, symbol_found_at, symbols_from, items_of, item_of_address}
 use Rattle.modules.proofs.ApartItemLemmas.{some_found}
 use Rattle.modules.proofs.FindLemmas.{found_by_place}
 use Rattle.modules.proofs.NearestLemmas.{found}
-use Rattle.modules.specs.Around.{is_nearest, symbol_below}
-use Rattle.modules.specs.Catalogs.{IsSoundCatalog, module_of}
-use Rattle.modules.specs.Entries.{CatalogEntries, ModuleEntry, SymbolEntry}
-use Rattle.modules.specs.Found.{Found, IsFound, ReachesUpTo, found_in, symbol_at, symbol_found_at, symbols_from}
-use Rattle.modules.specs.Items.{items_of, item_of_address}
 
 le_same : (low x y a : ℕ) → low ≤ x → low ≤ y → (a ≤ low) ⊎ (x < a) → (a ≤ low) ⊎ (y < a) → nat_le a x ≡ nat_le a y
 le_same low x y a to_x to_y (inl le) other = le-leb a x (omega arith) ∙ sym (le-leb a y (omega arith))

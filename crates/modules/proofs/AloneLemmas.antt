@@ -1,29 +1,7 @@
 -- The modules of symbols alone lie apart, and have distinct names.
-use Rattle.std.proofs.Common.{◌≡◌, ◌≢◌, ℕ, ◌-◌, ◌^◌, ◌<◌, ◌≤◌, Bool, true, false, ◌&&◌, ◌||◌, not, nat_le, nat_lt, cond, List, [], ◌∷◌, ◌++◌, length, get_or, map, Option, Some, None, refl, sym, ap, subst, ◌∙◌, ⊎_elim, arith}
-use Rattle.std.specs.Prelude.{All, filter, find, fold}
-use Rattle.std.specs.Cmp.{first_so, second_so}
-use Rattle.std.specs.List.{AllPairs, flat_map, list_any}
-use Rattle.std.specs.Option.{option_and_then, option_to_list}
-use Rattle.std.specs.Str.{bytes_eq}
-use Rattle.std.proofs.lemmas.Bool.{and_parts, cases_lt, le-leb, leb-false, leb-true, ltb-true, or_cases, or_left, or_parts}
-use Rattle.std.proofs.lemmas.List.{get_or-map, length-map}
-use Rattle.std.proofs.lemmas.List.Elements.{All-append, All-contains, All-filter, All-head, All-nil, All-cons, All-push, All-tail, filter_passes}
-use Rattle.std.proofs.lemmas.List.Folds.{list_any_at}
-use Rattle.std.proofs.lemmas.List.Sums.{AllPass-from_list_all}
-use Rattle.facts.proofs.Pairs.{AllPairs-few}
-use Rattle.facts.proofs.Tests.{find-has, find-passes}
-use Rattle.modules.specs.Accepted.{Accepted, names_of}
-use Rattle.modules.specs.FromSymbols.{HasItsRegions, IsFromSymbols, is_kept_line, owner_names, with_name}
-use Rattle.modules.specs.Kept.{AreDistinctNames, is_built_in, lies_in}
-use Rattle.modules.specs.LineMarks.{HaveFirstLines}
-use Rattle.modules.specs.Lines.{kernel_regions}
-use Rattle.modules.specs.Listed.{BoundNames, ListedSymbol}
-use Rattle.modules.specs.Owners.{goes_on, is_in_page, is_nearest_line, is_outside, module_of_address, post_below, posts}
-use Rattle.modules.specs.Parts.{is_core}
-use Rattle.modules.specs.Placed.{IsPlaced, PlacedModule}
-use Rattle.modules.specs.PlacedModules.{AreSoundModules}
-use Rattle.modules.specs.Regions.{AreApart, holds, is_apart, lies_in_any}
-use Rattle.modules.specs.declared.lines.Part.TheVariants.{Core}
+use Rattle.modules.proofs.Words.{◌≡◌, ◌≢◌, ℕ, ◌-◌, ◌^◌, ◌<◌, ◌≤◌, Bool, true, false, ◌&&◌, ◌||◌, not, nat_le, nat_lt, cond, List, [], ◌∷◌, ◌++◌, length, get_or, map, Option, Some, None, refl, sym, ap, subst, ◌∙◌, ⊎_elim, arith, All, filter, find, fold, first_so, second_so, AllPairs, flat_map, list_any, option_and_then, option_to_list, bytes_eq}
+use Rattle.modules.proofs.Lemmas.{and_parts, cases_lt, le-leb, leb-false, leb-true, ltb-true, or_cases, or_left, or_parts, get_or-map, length-map, All-append, All-contains, All-filter, All-head, All-nil, All-cons, All-push, All-tail, filter_passes, list_any_at, AllPass-from_list_all, AllPairs-few, find-has, find-passes}
+use Rattle.modules.proofs.Definitions.{Accepted, names_of, HasItsRegions, IsFromSymbols, is_kept_line, owner_names, with_name, AreDistinctNames, is_built_in, lies_in, HaveFirstLines, kernel_regions, BoundNames, ListedSymbol, goes_on, is_in_page, is_nearest_line, is_outside, module_of_address, post_below, posts, is_core, IsPlaced, PlacedModule, AreSoundModules, AreApart, holds, is_apart, lies_in_any, Core}
 use Rattle.modules.proofs.KeptOrderLemmas.{first_lines}
 use Rattle.modules.proofs.MarkedModuleLemmas.{pairs_cons, pairs_first, pairs_rest}
 use Rattle.modules.proofs.OwnLineLemmas.{is_of}

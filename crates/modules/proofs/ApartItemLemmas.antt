@@ -1,21 +1,7 @@
 -- The items of a catalog have addresses, and two of them lie apart, so that one at most has an address.
-use Rattle.std.proofs.Common.{◌≡◌, ℕ, ◌<◌, ◌≤◌, ◌⊎◌, inl, inr, ⊎_elim, true, length, map, get_or, Option, Some, None, refl, sym, ap, subst, ◌∙◌, arith}
-use Rattle.std.specs.Prelude.{Contains, All}
-use Rattle.std.specs.List.{AllPairs}
-use Rattle.std.proofs.lemmas.Bool.{cases_lt}
-use Rattle.std.proofs.lemmas.Bool.Decides.{nat_tests}
-use Rattle.std.proofs.lemmas.List.{get_or_default, length-map}
-use Rattle.std.proofs.lemmas.List.Elements.{All-contains}
-use Rattle.facts.proofs.Members.{Contains-map}
-use Rattle.order_laws.specs.declared.items.Item.{Item}
-use Rattle.order_laws.specs.Orders.{half_open}
-use Rattle.order_laws.specs.Tables.{IsLook}
-use Rattle.facts.proofs.Lists.{get_or-map_default}
-use Rattle.order_laws.proofs.HalfOpenLemmas.{begins, ends, equal_inside}
-use Rattle.modules.specs.Catalogs.{IsSoundCatalog}
-use Rattle.modules.specs.Entries.{CatalogEntries}
-use Rattle.modules.specs.Items.{items_of}
-use Rattle.modules.specs.Regions.{is_apart}
+use Rattle.modules.proofs.Words.{◌≡◌, ℕ, ◌<◌, ◌≤◌, ◌⊎◌, inl, inr, ⊎_elim, true, length, map, get_or, Option, Some, None, refl, sym, ap, subst, ◌∙◌, arith, Contains, All, AllPairs}
+use Rattle.modules.proofs.Lemmas.{cases_lt, nat_tests, get_or_default, length-map, All-contains, Contains-map, get_or-map_default, begins, ends, equal_inside}
+use Rattle.modules.proofs.Definitions.{Item, half_open, IsLook, IsSoundCatalog, CatalogEntries, items_of, is_apart}
 use Rattle.modules.proofs.ItemLemmas.{all_regions, region_of}
 
 beside : (x y : Item) → is_apart (region_of x) (region_of y) ≡ true → (x.b ≤ y.a) ⊎ (y.b ≤ x.a)

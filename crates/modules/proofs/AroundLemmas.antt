@@ -1,25 +1,7 @@
 -- The symbol below an address and the address above it.
-use Rattle.std.proofs.Common.{◌≡◌, ℕ, ◌-◌, ◌<◌, ◌≤◌, true, ◌&&◌, ◌||◌, nat_lt, nat_le, List, get_or, Some, None, Option, refl, ap, ◌∙◌, false, arith}
-use Rattle.std.specs.Prelude.{All, find, unwrap_or}
-use Rattle.std.specs.List.{list_all}
-use Rattle.std.specs.Option.{option_map}
-use Rattle.std.proofs.lemmas.List.Sums.{AllPass-from_list_all}
-use Rattle.std.proofs.lemmas.Bool.{leb-true, ltb-true, le-leb, lt-ltb}
-use Rattle.std.specs.Cmp.{first_so, second_so}
-use Rattle.facts.proofs.Numbers.{le_or_past_below, least_above_below, le_unless_past, least_above_past}
-use Rattle.facts.proofs.Tests.{find-agree, find-passes, list_all-agree, find-has}
-use Rattle.modules.specs.Around.{address_above, is_nearest, is_next, symbol_below}
-use Rattle.modules.specs.Entries.{SymbolEntry}
-use Rattle.std.proofs.Math.Nat.{le_antisymm}
-use Rattle.std.proofs.Common.{inl, inr, ⊎_elim}
-use Rattle.std.specs.List.{list_any}
-use Rattle.std.proofs.lemmas.Bool.{cases_lt, and_from}
-use Rattle.std.proofs.lemmas.List.Elements.{All-contains}
-use Rattle.std.proofs.lemmas.List.Folds.{list_any_at}
-use Rattle.std.proofs.lemmas.List.Sums.{list_all-from_AllPass}
-use Rattle.facts.proofs.Bools.{or_from_cases}
-use Rattle.facts.proofs.Tests.{All-from_find}
-use Rattle.facts.proofs.Tests.{least_in}
+use Rattle.modules.proofs.Words.{◌≡◌, ℕ, ◌-◌, ◌<◌, ◌≤◌, true, ◌&&◌, ◌||◌, nat_lt, nat_le, List, get_or, Some, None, Option, refl, ap, ◌∙◌, false, arith, All, find, unwrap_or, list_all, option_map, first_so, second_so, inl, inr, ⊎_elim, list_any}
+use Rattle.modules.proofs.Lemmas.{AllPass-from_list_all, leb-true, ltb-true, le-leb, lt-ltb, le_or_past_below, least_above_below, le_unless_past, least_above_past, find-agree, find-passes, list_all-agree, find-has, le_antisymm, cases_lt, and_from, All-contains, list_any_at, list_all-from_AllPass, or_from_cases, All-from_find, least_in}
+use Rattle.modules.proofs.Definitions.{address_above, is_nearest, is_next, symbol_below, SymbolEntry}
 
 pub below_le : (symbols : List SymbolEntry) (addr : ℕ) (s : SymbolEntry) → symbol_below symbols addr ≡ Some s → s.addr ≤ addr
 below_le symbols addr s h = leb-true s.addr addr (first_so (nat_le s.addr addr) (list_all (λ t. nat_le t.addr s.addr || nat_lt addr t.addr) symbols) (find-passes (is_nearest symbols addr) symbols s h))

@@ -1,6 +1,5 @@
 -- A split of a list by the neighbours of a place.
-use Rattle.std.proofs.Common.{ℕ, ◌-◌, List, arith}
-use Rattle.std.specs.List.Sorted.{IsNonDecreasingBy}
+use Rattle.modules.proofs.Words.{ℕ, ◌-◌, List, arith, IsNonDecreasingBy}
 use Rattle.modules.specs.Index.{IsBorder, IsSplitBy}
 
 -- where a list rises, the neighbours of a place tell what lies below it

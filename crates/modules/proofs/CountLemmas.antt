@@ -1,26 +1,7 @@
 -- Each line is counted once.
-use Rattle.std.proofs.Common.{◌≡◌, ◌≢◌, ℕ, ◌+◌, Bool, true, false, ◌&&◌, cond, List, [], ◌∷◌, ◌++◌, length, get_or, map, Some, None, Option, refl, sym, suc, ap, ◌∙◌, arith}
-use Rattle.std.specs.Prelude.{All, count_by, filter, fold, is_none, sum_by}
-use Rattle.std.specs.List.{list_any}
-use Rattle.std.specs.Option.{option_map_or, option_to_list}
-use Rattle.std.specs.Str.{bytes_eq}
-use Rattle.std.proofs.lemmas.Bool.{and_left, or_parts}
-use Rattle.std.proofs.lemmas.List.{length-map, get_or-map}
-use Rattle.std.proofs.lemmas.List.Sums.{length-filter, sum_by-cons}
-use Rattle.std.proofs.lemmas.List.Folds.{list_any_none}
-use Rattle.std.specs.Cmp.{first_so}
-use Rattle.facts.proofs.Bools.{count-and_false, count-or, count-or_apart}
-use Rattle.facts.proofs.Tests.{count_by-either}
-use Rattle.facts.proofs.Options.{bytes_eq-one_name}
-use Rattle.modules.specs.Accepted.{Accepted, accepted_of, after_module, names_of, none_yet}
-use Rattle.modules.specs.Catalogs.{built_in_of, catalog_of, catalog_with, counts_of, entries_of, entry_for}
-use Rattle.modules.specs.Entries.{ModuleEntry}
-use Rattle.modules.specs.Building.{kernel_at, module_with}
-use Rattle.modules.specs.Kept.{AreDistinctNames, belongs, entry_of, is_built_in, is_kept, is_used, lies_in, symbols_that}
-use Rattle.modules.specs.Lines.{fits, kernel_regions, region_fits}
-use Rattle.modules.specs.Listed.{BoundNames, ListedModule, ListedRegion, ListedSymbol}
-use Rattle.modules.specs.Placed.{PlacedModule, are_few, placed_line}
-use Rattle.modules.specs.Regions.{lies_in_any}
+use Rattle.modules.proofs.Words.{◌≡◌, ◌≢◌, ℕ, ◌+◌, Bool, true, false, ◌&&◌, cond, List, [], ◌∷◌, ◌++◌, length, get_or, map, Some, None, Option, refl, sym, suc, ap, ◌∙◌, arith, All, count_by, filter, fold, is_none, sum_by, list_any, option_map_or, option_to_list, bytes_eq, first_so}
+use Rattle.modules.proofs.Lemmas.{and_left, or_parts, length-map, get_or-map, length-filter, sum_by-cons, list_any_none, count-and_false, count-or, count-or_apart, count_by-either, bytes_eq-one_name}
+use Rattle.modules.proofs.Definitions.{Accepted, accepted_of, after_module, names_of, none_yet, built_in_of, catalog_of, catalog_with, counts_of, entries_of, entry_for, ModuleEntry, kernel_at, module_with, AreDistinctNames, belongs, entry_of, is_built_in, is_kept, is_used, lies_in, symbols_that, fits, kernel_regions, region_fits, BoundNames, ListedModule, ListedRegion, ListedSymbol, PlacedModule, are_few, placed_line, lies_in_any}
 use Rattle.modules.proofs.AdmissionLemmas.{total, total-after_module}
 use Rattle.modules.proofs.SoundnessLemmas.{accepted_good}
 

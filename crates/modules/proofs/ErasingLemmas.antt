@@ -1,16 +1,7 @@
 -- Which first addresses an update takes out.
-use Rattle.std.proofs.Common.{◌≡◌, ℕ, ◌+◌, ◌<◌, ◌≤◌, Bool, true, false, ◌&&◌, not, nat_eq, cond, zero, suc, List, [], ◌∷◌, ◌++◌, length, get_or, take, drop, Some, None, Ok, refl, sym, ap, ◌∙◌, ⊎_elim, arith, length-append}
-use Rattle.std.specs.Cmp.Lexicographic.{bytes_decides}
-use Rattle.std.specs.Str.{bytes_eq}
-use Rattle.std.proofs.lemmas.Bool.{cases_lt, eqb-true, eq-eqb}
-use Rattle.std.proofs.lemmas.List.{append-nil, length-take-le}
-use Rattle.std.proofs.Math.Seq.{get_or-append_seam, take-length}
-use Rattle.table_updates.specs.declared.updates.Update.TheVariants.{Erase}
-use Rattle.order_laws.specs.declared.items.Item.{Item}
-use Rattle.modules.specs.Loads.{TakesMemory, has_no_items, only_of, update_of}
-use Rattle.modules.specs.Parts.{is_of}
-use Rattle.modules.specs.Starts.{starts_of}
-use Rattle.modules.specs.declared.lines.Part.{Part}
+use Rattle.modules.proofs.Words.{◌≡◌, ℕ, ◌+◌, ◌<◌, ◌≤◌, Bool, true, false, ◌&&◌, not, nat_eq, cond, zero, suc, List, [], ◌∷◌, ◌++◌, length, get_or, take, drop, Some, None, Ok, refl, sym, ap, ◌∙◌, ⊎_elim, arith, length-append, bytes_decides, bytes_eq}
+use Rattle.modules.proofs.Lemmas.{cases_lt, eqb-true, eq-eqb, append-nil, length-take-le, get_or-append_seam, take-length}
+use Rattle.modules.proofs.Definitions.{Erase, Item, TakesMemory, has_no_items, only_of, update_of, is_of, starts_of, Part}
 use Rattle.modules.proofs.LoadLemmas.{starts_more}
 
 -- ---- just one first address, or several

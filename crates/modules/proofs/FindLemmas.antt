@@ -1,18 +1,8 @@
 -- What is found for an address, by places.
-use Rattle.std.proofs.Common.{◌≡◌, ℕ, ◌-◌, ◌<◌, Bool, true, false, ◌&&◌, ◌||◌, nat_lt, nat_le, List, get_or, Some, None, Option, refl, sym, ap, ◌∙◌, inl, inr}
-use Rattle.std.specs.Prelude.{All, MatchOption, find, unwrap_or}
-use Rattle.std.specs.List.{list_all}
-use Rattle.std.specs.Option.{option_map}
-use Rattle.std.proofs.lemmas.Bool.{false≢true, and_parts, leb-true, ltb-true}
-use Rattle.std.proofs.lemmas.List.Sums.{AllPass-from_list_all}
-use Rattle.facts.proofs.Members.{Contains-slice_get}
-use Rattle.facts.proofs.Numbers.{le_or_past_cases, least_above_cases}
-use Rattle.facts.proofs.Tests.{find-passes}
-use Rattle.facts.proofs.Tests.{find_place}
+use Rattle.modules.proofs.Words.{◌≡◌, ℕ, ◌-◌, ◌<◌, Bool, true, false, ◌&&◌, ◌||◌, nat_lt, nat_le, List, get_or, Some, None, Option, refl, sym, ap, ◌∙◌, inl, inr, All, MatchOption, find, unwrap_or, list_all, option_map}
+use Rattle.modules.proofs.Lemmas.{false≢true, and_parts, leb-true, ltb-true, AllPass-from_list_all, Contains-slice_get, le_or_past_cases, least_above_cases, find-passes, find_place}
+use Rattle.modules.proofs.Definitions.{is_nearest, is_next, symbol_below, SymbolEntry, IsFound, ReachesUpTo, symbol_found_at, found_in}
 use Rattle.modules.proofs.AroundLemmas.{all_above, none_over}
-use Rattle.modules.specs.Around.{is_nearest, is_next, symbol_below}
-use Rattle.modules.specs.Entries.{SymbolEntry}
-use Rattle.modules.specs.Found.{IsFound, ReachesUpTo, symbol_found_at, found_in}
 
 reach_of : (symbols : List SymbolEntry) (end : ℕ) (s : SymbolEntry) (o : Option SymbolEntry) → find (is_next symbols s.addr) symbols ≡ o → ReachesUpTo symbols end s (unwrap_or (option_map (λ (t : SymbolEntry). t.addr) o) end - s.addr)
 reach_of symbols end s None none = inl (none_over symbols s.addr none, refl)

@@ -1,28 +1,8 @@
 -- One more run of symbol lines.
-use Rattle.std.proofs.Common.{◌≡◌, ℕ, ◌+◌, ◌<◌, ◌≤◌, Bool, false, cond, List, ◌++◌, length, get_or, map, not, Some, None, Ok, Err, Option, Result, refl, sym, ap, subst, ◌∙◌, ⊎_elim, arith, length-append}
-use Rattle.std.specs.Prelude.{filter, count_by, OnOk}
-use Rattle.std.specs.Borrow.{Bor}
-use Rattle.std.specs.Global.{Vec}
-use Rattle.std.specs.List.{position_from}
-use Rattle.std.specs.Option.{option_copied, option_map_or}
-use Rattle.std.specs.declared.alloc.AllocError.{AllocError}
-use Rattle.std.specs.Str.{bytes_eq}
-use Rattle.std.proofs.lemmas.Bool.{cases_eq}
-use Rattle.std.proofs.lemmas.List.{map-append, append-nil, length-map}
-use Rattle.std.proofs.lemmas.List.Elements.{filter-append}
-use Rattle.std.proofs.lemmas.List.Filters.{length-filter_both}
-use Rattle.std.proofs.lemmas.List.Sums.{sum_by-append}
-use Rattle.modules.specs.Accepted.{Accepted, names_of}
-use Rattle.modules.specs.Entries.{SymbolEntry}
-use Rattle.modules.specs.Gathering.{CountsStay, Gathers, HasRoom, Keeps, KeepsRun, kept_of, lies_for, owner_for}
-use Rattle.modules.specs.Kept.{AreDistinctNames, belongs, is_built_in, is_kept, symbols_that, entry_of}
-use Rattle.modules.specs.Listed.{ListedSymbol}
-use Rattle.modules.specs.Placed.{PlacedModule}
-use Rattle.modules.specs.Runs.{lines_of_run, line_of}
-use Rattle.modules.specs.declared.gathering.Gathered.{Gathered}
-use Rattle.modules.specs.declared.gathering.Owner.{Owner}
+use Rattle.modules.proofs.Words.{◌≡◌, ℕ, ◌+◌, ◌<◌, ◌≤◌, Bool, false, cond, List, ◌++◌, length, get_or, map, not, Some, None, Ok, Err, Option, Result, refl, sym, ap, subst, ◌∙◌, ⊎_elim, arith, length-append, filter, count_by, OnOk, Bor, Vec, position_from, option_copied, option_map_or, AllocError, bytes_eq}
+use Rattle.modules.proofs.Lemmas.{cases_eq, map-append, append-nil, length-map, filter-append, length-filter_both, sum_by-append}
+use Rattle.modules.proofs.Definitions.{Accepted, names_of, SymbolEntry, CountsStay, Gathers, HasRoom, Keeps, KeepsRun, kept_of, lies_for, owner_for, AreDistinctNames, belongs, is_built_in, is_kept, symbols_that, entry_of, ListedSymbol, PlacedModule, lines_of_run, line_of, Gathered, Owner, Run}
 use Rattle.modules.specs.declared.gathering.Owner.TheVariants as owner
-use Rattle.modules.specs.declared.symbol_lines.Run.{Run}
 use Rattle.modules.proofs.HomeLemmas.{that_run, that_none, count_run, count_rest, kept_unnamed, kept_nowhere, kept_there, belongs_there}
 use Rattle.modules.proofs.KeptLemmas.{no_home, only_home, place_within}
 

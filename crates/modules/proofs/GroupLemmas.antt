@@ -1,26 +1,7 @@
 -- The region lines of one name stand side by side.
-use Rattle.std.proofs.Common.{◌≡◌, ℕ, ◌-◌, ◌≤◌, Bool, true, false, ◌||◌, cond, List, [], ◌∷◌, length, get_or, take, drop, refl, sym, ap, subst, ◌∙◌, ⊎_elim, arith}
-use Rattle.std.specs.Prelude.{All, filter}
-use Rattle.std.specs.Borrow.{Bor}
-use Rattle.std.specs.Cmp.Lexicographic.{slice_cmp}
-use Rattle.std.specs.List.{list_any}
-use Rattle.std.specs.List.Sorted.{IsNonDecreasingBy, IsPartitionPoint, IsPartitionedBy, IsSortedBy, IsStableBy, ties}
-use Rattle.std.specs.Ordering.{is_le, is_lt, nat_cmp, ordering_index}
-use Rattle.std.specs.declared.cmp.Ordering.{Ordering}
-use Rattle.std.specs.Str.{bytes_eq}
-use Rattle.std.proofs.lemmas.Bool.{cases_lt}
-use Rattle.std.proofs.lemmas.Cmp.{nat_list_cmp_total}
-use Rattle.std.proofs.lemmas.List.{get_or-map, length-map}
-use Rattle.std.proofs.lemmas.List.Sorted.{searchable_from_sorted}
-use Rattle.facts.proofs.Orderings.{bytes_eq-neither, is_eq-between, is_le-index, is_lt-index, is_lt-is_le, is_lt-not_eq, not_le-not_eq}
-use Rattle.facts.proofs.Tests.{filter-middle}
-use Rattle.std.proofs.lemmas.List.Elements.{filter_agree}
-use Rattle.std.proofs.lemmas.Map.Text.{is_eq-slice_cmp}
-use Rattle.modules.specs.Grouped.{IsCut, comes_first, lines_at}
-use Rattle.modules.specs.Listed.{ListedRegion}
-use Rattle.modules.specs.Parts.{is_core}
-use Rattle.modules.specs.Placed.{has_core, lines_named}
-use Rattle.modules.specs.declared.lines.Part.TheVariants.{Core}
+use Rattle.modules.proofs.Words.{◌≡◌, ℕ, ◌-◌, ◌≤◌, Bool, true, false, ◌||◌, cond, List, [], ◌∷◌, length, get_or, take, drop, refl, sym, ap, subst, ◌∙◌, ⊎_elim, arith, All, filter, Bor, slice_cmp, list_any, IsNonDecreasingBy, IsPartitionPoint, IsPartitionedBy, IsSortedBy, IsStableBy, ties, is_le, is_lt, nat_cmp, ordering_index, Ordering, bytes_eq}
+use Rattle.modules.proofs.Lemmas.{cases_lt, nat_list_cmp_total, get_or-map, length-map, searchable_from_sorted, bytes_eq-neither, is_eq-between, is_le-index, is_lt-index, is_lt-is_le, is_lt-not_eq, not_le-not_eq, filter-middle, filter_agree, is_eq-slice_cmp}
+use Rattle.modules.proofs.Definitions.{IsCut, comes_first, lines_at, ListedRegion, is_core, has_core, lines_named, Core}
 
 -- ---- names by their order
 

@@ -1,23 +1,7 @@
 -- Which lines of a run are kept, and where.
-use Rattle.std.proofs.Common.{◌≡◌, ℕ, ◌+◌, ◌<◌, Bool, true, false, ◌||◌, cond, not, List, [], ◌∷◌, length, get_or, map, Some, None, Option, refl, sym, ap, ◌∙◌, ⊎_elim, arith}
-use Rattle.std.specs.Prelude.{filter, count_by}
-use Rattle.std.specs.List.{list_any, position_from}
-use Rattle.std.specs.Option.{option_map_or}
-use Rattle.std.specs.Str.{bytes_eq}
-use Rattle.std.proofs.lemmas.Bool.{cases_Bool, cases_eq}
-use Rattle.std.proofs.lemmas.List.Folds.{list_any_at, list_any_none}
-use Rattle.std.proofs.lemmas.List.Sums.{sum_by-cons}
-use Rattle.std.proofs.lemmas.Option.{slice_get-get_or}
-use Rattle.std.proofs.Math.Bool.{or-false}
-use Rattle.facts.proofs.Bools.{count_either}
-use Rattle.modules.specs.Accepted.{Accepted, names_of}
-use Rattle.modules.specs.Entries.{SymbolEntry}
-use Rattle.modules.specs.Gathering.{lies_for}
-use Rattle.modules.specs.Kept.{AreDistinctNames, belongs, is_kept, lies_in, symbols_that, entry_of}
-use Rattle.modules.specs.Listed.{ListedSymbol}
-use Rattle.modules.specs.Placed.{PlacedModule}
-use Rattle.modules.specs.Regions.{lies_in_any}
-use Rattle.modules.specs.Runs.{line_of}
+use Rattle.modules.proofs.Words.{◌≡◌, ℕ, ◌+◌, ◌<◌, Bool, true, false, ◌||◌, cond, not, List, [], ◌∷◌, length, get_or, map, Some, None, Option, refl, sym, ap, ◌∙◌, ⊎_elim, arith, filter, count_by, list_any, position_from, option_map_or, bytes_eq}
+use Rattle.modules.proofs.Lemmas.{cases_Bool, cases_eq, list_any_at, list_any_none, sum_by-cons, slice_get-get_or, or-false, count_either}
+use Rattle.modules.proofs.Definitions.{Accepted, names_of, SymbolEntry, lies_for, AreDistinctNames, belongs, is_kept, lies_in, symbols_that, entry_of, ListedSymbol, PlacedModule, lies_in_any, line_of}
 use Rattle.modules.specs.declared.gathering.Owner.TheVariants as owner
 use Rattle.modules.proofs.KeptLemmas.{no_home, place_within, only_home, belongs_at}
 

@@ -1,23 +1,7 @@
 -- The order of the index.
-use Rattle.std.proofs.Common.{◌≡◌, ℕ, zero, suc, subst, ◌+◌, ◌-◌, ◌<◌, ◌≤◌, ◌⊎◌, true, false, ◌||◌, nat_lt, nat_le, List, [], ◌∷◌, length, get_or, map, Some, None, sym, ap, ◌∙◌, inl, inr, ⊎_elim, arith}
-use Rattle.std.specs.Cmp.{IsStrictWeakOrder}
-use Rattle.std.specs.Prelude.{All, slice_get}
-use Rattle.std.proofs.lemmas.Option.{slice_get_cases}
-use Rattle.std.specs.List.{list_all, enumerate_from}
-use Rattle.std.specs.Option.{option_map}
-use Rattle.std.proofs.lemmas.List.{length-map, get_or_default}
-use Rattle.std.proofs.lemmas.List.FromFn.{length-enumerate_from}
-use Rattle.std.proofs.lemmas.List.Sorted.{All-permutation, IsPermutation-sym, sorted_far}
-use Rattle.std.specs.List.Sorted.{IsNonDecreasingBy, IsPartitionPoint}
-use Rattle.std.proofs.lemmas.Bool.{cases_lt, false_from_ne_true, and_parts, le-leb, le-ltb, leb-false, leb-true, lt-leb, lt-ltb, ltb-true}
-use Rattle.std.proofs.lemmas.List.Folds.{list_any_at}
-use Rattle.std.proofs.lemmas.List.Sums.{AllPass-from_list_all, list_all-from_AllPass}
-use Rattle.facts.proofs.Numbers.{le_or_past, le_unless_past, least_above, least_above_past, pairs_chain, pairs_not_before, pairs_one_way}
-use Rattle.facts.proofs.Tests.{find-first, find-none, find-number}
-use Rattle.modules.specs.Around.{is_nearest, symbol_below, is_next, address_above}
-use Rattle.modules.specs.Entries.{SymbolEntry}
-use Rattle.modules.specs.Index.{comes_before, index_entries_of, IsIndex, IsSplit, IsSplitBy}
-use Rattle.modules.specs.declared.symbols.IndexEntry.{IndexEntry}
+use Rattle.modules.proofs.Words.{◌≡◌, ℕ, zero, suc, subst, ◌+◌, ◌-◌, ◌<◌, ◌≤◌, ◌⊎◌, true, false, ◌||◌, nat_lt, nat_le, List, [], ◌∷◌, length, get_or, map, Some, None, sym, ap, ◌∙◌, inl, inr, ⊎_elim, arith, IsStrictWeakOrder, All, slice_get, list_all, enumerate_from, option_map, IsNonDecreasingBy, IsPartitionPoint}
+use Rattle.modules.proofs.Lemmas.{slice_get_cases, length-map, get_or_default, length-enumerate_from, All-permutation, IsPermutation-sym, sorted_far, cases_lt, false_from_ne_true, and_parts, le-leb, le-ltb, leb-false, leb-true, lt-leb, lt-ltb, ltb-true, list_any_at, AllPass-from_list_all, list_all-from_AllPass, le_or_past, le_unless_past, least_above, least_above_past, pairs_chain, pairs_not_before, pairs_one_way, find-first, find-none, find-number}
+use Rattle.modules.proofs.Definitions.{is_nearest, symbol_below, is_next, address_above, SymbolEntry, comes_before, index_entries_of, IsIndex, IsSplit, IsSplitBy, IndexEntry}
 
 -- the order of the index by numbers
 pub comes_before_weak : IsStrictWeakOrder comes_before

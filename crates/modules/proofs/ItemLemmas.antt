@@ -1,16 +1,7 @@
 -- The items of a catalog are its regions.
-use Rattle.std.proofs.Common.{◌≡◌, ℕ, zero, suc, ◌+◌, List, [], ◌∷◌, ◌++◌, length, map, flat_map, Option, Some, None, refl, sym, ◌∙◌, ap, subst, arith, append-nil, add-one}
-use Rattle.std.specs.Prelude.{slice_get}
-use Rattle.std.specs.List.{range_with_len}
-use Rattle.std.specs.Option.{option_map_or, option_to_list}
-use Rattle.std.proofs.lemmas.List.{map-append}
-use Rattle.std.proofs.lemmas.Grind.{flat_map-append}
-use Rattle.facts.proofs.Ranges.{range-append_from_zero}
-use Rattle.order_laws.specs.declared.items.Item.{Item}
-use Rattle.modules.specs.Catalogs.{module_of, regions_of}
-use Rattle.modules.specs.Entries.{CatalogEntries, ModuleEntry}
-use Rattle.modules.specs.Items.{items_at, items_below, items_of}
-use Rattle.modules.specs.Loads.{item_of}
+use Rattle.modules.proofs.Words.{◌≡◌, ℕ, zero, suc, ◌+◌, List, [], ◌∷◌, ◌++◌, length, map, flat_map, Option, Some, None, refl, sym, ◌∙◌, ap, subst, arith, append-nil, add-one, slice_get, range_with_len, option_map_or, option_to_list}
+use Rattle.modules.proofs.Lemmas.{map-append, flat_map-append, range-append_from_zero}
+use Rattle.modules.proofs.Definitions.{Item, module_of, regions_of, CatalogEntries, ModuleEntry, items_at, items_below, items_of, item_of}
 
 -- the region of an item
 abbrev pub region_of : Item → ℕ × ℕ

@@ -1,21 +1,7 @@
 -- Where a symbol is kept.
-use Rattle.std.proofs.Common.{◌≡◌, ℕ, ◌<◌, true, false, ◌&&◌, List, [], length, get_or, Some, None, sym, ap, ◌∙◌, ⊎_elim}
-use Rattle.std.specs.Prelude.{is_some}
-use Rattle.std.specs.Cmp.Lexicographic.{bytes_decides}
-use Rattle.std.specs.List.{list_any, position_from}
-use Rattle.std.specs.Str.{bytes_eq}
-use Rattle.std.proofs.lemmas.Bool.{cases_order, false_from_ne_true, and_left}
-use Rattle.std.proofs.lemmas.Iterator.Adapters.{position_from-zero}
-use Rattle.std.proofs.lemmas.List.{get_or-map, length-map}
-use Rattle.std.proofs.lemmas.List.Folds.{list_any_at}
-use Rattle.std.proofs.lemmas.List.Quantifiers.{position-Some}
-use Rattle.facts.proofs.Bools.{and-second}
-use Rattle.facts.proofs.Tests.{is_some-position_from}
-use Rattle.modules.specs.Accepted.{Accepted, names_of}
-use Rattle.modules.specs.Gathering.{BelongsOnlyAt}
-use Rattle.modules.specs.Kept.{AreDistinctNames, belongs, is_built_in, lies_in}
-use Rattle.modules.specs.Listed.{ListedSymbol}
-use Rattle.modules.specs.Placed.{PlacedModule}
+use Rattle.modules.proofs.Words.{◌≡◌, ℕ, ◌<◌, true, false, ◌&&◌, List, [], length, get_or, Some, None, sym, ap, ◌∙◌, ⊎_elim, is_some, bytes_decides, list_any, position_from, bytes_eq}
+use Rattle.modules.proofs.Lemmas.{cases_order, false_from_ne_true, and_left, position_from-zero, get_or-map, length-map, list_any_at, position-Some, and-second, is_some-position_from}
+use Rattle.modules.proofs.Definitions.{Accepted, names_of, BelongsOnlyAt, AreDistinctNames, belongs, is_built_in, lies_in, ListedSymbol, PlacedModule}
 
 pub not_built_in : (built_in : List (ℕ × ℕ)) (s : ListedSymbol) (name : List ℕ) → s.owner ≡ Some name → is_built_in built_in s ≡ false
 not_built_in built_in s name owner = rw owner

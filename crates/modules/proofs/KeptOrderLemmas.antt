@@ -1,31 +1,7 @@
 -- The modules in the order of their first kept lines are those of the lines.
-use Rattle.std.proofs.Common.{◌≡◌, ◌≢◌, ℕ, ◌-◌, ◌^◌, ◌<◌, Bool, true, false, ◌&&◌, ◌||◌, nat_lt, nat_eq, cond, suc, List, [], ◌∷◌, ◌++◌, get_or, map, Option, Some, None, refl, sym, ap, subst, ◌∙◌, arith}
-use Rattle.std.specs.Prelude.{All, IfSome, Contains, filter, find, fold, is_none, is_some}
-use Rattle.std.specs.List.{list_all, flat_map, list_any, position_from}
-use Rattle.std.specs.Option.{option_and_then, option_map, option_map_or, option_to_list}
-use Rattle.std.specs.Str.{bytes_eq}
-use Rattle.std.specs.Cmp.Lexicographic.{bytes_decides}
-use Rattle.std.proofs.lemmas.Bool.{and_parts, eq-eqb, eqb-true, ltb-true}
-use Rattle.std.proofs.lemmas.List.{map-append}
-use Rattle.std.proofs.lemmas.List.Elements.{All-cons, All-filter, All-head, All-nil, All-push, All-tail}
-use Rattle.order_laws.specs.declared.items.Item.{Item}
-use Rattle.order_laws.specs.Orders.{half_open}
-use Rattle.order_laws.specs.Tables.{IsLook, look}
-use Rattle.order_laws.proofs.HalfOpenLemmas.{begins, ends}
-use Rattle.order_laws.proofs.TableLemmas.{look_is}
-use Rattle.facts.proofs.Tests.{find-passes, is_some-position_from}
-use Rattle.modules.specs.FromSymbols.{HasItsRegions, IsFromSymbols, is_kept_line, with_name}
-use Rattle.modules.specs.Kept.{is_built_in}
-use Rattle.modules.specs.Accepted.{accepted_with}
-use Rattle.modules.specs.LineMarks.{AreNamed, HasFirstLine, HaveFirstLines, is_kept_mark, kept_numbers, kernel_marks, mark_of, marks_of, modules_numbered, name_of, number_for, number_in, with_number}
-use Rattle.modules.specs.Lines.{built_in_region, code_regions, first_address, kernel_regions, start_bounds, text_bounds, usual_bounds, with_apart}
-use Rattle.modules.specs.Listed.{BoundNames, ListedSymbol}
-use Rattle.modules.specs.MarkedModules.{numbered_module}
-use Rattle.modules.specs.Marks.{AreRegions, HoldsFor}
-use Rattle.modules.specs.Owners.{is_outside, module_of_address, posts}
-use Rattle.modules.specs.Placed.{PlacedModule}
-use Rattle.modules.specs.Regions.{is_apart}
-use Rattle.modules.specs.declared.marks.Mark.{Mark}
+use Rattle.modules.proofs.Words.{◌≡◌, ◌≢◌, ℕ, ◌-◌, ◌^◌, ◌<◌, Bool, true, false, ◌&&◌, ◌||◌, nat_lt, nat_eq, cond, suc, List, [], ◌∷◌, ◌++◌, get_or, map, Option, Some, None, refl, sym, ap, subst, ◌∙◌, arith, All, IfSome, Contains, filter, find, fold, is_none, is_some, list_all, flat_map, list_any, position_from, option_and_then, option_map, option_map_or, option_to_list, bytes_eq, bytes_decides}
+use Rattle.modules.proofs.Lemmas.{and_parts, eq-eqb, eqb-true, ltb-true, map-append, All-cons, All-filter, All-head, All-nil, All-push, All-tail, begins, ends, look_is, find-passes, is_some-position_from}
+use Rattle.modules.proofs.Definitions.{Item, half_open, IsLook, look, HasItsRegions, IsFromSymbols, is_kept_line, with_name, is_built_in, accepted_with, AreNamed, HasFirstLine, HaveFirstLines, is_kept_mark, kept_numbers, kernel_marks, mark_of, marks_of, modules_numbered, name_of, number_for, number_in, with_number, built_in_region, code_regions, first_address, kernel_regions, start_bounds, text_bounds, usual_bounds, with_apart, BoundNames, ListedSymbol, numbered_module, AreRegions, HoldsFor, is_outside, module_of_address, posts, PlacedModule, is_apart, Mark}
 use Rattle.modules.proofs.LaidLemmas.{found}
 use Rattle.modules.proofs.MarkedModuleLemmas.{its_regions}
 use Rattle.modules.proofs.OwnLineLemmas.{is_of, of_is, same_bool}

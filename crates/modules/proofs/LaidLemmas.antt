@@ -1,15 +1,7 @@
 -- The region that an address lies in, among regions that are laid.
-use Rattle.std.proofs.Common.{◌≡◌, ℕ, ◌-◌, ◌<◌, ◌≤◌, true, false, nat_le, List, length, get_or, Option, Some, None, refl, ap, sym, subst, ◌∙◌, ⊎_elim, arith}
-use Rattle.std.specs.Prelude.{Contains}
-use Rattle.std.specs.List.Sorted.{IsNonDecreasingBy, IsPartitionPoint}
-use Rattle.std.proofs.lemmas.Bool.{cases_lt, leb-true, leb-false}
-use Rattle.std.proofs.lemmas.List.{get_or_default}
-use Rattle.order_laws.specs.declared.items.Item.{Item}
-use Rattle.order_laws.specs.Orders.{half_open}
-use Rattle.order_laws.specs.Tables.{IsLook, look}
-use Rattle.order_laws.proofs.HalfOpenLemmas.{begins, ends, equal_inside}
-use Rattle.order_laws.proofs.TableLemmas.{look_is}
-use Rattle.modules.specs.Marks.{AreLaid}
+use Rattle.modules.proofs.Words.{◌≡◌, ℕ, ◌-◌, ◌<◌, ◌≤◌, true, false, nat_le, List, length, get_or, Option, Some, None, refl, ap, sym, subst, ◌∙◌, ⊎_elim, arith, Contains, IsNonDecreasingBy, IsPartitionPoint}
+use Rattle.modules.proofs.Lemmas.{cases_lt, leb-true, leb-false, get_or_default, begins, ends, equal_inside, look_is}
+use Rattle.modules.proofs.Definitions.{Item, half_open, IsLook, look, AreLaid}
 
 module _ (items : List Item) (laid : AreLaid items) where
   ends_before : (i j : ℕ) (d : Item) → i < j → j < length items → (get_or items i d).b ≤ (get_or items j d).a

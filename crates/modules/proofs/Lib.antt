@@ -1,3 +1,9 @@
+-- the words of std
+pub mod Words
+-- the laws of std and of the crates below
+pub mod Lemmas
+-- the definitions of this crate and of those below
+pub mod Definitions
 -- a region beside regions that are spread
 pub mod SpreadLemmas
 -- the region lines of one name stand side by side

@@ -1,17 +1,7 @@
 -- The marks of the lines of runs.
-use Rattle.std.proofs.Common.{◌≡◌, ℕ, ◌≤◌, true, false, cond, List, [], ◌∷◌, ◌++◌, length, get_or, map, Option, Some, None, refl, sym, ap, ◌∙◌, arith, append_assoc}
-use Rattle.std.specs.Prelude.{All, filter, is_some}
-use Rattle.std.specs.Borrow.{Bor}
-use Rattle.std.specs.Option.{option_copied}
-use Rattle.std.proofs.lemmas.List.{map-append}
-use Rattle.std.proofs.lemmas.List.Elements.{All-append, filter-append}
-use Rattle.modules.specs.Entries.{SymbolEntry}
-use Rattle.modules.specs.LineMarks.{is_free, kernel_marks, line_marks, mark_of, marks_of, number_for, number_in, symbol_marks}
-use Rattle.modules.specs.Listed.{ListedSymbol}
-use Rattle.modules.specs.Owners.{is_outside}
-use Rattle.modules.specs.Runs.{lines_of_all, lines_of_run, line_of}
-use Rattle.modules.specs.declared.marks.Mark.{Mark}
-use Rattle.modules.specs.declared.symbol_lines.Run.{Run}
+use Rattle.modules.proofs.Words.{◌≡◌, ℕ, ◌≤◌, true, false, cond, List, [], ◌∷◌, ◌++◌, length, get_or, map, Option, Some, None, refl, sym, ap, ◌∙◌, arith, append_assoc, All, filter, is_some, Bor, option_copied}
+use Rattle.modules.proofs.Lemmas.{map-append, All-append, filter-append}
+use Rattle.modules.proofs.Definitions.{SymbolEntry, is_free, kernel_marks, line_marks, mark_of, marks_of, number_for, number_in, symbol_marks, ListedSymbol, is_outside, lines_of_all, lines_of_run, line_of, Mark, Run}
 use Rattle.modules.proofs.NumberLemmas.{number_within}
 use Rattle.modules.proofs.PostLemmas.{all_mapped}
 use Rattle.modules.proofs.RunLemmas.{lines_of_all-last}

@@ -1,24 +1,7 @@
 -- Which updates a load, an unload, and the end of a module's start give.
-use Rattle.std.proofs.Common.{◌≡◌, ℕ, ◌+◌, ◌<◌, ◌≤◌, Bool, true, false, ◌&&◌, ◌||◌, not, nat_eq, cond, zero, suc, List, [], ◌∷◌, ◌++◌, length, get_or, map, take, drop, drop-cons, Some, None, Ok, Err, Option, Result, refl, sym, ap, subst, ◌∙◌, inl, inr, ⊎_elim, arith, add-one}
-use Rattle.std.specs.Cmp.Lexicographic.{bytes_decides}
-use Rattle.std.specs.List.{list_any}
-use Rattle.std.specs.Option.{option_map_or}
-use Rattle.std.specs.Str.{bytes_eq}
-use Rattle.std.proofs.lemmas.Bool.{and_from, and_parts, eqb-true, not-true, or_cases, or_left, or_right, eq-eqb}
-use Rattle.std.proofs.lemmas.List.{length-map}
-use Rattle.table_updates.specs.declared.updates.Update.{Update}
-use Rattle.table_updates.specs.declared.updates.Update.TheVariants.{Insert, Erase, Batch}
-use Rattle.order_laws.specs.declared.items.Item.{Item}
-use Rattle.order_laws.specs.declared.refusals.Refusal.{Refusal}
-use Rattle.order_laws.specs.declared.refusals.Refusal.TheVariants.{OutOfMemory, UnknownModule}
-use Rattle.facts.proofs.Bools.{and_by_second, or_by_first, or_by_second}
-use Rattle.facts.proofs.Numbers.{eqb-one_false, eqb-one_more}
-use Rattle.modules.specs.Entries.{ModuleEntry}
-use Rattle.modules.specs.Loads.{GivesOrLacksMemory, GivesSome, TakesMemory, drop_init_update, is_erasing, is_inserting, item_of, load_update, has_no_items, is_item_of, same_items, unload_update, update_of}
-use Rattle.modules.specs.Parts.{is_init, is_of}
-use Rattle.modules.specs.Starts.{starts_of}
-use Rattle.modules.specs.declared.catalog.Held.{Held}
-use Rattle.modules.specs.declared.lines.Part.{Part}
+use Rattle.modules.proofs.Words.{◌≡◌, ℕ, ◌+◌, ◌<◌, ◌≤◌, Bool, true, false, ◌&&◌, ◌||◌, not, nat_eq, cond, zero, suc, List, [], ◌∷◌, ◌++◌, length, get_or, map, take, drop, drop-cons, Some, None, Ok, Err, Option, Result, refl, sym, ap, subst, ◌∙◌, inl, inr, ⊎_elim, arith, add-one, bytes_decides, list_any, option_map_or, bytes_eq}
+use Rattle.modules.proofs.Lemmas.{and_from, and_parts, eqb-true, not-true, or_cases, or_left, or_right, eq-eqb, length-map, and_by_second, or_by_first, or_by_second, eqb-one_false, eqb-one_more}
+use Rattle.modules.proofs.Definitions.{Update, Insert, Erase, Batch, Item, Refusal, OutOfMemory, UnknownModule, ModuleEntry, GivesOrLacksMemory, GivesSome, TakesMemory, drop_init_update, is_erasing, is_inserting, item_of, load_update, has_no_items, is_item_of, same_items, unload_update, update_of, is_init, is_of, starts_of, Held, Part}
 
 -- ---- the first addresses of the regions, one more at a time
 

@@ -1,30 +1,7 @@
 -- The items that a load inserts, and when the update that inserts them is accepted.
-use Rattle.std.proofs.Common.{◌≡◌, ℕ, ◌+◌, ◌<◌, ◌≤◌, true, false, List, [], ◌∷◌, length, Option, Some, None, refl, sym, ◌∙◌, ap, subst, ⊎_elim, arith, zero, suc, map, Result, Ok, Err}
-use Rattle.std.specs.Prelude.{Contains, nat_lt}
-use Rattle.std.proofs.lemmas.Bool.Decides.{nat_tests}
-use Rattle.order_laws.specs.declared.items.Item.{Item}
-use Rattle.order_laws.specs.Orders.{half_open}
-use Rattle.order_laws.specs.Tables.{without_all}
-use Rattle.order_laws.proofs.PlaceLemmas.{without_none}
-use Rattle.table_updates.proofs.HistoryLemmas.{all_are_valid, insert_accepted, no_test_holds, none_meet}
-use Rattle.table_updates.specs.declared.updates.Update.{Update}
-use Rattle.table_updates.specs.Updates.{erased, inserted, refusal_for, some_invalid, some_meet, some_overlap}
-use Rattle.modules.specs.Loads.{update_of, GivesOrLacksMemory, item_of, load_of, load_update}
-use Rattle.std.specs.List.{list_any}
-use Rattle.std.specs.Option.{option_map_or, option_to_list}
-use Rattle.std.proofs.lemmas.List.{length-map}
-use Rattle.std.proofs.lemmas.List.Elements.{All-contains, Contains-append_left, Contains-append_right}
-use Rattle.std.proofs.lemmas.Option.{get_or_from_slice_get, slice_get_within}
-use Rattle.order_laws.specs.declared.refusals.Refusal.{Refusal}
-use Rattle.order_laws.specs.declared.refusals.Refusal.TheVariants.{OutOfMemory, UnknownModule}
-use Rattle.modules.specs.Building.{placed_module_of}
-use Rattle.modules.specs.Catalogs.{IsSoundCatalog, entries_of, module_of}
-use Rattle.modules.specs.Entries.{CatalogEntries, ModuleEntry}
-use Rattle.modules.specs.Items.{items_at}
-use Rattle.modules.specs.Parts.{is_core}
-use Rattle.modules.specs.Placed.{IsPlaced, PlacedModule}
-use Rattle.modules.specs.declared.catalog.Held.{Held}
-use Rattle.modules.specs.declared.lines.Part.{Part}
+use Rattle.modules.proofs.Words.{◌≡◌, ℕ, ◌+◌, ◌<◌, ◌≤◌, true, false, List, [], ◌∷◌, length, Option, Some, None, refl, sym, ◌∙◌, ap, subst, ⊎_elim, arith, zero, suc, map, Result, Ok, Err, Contains, nat_lt, list_any, option_map_or, option_to_list}
+use Rattle.modules.proofs.Lemmas.{nat_tests, without_none, all_are_valid, insert_accepted, no_test_holds, none_meet, length-map, All-contains, Contains-append_left, Contains-append_right, get_or_from_slice_get, slice_get_within}
+use Rattle.modules.proofs.Definitions.{Item, half_open, without_all, Update, erased, inserted, refusal_for, some_invalid, some_meet, some_overlap, update_of, GivesOrLacksMemory, item_of, load_of, load_update, Refusal, OutOfMemory, UnknownModule, placed_module_of, IsSoundCatalog, entries_of, module_of, CatalogEntries, ModuleEntry, items_at, is_core, IsPlaced, PlacedModule, Held, Part}
 
 -- the update that loads a module inserts its items, of which there is one at least
 pub record LoadsItems (c : CatalogEntries) (k : ℕ) (u : Update) : Type 0 where

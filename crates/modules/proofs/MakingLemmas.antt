@@ -1,24 +1,7 @@
 -- The modules that are made of the accepted ones.
-use Rattle.std.proofs.Common.{◌≡◌, ℕ, zero, suc, ◌<◌, ◌≤◌, List, [], ◌∷◌, ◌++◌, length, get_or, map, drop, not, Option, sym, ap, ◌∙◌, ⊎_elim, arith, length-append, take, ◌+◌}
-use Rattle.std.specs.Prelude.{count_by}
-use Rattle.std.specs.Global.{Vec}
-use Rattle.std.specs.List.{flat_map}
-use Rattle.std.proofs.lemmas.Bool.{cases_lt}
-use Rattle.std.proofs.lemmas.Grind.{flat_map-append}
-use Rattle.std.proofs.lemmas.List.{append-nil, get_or-map, get_or_append_left, get_or_push, length-map, same_lists, take_more}
-use Rattle.std.proofs.lemmas.Option.{slice_get_cases}
-use Rattle.modules.specs.Accepted.{Accepted}
-use Rattle.modules.specs.Admissions.{module_counts}
-use Rattle.modules.specs.Building.{AreModules, EachMade, module_with, built_in_with}
-use Rattle.modules.specs.Catalogs.{built_in_of, catalog_with, entry_for, kept_counts}
-use Rattle.modules.specs.Entries.{CatalogEntries, ModuleEntry, SymbolEntry}
-use Rattle.modules.specs.Gathering.{Gathers}
-use Rattle.modules.specs.Kept.{is_kept, is_used}
-use Rattle.modules.specs.Listed.{ListedRegion, ListedSymbol}
-use Rattle.modules.specs.Placed.{PlacedModule}
-use Rattle.modules.specs.declared.catalog.BuildCounts.{BuildCounts}
-use Rattle.modules.specs.declared.catalog.KeptCounts.{KeptCounts}
-use Rattle.modules.specs.declared.gathering.Gathered.{Gathered}
+use Rattle.modules.proofs.Words.{◌≡◌, ℕ, zero, suc, ◌<◌, ◌≤◌, List, [], ◌∷◌, ◌++◌, length, get_or, map, drop, not, Option, sym, ap, ◌∙◌, ⊎_elim, arith, length-append, take, ◌+◌, count_by, Vec, flat_map}
+use Rattle.modules.proofs.Lemmas.{cases_lt, flat_map-append, append-nil, get_or-map, get_or_append_left, get_or_push, length-map, same_lists, take_more, slice_get_cases}
+use Rattle.modules.proofs.Definitions.{Accepted, module_counts, AreModules, EachMade, module_with, built_in_with, built_in_of, catalog_with, entry_for, kept_counts, CatalogEntries, ModuleEntry, SymbolEntry, Gathers, is_kept, is_used, ListedRegion, ListedSymbol, PlacedModule, BuildCounts, KeptCounts, Gathered}
 use Rattle.modules.proofs.SoundnessLemmas.{module_regions}
 
 pub EachMade-push : (places : List PlacedModule) (lists : List (Vec SymbolEntry)) (modules : List ModuleEntry) (list : Vec SymbolEntry) (made : ModuleEntry) → length modules ≡ length lists → EachMade places lists modules → ((p : PlacedModule) → made ≡ module_with (get_or places (length lists) p) list.items) → EachMade places (lists ++ list ∷ []) (modules ++ made ∷ [])

@@ -1,18 +1,7 @@
 -- A stable sort by address leaves the nearest mark.
-use Rattle.std.proofs.Common.{◌≡◌, ℕ, ◌<◌, ◌≤◌, Bool, true, false, ◌&&◌, nat_eq, List, get_or, Some, refl, ap, sym, ◌∙◌, inl, inr, ⊎_elim, arith}
-use Rattle.std.specs.Prelude.{◌⊎◌, All, filter, find}
-use Rattle.std.specs.List.Sorted.{IsPermutation, IsStableByKey, ties}
-use Rattle.std.specs.Ordering.{is_lt, nat_cmp}
-use Rattle.std.proofs.lemmas.Bool.{eq-eqb, eqb-false, ne_eqb}
-use Rattle.std.proofs.lemmas.Bool.Decides.{nat_tests}
-use Rattle.std.proofs.lemmas.List.Elements.{All-contains, filter_agree}
-use Rattle.std.proofs.lemmas.List.Sorted.{Contains-permutation, IsPermutation-sym}
-use Rattle.std.proofs.lemmas.List.{get_or_default}
-use Rattle.std.proofs.lemmas.Option.{get_or_from_slice_get, slice_get_within}
-use Rattle.order_laws.specs.declared.items.Item.{Item}
-use Rattle.facts.proofs.Tests.{find-first, find_place, find-filter, find-agree}
-use Rattle.modules.specs.Marks.{AreRegions, GoesOn, IsFirstMark, IsNearestMark, Owns}
-use Rattle.modules.specs.declared.marks.Mark.{Mark}
+use Rattle.modules.proofs.Words.{◌≡◌, ℕ, ◌<◌, ◌≤◌, Bool, true, false, ◌&&◌, nat_eq, List, get_or, Some, refl, ap, sym, ◌∙◌, inl, inr, ⊎_elim, arith, ◌⊎◌, All, filter, find, IsPermutation, IsStableByKey, ties, is_lt, nat_cmp}
+use Rattle.modules.proofs.Lemmas.{eq-eqb, eqb-false, ne_eqb, nat_tests, All-contains, filter_agree, Contains-permutation, IsPermutation-sym, get_or_default, get_or_from_slice_get, slice_get_within, find-first, find_place, find-filter, find-agree}
+use Rattle.modules.proofs.Definitions.{Item, AreRegions, GoesOn, IsFirstMark, IsNearestMark, Owns, Mark}
 
 -- the mark is of the address
 abbrev pub is_at : ℕ → Mark → Bool

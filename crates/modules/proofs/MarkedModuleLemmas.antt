@@ -1,18 +1,7 @@
 -- Regions by the numbers of their modules.
-use Rattle.std.proofs.Common.{◌≡◌, ℕ, ◌<◌, ◌≤◌, zero, suc, true, false, cond, nat_eq, List, [], ◌∷◌, length, get_or, map, refl, ap, sym, subst, ◌∙◌, ⊎_elim, arith}
-use Rattle.std.specs.Prelude.{All, Contains, filter}
-use Rattle.std.specs.List.{AllPairs}
-use Rattle.std.proofs.lemmas.Bool.{cases_lt, or_cases, or_left, or_right, eqb-true, eq-eqb}
-use Rattle.std.proofs.lemmas.List.Elements.{All-head, All-tail, All-cons, All-nil}
-use Rattle.order_laws.specs.declared.items.Item.{Item}
-use Rattle.facts.proofs.Members.{Contains-cons_cases, Contains-head, Contains-rest}
-use Rattle.modules.specs.Listed.{ListedSymbol}
-use Rattle.modules.specs.Regions.{holds}
-use Rattle.modules.specs.Marks.{Follows, HoldsFor}
-use Rattle.modules.specs.Marks.{AreRegions}
-use Rattle.modules.specs.declared.marks.Mark.{Mark}
-use Rattle.modules.specs.MarkedModules.{ranges_of, numbered_module, StandsFor}
-use Rattle.modules.specs.FromSymbols.{HasItsRegions}
+use Rattle.modules.proofs.Words.{◌≡◌, ℕ, ◌<◌, ◌≤◌, zero, suc, true, false, cond, nat_eq, List, [], ◌∷◌, length, get_or, map, refl, ap, sym, subst, ◌∙◌, ⊎_elim, arith, All, Contains, filter, AllPairs}
+use Rattle.modules.proofs.Lemmas.{cases_lt, or_cases, or_left, or_right, eqb-true, eq-eqb, All-head, All-tail, All-cons, All-nil, Contains-cons_cases, Contains-head, Contains-rest}
+use Rattle.modules.proofs.Definitions.{Item, ListedSymbol, holds, Follows, HoldsFor, AreRegions, Mark, ranges_of, numbered_module, StandsFor, HasItsRegions}
 use Rattle.modules.proofs.SpacedLemmas.{lies, inside, within, Range}
 
 module _ {X : Type 0} (R : X → X → Type 0) (x : X) (xs : List X) where

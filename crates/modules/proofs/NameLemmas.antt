@@ -1,23 +1,7 @@
 -- A name among names that are distinct.
-use Rattle.std.proofs.Common.{◌≡◌, ℕ, ◌+◌, ◌<◌, true, false, List, [], length, get_or, Some, None, refl, sym, ap, ◌∙◌, ⊎_elim, arith, zero-add}
-use Rattle.std.specs.Prelude.{All, is_some}
-use Rattle.std.specs.declared.cmp.Ordering.TheVariants.{Less, Equal, Greater}
-use Rattle.std.specs.Cmp.Lexicographic.{bytes_decides, slice_cmp}
-use Rattle.std.specs.List.{list_any, position_from, range_with_len}
-use Rattle.std.specs.List.Sorted.{IsPartitionPoint}
-use Rattle.std.specs.Ordering.{nat_cmp}
-use Rattle.std.specs.Str.{bytes_eq}
-use Rattle.std.proofs.lemmas.Bool.{cases_lt, cases_order}
-use Rattle.std.proofs.lemmas.Iterator.Adapters.{position_from-zero}
-use Rattle.std.proofs.lemmas.List.Folds.{list_any_at}
-use Rattle.std.proofs.lemmas.List.FromFn.{length-range_with_len, get_or-range_with_len}
-use Rattle.std.proofs.lemmas.List.Quantifiers.{position-Some}
-use Rattle.std.proofs.lemmas.List.Sorted.{All-permutation, IsPermutation-sym}
-use Rattle.std.proofs.lemmas.Map.Lookups.{exact_bytes}
-use Rattle.facts.proofs.Orderings.{slice_cmp-same}
-use Rattle.facts.proofs.Tests.{is_some-position_from}
-use Rattle.modules.specs.Kept.{AreDistinctNames}
-use Rattle.modules.specs.Names.{IsNameIndex}
+use Rattle.modules.proofs.Words.{◌≡◌, ℕ, ◌+◌, ◌<◌, true, false, List, [], length, get_or, Some, None, refl, sym, ap, ◌∙◌, ⊎_elim, arith, zero-add, All, is_some, Less, Equal, Greater, bytes_decides, slice_cmp, list_any, position_from, range_with_len, IsPartitionPoint, nat_cmp, bytes_eq}
+use Rattle.modules.proofs.Lemmas.{cases_lt, cases_order, position_from-zero, list_any_at, length-range_with_len, get_or-range_with_len, position-Some, All-permutation, IsPermutation-sym, exact_bytes, slice_cmp-same, is_some-position_from}
+use Rattle.modules.proofs.Definitions.{AreDistinctNames, IsNameIndex}
 
 -- each entry of the index is a place
 pub place_in : (names : List (List ℕ)) (index : List ℕ) → IsNameIndex names index → All (λ p. p < length names) index

@@ -1,11 +1,7 @@
 -- The symbol below an address and the address above it.
-use Rattle.std.proofs.Common.{◌≡◌, ℕ, ◌-◌, List, Some, sym, ap, ◌∙◌}
-use Rattle.std.specs.Prelude.{unwrap_or}
-use Rattle.std.specs.Option.{option_map}
+use Rattle.modules.proofs.Words.{◌≡◌, ℕ, ◌-◌, List, Some, sym, ap, ◌∙◌, unwrap_or, option_map}
+use Rattle.modules.proofs.Definitions.{address_above, symbol_below, SymbolEntry, Found, symbol_found_at, found_in}
 use Rattle.modules.proofs.AroundLemmas.{above_same}
-use Rattle.modules.specs.Around.{address_above, symbol_below}
-use Rattle.modules.specs.Entries.{SymbolEntry}
-use Rattle.modules.specs.Found.{Found, symbol_found_at, found_in}
 
 abbrev pub found : SymbolEntry → ℕ → ℕ → Found
 found s offset size = record { symbol = s; offset = offset; size = size }

@@ -1,17 +1,7 @@
 -- A module whose name is new.
-use Rattle.std.proofs.Common.{◌≡◌, ℕ, false, cond, List, [], ◌∷◌, ◌++◌, length, get_or, Some, Option, refl, sym, ap, ◌∙◌, subst}
-use Rattle.std.specs.Cmp.Lexicographic.{bytes_decides}
-use Rattle.std.specs.List.{list_any, position_from}
-use Rattle.std.specs.Str.{bytes_eq}
-use Rattle.std.proofs.lemmas.Bool.{false_from_ne_true}
-use Rattle.std.proofs.lemmas.List.{get_or_default, length-map, map-append}
-use Rattle.std.proofs.lemmas.List.Folds.{list_any_none}
-use Rattle.facts.proofs.Members.{Contains-head}
-use Rattle.facts.proofs.Pairs.{AllPairs-across}
-use Rattle.facts.proofs.Tests.{position_from-new}
-use Rattle.modules.specs.Accepted.{names_of}
-use Rattle.modules.specs.Kept.{AreDistinctNames}
-use Rattle.modules.specs.Placed.{PlacedModule}
+use Rattle.modules.proofs.Words.{◌≡◌, ℕ, false, cond, List, [], ◌∷◌, ◌++◌, length, get_or, Some, Option, refl, sym, ap, ◌∙◌, subst, bytes_decides, list_any, position_from, bytes_eq}
+use Rattle.modules.proofs.Lemmas.{false_from_ne_true, get_or_default, length-map, map-append, list_any_none, Contains-head, AllPairs-across, position_from-new}
+use Rattle.modules.proofs.Definitions.{names_of, AreDistinctNames, PlacedModule}
 
 -- the place of each name, once a module of a new name stands after the others
 pub places_more : (modules after : List PlacedModule) (m : PlacedModule) (name : List ℕ) (k : ℕ) (o p : Option ℕ)

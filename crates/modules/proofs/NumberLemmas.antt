@@ -1,24 +1,7 @@
 -- The names of modules, their numbers, and one name more.
-use Rattle.std.proofs.Common.{◌≡◌, ℕ, ◌≤◌, Bool, true, false, cond, suc, List, [], ◌∷◌, ◌++◌, length, get_or, Option, Some, None, refl, sym, ap, subst, ◌∙◌, arith}
-use Rattle.std.specs.Prelude.{All, is_some}
-use Rattle.std.specs.Borrow.{Bor}
-use Rattle.std.specs.Cmp.Lexicographic.{bytes_decides}
-use Rattle.std.specs.List.{list_any, position_from}
-use Rattle.std.specs.Option.{option_copied, option_map, option_map_or}
-use Rattle.std.specs.Str.{bytes_eq}
-use Rattle.std.proofs.lemmas.Bool.{or_left, or_right}
-use Rattle.std.proofs.lemmas.Iterator.Adapters.{position_from-zero}
-use Rattle.std.proofs.lemmas.List.{map-append}
-use Rattle.std.proofs.lemmas.List.Elements.{All-append}
-use Rattle.std.proofs.lemmas.List.Folds.{list_any-append}
-use Rattle.std.proofs.lemmas.List.Quantifiers.{position-Some}
-use Rattle.facts.proofs.Tests.{is_some-position_from, position_from-new}
-use Rattle.modules.specs.FromSymbols.{with_name}
-use Rattle.modules.specs.LineMarks.{AreNamed, number_for, with_owner}
-use Rattle.modules.specs.Listed.{ListedSymbol}
-use Rattle.modules.specs.Numbered.{names_at}
-use Rattle.modules.specs.Runs.{lines_of_all, lines_of_run, line_of}
-use Rattle.modules.specs.declared.symbol_lines.Run.{Run}
+use Rattle.modules.proofs.Words.{◌≡◌, ℕ, ◌≤◌, Bool, true, false, cond, suc, List, [], ◌∷◌, ◌++◌, length, get_or, Option, Some, None, refl, sym, ap, subst, ◌∙◌, arith, All, is_some, Bor, bytes_decides, list_any, position_from, option_copied, option_map, option_map_or, bytes_eq}
+use Rattle.modules.proofs.Lemmas.{or_left, or_right, position_from-zero, map-append, All-append, list_any-append, position-Some, is_some-position_from, position_from-new}
+use Rattle.modules.proofs.Definitions.{with_name, AreNamed, number_for, with_owner, ListedSymbol, names_at, lines_of_all, lines_of_run, line_of, Run}
 use Rattle.modules.proofs.PostLemmas.{all_mapped}
 use Rattle.modules.proofs.RunLemmas.{lines_of_all-last}
 

@@ -1,23 +1,7 @@
 -- The items of a module number, between those of the lesser and those of the greater ones.
-use Rattle.std.proofs.Common.{◌≡◌, ℕ, suc, ◌+◌, ◌-◌, ◌<◌, ◌≤◌, List, [], ◌∷◌, ◌++◌, length, map, flat_map, refl, sym, ◌∙◌, ap, subst, arith, length-append}
-use Rattle.std.specs.Prelude.{true, false, Contains}
-use Rattle.std.specs.List.{AllPairs, range_with_len}
-use Rattle.std.proofs.lemmas.List.{map-append, length-map}
-use Rattle.std.proofs.lemmas.List.Elements.{Contains-append_left, Contains-append_right}
-use Rattle.std.proofs.lemmas.Grind.{flat_map-append}
-use Rattle.std.proofs.lemmas.Bool.{or_from}
-use Rattle.facts.proofs.Ranges.{range-append_from_zero}
-use Rattle.facts.proofs.Pairs.{AllPairs-across, AllPairs-left, AllPairs-right}
-use Rattle.facts.proofs.Members.{Contains-map}
-use Rattle.order_laws.specs.declared.items.Item.{Item}
-use Rattle.order_laws.specs.Orders.{half_open, half_open_lawful}
-use Rattle.order_laws.specs.Tables.{meets}
-use Rattle.order_laws.proofs.MeetLemmas.{none_meets}
-use Rattle.table_updates.specs.Updates.{some_overlap}
-use Rattle.modules.specs.Catalogs.{IsSoundCatalog, regions_of}
-use Rattle.modules.specs.Entries.{CatalogEntries}
-use Rattle.modules.specs.Items.{items_at, items_below, items_of}
-use Rattle.modules.specs.Regions.{is_apart}
+use Rattle.modules.proofs.Words.{◌≡◌, ℕ, suc, ◌+◌, ◌-◌, ◌<◌, ◌≤◌, List, [], ◌∷◌, ◌++◌, length, map, flat_map, refl, sym, ◌∙◌, ap, subst, arith, length-append, true, false, Contains, AllPairs, range_with_len}
+use Rattle.modules.proofs.Lemmas.{map-append, length-map, Contains-append_left, Contains-append_right, flat_map-append, or_from, range-append_from_zero, AllPairs-across, AllPairs-left, AllPairs-right, Contains-map, none_meets}
+use Rattle.modules.proofs.Definitions.{Item, half_open, half_open_lawful, meets, some_overlap, IsSoundCatalog, regions_of, CatalogEntries, items_at, items_below, items_of, is_apart}
 use Rattle.modules.proofs.ItemLemmas.{all_regions, region_of}
 use Rattle.modules.proofs.ApartItemLemmas.{each_has_addresses}
 

@@ -1,13 +1,7 @@
 -- Copies of symbols in the order of their index.
-use Rattle.std.proofs.Common.{◌≡◌, ℕ, ◌-◌, ◌<◌, ◌≤◌, List, [], length, get_or, Some, None, ap, sym, subst, ◌∙◌, ⊎_elim, arith}
-use Rattle.std.specs.Prelude.{slice_get}
-use Rattle.std.specs.Option.{option_map}
-use Rattle.std.proofs.lemmas.List.{get_or-map, get_or_default, length-map}
-use Rattle.std.proofs.lemmas.Option.{slice_get-get_or, slice_get_cases}
-use Rattle.modules.specs.Around.{address_above, symbol_below}
-use Rattle.modules.specs.Entries.{SymbolEntry}
-use Rattle.modules.specs.Index.{IsIndex, IsOrdered, IsRising, IsSplit, IsSplitOf, symbol_of_entry}
-use Rattle.modules.specs.declared.symbols.IndexEntry.{IndexEntry}
+use Rattle.modules.proofs.Words.{◌≡◌, ℕ, ◌-◌, ◌<◌, ◌≤◌, List, [], length, get_or, Some, None, ap, sym, subst, ◌∙◌, ⊎_elim, arith, slice_get, option_map}
+use Rattle.modules.proofs.Lemmas.{get_or-map, get_or_default, length-map, slice_get-get_or, slice_get_cases}
+use Rattle.modules.proofs.Definitions.{address_above, symbol_below, SymbolEntry, IsIndex, IsOrdered, IsRising, IsSplit, IsSplitOf, symbol_of_entry, IndexEntry}
 use Rattle.modules.proofs.IndexLemmas.{each_entry, first_above, last_below as last_entry_below, none_above, none_below as no_entry_below, rising as index_rises}
 
 abbrev no_symbol : SymbolEntry

@@ -1,13 +1,6 @@
 -- What is kept by the regions is what is kept by the lines.
-use Rattle.std.proofs.Common.{◌≡◌, ℕ, ◌-◌, ◌^◌, ◌<◌, Bool, true, false, List, Option, Some, None, refl, ap, sym}
-use Rattle.std.specs.Option.{option_map_or}
-use Rattle.std.specs.Str.{bytes_eq}
-use Rattle.std.specs.Cmp.Lexicographic.{bytes_decides}
-use Rattle.modules.specs.Kept.{belongs, lies_in}
-use Rattle.modules.specs.Listed.{ListedSymbol}
-use Rattle.modules.specs.Placed.{PlacedModule}
-use Rattle.modules.specs.Owners.{module_of_address}
-use Rattle.modules.specs.FromSymbols.{HasItsRegions, is_kept_line}
+use Rattle.modules.proofs.Words.{◌≡◌, ℕ, ◌-◌, ◌^◌, ◌<◌, Bool, true, false, List, Option, Some, None, refl, ap, sym, option_map_or, bytes_eq, bytes_decides}
+use Rattle.modules.proofs.Definitions.{belongs, lies_in, ListedSymbol, PlacedModule, module_of_address, HasItsRegions, is_kept_line}
 
 pub same_bool : (a b : Bool) → (a ≡ true → b ≡ true) → (b ≡ true → a ≡ true) → a ≡ b
 same_bool true b f g = sym (f refl)

@@ -1,14 +1,7 @@
 -- What a further piece changes.
-use Rattle.std.proofs.Common.{◌≡◌, ℕ, ◌<◌, ◌≤◌, List, [], ◌∷◌, ◌++◌, length, get_or, sym, subst, ◌∙◌, inl, inr, ⊎_elim, arith, length-append}
-use Rattle.std.specs.Prelude.{◌≢◌, ◌⊎◌, ◌↔◌, All}
-use Rattle.std.specs.List.{AllPairs}
-use Rattle.std.proofs.lemmas.Bool.{cases_lt}
-use Rattle.std.proofs.lemmas.List.{get_or_append_left}
-use Rattle.std.proofs.Math.Seq.{get_or-append_seam}
-use Rattle.std.proofs.lemmas.List.Elements.{All-push, Contains-push, Contains-append_left, Contains-push_cases}
-use Rattle.std.proofs.lemmas.List.Quantifiers.{all_pairs_push}
-use Rattle.order_laws.specs.declared.items.Item.{Item}
-use Rattle.modules.specs.Marks.{AreLaid, Follows, HoldsFor}
+use Rattle.modules.proofs.Words.{◌≡◌, ℕ, ◌<◌, ◌≤◌, List, [], ◌∷◌, ◌++◌, length, get_or, sym, subst, ◌∙◌, inl, inr, ⊎_elim, arith, length-append, ◌≢◌, ◌⊎◌, ◌↔◌, All, AllPairs}
+use Rattle.modules.proofs.Lemmas.{cases_lt, get_or_append_left, get_or-append_seam, All-push, Contains-push, Contains-append_left, Contains-push_cases, all_pairs_push}
+use Rattle.modules.proofs.Definitions.{Item, AreLaid, Follows, HoldsFor}
 
 module _ {X : Type 0} (xs : List X) (y : X) where
   longer : (k : ℕ) → k < length xs → k < length (xs ++ y ∷ [])

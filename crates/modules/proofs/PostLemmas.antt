@@ -1,27 +1,7 @@
 -- Whose an address is by the marks of a listing is what its lines say.
-use Rattle.std.proofs.Common.{◌≡◌, ◌≢◌, ℕ, ◌+◌, ◌-◌, ◌^◌, ◌<◌, ◌≤◌, Bool, true, false, ◌&&◌, ◌||◌, not, nat_le, nat_lt, nat_eq, cond, suc, List, [], ◌∷◌, ◌++◌, get_or, map, Option, Some, None, refl, sym, ap, subst, ◌∙◌, inl, inr, ⊎_elim, arith}
-use Rattle.std.specs.Prelude.{◌⊎◌, All, Contains, filter, find, is_none, is_some}
-use Rattle.std.specs.Cmp.{first_so, second_so}
-use Rattle.std.specs.List.{list_all, position_from}
-use Rattle.std.specs.Option.{option_and_then, option_map, option_map_or}
-use Rattle.std.specs.Str.{bytes_eq}
-use Rattle.std.specs.Cmp.Lexicographic.{bytes_decides}
-use Rattle.std.proofs.lemmas.Bool.{and_from, and_parts, cases_lt, eq-eqb, eqb-true, le-leb, leb-true, lt-ltb, ltb-true, ne_eqb, or_cases, or_left, or_parts, or_right}
-use Rattle.std.proofs.lemmas.Iterator.Adapters.{position_from-zero}
-use Rattle.std.proofs.lemmas.List.Elements.{All-append, All-cons, All-contains, All-head, All-nil, All-tail}
-use Rattle.std.proofs.lemmas.List.Folds.{list_any_at}
-use Rattle.std.proofs.lemmas.List.Quantifiers.{position-Some}
-use Rattle.std.proofs.lemmas.List.Sums.{AllPass-from_list_all, list_all-from_AllPass}
-use Rattle.facts.proofs.Members.{Contains-slice_get}
-use Rattle.facts.proofs.Tests.{find-agree, find-filter, find-has, find-passes, find_place}
-use Rattle.modules.specs.Kept.{is_built_in}
-use Rattle.modules.specs.LineMarks.{HaveFirstLines, kernel_marks, line_marks, mark_of, marks_of, name_of, number_for, number_in}
-use Rattle.modules.specs.Listed.{ListedSymbol}
-use Rattle.modules.specs.MarkedModules.{StandsFor}
-use Rattle.modules.specs.Marks.{GoesOn, IsFirstMark, IsNearestMark, IsNextMark, Owns}
-use Rattle.modules.specs.Owners.{goes_on, is_in_page, is_nearest_line, is_next_line, is_of_one_module, is_outside, module_of_address, post_above, post_below, posts, reach}
-use Rattle.modules.specs.Regions.{holds, lies_in_any}
-use Rattle.modules.specs.declared.marks.Mark.{Mark}
+use Rattle.modules.proofs.Words.{◌≡◌, ◌≢◌, ℕ, ◌+◌, ◌-◌, ◌^◌, ◌<◌, ◌≤◌, Bool, true, false, ◌&&◌, ◌||◌, not, nat_le, nat_lt, nat_eq, cond, suc, List, [], ◌∷◌, ◌++◌, get_or, map, Option, Some, None, refl, sym, ap, subst, ◌∙◌, inl, inr, ⊎_elim, arith, ◌⊎◌, All, Contains, filter, find, is_none, is_some, first_so, second_so, list_all, position_from, option_and_then, option_map, option_map_or, bytes_eq, bytes_decides}
+use Rattle.modules.proofs.Lemmas.{and_from, and_parts, cases_lt, eq-eqb, eqb-true, le-leb, leb-true, lt-ltb, ltb-true, ne_eqb, or_cases, or_left, or_parts, or_right, position_from-zero, All-append, All-cons, All-contains, All-head, All-nil, All-tail, list_any_at, position-Some, AllPass-from_list_all, list_all-from_AllPass, Contains-slice_get, find-agree, find-filter, find-has, find-passes, find_place}
+use Rattle.modules.proofs.Definitions.{is_built_in, HaveFirstLines, kernel_marks, line_marks, mark_of, marks_of, name_of, number_for, number_in, ListedSymbol, StandsFor, GoesOn, IsFirstMark, IsNearestMark, IsNextMark, Owns, goes_on, is_in_page, is_nearest_line, is_next_line, is_of_one_module, is_outside, module_of_address, post_above, post_below, posts, reach, holds, lies_in_any, Mark}
 use Rattle.modules.proofs.KeptLemmas.{not_built_in}
 use Rattle.modules.proofs.MarkOrderLemmas.{first_found, found_first, is_at}
 use Rattle.modules.proofs.OwnLineLemmas.{is_of, named, same_bool}

@@ -1,14 +1,7 @@
 -- The preferred symbol of a list is the first that no other one wins against.
-use Rattle.std.proofs.Common.{◌≡◌, ℕ, ◌<◌, ◌≤◌, Bool, true, false, ◌&&◌, ◌||◌, not, nat_lt, nat_le, cond, List, [], ◌∷◌, get_or, Some, None, refl, sym, ap, ◌∙◌, ⊎_elim, arith}
-use Rattle.std.specs.Prelude.{find, filter, fold}
-use Rattle.std.specs.Cmp.{first_so, second_so}
-use Rattle.std.specs.List.{list_all, list_any}
-use Rattle.std.specs.Option.{option_map}
-use Rattle.std.proofs.lemmas.Bool.{cases_lt, lt-ltb, le-ltb, lt-leb, le-leb, ltb-true, ltb-false}
-use Rattle.facts.proofs.Tests.{find-agree, find-filter, list_all-agree, list_all-filter}
-use Rattle.modules.specs.Around.{address_above, is_nearest, is_next, symbol_below}
-use Rattle.modules.specs.Entries.{SymbolEntry}
-use Rattle.modules.specs.Preferred.{preferred, is_above, is_below, highest_of, lowest_of}
+use Rattle.modules.proofs.Words.{◌≡◌, ℕ, ◌<◌, ◌≤◌, Bool, true, false, ◌&&◌, ◌||◌, not, nat_lt, nat_le, cond, List, [], ◌∷◌, get_or, Some, None, refl, sym, ap, ◌∙◌, ⊎_elim, arith, find, filter, fold, first_so, second_so, list_all, list_any, option_map}
+use Rattle.modules.proofs.Lemmas.{cases_lt, lt-ltb, le-ltb, lt-leb, le-leb, ltb-true, ltb-false, find-agree, find-filter, list_all-agree, list_all-filter}
+use Rattle.modules.proofs.Definitions.{address_above, is_nearest, is_next, symbol_below, SymbolEntry, preferred, is_above, is_below, highest_of, lowest_of}
 
 -- no symbol of the list wins against it
 abbrev pub is_unbeaten : (SymbolEntry → SymbolEntry → Bool) → List SymbolEntry → SymbolEntry → Bool

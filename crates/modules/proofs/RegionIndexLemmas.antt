@@ -1,19 +1,8 @@
 -- What a search of the list by rising first address finds.
-use Rattle.std.proofs.Common.{◌≡◌, ℕ, ◌-◌, ◌<◌, ◌≤◌, ⊎_elim, List, length, get_or, Some, None, ap, ◌∙◌, arith}
-use Rattle.std.specs.Prelude.{Contains}
-use Rattle.std.specs.List.Sorted.{IsNonDecreasingBy}
-use Rattle.std.proofs.lemmas.Bool.{cases_lt}
-use Rattle.std.proofs.lemmas.List.{get_or_default}
-use Rattle.std.proofs.lemmas.List.Sorted.{Contains-permutation, IsPermutation-sym}
-use Rattle.order_laws.specs.declared.items.Item.{Item}
-use Rattle.order_laws.specs.Orders.{half_open}
-use Rattle.order_laws.proofs.TableLemmas.{look_is}
-use Rattle.modules.specs.Catalogs.{IsSoundCatalog}
-use Rattle.modules.specs.Entries.{CatalogEntries}
-use Rattle.modules.specs.Items.{items_of}
+use Rattle.modules.proofs.Words.{◌≡◌, ℕ, ◌-◌, ◌<◌, ◌≤◌, ⊎_elim, List, length, get_or, Some, None, ap, ◌∙◌, arith, Contains, IsNonDecreasingBy}
+use Rattle.modules.proofs.Lemmas.{cases_lt, get_or_default, Contains-permutation, IsPermutation-sym, look_is}
+use Rattle.modules.proofs.Definitions.{Item, half_open, IsSoundCatalog, CatalogEntries, items_of, IsIndexOf, IsItemSplit, item_of_address}
 use Rattle.modules.proofs.ApartItemLemmas.{each_has_addresses, none_found, same_or_apart, some_found}
-use Rattle.modules.specs.RegionIndexes.{IsIndexOf, IsItemSplit}
-use Rattle.modules.specs.Items.{item_of_address}
 
 -- where the items rise, their neighbours tell a place
 pub IsSplit-between : (items : List Item) (addr split : ℕ) → IsNonDecreasingBy (λ i. i.a) items → split ≤ length items

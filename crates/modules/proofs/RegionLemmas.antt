@@ -1,19 +1,7 @@
 -- Each module has 1 to 7 regions.
-use Rattle.std.proofs.Common.{◌≡◌, ℕ, ◌+◌, ◌^◌, ◌<◌, ◌≤◌, true, false, ◌||◌, nat_le, cond, List, [], ◌∷◌, length, get_or, map, refl, sym, ap, ◌∙◌, ⊎_elim, arith}
-use Rattle.std.specs.Prelude.{All}
-use Rattle.std.specs.Cmp.Lexicographic.{bytes_decides}
-use Rattle.std.specs.List.{list_any}
-use Rattle.std.specs.Str.{bytes_eq}
-use Rattle.std.proofs.lemmas.Bool.{leb-true}
-use Rattle.std.proofs.lemmas.Bool.Decides.{nat_tests}
-use Rattle.std.proofs.lemmas.List.{length-map}
-use Rattle.std.proofs.lemmas.List.Elements.{All-nil, All-cons, All-map, All-filter}
-use Rattle.std.proofs.lemmas.List.Sums.{AllPass-from_list_all}
-use Rattle.facts.proofs.Tests.{some_passes}
-use Rattle.modules.specs.Lines.{region_line_region, fits, is_region, region_fits, module_line_region}
-use Rattle.modules.specs.Listed.{ListedModule, ListedRegion}
-use Rattle.modules.specs.Parts.{is_core}
-use Rattle.modules.specs.Placed.{IsPlaced, PlacedModule, are_few, has_core, lines_named, placed_line, placed_alone, placed_by}
+use Rattle.modules.proofs.Words.{◌≡◌, ℕ, ◌+◌, ◌^◌, ◌<◌, ◌≤◌, true, false, ◌||◌, nat_le, cond, List, [], ◌∷◌, length, get_or, map, refl, sym, ap, ◌∙◌, ⊎_elim, arith, All, bytes_decides, list_any, bytes_eq}
+use Rattle.modules.proofs.Lemmas.{leb-true, nat_tests, length-map, All-nil, All-cons, All-map, All-filter, AllPass-from_list_all, some_passes}
+use Rattle.modules.proofs.Definitions.{region_line_region, fits, is_region, region_fits, module_line_region, ListedModule, ListedRegion, is_core, IsPlaced, PlacedModule, are_few, has_core, lines_named, placed_line, placed_alone, placed_by}
 
 pub region_parts : (base size : ℕ) → is_region base size ≡ true → (base < base + size) × (base + size < 2 ^ 64)
 region_parts base size h = (grind (arith, nat_tests), grind (arith, nat_tests))

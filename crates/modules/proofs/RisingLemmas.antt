@@ -1,17 +1,7 @@
 -- Symbols that are listed by rising address.
-use Rattle.std.proofs.Common.{◌≡◌, ℕ, ◌-◌, ◌<◌, ◌≤◌, ◌⊎◌, true, false, ◌||◌, nat_lt, nat_le, List, length, get_or, Some, None, sym, ap, subst, ◌∙◌, inl, inr, ⊎_elim, arith}
-use Rattle.std.specs.Prelude.{slice_get}
-use Rattle.std.specs.Option.{option_map}
-use Rattle.std.specs.List.Sorted.{IsPartitionPoint}
-use Rattle.std.proofs.lemmas.Bool.{cases_lt, false_from_ne_true, and_parts, le-leb, le-ltb, lt-leb, lt-ltb, ltb-false, ltb-true}
-use Rattle.std.proofs.lemmas.List.{get_or_default}
-use Rattle.std.proofs.lemmas.List.Sums.{AllPass-from_list_all, list_all-from_AllPass}
-use Rattle.std.proofs.lemmas.Option.{slice_get_cases}
-use Rattle.facts.proofs.Numbers.{le_or_past, le_unless_past, least_above}
-use Rattle.facts.proofs.Tests.{find-first, find-none}
-use Rattle.modules.specs.Around.{is_nearest, symbol_below, is_next, address_above}
-use Rattle.modules.specs.Entries.{SymbolEntry}
-use Rattle.modules.specs.Index.{IsFirstBorder, IsFirstOf, IsRising, IsSplitOf}
+use Rattle.modules.proofs.Words.{◌≡◌, ℕ, ◌-◌, ◌<◌, ◌≤◌, ◌⊎◌, true, false, ◌||◌, nat_lt, nat_le, List, length, get_or, Some, None, sym, ap, subst, ◌∙◌, inl, inr, ⊎_elim, arith, slice_get, option_map, IsPartitionPoint}
+use Rattle.modules.proofs.Lemmas.{cases_lt, false_from_ne_true, and_parts, le-leb, le-ltb, lt-leb, lt-ltb, ltb-false, ltb-true, get_or_default, AllPass-from_list_all, list_all-from_AllPass, slice_get_cases, le_or_past, le_unless_past, least_above, find-first, find-none}
+use Rattle.modules.proofs.Definitions.{is_nearest, symbol_below, is_next, address_above, SymbolEntry, IsFirstBorder, IsFirstOf, IsRising, IsSplitOf}
 
 pub IsFirstOf-from_partition : (symbols : List SymbolEntry) (addr split : ℕ) → split ≤ length symbols → IsPartitionPoint (λ s. nat_lt s.addr addr ≡ true) (λ s. nat_lt s.addr addr ≡ false) symbols split → IsFirstOf symbols addr split
 IsFirstOf-from_partition symbols addr split bound point =

@@ -1,11 +1,7 @@
 -- The region that an address lies in, of regions that rise.
-use Rattle.std.proofs.Common.{◌≡◌, ℕ, ◌-◌, ◌<◌, ◌≤◌, true, false, List, length, get_or, refl, sym, subst, ⊎_elim, arith}
-use Rattle.std.specs.List.Sorted.{IsNonDecreasingBy}
-use Rattle.std.proofs.lemmas.Bool.{cases_lt, false_from_ne_true}
-use Rattle.std.proofs.lemmas.List.{get_or_default}
-use Rattle.std.proofs.lemmas.List.Folds.{list_any_at, list_any_none}
-use Rattle.modules.specs.Index.{IsSplitBy}
-use Rattle.modules.specs.Regions.{AreRising, holds, lies_in_any}
+use Rattle.modules.proofs.Words.{◌≡◌, ℕ, ◌-◌, ◌<◌, ◌≤◌, true, false, List, length, get_or, refl, sym, subst, ⊎_elim, arith, IsNonDecreasingBy}
+use Rattle.modules.proofs.Lemmas.{cases_lt, false_from_ne_true, get_or_default, list_any_at, list_any_none}
+use Rattle.modules.proofs.Definitions.{IsSplitBy, AreRising, holds, lies_in_any}
 use Rattle.modules.proofs.SpacedLemmas.{inside}
 
 module _ (regions : List (ℕ × ℕ)) (r : AreRising regions) where

@@ -1,19 +1,7 @@
 -- Lines that have the name of their module by their run.
-use Rattle.std.proofs.Common.{◌≡◌, ℕ, zero, suc, ◌<◌, Bool, true, false, not, ◌&&◌, ◌||◌, ◌==◌, cond, List, [], ◌∷◌, ◌++◌, length, map, take, drop, get_or, Some, None, Option, refl, sym, ap, ◌∙◌, arith, append_assoc}
-use Rattle.std.specs.Prelude.{find, is_none, is_some}
-use Rattle.std.specs.Borrow.{Bor}
-use Rattle.std.specs.List.{list_any}
-use Rattle.std.specs.Option.{option_copied, option_map}
-use Rattle.std.specs.Str.{bytes_eq}
-use Rattle.std.proofs.lemmas.List.{map-append, append-nil}
-use Rattle.std.proofs.lemmas.Bool.{ne_eqb}
-use Rattle.std.proofs.lemmas.List.Folds.{list_any-append}
-use Rattle.std.proofs.lemmas.Grind.{flat_map-append}
-use Rattle.modules.specs.Entries.{SymbolEntry}
-use Rattle.modules.specs.Lines.{first_address}
-use Rattle.modules.specs.Listed.{ListedSymbol}
-use Rattle.modules.specs.Runs.{line_of, lines_of_run, lines_of_all}
-use Rattle.modules.specs.declared.symbol_lines.Run.{Run}
+use Rattle.modules.proofs.Words.{◌≡◌, ℕ, zero, suc, ◌<◌, Bool, true, false, not, ◌&&◌, ◌||◌, ◌==◌, cond, List, [], ◌∷◌, ◌++◌, length, map, take, drop, get_or, Some, None, Option, refl, sym, ap, ◌∙◌, arith, append_assoc, find, is_none, is_some, Bor, list_any, option_copied, option_map, bytes_eq}
+use Rattle.modules.proofs.Lemmas.{map-append, append-nil, ne_eqb, list_any-append, flat_map-append}
+use Rattle.modules.proofs.Definitions.{SymbolEntry, first_address, ListedSymbol, line_of, lines_of_run, lines_of_all, Run}
 
 -- the lines of all runs, and those of the last
 pub lines_of_all-last : (runs : List Run) (r : Run) → lines_of_all (runs ++ r ∷ []) ≡ lines_of_all runs ++ lines_of_run r

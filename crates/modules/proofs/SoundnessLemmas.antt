@@ -1,31 +1,7 @@
 -- The accepted modules have distinct names and regions that lie apart.
-use Rattle.std.proofs.Common.{◌≡◌, ◌≢◌, ℕ, ◌+◌, ◌*◌, ◌<◌, ◌≤◌, suc, true, false, ◌&&◌, nat_lt, cond, List, [], ◌∷◌, ◌++◌, length, get_or, map, Some, None, Option, refl, sym, ap, ◌∙◌, subst, arith, append_assoc, length-append}
-use Rattle.std.specs.Prelude.{All, IfSome, fold}
-use Rattle.std.specs.Cmp.Lexicographic.{bytes_decides}
-use Rattle.std.specs.List.{AllPairs, flat_map, list_any, list_all}
-use Rattle.std.specs.Option.{option_and_then, option_map_or, option_to_list}
-use Rattle.std.specs.Str.{bytes_eq}
-use Rattle.std.proofs.lemmas.Bool.Decides.{nat_tests}
-use Rattle.std.proofs.lemmas.List.{append-nil, length-map, map-append}
-use Rattle.std.proofs.lemmas.List.Concat.{flat_map-append}
-use Rattle.std.proofs.lemmas.List.Elements.{All-nil, All-push, All-head, All-tail, All-cons}
-use Rattle.std.proofs.lemmas.List.Folds.{list_all-append, list_any_at}
-use Rattle.std.proofs.lemmas.List.Quantifiers.{all_pairs_push}
-use Rattle.std.proofs.lemmas.List.Sums.{AllPass-from_list_all, list_all-from_AllPass}
-use Rattle.std.proofs.lemmas.Bool.{and_from, and_parts}
-use Rattle.facts.proofs.Pairs.{AllPairs-few}
-use Rattle.modules.specs.Accepted.{Accepted, accepted_of, after_module, names_of, none_yet, taken_regions}
-use Rattle.modules.specs.Building.{built_in_with, kernel_at, module_with, placed_module_of}
-use Rattle.modules.specs.Catalogs.{IsSoundCatalog, built_in_of, catalog_of, catalog_with, entry_for}
-use Rattle.modules.specs.Entries.{ModuleEntry, SymbolEntry}
-use Rattle.modules.specs.Kept.{AreDistinctNames, is_built_in, symbols_that}
-use Rattle.modules.specs.Lines.{fits, region_fits, first_address, built_in_region, code_regions, kernel_regions, start_bounds, text_bounds, usual_bounds, with_apart}
-use Rattle.modules.specs.Listed.{BoundNames, ListedModule, ListedRegion, ListedSymbol}
-use Rattle.modules.specs.Names.{names_in}
-use Rattle.modules.specs.Placed.{IsPlaced, PlacedModule, are_few, placed_line}
-use Rattle.modules.specs.PlacedModules.{AreSoundModules}
-use Rattle.modules.specs.Regions.{AreApart, are_beside, is_apart, lie_apart}
-use Rattle.modules.specs.declared.lines.Part.TheVariants.{Core}
+use Rattle.modules.proofs.Words.{◌≡◌, ◌≢◌, ℕ, ◌+◌, ◌*◌, ◌<◌, ◌≤◌, suc, true, false, ◌&&◌, nat_lt, cond, List, [], ◌∷◌, ◌++◌, length, get_or, map, Some, None, Option, refl, sym, ap, ◌∙◌, subst, arith, append_assoc, length-append, All, IfSome, fold, bytes_decides, AllPairs, flat_map, list_any, list_all, option_and_then, option_map_or, option_to_list, bytes_eq}
+use Rattle.modules.proofs.Lemmas.{nat_tests, append-nil, length-map, map-append, flat_map-append, All-nil, All-push, All-head, All-tail, All-cons, list_all-append, list_any_at, all_pairs_push, AllPass-from_list_all, list_all-from_AllPass, and_from, and_parts, AllPairs-few}
+use Rattle.modules.proofs.Definitions.{Accepted, accepted_of, after_module, names_of, none_yet, taken_regions, built_in_with, kernel_at, module_with, placed_module_of, IsSoundCatalog, built_in_of, catalog_of, catalog_with, entry_for, ModuleEntry, SymbolEntry, AreDistinctNames, is_built_in, symbols_that, fits, region_fits, first_address, built_in_region, code_regions, kernel_regions, start_bounds, text_bounds, usual_bounds, with_apart, BoundNames, ListedModule, ListedRegion, ListedSymbol, names_in, IsPlaced, PlacedModule, are_few, placed_line, AreSoundModules, AreApart, are_beside, is_apart, lie_apart, Core}
 use Rattle.modules.proofs.RegionLemmas.{HasFew, IsPlaced-placed, few_placed}
 
 pub turned : (r s : ℕ × ℕ) → is_apart r s ≡ true → is_apart s r ≡ true

@@ -1,18 +1,7 @@
 -- Regions by rising address, with addresses between any two, are determined by what they hold.
-use Rattle.std.proofs.Common.{◌≡◌, ℕ, ◌<◌, ◌≤◌, suc, Bool, true, List, [], ◌∷◌, map, Option, Some, refl, ap, sym, ◌∙◌, ⊎_elim, arith}
-use Rattle.std.specs.Prelude.{All}
-use Rattle.std.specs.List.{AllPairs, list_any}
-use Rattle.std.proofs.lemmas.Bool.{cases_lt, or_cases, or_left, or_right}
-use Rattle.std.proofs.lemmas.Bool.Decides.{nat_tests}
-use Rattle.std.proofs.lemmas.List.Elements.{All-head, All-tail}
-use Rattle.modules.specs.Accepted.{Accepted}
-use Rattle.modules.specs.Lines.{kernel_regions}
-use Rattle.modules.specs.Listed.{BoundNames, ListedSymbol}
-use Rattle.modules.specs.Owners.{posts}
-use Rattle.modules.specs.Placed.{PlacedModule}
-use Rattle.modules.specs.Regions.{holds}
-use Rattle.modules.specs.declared.lines.Part.TheVariants.{Core}
-use Rattle.modules.specs.FromSymbols.{HasItsRegions, IsFromSymbols}
+use Rattle.modules.proofs.Words.{◌≡◌, ℕ, ◌<◌, ◌≤◌, suc, Bool, true, List, [], ◌∷◌, map, Option, Some, refl, ap, sym, ◌∙◌, ⊎_elim, arith, All, AllPairs, list_any}
+use Rattle.modules.proofs.Lemmas.{cases_lt, or_cases, or_left, or_right, nat_tests, All-head, All-tail}
+use Rattle.modules.proofs.Definitions.{Accepted, kernel_regions, BoundNames, ListedSymbol, posts, PlacedModule, holds, Core, HasItsRegions, IsFromSymbols}
 
 abbrev pub Range : Type 0
 Range = ℕ × ℕ

@@ -1,20 +1,7 @@
 -- A region beside regions that are spread.
-use Rattle.std.proofs.Common.{◌≡◌, ℕ, ◌<◌, ◌≤◌, true, false, nat_le, get_or, Some, None, refl, sym, ap, ◌∙◌, ⊎_elim, arith}
-use Rattle.std.specs.Prelude.{Contains, IsSome}
-use Rattle.std.specs.List.{list_all}
-use Rattle.std.specs.Ordering.{nat_cmp}
-use Rattle.std.specs.BTreeMap.{BTreeMap, IsOrdered, Updates, get}
-use Rattle.std.proofs.lemmas.Bool.{cases_lt, cases_order}
-use Rattle.std.proofs.lemmas.Bool.Decides.{nat_tests}
-use Rattle.std.proofs.lemmas.Cmp.{nat_cmp_total}
-use Rattle.std.proofs.lemmas.List.Elements.{Contains-get_or, All-contains}
-use Rattle.std.proofs.lemmas.List.Sums.{AllPass-from_list_all, list_all-from_AllPass}
-use Rattle.std.proofs.lemmas.List.Folds.{list_all_at}
-use Rattle.std.proofs.lemmas.Map.Lookups.{exact_unsigned}
-use Rattle.std.proofs.lemmas.Map.Views.{All-found, btree_map_get_iff}
-use Rattle.facts.proofs.Maps.{inserted_cases}
-use Rattle.modules.specs.Regions.{is_apart}
-use Rattle.modules.specs.Spread.{IsSpread}
+use Rattle.modules.proofs.Words.{◌≡◌, ℕ, ◌<◌, ◌≤◌, true, false, nat_le, get_or, Some, None, refl, sym, ap, ◌∙◌, ⊎_elim, arith, Contains, IsSome, list_all, nat_cmp, BTreeMap, IsOrdered, Updates, get}
+use Rattle.modules.proofs.Lemmas.{cases_lt, cases_order, nat_tests, nat_cmp_total, Contains-get_or, All-contains, AllPass-from_list_all, list_all-from_AllPass, list_all_at, exact_unsigned, All-found, btree_map_get_iff, inserted_cases}
+use Rattle.modules.proofs.Definitions.{is_apart, IsSpread}
 
 pub apart_before : (r s : ℕ × ℕ) → s.1 ≤ r.0 → is_apart r s ≡ true
 apart_before r s h = grind (arith, nat_tests)

@@ -1,19 +1,7 @@
 -- Each module has a region of its core.
-use Rattle.std.proofs.Common.{◌≡◌, ℕ, ◌<◌, true, List, length, get_or, Some, None, Option, refl, sym, ap, ◌∙◌, arith}
-use Rattle.std.specs.Prelude.{is_some, position, slice_get}
-use Rattle.std.specs.Option.{option_and_then, option_map}
-use Rattle.std.proofs.lemmas.Iterator.Adapters.{position_from-zero}
-use Rattle.std.proofs.lemmas.List.Quantifiers.{position-Some}
-use Rattle.std.proofs.lemmas.Option.{slice_get-get_or}
-use Rattle.facts.proofs.Options.{Some_ne_None}
-use Rattle.facts.proofs.Tests.{is_some-position_from}
-use Rattle.modules.specs.Building.{placed_module_of}
-use Rattle.modules.specs.Entries.{ModuleEntry}
-use Rattle.modules.specs.Parts.{is_core}
-use Rattle.modules.specs.Placed.{IsPlaced}
-use Rattle.modules.specs.Starts.{first_start, start_at}
-use Rattle.modules.specs.declared.lines.Part.{Part}
-use Rattle.modules.specs.declared.lines.Part.TheVariants.{Core}
+use Rattle.modules.proofs.Words.{◌≡◌, ℕ, ◌<◌, true, List, length, get_or, Some, None, Option, refl, sym, ap, ◌∙◌, arith, is_some, position, slice_get, option_and_then, option_map}
+use Rattle.modules.proofs.Lemmas.{position_from-zero, position-Some, slice_get-get_or, Some_ne_None, is_some-position_from}
+use Rattle.modules.proofs.Definitions.{placed_module_of, ModuleEntry, is_core, IsPlaced, first_start, start_at, Part, Core}
 
 start_by : (o : Option ℕ) (regions : List (ℕ × ℕ)) (parts : List Part) → position is_core parts ≡ o → is_some o ≡ true → length parts ≡ length regions → option_and_then (start_at regions) o ≡ None → ⊥
 start_by None regions parts is some same none = absurd (cc)

@@ -1,14 +1,7 @@
 -- What one step of the sweep adds.
-use Rattle.std.proofs.Common.{◌≡◌, ℕ, ◌+◌, ◌-◌, ◌^◌, ◌<◌, ◌≤◌, true, List, length, get_or, ap, sym, subst, ◌∙◌, inl, inr, ⊎_elim, arith}
-use Rattle.std.specs.Prelude.{◌≢◌, ◌⊎◌, ◌↔◌}
-use Rattle.std.specs.List.Sorted.{IsNonDecreasingBy}
-use Rattle.std.proofs.lemmas.Bool.{cases_lt}
-use Rattle.std.proofs.lemmas.List.{get_or_default}
-use Rattle.order_laws.specs.declared.items.Item.{Item}
-use Rattle.modules.specs.Marks.{HoldsFor}
-use Rattle.modules.specs.Marks.{GoesOn, IsFirstMark, IsNearestMark, IsNextMark, Owns}
-use Rattle.modules.specs.Owners.{is_in_page, reach}
-use Rattle.modules.specs.declared.marks.Mark.{Mark}
+use Rattle.modules.proofs.Words.{◌≡◌, ℕ, ◌+◌, ◌-◌, ◌^◌, ◌<◌, ◌≤◌, true, List, length, get_or, ap, sym, subst, ◌∙◌, inl, inr, ⊎_elim, arith, ◌≢◌, ◌⊎◌, ◌↔◌, IsNonDecreasingBy}
+use Rattle.modules.proofs.Lemmas.{cases_lt, get_or_default}
+use Rattle.modules.proofs.Definitions.{Item, HoldsFor, GoesOn, IsFirstMark, IsNearestMark, IsNextMark, Owns, is_in_page, reach, Mark}
 
 -- of the marks below a place, this is the first of the greatest address
 pub record IsFrom (marks : List Mark) (done : ℕ) (from : Mark) : Type 0 where

@@ -1,16 +1,6 @@
 -- The modules of a listing that is kept in runs.
 use Rattle.std.proofs.Common.{◌≡◌, ℕ, List, Option, sym, ap, subst, ◌∙◌}
-use Rattle.order_laws.specs.declared.items.Item.{Item}
-use Rattle.modules.specs.Accepted.{accepted_with}
-use Rattle.modules.specs.FromSymbols.{IsFromSymbols}
-use Rattle.modules.specs.LineMarks.{AreNamed, kept_numbers, marks_of, modules_numbered}
-use Rattle.modules.specs.Lines.{kernel_regions}
-use Rattle.modules.specs.Listed.{BoundNames, ListedSymbol}
-use Rattle.modules.specs.Marks.{AreRegions}
-use Rattle.modules.specs.Placed.{PlacedModule}
-use Rattle.modules.specs.Runs.{lines_of_all}
-use Rattle.modules.specs.declared.marks.Mark.{Mark}
-use Rattle.modules.specs.declared.symbol_lines.Run.{Run}
+use Rattle.modules.proofs.Definitions.{Item, accepted_with, IsFromSymbols, AreNamed, kept_numbers, marks_of, modules_numbered, kernel_regions, BoundNames, ListedSymbol, AreRegions, PlacedModule, lines_of_all, Mark, Run}
 use Rattle.modules.proofs.KeptOrderLemmas.{from_symbols}
 
 -- the modules of the kept numbers are those of the listing

@@ -1,26 +1,7 @@
 -- The regions of numbers, of which some are taken.
-use Rattle.std.proofs.Common.{◌≡◌, ◌≢◌, ℕ, zero, suc, zero-add, ◌+◌, ◌<◌, ◌≤◌, Bool, true, false, ◌||◌, nat_eq, cond, List, [], ◌∷◌, ◌++◌, length, get_or, map, take, Option, Some, None, refl, sym, ap, subst, ◌∙◌, ⊎_elim, arith, length-append}
-use Rattle.std.specs.Prelude.{All, Contains, filter, fold, count_by}
-use Rattle.std.specs.Global.{Vec}
-use Rattle.std.specs.List.{flat_map, list_any}
-use Rattle.std.specs.Option.{option_map_or}
-use Rattle.std.proofs.Math.ListN.{set, length-set}
-use Rattle.std.proofs.lemmas.Bool.{cases_eq, eqb-true, eq-eqb, ne_eqb, or_left, or_parts, or_right}
-use Rattle.std.proofs.lemmas.List.{append-nil, get_or-set_other, get_or_default, map-append, take_more}
-use Rattle.std.proofs.lemmas.List.Elements.{All-contains}
-use Rattle.std.proofs.lemmas.List.Folds.{list_any-append}
-use Rattle.std.proofs.lemmas.List.Sums.{count_by-le-length, sum_by-append, sum_by-cons}
-use Rattle.std.proofs.lemmas.Grind.{get_or-set_at}
-use Rattle.order_laws.specs.declared.items.Item.{Item}
-use Rattle.order_laws.specs.Orders.{half_open}
-use Rattle.order_laws.specs.Tables.{IsLook, look}
-use Rattle.order_laws.proofs.TableLemmas.{look_is}
-use Rattle.modules.specs.LineMarks.{AreLeft, is_kept_mark, kept_numbers, modules_numbered, name_of, with_number}
-use Rattle.modules.specs.MarkedModules.{numbered_module, ranges_of}
-use Rattle.modules.specs.Marks.{AreLaid, AreRegions, HoldsFor}
-use Rattle.modules.specs.Placed.{PlacedModule}
-use Rattle.modules.specs.Regions.{AreRising}
-use Rattle.modules.specs.declared.marks.Mark.{Mark}
+use Rattle.modules.proofs.Words.{◌≡◌, ◌≢◌, ℕ, zero, suc, zero-add, ◌+◌, ◌<◌, ◌≤◌, Bool, true, false, ◌||◌, nat_eq, cond, List, [], ◌∷◌, ◌++◌, length, get_or, map, take, Option, Some, None, refl, sym, ap, subst, ◌∙◌, ⊎_elim, arith, length-append, All, Contains, filter, fold, count_by, Vec, flat_map, list_any, option_map_or}
+use Rattle.modules.proofs.Lemmas.{set, length-set, cases_eq, eqb-true, eq-eqb, ne_eqb, or_left, or_parts, or_right, append-nil, get_or-set_other, get_or_default, map-append, take_more, All-contains, list_any-append, count_by-le-length, sum_by-append, sum_by-cons, get_or-set_at, look_is}
+use Rattle.modules.proofs.Definitions.{Item, half_open, IsLook, look, AreLeft, is_kept_mark, kept_numbers, modules_numbered, name_of, with_number, numbered_module, ranges_of, AreLaid, AreRegions, HoldsFor, PlacedModule, AreRising, Mark}
 use Rattle.modules.proofs.MarkedModuleLemmas.{from_holds, spaced, valid_ranges}
 use Rattle.modules.proofs.SpacedLemmas.{lies}
 

@@ -1,17 +1,8 @@
 -- The symbols of a module that lie in one of its regions.
-use Rattle.std.proofs.Common.{◌≡◌, ℕ, ◌<◌, ◌≤◌, Bool, true, false, ◌&&◌, ◌||◌, not, nat_lt, nat_le, cond, min, List, get_or, Some, None, Option, refl, ap, ◌∙◌, arith}
-use Rattle.std.specs.Prelude.{find, unwrap_or}
-use Rattle.std.specs.List.{list_all}
-use Rattle.std.specs.Option.{option_map}
-use Rattle.std.proofs.lemmas.Bool.{le-leb, leb-true, lt-leb, lt-ltb, ltb-false, ltb-true}
-use Rattle.facts.proofs.Numbers.{le_or_past_within, least_above_within}
-use Rattle.facts.proofs.Tests.{find-agree, find-both_none, find-both_some, find-filter, list_all-agree, list_all-filter}
-use Rattle.facts.proofs.Bools.{and-needless_first, and-needless_second}
+use Rattle.modules.proofs.Words.{◌≡◌, ℕ, ◌<◌, ◌≤◌, Bool, true, false, ◌&&◌, ◌||◌, not, nat_lt, nat_le, cond, min, List, get_or, Some, None, Option, refl, ap, ◌∙◌, arith, find, unwrap_or, list_all, option_map}
+use Rattle.modules.proofs.Lemmas.{le-leb, leb-true, lt-leb, lt-ltb, ltb-false, ltb-true, le_or_past_within, least_above_within, find-agree, find-both_none, find-both_some, find-filter, list_all-agree, list_all-filter, and-needless_first, and-needless_second}
+use Rattle.modules.proofs.Definitions.{address_above, is_nearest, is_next, symbol_below, SymbolEntry, holds, symbols_from}
 use Rattle.modules.proofs.AroundLemmas.{one_nearest, one_next}
-use Rattle.modules.specs.Around.{address_above, is_nearest, is_next, symbol_below}
-use Rattle.modules.specs.Entries.{SymbolEntry}
-use Rattle.modules.specs.Regions.{holds}
-use Rattle.modules.specs.Found.{symbols_from}
 
 below_within : (symbols : List SymbolEntry) (start end addr : ℕ) → start ≤ addr → addr < end → symbol_below (symbols_from symbols start end) addr ≡ find (λ s. nat_le start s.addr && is_nearest symbols addr s) symbols
 below_within symbols start end addr from below =

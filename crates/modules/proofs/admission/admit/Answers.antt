@@ -1,10 +1,6 @@
-use Rattle.std.proofs.Common.{◌≡◌, ◌+◌, take, sym, ap, ◌∙◌}
-use Rattle.std.specs.Prelude.{fold}
+use Rattle.modules.proofs.Words.{◌≡◌, ◌+◌, take, sym, ap, ◌∙◌, fold}
 use Rattle.std.proofs.lemmas.List.Sums.{fold_more}
-use Rattle.modules.specs.Accepted.{Accepted, after_module, none_yet}
-use Rattle.modules.specs.Admissions.{admission_view}
-use Rattle.modules.specs.Listed.{ListedModule}
-use Rattle.modules.specs.Placed.{PlacedModule, placed_line}
+use Rattle.modules.proofs.Definitions.{Accepted, after_module, none_yet, admission_view, ListedModule, PlacedModule, placed_line}
 use Rattle.modules.proofs.AdmissionLemmas.{total, total-after_module}
 use Rattle.modules.proofs.admission.admit.Goals as goal
 

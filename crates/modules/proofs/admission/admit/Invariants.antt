@@ -1,8 +1,5 @@
-use Rattle.std.proofs.Common.{◌≡◌}
-use Rattle.std.specs.Prelude.{fold, take}
-use Rattle.modules.specs.Accepted.{none_yet, after_module}
-use Rattle.modules.specs.Admissions.{admission_view, IsAdmission}
-use Rattle.modules.specs.Placed.{placed_line}
+use Rattle.modules.proofs.Words.{◌≡◌, fold, take}
+use Rattle.modules.proofs.Definitions.{none_yet, after_module, admission_view, IsAdmission, placed_line}
 use Rattle.modules.proofs.AdmissionLemmas.{total}
 use Rattle.modules.proofs.admission.admit.Given as goal
 

@@ -1,5 +1,4 @@
-use Rattle.std.proofs.Common.{◌≡◌, ℕ, Bool, ◌&&◌, get_or, ap, ◌∙◌, arith}
-use Rattle.std.specs.List.{list_all}
+use Rattle.modules.proofs.Words.{◌≡◌, ℕ, Bool, ◌&&◌, get_or, ap, ◌∙◌, arith, list_all}
 use Rattle.modules.proofs.AdmissionLemmas.{IsTaking, taking}
 use Rattle.modules.proofs.admission.take_all.Goals as goal
 

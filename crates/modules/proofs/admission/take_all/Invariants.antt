@@ -1,5 +1,4 @@
-use Rattle.std.proofs.Common.{◌≡◌, ℕ, Bool, true, ◌&&◌, take, drop}
-use Rattle.std.specs.List.{list_all}
+use Rattle.modules.proofs.Words.{◌≡◌, ℕ, Bool, true, ◌&&◌, take, drop, list_all}
 use Rattle.modules.specs.Regions.{are_beside, lie_apart}
 use Rattle.modules.proofs.admission.take_all.Given as goal
 

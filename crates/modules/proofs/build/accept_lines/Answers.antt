@@ -1,13 +1,5 @@
-use Rattle.std.proofs.Common.{◌≡◌, ℕ, List, Option, sym, ap, ◌∙◌, subst, arith, length, length-append}
-use Rattle.std.specs.List.{flat_map}
-use Rattle.std.specs.Option.{option_copied}
-use Rattle.modules.specs.Accepted.{Accepted, accepted_of, taken_regions}
-use Rattle.modules.specs.Admissions.{admission_view}
-use Rattle.modules.specs.Lines.{kernel_regions}
-use Rattle.modules.specs.Listed.{BoundNames}
-use Rattle.modules.specs.Placed.{PlacedModule}
-use Rattle.modules.specs.PlacedModules.{AreSoundModules}
-use Rattle.modules.specs.Regions.{lie_apart}
+use Rattle.modules.proofs.Words.{◌≡◌, ℕ, List, Option, sym, ap, ◌∙◌, subst, arith, length, length-append, flat_map, option_copied}
+use Rattle.modules.proofs.Definitions.{Accepted, accepted_of, taken_regions, admission_view, kernel_regions, BoundNames, PlacedModule, AreSoundModules, lie_apart}
 use Rattle.modules.proofs.SoundnessLemmas.{accepted_good, built_in_of_accepted, few_accepted, kernel_apart, lie_apart_is, two_of_kernel}
 use Rattle.modules.proofs.build.accept_lines.Goals as goal
 

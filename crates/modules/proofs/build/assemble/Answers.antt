@@ -1,10 +1,5 @@
-use Rattle.std.proofs.Common.{ap, ◌∙◌}
-use Rattle.std.specs.Option.{option_copied}
-use Rattle.modules.specs.Accepted.{Accepted, accepted_of}
-use Rattle.modules.specs.Admissions.{admission_view}
-use Rattle.modules.specs.Catalogs.{catalog_with}
-use Rattle.modules.specs.Lines.{kernel_regions}
-use Rattle.modules.specs.declared.catalog.KeptCounts.{KeptCounts}
+use Rattle.modules.proofs.Words.{ap, ◌∙◌, option_copied}
+use Rattle.modules.proofs.Definitions.{Accepted, accepted_of, admission_view, catalog_with, kernel_regions, KeptCounts}
 use Rattle.modules.proofs.MakingLemmas.{counts_from}
 use Rattle.modules.proofs.build.assemble.Goals as goal
 

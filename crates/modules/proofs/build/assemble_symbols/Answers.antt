@@ -1,16 +1,5 @@
-use Rattle.std.proofs.Common.{◌≡◌, ℕ, ◌^◌, ◌<◌, List, Ok, Err, Option, Result, sym, ap, subst, length, length-append, arith, ◌∙◌}
-use Rattle.std.specs.Prelude.{IfOk}
-use Rattle.std.specs.List.{flat_map}
-use Rattle.std.specs.Option.{option_copied}
-use Rattle.std.specs.declared.alloc.AllocError.{AllocError}
-use Rattle.modules.specs.Accepted.{Accepted, accepted_with, taken_regions}
-use Rattle.modules.specs.Catalogs.{catalog_with, kept_counts}
-use Rattle.modules.specs.Entries.{CatalogEntries}
-use Rattle.modules.specs.FromSymbols.{IsFromSymbols}
-use Rattle.modules.specs.Listed.{BoundNames, ListedSymbol}
-use Rattle.modules.specs.Placed.{PlacedModule}
-use Rattle.modules.specs.PlacedModules.{AreSoundModules}
-use Rattle.modules.specs.declared.catalog.KeptCounts.{KeptCounts}
+use Rattle.modules.proofs.Words.{◌≡◌, ℕ, ◌^◌, ◌<◌, List, Ok, Err, Option, Result, sym, ap, subst, length, length-append, arith, ◌∙◌, IfOk, flat_map, option_copied, AllocError}
+use Rattle.modules.proofs.Definitions.{Accepted, accepted_with, taken_regions, catalog_with, kept_counts, CatalogEntries, IsFromSymbols, BoundNames, ListedSymbol, PlacedModule, AreSoundModules, KeptCounts}
 use Rattle.modules.proofs.AloneLemmas.{sound_alone}
 use Rattle.modules.proofs.SoundnessLemmas.{two_of_kernel}
 use Rattle.modules.proofs.build.assemble_symbols.Goals as goal

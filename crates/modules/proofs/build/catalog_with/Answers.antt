@@ -1,13 +1,5 @@
-use Rattle.std.proofs.Common.{◌≡◌, ◌+◌, ◌^◌, ◌<◌, List, Option, sym, ap, subst, ◌∙◌, length, length-append, map, arith}
-use Rattle.std.specs.Prelude.{All, ◌++◌}
-use Rattle.std.specs.Option.{option_to_list}
-use Rattle.std.specs.List.{flat_map}
-use Rattle.modules.specs.Accepted.{Accepted, taken_regions}
-use Rattle.modules.specs.Building.{AreModules, built_in_with}
-use Rattle.modules.specs.Catalogs.{IsSoundCatalog, entry_for}
-use Rattle.modules.specs.Entries.{ModuleEntry}
-use Rattle.modules.specs.Gathering.{Gathers}
-use Rattle.modules.specs.Placed.{IsPlaced, PlacedModule}
+use Rattle.modules.proofs.Words.{◌≡◌, ◌+◌, ◌^◌, ◌<◌, List, Option, sym, ap, subst, ◌∙◌, length, length-append, map, arith, All, ◌++◌, option_to_list, flat_map}
+use Rattle.modules.proofs.Definitions.{Accepted, taken_regions, AreModules, built_in_with, IsSoundCatalog, entry_for, ModuleEntry, Gathers, IsPlaced, PlacedModule}
 use Rattle.modules.proofs.SoundnessLemmas.{count_of_regions, valid_kernel, IsSound-catalog_with}
 use Rattle.modules.proofs.MakingLemmas.{catalog_from, kept_from, modules_are, regions_made}
 use Rattle.modules.proofs.build.catalog_with.Goals as goal

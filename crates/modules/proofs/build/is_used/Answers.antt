@@ -1,9 +1,5 @@
-use Rattle.std.proofs.Common.{◌≡◌, ◌&&◌, sym, ap, ◌∙◌}
-use Rattle.std.specs.List.{list_any}
-use Rattle.std.specs.Str.{bytes_eq}
-use Rattle.modules.specs.Accepted.{names_of}
-use Rattle.modules.specs.Listed.{ListedRegion}
-use Rattle.modules.specs.Placed.{has_core, lines_named}
+use Rattle.modules.proofs.Words.{◌≡◌, ◌&&◌, sym, ap, ◌∙◌, list_any, bytes_eq}
+use Rattle.modules.proofs.Definitions.{names_of, ListedRegion, has_core, lines_named}
 use Rattle.modules.proofs.build.is_used.Goals as goal
 
 pub returns-then-has : goal.returns-then-has

@@ -1,10 +1,6 @@
-use Rattle.std.proofs.Common.{◌≡◌, ℕ, ◌-◌, List, ap, arith, length, not}
-use Rattle.std.specs.Prelude.{count_by}
+use Rattle.modules.proofs.Words.{◌≡◌, ℕ, ◌-◌, List, ap, arith, length, not, count_by}
 use Rattle.facts.proofs.Tests.{count_by-either}
-use Rattle.modules.specs.Accepted.{Accepted}
-use Rattle.modules.specs.Admissions.{admission_view}
-use Rattle.modules.specs.Kept.{is_used}
-use Rattle.modules.specs.Listed.{ListedRegion}
+use Rattle.modules.proofs.Definitions.{Accepted, admission_view, is_used, ListedRegion}
 use Rattle.modules.proofs.MakingLemmas.{module_counts_from}
 use Rattle.modules.proofs.build.module_counts.Goals as goal
 

@@ -1,10 +1,6 @@
-use Rattle.std.proofs.Common.{◌≡◌, ◌+◌, ◌≤◌, ℕ, suc, [], ◌∷◌, ◌++◌, length, get_or, drop, sym, ap, subst, List, ◌∙◌, arith, length-append, append_assoc}
+use Rattle.modules.proofs.Words.{◌≡◌, ◌+◌, ◌≤◌, ℕ, suc, [], ◌∷◌, ◌++◌, length, get_or, drop, sym, ap, subst, List, ◌∙◌, arith, length-append, append_assoc, Vec, into_iter_items}
 use Rattle.std.proofs.lemmas.List.{append-nil, nil_from_length}
-use Rattle.std.specs.Global.{Vec}
-use Rattle.std.specs.Vec.Iter.{into_iter_items}
-use Rattle.modules.specs.Building.{EachMade, module_with}
-use Rattle.modules.specs.Entries.{ModuleEntry, SymbolEntry}
-use Rattle.modules.specs.Placed.{IsPlaced, PlacedModule}
+use Rattle.modules.proofs.Definitions.{EachMade, module_with, ModuleEntry, SymbolEntry, IsPlaced, PlacedModule}
 use Rattle.modules.proofs.MakingLemmas.{EachMade-push, drop_next, drop_none}
 use Rattle.modules.proofs.build.modules_from.Goals as goal
 

@@ -1,5 +1,4 @@
-use Rattle.std.proofs.Common.{◌≡◌, ◌++◌, length, drop}
-use Rattle.std.specs.Vec.Iter.{into_iter_items}
+use Rattle.modules.proofs.Words.{◌≡◌, ◌++◌, length, drop, into_iter_items}
 use Rattle.modules.specs.Building.{EachMade}
 use Rattle.modules.proofs.build.modules_from.Given as goal
 

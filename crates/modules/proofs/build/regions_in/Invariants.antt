@@ -1,5 +1,4 @@
-use Rattle.std.proofs.Common.{◌≡◌, length, take}
-use Rattle.std.specs.List.{flat_map}
+use Rattle.modules.proofs.Words.{◌≡◌, length, take, flat_map}
 use Rattle.modules.proofs.build.regions_in.Given as goal
 
 abbrev pub invariant-loop-module : goal.invariant-loop-module

@@ -1,11 +1,5 @@
-use Rattle.std.proofs.Common.{◌≡◌, ◌≤◌, ◌<◌, ℕ, Option, Some, None, Bor, sym, subst, ◌∙◌}
-use Rattle.std.specs.Prelude.{IfSome}
-use Rattle.std.specs.Option.{option_copied}
-use Rattle.order_laws.specs.declared.items.Item.{Item}
-use Rattle.modules.specs.Again.{IsRegionOf}
-use Rattle.modules.specs.Catalogs.{IsSoundCatalog, module_of}
-use Rattle.modules.specs.Entries.{CatalogEntries, ModuleEntry}
-use Rattle.modules.specs.Items.{item_of_address}
+use Rattle.modules.proofs.Words.{◌≡◌, ◌≤◌, ◌<◌, ℕ, Option, Some, None, Bor, sym, subst, ◌∙◌, IfSome, option_copied}
+use Rattle.modules.proofs.Definitions.{Item, IsRegionOf, IsSoundCatalog, module_of, CatalogEntries, ModuleEntry, item_of_address}
 use Rattle.modules.proofs.AgainLemmas.{item_again}
 use Rattle.modules.proofs.finder.owner_of.Goals as goal
 

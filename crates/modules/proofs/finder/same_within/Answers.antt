@@ -1,6 +1,5 @@
 use Rattle.std.proofs.Common.{◌≡◌, ℕ, Some, ap, sym, ◌∙◌, arith}
-use Rattle.modules.specs.Entries.{SymbolEntry}
-use Rattle.modules.specs.Found.{Found, symbol_at}
+use Rattle.modules.proofs.Definitions.{SymbolEntry, Found, symbol_at}
 use Rattle.modules.proofs.AgainLemmas.{symbol_again}
 use Rattle.modules.proofs.NearestLemmas.{found}
 use Rattle.modules.proofs.finder.same_within.Goals as goal

@@ -1,9 +1,5 @@
-use Rattle.std.proofs.Common.{◌≡◌, ℕ, ◌<◌, ◌≤◌, Bor, None, Option, Some, min, rules, sym, ap, ◌∙◌, arith}
-use Rattle.std.specs.Prelude.{unwrap_or}
-use Rattle.std.specs.Option.{option_copied, option_map}
-use Rattle.modules.specs.Around.{address_above, symbol_below}
-use Rattle.modules.specs.Entries.{SymbolEntry}
-use Rattle.modules.specs.Found.{symbol_found_at, symbols_from}
+use Rattle.modules.proofs.Words.{◌≡◌, ℕ, ◌<◌, ◌≤◌, Bor, None, Option, Some, min, rules, sym, ap, ◌∙◌, arith, unwrap_or, option_copied, option_map}
+use Rattle.modules.proofs.Definitions.{address_above, symbol_below, SymbolEntry, symbol_found_at, symbols_from}
 use Rattle.modules.proofs.AroundLemmas.{above_gt, below_le}
 use Rattle.modules.proofs.NearestLemmas.{found_is}
 use Rattle.modules.proofs.WithinLemmas.{before_within, none_within, reach_within, some_within}

@@ -1,13 +1,6 @@
-use Rattle.std.proofs.Common.{◌≡◌, ◌≢◌, ℕ, ◌+◌, true, false, cond, nat_eq, [], ◌∷◌, ◌++◌, List, length, get_or, map, take, sym, ap, ◌∙◌, arith}
-use Rattle.std.specs.Global.{Vec}
-use Rattle.std.specs.List.{list_any}
-use Rattle.std.proofs.lemmas.Bool.{eqb-false, eqb-true}
-use Rattle.std.proofs.lemmas.List.{nil_from_length}
-use Rattle.modules.specs.LineMarks.{is_kept_mark, kept_numbers, modules_numbered, name_of, with_number}
-use Rattle.modules.specs.MarkedModules.{numbered_module, ranges_of}
-use Rattle.modules.specs.Placed.{PlacedModule}
-use Rattle.modules.specs.declared.lines.Part.TheVariants.{Core}
-use Rattle.modules.specs.declared.marks.Mark.{Mark}
+use Rattle.modules.proofs.Words.{◌≡◌, ◌≢◌, ℕ, ◌+◌, true, false, cond, nat_eq, [], ◌∷◌, ◌++◌, List, length, get_or, map, take, sym, ap, ◌∙◌, arith, Vec, list_any}
+use Rattle.modules.proofs.Lemmas.{eqb-false, eqb-true, nil_from_length}
+use Rattle.modules.proofs.Definitions.{is_kept_mark, kept_numbers, modules_numbered, name_of, with_number, numbered_module, ranges_of, PlacedModule, Core, Mark}
 use Rattle.modules.proofs.TakenLemmas.{kept_number, left_rising, left_taken, kept_numbers_more, own_ranges, taken_before, taken_now}
 use Rattle.modules.proofs.from_symbols.modules_in_order.Goals as goal
 use Rattle.modules.proofs.from_symbols.modules_in_order.Goals.{then-not-is_empty+then-is_kept+in_ok-in_rising+in_ok-push, else-not-is_empty, else-not-is_empty-via-then-not-is_empty+else-is_kept, else-not-is_empty-via-else-not-is_empty}

@@ -1,14 +1,6 @@
-use Rattle.std.proofs.Common.{◌≡◌, ◌<◌, ◌≤◌, List, [], ◌∷◌, ◌++◌, length, sym, ap, subst, ◌∙◌, arith}
-use Rattle.std.specs.Prelude.{All}
-use Rattle.std.specs.List.{flat_map}
+use Rattle.modules.proofs.Words.{◌≡◌, ◌<◌, ◌≤◌, List, [], ◌∷◌, ◌++◌, length, sym, ap, subst, ◌∙◌, arith, All, flat_map}
 use Rattle.std.proofs.lemmas.Result.{IfOk-weaker}
-use Rattle.order_laws.specs.declared.items.Item.{Item}
-use Rattle.modules.specs.LineMarks.{AreNamed, kept_numbers, marks_of, modules_numbered}
-use Rattle.modules.specs.Marks.{AreLaid, AreRegions}
-use Rattle.modules.specs.Placed.{PlacedModule}
-use Rattle.modules.specs.Runs.{lines_of_all}
-use Rattle.modules.specs.declared.marks.Mark.{Mark}
-use Rattle.modules.specs.declared.symbol_lines.Run.{Run}
+use Rattle.modules.proofs.Definitions.{Item, AreNamed, kept_numbers, marks_of, modules_numbered, AreLaid, AreRegions, PlacedModule, lines_of_all, Mark, Run}
 use Rattle.modules.proofs.LineMarkLemmas.{owners_within}
 use Rattle.modules.proofs.SymbolModuleLemmas.{found_modules}
 use Rattle.modules.proofs.TakenLemmas.{few_regions, items_numbered}

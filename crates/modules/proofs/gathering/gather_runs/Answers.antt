@@ -1,10 +1,6 @@
-use Rattle.std.proofs.Common.{◌≡◌, ◌∷◌, [], ◌++◌, List, length, ap, sym, subst, ◌∙◌, append_assoc}
+use Rattle.modules.proofs.Words.{◌≡◌, ◌∷◌, [], ◌++◌, List, length, ap, sym, subst, ◌∙◌, append_assoc, into_iter_items}
 use Rattle.std.proofs.lemmas.List.{append-nil, nil_from_length}
-use Rattle.std.specs.Vec.Iter.{into_iter_items}
-use Rattle.modules.specs.Gathering.{Gathers}
-use Rattle.modules.specs.Listed.{ListedSymbol}
-use Rattle.modules.specs.Runs.{lines_of_run, lines_of_all}
-use Rattle.modules.specs.declared.symbol_lines.Run.{Run}
+use Rattle.modules.proofs.Definitions.{Gathers, ListedSymbol, lines_of_run, lines_of_all, Run}
 use Rattle.modules.proofs.GatheringLemmas.{Gathers-run, counts_run}
 use Rattle.modules.proofs.RunLemmas.{lines_of_all-last}
 use Rattle.modules.proofs.gathering.gather_runs.Goals as goal

@@ -1,7 +1,5 @@
-use Rattle.std.proofs.Common.{◌≡◌, ◌+◌, ◌++◌, length}
-use Rattle.std.specs.Vec.Iter.{into_iter_items}
-use Rattle.modules.specs.Gathering.{Gathers}
-use Rattle.modules.specs.Runs.{lines_of_all}
+use Rattle.modules.proofs.Words.{◌≡◌, ◌+◌, ◌++◌, length, into_iter_items}
+use Rattle.modules.proofs.Definitions.{Gathers, lines_of_all}
 use Rattle.modules.proofs.gathering.gather_runs.Given as goal
 
 abbrev pub invariant-loop-run : goal.invariant-loop-run

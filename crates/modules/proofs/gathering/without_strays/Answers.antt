@@ -1,7 +1,6 @@
 use Rattle.std.proofs.Common.{rules}
 use Rattle.std.proofs.lemmas.Fn.{filter_same}
-use Rattle.modules.specs.Entries.{SymbolEntry}
-use Rattle.modules.specs.Gathering.{lies_for}
+use Rattle.modules.proofs.Definitions.{SymbolEntry, lies_for}
 use Rattle.modules.proofs.gathering.without_strays.Goals as goal
 
 pub returns : goal.returns

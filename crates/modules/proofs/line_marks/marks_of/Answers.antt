@@ -1,8 +1,6 @@
 use Rattle.std.proofs.Common.{◌≡◌, ◌+◌, List, [], ◌∷◌, ◌++◌, take, sym, ap, ◌∙◌}
 use Rattle.std.proofs.lemmas.List.{take_all, take_more}
-use Rattle.modules.specs.LineMarks.{marks_of}
-use Rattle.modules.specs.Runs.{lines_of_all}
-use Rattle.modules.specs.declared.symbol_lines.Run.{Run}
+use Rattle.modules.proofs.Definitions.{marks_of, lines_of_all, Run}
 use Rattle.modules.proofs.LineMarkLemmas.{marks_more}
 use Rattle.modules.proofs.line_marks.marks_of.Goals as goal
 

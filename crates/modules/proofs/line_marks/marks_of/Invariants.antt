@@ -1,6 +1,5 @@
 use Rattle.std.proofs.Common.{◌≡◌, take}
-use Rattle.modules.specs.LineMarks.{marks_of}
-use Rattle.modules.specs.Runs.{lines_of_all}
+use Rattle.modules.proofs.Definitions.{marks_of, lines_of_all}
 use Rattle.modules.proofs.line_marks.marks_of.Given as goal
 
 abbrev pub invariant-loop-run : goal.invariant-loop-run

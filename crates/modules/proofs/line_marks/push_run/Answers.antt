@@ -1,10 +1,6 @@
-use Rattle.std.proofs.Common.{◌≡◌, ℕ, List, ◌++◌, OnOk, not, sym, ap, subst, ◌∙◌}
-use Rattle.std.specs.Option.{option_copied}
+use Rattle.modules.proofs.Words.{◌≡◌, ℕ, List, ◌++◌, OnOk, not, sym, ap, subst, ◌∙◌, option_copied}
 use Rattle.std.proofs.lemmas.List.{append-nil}
-use Rattle.modules.specs.Entries.{SymbolEntry}
-use Rattle.modules.specs.LineMarks.{line_marks, number_for, symbol_marks}
-use Rattle.modules.specs.Runs.{lines_of_run}
-use Rattle.modules.specs.declared.marks.Mark.{Mark}
+use Rattle.modules.proofs.Definitions.{SymbolEntry, line_marks, number_for, symbol_marks, lines_of_run, Mark}
 use Rattle.modules.proofs.LineMarkLemmas.{marks_of_kernel_run, marks_of_module_run}
 use Rattle.modules.proofs.line_marks.push_run.Goals as goal
 

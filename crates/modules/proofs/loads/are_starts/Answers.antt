@@ -1,9 +1,6 @@
-use Rattle.std.proofs.Common.{ℕ, suc, ◌<◌, List, [], ◌∷◌, ◌++◌, length, get_or, take, drop, sym, ap, ◌∙◌, arith}
-use Rattle.std.specs.Str.{bytes_eq}
-use Rattle.std.proofs.lemmas.List.{get_or_default}
-use Rattle.facts.proofs.Lists.{take_push}
-use Rattle.modules.specs.Starts.{starts_of}
-use Rattle.modules.specs.declared.lines.Part.TheVariants.{Core}
+use Rattle.modules.proofs.Words.{ℕ, suc, ◌<◌, List, [], ◌∷◌, ◌++◌, length, get_or, take, drop, sym, ap, ◌∙◌, arith, bytes_eq}
+use Rattle.modules.proofs.Lemmas.{get_or_default, take_push}
+use Rattle.modules.proofs.Definitions.{starts_of, Core}
 use Rattle.modules.proofs.ErasingLemmas.{all_words, other_more, other_words, starts_split, wanted_more, whole_starts}
 use Rattle.modules.proofs.loads.are_starts.Goals as goal
 use Rattle.modules.proofs.loads.are_starts.Goals.{then-is_of+else-count-words+else-words-count, else-is_of, then-count-words-via-then-count-words, then-count-words-via-else-count-words+then-words-count}

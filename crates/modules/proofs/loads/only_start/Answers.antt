@@ -1,7 +1,6 @@
 use Rattle.std.proofs.Common.{ℕ, List, [], ◌∷◌, ◌++◌, length, get_or, take, sym, ap, ◌∙◌, arith, length-append}
 use Rattle.std.proofs.lemmas.List.{get_or_default}
-use Rattle.modules.specs.Starts.{starts_of}
-use Rattle.modules.specs.declared.lines.Part.TheVariants.{Core}
+use Rattle.modules.proofs.Definitions.{starts_of, Core}
 use Rattle.modules.proofs.ErasingLemmas.{none_of_length, not_only_one, only_one, other_more, wanted_more, whole_starts}
 use Rattle.modules.proofs.loads.only_start.Goals as goal
 use Rattle.modules.proofs.loads.only_start.Goals.{then-is_of, else-is_of}

@@ -1,6 +1,5 @@
 use Rattle.std.proofs.Common.{◌≡◌, ℕ, suc, ◌&&◌, true, false, get_or, drop, sym, ap, ◌∙◌, arith, add-one}
-use Rattle.order_laws.specs.declared.items.Item.{Item}
-use Rattle.modules.specs.Loads.{is_item_of, same_items}
+use Rattle.modules.proofs.Definitions.{Item, is_item_of, same_items}
 use Rattle.modules.proofs.LoadLemmas.{other_length, same_end, same_here}
 use Rattle.modules.proofs.loads.same_items.Goals as goal
 

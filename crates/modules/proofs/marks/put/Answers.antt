@@ -1,5 +1,4 @@
-use Rattle.std.proofs.Common.{◌≡◌, ◌≤◌, List, [], ◌∷◌, ◌++◌, subst, sym, ap, ◌∙◌, refl}
-use Rattle.std.specs.Prelude.{Contains}
+use Rattle.modules.proofs.Words.{◌≡◌, ◌≤◌, List, [], ◌∷◌, ◌++◌, subst, sym, ap, ◌∙◌, refl, Contains}
 use Rattle.std.proofs.lemmas.List.Elements.{All-contains, Contains-push}
 use Rattle.order_laws.specs.declared.items.Item.{Item}
 use Rattle.modules.proofs.PieceLemmas.{laid_put, laid_merged, last_valid, holds_merged}

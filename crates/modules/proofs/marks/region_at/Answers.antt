@@ -1,6 +1,5 @@
 use Rattle.std.proofs.Common.{◌<◌, ◌-◌, nat_le, get_or, arith, rules}
-use Rattle.std.proofs.lemmas.List.{get_or_default}
-use Rattle.std.proofs.lemmas.List.Sorted.{IsPartitionPoint-from_clause, IsPartitionedBy-leb}
+use Rattle.modules.proofs.Lemmas.{get_or_default, IsPartitionPoint-from_clause, IsPartitionedBy-leb}
 use Rattle.order_laws.specs.declared.items.Item.{Item}
 use Rattle.modules.proofs.LaidLemmas.{rising, look_first, look_last, look_past}
 use Rattle.modules.proofs.marks.region_at.Goals as goal

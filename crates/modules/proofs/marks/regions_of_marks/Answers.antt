@@ -1,9 +1,6 @@
-use Rattle.std.proofs.Common.{List, subst, sym, rules}
-use Rattle.std.specs.List.Sorted.{IsNonDecreasingBy}
-use Rattle.std.proofs.lemmas.Fn.{always_returns_same}
-use Rattle.std.proofs.lemmas.List.Sorted.{IsNonDecreasingBy-from_sort_by_key}
-use Rattle.modules.specs.Marks.{AreRegions}
-use Rattle.modules.specs.declared.marks.Mark.{Mark}
+use Rattle.modules.proofs.Words.{List, subst, sym, rules, IsNonDecreasingBy}
+use Rattle.modules.proofs.Lemmas.{always_returns_same, IsNonDecreasingBy-from_sort_by_key}
+use Rattle.modules.proofs.Definitions.{AreRegions, Mark}
 use Rattle.modules.proofs.MarkOrderLemmas.{regions_moved}
 use Rattle.modules.proofs.marks.regions_of_marks.Goals as goal
 

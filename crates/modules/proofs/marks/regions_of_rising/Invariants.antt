@@ -1,7 +1,5 @@
-use Rattle.std.proofs.Common.{◌≤◌, ◌<◌, ℕ}
-use Rattle.std.specs.Prelude.{◌↔◌, All}
-use Rattle.modules.specs.Marks.{AreLaid, HoldsFor}
-use Rattle.modules.specs.Marks.{Owns}
+use Rattle.modules.proofs.Words.{◌≤◌, ◌<◌, ℕ, ◌↔◌, All}
+use Rattle.modules.proofs.Definitions.{AreLaid, HoldsFor, Owns}
 use Rattle.modules.proofs.SweepLemmas.{IsFrom}
 use Rattle.modules.proofs.marks.regions_of_rising.Given as goal
 

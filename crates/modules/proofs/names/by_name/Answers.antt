@@ -1,12 +1,6 @@
-use Rattle.std.proofs.Common.{[], get_or, sym, subst, rules}
-use Rattle.std.specs.Prelude.{IsPermutation}
-use Rattle.std.specs.List.{range_with_len}
-use Rattle.std.proofs.lemmas.Cmp.{nat_list_cmp_total}
-use Rattle.std.proofs.lemmas.Fn.{always_returns_same}
-use Rattle.std.proofs.lemmas.List.{length-map}
-use Rattle.std.proofs.lemmas.List.Sorted.{ranks_by}
-use Rattle.modules.specs.Entries.{ModuleEntry}
-use Rattle.modules.specs.Names.{names_in, is_less}
+use Rattle.modules.proofs.Words.{[], get_or, sym, subst, rules, IsPermutation, range_with_len}
+use Rattle.modules.proofs.Lemmas.{nat_list_cmp_total, always_returns_same, length-map, ranks_by}
+use Rattle.modules.proofs.Definitions.{ModuleEntry, names_in, is_less}
 use Rattle.modules.proofs.names.by_name.Goals as goal
 
 pub returns : goal.returns

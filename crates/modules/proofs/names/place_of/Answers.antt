@@ -1,12 +1,6 @@
-use Rattle.std.proofs.Common.{[], get_or, rules}
-use Rattle.std.specs.Ordering.{nat_cmp}
-use Rattle.std.specs.Cmp.Lexicographic.{slice_cmp}
-use Rattle.std.proofs.lemmas.Cmp.{nat_list_cmp_total}
-use Rattle.std.proofs.lemmas.Fn.{always_returns_same}
-use Rattle.std.proofs.lemmas.List.{length-map}
-use Rattle.std.proofs.lemmas.List.Sorted.{searchable_from_sorted}
-use Rattle.modules.specs.Entries.{ModuleEntry}
-use Rattle.modules.specs.Names.{names_in}
+use Rattle.modules.proofs.Words.{[], get_or, rules, nat_cmp, slice_cmp}
+use Rattle.modules.proofs.Lemmas.{nat_list_cmp_total, always_returns_same, length-map, searchable_from_sorted}
+use Rattle.modules.proofs.Definitions.{ModuleEntry, names_in}
 use Rattle.modules.proofs.NameLemmas.{found, absent, place_in}
 use Rattle.modules.proofs.names.place_of.Goals as goal
 

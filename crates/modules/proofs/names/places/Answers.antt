@@ -1,5 +1,4 @@
-use Rattle.std.proofs.Common.{[], ◌∷◌, ◌++◌, ap, sym, ◌∙◌, zero-add}
-use Rattle.std.specs.List.{range_with_len}
+use Rattle.modules.proofs.Words.{[], ◌∷◌, ◌++◌, ap, sym, ◌∙◌, zero-add, range_with_len}
 use Rattle.facts.proofs.Ranges.{range-push}
 use Rattle.modules.proofs.names.places.Goals as goal
 

@@ -1,11 +1,6 @@
-use Rattle.std.proofs.Common.{◌≡◌, rules, ◌∙◌, ap}
-use Rattle.std.proofs.lemmas.Cmp.{nat_list_cmp_total}
-use Rattle.std.proofs.lemmas.Fn.{always_returns_same}
-use Rattle.std.proofs.lemmas.List.Sorted.{ranks_by}
-use Rattle.std.specs.Borrow.{Bor}
-use Rattle.modules.specs.Grouped.{comes_first, lines_at}
-use Rattle.modules.specs.Listed.{ListedRegion}
-use Rattle.modules.specs.Placed.{lines_named}
+use Rattle.modules.proofs.Words.{◌≡◌, rules, ◌∙◌, ap, Bor}
+use Rattle.modules.proofs.Lemmas.{nat_list_cmp_total, always_returns_same, ranks_by}
+use Rattle.modules.proofs.Definitions.{comes_first, lines_at, ListedRegion, lines_named}
 use Rattle.modules.proofs.GroupLemmas.{named_in_sorted}
 use Rattle.modules.proofs.placing.by_name.Goals as goal
 

@@ -1,8 +1,6 @@
 use Rattle.std.proofs.Common.{ℕ, nat_le, sym, ap, ◌∙◌, arith, rules}
-use Rattle.std.proofs.lemmas.Bool.{le-ltb}
-use Rattle.std.proofs.lemmas.List.Sorted.{IsPartitionPoint-from_clause, IsPartitionedBy-leb}
-use Rattle.modules.specs.Index.{IsSplitBy}
-use Rattle.modules.specs.Regions.{holds}
+use Rattle.modules.proofs.Lemmas.{le-ltb, IsPartitionPoint-from_clause, IsPartitionedBy-leb}
+use Rattle.modules.proofs.Definitions.{IsSplitBy, holds}
 use Rattle.modules.proofs.IndexLemmas.{IsSplitBy-from_partition}
 use Rattle.modules.proofs.RisingRegionLemmas.{in_last, in_none, starts_rise}
 use Rattle.modules.proofs.placing.lies_in_rising.Goals as goal

@@ -1,6 +1,4 @@
-use Rattle.std.proofs.Common.{rules}
-use Rattle.std.specs.Borrow.{Bor}
-use Rattle.std.specs.Ordering.{is_le}
+use Rattle.modules.proofs.Words.{rules, Bor, is_le}
 use Rattle.std.proofs.lemmas.List.Sorted.{IsPartitionPoint-from_clause}
 use Rattle.modules.specs.Listed.{ListedRegion}
 use Rattle.modules.proofs.GroupLemmas.{IsCut-from_partition, up_to_first, order_to}

@@ -1,5 +1,4 @@
-use Rattle.std.proofs.Common.{List, subst, sym}
-use Rattle.std.specs.List.Sorted.{IsPermutation}
+use Rattle.modules.proofs.Words.{List, subst, sym, IsPermutation}
 use Rattle.std.proofs.lemmas.List.Sorted.{IsPermutation-trans}
 use Rattle.modules.specs.declared.symbols.IndexEntry.{IndexEntry}
 use Rattle.modules.proofs.presort.distribute.Goals as goal

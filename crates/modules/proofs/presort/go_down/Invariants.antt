@@ -1,5 +1,4 @@
-use Rattle.std.proofs.Common.{◌≡◌, length}
-use Rattle.std.specs.List.Sorted.{IsPermutation}
+use Rattle.modules.proofs.Words.{◌≡◌, length, IsPermutation}
 use Rattle.modules.proofs.presort.go_down.Given as goal
 
 abbrev pub invariant-loop : goal.invariant-loop

@@ -1,8 +1,5 @@
 use Rattle.std.proofs.Common.{◌≡◌, ◌∷◌, [], ◌++◌, List, None, ◌∙◌, ap, sym}
-use Rattle.modules.specs.Lines.{first_address}
-use Rattle.modules.specs.Listed.{ListedSymbol}
-use Rattle.modules.specs.Runs.{lines_of_all}
-use Rattle.modules.specs.declared.symbol_lines.Run.{Run}
+use Rattle.modules.proofs.Definitions.{first_address, ListedSymbol, lines_of_all, Run}
 use Rattle.modules.proofs.RunLemmas.{first_in_last, first_in_front}
 use Rattle.modules.proofs.symbol_lines.first_address.Goals as goal
 

@@ -1,9 +1,6 @@
 use Rattle.std.proofs.Common.{◌≡◌, ◌+◌, ◌++◌, List, suc, take, drop, get_or, ◌∙◌, ap, sym, Some}
 use Rattle.std.proofs.lemmas.List.{take_more}
-use Rattle.modules.specs.Lines.{first_address}
-use Rattle.modules.specs.Listed.{ListedSymbol}
-use Rattle.modules.specs.Runs.{lines_of_run, lines_of_all}
-use Rattle.modules.specs.declared.symbol_lines.Run.{Run}
+use Rattle.modules.proofs.Definitions.{first_address, ListedSymbol, lines_of_run, lines_of_all, Run}
 use Rattle.modules.proofs.RunLemmas.{first_address-append, first_address-front, lines_of_all-at, lines_of_all-last}
 use Rattle.modules.proofs.symbol_lines.first_in_runs.Goals as goal
 

@@ -1,6 +1,5 @@
 use Rattle.std.proofs.Common.{◌≡◌, take, None}
-use Rattle.modules.specs.Lines.{first_address}
-use Rattle.modules.specs.Runs.{lines_of_all}
+use Rattle.modules.proofs.Definitions.{first_address, lines_of_all}
 use Rattle.modules.proofs.symbol_lines.first_in_runs.Given as goal
 
 abbrev pub invariant-loop-run : goal.invariant-loop-run

@@ -1,8 +1,6 @@
-use Rattle.std.proofs.Common.{◌∷◌, [], ◌++◌, List, ◌∙◌, ap, sym, append_assoc}
-use Rattle.std.specs.Option.{option_copied}
+use Rattle.modules.proofs.Words.{◌∷◌, [], ◌++◌, List, ◌∙◌, ap, sym, append_assoc, option_copied}
 use Rattle.facts.proofs.Options.{option_copied-same}
-use Rattle.modules.specs.Listed.{ListedSymbol}
-use Rattle.modules.specs.Runs.{lines_of_run, lines_of_all, line_of}
+use Rattle.modules.proofs.Definitions.{ListedSymbol, lines_of_run, lines_of_all, line_of}
 use Rattle.modules.proofs.RunLemmas.{lines_of-more, lines_of_all-last}
 use Rattle.modules.proofs.symbol_lines.put_line.Goals as goal
 

@@ -1,7 +1,6 @@
 use Rattle.std.proofs.Common.{ℕ, ◌<◌, [], arith, sym, subst, ◌∙◌}
 use Rattle.std.proofs.lemmas.Option.{slice_get-get_or}
-use Rattle.modules.specs.Entries.{SymbolEntry}
-use Rattle.modules.specs.Index.{IsSplitOf}
+use Rattle.modules.proofs.Definitions.{SymbolEntry, IsSplitOf}
 use Rattle.modules.proofs.RisingLemmas.{none_below, first_within, first_below, above_in}
 use Rattle.modules.proofs.symbols.around_as_listed.Goals as goal
 

@@ -1,11 +1,6 @@
-use Rattle.std.proofs.Common.{◌≡◌, ◌++◌, List, length, take, drop, rules, ap, subst, ◌∙◌, arith}
-use Rattle.std.specs.List.Sorted.{IsPermutation}
-use Rattle.std.specs.Ordering.{is_lt, nat_cmp, ordering_then}
-use Rattle.std.proofs.lemmas.List.{take_at}
-use Rattle.std.proofs.lemmas.List.Sorted.{IsPermutation-trans, answers_always, length_permutation}
-use Rattle.facts.proofs.Numbers.{is_lt-then}
-use Rattle.modules.specs.Index.{comes_before}
-use Rattle.modules.specs.declared.symbols.IndexEntry.{IndexEntry}
+use Rattle.modules.proofs.Words.{◌≡◌, ◌++◌, List, length, take, drop, rules, ap, subst, ◌∙◌, arith, IsPermutation, is_lt, nat_cmp, ordering_then}
+use Rattle.modules.proofs.Lemmas.{take_at, IsPermutation-trans, answers_always, length_permutation, is_lt-then}
+use Rattle.modules.proofs.Definitions.{comes_before, IndexEntry}
 use Rattle.modules.proofs.IndexLemmas.{comes_before_weak}
 use Rattle.modules.proofs.symbols.by_address.Goals as goal
 

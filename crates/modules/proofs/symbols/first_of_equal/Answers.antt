@@ -1,7 +1,6 @@
 use Rattle.std.proofs.Common.{◌≡◌, ℕ, get_or, ap, subst, ◌∙◌}
 use Rattle.std.proofs.lemmas.List.{get_or_default}
-use Rattle.modules.specs.Entries.{SymbolEntry}
-use Rattle.modules.specs.Index.{IsFirstOf}
+use Rattle.modules.proofs.Definitions.{SymbolEntry, IsFirstOf}
 use Rattle.modules.proofs.symbols.first_of_equal.Goals as goal
 
 pub returns : goal.returns

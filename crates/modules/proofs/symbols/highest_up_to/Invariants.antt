@@ -1,6 +1,4 @@
-use Rattle.std.proofs.Common.{◌≡◌, nat_le, take}
-use Rattle.std.specs.Prelude.{filter}
-use Rattle.std.specs.Option.{option_copied}
+use Rattle.modules.proofs.Words.{◌≡◌, nat_le, take, filter, option_copied}
 use Rattle.modules.specs.Preferred.{highest_of}
 use Rattle.modules.proofs.symbols.highest_up_to.Given as goal
 

@@ -1,7 +1,5 @@
 use Rattle.std.proofs.Common.{◌<◌, length, rules}
-use Rattle.std.proofs.lemmas.Iterator.{YieldsList-from_slice}
-use Rattle.std.proofs.lemmas.Iterator.Adapters.{serves_from_places}
-use Rattle.std.proofs.lemmas.Iterator.Consumers.{YieldsList-at}
+use Rattle.modules.proofs.Lemmas.{YieldsList-from_slice, serves_from_places, YieldsList-at}
 use Rattle.modules.proofs.OrderedLemmas.{entry_within}
 use Rattle.modules.proofs.symbols.in_order_of.Goals as goal
 

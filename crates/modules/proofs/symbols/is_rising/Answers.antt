@@ -1,8 +1,5 @@
-use Rattle.std.proofs.Common.{◌≡◌, nat_le, rules, sym, subst}
-use Rattle.std.specs.List.{IsAllAdjacentAnswer}
-use Rattle.std.proofs.lemmas.List.Sorted.{IsNonDecreasingBy-from_all_adjacent}
-use Rattle.std.proofs.lemmas.Fn.{always_returns_same}
-use Rattle.std.proofs.lemmas.Bool.{leb-true}
+use Rattle.modules.proofs.Words.{◌≡◌, nat_le, rules, sym, subst, IsAllAdjacentAnswer}
+use Rattle.modules.proofs.Lemmas.{IsNonDecreasingBy-from_all_adjacent, always_returns_same, leb-true}
 use Rattle.modules.specs.Entries.{SymbolEntry}
 use Rattle.modules.proofs.symbols.is_rising.Goals as goal
 

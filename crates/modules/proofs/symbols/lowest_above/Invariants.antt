@@ -1,6 +1,4 @@
-use Rattle.std.proofs.Common.{◌≡◌, nat_lt, take}
-use Rattle.std.specs.Prelude.{filter}
-use Rattle.std.specs.Option.{option_copied}
+use Rattle.modules.proofs.Words.{◌≡◌, nat_lt, take, filter, option_copied}
 use Rattle.modules.specs.Preferred.{lowest_of}
 use Rattle.modules.proofs.symbols.lowest_above.Given as goal
 

@@ -1,10 +1,5 @@
-use Rattle.std.proofs.Common.{◌≡◌, ℕ, true, false, List, ◌∷◌, [], ◌++◌, ◌&&◌, ap, sym, ◌∙◌}
-use Rattle.std.specs.List.{list_all, list_any}
-use Rattle.std.specs.Str.{bytes_eq}
-use Rattle.modules.specs.Accepted.{Accepted, names_of, taken_regions}
-use Rattle.modules.specs.Admissions.{admission_view}
-use Rattle.modules.specs.Placed.{PlacedModule}
-use Rattle.modules.specs.Regions.{are_beside, lie_apart}
+use Rattle.modules.proofs.Words.{◌≡◌, ℕ, true, false, List, ◌∷◌, [], ◌++◌, ◌&&◌, ap, sym, ◌∙◌, list_all, list_any, bytes_eq}
+use Rattle.modules.proofs.Definitions.{Accepted, names_of, taken_regions, admission_view, PlacedModule, are_beside, lie_apart}
 use Rattle.modules.proofs.AdmissionLemmas.{after_double, after_overlap, after_accepted, free_in, IsTied-accepted}
 use Rattle.modules.proofs.admission.Admission.take_module.Goals as goal
 

@@ -1,7 +1,5 @@
-use Rattle.std.proofs.Common.{List, ap, ◌∙◌}
-use Rattle.std.specs.Option.{option_copied}
-use Rattle.modules.specs.Catalogs.{counts_of}
-use Rattle.modules.specs.Listed.{ListedRegion}
+use Rattle.modules.proofs.Words.{List, ap, ◌∙◌, option_copied}
+use Rattle.modules.proofs.Definitions.{counts_of, ListedRegion}
 use Rattle.modules.proofs.catalog.Catalog.build.Goals as goal
 
 pub returns-clause-counted : goal.returns-clause-counted

@@ -1,8 +1,5 @@
-use Rattle.std.proofs.Common.{◌≡◌, ℕ, List, Some, Bor, Option, sym, ap, ◌∙◌}
-use Rattle.std.specs.Option.{option_copied}
-use Rattle.modules.specs.Catalogs.{module_of}
-use Rattle.modules.specs.Entries.{ModuleEntry}
-use Rattle.modules.specs.Loads.{is_inserting}
+use Rattle.modules.proofs.Words.{◌≡◌, ℕ, List, Some, Bor, Option, sym, ap, ◌∙◌, option_copied}
+use Rattle.modules.proofs.Definitions.{module_of, ModuleEntry, is_inserting}
 use Rattle.modules.proofs.LoadLemmas.{load_answers}
 use Rattle.modules.proofs.catalog.Catalog.gives_load.Goals as goal
 

@@ -1,7 +1,5 @@
-use Rattle.std.proofs.Common.{◌≡◌, Some, Bor, Option, sym, ap, ◌∙◌}
-use Rattle.std.specs.Option.{option_copied}
-use Rattle.modules.specs.Catalogs.{module_of}
-use Rattle.modules.specs.Entries.{ModuleEntry}
+use Rattle.modules.proofs.Words.{◌≡◌, Some, Bor, Option, sym, ap, ◌∙◌, option_copied}
+use Rattle.modules.proofs.Definitions.{module_of, ModuleEntry}
 use Rattle.modules.proofs.LoadLemmas.{unload_answers_first, unload_answers_second}
 use Rattle.modules.proofs.catalog.Catalog.gives_unload.Goals as goal
 

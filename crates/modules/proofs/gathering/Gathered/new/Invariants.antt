@@ -1,5 +1,4 @@
-use Rattle.std.proofs.Common.{◌≡◌, [], length}
-use Rattle.std.specs.Prelude.{All}
+use Rattle.modules.proofs.Words.{◌≡◌, [], length, All}
 use Rattle.modules.proofs.gathering.Gathered.new.Given as goal
 
 abbrev pub invariant-loop : goal.invariant-loop

@@ -1,7 +1,5 @@
 use Rattle.std.proofs.Common.{List, sym, subst}
-use Rattle.modules.specs.Entries.{SymbolEntry}
-use Rattle.modules.specs.Index.{HasOrdered, IsRising}
-use Rattle.modules.specs.Placed.{IsPlaced}
+use Rattle.modules.proofs.Definitions.{SymbolEntry, HasOrdered, IsRising, IsPlaced}
 use Rattle.modules.proofs.module.Module.new.Goals as goal
 
 pub invariant_of-result : goal.invariant_of-result

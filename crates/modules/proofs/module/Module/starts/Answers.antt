@@ -1,8 +1,5 @@
 use Rattle.std.proofs.Common.{ℕ, ◌∙◌, List, sym, ap}
-use Rattle.modules.specs.Modules.{module_view}
-use Rattle.modules.specs.Parts.{is_core}
-use Rattle.modules.specs.Starts.{start_where}
-use Rattle.modules.specs.declared.lines.Part.{Part}
+use Rattle.modules.proofs.Definitions.{module_view, is_core, start_where, Part}
 use Rattle.modules.proofs.StartLemmas.{core_starts}
 use Rattle.modules.proofs.module.Module.starts.Goals as goal
 

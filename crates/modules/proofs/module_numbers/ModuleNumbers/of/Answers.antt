@@ -1,9 +1,6 @@
-use Rattle.std.proofs.Common.{◌≡◌, ℕ, ◌+◌, List, [], ◌∷◌, ◌++◌, take, sym, ap, subst, ◌∙◌}
-use Rattle.std.specs.Option.{option_copied}
+use Rattle.modules.proofs.Words.{◌≡◌, ℕ, ◌+◌, List, [], ◌∷◌, ◌++◌, take, sym, ap, subst, ◌∙◌, option_copied}
 use Rattle.std.proofs.lemmas.List.{take_all, take_more}
-use Rattle.modules.specs.LineMarks.{AreNamed, with_owner}
-use Rattle.modules.specs.Runs.{lines_of_all}
-use Rattle.modules.specs.declared.symbol_lines.Run.{Run}
+use Rattle.modules.proofs.Definitions.{AreNamed, with_owner, lines_of_all, Run}
 use Rattle.modules.proofs.NumberLemmas.{named_more}
 use Rattle.modules.proofs.module_numbers.ModuleNumbers.of.Goals as goal
 

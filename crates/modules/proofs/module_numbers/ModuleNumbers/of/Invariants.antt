@@ -1,6 +1,5 @@
 use Rattle.std.proofs.Common.{take}
-use Rattle.modules.specs.LineMarks.{AreNamed}
-use Rattle.modules.specs.Runs.{lines_of_all}
+use Rattle.modules.proofs.Definitions.{AreNamed, lines_of_all}
 use Rattle.modules.proofs.module_numbers.ModuleNumbers.of.Given as goal
 
 abbrev pub invariant-loop-run : goal.invariant-loop-run

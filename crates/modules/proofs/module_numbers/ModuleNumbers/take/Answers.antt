@@ -1,12 +1,6 @@
-use Rattle.std.proofs.Common.{◌≡◌, ℕ, ◌+◌, suc, true, false, List, [], ◌∷◌, ◌++◌, length, sym, ap, subst, ◌∙◌, arith}
-use Rattle.std.specs.Borrow.{Bor}
-use Rattle.std.specs.List.{list_any, position_from}
-use Rattle.std.specs.Option.{option_copied, option_map}
-use Rattle.std.specs.Str.{bytes_eq}
-use Rattle.std.proofs.lemmas.List.{length-map}
-use Rattle.std.proofs.lemmas.Map.Text.{btree_map_updates_str}
-use Rattle.modules.specs.LineMarks.{with_owner}
-use Rattle.modules.specs.Numbered.{names_at}
+use Rattle.modules.proofs.Words.{◌≡◌, ℕ, ◌+◌, suc, true, false, List, [], ◌∷◌, ◌++◌, length, sym, ap, subst, ◌∙◌, arith, Bor, list_any, position_from, option_copied, option_map, bytes_eq}
+use Rattle.modules.proofs.Lemmas.{length-map, btree_map_updates_str}
+use Rattle.modules.proofs.Definitions.{with_owner, names_at}
 use Rattle.modules.proofs.NumberLemmas.{has_number, names_more, numbers_more, owner_known, owner_new}
 use Rattle.modules.proofs.module_numbers.ModuleNumbers.take.Goals as goal
 

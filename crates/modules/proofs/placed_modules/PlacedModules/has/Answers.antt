@@ -1,7 +1,4 @@
-use Rattle.std.proofs.Common.{ap, ◌∙◌}
-use Rattle.std.specs.Prelude.{is_some}
-use Rattle.std.specs.List.{list_any}
-use Rattle.std.specs.Str.{bytes_eq}
+use Rattle.modules.proofs.Words.{ap, ◌∙◌, is_some, list_any, bytes_eq}
 use Rattle.facts.proofs.Tests.{is_some-position_from}
 use Rattle.modules.specs.Accepted.{Accepted, names_of}
 use Rattle.modules.proofs.placed_modules.PlacedModules.has.Goals as goal

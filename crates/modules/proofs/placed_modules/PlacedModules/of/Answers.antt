@@ -1,11 +1,6 @@
-use Rattle.std.proofs.Common.{◌≡◌, false, ◌∷◌, [], ◌++◌, List, ap, sym, subst, ◌∙◌, append_assoc}
+use Rattle.modules.proofs.Words.{◌≡◌, false, ◌∷◌, [], ◌++◌, List, ap, sym, subst, ◌∙◌, append_assoc, list_any, bytes_eq, into_iter_items}
 use Rattle.std.proofs.lemmas.List.{append-nil, nil_from_length}
-use Rattle.std.specs.List.{list_any}
-use Rattle.std.specs.Str.{bytes_eq}
-use Rattle.std.specs.Vec.Iter.{into_iter_items}
-use Rattle.modules.specs.Accepted.{Accepted, accepted_with, names_of}
-use Rattle.modules.specs.Kept.{AreDistinctNames}
-use Rattle.modules.specs.Placed.{PlacedModule}
+use Rattle.modules.proofs.Definitions.{Accepted, accepted_with, names_of, AreDistinctNames, PlacedModule}
 use Rattle.modules.proofs.NewNameLemmas.{new_after}
 use Rattle.modules.proofs.placed_modules.PlacedModules.of.Goals as goal
 

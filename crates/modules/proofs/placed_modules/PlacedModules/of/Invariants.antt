@@ -1,5 +1,4 @@
-use Rattle.std.proofs.Common.{◌≡◌, ◌++◌}
-use Rattle.std.specs.Vec.Iter.{into_iter_items}
+use Rattle.modules.proofs.Words.{◌≡◌, ◌++◌, into_iter_items}
 use Rattle.modules.specs.Accepted.{accepted_with}
 use Rattle.modules.proofs.placed_modules.PlacedModules.of.Given as goal
 

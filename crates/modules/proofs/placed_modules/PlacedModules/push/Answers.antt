@@ -1,12 +1,6 @@
-use Rattle.std.proofs.Common.{◌≡◌, ℕ, false, cond, Some, length, ◌∷◌, [], ◌++◌, List, ap, subst, ◌∙◌}
-use Rattle.std.specs.BTreeMap.{get_by}
-use Rattle.std.specs.Cmp.Lexicographic.{slice_cmp}
-use Rattle.std.specs.List.{list_any}
-use Rattle.std.specs.Ordering.{nat_cmp}
-use Rattle.std.specs.Str.{bytes_eq}
+use Rattle.modules.proofs.Words.{◌≡◌, ℕ, false, cond, Some, length, ◌∷◌, [], ◌++◌, List, ap, subst, ◌∙◌, get_by, slice_cmp, list_any, nat_cmp, bytes_eq}
 use Rattle.std.proofs.lemmas.Map.Text.{btree_map_updates_str}
-use Rattle.modules.specs.Accepted.{Accepted, names_of}
-use Rattle.modules.specs.Placed.{PlacedModule}
+use Rattle.modules.proofs.Definitions.{Accepted, names_of, PlacedModule}
 use Rattle.modules.proofs.NewNameLemmas.{places_more}
 use Rattle.modules.proofs.placed_modules.PlacedModules.push.Goals as goal
 

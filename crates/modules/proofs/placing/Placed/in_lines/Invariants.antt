@@ -1,6 +1,5 @@
 use Rattle.std.proofs.Common.{◌≡◌, map, take}
-use Rattle.modules.specs.Grouped.{lines_at}
-use Rattle.modules.specs.Lines.{region_line_region}
+use Rattle.modules.proofs.Definitions.{lines_at, region_line_region}
 use Rattle.modules.proofs.placing.Placed.in_lines.Given as goal
 
 abbrev pub invariant-loop-line : goal.invariant-loop-line

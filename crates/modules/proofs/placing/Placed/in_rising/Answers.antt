@@ -1,7 +1,6 @@
 use Rattle.std.proofs.Common.{◌≡◌, ℕ, List, map, ap, sym, ◌∙◌}
 use Rattle.std.proofs.lemmas.Simd.{splat_is_map}
-use Rattle.modules.specs.declared.lines.Part.{Part}
-use Rattle.modules.specs.declared.lines.Part.TheVariants.{Core}
+use Rattle.modules.proofs.Definitions.{Part, Core}
 use Rattle.modules.proofs.placing.Placed.in_rising.Goals as goal
 
 pub returns : goal.returns

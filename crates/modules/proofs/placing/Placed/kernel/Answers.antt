@@ -1,8 +1,6 @@
-use Rattle.std.proofs.Common.{◌≡◌, ℕ, List, map, ap, sym, ◌∙◌}
-use Rattle.std.specs.Prelude.{codes}
+use Rattle.modules.proofs.Words.{◌≡◌, ℕ, List, map, ap, sym, ◌∙◌, codes}
 use Rattle.std.proofs.lemmas.Simd.{splat_is_map}
-use Rattle.modules.specs.declared.lines.Part.{Part}
-use Rattle.modules.specs.declared.lines.Part.TheVariants.{Core}
+use Rattle.modules.proofs.Definitions.{Part, Core}
 use Rattle.modules.proofs.placing.Placed.kernel.Goals as goal
 
 pub returns : goal.returns

@@ -1,8 +1,6 @@
-use Rattle.std.proofs.Common.{◌≡◌, length, nat_le, sym, ap, ◌∙◌}
-use Rattle.std.specs.Borrow.{Bor}
+use Rattle.modules.proofs.Words.{◌≡◌, length, nat_le, sym, ap, ◌∙◌, Bor}
 use Rattle.std.proofs.lemmas.List.{length-map}
-use Rattle.modules.specs.Listed.{ListedRegion}
-use Rattle.modules.specs.Placed.{lines_named}
+use Rattle.modules.proofs.Definitions.{ListedRegion, lines_named}
 use Rattle.modules.proofs.placing.RegionLines.are_few_of.Goals as goal
 
 pub returns : goal.returns

@@ -1,9 +1,6 @@
-use Rattle.std.proofs.Common.{◌≡◌, sym, subst, true}
-use Rattle.std.specs.Prelude.{All}
-use Rattle.std.specs.Str.{bytes_eq}
+use Rattle.modules.proofs.Words.{◌≡◌, sym, subst, true, All, bytes_eq}
 use Rattle.std.proofs.lemmas.List.Elements.{All-filter}
-use Rattle.modules.specs.Lines.{region_fits}
-use Rattle.modules.specs.Listed.{ListedRegion}
+use Rattle.modules.proofs.Definitions.{region_fits, ListedRegion}
 use Rattle.modules.proofs.GroupLemmas.{all_at}
 use Rattle.modules.proofs.placing.RegionLines.place.Goals as goal
 

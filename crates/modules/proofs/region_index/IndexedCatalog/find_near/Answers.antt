@@ -1,7 +1,5 @@
 use Rattle.std.proofs.Common.{◌∙◌, List, ap, subst, sym, arith}
-use Rattle.order_laws.specs.declared.items.Item.{Item}
-use Rattle.modules.specs.RegionIndexes.{IsItemSplit}
-use Rattle.modules.specs.Items.{item_of_address}
+use Rattle.modules.proofs.Definitions.{Item, IsItemSplit, item_of_address}
 use Rattle.modules.proofs.RegionIndexLemmas.{last_begins_below, last_ends_below, last_found, nothing_below}
 use Rattle.modules.proofs.region_index.IndexedCatalog.find_near.Goals as goal
 

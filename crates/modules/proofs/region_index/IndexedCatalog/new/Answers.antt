@@ -1,5 +1,4 @@
-use Rattle.std.proofs.Common.{List, subst, rules}
-use Rattle.std.specs.List.Sorted.{IsPermutation}
+use Rattle.modules.proofs.Words.{List, subst, rules, IsPermutation}
 use Rattle.std.proofs.lemmas.List.Sorted.{IsNonDecreasingBy-from_sort_by_key}
 use Rattle.order_laws.specs.declared.items.Item.{Item}
 use Rattle.modules.proofs.region_index.IndexedCatalog.new.Goals as goal

@@ -1,5 +1,4 @@
-use Rattle.std.proofs.Common.{◌≡◌, true}
-use Rattle.std.specs.List.{list_all}
+use Rattle.modules.proofs.Words.{◌≡◌, true, list_all}
 use Rattle.facts.proofs.Maps.{list_all-insert_entry}
 use Rattle.modules.specs.Regions.{is_apart}
 use Rattle.modules.proofs.SpreadLemmas.{IsSpread-inserted, absent_from_apart}

@@ -1,6 +1,5 @@
 use Rattle.std.proofs.Common.{sym}
-use Rattle.std.proofs.lemmas.Map.Keys.{ge_from_not_lt}
-use Rattle.facts.proofs.Orderings.{Less-from_lt, lt-from_Less}
+use Rattle.modules.proofs.Lemmas.{ge_from_not_lt, Less-from_lt, lt-from_Less}
 use Rattle.modules.proofs.SpreadLemmas.{apart_from_none, tested_by_last}
 use Rattle.modules.proofs.regions.Regions.is_apart.Goals as goal
 

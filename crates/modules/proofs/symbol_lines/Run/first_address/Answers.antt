@@ -1,7 +1,4 @@
-use Rattle.std.proofs.Common.{List, ◌∙◌, ap, sym}
-use Rattle.std.specs.Prelude.{find}
-use Rattle.std.specs.Option.{option_map}
-use Rattle.std.specs.Str.{bytes_eq}
+use Rattle.modules.proofs.Words.{List, ◌∙◌, ap, sym, find, option_map, bytes_eq}
 use Rattle.modules.specs.Entries.{SymbolEntry}
 use Rattle.modules.proofs.RunLemmas.{first_of_some, first_of_none}
 use Rattle.modules.proofs.symbol_lines.Run.first_address.Goals as goal

@@ -1,5 +1,4 @@
-use Rattle.std.proofs.Common.{ℕ, ◌==◌, true, false, ◌∙◌, ap, sym}
-use Rattle.std.specs.Prelude.{not}
+use Rattle.modules.proofs.Words.{ℕ, ◌==◌, true, false, ◌∙◌, ap, sym, not}
 use Rattle.modules.proofs.RunLemmas.{kernel_in_run}
 use Rattle.modules.proofs.symbol_lines.Run.is_in_kernel.Goals as goal
 

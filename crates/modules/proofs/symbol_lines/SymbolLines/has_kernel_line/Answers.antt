@@ -1,8 +1,5 @@
-use Rattle.std.proofs.Common.{◌≡◌, ◌||◌, Bool, List, true, false, ◌∙◌, ap, sym}
-use Rattle.std.specs.List.{list_any}
-use Rattle.modules.specs.Listed.{ListedSymbol}
-use Rattle.modules.specs.Runs.{lines_of_run}
-use Rattle.modules.specs.declared.symbol_lines.Run.{Run}
+use Rattle.modules.proofs.Words.{◌≡◌, ◌||◌, Bool, List, true, false, ◌∙◌, ap, sym, list_any}
+use Rattle.modules.proofs.Definitions.{ListedSymbol, lines_of_run, Run}
 use Rattle.modules.proofs.RunLemmas.{is_in_kernel, kernel_in_all}
 use Rattle.modules.proofs.symbol_lines.SymbolLines.has_kernel_line.Goals as goal
 

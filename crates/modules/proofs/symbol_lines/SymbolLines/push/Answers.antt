@@ -1,7 +1,5 @@
-use Rattle.std.proofs.Common.{◌∷◌, [], ◌++◌, List, ◌∙◌, ap}
-use Rattle.std.specs.Option.{option_copied}
-use Rattle.modules.specs.Listed.{ListedSymbol}
-use Rattle.modules.specs.Runs.{line_of}
+use Rattle.modules.proofs.Words.{◌∷◌, [], ◌++◌, List, ◌∙◌, ap, option_copied}
+use Rattle.modules.proofs.Definitions.{ListedSymbol, line_of}
 use Rattle.modules.proofs.symbol_lines.SymbolLines.push.Goals as goal
 
 pub returns-clause-pushed : goal.returns-clause-pushed
