@@ -13,11 +13,7 @@ some_part (p ∷ ps) some = omega arith
 -- each module has a region at least
 as_many_regions : (ms : List ModuleEntry) → All IsPlacedEntry ms → length ms ≤ length (flat_map (λ m. m.regions) ms)
 as_many_regions [] all = omega arith
-as_many_regions (m ∷ ms) all =
-    let placed : IsPlacedEntry m = All-head IsPlacedEntry m ms all in
-    let more = as_many_regions ms (All-tail IsPlacedEntry m ms all) in
-    let some = some_part m.parts placed.some_core in
-    omega (arith, more, some, placed.same, length-append m.regions (flat_map (λ (x : ModuleEntry). x.regions) ms))
+as_many_regions (m ∷ ms) all = grind (arith, All-head, All-tail, some_part, length-append, as_many_regions ms (All-tail IsPlacedEntry m ms all))
 
 no_more_modules : (built_in : Option ModuleEntry) (ms : List ModuleEntry) → All IsPlacedEntry (option_to_list built_in ++ ms)
     → length ms ≤ length (flat_map (λ m. m.regions) (option_to_list built_in ++ ms))
@@ -27,9 +23,7 @@ no_more_modules (Some m) ms all =
     omega (arith, few)
 
 none_from : (c : CatalogEntries) (place : ℕ) → IsSoundCatalog c → length (regions_of c) ≤ place → module_of c (suc place) ≡ None
-none_from c place sound few =
-    let modules = no_more_modules c.built_in c.modules sound.placed in
-    slice_get_past c.modules place (omega (arith, few, modules))
+none_from c place sound few = grind (arith, no_more_modules, slice_get_past)
 
 pub none_absent : (c : CatalogEntries) → IsSoundCatalog c → IsNoneAbsent c
 none_absent c sound few = none_from c 4294967294 sound (omega (arith, few))

@@ -1,5 +1,5 @@
 -- One more module.
-use Rattle.modules.proofs.Words.{◌≡◌, ℕ, ◌+◌, Bool, true, false, ◌&&◌, cond, List, [], ◌∷◌, ◌++◌, length, refl, sym, ap, ◌∙◌, arith, length-append, add-one, take, drop, drop-cons, get_or, ◌<◌, list_any, list_all, bytes_eq}
+use Rattle.modules.proofs.Words.{◌≡◌, ℕ, ◌+◌, Bool, true, false, ◌&&◌, List, [], ◌∷◌, ◌++◌, length, refl, sym, ap, ◌∙◌, arith, length-append, add-one, take, drop, drop-cons, get_or, ◌<◌, list_any, list_all, bytes_eq}
 use Rattle.modules.proofs.Lemmas.{and_from, and_parts, list_all-append, list_all_more, and_rotate, list_all-each_agree}
 use Rattle.modules.proofs.Definitions.{Accepted, after_module, names_of, taken_regions, PlacedModule, are_beside, is_apart, lie_apart, admission_view, IsAdmission, Admission}
 use Rattle.modules.proofs.SoundnessLemmas.{taken_more, turned}
@@ -22,14 +22,7 @@ abbrev pub total : Accepted → ℕ
 total a = a.double + a.overlap + length a.modules
 
 pub total-after_module : (a : Accepted) (m : PlacedModule) → total (after_module a m) ≡ total a + 1
-total-after_module a m =
-    elim (list_any (bytes_eq m.name) (names_of a.modules)) as (λ b. total (cond b (record a { double = a.double + 1 }) (cond (lie_apart m.regions && are_beside (taken_regions a) m.regions) (record a { modules = a.modules ++ m ∷ [] }) (record a { overlap = a.overlap + 1 }))) ≡ total a + 1) [
-      | true ↦ omega arith
-      | false ↦ elim (lie_apart m.regions && are_beside (taken_regions a) m.regions) as (λ b. total (cond b (record a { modules = a.modules ++ m ∷ [] }) (record a { overlap = a.overlap + 1 })) ≡ total a + 1) [
-        | true ↦ omega (arith, length-append a.modules (m ∷ []))
-        | false ↦ omega arith
-      ]
-    ]
+total-after_module a m = grind (arith, length-append)
 
 pub free_in : (a : Admission) → IsAdmission a → (regions : List (ℕ × ℕ)) → are_beside (taken_regions (admission_view a)) regions ≡ are_beside a.taken regions
 free_in a tied regions = sym (list_all-each_agree is_apart a.taken (taken_regions (admission_view a)) regions tied.free)
@@ -38,11 +31,7 @@ free_in a tied regions = sym (list_all-each_agree is_apart a.taken (taken_region
 pub IsTied-accepted : (a : Admission) (m : PlacedModule) → IsAdmission a → (n : Admission) → admission_view n ≡ record (admission_view a) { modules = (admission_view a).modules ++ m ∷ [] }
     → ((p : ℕ × ℕ → Bool) → list_all p n.taken ≡ (list_all p a.taken && list_all p m.regions))
     → IsAdmission n
-IsTied-accepted a m tied n shows regions =
-    record {
-      free = λ p.
-          regions p ∙ ap (λ w. w && list_all p m.regions) (tied.free p) ∙ sym (list_all-taken_after p (admission_view a) m) ∙ ap (λ (s : Accepted). list_all p (taken_regions s)) (sym shows);
-    }
+IsTied-accepted a m tied n shows regions = grind (arith, list_all-taken_after)
 
 -- ---- the regions of a module, taken one after the other
 

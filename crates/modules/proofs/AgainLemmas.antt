@@ -1,7 +1,7 @@
 -- One answer for all addresses that a found symbol reaches to.
-use Rattle.modules.proofs.Words.{◌≡◌, ℕ, ◌+◌, ◌-◌, ◌<◌, ◌≤◌, ◌⊎◌, inl, inr, ⊎_elim, ◌&&◌, ◌||◌, nat_lt, nat_le, List, get_or, Option, None, Some, refl, sym, ap, subst, ◌∙◌, arith, All, MatchOption, list_all, option_and_then, option_map}
+use Rattle.modules.proofs.Words.{◌≡◌, ℕ, ◌+◌, ◌-◌, ◌<◌, ◌≤◌, ◌⊎◌, inl, inr, nat_lt, nat_le, List, Option, None, Some, sym, subst, ◌∙◌, arith, All, MatchOption, option_and_then, option_map}
 use Rattle.modules.proofs.Lemmas.{le-leb, le-ltb, lt-leb, lt-ltb, find-agree, list_all-agree, look_is}
-use Rattle.modules.proofs.Definitions.{Item, half_open, IsLook, is_nearest, symbol_below, IsSoundCatalog, module_of, CatalogEntries, ModuleEntry, SymbolEntry, Found, IsFound, ReachesUpTo, found_in, symbol_at, symbol_found_at, symbols_from, items_of, item_of_address}
+use Rattle.modules.proofs.Definitions.{Item, half_open, IsLook, symbol_below, IsSoundCatalog, module_of, CatalogEntries, ModuleEntry, SymbolEntry, Found, IsFound, ReachesUpTo, found_in, symbol_at, symbol_found_at, symbols_from, items_of, item_of_address}
 use Rattle.modules.proofs.ApartItemLemmas.{some_found}
 use Rattle.modules.proofs.FindLemmas.{found_by_place}
 use Rattle.modules.proofs.NearestLemmas.{found}
@@ -20,21 +20,13 @@ lt_same low x y a to_x to_y (inr over) (inr past) = lt-ltb x a over ∙ sym (lt-
 same_nearest : (symbols : List SymbolEntry) (low x y : ℕ) → low ≤ x → low ≤ y
     → All (λ t. (t.addr ≤ low) ⊎ (x < t.addr)) symbols → All (λ t. (t.addr ≤ low) ⊎ (y < t.addr)) symbols
     → symbol_below symbols x ≡ symbol_below symbols y
-same_nearest symbols low x y to_x to_y beside_x beside_y =
-    find-agree (is_nearest symbols x) (is_nearest symbols y) symbols (λ k d lt.
-    let t = get_or symbols k d in
-    ap (λ b. b && list_all (λ (u : SymbolEntry). nat_le u.addr t.addr || nat_lt x u.addr) symbols) (le_same low x y t.addr to_x to_y (beside_x k d lt) (beside_y k d lt))
-    ∙ ap (λ b. nat_le t.addr y && b) (list_all-agree (λ (u : SymbolEntry). nat_le u.addr t.addr || nat_lt x u.addr) (λ (u : SymbolEntry). nat_le u.addr t.addr || nat_lt y u.addr) symbols (λ i e l.
-    ap (λ b. nat_le (get_or symbols i e).addr t.addr || b) (lt_same low x y (get_or symbols i e).addr to_x to_y (beside_x i e l) (beside_y i e l)))))
+same_nearest symbols low x y to_x to_y beside_x beside_y = grind (arith, find-agree, le_same, list_all-agree, lt_same)
 
 -- no symbol lies above the found one and not above an address that it reaches to
 reaches_over : (symbols : List SymbolEntry) (end : ℕ) (s : SymbolEntry) (size x : ℕ) → x < s.addr + size
     → ReachesUpTo symbols end s size → All (λ t. (t.addr ≤ s.addr) ⊎ (x < t.addr)) symbols
 reaches_over symbols end s size x below (inl last) = λ k d lt. inl (last.0 k d lt)
-reaches_over symbols end s size x below (inr next) = λ k d lt.
-    let past : s.addr < next.0.addr = next.2 in
-    let reach : size ≡ next.0.addr - s.addr = next.4 in
-    ⊎_elim (λ le. inl le) (λ ge. inr (omega arith)) (next.3 k d lt)
+reaches_over symbols end s size x below (inr next) = grind arith
 
 module _ (symbols : List SymbolEntry) (end addr x : ℕ) (f : Found) (from : f.symbol.addr ≤ x) (below : x < f.symbol.addr + f.size) where
   is_found : found_in symbols end addr ≡ Some f → IsFound symbols end addr f
@@ -43,17 +35,11 @@ module _ (symbols : List SymbolEntry) (end addr x : ℕ) (f : Found) (from : f.s
   by_symbol : (o : Option SymbolEntry) → symbol_below symbols addr ≡ o → option_map (symbol_found_at symbols end addr) o ≡ Some f
       → symbol_below symbols x ≡ symbol_below symbols addr → found_in symbols end x ≡ Some (found f.symbol (x - f.symbol.addr) f.size)
   by_symbol None at is same = absurd (cc)
-  by_symbol (Some s) at is same =
-      let e : symbol_found_at symbols end addr s ≡ f = cc in
-      ap (option_map (symbol_found_at symbols end x)) (same ∙ at)
-      ∙ ap (λ (g : Found). Some (found g.symbol (x - g.symbol.addr) g.size)) e
+  by_symbol (Some s) at is same = grind (arith, found)
 
   -- the same symbol is found for each address that it reaches to
   pub found_again : found_in symbols end addr ≡ Some f → found_in symbols end x ≡ Some (found f.symbol (x - f.symbol.addr) f.size)
-  found_again is =
-      let f_is = is_found is in
-      by_symbol (symbol_below symbols addr) refl is
-      (same_nearest symbols f.symbol.addr x addr from f_is.below (reaches_over symbols end f.symbol f.size x below f_is.reaches) f_is.nearest)
+  found_again is = grind (arith, is_found, by_symbol, same_nearest, reaches_over)
 
 module _ (c : CatalogEntries) (item : Item) (addr x : ℕ) where
   module _ (f : Found) (from : f.symbol.addr ≤ x) (below : x < f.symbol.addr + f.size) where

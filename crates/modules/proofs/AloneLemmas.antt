@@ -1,5 +1,5 @@
 -- The modules of symbols alone lie apart, and have distinct names.
-use Rattle.modules.proofs.Words.{◌≡◌, ◌≢◌, ℕ, ◌-◌, ◌^◌, ◌<◌, ◌≤◌, Bool, true, false, ◌&&◌, ◌||◌, not, nat_le, nat_lt, cond, List, [], ◌∷◌, ◌++◌, length, get_or, map, Option, Some, None, refl, sym, ap, subst, ◌∙◌, ⊎_elim, arith, All, filter, find, fold, first_so, second_so, AllPairs, flat_map, list_any, option_and_then, option_to_list, bytes_eq}
+use Rattle.modules.proofs.Words.{◌≡◌, ◌≢◌, ℕ, ◌-◌, ◌^◌, ◌<◌, ◌≤◌, Bool, true, false, ◌&&◌, ◌||◌, not, nat_le, nat_lt, cond, List, [], ◌∷◌, ◌++◌, length, get_or, map, Option, Some, None, refl, sym, ap, subst, ◌∙◌, ⊎_elim, arith, All, filter, find, fold, first_so, second_so, AllPairs, flat_map, list_any, option_and_then, option_to_list, bytes_eq, rules}
 use Rattle.modules.proofs.Lemmas.{and_parts, cases_lt, le-leb, leb-false, leb-true, ltb-true, or_cases, or_left, or_parts, get_or-map, length-map, All-append, All-contains, All-filter, All-head, All-nil, All-cons, All-push, All-tail, filter_passes, list_any_at, AllPass-from_list_all, AllPairs-few, find-has, find-passes}
 use Rattle.modules.proofs.Definitions.{Accepted, names_of, HasItsRegions, IsFromSymbols, is_kept_line, owner_names, with_name, AreDistinctNames, is_built_in, lies_in, HaveFirstLines, kernel_regions, BoundNames, ListedSymbol, goes_on, is_in_page, is_nearest_line, is_outside, module_of_address, post_below, posts, is_core, IsPlaced, PlacedModule, AreSoundModules, AreApart, holds, is_apart, lies_in_any, Core}
 use Rattle.modules.proofs.KeptOrderLemmas.{first_lines}
@@ -75,19 +75,12 @@ abbrev HasAddress : List ListedSymbol → List ℕ → Type 0
 HasAddress lines name = (addr : ℕ) × (addr < 2 ^ 64 - 1) × (module_of_address lines addr ≡ Some name)
 
 below_top : (kernel : List Range) (l : ListedSymbol) (name : List ℕ) → l.owner ≡ Some name → is_post kernel l ≡ true → l.addr < 2 ^ 64 - 1
-below_top kernel l name own h =
-    ltb-true l.addr (2 ^ 64 - 1)
-    (⊎_elim
-    (λ built. absurd (let no : is_built_in kernel l ≡ false = rw own refl in cc))
-    (λ out. (and_parts _ (nat_lt l.addr (2 ^ 64 - 1)) out).1)
-    (or_cases (is_built_in kernel l) (is_outside kernel l) h))
+below_top kernel l name own h = grind (arith, ltb-true, and_parts, or_cases)
 
 module _ (kernel : List Range) (lines : List ListedSymbol) where
   kept_owner : (l : ListedSymbol) (o : Option (List ℕ)) → l.owner ≡ o → is_post kernel l ≡ true → is_kept_line lines l ≡ true → All (HasAddress lines) (option_to_list o)
   kept_owner l None own post kept = All-nil (HasAddress lines)
-  kept_owner l (Some name) own post kept =
-      let its : module_of_address lines l.addr ≡ Some name = is_of name (module_of_address lines l.addr) (rw own at kept) in
-      All-cons (HasAddress lines) name [] (l.addr, below_top kernel l name own post, its) (All-nil (HasAddress lines))
+  kept_owner l (Some name) own post kept = grind (arith, is_of, All-cons, below_top, All-nil)
 
   kept_owners : (ls : List ListedSymbol) → All (λ l. is_post kernel l ≡ true) ls → All (λ l. is_kept_line lines l ≡ true) ls → All (HasAddress lines) (flat_map (λ l. option_to_list l.owner) ls)
   kept_owners [] posts kept = All-nil (HasAddress lines)
@@ -152,15 +145,11 @@ abbrev AreValid : PlacedModule → Type 0
 AreValid m = All (λ r. r.0 < r.1) m.regions
 
 apart_from_module : (r : Range) (m : PlacedModule) → r.0 < r.1 → AreValid m → IsClear r m → All (λ s. is_apart r s ≡ true) m.regions
-apart_from_module r m r_valid valid clear = λ k d lt.
-    apart_or_meet r (get_or m.regions k d) r_valid (valid k d lt) (λ x h i. clear x h (list_any_at (λ s. holds s x) m.regions k d lt i))
+apart_from_module r m r_valid valid clear = grind (arith, apart_or_meet, list_any_at)
 
 apart_from_modules : (r : Range) (ms : List PlacedModule) → r.0 < r.1 → All AreValid ms → All (IsClear r) ms → All (λ s. is_apart r s ≡ true) (flat_map (λ m. m.regions) ms)
 apart_from_modules r [] r_valid valid clear = All-nil (λ s. is_apart r s ≡ true)
-apart_from_modules r (m ∷ ms) r_valid valid clear =
-    All-append (λ s. is_apart r s ≡ true) m.regions (flat_map (λ (n : PlacedModule). n.regions) ms)
-    (apart_from_module r m r_valid (All-head AreValid m ms valid) (All-head (IsClear r) m ms clear))
-    (apart_from_modules r ms r_valid (All-tail AreValid m ms valid) (All-tail (IsClear r) m ms clear))
+apart_from_modules r (m ∷ ms) r_valid valid clear = search (rules, All-append, apart_from_module, All-head, All-tail, apart_from_modules r ms r_valid (All-tail AreValid m ms valid) (All-tail (IsClear r) m ms clear))
 
 all_valid : (ms : List PlacedModule) → All AreValid ms → All (λ r. r.0 < r.1) (flat_map (λ m. m.regions) ms)
 all_valid [] valid = All-nil (λ (r : Range). r.0 < r.1)
@@ -182,10 +171,7 @@ module _ (lines : List ListedSymbol) where
 
   -- two modules of two names have no address in common
   two_clear : (m n : PlacedModule) (r : Range) → HasItsRegions lines m → HasItsRegions lines n → m.name ≢ n.name → ((x : ℕ) → holds r x ≡ true → lies_in m x ≡ true) → IsClear r n
-  two_clear m n r of_m of_n other within_m = λ x h i.
-      let a = ((of_m.exact x).0 (within_m x h)).1 in
-      let b = ((of_n.exact x).0 i).1 in
-      other (let e : Some m.name ≡ Some n.name = sym a ∙ b in let same : m.name ≡ n.name = cc in same)
+  two_clear m n r of_m of_n other within_m = grind arith
 
   apart_modules : (ms : List PlacedModule) → All (HasItsRegions lines) ms → AreDistinctNames (names_of ms) → AllPairs (λ r s. is_apart r s ≡ true) (flat_map (λ m. m.regions) ms)
   apart_modules [] all distinct = AllPairs-few (λ (r s : Range). is_apart r s ≡ true) [] (omega arith)
@@ -206,10 +192,7 @@ module _ (lines : List ListedSymbol) where
 -- ---- all of it
 
 with_kernel : (kernel rs : List Range) → AreApart kernel → All (λ k. All (λ s. is_apart k s ≡ true) rs) kernel → All (λ r. r.0 < r.1) rs → AllPairs (λ r s. is_apart r s ≡ true) rs → AreApart (kernel ++ rs)
-with_kernel kernel rs first across valid apart = record {
-  valid = All-append (λ (r : Range). r.0 < r.1) kernel rs first.valid valid;
-  apart = pairs_append (λ (r s : Range). is_apart r s ≡ true) kernel rs first.apart apart across;
-}
+with_kernel kernel rs first across valid apart = search (rules, All-append, pairs_append)
 
 across_kernel : (kernel : List Range) (lines : List ListedSymbol) (ms : List PlacedModule) → HaveFirstLines kernel lines → All (HasItsRegions (posts kernel lines)) ms → All (λ k. All (λ s. is_apart k s ≡ true) (flat_map (λ m. m.regions) ms)) kernel
 across_kernel kernel lines ms has all = λ k d within.

@@ -24,13 +24,7 @@ module _ (c : CatalogEntries) (sound : IsSoundCatalog c) where
 
   -- two items are one, or apart
   pub same_or_apart : (x y : Item) → Contains (items_of c) x → Contains (items_of c) y → (x ≡ y) ⊎ ((x.b ≤ y.a) ⊎ (y.b ≤ x.a))
-  same_or_apart x y (i, lt, at) (j, less, there) =
-      ⊎_elim (λ before. inr (earlier x y i j before less at there))
-      (λ ge. ⊎_elim (λ before. inr (other_side x y (earlier y x j i before lt there at)))
-      (λ le. let e : i ≡ j = omega arith in
-      inl (sym at ∙ get_or_default (items_of c) i x y lt ∙ ap (λ n. get_or (items_of c) n y) e ∙ there))
-      (cases_lt j i))
-      (cases_lt i j)
+  same_or_apart x y (i, lt, at) (j, less, there) = grind (arith, earlier, other_side, get_or_default, cases_lt)
 
   pub each_has_addresses : (x : Item) → Contains (items_of c) x → x.a < x.b
   each_has_addresses x m =

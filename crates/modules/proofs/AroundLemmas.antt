@@ -25,16 +25,10 @@ above_same symbols addr s h =
     ∙ ap (λ b. nat_lt addr t.addr && b) (list_all-agree (λ (u : SymbolEntry). nat_le u.addr s.addr || nat_le t.addr u.addr) (λ (u : SymbolEntry). nat_le u.addr addr || nat_le t.addr u.addr) symbols (λ i e l. least_above_below s.addr addr t.addr (get_or symbols i e).addr low (none i e l)))))
 
 nearest_parts : (symbols : List SymbolEntry) (addr : ℕ) (s : SymbolEntry) → is_nearest symbols addr s ≡ true → (s.addr ≤ addr) × All (λ t. (nat_le t.addr s.addr || nat_lt addr t.addr) ≡ true) symbols
-nearest_parts symbols addr s h = (
-  leb-true s.addr addr (first_so (nat_le s.addr addr) (list_all (λ (t : SymbolEntry). nat_le t.addr s.addr || nat_lt addr t.addr) symbols) h),
-  AllPass-from_list_all (λ (t : SymbolEntry). nat_le t.addr s.addr || nat_lt addr t.addr) symbols (second_so (nat_le s.addr addr) (list_all (λ (t : SymbolEntry). nat_le t.addr s.addr || nat_lt addr t.addr) symbols) h),
-)
+nearest_parts symbols addr s h = grind (arith, leb-true, AllPass-from_list_all)
 
 next_parts : (symbols : List SymbolEntry) (addr : ℕ) (s : SymbolEntry) → is_next symbols addr s ≡ true → (addr < s.addr) × All (λ t. (nat_le t.addr addr || nat_le s.addr t.addr) ≡ true) symbols
-next_parts symbols addr s h = (
-  ltb-true addr s.addr (first_so (nat_lt addr s.addr) (list_all (λ (t : SymbolEntry). nat_le t.addr addr || nat_le s.addr t.addr) symbols) h),
-  AllPass-from_list_all (λ (t : SymbolEntry). nat_le t.addr addr || nat_le s.addr t.addr) symbols (second_so (nat_lt addr s.addr) (list_all (λ (t : SymbolEntry). nat_le t.addr addr || nat_le s.addr t.addr) symbols) h),
-)
+next_parts symbols addr s h = grind (arith, ltb-true, AllPass-from_list_all)
 
 -- the nearest symbols have one address
 pub one_nearest : (symbols : List SymbolEntry) (addr : ℕ) (s : SymbolEntry) → symbol_below symbols addr ≡ Some s → All (λ x. is_nearest symbols addr x ≡ true → x.addr ≡ s.addr) symbols

@@ -1,7 +1,7 @@
 -- Each line is counted once.
-use Rattle.modules.proofs.Words.{◌≡◌, ◌≢◌, ℕ, ◌+◌, Bool, true, false, ◌&&◌, cond, List, [], ◌∷◌, ◌++◌, length, get_or, map, Some, None, Option, refl, sym, suc, ap, ◌∙◌, arith, All, count_by, filter, fold, is_none, sum_by, list_any, option_map_or, option_to_list, bytes_eq, first_so}
-use Rattle.modules.proofs.Lemmas.{and_left, or_parts, length-map, get_or-map, length-filter, sum_by-cons, list_any_none, count-and_false, count-or, count-or_apart, count_by-either, bytes_eq-one_name}
-use Rattle.modules.proofs.Definitions.{Accepted, accepted_of, after_module, names_of, none_yet, built_in_of, catalog_of, catalog_with, counts_of, entries_of, entry_for, ModuleEntry, kernel_at, module_with, AreDistinctNames, belongs, entry_of, is_built_in, is_kept, is_used, lies_in, symbols_that, fits, kernel_regions, region_fits, BoundNames, ListedModule, ListedRegion, ListedSymbol, PlacedModule, are_few, placed_line, lies_in_any}
+use Rattle.modules.proofs.Words.{◌≡◌, ◌≢◌, ℕ, ◌+◌, Bool, true, false, ◌&&◌, cond, List, [], ◌∷◌, ◌++◌, length, get_or, map, Some, None, Option, refl, sym, suc, ap, ◌∙◌, arith, All, count_by, filter, fold, is_none, sum_by, list_any, option_map_or, option_to_list, bytes_eq, first_so, rules}
+use Rattle.modules.proofs.Lemmas.{and_left, or_parts, length-map, get_or-map, length-filter, sum_by-cons, list_any_none, count-and_false, count-or, count-or_apart, count_by-either, bytes_eq-one_name, common_steps}
+use Rattle.modules.proofs.Definitions.{Accepted, accepted_of, after_module, names_of, none_yet, built_in_of, catalog_of, catalog_with, counts_of, entries_of, entry_for, ModuleEntry, AreDistinctNames, belongs, entry_of, is_built_in, is_kept, is_used, lies_in, symbols_that, fits, kernel_regions, region_fits, BoundNames, ListedModule, ListedRegion, ListedSymbol, PlacedModule, are_few, placed_line, lies_in_any}
 use Rattle.modules.proofs.AdmissionLemmas.{total, total-after_module}
 use Rattle.modules.proofs.SoundnessLemmas.{accepted_good}
 
@@ -53,9 +53,7 @@ symbols_by_home (m ∷ ms) symbols =
 
 -- a symbol belongs to modules of one name alone
 other_name : (m n : PlacedModule) (s : ListedSymbol) → m.name ≢ n.name → belongs m s ≡ true → belongs n s ≡ false
-other_name m n s differ h =
-    and_left (option_map_or (λ name. bytes_eq name n.name) s.owner false) (lies_in n s.addr)
-    (bytes_eq-one_name s.owner m.name n.name differ (first_so (option_map_or (λ name. bytes_eq name m.name) s.owner false) (lies_in m s.addr) h))
+other_name m n s differ h = search (rules, and_left, bytes_eq-one_name, first_so)
 
 no_home_left : (m : PlacedModule) (ms : List PlacedModule) (s : ListedSymbol) → AreDistinctNames (names_of (m ∷ ms)) → belongs m s ≡ true → list_any (λ n. belongs n s) ms ≡ false
 no_home_left m ms s distinct h = list_any_none (λ (n : PlacedModule). belongs n s) ms (λ k d lt.
@@ -73,8 +71,7 @@ count_of_none (m ∷ ms) s h =
 
 one_home : (lines : List PlacedModule) (s : ListedSymbol) → AreDistinctNames (names_of lines) → homes lines s ≡ cond (list_any (λ m. belongs m s) lines) 1 0
 one_home [] s distinct = refl
-one_home (m ∷ ms) s distinct =
-    sum_by-cons (λ n. cond (belongs n s) 1 0) m ms ∙ count-or (belongs m s) (list_any (λ n. belongs n s) ms) (homes ms s) (one_home ms s (distinct_tail m ms distinct)) (λ h. count_of_none ms s (no_home_left m ms s distinct h))
+one_home (m ∷ ms) s distinct = grind (arith, common_steps, sum_by-cons, count-or, distinct_tail, count_of_none, no_home_left, one_home ms s (distinct_tail m ms distinct))
 
 -- a symbol of the kernel itself belongs to no module
 abbrev pub without_owner : Option (List ℕ) → ℕ → PlacedModule → Bool
@@ -111,14 +108,11 @@ none_built_in (s ∷ symbols) = omega (arith, none_built_in symbols, count-and_f
 
 sum_of_entries : (built_in : List (ℕ × ℕ)) (symbols : List ListedSymbol) (lines : List PlacedModule) → sum_by (λ (m : ModuleEntry). length m.symbols) (option_to_list (built_in_of built_in symbols) ++ map (entry_for symbols) lines) ≡ count_by (is_built_in built_in) symbols + sum_by (λ m. count_by (belongs m) symbols) lines
 sum_of_entries [] symbols lines = omega (arith, none_built_in symbols, sum_of_modules symbols lines)
-sum_of_entries (r ∷ rs) symbols lines =
-    let kernel : ModuleEntry = module_with (kernel_at (r ∷ rs)) (symbols_that (is_built_in (r ∷ rs)) symbols) in
-    omega (arith, length-symbols_that (is_built_in (r ∷ rs)) symbols, sum_of_modules symbols lines, sum_by-cons (λ (e : ModuleEntry). length e.symbols) kernel (map (entry_for symbols) lines))
+sum_of_entries (r ∷ rs) symbols lines = search (rules, length-symbols_that, sum_of_modules, sum_by-cons)
 
 pub kept_in_one_of : (a : Accepted) (symbols : List ListedSymbol) → AreDistinctNames (names_of a.modules)
     → sum_by (λ m. length m.symbols) (entries_of (catalog_with a symbols)) ≡ count_by (is_kept a) symbols
-kept_in_one_of a symbols distinct =
-    sum_of_entries a.built_in symbols a.modules ∙ ap (λ n. count_by (is_built_in a.built_in) symbols + n) (symbols_by_home a.modules symbols) ∙ kept_by_home a.built_in a symbols refl distinct
+kept_in_one_of a symbols distinct = grind (arith, sum_of_entries, symbols_by_home, kept_by_home)
 
 pub kept_in_one : (names : Option BoundNames) (modules : List ListedModule) (regions : List ListedRegion) (symbols : List ListedSymbol) → All (λ l. fits l ≡ true) modules → All (λ l. region_fits l ≡ true) regions → are_few regions ≡ true
     → sum_by (λ m. length m.symbols) (entries_of (catalog_of names modules regions symbols)) ≡ (counts_of names modules regions symbols).symbols

@@ -8,13 +8,13 @@ pub use Rattle.modules.specs.Catalogs.{IsNoneAbsent, IsSoundCatalog, built_in_of
 pub use Rattle.modules.specs.Entries.{CatalogEntries, ModuleEntry, SymbolEntry}
 pub use Rattle.modules.specs.Found.{Found, IsFound, ReachesUpTo, found_in, symbol_at, symbol_found_at, symbols_from}
 pub use Rattle.modules.specs.FromSymbols.{HasItsRegions, IsFromSymbols, is_kept_line, owner_names, with_name}
-pub use Rattle.modules.specs.Gathering.{BelongsOnlyAt, CountsStay, Gathers, HasRoom, Keeps, KeepsRun, kept_of, lies_for, owner_for}
+pub use Rattle.modules.specs.Gathering.{BelongsOnlyAt, CountsStay, Gathers, HasRoom, Keeps, KeepsRun, lies_for, owner_for}
 pub use Rattle.modules.specs.Grouped.{IsCut, comes_first, lines_at}
 pub use Rattle.modules.specs.Index.{HasOrdered, IsFirstBorder, IsFirstOf, IsIndex, IsOrdered, IsRising, IsSplit, IsSplitBy, IsSplitOf, comes_before, index_entries_of, symbol_of_entry}
 pub use Rattle.modules.specs.Items.{item_of_address, items_at, items_below, items_of}
 pub use Rattle.modules.specs.Kept.{AreDistinctNames, belongs, entry_of, is_built_in, is_kept, is_used, lies_in, symbols_that}
-pub use Rattle.modules.specs.LineMarks.{AreLeft, AreNamed, HasFirstLine, HaveFirstLines, is_free, is_kept_mark, kept_numbers, kernel_marks, line_marks, mark_of, marks_of, modules_numbered, name_of, number_for, number_in, symbol_marks, with_number, with_owner}
-pub use Rattle.modules.specs.Lines.{built_in_region, code_regions, first_address, fits, is_region, kernel_regions, module_line_region, region_fits, region_line_region, start_bounds, text_bounds, usual_bounds, with_apart}
+pub use Rattle.modules.specs.LineMarks.{AreLeft, AreNamed, HasFirstLine, HaveFirstLines, is_kept_mark, kept_numbers, kernel_marks, line_marks, mark_of, marks_of, modules_numbered, name_of, number_for, number_in, symbol_marks, with_number, with_owner}
+pub use Rattle.modules.specs.Lines.{built_in_region, first_address, fits, is_region, kernel_regions, module_line_region, region_fits, region_line_region, with_apart}
 pub use Rattle.modules.specs.Listed.{BoundNames, ListedModule, ListedRegion, ListedSymbol}
 pub use Rattle.modules.specs.Loads.{GivesOrLacksMemory, GivesSome, TakesMemory, drop_init_update, has_no_items, is_erasing, is_inserting, is_item_of, item_of, load_of, load_update, only_of, same_items, unload_update, update_of}
 pub use Rattle.modules.specs.MarkedModules.{StandsFor, numbered_module, ranges_of}

@@ -1,20 +1,10 @@
 -- Which first addresses an update takes out.
-use Rattle.modules.proofs.Words.{◌≡◌, ℕ, ◌+◌, ◌<◌, ◌≤◌, Bool, true, false, ◌&&◌, not, nat_eq, cond, zero, suc, List, [], ◌∷◌, ◌++◌, length, get_or, take, drop, Some, None, Ok, refl, sym, ap, ◌∙◌, ⊎_elim, arith, length-append, bytes_decides, bytes_eq}
+use Rattle.modules.proofs.Words.{◌≡◌, ℕ, ◌+◌, ◌<◌, ◌≤◌, Bool, true, false, not, nat_eq, cond, zero, suc, List, [], ◌∷◌, ◌++◌, length, get_or, take, drop, Some, None, refl, sym, ap, ◌∙◌, ⊎_elim, arith, length-append, bytes_decides, bytes_eq}
 use Rattle.modules.proofs.Lemmas.{cases_lt, eqb-true, eq-eqb, append-nil, length-take-le, get_or-append_seam, take-length}
-use Rattle.modules.proofs.Definitions.{Erase, Item, TakesMemory, has_no_items, only_of, update_of, is_of, starts_of, Part}
+use Rattle.modules.proofs.Definitions.{only_of, is_of, starts_of, Part}
 use Rattle.modules.proofs.LoadLemmas.{starts_more}
 
 -- ---- just one first address, or several
-
-pub only_erased : (starts : List ℕ) (a : ℕ) → only_of starts ≡ Some a → update_of starts [] ≡ Erase a
-only_erased [] a h = absurd (cc)
-only_erased (x ∷ []) a h = let e : x ≡ a = cc in ap (λ n. Erase n) e
-only_erased (x ∷ y ∷ rest) a h = absurd (cc)
-
-pub several_take_memory : (starts : List ℕ) → only_of starts ≡ None → TakesMemory (Ok (update_of starts []))
-several_take_memory [] h = tt
-several_take_memory (x ∷ []) h = absurd (cc)
-several_take_memory (x ∷ y ∷ rest) h = tt
 
 pub only_one : (starts : List ℕ) (last : ℕ) → starts ≡ last ∷ [] → Some last ≡ only_of starts
 only_one starts last is = sym (ap (λ (xs : List ℕ). only_of xs) is)
@@ -95,16 +85,3 @@ all_words words starts count is bound =
     eqb_by true b f g = absurd (f refl)
     eqb_by false true f g = absurd (g refl)
     eqb_by false false f g = refl
-
--- an update of these words takes out just the items of these first addresses
-pub erasing_batch : (starts erase : List ℕ) (insert : List Item) → (not (nat_eq (length erase) 1) && has_no_items insert && bytes_eq starts erase) ≡ (not (nat_eq (length starts) 1) && has_no_items insert && bytes_eq starts erase)
-erasing_batch starts erase insert =
-    by (bytes_eq starts erase) refl
-  where
-    by : (b : Bool) → bytes_eq starts erase ≡ b → (not (nat_eq (length erase) 1) && has_no_items insert && b) ≡ (not (nat_eq (length starts) 1) && has_no_items insert && b)
-    by true h = ap (λ (xs : List ℕ). not (nat_eq (length xs) 1) && has_no_items insert && true) (sym ((bytes_decides starts erase).0 h))
-    by false h = ends (not (nat_eq (length erase) 1) && has_no_items insert) ∙ sym (ends (not (nat_eq (length starts) 1) && has_no_items insert))
-      where
-        ends : (b : Bool) → (b && false) ≡ false
-        ends true = refl
-        ends false = refl

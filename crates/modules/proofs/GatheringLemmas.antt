@@ -1,7 +1,7 @@
 -- One more run of symbol lines.
 use Rattle.modules.proofs.Words.{◌≡◌, ℕ, ◌+◌, ◌<◌, ◌≤◌, Bool, false, cond, List, ◌++◌, length, get_or, map, not, Some, None, Ok, Err, Option, Result, refl, sym, ap, subst, ◌∙◌, ⊎_elim, arith, length-append, filter, count_by, OnOk, Bor, Vec, position_from, option_copied, option_map_or, AllocError, bytes_eq}
 use Rattle.modules.proofs.Lemmas.{cases_eq, map-append, append-nil, length-map, filter-append, length-filter_both, sum_by-append}
-use Rattle.modules.proofs.Definitions.{Accepted, names_of, SymbolEntry, CountsStay, Gathers, HasRoom, Keeps, KeepsRun, kept_of, lies_for, owner_for, AreDistinctNames, belongs, is_built_in, is_kept, symbols_that, entry_of, ListedSymbol, PlacedModule, lines_of_run, line_of, Gathered, Owner, Run}
+use Rattle.modules.proofs.Definitions.{Accepted, names_of, SymbolEntry, CountsStay, Gathers, HasRoom, Keeps, KeepsRun, lies_for, owner_for, AreDistinctNames, belongs, is_built_in, is_kept, symbols_that, entry_of, ListedSymbol, PlacedModule, lines_of_run, line_of, Gathered, Owner, Run}
 use Rattle.modules.specs.declared.gathering.Owner.TheVariants as owner
 use Rattle.modules.proofs.HomeLemmas.{that_run, that_none, count_run, count_rest, kept_unnamed, kept_nowhere, kept_there, belongs_there}
 use Rattle.modules.proofs.KeptLemmas.{no_home, only_home, place_within}
@@ -121,11 +121,4 @@ lists_of o p ss ts g h kept stray owner all keeps = subst (λ (q : Owner). Keeps
 pub kept_or_fails : (a : Accepted) (r : Run) (g : Gathered) (kept rest : ℕ) (o : Owner) (symbols : List SymbolEntry) (h : Gathered) (result : Result (Unit {0}) AllocError) → o ≡ owner_for a (option_copied r.module) → symbols ≡ filter (lies a o) r.symbols.items → kept ≡ length symbols → rest + length symbols ≡ length r.symbols.items
     → OnOk result (Keeps o symbols (record g { kept = g.kept + kept; stray = g.stray + rest }) h) → OnOk result (CountsStay (record g { kept = g.kept + kept; stray = g.stray + rest }) h) → OnOk result (KeepsRun a r g h)
 kept_or_fails a r g kept rest o symbols h (Err e) owner is few others lists counts = tt
-kept_or_fails a r g kept rest o symbols h (Ok v) owner is few others lists counts =
-    let all : symbols ≡ kept_of a r = is ∙ ap (λ (x : Owner). filter (lies a x) r.symbols.items) owner in
-    let same : length symbols ≡ length (kept_of a r) = ap (λ (es : List SymbolEntry). length es) all in
-    record {
-      lists = lists_of o (owner_for a (option_copied r.module)) symbols (kept_of a r) g h (g.kept + kept) (g.stray + rest) owner all lists;
-      kept = omega (arith, counts.0, few, same);
-      stray = omega (arith, counts.1, others, same);
-    }
+kept_or_fails a r g kept rest o symbols h (Ok v) owner is few others lists counts = grind (arith, lists_of)

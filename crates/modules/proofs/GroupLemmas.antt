@@ -1,5 +1,5 @@
 -- The region lines of one name stand side by side.
-use Rattle.modules.proofs.Words.{◌≡◌, ℕ, ◌-◌, ◌≤◌, Bool, true, false, ◌||◌, cond, List, [], ◌∷◌, length, get_or, take, drop, refl, sym, ap, subst, ◌∙◌, ⊎_elim, arith, All, filter, Bor, slice_cmp, list_any, IsNonDecreasingBy, IsPartitionPoint, IsPartitionedBy, IsSortedBy, IsStableBy, ties, is_le, is_lt, nat_cmp, ordering_index, Ordering, bytes_eq}
+use Rattle.modules.proofs.Words.{◌≡◌, ℕ, ◌-◌, ◌≤◌, Bool, true, false, ◌||◌, List, [], ◌∷◌, length, get_or, take, drop, refl, sym, ap, subst, ◌∙◌, ⊎_elim, arith, All, filter, Bor, slice_cmp, list_any, IsNonDecreasingBy, IsPartitionPoint, IsPartitionedBy, IsSortedBy, IsStableBy, ties, is_le, is_lt, nat_cmp, ordering_index, Ordering, bytes_eq}
 use Rattle.modules.proofs.Lemmas.{cases_lt, nat_list_cmp_total, get_or-map, length-map, searchable_from_sorted, bytes_eq-neither, is_eq-between, is_le-index, is_lt-index, is_lt-is_le, is_lt-not_eq, not_le-not_eq, filter-middle, filter_agree, is_eq-slice_cmp}
 use Rattle.modules.proofs.Definitions.{IsCut, comes_first, lines_at, ListedRegion, is_core, has_core, lines_named, Core}
 
@@ -20,20 +20,13 @@ pub up_to_first : (index : List (Bor ListedRegion)) (name : List ℕ) → IsSort
 up_to_first index name sorted = λ i j d le lt h. is_le-index (order_to name (get_or index i d)) (order_to name (get_or index j d)) (rises index name sorted i j d le lt) h
 
 pub IsCut-from_partition : (p : Bor ListedRegion → Bool) (index : List (Bor ListedRegion)) (place : ℕ) → place ≤ length index → IsPartitionPoint (λ l. p l ≡ true) (λ l. p l ≡ false) index place → IsCut p index place
-IsCut-from_partition p index place bound point =
-    record {
-      bound = bound;
-      below = λ k d lt. point.0 k d (omega arith) lt;
-      others = λ k d le lt. point.1 k d le lt;
-    }
+IsCut-from_partition p index place bound point = grind arith
 
 -- ---- the lines between two cuts
 
 pub named_at : (name : List ℕ) (index : List (Bor ListedRegion)) → lines_named name (lines_at index) ≡ lines_at (filter (λ l. bytes_eq l.now.name name) index)
 named_at name [] = refl
-named_at name (l ∷ ls) =
-    elim (bytes_eq l.now.name name) as (λ b. cond b (l.now ∷ lines_named name (lines_at ls)) (lines_named name (lines_at ls)) ≡ lines_at (cond b (l ∷ filter (λ (x : Bor ListedRegion). bytes_eq x.now.name name) ls) (filter (λ (x : Bor ListedRegion). bytes_eq x.now.name name) ls)))
-    [ true ↦ ap (λ ys. l.now ∷ ys) (named_at name ls) | false ↦ named_at name ls ]
+named_at name (l ∷ ls) = grind (arith, named_at name ls)
 
 pub core_at : (index : List (Bor ListedRegion)) → list_any (λ l. is_core l.now.part) index ≡ has_core (lines_at index)
 core_at [] = refl

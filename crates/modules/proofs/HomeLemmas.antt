@@ -1,28 +1,18 @@
 -- Which lines of a run are kept, and where.
-use Rattle.modules.proofs.Words.{◌≡◌, ℕ, ◌+◌, ◌<◌, Bool, true, false, ◌||◌, cond, not, List, [], ◌∷◌, length, get_or, map, Some, None, Option, refl, sym, ap, ◌∙◌, ⊎_elim, arith, filter, count_by, list_any, position_from, option_map_or, bytes_eq}
-use Rattle.modules.proofs.Lemmas.{cases_Bool, cases_eq, list_any_at, list_any_none, sum_by-cons, slice_get-get_or, or-false, count_either}
-use Rattle.modules.proofs.Definitions.{Accepted, names_of, SymbolEntry, lies_for, AreDistinctNames, belongs, is_kept, lies_in, symbols_that, entry_of, ListedSymbol, PlacedModule, lies_in_any, line_of}
+use Rattle.modules.proofs.Words.{◌≡◌, ℕ, ◌+◌, ◌<◌, Bool, true, false, cond, not, List, [], ◌∷◌, length, get_or, map, Some, None, Option, refl, sym, ap, ◌∙◌, ⊎_elim, arith, filter, count_by, list_any, position_from, bytes_eq}
+use Rattle.modules.proofs.Lemmas.{cases_Bool, cases_eq, list_any_at, list_any_none, sum_by-cons, slice_get-get_or, or-false, count_either, common_steps}
+use Rattle.modules.proofs.Definitions.{Accepted, names_of, SymbolEntry, lies_for, AreDistinctNames, belongs, is_kept, symbols_that, ListedSymbol, PlacedModule, line_of}
 use Rattle.modules.specs.declared.gathering.Owner.TheVariants as owner
 use Rattle.modules.proofs.KeptLemmas.{no_home, place_within, only_home, belongs_at}
 
 -- of the lines of a module, where a test of a line is one of its symbol
 pub that_run : (p : ListedSymbol → Bool) (q : SymbolEntry → Bool) (o : Option (List ℕ)) → ((s : SymbolEntry) → p (line_of o s) ≡ q s) → (ss : List SymbolEntry) → symbols_that p (map (line_of o) ss) ≡ filter q ss
 that_run p q o is [] = refl
-that_run p q o is (s ∷ ss) =
-    let rest : symbols_that p (map (line_of o) ss) ≡ filter q ss = that_run p q o is ss in
-    let others : List ListedSymbol = filter p (map (line_of o) ss) in
-    ap (λ b. map entry_of (cond b (line_of o s ∷ others) others)) (is s)
-    ∙ elim (q s) as (λ b. map entry_of (cond b (line_of o s ∷ others) others) ≡ cond b (s ∷ filter q ss) (filter q ss))
-    [ true ↦ ap (λ es. s ∷ es) rest | false ↦ rest ]
+that_run p q o is (s ∷ ss) = grind (arith, that_run p q o is ss)
 
 pub that_none : (p : ListedSymbol → Bool) (o : Option (List ℕ)) → ((s : SymbolEntry) → p (line_of o s) ≡ false) → (ss : List SymbolEntry) → symbols_that p (map (line_of o) ss) ≡ []
 that_none p o none [] = refl
-that_none p o none (s ∷ ss) =
-    ap (λ b. map entry_of (cond b (line_of o s ∷ filter p (map (line_of o) ss)) (filter p (map (line_of o) ss)))) (none s) ∙ that_none p o none ss
-
-pub filter_nothing : (ss : List SymbolEntry) → filter (λ _. false) ss ≡ []
-filter_nothing [] = refl
-filter_nothing (s ∷ ss) = filter_nothing ss
+that_none p o none (s ∷ ss) = grind (arith, that_none p o none ss)
 
 -- how many lines pass, and how many do not
 length_filter : (q : SymbolEntry → Bool) (s : SymbolEntry) (ss : List SymbolEntry) → length (filter q (s ∷ ss)) ≡ cond (q s) 1 0 + length (filter q ss)
@@ -30,29 +20,18 @@ length_filter q s ss = elim (q s) as (λ b. length (cond b (s ∷ filter q ss) (
 
 pub count_run : (p : ListedSymbol → Bool) (q : SymbolEntry → Bool) (o : Option (List ℕ)) → ((s : SymbolEntry) → p (line_of o s) ≡ q s) → (ss : List SymbolEntry) → count_by p (map (line_of o) ss) ≡ length (filter q ss)
 count_run p q o is [] = refl
-count_run p q o is (s ∷ ss) =
-    sum_by-cons (λ (l : ListedSymbol). cond (p l) 1 0) (line_of o s) (map (line_of o) ss)
-    ∙ ap (λ b. cond b 1 0 + count_by p (map (line_of o) ss)) (is s)
-    ∙ ap (λ n. cond (q s) 1 0 + n) (count_run p q o is ss)
-    ∙ sym (length_filter q s ss)
+count_run p q o is (s ∷ ss) = grind (arith, common_steps, sum_by-cons, length_filter, count_run p q o is ss)
 
 pub count_rest : (p : ListedSymbol → Bool) (q : SymbolEntry → Bool) (o : Option (List ℕ)) → ((s : SymbolEntry) → p (line_of o s) ≡ q s) → (ss : List SymbolEntry) → count_by (λ l. not (p l)) (map (line_of o) ss) + length (filter q ss) ≡ length ss
 count_rest p q o is [] = refl
-count_rest p q o is (s ∷ ss) =
-    let first : count_by (λ l. not (p l)) (map (line_of o) (s ∷ ss)) ≡ cond (not (q s)) 1 0 + count_by (λ l. not (p l)) (map (line_of o) ss) =
-    sum_by-cons (λ (l : ListedSymbol). cond (not (p l)) 1 0) (line_of o s) (map (line_of o) ss) ∙ ap (λ b. cond (not b) 1 0 + count_by (λ l. not (p l)) (map (line_of o) ss)) (is s) in
-    let rest : count_by (λ l. not (p l)) (map (line_of o) ss) + length (filter q ss) ≡ length ss = count_rest p q o is ss in
-    omega (arith, first, rest, count_either (q s), length_filter q s ss)
+count_rest p q o is (s ∷ ss) = grind (arith, common_steps, sum_by-cons, count_either, length_filter, count_rest p q o is ss)
 
 no_lines : (a : Accepted) (s : ListedSymbol) → ((j : ℕ) (m : PlacedModule) → j < length a.modules → belongs (get_or a.modules j m) s ≡ false) → list_any (λ m. belongs m s) a.modules ≡ false
 no_lines a s none = list_any_none (λ (m : PlacedModule). belongs m s) a.modules none
 
 -- a line of the kernel itself is kept where its regions have it
 pub kept_unnamed : (a : Accepted) (s : SymbolEntry) → is_kept a (line_of None s) ≡ lies_for a owner.BuiltIn s.addr
-kept_unnamed a s =
-    let b : Bool = lies_in_any a.built_in s.addr in
-    let none : list_any (λ m. belongs m (line_of None s)) a.modules ≡ false = no_lines a (line_of None s) (λ j m lt. refl) in
-    ap (λ c. b || c) none ∙ or-false b
+kept_unnamed a s = grind (arith, no_lines, or-false)
 
 -- that of a module which was not accepted is not
 pub kept_nowhere : (a : Accepted) (name : List ℕ) → position_from (bytes_eq name) 0 (names_of a.modules) ≡ None → (s : SymbolEntry) → is_kept a (line_of (Some name) s) ≡ false
@@ -60,9 +39,7 @@ kept_nowhere a name absent s = no_lines a (line_of (Some name) s) (no_home a (li
 
 -- and that of an accepted module is where its regions have it
 pub belongs_there : (a : Accepted) (name : List ℕ) (k : ℕ) → position_from (bytes_eq name) 0 (names_of a.modules) ≡ Some k → (m : PlacedModule) (s : SymbolEntry) → belongs (get_or a.modules k m) (line_of (Some name) s) ≡ lies_for a (owner.Module k) s.addr
-belongs_there a name k at m s =
-    let within : k < length a.modules = (place_within a.modules name k at).0 in
-    belongs_at a (line_of (Some name) s) name k refl at m ∙ ap (λ o. option_map_or (λ (l : PlacedModule). lies_in l s.addr) o false) (sym (slice_get-get_or a.modules k m within))
+belongs_there a name k at m s = grind (arith, place_within, belongs_at, slice_get-get_or)
 
 pub kept_there : (a : Accepted) (name : List ℕ) (k : ℕ) → AreDistinctNames (names_of a.modules) → position_from (bytes_eq name) 0 (names_of a.modules) ≡ Some k → (s : SymbolEntry) → is_kept a (line_of (Some name) s) ≡ lies_for a (owner.Module k) s.addr
 kept_there a name k distinct at s =

@@ -5,10 +5,7 @@ use Rattle.modules.proofs.Definitions.{is_nearest, symbol_below, is_next, addres
 
 -- the order of the index by numbers
 pub comes_before_weak : IsStrictWeakOrder comes_before
-comes_before_weak = record {
-  one_way = λ x y h. pairs_one_way x.addr x.place y.addr y.place h;
-  chain = λ x y z h k. pairs_chain x.addr x.place y.addr y.place z.addr z.place h k;
-}
+comes_before_weak = grind (arith, pairs_one_way, pairs_chain)
 
 -- ---- the index and its symbols
 
@@ -47,12 +44,7 @@ rising symbols index is = λ i j d le lt. (in_order symbols index is i j d le lt
 pub IsSplitBy-from_partition : {A : Type 0} (measure : A → ℕ) (xs : List A) (addr split : ℕ) → split ≤ length xs
     → IsPartitionPoint (λ x. nat_le (measure x) addr ≡ true) (λ x. nat_le (measure x) addr ≡ false) xs split
     → IsSplitBy measure xs addr split
-IsSplitBy-from_partition measure xs addr split bound point =
-    record {
-      bound = bound;
-      below = λ k d lt. leb-true (measure (get_or xs k d)) addr (point.0 k d (omega arith) lt);
-      above = λ k d le lt. leb-false (measure (get_or xs k d)) addr (point.1 k d le lt);
-    }
+IsSplitBy-from_partition measure xs addr split bound point = grind (arith, leb-true, leb-false)
 
 -- ---- the symbol that is not above an address
 

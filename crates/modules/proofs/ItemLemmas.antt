@@ -8,10 +8,7 @@ abbrev pub region_of : Item → ℕ × ℕ
 region_of i = (i.a, i.b)
 
 pub one_number_more : (c : CatalogEntries) (k : ℕ) → items_below c (k + 1) ≡ items_below c k ++ items_at c k
-one_number_more c k =
-    ap (flat_map (items_at c)) (range-append_from_zero k 1)
-    ∙ flat_map-append (items_at c) (range_with_len 0 k) (k ∷ [])
-    ∙ ap (λ l. items_below c k ++ l) (append-nil (items_at c k))
+one_number_more c k = grind (arith, range-append_from_zero, flat_map-append, append-nil)
 
 -- the regions of the items are those of the module
 regions_again : (k : ℕ) (rs : List (ℕ × ℕ)) → map region_of (map (item_of k) rs) ≡ rs
@@ -46,9 +43,4 @@ built_in_regions c = go c.built_in
     go (Some m) = regions_again 0 m.regions ∙ sym (append-nil m.regions)
 
 pub all_regions : (c : CatalogEntries) → map region_of (items_of c) ≡ regions_of c
-all_regions c =
-    ap (λ n. map region_of (items_below c n)) (add-one (length c.modules))
-    ∙ map-append region_of (items_at c 0) (flat_map (items_at c) (range_with_len 1 (length c.modules)))
-    ∙ ap (λ l. l ++ map region_of (flat_map (items_at c) (range_with_len 1 (length c.modules)))) (built_in_regions c)
-    ∙ ap (λ l. flat_map (λ m. m.regions) (option_to_list c.built_in) ++ l) (regions_from c c.modules 1 (λ i m e. module_at c i (1 + i) m refl e))
-    ∙ sym (flat_map-append (λ (m : ModuleEntry). m.regions) (option_to_list c.built_in) c.modules)
+all_regions c = grind (arith, add-one, map-append, built_in_regions, regions_from, module_at, flat_map-append)

@@ -1,7 +1,7 @@
 -- The modules in the order of their first kept lines are those of the lines.
-use Rattle.modules.proofs.Words.{◌≡◌, ◌≢◌, ℕ, ◌-◌, ◌^◌, ◌<◌, Bool, true, false, ◌&&◌, ◌||◌, nat_lt, nat_eq, cond, suc, List, [], ◌∷◌, ◌++◌, get_or, map, Option, Some, None, refl, sym, ap, subst, ◌∙◌, arith, All, IfSome, Contains, filter, find, fold, is_none, is_some, list_all, flat_map, list_any, position_from, option_and_then, option_map, option_map_or, option_to_list, bytes_eq, bytes_decides}
-use Rattle.modules.proofs.Lemmas.{and_parts, eq-eqb, eqb-true, ltb-true, map-append, All-cons, All-filter, All-head, All-nil, All-push, All-tail, begins, ends, look_is, find-passes, is_some-position_from}
-use Rattle.modules.proofs.Definitions.{Item, half_open, IsLook, look, HasItsRegions, IsFromSymbols, is_kept_line, with_name, is_built_in, accepted_with, AreNamed, HasFirstLine, HaveFirstLines, is_kept_mark, kept_numbers, kernel_marks, mark_of, marks_of, modules_numbered, name_of, number_for, number_in, with_number, built_in_region, code_regions, first_address, kernel_regions, start_bounds, text_bounds, usual_bounds, with_apart, BoundNames, ListedSymbol, numbered_module, AreRegions, HoldsFor, is_outside, module_of_address, posts, PlacedModule, is_apart, Mark}
+use Rattle.modules.proofs.Words.{◌≡◌, ◌≢◌, ℕ, ◌-◌, ◌^◌, ◌<◌, Bool, true, false, ◌&&◌, ◌||◌, nat_lt, nat_eq, cond, suc, List, [], ◌∷◌, ◌++◌, get_or, map, Option, Some, None, refl, sym, ap, subst, ◌∙◌, arith, All, IfSome, Contains, filter, find, fold, is_none, is_some, flat_map, list_any, position_from, option_and_then, option_map, option_map_or, option_to_list, bytes_eq, bytes_decides, rules}
+use Rattle.modules.proofs.Lemmas.{and_parts, eq-eqb, eqb-true, ltb-true, map-append, All-cons, All-filter, All-head, All-nil, All-push, All-tail, begins, ends, look_is, find-passes, is_some-position_from, common_steps}
+use Rattle.modules.proofs.Definitions.{Item, half_open, look, HasItsRegions, IsFromSymbols, is_kept_line, with_name, is_built_in, accepted_with, AreNamed, HasFirstLine, HaveFirstLines, is_kept_mark, kept_numbers, kernel_marks, mark_of, marks_of, modules_numbered, name_of, number_for, number_in, with_number, built_in_region, first_address, kernel_regions, with_apart, BoundNames, ListedSymbol, numbered_module, AreRegions, HoldsFor, is_outside, module_of_address, posts, PlacedModule, Mark}
 use Rattle.modules.proofs.LaidLemmas.{found}
 use Rattle.modules.proofs.MarkedModuleLemmas.{its_regions}
 use Rattle.modules.proofs.OwnLineLemmas.{is_of, of_is, same_bool}
@@ -39,20 +39,14 @@ module _ (P : ℕ × ℕ → Type 0) where
 
   all_with : (regions : List (ℕ × ℕ)) (region : Option (ℕ × ℕ)) → All P regions → IfSome region P → All P (with_apart regions region)
   all_with regions None all its = all
-  all_with regions (Some r) all its =
-      elim (list_all (is_apart r) regions) as (λ b. All P (cond b (regions ++ r ∷ []) regions))
-      [ true ↦ All-push P regions r all its | false ↦ all ]
+  all_with regions (Some r) all its = grind (arith, common_steps, All-push)
 
   all_or : (region : Option (ℕ × ℕ)) (rest : List (ℕ × ℕ)) → IfSome region P → All P rest → All P (option_map_or (λ r. r ∷ []) region rest)
   all_or None rest its all = all
   all_or (Some r) rest its all = All-cons P r [] its (All-nil P)
 
 pub first_lines : (names : Option BoundNames) (lines : List ListedSymbol) → HaveFirstLines (kernel_regions names lines) lines
-first_lines None lines =
-    let P : ℕ × ℕ → Type 0 = HasFirstLine lines in
-    let text : Option (ℕ × ℕ) = built_in_region text_bounds lines in
-    all_or P (built_in_region usual_bounds lines) (code_regions lines) (one_first_line usual_bounds lines)
-    (all_with P (with_apart [] text) (built_in_region start_bounds lines) (all_with P [] text (All-nil P) (one_first_line text_bounds lines)) (one_first_line start_bounds lines))
+first_lines None lines = search (rules, all_or, one_first_line, all_with, All-nil)
 first_lines (Some names) lines = all_listed (HasFirstLine lines) (built_in_region names lines) (one_first_line names lines)
 
 -- ---- numbers
@@ -69,18 +63,14 @@ numbered names name some = by (position_from (bytes_eq name) 0 names) (is_some-p
     by (Some k) h = λ e. absurd (omega arith)
 
 IsNumber-in : (names : List (List ℕ)) (name : List ℕ) → list_any (bytes_eq name) names ≡ true → IsNumber names (number_in names name)
-IsNumber-in names name some =
-    let not_zero = numbered names name some in
-    (not_zero, ap (number_in names) (number_names names name (number_in names name) refl not_zero))
+IsNumber-in names name some = grind (arith, numbered, number_names)
 
 -- ---- what is kept by the marks is what is kept by the lines
 
 module _ (kernel : List (ℕ × ℕ)) (names : List (List ℕ)) (lines : List ListedSymbol) (items : List Item) (has : HaveFirstLines kernel lines) (regions : AreRegions (marks_of kernel names lines) items) where
   at_look : (n addr : ℕ) (o : Option Item) → look half_open addr items ≡ o → option_map_or (λ (i : Item). nat_eq i.tag n) o false ≡ true → HoldsFor items n addr
   at_look n addr None at h = absurd (cc)
-  at_look n addr (Some i) at h =
-      let is : IsLook half_open addr items (Some i) = subst (λ (o : Option Item). IsLook half_open addr items o) at (look_is half_open addr items) in
-      record { item = i; there = is.0; its = eqb-true i.tag n h; from = begins addr i is.1; below = ends addr i is.1 }
+  at_look n addr (Some i) at h = grind (arith, look_is, eqb-true, begins, ends)
 
   by_look : (n addr : ℕ) → HoldsFor items n addr → option_map_or (λ (i : Item). nat_eq i.tag n) (look half_open addr items) false ≡ true
   by_look n addr h =
@@ -121,13 +111,7 @@ module _ (kernel : List (ℕ × ℕ)) (names : List (List ℕ)) (lines : List Li
   one_kept : (l : ListedSymbol) (b : Bool) (ns : List ℕ) (os : List (List ℕ)) (ms : List Mark) (ls : List ListedSymbol) (name : List ℕ) → l.owner ≡ Some name → list_any (bytes_eq name) names ≡ true
       → map (name_of names) (kept_marks ms) ≡ kept_owners ls → is_kept_mark items (mark_of names l) ≡ b → is_kept_line (posts kernel lines) l ≡ b
       → map (name_of names) (kept_marks (mark_of names l ∷ ms)) ≡ kept_owners (l ∷ ls)
-  one_kept l true ns os ms ls name own some rest by_mark by_line =
-      let number : number_for names l.owner ≡ number_in names name = ap (number_for names) own in
-      let not_zero = numbered names name some in
-      rw (by_mark, by_line)
-      (ap (λ (w : List ℕ). w ∷ map (name_of names) (kept_marks ms)) (ap (name_of names) number ∙ number_names names name (number_in names name) refl not_zero)
-      ∙ ap (λ (ws : List (List ℕ)). name ∷ ws) rest
-      ∙ ap (λ (o : Option (List ℕ)). option_to_list o ++ kept_owners ls) (sym own))
+  one_kept l true ns os ms ls name own some rest by_mark by_line = grind (arith, numbered, number_names)
   one_kept l false ns os ms ls name own some rest by_mark by_line = rw (by_mark, by_line) rest
 
   by_lines : (ls : List ListedSymbol) → AreNamed names ls → map (name_of names) (kept_marks (map (mark_of names) (filter (is_outside kernel) ls))) ≡ kept_owners (posts_in ls)
@@ -155,14 +139,10 @@ module _ (kernel : List (ℕ × ℕ)) (names : List (List ℕ)) (lines : List Li
 
   without_kernel : (k : List (ℕ × ℕ)) (ms : List Mark) → filter (is_kept_mark items) (kernel_marks k ++ ms) ≡ filter (is_kept_mark items) ms
   without_kernel [] ms = refl
-  without_kernel (r ∷ rs) ms =
-      let first : Mark = record { addr = r.0; owner = 0 } in
-      ap (λ b. cond b (first ∷ filter (is_kept_mark items) (kernel_marks rs ++ ms)) (filter (is_kept_mark items) (kernel_marks rs ++ ms))) (kernel_not_kept r)
-      ∙ without_kernel rs ms
+  without_kernel (r ∷ rs) ms = grind (arith, kernel_not_kept, without_kernel rs ms)
 
   kept_names : AreNamed names lines → map (name_of names) (kept_marks (marks_of kernel names lines)) ≡ kept_owners (posts kernel lines)
-  kept_names all =
-      ap (λ (ms : List Mark). map (name_of names) (map (λ (m : Mark). m.owner) ms)) (without_kernel kernel (map (mark_of names) (filter (is_outside kernel) lines))) ∙ by_lines lines all
+  kept_names all = grind (arith, without_kernel, by_lines)
 
   good_lines : (ls : List ListedSymbol) → AreNamed names ls → All (λ (m : Mark). IsNumber names m.owner) (map (mark_of names) (filter (is_outside kernel) ls))
   good_lines [] all = All-nil (λ (m : Mark). IsNumber names m.owner)
@@ -189,23 +169,14 @@ module _ (kernel : List (ℕ × ℕ)) (names : List (List ℕ)) (lines : List Li
 
 module _ (names : List (List ℕ)) where
   same_number : (n m : ℕ) → IsNumber names n → IsNumber names m → nat_eq n m ≡ bytes_eq (name_of names n) (name_of names m)
-  same_number n m good well =
-      same_bool (nat_eq n m) (bytes_eq (name_of names n) (name_of names m))
-      (λ e. (bytes_decides (name_of names n) (name_of names m)).1 (ap (name_of names) (eqb-true n m e)))
-      (λ e. eq-eqb n m (sym good.1 ∙ ap (number_in names) ((bytes_decides (name_of names n) (name_of names m)).0 e) ∙ well.1))
+  same_number n m good well = grind (arith, same_bool, bytes_decides, eqb-true, eq-eqb)
 
   same_has : (acc : List ℕ) (n : ℕ) → All (IsNumber names) acc → IsNumber names n → list_any (nat_eq n) acc ≡ list_any (bytes_eq (name_of names n)) (map (name_of names) acc)
   same_has [] n all good = refl
-  same_has (a ∷ as') n all good =
-      ap (λ b. b || list_any (nat_eq n) as') (same_number n a good (All-head (IsNumber names) a as' all))
-      ∙ ap (λ b. bytes_eq (name_of names n) (name_of names a) || b) (same_has as' n (All-tail (IsNumber names) a as' all) good)
+  same_has (a ∷ as') n all good = grind (arith, same_number, All-head, All-tail, same_has as' n (All-tail (IsNumber names) a as' all) good)
 
   one_more : (acc : List ℕ) (n : ℕ) → All (IsNumber names) acc → IsNumber names n → map (name_of names) (with_number acc n) ≡ with_name (map (name_of names) acc) (name_of names n)
-  one_more acc n all good =
-      elim (list_any (nat_eq n) acc) as (λ b. list_any (nat_eq n) acc ≡ b → map (name_of names) (cond b acc (acc ++ n ∷ [])) ≡ cond (list_any (bytes_eq (name_of names n)) (map (name_of names) acc)) (map (name_of names) acc) (map (name_of names) acc ++ name_of names n ∷ [])) [
-        | true ↦ λ e. let same : list_any (bytes_eq (name_of names n)) (map (name_of names) acc) ≡ true = sym (same_has acc n all good) ∙ e in rw same refl
-        | false ↦ λ e. let same : list_any (bytes_eq (name_of names n)) (map (name_of names) acc) ≡ false = sym (same_has acc n all good) ∙ e in rw same (map-append (name_of names) acc (n ∷ []))
-      ] refl
+  one_more acc n all good = grind (arith, same_has, map-append)
 
   good_more : (acc : List ℕ) (n : ℕ) → All (IsNumber names) acc → IsNumber names n → All (IsNumber names) (with_number acc n)
   good_more acc n all good = elim (list_any (nat_eq n) acc) as (λ b. All (IsNumber names) (cond b acc (acc ++ n ∷ []))) [ true ↦ all | false ↦ All-push (IsNumber names) acc n all good ]

@@ -1,5 +1,5 @@
 -- The region that an address lies in, among regions that are laid.
-use Rattle.modules.proofs.Words.{◌≡◌, ℕ, ◌-◌, ◌<◌, ◌≤◌, true, false, nat_le, List, length, get_or, Option, Some, None, refl, ap, sym, subst, ◌∙◌, ⊎_elim, arith, Contains, IsNonDecreasingBy, IsPartitionPoint}
+use Rattle.modules.proofs.Words.{◌≡◌, ℕ, ◌-◌, ◌<◌, ◌≤◌, true, false, nat_le, List, length, get_or, Option, Some, None, refl, ap, sym, ◌∙◌, ⊎_elim, arith, Contains, IsNonDecreasingBy, IsPartitionPoint}
 use Rattle.modules.proofs.Lemmas.{cases_lt, leb-true, leb-false, get_or_default, begins, ends, equal_inside, look_is}
 use Rattle.modules.proofs.Definitions.{Item, half_open, IsLook, look, AreLaid}
 
@@ -8,10 +8,7 @@ module _ (items : List Item) (laid : AreLaid items) where
   ends_before i j d less lt = (laid.follow i j d less lt).apart
 
   pub rising : IsNonDecreasingBy (λ i. i.a) items
-  rising = λ i j d le lt. ⊎_elim
-      (λ less. let e = ends_before i j d less lt in let v : (get_or items i d).a < (get_or items i d).b = laid.valid i d (omega arith) in omega arith)
-      (λ ge. let same : i ≡ j = omega arith in subst (λ k. (get_or items i d).a ≤ (get_or items k d).a) same (omega arith))
-      (cases_lt i j)
+  rising = grind (arith, ends_before, cases_lt)
 
   -- what holds an address at a place ends where all further items begin
   not_before : (x y : Item) (addr i j : ℕ) → i < j → j < length items → get_or items i x ≡ x → get_or items j y ≡ y → addr < x.b → y.a ≤ addr → ⊥
@@ -23,14 +20,7 @@ module _ (items : List Item) (laid : AreLaid items) where
 
   -- one item at most holds an address
   pub one_holds : (x y : Item) (addr : ℕ) → Contains items x → x.a ≤ addr → addr < x.b → Contains items y → y.a ≤ addr → addr < y.b → x ≡ y
-  one_holds x y addr (i, lt, at) from below (j, less, there) from' below' =
-      ⊎_elim
-      (λ before. absurd (not_before x y addr i j before less at there below from'))
-      (λ ge. ⊎_elim
-      (λ after. absurd (not_before y x addr j i after lt there at below' from))
-      (λ le. let e : i ≡ j = omega arith in sym at ∙ get_or_default items i x y lt ∙ ap (λ k. get_or items k y) e ∙ there)
-      (cases_lt j i))
-      (cases_lt i j)
+  one_holds x y addr (i, lt, at) from below (j, less, there) from' below' = grind (arith, not_before, get_or_default, cases_lt)
 
   pub found : (x : Item) (addr : ℕ) → Contains items x → x.a ≤ addr → addr < x.b → (r : Option Item) → IsLook half_open addr items r → Some x ≡ r
   found x addr there from below None h = absurd (h x there (equal_inside addr x from below))

@@ -1,17 +1,14 @@
 -- The marks of the lines of runs.
-use Rattle.modules.proofs.Words.{◌≡◌, ℕ, ◌≤◌, true, false, cond, List, [], ◌∷◌, ◌++◌, length, get_or, map, Option, Some, None, refl, sym, ap, ◌∙◌, arith, append_assoc, All, filter, is_some, Bor, option_copied}
+use Rattle.modules.proofs.Words.{◌≡◌, ℕ, ◌≤◌, true, false, List, [], ◌∷◌, ◌++◌, length, map, Option, Some, None, refl, arith, append_assoc, All, is_some, Bor, option_copied, rules}
 use Rattle.modules.proofs.Lemmas.{map-append, All-append, filter-append}
-use Rattle.modules.proofs.Definitions.{SymbolEntry, is_free, kernel_marks, line_marks, mark_of, marks_of, number_for, number_in, symbol_marks, ListedSymbol, is_outside, lines_of_all, lines_of_run, line_of, Mark, Run}
+use Rattle.modules.proofs.Definitions.{SymbolEntry, line_marks, marks_of, number_for, number_in, symbol_marks, ListedSymbol, lines_of_all, lines_of_run, line_of, Mark, Run}
 use Rattle.modules.proofs.NumberLemmas.{number_within}
 use Rattle.modules.proofs.PostLemmas.{all_mapped}
 use Rattle.modules.proofs.RunLemmas.{lines_of_all-last}
 
 -- the number of the owner of a mark is at most the count of the names
 pub owners_within : (kernel : List (ℕ × ℕ)) (names : List (List ℕ)) (lines : List ListedSymbol) → All (λ m. m.owner ≤ length names) (marks_of kernel names lines)
-owners_within kernel names lines =
-    All-append (λ (m : Mark). m.owner ≤ length names) (kernel_marks kernel) (line_marks kernel names lines)
-    (all_mapped (λ (r : ℕ × ℕ). record { addr = r.0; owner = 0 }) (λ (m : Mark). m.owner ≤ length names) kernel (λ k d lt. omega arith))
-    (all_mapped (mark_of names) (λ (m : Mark). m.owner ≤ length names) (filter (is_outside kernel) lines) (λ k d lt. number_within names (get_or (filter (is_outside kernel) lines) k d).owner))
+owners_within kernel names lines = search (rules, All-append, all_mapped, number_within)
 
 module _ (kernel : List (ℕ × ℕ)) (names : List (List ℕ)) where
   -- ---- the lines of a run
@@ -22,11 +19,7 @@ module _ (kernel : List (ℕ × ℕ)) (names : List (List ℕ)) where
 
   of_module : (name : List ℕ) (ss : List SymbolEntry) → line_marks kernel names (map (line_of (Some name)) ss) ≡ symbol_marks kernel (number_in names name) ss
   of_module name [] = refl
-  of_module name (s ∷ ss) =
-      elim (is_free kernel s.addr) as (λ b. map (mark_of names) (cond b (line_of (Some name) s ∷ filter (is_outside kernel) (map (line_of (Some name)) ss)) (filter (is_outside kernel) (map (line_of (Some name)) ss))) ≡ map (λ (t : SymbolEntry). record { addr = t.addr; owner = number_in names name }) (cond b (s ∷ filter (λ (t : SymbolEntry). is_free kernel t.addr) ss) (filter (λ (t : SymbolEntry). is_free kernel t.addr) ss))) [
-        | true ↦ ap (λ (ms : List Mark). record { addr = s.addr; owner = number_in names name } ∷ ms) (of_module name ss)
-        | false ↦ of_module name ss
-      ]
+  of_module name (s ∷ ss) = grind (arith, of_module name ss)
 
   -- the lines of the kernel itself have none
   pub marks_of_kernel_run : (r : Run) → is_some r.module ≡ false → line_marks kernel names (lines_of_run r) ≡ []
@@ -47,13 +40,7 @@ module _ (kernel : List (ℕ × ℕ)) (names : List (List ℕ)) where
   -- ---- one run more
 
   line_marks-append : (xs ys : List ListedSymbol) → line_marks kernel names (xs ++ ys) ≡ line_marks kernel names xs ++ line_marks kernel names ys
-  line_marks-append xs ys =
-      ap (λ (ls : List ListedSymbol). map (mark_of names) ls) (filter-append (is_outside kernel) xs ys)
-      ∙ map-append (mark_of names) (filter (is_outside kernel) xs) (filter (is_outside kernel) ys)
+  line_marks-append xs ys = grind (arith, filter-append, map-append)
 
   pub marks_more : (runs : List Run) (run : Run) (marks new : List Mark) → marks ≡ marks_of kernel names (lines_of_all runs) → new ≡ marks ++ line_marks kernel names (lines_of_run run) → new ≡ marks_of kernel names (lines_of_all (runs ++ run ∷ []))
-  marks_more runs run marks new before pushed =
-      pushed
-      ∙ ap (λ (ms : List Mark). ms ++ line_marks kernel names (lines_of_run run)) before
-      ∙ append_assoc (kernel_marks kernel) (line_marks kernel names (lines_of_all runs)) (line_marks kernel names (lines_of_run run))
-      ∙ ap (λ (ms : List Mark). kernel_marks kernel ++ ms) (sym (line_marks-append (lines_of_all runs) (lines_of_run run)) ∙ ap (λ (ls : List ListedSymbol). line_marks kernel names ls) (sym (lines_of_all-last runs run)))
+  marks_more runs run marks new before pushed = grind (arith, append_assoc, line_marks-append, lines_of_all-last)

@@ -1,5 +1,5 @@
 -- Which updates a load, an unload, and the end of a module's start give.
-use Rattle.modules.proofs.Words.{◌≡◌, ℕ, ◌+◌, ◌<◌, ◌≤◌, Bool, true, false, ◌&&◌, ◌||◌, not, nat_eq, cond, zero, suc, List, [], ◌∷◌, ◌++◌, length, get_or, map, take, drop, drop-cons, Some, None, Ok, Err, Option, Result, refl, sym, ap, subst, ◌∙◌, inl, inr, ⊎_elim, arith, add-one, bytes_decides, list_any, option_map_or, bytes_eq}
+use Rattle.modules.proofs.Words.{◌≡◌, ℕ, ◌+◌, ◌<◌, ◌≤◌, Bool, true, false, ◌&&◌, ◌||◌, nat_eq, cond, zero, suc, List, [], ◌∷◌, ◌++◌, length, get_or, map, take, drop, drop-cons, Some, Ok, Err, Option, Result, refl, sym, ap, subst, ◌∙◌, inr, ⊎_elim, arith, add-one, bytes_decides, list_any, option_map_or, rules}
 use Rattle.modules.proofs.Lemmas.{and_from, and_parts, eqb-true, not-true, or_cases, or_left, or_right, eq-eqb, length-map, and_by_second, or_by_first, or_by_second, eqb-one_false, eqb-one_more}
 use Rattle.modules.proofs.Definitions.{Update, Insert, Erase, Batch, Item, Refusal, OutOfMemory, UnknownModule, ModuleEntry, GivesOrLacksMemory, GivesSome, TakesMemory, drop_init_update, is_erasing, is_inserting, item_of, load_update, has_no_items, is_item_of, same_items, unload_update, update_of, is_init, is_of, starts_of, Held, Part}
 
@@ -20,10 +20,7 @@ starts_more core init (x ∷ xs) (y ∷ ys) (suc i) r p lt lp =
 -- ---- the items of regions
 
 item_is : (number : ℕ) (r : ℕ × ℕ) (i : Item) → i.a ≡ r.0 → i.b ≡ r.1 → i.tag ≡ number → item_of number r ≡ i
-item_is number r i a b tag =
-    ap (λ x. let k : Item = record { a = x; b = r.1; tag = number } in k) (sym a)
-    ∙ ap (λ x. let k : Item = record { a = i.a; b = x; tag = number } in k) (sym b)
-    ∙ ap (λ x. let k : Item = record { a = i.a; b = i.b; tag = x } in k) (sym tag)
+item_is number r i a b tag = grind arith
 
 pub items_from : (number : ℕ) (rs : List (ℕ × ℕ)) (is : List Item) → same_items number rs is ≡ true → map (item_of number) rs ≡ is
 items_from number [] [] h = refl
@@ -49,13 +46,10 @@ drop_past (x ∷ xs) zero le = absurd (omega arith)
 drop_past (x ∷ xs) (suc n) le = drop_past xs n (omega arith)
 
 pub same_here : (number : ℕ) (rs : List (ℕ × ℕ)) (is : List Item) (n : ℕ) (r : ℕ × ℕ) (i : Item) → n < length rs → n < length is → same_items number (drop n rs) (drop n is) ≡ (is_item_of number (get_or rs n r) (get_or is n i) && same_items number (drop (suc n) rs) (drop (suc n) is))
-same_here number rs is n r i lt less =
-    ap (λ (xs : List (ℕ × ℕ)). same_items number xs (drop n is)) (drop-cons rs n r lt)
-    ∙ ap (λ (xs : List Item). same_items number (get_or rs n r ∷ drop (suc n) rs) xs) (drop-cons is n i less)
+same_here number rs is n r i lt less = grind (arith, drop-cons)
 
 pub same_end : (number : ℕ) (rs : List (ℕ × ℕ)) (is : List Item) (n : ℕ) → length rs ≤ n → length is ≤ n → same_items number (drop n rs) (drop n is) ≡ true
-same_end number rs is n le less =
-    ap (λ (xs : List (ℕ × ℕ)). same_items number xs (drop n is)) (drop_past rs n le) ∙ ap (λ (xs : List Item). has_no_items xs) (drop_past is n less)
+same_end number rs is n le less = grind (arith, drop_past)
 
 pub other_length : (number : ℕ) (rs : List (ℕ × ℕ)) (is : List Item) → (length rs ≡ length is → ⊥) → false ≡ same_items number rs is
 other_length number [] [] other = absurd (other refl)
@@ -87,12 +81,7 @@ insert_batch (i ∷ j ∷ rest) h = refl
 pub erasing_from : (starts : List ℕ) (u : Update) → is_erasing starts u ≡ true → update_of starts [] ≡ u
 erasing_from starts (Insert i) h = absurd (cc)
 erasing_from starts (Erase a) h = ap (λ (s : List ℕ). update_of s []) ((bytes_decides starts (a ∷ [])).0 h)
-erasing_from starts (Batch erase insert) h =
-    let last = and_parts (not (nat_eq (length starts) 1) && has_no_items insert) (bytes_eq starts erase) h in
-    let first = and_parts (not (nat_eq (length starts) 1)) (has_no_items insert) last.0 in
-    erase_batch starts (not-true (nat_eq (length starts) 1) first.0)
-    ∙ ap (λ (s : List ℕ). Batch s []) ((bytes_decides starts erase).0 last.1)
-    ∙ ap (λ (is : List Item). Batch erase is) (sym (none_from insert first.1))
+erasing_from starts (Batch erase insert) h = grind (arith, and_parts, erase_batch, not-true, bytes_decides, none_from)
 
 erasing_self : (starts : List ℕ) → is_erasing starts (update_of starts []) ≡ true
 erasing_self [] = refl
@@ -105,12 +94,7 @@ erasing_of starts u h = subst (λ (v : Update). is_erasing starts v ≡ true) h 
 pub inserting_from : (number : ℕ) (rs : List (ℕ × ℕ)) (u : Update) → is_inserting number rs u ≡ true → update_of [] (map (item_of number) rs) ≡ u
 inserting_from number rs (Insert i) h = ap (update_of []) (items_from number rs (i ∷ []) h)
 inserting_from number rs (Erase a) h = absurd (cc)
-inserting_from number rs (Batch erase insert) h =
-    let last = and_parts (not (nat_eq (length rs) 1) && has_no_items erase) (same_items number rs insert) h in
-    let first = and_parts (not (nat_eq (length rs) 1)) (has_no_items erase) last.0 in
-    insert_batch (map (item_of number) rs) (ap (λ n. nat_eq n 1) (length-map rs (item_of number)) ∙ not-true (nat_eq (length rs) 1) first.0)
-    ∙ ap (λ (is : List Item). Batch [] is) (items_from number rs insert last.1)
-    ∙ ap (λ (s : List ℕ). Batch s insert) (sym (none_from erase first.1))
+inserting_from number rs (Batch erase insert) h = grind (arith, and_parts, insert_batch, length-map, not-true, items_from, none_from)
 
 inserting_self : (number : ℕ) (rs : List (ℕ × ℕ)) → is_inserting number rs (update_of [] (map (item_of number) rs)) ≡ true
 inserting_self number [] = refl
@@ -133,14 +117,8 @@ chosen_not : (b : Bool) (e : Refusal) (v u : Update) → cond b (Ok v) (Err e) �
 chosen_not true e v u h = given v u h
 chosen_not false e v u h = absurd (cc)
 
-unknown : (u : Update) → ◌≡◌ {A = Result Update Refusal} (Err UnknownModule) (Ok u) → ⊥
-unknown u h = cc
-
 abbrev pub asked : (Held → ModuleEntry → Result Update Refusal) → Option ModuleEntry → Held → Result Update Refusal
 asked f o held = option_map_or (f held) o (Err UnknownModule)
-
-pub no_module_gives : (f : Held → ModuleEntry → Result Update Refusal) (u : Update) → GivesSome (asked f None) u → ⊥
-no_module_gives f u g = unknown u g.1
 
 pub load_from : (number : ℕ) (m : ModuleEntry) (u : Update) → is_inserting number m.regions u ≡ true → GivesSome (asked (load_update number) (Some m)) u
 load_from number m u h = (record { core = false; init = false }, ap (λ (v : Update). Ok v) (inserting_from number m.regions u h))
@@ -174,9 +152,7 @@ held_init true false some e d v u h = absurd (cc)
 held_init false init some e d v u h = absurd (cc)
 
 pub drop_to : (m : ModuleEntry) (u : Update) → GivesSome (asked drop_init_update (Some m)) u → (list_any is_init m.parts && is_erasing (starts_of false true m.regions m.parts) u) ≡ true
-drop_to m u g =
-    let parts = held_init g.0.core g.0.init (list_any is_init m.parts) _ _ (update_of (starts_of false true m.regions m.parts) []) u g.1 in
-    and_from (list_any is_init m.parts) (is_erasing (starts_of false true m.regions m.parts) u) parts.0 (erasing_of (starts_of false true m.regions m.parts) u parts.1)
+drop_to m u g = grind (arith, held_init, and_from, erasing_of)
 
 -- ---- the answers of the catalog
 
@@ -184,12 +160,10 @@ abbrev pub Answers : Bool → (Held → Result Update Refusal) → Update → Ty
 Answers r f u = (r ≡ true → GivesSome f u) × (GivesSome f u → r ≡ true)
 
 pub load_answers : (number : ℕ) (o : Option ModuleEntry) (m : ModuleEntry) (u : Update) (r : Bool) → Some m ≡ o → r ≡ is_inserting number m.regions u → Answers r (asked (load_update number) o) u
-load_answers number o m u r at is =
-    subst (λ (p : Option ModuleEntry). Answers r (asked (load_update number) p) u) at (λ holds. load_from number m u (sym is ∙ holds), λ g. is ∙ load_to number m u g)
+load_answers number o m u r at is = grind (arith, load_from, load_to)
 
 unload_answers : (o : Option ModuleEntry) (m : ModuleEntry) (u : Update) (r : Bool) → Some m ≡ o → r ≡ (is_erasing (starts_of true false m.regions m.parts) u || is_erasing (starts_of true true m.regions m.parts) u) → Answers r (asked unload_update o) u
-unload_answers o m u r at is =
-    subst (λ (p : Option ModuleEntry). Answers r (asked unload_update p) u) at (λ holds. unload_from m u (sym is ∙ holds), λ g. is ∙ unload_to m u g)
+unload_answers o m u r at is = grind (arith, unload_from, unload_to)
 
 pub unload_answers_first : (o : Option ModuleEntry) (m : ModuleEntry) (u : Update) (r : Bool) → Some m ≡ o → r ≡ is_erasing (starts_of true false m.regions m.parts) u → r ≡ true → Answers r (asked unload_update o) u
 unload_answers_first o m u r at is holds = unload_answers o m u r at (or_by_first r (is_erasing (starts_of true false m.regions m.parts) u) (is_erasing (starts_of true true m.regions m.parts) u) is holds)
@@ -198,9 +172,7 @@ pub unload_answers_second : (o : Option ModuleEntry) (m : ModuleEntry) (u : Upda
 unload_answers_second o m u s r at first fails second = unload_answers o m u r at (or_by_second s r (is_erasing (starts_of true false m.regions m.parts) u) (is_erasing (starts_of true true m.regions m.parts) u) first fails second)
 
 pub drop_answers : (o : Option ModuleEntry) (m : ModuleEntry) (u : Update) (s r : Bool) → Some m ≡ o → s ≡ list_any is_init m.parts → s ≡ true → r ≡ is_erasing (starts_of false true m.regions m.parts) u → Answers r (asked drop_init_update o) u
-drop_answers o m u s r at has holds is =
-    let both_are = and_by_second s r (list_any is_init m.parts) (is_erasing (starts_of false true m.regions m.parts) u) has holds is in
-    subst (λ (p : Option ModuleEntry). Answers r (asked drop_init_update p) u) at (λ true_is. drop_from m u (sym both_are ∙ true_is), λ g. both_are ∙ drop_to m u g)
+drop_answers o m u s r at has holds is = search (rules, and_by_second, drop_from, drop_to)
 
 -- ---- several regions put in
 
@@ -208,8 +180,7 @@ batch_of : (number : ℕ) (rs : List (ℕ × ℕ)) → (length rs ≡ 1 → ⊥)
 batch_of number rs several = insert_batch (map (item_of number) rs) (ap (λ n. nat_eq n 1) (length-map rs (item_of number)) ∙ eqb-one_false (length rs) several)
 
 pub many_given : (number : ℕ) (rs : List (ℕ × ℕ)) (erase : List ℕ) (insert : List Item) → (length rs ≡ 1 → ⊥) → erase ≡ [] → insert ≡ map (item_of number) rs → GivesOrLacksMemory (Ok (update_of [] (map (item_of number) rs))) (Ok (Batch erase insert))
-many_given number rs erase insert several none is =
-    inl (ap (λ (u : Update). let r : Result Update Refusal = Ok u in r) (ap (λ (e : List ℕ). Batch e insert) none ∙ ap (λ (i : List Item). Batch [] i) is ∙ sym (batch_of number rs several)))
+many_given number rs erase insert several none is = grind (arith, batch_of)
 
 pub many_lacks : (number : ℕ) (rs : List (ℕ × ℕ)) (r : Result Update Refusal) → (length rs ≡ 1 → ⊥) → r ≡ Err OutOfMemory → GivesOrLacksMemory (Ok (update_of [] (map (item_of number) rs))) r
 many_lacks number rs r several lacks = inr (lacks, subst (λ (u : Update). TakesMemory (Ok u)) (sym (batch_of number rs several)) tt)

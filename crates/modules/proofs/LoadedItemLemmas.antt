@@ -1,7 +1,7 @@
 -- The items that a load inserts, and when the update that inserts them is accepted.
-use Rattle.modules.proofs.Words.{◌≡◌, ℕ, ◌+◌, ◌<◌, ◌≤◌, true, false, List, [], ◌∷◌, length, Option, Some, None, refl, sym, ◌∙◌, ap, subst, ⊎_elim, arith, zero, suc, map, Result, Ok, Err, Contains, nat_lt, list_any, option_map_or, option_to_list}
-use Rattle.modules.proofs.Lemmas.{nat_tests, without_none, all_are_valid, insert_accepted, no_test_holds, none_meet, length-map, All-contains, Contains-append_left, Contains-append_right, get_or_from_slice_get, slice_get_within}
-use Rattle.modules.proofs.Definitions.{Item, half_open, without_all, Update, erased, inserted, refusal_for, some_invalid, some_meet, some_overlap, update_of, GivesOrLacksMemory, item_of, load_of, load_update, Refusal, OutOfMemory, UnknownModule, placed_module_of, IsSoundCatalog, entries_of, module_of, CatalogEntries, ModuleEntry, items_at, is_core, IsPlaced, PlacedModule, Held, Part}
+use Rattle.modules.proofs.Words.{◌≡◌, ℕ, ◌+◌, ◌<◌, ◌≤◌, true, false, List, [], ◌∷◌, length, Option, Some, None, refl, sym, ◌∙◌, ap, ⊎_elim, arith, zero, suc, Result, Ok, Err, Contains, nat_lt, list_any, option_map_or, rules}
+use Rattle.modules.proofs.Lemmas.{nat_tests, without_none, all_are_valid, insert_accepted, no_test_holds, none_meet, length-map, All-contains, Contains-append_left, Contains-append_right, get_or_from_slice_get, slice_get_within, common_steps}
+use Rattle.modules.proofs.Definitions.{Item, half_open, without_all, Update, erased, inserted, refusal_for, some_invalid, some_meet, some_overlap, update_of, GivesOrLacksMemory, load_of, load_update, Refusal, OutOfMemory, UnknownModule, IsSoundCatalog, entries_of, module_of, CatalogEntries, ModuleEntry, items_at, is_core, IsPlaced, PlacedModule, Held, Part}
 
 -- the update that loads a module inserts its items, of which there is one at least
 pub record LoadsItems (c : CatalogEntries) (k : ℕ) (u : Update) : Type 0 where
@@ -13,10 +13,8 @@ abbrev pub none_held : Held
 none_held = record { core = false; init = false }
 
 among_entries : (c : CatalogEntries) (k : ℕ) (m : ModuleEntry) → module_of c k ≡ Some m → Contains (entries_of c) m
-among_entries c zero m e =
-    Contains-append_left (option_to_list c.built_in) c.modules m (subst (λ o. Contains (option_to_list o) m) (sym e) (0, omega arith, refl))
-among_entries c (suc j) m e =
-    Contains-append_right (option_to_list c.built_in) c.modules m (j, slice_get_within c.modules j m e, get_or_from_slice_get c.modules j m m e)
+among_entries c zero m e = search (rules, Contains-append_left)
+among_entries c (suc j) m e = search (rules, Contains-append_right, slice_get_within, get_or_from_slice_get)
 
 -- a module has a core region
 has_region : (m : PlacedModule) → IsPlaced m → 0 < length m.regions
@@ -30,16 +28,7 @@ has_region m placed =
     go (p ∷ ps) e = omega arith
 
 loads_some : (c : CatalogEntries) (k : ℕ) (u : Update) (m : ModuleEntry) → IsSoundCatalog c → module_of c k ≡ Some m → load_of c k none_held ≡ Ok u → LoadsItems c k u
-loads_some c k u m sound e loads =
-    let items : items_at c k ≡ map (item_of k) m.regions = ap (λ o. option_map_or (λ (x : ModuleEntry). map (item_of k) x.regions) o []) e in
-    let given : load_of c k none_held ≡ Ok (update_of [] (map (item_of k) m.regions)) = ap (λ o. option_map_or (load_update k none_held) o (Err UnknownModule)) e in
-    let placed = All-contains (λ (x : ModuleEntry). IsPlaced (placed_module_of x)) (entries_of c) m sound.placed (among_entries c k m e) in
-    let some = has_region (placed_module_of m) placed in
-    let same : u ≡ update_of [] (map (item_of k) m.regions) = cc in
-    record {
-      is = same ∙ ap (update_of []) (sym items);
-      some = omega (arith, ap length items, length-map m.regions (item_of k));
-    }
+loads_some c k u m sound e loads = grind (arith, common_steps, All-contains, among_entries, has_region, length-map)
 
 pub loads_items : (c : CatalogEntries) (k : ℕ) (u : Update) → IsSoundCatalog c → load_of c k none_held ≡ Ok u → LoadsItems c k u
 loads_items c k u sound loads = go (module_of c k) refl

@@ -1,17 +1,11 @@
 -- The modules that are made of the accepted ones.
 use Rattle.modules.proofs.Words.{◌≡◌, ℕ, zero, suc, ◌<◌, ◌≤◌, List, [], ◌∷◌, ◌++◌, length, get_or, map, drop, not, Option, sym, ap, ◌∙◌, ⊎_elim, arith, length-append, take, ◌+◌, count_by, Vec, flat_map}
-use Rattle.modules.proofs.Lemmas.{cases_lt, flat_map-append, append-nil, get_or-map, get_or_append_left, get_or_push, length-map, same_lists, take_more, slice_get_cases}
-use Rattle.modules.proofs.Definitions.{Accepted, module_counts, AreModules, EachMade, module_with, built_in_with, built_in_of, catalog_with, entry_for, kept_counts, CatalogEntries, ModuleEntry, SymbolEntry, Gathers, is_kept, is_used, ListedRegion, ListedSymbol, PlacedModule, BuildCounts, KeptCounts, Gathered}
+use Rattle.modules.proofs.Lemmas.{cases_lt, flat_map-append, append-nil, get_or-map, get_or_append_left, get_or_push, length-map, same_lists, take_more, slice_get_cases, common_steps}
+use Rattle.modules.proofs.Definitions.{Accepted, module_counts, AreModules, EachMade, module_with, built_in_with, catalog_with, entry_for, kept_counts, CatalogEntries, ModuleEntry, SymbolEntry, Gathers, is_kept, is_used, ListedRegion, ListedSymbol, PlacedModule, BuildCounts, KeptCounts, Gathered}
 use Rattle.modules.proofs.SoundnessLemmas.{module_regions}
 
 pub EachMade-push : (places : List PlacedModule) (lists : List (Vec SymbolEntry)) (modules : List ModuleEntry) (list : Vec SymbolEntry) (made : ModuleEntry) → length modules ≡ length lists → EachMade places lists modules → ((p : PlacedModule) → made ≡ module_with (get_or places (length lists) p) list.items) → EachMade places (lists ++ list ∷ []) (modules ++ made ∷ [])
-EachMade-push places lists modules list made same each is = λ j p d m lt.
-    ⊎_elim
-    (λ before. get_or_append_left modules (made ∷ []) m j (omega arith) ∙ each j p d m before ∙ ap (λ (v : Vec SymbolEntry). module_with (get_or places j p) v.items) (sym (get_or_append_left lists (list ∷ []) d j before)))
-    (λ after.
-    let last : length lists ≡ j = omega (arith, length-append lists (list ∷ [])) in
-    get_or_push modules made m j (same ∙ last) ∙ is p ∙ ap (λ n. module_with (get_or places n p) list.items) last ∙ ap (λ (v : Vec SymbolEntry). module_with (get_or places j p) v.items) (sym (get_or_push lists list d j last)))
-    (cases_lt j (length lists))
+EachMade-push places lists modules list made same each is = grind (arith, get_or_append_left, length-append, get_or_push, cases_lt)
 
 -- with what was gathered for each, they are the accepted modules with their symbols
 pub modules_are : (a : Accepted) (symbols : List ListedSymbol) (g : Gathered) (modules : List ModuleEntry) → Gathers a symbols g → AreModules a.modules g.modules.items modules → modules ≡ map (entry_for symbols) a.modules
@@ -34,9 +28,7 @@ entries built_in modules = record { built_in = built_in; modules = modules }
 -- what the steps made is the catalog of these modules
 pub catalog_from : (a : Accepted) (g : Gathered) (symbols : List ListedSymbol) (built_in : Option ModuleEntry) (made : List ModuleEntry) → Gathers a symbols g → built_in ≡ built_in_with a.built_in g.built_in.items → made ≡ map (entry_for symbols) a.modules
     → entries built_in made ≡ catalog_with a symbols
-catalog_from a g symbols built_in made gathers first others =
-    let its : built_in ≡ built_in_of a.built_in symbols = first ∙ ap (λ ss. built_in_with a.built_in ss) gathers.built_in in
-    ap (λ (b : Option ModuleEntry). entries b made) its ∙ ap (λ (ms : List ModuleEntry). entries (built_in_of a.built_in symbols) ms) others
+catalog_from a g symbols built_in made gathers first others = grind arith
 
 abbrev pub kept : ℕ → ℕ → ℕ → ℕ → KeptCounts
 kept n regions symbols stray = record { modules = n; regions = regions; symbols = symbols; stray = stray }
@@ -48,13 +40,7 @@ regions_made a symbols made others = ap (λ (ms : List ModuleEntry). flat_map (�
 -- what the steps counted are the counts of these modules
 pub kept_from : (a : Accepted) (g : Gathered) (symbols : List ListedSymbol) (made : List ModuleEntry) (len regions : ℕ) → Gathers a symbols g → made ≡ map (entry_for symbols) a.modules → len ≡ length made → regions ≡ length (flat_map (λ m. m.regions) made)
     → kept len regions g.kept g.stray ≡ kept_counts a symbols
-kept_from a g symbols made len regions gathers others all counted =
-    let n : len ≡ length a.modules = all ∙ ap (λ (ms : List ModuleEntry). length ms) others ∙ length-map a.modules (entry_for symbols) in
-    let r : regions ≡ length (flat_map (λ m. m.regions) a.modules) = counted ∙ ap (λ (rs : List (ℕ × ℕ)). length rs) (regions_made a symbols made others) in
-    ap (λ k. kept k regions g.kept g.stray) n
-    ∙ ap (λ k. kept (length a.modules) k g.kept g.stray) r
-    ∙ ap (λ k. kept (length a.modules) (length (flat_map (λ m. m.regions) a.modules)) k g.stray) gathers.kept
-    ∙ ap (λ k. kept (length a.modules) (length (flat_map (λ m. m.regions) a.modules)) (count_by (is_kept a) symbols) k) gathers.stray
+kept_from a g symbols made len regions gathers others all counted = grind (arith, length-map, regions_made)
 
 abbrev module_counts_with : Accepted → ℕ → ℕ → ℕ → BuildCounts
 module_counts_with a modules used strays = record { modules = modules; double = a.double; overlap = a.overlap; regions = used; stray_regions = strays; symbols = 0; stray = 0 }
@@ -62,10 +48,7 @@ module_counts_with a modules used strays = record { modules = modules; double = 
 -- what was counted of the lines of modules and of regions
 pub module_counts_from : (a : Accepted) (regions : List ListedRegion) (modules used strays : ℕ) → modules ≡ length a.modules → used ≡ count_by (is_used a regions) regions → strays ≡ count_by (λ r. not (is_used a regions r)) regions
     → module_counts_with a modules used strays ≡ module_counts a regions
-module_counts_from a regions modules used strays all used_is strays_are =
-    ap (λ n. module_counts_with a n used strays) all
-    ∙ ap (λ n. module_counts_with a (length a.modules) n strays) used_is
-    ∙ ap (λ n. module_counts_with a (length a.modules) (count_by (is_used a regions) regions) n) strays_are
+module_counts_from a regions modules used strays all used_is strays_are = grind arith
 
 abbrev pub with_symbols : BuildCounts → ℕ → ℕ → BuildCounts
 with_symbols n symbols stray = record n { symbols = symbols; stray = stray }
@@ -101,8 +84,4 @@ module _ {X Y : Type 0} (f : X → List Y) where
   length-flat_map_take (x ∷ xs) (suc n) = omega (arith, length-flat_map_take xs n, length-append (f x) (flat_map f (take n xs)), length-append (f x) (flat_map f xs))
 
   pub flat_map_more : (xs : List X) (n : ℕ) (d : X) → n < length xs → length (flat_map f (take (n + 1) xs)) ≡ length (flat_map f (take n xs)) + length (f (get_or xs n d))
-  flat_map_more xs n d lt =
-      ap (λ (ys : List X). length (flat_map f ys)) (take_more xs n d lt)
-      ∙ ap length (flat_map-append f (take n xs) (get_or xs n d ∷ []))
-      ∙ ap (λ ys. length (flat_map f (take n xs) ++ ys)) (append-nil (f (get_or xs n d)))
-      ∙ length-append (flat_map f (take n xs)) (f (get_or xs n d))
+  flat_map_more xs n d lt = grind (arith, common_steps, take_more, flat_map-append, append-nil, length-append)

@@ -1,5 +1,5 @@
 -- A stable sort by address leaves the nearest mark.
-use Rattle.modules.proofs.Words.{◌≡◌, ℕ, ◌<◌, ◌≤◌, Bool, true, false, ◌&&◌, nat_eq, List, get_or, Some, refl, ap, sym, ◌∙◌, inl, inr, ⊎_elim, arith, ◌⊎◌, All, filter, find, IsPermutation, IsStableByKey, ties, is_lt, nat_cmp}
+use Rattle.modules.proofs.Words.{◌≡◌, ℕ, Bool, true, false, ◌&&◌, nat_eq, List, get_or, Some, refl, ap, sym, ◌∙◌, inl, inr, ⊎_elim, arith, ◌⊎◌, All, filter, find, IsPermutation, IsStableByKey, ties, is_lt, nat_cmp, rules}
 use Rattle.modules.proofs.Lemmas.{eq-eqb, eqb-false, ne_eqb, nat_tests, All-contains, filter_agree, Contains-permutation, IsPermutation-sym, get_or_default, get_or_from_slice_get, slice_get_within, find-first, find_place, find-filter, find-agree}
 use Rattle.modules.proofs.Definitions.{Item, AreRegions, GoesOn, IsFirstMark, IsNearestMark, Owns, Mark}
 
@@ -22,21 +22,10 @@ find_in_filter p xs ys same = sym (whole xs) ∙ ap (find p) same ∙ whole ys
 
 -- the first listed of its address
 pub found_first : (xs : List Mark) (l : Mark) → IsFirstMark xs l → find (is_at l.addr) xs ≡ Some l
-found_first xs l n =
-    find-first (is_at l.addr) xs n.place l n.within
-    (eq-eqb (get_or xs n.place l).addr l.addr (ap (λ (s : Mark). s.addr) n.listed))
-    (λ k lt. ne_eqb (get_or xs k l).addr l.addr (n.first k l lt))
-    ∙ ap (λ (s : Mark). Some s) n.listed
+found_first xs l n = grind (arith, find-first, eq-eqb, ne_eqb)
 
 pub first_found : (xs : List Mark) (l : Mark) → find (is_at l.addr) xs ≡ Some l → IsFirstMark xs l
-first_found xs l found =
-    let (place, first) = find_place (is_at l.addr) xs l found in
-    record {
-      place = place;
-      within = slice_get_within xs place l first.at;
-      listed = get_or_from_slice_get xs place l l first.at;
-      first = λ k d lt e. eqb-false (get_or xs k d).addr l.addr (first.before k d lt) e;
-    }
+first_found xs l found = grind (arith, find_place, slice_get_within, get_or_from_slice_get, eqb-false)
 
 module _ (xs ys : List Mark) (moved : IsPermutation xs ys) (stable : IsStableByKey (λ (s : Mark). s.addr) nat_cmp xs ys) where
   first_moved : (l : Mark) → IsFirstMark ys l → IsFirstMark xs l
@@ -48,23 +37,10 @@ module _ (xs ys : List Mark) (moved : IsPermutation xs ys) (stable : IsStableByK
   all_moved P all = λ k d lt. All-contains P ys (get_or xs k d) all (Contains-permutation xs ys (get_or xs k d) moved (k, lt, get_or_default xs k (get_or xs k d) d lt))
 
   nearest_moved : (x : ℕ) (l : Mark) → IsNearestMark ys x l → IsNearestMark xs x l
-  nearest_moved x l n = record {
-    its = first_moved l n.its;
-    below = n.below;
-    clear = all_moved (λ (s : Mark). (s.addr ≤ l.addr) ⊎ (x < s.addr)) n.clear;
-  }
+  nearest_moved x l n = search (rules, first_moved, all_moved)
 
   goes_on_moved : (x : ℕ) (l : Mark) → GoesOn ys x l → GoesOn xs x l
-  goes_on_moved x l on = record {
-    mark = on.mark;
-    next = record {
-      its = first_moved on.mark on.next.its;
-      above = on.next.above;
-      clear = all_moved (λ (s : Mark). (s.addr ≤ x) ⊎ (on.mark.addr ≤ s.addr)) on.next.clear;
-    };
-    its = on.its;
-    near = on.near;
-  }
+  goes_on_moved x l on = search (rules, first_moved, all_moved)
 
   owns_moved : (m x : ℕ) → Owns ys m x → Owns xs m x
   owns_moved m x o = record {

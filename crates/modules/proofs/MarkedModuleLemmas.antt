@@ -27,13 +27,7 @@ module _ (n : ℕ) where
 
   past : (i : Item) (is : List Item) → i.tag ≡ n → All (Follows i) is → All (λ (r : Range). i.b < r.0) (ranges_of n is)
   past i [] its all = All-nil (λ (r : Range). i.b < r.0)
-  past i (j ∷ js) its all =
-      elim (nat_eq j.tag n) as (λ b. nat_eq j.tag n ≡ b → All (λ (r : Range). i.b < r.0) (map (λ (x : Item). (x.a, x.b)) (cond b (j ∷ filter (λ x. nat_eq x.tag n) js) (filter (λ x. nat_eq x.tag n) js)))) [
-        | true ↦ λ e. All-cons (λ (r : Range). i.b < r.0) (j.a, j.b) (ranges_of n js)
-            (let f = All-head (Follows i) j js all in ⊎_elim (λ lt. lt) (λ ge. let a : i.b ≤ j.a = f.apart in absurd (f.longest (omega arith) (its ∙ sym (eqb-true j.tag n e)))) (cases_lt i.b j.a))
-            (past i js its (All-tail (Follows i) j js all))
-        | false ↦ λ _. past i js its (All-tail (Follows i) j js all)
-      ] refl
+  past i (j ∷ js) its all = grind (arith, All-cons, All-head, eqb-true, cases_lt, All-tail, past i js its (All-tail (Follows i) j js all))
 
   pub spaced : (items : List Item) → AllPairs (λ i j. Follows i j) items → AllPairs (λ (r s : Range). r.1 < s.0) (ranges_of n items)
   spaced [] pairs = λ i j d less lt. absurd (omega arith)

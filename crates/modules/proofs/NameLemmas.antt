@@ -38,8 +38,7 @@ place_is names name k distinct lt at =
     ] refl
 
 pub found : (names : List (List ℕ)) (index : List ℕ) → IsNameIndex names index → AreDistinctNames names → (name : List ℕ) (at : ℕ) → at < length index → slice_cmp nat_cmp (get_or names (get_or index at 0) []) name ≡ Equal → Some (get_or index at 0) ≡ position_from (bytes_eq name) 0 names
-found names index is distinct name at lt equal =
-    sym (place_is names name (get_or index at 0) distinct (place_in names index is at 0 lt) (exact_bytes (get_or names (get_or index at 0) []) name equal))
+found names index is distinct name at lt equal = grind (arith, place_is, place_in, exact_bytes)
 
 pub absent : (names : List (List ℕ)) (index : List ℕ) → IsNameIndex names index → (name : List ℕ) (split : ℕ) → IsPartitionPoint (λ k. slice_cmp nat_cmp (get_or names k []) name ≡ Less) (λ k. slice_cmp nat_cmp (get_or names k []) name ≡ Greater) index split → None ≡ position_from (bytes_eq name) 0 names
 absent names index is name split point =

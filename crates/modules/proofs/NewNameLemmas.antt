@@ -1,5 +1,5 @@
 -- A module whose name is new.
-use Rattle.modules.proofs.Words.{◌≡◌, ℕ, false, cond, List, [], ◌∷◌, ◌++◌, length, get_or, Some, Option, refl, sym, ap, ◌∙◌, subst, bytes_decides, list_any, position_from, bytes_eq}
+use Rattle.modules.proofs.Words.{◌≡◌, ℕ, false, cond, List, [], ◌∷◌, ◌++◌, length, get_or, Some, Option, refl, sym, subst, bytes_decides, list_any, position_from, bytes_eq, arith}
 use Rattle.modules.proofs.Lemmas.{false_from_ne_true, get_or_default, length-map, map-append, list_any_none, Contains-head, AllPairs-across, position_from-new}
 use Rattle.modules.proofs.Definitions.{names_of, AreDistinctNames, PlacedModule}
 
@@ -9,11 +9,7 @@ pub places_more : (modules after : List PlacedModule) (m : PlacedModule) (name :
     → o ≡ position_from (bytes_eq name) 0 (names_of modules)
     → p ≡ cond (bytes_eq m.name name) (Some k) o → after ≡ modules ++ m ∷ []
     → p ≡ position_from (bytes_eq name) 0 (names_of after)
-places_more modules after m name k o p new last was is more =
-    let names : names_of after ≡ names_of modules ++ m.name ∷ [] = ap (λ (ms : List PlacedModule). names_of ms) more ∙ map-append (λ (n : PlacedModule). n.name) modules (m ∷ []) in
-    is ∙ ap (λ (q : Option ℕ). cond (bytes_eq m.name name) (Some k) q) was
-    ∙ position_from-new (names_of modules) m.name name k new (last ∙ sym (length-map modules (λ (n : PlacedModule). n.name)))
-    ∙ ap (position_from (bytes_eq name) 0) (sym names)
+places_more modules after m name k o p new last was is more = grind (arith, map-append, position_from-new, length-map)
 
 -- of modules with distinct names, none has the name of one after it
 pub new_after : (before rest : List PlacedModule) (m : PlacedModule) → AreDistinctNames (names_of (before ++ m ∷ rest)) → list_any (bytes_eq m.name) (names_of before) ≡ false

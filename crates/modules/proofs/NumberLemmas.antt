@@ -13,8 +13,7 @@ mapped_some f (Some x) = refl
 
 -- a name has a number where it is among the names
 pub has_number : (names : List (List ℕ)) (name : List ℕ) (o : Option ℕ) (r : Bool) → o ≡ option_map suc (position_from (bytes_eq name) 0 names) → r ≡ is_some o → list_any (bytes_eq name) names ≡ r
-has_number names name o r found answers =
-    sym (is_some-position_from (bytes_eq name) 0 names) ∙ sym (mapped_some suc (position_from (bytes_eq name) 0 names)) ∙ sym (ap is_some found) ∙ sym answers
+has_number names name o r found answers = grind (arith, is_some-position_from, mapped_some)
 
 mapped_either : (b : Bool) (n : ℕ) (o : Option ℕ) → cond b (Some (suc n)) (option_map suc o) ≡ option_map suc (cond b (Some n) o)
 mapped_either true n o = refl
@@ -23,11 +22,7 @@ mapped_either false n o = refl
 -- the numbers once a name that was not there stands at the end
 pub numbers_more : (names : List (List ℕ)) (new name : List ℕ) (n : ℕ) (o : Option ℕ) → list_any (bytes_eq new) names ≡ false → n ≡ suc (length names) → o ≡ option_map suc (position_from (bytes_eq name) 0 names)
     → cond (bytes_eq new name) (Some n) o ≡ option_map suc (position_from (bytes_eq name) 0 (names ++ new ∷ []))
-numbers_more names new name n o absent last found =
-    ap (λ (m : ℕ). cond (bytes_eq new name) (Some m) o) last
-    ∙ ap (λ (p : Option ℕ). cond (bytes_eq new name) (Some (suc (length names))) p) found
-    ∙ mapped_either (bytes_eq new name) (length names) (position_from (bytes_eq name) 0 names)
-    ∙ ap (λ (p : Option ℕ). option_map suc p) (position_from-new names new name (length names) absent refl)
+numbers_more names new name n o absent last found = grind (arith, mapped_either, position_from-new)
 
 pub names_more : (items pushed : List (Bor (List ℕ))) (b : Bor (List ℕ)) → pushed ≡ items ++ b ∷ [] → names_at pushed ≡ names_at items ++ b.now ∷ []
 names_more items pushed b is = ap names_at is ∙ map-append (λ (n : Bor (List ℕ)). n.now) items (b ∷ [])
@@ -44,12 +39,10 @@ number_within names (Some name) = by (position_from (bytes_eq name) 0 names) ref
 -- ---- the names with that of an owner
 
 pub owner_known : (names : List (List ℕ)) (o : Option (Bor (List ℕ))) (b : Bor (List ℕ)) → o ≡ Some b → list_any (bytes_eq b.now) names ≡ true → names ≡ with_owner names (option_copied o)
-owner_known names o b is known =
-    sym (ap (λ (x : Option (Bor (List ℕ))). with_owner names (option_copied x)) is ∙ ap (λ t. cond t names (names ++ b.now ∷ [])) known)
+owner_known names o b is known = grind arith
 
 pub owner_new : (names : List (List ℕ)) (o : Option (Bor (List ℕ))) (b : Bor (List ℕ)) → o ≡ Some b → list_any (bytes_eq b.now) names ≡ false → names ++ b.now ∷ [] ≡ with_owner names (option_copied o)
-owner_new names o b is absent =
-    sym (ap (λ (x : Option (Bor (List ℕ))). with_owner names (option_copied x)) is ∙ ap (λ t. cond t names (names ++ b.now ∷ [])) absent)
+owner_new names o b is absent = grind arith
 
 module _ (names : List (List ℕ)) where
   -- the module of a line is among these
@@ -57,18 +50,10 @@ module _ (names : List (List ℕ)) where
   IsOwner ns o = option_map_or (λ name. list_any (bytes_eq name) ns) o true ≡ true
 
   still_there : (new name : List ℕ) → list_any (bytes_eq name) names ≡ true → list_any (bytes_eq name) (with_name names new) ≡ true
-  still_there new name there =
-      elim (list_any (bytes_eq new) names) as (λ b. list_any (bytes_eq name) (cond b names (names ++ new ∷ [])) ≡ true) [
-        | true ↦ there
-        | false ↦ list_any-append (bytes_eq name) names (new ∷ []) ∙ or_left (list_any (bytes_eq name) names) (list_any (bytes_eq name) (new ∷ [])) there
-      ]
+  still_there new name there = grind (arith, list_any-append, or_left)
 
   now_there : (new : List ℕ) → list_any (bytes_eq new) (with_name names new) ≡ true
-  now_there new =
-      elim (list_any (bytes_eq new) names) as (λ b. list_any (bytes_eq new) names ≡ b → list_any (bytes_eq new) (cond b names (names ++ new ∷ [])) ≡ true) [
-        | true ↦ λ there. there
-        | false ↦ λ _. list_any-append (bytes_eq new) names (new ∷ []) ∙ or_right (list_any (bytes_eq new) names) (list_any (bytes_eq new) (new ∷ [])) (or_left (bytes_eq new new) false ((bytes_decides new new).1 refl))
-      ] refl
+  now_there new = grind (arith, list_any-append, or_right, or_left, bytes_decides)
 
   stays_owner : (owner o : Option (List ℕ)) → IsOwner names o → IsOwner (with_owner names owner) o
   stays_owner owner None is = refl

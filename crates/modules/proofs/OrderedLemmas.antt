@@ -1,6 +1,6 @@
 -- Copies of symbols in the order of their index.
 use Rattle.modules.proofs.Words.{◌≡◌, ℕ, ◌-◌, ◌<◌, ◌≤◌, List, [], length, get_or, Some, None, ap, sym, subst, ◌∙◌, ⊎_elim, arith, slice_get, option_map}
-use Rattle.modules.proofs.Lemmas.{get_or-map, get_or_default, length-map, slice_get-get_or, slice_get_cases}
+use Rattle.modules.proofs.Lemmas.{get_or-map, get_or_default, length-map, slice_get-get_or, slice_get_cases, common_steps}
 use Rattle.modules.proofs.Definitions.{address_above, symbol_below, SymbolEntry, IsIndex, IsOrdered, IsRising, IsSplit, IsSplitOf, symbol_of_entry, IndexEntry}
 use Rattle.modules.proofs.IndexLemmas.{each_entry, first_above, last_below as last_entry_below, none_above, none_below as no_entry_below, rising as index_rises}
 
@@ -21,9 +21,7 @@ module _ (symbols ordered : List SymbolEntry) (is : IsOrdered symbols ordered) w
   symbol_at k s e lt = ap (λ (l : List SymbolEntry). get_or l k s) is.each ∙ get_or-map (symbol_of_entry symbols) is.index k e s lt
 
   address_at : (k : ℕ) (s : SymbolEntry) (e : IndexEntry) → k < length is.index → (get_or ordered k s).addr ≡ (get_or is.index k e).addr
-  address_at k s e lt =
-      ap (λ (t : SymbolEntry). t.addr) (symbol_at k s e lt)
-      ∙ (each_entry symbols is.index is.is k e lt).1 (record { addr = (get_or is.index k e).addr; name = [] })
+  address_at k s e lt = grind (arith, common_steps, symbol_at, each_entry)
 
   pub rising : IsRising ordered
   rising = λ i j s le lt.

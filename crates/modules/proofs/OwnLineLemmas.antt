@@ -1,6 +1,6 @@
 -- What is kept by the regions is what is kept by the lines.
-use Rattle.modules.proofs.Words.{◌≡◌, ℕ, ◌-◌, ◌^◌, ◌<◌, Bool, true, false, List, Option, Some, None, refl, ap, sym, option_map_or, bytes_eq, bytes_decides}
-use Rattle.modules.proofs.Definitions.{belongs, lies_in, ListedSymbol, PlacedModule, module_of_address, HasItsRegions, is_kept_line}
+use Rattle.modules.proofs.Words.{◌≡◌, ℕ, ◌-◌, ◌^◌, ◌<◌, Bool, true, false, List, Option, Some, None, refl, ap, sym, option_map_or, bytes_eq, bytes_decides, arith}
+use Rattle.modules.proofs.Definitions.{belongs, ListedSymbol, PlacedModule, HasItsRegions, is_kept_line}
 
 pub same_bool : (a b : Bool) → (a ≡ true → b ≡ true) → (b ≡ true → a ≡ true) → a ≡ b
 same_bool true b f g = sym (f refl)
@@ -18,7 +18,4 @@ pub of_is : (name : List ℕ) (o : Option (List ℕ)) → o ≡ Some name → op
 of_is name o e = rw e (named name)
 
 pub kept_same : (lines : List ListedSymbol) (m : PlacedModule) (l : ListedSymbol) → HasItsRegions lines m → l.addr < 2 ^ 64 - 1 → l.owner ≡ Some m.name → belongs m l ≡ is_kept_line lines l
-kept_same lines m l h lt own =
-    rw own (rw (named m.name) (same_bool (lies_in m l.addr) (option_map_or (bytes_eq m.name) (module_of_address lines l.addr) false)
-    (λ in'. of_is m.name (module_of_address lines l.addr) ((h.exact l.addr).0 in').1)
-    (λ is. (h.exact l.addr).1 (lt, is_of m.name (module_of_address lines l.addr) is))))
+kept_same lines m l h lt own = grind (arith, named, same_bool, of_is, is_of)

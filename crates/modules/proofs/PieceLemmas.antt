@@ -1,6 +1,6 @@
 -- What a further piece changes.
-use Rattle.modules.proofs.Words.{◌≡◌, ℕ, ◌<◌, ◌≤◌, List, [], ◌∷◌, ◌++◌, length, get_or, sym, subst, ◌∙◌, inl, inr, ⊎_elim, arith, length-append, ◌≢◌, ◌⊎◌, ◌↔◌, All, AllPairs}
-use Rattle.modules.proofs.Lemmas.{cases_lt, get_or_append_left, get_or-append_seam, All-push, Contains-push, Contains-append_left, Contains-push_cases, all_pairs_push}
+use Rattle.modules.proofs.Words.{◌≡◌, ℕ, ◌<◌, ◌≤◌, List, [], ◌∷◌, ◌++◌, length, get_or, sym, subst, ◌∙◌, inl, inr, ⊎_elim, arith, length-append, ◌≢◌, ◌⊎◌, ◌↔◌, All, AllPairs, rules}
+use Rattle.modules.proofs.Lemmas.{cases_lt, get_or_append_left, get_or-append_seam, All-push, Contains-push, Contains-append_left, Contains-push_cases, all_pairs_push, common_steps}
 use Rattle.modules.proofs.Definitions.{Item, AreLaid, Follows, HoldsFor}
 
 module _ {X : Type 0} (xs : List X) (y : X) where
@@ -28,16 +28,10 @@ module _ {X : Type 0} (xs : List X) (y : X) where
 
 -- a piece that the items do not go on into
 laid_with : (items : List Item) (p : Item) → AreLaid items → p.a < p.b → All (λ i. Follows i p) items → AreLaid (items ++ p ∷ [])
-laid_with items p laid valid after = record {
-  valid = All-push (λ (i : Item). i.a < i.b) items p laid.valid valid;
-  follow = all_pairs_push (λ i j. Follows i j) items p laid.follow after;
-}
+laid_with items p laid valid after = search (rules, All-push, all_pairs_push)
 
 front_laid : (items : List Item) (last : Item) → AreLaid (items ++ last ∷ []) → AreLaid items
-front_laid items last laid = record {
-  valid = all_front items last (λ i. i.a < i.b) laid.valid;
-  follow = pairs_front items last (λ i j. Follows i j) laid.follow;
-}
+front_laid items last laid = search (rules, all_front, pairs_front)
 
 module _ (init old new : List Item) (last p : Item) (was : old ≡ init ++ last ∷ []) (laid : AreLaid old) where
   whole : AreLaid (init ++ last ∷ [])
@@ -69,16 +63,7 @@ abbrev pub InPiece : Item → ℕ → ℕ → Type 0
 InPiece p m x = (p.tag ≡ m) × (p.a ≤ x) × (x < p.b)
 
 pub holds_with : (items : List Item) (p : Item) (m x : ℕ) → HoldsFor (items ++ p ∷ []) m x ↔ (HoldsFor items m x ⊎ InPiece p m x)
-holds_with items p m x = (
-  λ h. ⊎_elim
-      (λ old. inl (record { item = h.item; there = old; its = h.its; from = h.from; below = h.below }))
-      (λ same. inr (subst (λ (i : Item). InPiece i m x) (sym same) (h.its, h.from, h.below)))
-      (Contains-push_cases items p h.item h.there),
-  λ e. ⊎_elim
-      (λ h. record { item = h.item; there = Contains-append_left items (p ∷ []) h.item h.there; its = h.its; from = h.from; below = h.below })
-      (λ q. record { item = p; there = Contains-push items p; its = q.0; from = q.1; below = q.2 })
-      e,
-)
+holds_with items p m x = grind (arith, common_steps, Contains-push_cases, Contains-append_left, Contains-push)
 
 -- the longer item holds what the last one held, and the piece
 pub holds_merged : (init old new : List Item) (last p m : Item) → old ≡ init ++ last ∷ [] → new ≡ init ++ m ∷ [] → m.a ≡ last.a → m.b ≡ p.b → m.tag ≡ last.tag → last.b ≡ p.a → last.tag ≡ p.tag → last.a < last.b → p.a < p.b → (owner x : ℕ)

@@ -1,5 +1,5 @@
 -- Whose an address is by the marks of a listing is what its lines say.
-use Rattle.modules.proofs.Words.{◌≡◌, ◌≢◌, ℕ, ◌+◌, ◌-◌, ◌^◌, ◌<◌, ◌≤◌, Bool, true, false, ◌&&◌, ◌||◌, not, nat_le, nat_lt, nat_eq, cond, suc, List, [], ◌∷◌, ◌++◌, get_or, map, Option, Some, None, refl, sym, ap, subst, ◌∙◌, inl, inr, ⊎_elim, arith, ◌⊎◌, All, Contains, filter, find, is_none, is_some, first_so, second_so, list_all, position_from, option_and_then, option_map, option_map_or, bytes_eq, bytes_decides}
+use Rattle.modules.proofs.Words.{◌≡◌, ◌≢◌, ℕ, ◌+◌, ◌-◌, ◌^◌, ◌<◌, ◌≤◌, Bool, true, false, ◌&&◌, ◌||◌, not, nat_le, nat_lt, nat_eq, cond, suc, List, [], ◌∷◌, ◌++◌, get_or, map, Option, Some, None, refl, sym, ap, subst, ◌∙◌, inl, inr, ⊎_elim, arith, ◌⊎◌, All, Contains, filter, find, is_none, is_some, first_so, second_so, position_from, option_and_then, option_map, option_map_or, bytes_eq, bytes_decides, rules}
 use Rattle.modules.proofs.Lemmas.{and_from, and_parts, cases_lt, eq-eqb, eqb-true, le-leb, leb-true, lt-ltb, ltb-true, ne_eqb, or_cases, or_left, or_parts, or_right, position_from-zero, All-append, All-cons, All-contains, All-head, All-nil, All-tail, list_any_at, position-Some, AllPass-from_list_all, list_all-from_AllPass, Contains-slice_get, find-agree, find-filter, find-has, find-passes, find_place}
 use Rattle.modules.proofs.Definitions.{is_built_in, HaveFirstLines, kernel_marks, line_marks, mark_of, marks_of, name_of, number_for, number_in, ListedSymbol, StandsFor, GoesOn, IsFirstMark, IsNearestMark, IsNextMark, Owns, goes_on, is_in_page, is_nearest_line, is_next_line, is_of_one_module, is_outside, module_of_address, post_above, post_below, posts, reach, holds, lies_in_any, Mark}
 use Rattle.modules.proofs.KeptLemmas.{not_built_in}
@@ -35,9 +35,7 @@ all_of_mapped f Q (x ∷ xs) all = All-cons (λ y. Q (f y)) x xs (All-head Q (f 
 
 find_mapped : {X Y : Type 0} (p : Y → Bool) (f : X → Y) (xs : List X) → find p (map f xs) ≡ option_map f (find (λ x. p (f x)) xs)
 find_mapped p f [] = refl
-find_mapped p f (x ∷ xs) =
-    elim (p (f x)) as (λ b. cond b (Some (f x)) (find p (map f xs)) ≡ option_map f (cond b (Some x) (find (λ y. p (f y)) xs)))
-    [ true ↦ refl | false ↦ find_mapped p f xs ]
+find_mapped p f (x ∷ xs) = grind (arith, find_mapped p f xs)
 
 some_mapped : {X Y : Type 0} (f : X → Y) (o : Option X) (y : Y) → option_map f o ≡ Some y → (x : X) × (o ≡ Some x) × (f x ≡ y)
 some_mapped f None y h = absurd (cc)
@@ -81,34 +79,18 @@ from_either : (t a x : ℕ) → (t ≤ a) ⊎ (x < t) → (nat_le t a || nat_lt 
 from_either t a x h = ⊎_elim (λ e. or_left (nat_le t a) (nat_lt x t) (le-leb t a e)) (λ e. or_right (nat_le t a) (nat_lt x t) (lt-ltb x t e)) h
 
 nearest_line_is : (ls : List ListedSymbol) (x : ℕ) (l : ListedSymbol) → is_nearest_line ls x l ≡ true → IsNearestOf ls x l.addr
-nearest_line_is ls x l h = record {
-  below = leb-true l.addr x (first_so (nat_le l.addr x) (list_all (λ (t : ListedSymbol). nat_le t.addr l.addr || nat_lt x t.addr) ls) h);
-  clear = λ k d lt. either (get_or ls k d).addr l.addr x (AllPass-from_list_all (λ (t : ListedSymbol). nat_le t.addr l.addr || nat_lt x t.addr) ls (second_so (nat_le l.addr x) (list_all (λ (t : ListedSymbol). nat_le t.addr l.addr || nat_lt x t.addr) ls) h) k d lt);
-}
+nearest_line_is ls x l h = grind (arith, leb-true, first_so, either, AllPass-from_list_all, second_so)
 
 line_is_nearest : (ls : List ListedSymbol) (x : ℕ) (l : ListedSymbol) → IsNearestOf ls x l.addr → is_nearest_line ls x l ≡ true
-line_is_nearest ls x l n =
-    and_from (nat_le l.addr x) (list_all (λ (t : ListedSymbol). nat_le t.addr l.addr || nat_lt x t.addr) ls)
-    (le-leb l.addr x n.below)
-    (list_all-from_AllPass (λ (t : ListedSymbol). nat_le t.addr l.addr || nat_lt x t.addr) ls (λ k d lt. from_either (get_or ls k d).addr l.addr x (n.clear k d lt)))
+line_is_nearest ls x l n = grind (arith, and_from, le-leb, list_all-from_AllPass, from_either)
 
 -- of two nearest addresses that are listed neither is above the other
 not_above : {X : Type 0} (at : X → ℕ) (xs : List X) (x a b : ℕ) (t : X) → IsNearestAddress at xs x a → IsNearestAddress at xs x b → Contains xs t → at t ≡ b → b ≤ a
-not_above at xs x a b t n m there is =
-    ⊎_elim (λ le. subst (λ c. c ≤ a) is le) (λ past. absurd (let low = m.below in omega (arith, is))) (All-contains (λ s. (at s ≤ a) ⊎ (x < at s)) xs t n.clear there)
+not_above at xs x a b t n m there is = grind (arith, All-contains)
 
 -- the first of the nearest lines is the first of their address
 nearest_by_address : (ls : List ListedSymbol) (x : ℕ) (l : ListedSymbol) → Contains ls l → IsNearestOf ls x l.addr → find (is_nearest_line ls x) ls ≡ find (is_line_at l.addr) ls
-nearest_by_address ls x l there n =
-    find-agree (is_nearest_line ls x) (is_line_at l.addr) ls (λ k d lt.
-    let t : ListedSymbol = get_or ls k d in
-    same_bool (is_nearest_line ls x t) (is_line_at l.addr t)
-    (λ yes.
-    let m = nearest_line_is ls x t yes in
-    let low : l.addr ≤ t.addr = not_above (λ (s : ListedSymbol). s.addr) ls x t.addr l.addr l m n there refl in
-    let high : t.addr ≤ l.addr = ⊎_elim (λ le. le) (λ past. absurd (let b = m.below in omega arith)) (n.clear k d lt) in
-    eq-eqb t.addr l.addr (omega arith))
-    (λ e. line_is_nearest ls x t (subst (λ a. IsNearestOf ls x a) (sym (eqb-true t.addr l.addr e)) n)))
+nearest_by_address ls x l there n = grind (arith, find-agree, same_bool, nearest_line_is, not_above, eq-eqb, line_is_nearest, eqb-true)
 
 mark_nearest : (ms : List Mark) (x : ℕ) (m : Mark) → IsNearestIn ms x m.addr → find (is_at m.addr) ms ≡ Some m → IsNearestMark ms x m
 mark_nearest ms x m n found = record { its = first_found ms m found; below = n.below; clear = n.clear }
@@ -122,34 +104,18 @@ from_either_above : (t a x : ℕ) → (t ≤ x) ⊎ (a ≤ t) → (nat_le t x ||
 from_either_above t a x h = ⊎_elim (λ e. or_left (nat_le t x) (nat_le a t) (le-leb t x e)) (λ e. or_right (nat_le t x) (nat_le a t) (le-leb a t e)) h
 
 next_line_is : (ls : List ListedSymbol) (x : ℕ) (l : ListedSymbol) → is_next_line ls x l ≡ true → IsNextOf ls x l.addr
-next_line_is ls x l h = record {
-  above = ltb-true x l.addr (first_so (nat_lt x l.addr) (list_all (λ (t : ListedSymbol). nat_le t.addr x || nat_le l.addr t.addr) ls) h);
-  clear = λ k d lt. either_above (get_or ls k d).addr l.addr x (AllPass-from_list_all (λ (t : ListedSymbol). nat_le t.addr x || nat_le l.addr t.addr) ls (second_so (nat_lt x l.addr) (list_all (λ (t : ListedSymbol). nat_le t.addr x || nat_le l.addr t.addr) ls) h) k d lt);
-}
+next_line_is ls x l h = grind (arith, ltb-true, first_so, either_above, AllPass-from_list_all, second_so)
 
 line_is_next : (ls : List ListedSymbol) (x : ℕ) (l : ListedSymbol) → IsNextOf ls x l.addr → is_next_line ls x l ≡ true
-line_is_next ls x l n =
-    and_from (nat_lt x l.addr) (list_all (λ (t : ListedSymbol). nat_le t.addr x || nat_le l.addr t.addr) ls)
-    (lt-ltb x l.addr n.above)
-    (list_all-from_AllPass (λ (t : ListedSymbol). nat_le t.addr x || nat_le l.addr t.addr) ls (λ k d lt. from_either_above (get_or ls k d).addr l.addr x (n.clear k d lt)))
+line_is_next ls x l n = grind (arith, and_from, lt-ltb, list_all-from_AllPass, from_either_above)
 
 -- of two next addresses that are listed neither is below the other
 not_below : {X : Type 0} (at : X → ℕ) (xs : List X) (x a b : ℕ) (t : X) → IsNextAddress at xs x a → IsNextAddress at xs x b → Contains xs t → at t ≡ b → a ≤ b
-not_below at xs x a b t n m there is =
-    ⊎_elim (λ le. absurd (let high = m.above in omega (arith, is))) (λ ge. subst (λ c. a ≤ c) is ge) (All-contains (λ s. (at s ≤ x) ⊎ (a ≤ at s)) xs t n.clear there)
+not_below at xs x a b t n m there is = grind (arith, All-contains)
 
 -- the first of the next lines is the first of their address
 next_by_address : (ls : List ListedSymbol) (x : ℕ) (l : ListedSymbol) → Contains ls l → IsNextOf ls x l.addr → find (is_next_line ls x) ls ≡ find (is_line_at l.addr) ls
-next_by_address ls x l there n =
-    find-agree (is_next_line ls x) (is_line_at l.addr) ls (λ k d lt.
-    let t : ListedSymbol = get_or ls k d in
-    same_bool (is_next_line ls x t) (is_line_at l.addr t)
-    (λ yes.
-    let m = next_line_is ls x t yes in
-    let high : t.addr ≤ l.addr = not_below (λ (s : ListedSymbol). s.addr) ls x t.addr l.addr l m n there refl in
-    let low : l.addr ≤ t.addr = ⊎_elim (λ le. absurd (let b = m.above in omega arith)) (λ ge. ge) (n.clear k d lt) in
-    eq-eqb t.addr l.addr (omega arith))
-    (λ e. line_is_next ls x t (subst (λ a. IsNextOf ls x a) (sym (eqb-true t.addr l.addr e)) n)))
+next_by_address ls x l there n = grind (arith, find-agree, same_bool, next_line_is, not_below, eq-eqb, line_is_next, eqb-true)
 
 mark_next : (ms : List Mark) (x : ℕ) (m : Mark) → IsNextIn ms x m.addr → find (is_at m.addr) ms ≡ Some m → IsNextMark ms x m
 mark_next ms x m n found = record { its = first_found ms m found; above = n.above; clear = n.clear }
@@ -247,15 +213,7 @@ all_of_kernel Q (r ∷ rs) ms all = All-cons (λ r. Q (first_of r)) r rs (All-he
 -- a line of the kernel between a module's post and an address above has the first of its region
 -- between them
 region_clear : (r : ℕ × ℕ) (x a t : ℕ) → holds r a ≡ false → (r.0 ≤ a) ⊎ (x < r.0) → holds r t ≡ true → (t ≤ a) ⊎ (x < t)
-region_clear r x a t out first in' =
-    let (from, below) = inside r t in' in
-    ⊎_elim
-    (λ le. ⊎_elim
-    (λ lt. absurd (let at : holds r a ≡ true = within r a le lt in cc))
-    (λ ge. inl (omega arith))
-    (cases_lt a r.1))
-    (λ past. inr (omega arith))
-    first
+region_clear r x a t out first in' = grind (arith, inside, within, cases_lt)
 
 kernel_clear : (kernel : List (ℕ × ℕ)) (x a t : ℕ) → is_inside kernel a ≡ false → All (λ (r : ℕ × ℕ). (r.0 ≤ a) ⊎ (x < r.0)) kernel → is_inside kernel t ≡ true → (t ≤ a) ⊎ (x < t)
 kernel_clear [] x a t out all in' = absurd (cc)
@@ -268,21 +226,7 @@ kernel_clear (r ∷ rs) x a t out all in' =
 
 -- a line of the kernel that is above is not below the next mark
 region_next : (r : ℕ × ℕ) (x a b t : ℕ) → a ≤ x → holds r a ≡ false → (r.0 ≤ a) ⊎ (x < r.0) → (r.0 ≤ x) ⊎ (b ≤ r.0) → holds r t ≡ true → (t ≤ x) ⊎ (b ≤ t)
-region_next r x a b t low out first next in' =
-    let (from, below) = inside r t in' in
-    ⊎_elim
-    (λ le. inl (omega arith))
-    (λ past. ⊎_elim
-    (λ start. ⊎_elim
-    (λ le. ⊎_elim
-    (λ lt. absurd (let at : holds r a ≡ true = within r a le lt in cc))
-    (λ ge. absurd (omega arith))
-    (cases_lt a r.1))
-    (λ over. absurd (omega arith))
-    first)
-    (λ ge. inr (omega arith))
-    next)
-    (region_clear r x a t out first in')
+region_next r x a b t low out first next in' = grind (arith, inside, within, cases_lt, region_clear)
 
 kernel_next : (kernel : List (ℕ × ℕ)) (x a b t : ℕ) → a ≤ x → is_inside kernel a ≡ false → All (λ (r : ℕ × ℕ). (r.0 ≤ a) ⊎ (x < r.0)) kernel → All (λ (r : ℕ × ℕ). (r.0 ≤ x) ⊎ (b ≤ r.0)) kernel → is_inside kernel t ≡ true → (t ≤ x) ⊎ (b ≤ t)
 kernel_next [] x a b t low out near next in' = absurd (cc)
@@ -300,9 +244,7 @@ module _ (names : List (List ℕ)) (lines : List ListedSymbol) where
   all_valid kernel has = λ k d lt. (has k d lt).0
 
   found_mark : (kernel : List (ℕ × ℕ)) (l : ListedSymbol) → HaveFirstLines kernel lines → is_inside kernel l.addr ≡ false → find (is_line_at l.addr) (filter (is_outside kernel) lines) ≡ Some l → find (is_at l.addr) (marks_of kernel names lines) ≡ Some (mark_of names l)
-  found_mark kernel l has out h =
-      found_behind kernel (line_marks kernel names lines) l.addr (all_valid kernel has) out
-      ∙ find_mapped (is_at l.addr) (mark_of names) (filter (is_outside kernel) lines) ∙ ap (option_map (mark_of names)) h
+  found_mark kernel l has out h = grind (arith, found_behind, all_valid, out, find_mapped, is_at)
 
   marked : (kernel : List (ℕ × ℕ)) (m : Mark) → find (is_at m.addr) (map (mark_of names) (filter (is_outside kernel) lines)) ≡ Some m → (l : ListedSymbol) × (find (is_line_at m.addr) (filter (is_outside kernel) lines) ≡ Some l) × (mark_of names l ≡ m)
   marked kernel m h = some_mapped (mark_of names) (find (is_line_at m.addr) (filter (is_outside kernel) lines)) m (sym (find_mapped (is_at m.addr) (mark_of names) (filter (is_outside kernel) lines)) ∙ h)
@@ -345,11 +287,7 @@ module _ (names : List (List ℕ)) (lines : List ListedSymbol) where
   }
 
   others_all : (kernel : List (ℕ × ℕ)) (P : ℕ → Type 0) → All (λ (t : ListedSymbol). (is_built_in kernel t || is_outside kernel t) ≡ true → P t.addr) lines → All (λ (t : Mark). P t.addr) (map (mark_of names) (filter (is_outside kernel) lines))
-  others_all kernel P all =
-      all_mapped (mark_of names) (λ (t : Mark). P t.addr) (filter (is_outside kernel) lines)
-      (all_passing (is_outside kernel) (λ (t : ListedSymbol). P t.addr) lines (λ k d lt yes.
-      let t : ListedSymbol = get_or lines k d in
-      all k d lt (or_right (is_built_in kernel t) (is_outside kernel t) yes)))
+  others_all kernel P all = search (rules, all_mapped, all_passing, or_right)
 
   -- what holds of the posts' addresses holds of the marks'
   marks_all : (kernel : List (ℕ × ℕ)) (P : ℕ → Type 0) → HaveFirstLines kernel lines → All (λ (t : ListedSymbol). P t.addr) (posts kernel lines) → All (λ (t : Mark). P t.addr) (marks_of kernel names lines)
@@ -456,11 +394,7 @@ module _ (names : List (List ℕ)) (lines : List ListedSymbol) where
 
   owned : (ls : List ListedSymbol) (x : ℕ) (name : List ℕ) (o : Option ListedSymbol) → option_and_then (λ (l : ListedSymbol). cond (is_in_page l.addr x || goes_on ls x l) l.owner None) o ≡ Some name → (l : ListedSymbol) × (o ≡ Some l) × ((is_in_page l.addr x || goes_on ls x l) ≡ true) × (l.owner ≡ Some name)
   owned ls x name None h = absurd (cc)
-  owned ls x name (Some l) h =
-      elim (is_in_page l.addr x || goes_on ls x l) as (λ b. (is_in_page l.addr x || goes_on ls x l) ≡ b → cond b l.owner None ≡ Some name → (t : ListedSymbol) × (Some l ≡ Some t) × ((is_in_page t.addr x || goes_on ls x t) ≡ true) × (t.owner ≡ Some name)) [
-        | true ↦ λ e k. (l, refl, e, k)
-        | false ↦ λ _ k. absurd (cc)
-      ] refl h
+  owned ls x name (Some l) h = grind arith
 
   to_lines : (kernel : List (ℕ × ℕ)) (n x : ℕ) (name : List ℕ) → n ≢ 0 → number_in names name ≡ n → Owns (marks_of kernel names lines) n x → module_of_address (posts kernel lines) x ≡ Some name
   to_lines kernel n x name some is o =

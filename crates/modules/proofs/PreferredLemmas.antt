@@ -1,5 +1,5 @@
 -- The preferred symbol of a list is the first that no other one wins against.
-use Rattle.modules.proofs.Words.{◌≡◌, ℕ, ◌<◌, ◌≤◌, Bool, true, false, ◌&&◌, ◌||◌, not, nat_lt, nat_le, cond, List, [], ◌∷◌, get_or, Some, None, refl, sym, ap, ◌∙◌, ⊎_elim, arith, find, filter, fold, first_so, second_so, list_all, list_any, option_map}
+use Rattle.modules.proofs.Words.{◌≡◌, ℕ, Bool, true, false, ◌&&◌, ◌||◌, not, nat_lt, nat_le, cond, List, [], ◌∷◌, get_or, Some, None, refl, sym, ap, ◌∙◌, ⊎_elim, arith, find, filter, fold, first_so, second_so, list_all, list_any, option_map}
 use Rattle.modules.proofs.Lemmas.{cases_lt, lt-ltb, le-ltb, lt-leb, le-leb, ltb-true, ltb-false, find-agree, find-filter, list_all-agree, list_all-filter}
 use Rattle.modules.proofs.Definitions.{address_above, is_nearest, is_next, symbol_below, SymbolEntry, preferred, is_above, is_below, highest_of, lowest_of}
 
@@ -41,13 +41,7 @@ over_any wins order x a (t ∷ ts) lost some =
 
 -- where the first symbol is beaten, it tells nothing apart
 beaten_first : (wins : SymbolEntry → SymbolEntry → Bool) → IsOrder wins → (x : SymbolEntry) (xs : List SymbolEntry) → list_any (λ t. wins t x) xs ≡ true → find (λ u. not (wins x u) && is_unbeaten wins xs u) xs ≡ find (is_unbeaten wins xs) xs
-beaten_first wins order x xs some =
-    find-agree (λ u. not (wins x u) && is_unbeaten wins xs u) (is_unbeaten wins xs) xs (λ k d lt.
-    let u = get_or xs k d in
-    elim (is_unbeaten wins xs u) as (λ b. is_unbeaten wins xs u ≡ b → (not (wins x u) && b) ≡ b) [
-      | true ↦ λ best. let no : wins x u ≡ false = between_any wins order x u xs some best in rw no refl
-      | false ↦ λ _. elim (wins x u) as (λ b. (not b && false) ≡ false) [ true ↦ refl | false ↦ refl ]
-    ] refl)
+beaten_first wins order x xs some = grind (arith, find-agree, between_any)
 
 first_unbeaten : (wins : SymbolEntry → SymbolEntry → Bool) → IsOrder wins → (x : SymbolEntry) (xs : List SymbolEntry) → find (is_unbeaten wins (x ∷ xs)) (x ∷ xs) ≡ cond (list_any (λ t. wins t x) xs) (find (is_unbeaten wins xs) xs) (Some x)
 first_unbeaten wins order x xs =
@@ -60,14 +54,7 @@ first_unbeaten wins order x xs =
 
 folded : (wins : SymbolEntry → SymbolEntry → Bool) → IsOrder wins → (a : SymbolEntry) (xs : List SymbolEntry) → fold (preferred wins) (Some a) xs ≡ cond (list_any (λ t. wins t a) xs) (find (is_unbeaten wins xs) xs) (Some a)
 folded wins order a [] = refl
-folded wins order a (x ∷ xs) =
-    elim (wins x a) as (λ b. wins x a ≡ b → fold (preferred wins) (cond b (Some x) (Some a)) xs ≡ cond (b || list_any (λ t. wins t a) xs) (find (is_unbeaten wins (x ∷ xs)) (x ∷ xs)) (Some a)) [
-      | true ↦ λ _. folded wins order x xs ∙ sym (first_unbeaten wins order x xs)
-      | false ↦ λ no. folded wins order a xs ∙ (elim (list_any (λ t. wins t a) xs) as (λ b. list_any (λ t. wins t a) xs ≡ b → cond b (find (is_unbeaten wins xs) xs) (Some a) ≡ cond b (find (is_unbeaten wins (x ∷ xs)) (x ∷ xs)) (Some a)) [
-        | true ↦ λ some. sym (first_unbeaten wins order x xs ∙ ap (λ b. cond b (find (is_unbeaten wins xs) xs) (Some x)) (over_any wins order x a xs no some))
-        | false ↦ λ _. refl
-      ] refl)
-    ] refl
+folded wins order a (x ∷ xs) = grind (arith, first_unbeaten, over_any, folded wins order x xs, folded wins order a xs)
 
 preferred_is_unbeaten : (wins : SymbolEntry → SymbolEntry → Bool) → IsOrder wins → (xs : List SymbolEntry) → fold (preferred wins) None xs ≡ find (is_unbeaten wins xs) xs
 preferred_is_unbeaten wins order [] = refl
@@ -76,18 +63,10 @@ preferred_is_unbeaten wins order (x ∷ xs) = folded wins order x xs ∙ sym (fi
 -- ---- the two orders
 
 pub above_order : IsOrder is_above
-above_order = record {
-  irreflexive = λ s. le-ltb s.addr s.addr (omega arith);
-  over = λ t x a no yes. let p : x.addr ≤ a.addr = ltb-false a.addr x.addr no in let q : a.addr < t.addr = ltb-true a.addr t.addr yes in lt-ltb x.addr t.addr (omega arith);
-  between = λ t x u yes no. let p : x.addr < t.addr = ltb-true x.addr t.addr yes in let q : t.addr ≤ u.addr = ltb-false u.addr t.addr no in le-ltb u.addr x.addr (omega arith);
-}
+above_order = grind (arith, le-ltb, ltb-false, ltb-true, lt-ltb)
 
 pub below_order : IsOrder is_below
-below_order = record {
-  irreflexive = λ s. le-ltb s.addr s.addr (omega arith);
-  over = λ t x a no yes. let p : a.addr ≤ x.addr = ltb-false x.addr a.addr no in let q : t.addr < a.addr = ltb-true t.addr a.addr yes in lt-ltb t.addr x.addr (omega arith);
-  between = λ t x u yes no. let p : t.addr < x.addr = ltb-true t.addr x.addr yes in let q : u.addr ≤ t.addr = ltb-false t.addr u.addr no in le-ltb x.addr u.addr (omega arith);
-}
+below_order = grind (arith, le-ltb, ltb-false, ltb-true, lt-ltb)
 
 not_lt : (a b : ℕ) → not (nat_lt a b) ≡ nat_le b a
 not_lt a b = ⊎_elim (λ lt. let yes : nat_lt a b ≡ true = lt-ltb a b lt in let no : nat_le b a ≡ false = lt-leb b a lt in rw (yes, no) refl) (λ le. let no : nat_lt a b ≡ false = le-ltb a b le in let yes : nat_le b a ≡ true = le-leb b a le in rw (yes, no) refl) (cases_lt a b)

@@ -50,9 +50,4 @@ abbrev pub HasFew : PlacedModule → Type 0
 HasFew m = length m.regions ≤ 7
 
 pub few_placed : (regions : List ListedRegion) (line : ListedModule) → are_few regions ≡ true → HasFew (placed_line regions line)
-few_placed regions line few =
-    let own : List ListedRegion = lines_named line.name regions in
-    elim (has_core own) as (λ b. HasFew (cond b (placed_by own line) (placed_alone line))) [
-      | true ↦ let n : length (map region_line_region own) ≡ length own = length-map own region_line_region in let f = few_named regions line.name few in omega arith
-      | false ↦ omega arith
-    ]
+few_placed regions line few = grind (arith, length-map, few_named)

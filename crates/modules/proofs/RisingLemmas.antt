@@ -1,15 +1,10 @@
 -- Symbols that are listed by rising address.
-use Rattle.modules.proofs.Words.{◌≡◌, ℕ, ◌-◌, ◌<◌, ◌≤◌, ◌⊎◌, true, false, ◌||◌, nat_lt, nat_le, List, length, get_or, Some, None, sym, ap, subst, ◌∙◌, inl, inr, ⊎_elim, arith, slice_get, option_map, IsPartitionPoint}
+use Rattle.modules.proofs.Words.{◌≡◌, ℕ, ◌-◌, ◌<◌, ◌≤◌, ◌⊎◌, true, false, ◌||◌, nat_lt, nat_le, List, length, get_or, Some, None, ap, subst, inl, inr, ⊎_elim, arith, slice_get, option_map, IsPartitionPoint}
 use Rattle.modules.proofs.Lemmas.{cases_lt, false_from_ne_true, and_parts, le-leb, le-ltb, lt-leb, lt-ltb, ltb-false, ltb-true, get_or_default, AllPass-from_list_all, list_all-from_AllPass, slice_get_cases, le_or_past, le_unless_past, least_above, find-first, find-none}
 use Rattle.modules.proofs.Definitions.{is_nearest, symbol_below, is_next, address_above, SymbolEntry, IsFirstBorder, IsFirstOf, IsRising, IsSplitOf}
 
 pub IsFirstOf-from_partition : (symbols : List SymbolEntry) (addr split : ℕ) → split ≤ length symbols → IsPartitionPoint (λ s. nat_lt s.addr addr ≡ true) (λ s. nat_lt s.addr addr ≡ false) symbols split → IsFirstOf symbols addr split
-IsFirstOf-from_partition symbols addr split bound point =
-    record {
-      bound = bound;
-      below = λ k d lt. ltb-true (get_or symbols k d).addr addr (point.0 k d (omega arith) lt);
-      others = λ k d le lt. ltb-false (get_or symbols k d).addr addr (point.1 k d le lt);
-    }
+IsFirstOf-from_partition symbols addr split bound point = grind (arith, ltb-true, ltb-false)
 
 -- where symbols rise, the neighbours of a place tell which are below an address
 pub IsFirstOf-from_border : (symbols : List SymbolEntry) (addr place : ℕ) → IsRising symbols
@@ -27,10 +22,7 @@ IsFirstOf-from_border symbols addr place rising border =
 -- ---- the symbol that is not above an address
 
 pub none_below : (symbols : List SymbolEntry) (addr : ℕ) → IsSplitOf symbols addr 0 → symbol_below symbols addr ≡ None
-none_below symbols addr split =
-    find-none (is_nearest symbols addr) symbols (λ j s lt.
-    let over : addr < (get_or symbols j s).addr = split.above j s (omega arith) lt in
-    rw (lt-leb (get_or symbols j s).addr addr over))
+none_below symbols addr split = grind (arith, find-none, lt-leb)
 
 -- the first of those that have the address of the last one below
 record IsFound (symbols : List SymbolEntry) (addr split first : ℕ) (s : SymbolEntry) : Type 0 where
@@ -39,13 +31,7 @@ record IsFound (symbols : List SymbolEntry) (addr split first : ℕ) (s : Symbol
   pub same : (get_or symbols first s).addr ≡ (get_or symbols (split - 1) s).addr
 
 first_found : (symbols : List SymbolEntry) (addr split first : ℕ) (s : SymbolEntry) → IsRising symbols → IsSplitOf symbols addr split → 0 < split → IsFirstOf symbols (get_or symbols (split - 1) s).addr first → IsFound symbols addr split first s
-first_found symbols addr split first s rising parts some is =
-    let bound = parts.bound in
-    let lower : first < split = ⊎_elim (λ lt. lt) (λ le. let low : (get_or symbols (split - 1) s).addr < (get_or symbols (split - 1) s).addr = is.below (split - 1) s (omega arith) in absurd (omega arith)) (cases_lt first split) in
-    let within : first < length symbols = omega arith in
-    let up : (get_or symbols first s).addr ≤ (get_or symbols (split - 1) s).addr = rising first (split - 1) s (omega arith) (omega arith) in
-    let down : (get_or symbols (split - 1) s).addr ≤ (get_or symbols first s).addr = is.others first s (omega arith) within in
-    record { within = within; lower = lower; same = omega arith }
+first_found symbols addr split first s rising parts some is = grind (arith, cases_lt)
 
 pub first_within : (symbols : List SymbolEntry) (addr split first : ℕ) (s : SymbolEntry) → IsRising symbols → IsSplitOf symbols addr split → 0 < split → IsFirstOf symbols (get_or symbols (split - 1) s).addr first → first < length symbols
 first_within symbols addr split first s rising parts some is = (first_found symbols addr split first s rising parts some is).within
@@ -87,14 +73,7 @@ first_above symbols addr split rising parts s within =
     rw (le-ltb addr (get_or symbols k s).addr under)))
 
 none_above : (symbols : List SymbolEntry) (addr split : ℕ) → IsSplitOf symbols addr split → length symbols ≤ split → address_above symbols addr ≡ None
-none_above symbols addr split parts all =
-    ap (option_map (λ (s : SymbolEntry). s.addr)) (find-none (is_next symbols addr) symbols (λ j s lt.
-    let under : (get_or symbols j s).addr ≤ addr = parts.below j s (omega arith) in
-    rw (le-ltb addr (get_or symbols j s).addr under)))
+none_above symbols addr split parts all = grind (arith, find-none, le-ltb)
 
 pub above_in : (symbols : List SymbolEntry) (addr split : ℕ) → IsRising symbols → IsSplitOf symbols addr split → option_map (λ s. s.addr) (slice_get symbols split) ≡ address_above symbols addr
-above_in symbols addr split rising parts =
-    ⊎_elim
-    (λ (s, within, got, at). ap (option_map (λ (x : SymbolEntry). x.addr)) got ∙ ap (λ (x : SymbolEntry). Some x.addr) (sym at) ∙ sym (first_above symbols addr split rising parts s within))
-    (λ (past, got). ap (option_map (λ (x : SymbolEntry). x.addr)) got ∙ sym (none_above symbols addr split parts past))
-    (slice_get_cases symbols split).1
+above_in symbols addr split rising parts = grind (arith, first_above, none_above, slice_get_cases)

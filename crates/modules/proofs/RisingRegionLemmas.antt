@@ -9,24 +9,14 @@ module _ (regions : List (ℕ × ℕ)) (r : AreRising regions) where
   ends_before i j d less lt = r.rising i j d less lt
 
   pub starts_rise : IsNonDecreasingBy (λ s. s.0) regions
-  starts_rise = λ i j d le lt. ⊎_elim
-      (λ less. let e = ends_before i j d less lt in let v : (get_or regions i d).0 < (get_or regions i d).1 = r.valid i d (omega arith) in omega arith)
-      (λ ge. let same : i ≡ j = omega arith in subst (λ k. (get_or regions i d).0 ≤ (get_or regions k d).0) same (omega arith))
-      (cases_lt i j)
+  starts_rise = grind (arith, ends_before, cases_lt)
 
   module _ (addr split : ℕ) (parts : IsSplitBy (λ s. s.0) regions addr split) where
     above : (k : ℕ) (d : ℕ × ℕ) → split ≤ k → k < length regions → holds (get_or regions k d) addr ≡ false
-    above k d le lt = false_from_ne_true (holds (get_or regions k d) addr) (λ h.
-        let (from, below) = inside (get_or regions k d) addr h in
-        let past : addr < (get_or regions k d).0 = parts.above k d le lt in
-        omega arith)
+    above k d le lt = grind (arith, false_from_ne_true, inside)
 
     before_last : (k : ℕ) (d : ℕ × ℕ) → k < split - 1 → holds (get_or regions k d) addr ≡ false
-    before_last k d lt = false_from_ne_true (holds (get_or regions k d) addr) (λ h.
-        let (from, below) = inside (get_or regions k d) addr h in
-        let last : (get_or regions (split - 1) d).0 ≤ addr = parts.below (split - 1) d (omega arith) in
-        let apart = ends_before k (split - 1) d lt (let b = parts.bound in omega arith) in
-        omega arith)
+    before_last k d lt = grind (arith, false_from_ne_true, inside, ends_before)
 
     -- no region begins at or below the address
     pub in_none : split ≡ 0 → lies_in_any regions addr ≡ false

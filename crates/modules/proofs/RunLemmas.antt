@@ -18,9 +18,7 @@ first_of_module owner name ss = ap (option_map (λ (l : ListedSymbol). l.addr)) 
 -- the first line of this name, of lines of the kernel itself
 pub first_of_kernel : (name : List ℕ) (ss : List SymbolEntry) → first_address name (map (line_of None) ss) ≡ option_map (λ (s : SymbolEntry). s.addr) (find (λ (s : SymbolEntry). bytes_eq s.name name) ss)
 first_of_kernel name [] = refl
-first_of_kernel name (s ∷ ss) =
-    elim (bytes_eq s.name name) as (λ b. option_map (λ (l : ListedSymbol). l.addr) (cond b (Some (line_of None s)) (find (λ (l : ListedSymbol). is_none l.owner && bytes_eq l.name name) (map (line_of None) ss))) ≡ option_map (λ (x : SymbolEntry). x.addr) (cond b (Some s) (find (λ (x : SymbolEntry). bytes_eq x.name name) ss)))
-    [ true ↦ refl | false ↦ first_of_kernel name ss ]
+first_of_kernel name (s ∷ ss) = grind (arith, first_of_kernel name ss)
 
 -- where the first lines have none of this name, the others decide
 pub first_address-append : (name : List ℕ) (xs ys : List ListedSymbol) → first_address name xs ≡ None → first_address name (xs ++ ys) ≡ first_address name ys
@@ -55,8 +53,7 @@ lines_of_all-at (r ∷ runs) (suc i) d lt = ap (λ xs. lines_of_run r ++ xs) (li
 
 -- one symbol more in the last run
 pub lines_of-more : (m n : Option (Bor (List ℕ))) (ss ts : List SymbolEntry) (s : SymbolEntry) → option_copied m ≡ option_copied n → ts ≡ ss ++ s ∷ [] → map (line_of (option_copied m)) ts ≡ map (line_of (option_copied m)) ss ++ line_of (option_copied n) s ∷ []
-lines_of-more m n ss ts s same more =
-    ap (map (line_of (option_copied m))) more ∙ map-append (line_of (option_copied m)) ss (s ∷ []) ∙ ap (λ (o : Option (List ℕ)). map (line_of (option_copied m)) ss ++ line_of o s ∷ []) same
+lines_of-more m n ss ts s same more = grind (arith, map-append)
 
 -- the first line of a name, in all runs but the last or in the last
 pub first_in_last : (runs : List Run) (last : Run) (name : List ℕ) → first_address name (lines_of_all runs) ≡ None → first_address name (lines_of_all (runs ++ last ∷ [])) ≡ first_address name (lines_of_run last)
@@ -85,13 +82,8 @@ kernel_in_run (Some name) ss false is = kernel_in_lines (Some name.now) ss
 
 kernel_in_runs : (runs : List Run) → list_any (λ r. list_any is_in_kernel (lines_of_run r)) runs ≡ list_any is_in_kernel (lines_of_all runs)
 kernel_in_runs [] = refl
-kernel_in_runs (r ∷ runs) =
-    ap (λ b. list_any is_in_kernel (lines_of_run r) || b) (kernel_in_runs runs)
-    ∙ sym (list_any-append is_in_kernel (lines_of_run r) (lines_of_all runs))
+kernel_in_runs (r ∷ runs) = grind (arith, list_any-append, kernel_in_runs runs)
 
 pub kernel_in_all : (runs : List Run) (last : Run)
     → (list_any (λ r. list_any is_in_kernel (lines_of_run r)) runs || list_any is_in_kernel (lines_of_run last)) ≡ list_any is_in_kernel (lines_of_all (runs ++ last ∷ []))
-kernel_in_all runs last =
-    ap (λ b. b || list_any is_in_kernel (lines_of_run last)) (kernel_in_runs runs)
-    ∙ sym (list_any-append is_in_kernel (lines_of_all runs) (lines_of_run last))
-    ∙ sym (ap (list_any is_in_kernel) (lines_of_all-last runs last))
+kernel_in_all runs last = grind (arith, kernel_in_runs, list_any-append, lines_of_all-last)

@@ -1,24 +1,17 @@
 -- The accepted modules have distinct names and regions that lie apart.
-use Rattle.modules.proofs.Words.{◌≡◌, ◌≢◌, ℕ, ◌+◌, ◌*◌, ◌<◌, ◌≤◌, suc, true, false, ◌&&◌, nat_lt, cond, List, [], ◌∷◌, ◌++◌, length, get_or, map, Some, None, Option, refl, sym, ap, ◌∙◌, subst, arith, append_assoc, length-append, All, IfSome, fold, bytes_decides, AllPairs, flat_map, list_any, list_all, option_and_then, option_map_or, option_to_list, bytes_eq}
-use Rattle.modules.proofs.Lemmas.{nat_tests, append-nil, length-map, map-append, flat_map-append, All-nil, All-push, All-head, All-tail, All-cons, list_all-append, list_any_at, all_pairs_push, AllPass-from_list_all, list_all-from_AllPass, and_from, and_parts, AllPairs-few}
-use Rattle.modules.proofs.Definitions.{Accepted, accepted_of, after_module, names_of, none_yet, taken_regions, built_in_with, kernel_at, module_with, placed_module_of, IsSoundCatalog, built_in_of, catalog_of, catalog_with, entry_for, ModuleEntry, SymbolEntry, AreDistinctNames, is_built_in, symbols_that, fits, region_fits, first_address, built_in_region, code_regions, kernel_regions, start_bounds, text_bounds, usual_bounds, with_apart, BoundNames, ListedModule, ListedRegion, ListedSymbol, names_in, IsPlaced, PlacedModule, are_few, placed_line, AreSoundModules, AreApart, are_beside, is_apart, lie_apart, Core}
+use Rattle.modules.proofs.Words.{◌≡◌, ℕ, ◌+◌, ◌*◌, ◌<◌, ◌≤◌, suc, true, false, ◌&&◌, nat_lt, cond, List, [], ◌∷◌, ◌++◌, length, map, Some, None, Option, refl, sym, ap, ◌∙◌, subst, arith, append_assoc, length-append, All, IfSome, fold, bytes_decides, AllPairs, flat_map, list_any, list_all, option_and_then, option_map_or, option_to_list, bytes_eq, rules}
+use Rattle.modules.proofs.Lemmas.{nat_tests, append-nil, length-map, map-append, flat_map-append, All-nil, All-push, All-head, All-tail, All-cons, list_all-append, list_any_at, all_pairs_push, AllPass-from_list_all, list_all-from_AllPass, and_from, and_parts, AllPairs-few, common_steps}
+use Rattle.modules.proofs.Definitions.{Accepted, accepted_of, after_module, names_of, none_yet, taken_regions, built_in_with, kernel_at, module_with, placed_module_of, IsSoundCatalog, built_in_of, catalog_of, catalog_with, entry_for, ModuleEntry, SymbolEntry, AreDistinctNames, is_built_in, symbols_that, fits, region_fits, first_address, built_in_region, kernel_regions, with_apart, BoundNames, ListedModule, ListedRegion, ListedSymbol, names_in, IsPlaced, PlacedModule, are_few, placed_line, AreSoundModules, AreApart, are_beside, is_apart, lie_apart, Core}
 use Rattle.modules.proofs.RegionLemmas.{HasFew, IsPlaced-placed, few_placed}
 
 pub turned : (r s : ℕ × ℕ) → is_apart r s ≡ true → is_apart s r ≡ true
 turned r s h = grind (arith, nat_tests)
 
 pub AreApart-push : (regions : List (ℕ × ℕ)) (r : ℕ × ℕ) → AreApart regions → r.0 < r.1 → list_all (is_apart r) regions ≡ true → AreApart (regions ++ r ∷ [])
-AreApart-push regions r apart valid beside =
-    record {
-      valid = All-push (λ (x : ℕ × ℕ). x.0 < x.1) regions r apart.valid valid;
-      apart = all_pairs_push (λ (x y : ℕ × ℕ). is_apart x y ≡ true) regions r apart.apart (λ k d lt. turned r (get_or regions k d) (AllPass-from_list_all (is_apart r) regions beside k d lt));
-    }
+AreApart-push regions r apart valid beside = grind (arith, common_steps, All-push, all_pairs_push, turned, AllPass-from_list_all)
 
 pub AreDistinct-push : (names : List (List ℕ)) (n : List ℕ) → AreDistinctNames names → list_any (bytes_eq n) names ≡ false → AreDistinctNames (names ++ n ∷ [])
-AreDistinct-push names n distinct absent =
-    all_pairs_push (λ (x y : List ℕ). x ≢ y) names n distinct (λ k d lt same.
-    let some : list_any (bytes_eq n) names ≡ true = list_any_at (bytes_eq n) names k d lt ((bytes_decides n (get_or names k d)).1 (sym same)) in
-    cc)
+AreDistinct-push names n distinct absent = grind (arith, common_steps, all_pairs_push, list_any_at, bytes_decides)
 
 -- regions that lie beside those taken still do once a region that is apart from them is taken too
 pub beside_more : (taken_regions : List (ℕ × ℕ)) (r : ℕ × ℕ) (rs : List (ℕ × ℕ)) → are_beside taken_regions rs ≡ true → list_all (is_apart r) rs ≡ true → are_beside (taken_regions ++ r ∷ []) rs ≡ true
@@ -39,9 +32,7 @@ AreApart-append taken_regions (r ∷ rs) apart valid lie beside =
     subst AreApart (append_assoc taken_regions (r ∷ []) rs) (AreApart-append (taken_regions ++ r ∷ []) rs one (All-tail (λ (x : ℕ × ℕ). x.0 < x.1) r rs valid) lies.1 (beside_more taken_regions r rs besides.1 lies.0))
 
 pub taken_more : (a : Accepted) (m : PlacedModule) → taken_regions (record a { modules = a.modules ++ m ∷ [] }) ≡ taken_regions a ++ m.regions
-taken_more a m =
-    ap (λ rs. a.built_in ++ rs) (flat_map-append (λ (n : PlacedModule). n.regions) a.modules (m ∷ []) ∙ ap (λ rs. flat_map (λ (n : PlacedModule). n.regions) a.modules ++ rs) (append-nil m.regions))
-    ∙ sym (append_assoc a.built_in (flat_map (λ (n : PlacedModule). n.regions) a.modules) m.regions)
+taken_more a m = grind (arith, flat_map-append, append-nil, append_assoc)
 
 names_more : (a : Accepted) (m : PlacedModule) → names_of (a.modules ++ m ∷ []) ≡ names_of a.modules ++ m.name ∷ []
 names_more a m = map-append (λ (n : PlacedModule). n.name) a.modules (m ∷ [])
@@ -68,19 +59,12 @@ AreSoundModules-fold a [] good all = good
 AreSoundModules-fold a (m ∷ ms) good all = AreSoundModules-fold (after_module a m) ms (AreSoundModules-after_module a m good (All-head IsPlaced m ms all)) (All-tail IsPlaced m ms all)
 
 pub AreSoundModules-none : (built_in : List (ℕ × ℕ)) → AreApart built_in → AreSoundModules (none_yet built_in)
-AreSoundModules-none built_in apart =
-    record {
-      placed = All-nil IsPlaced;
-      distinct = AllPairs-few (λ (x y : List ℕ). x ≢ y) [] (omega arith);
-      apart = subst AreApart (sym (append-nil built_in)) apart;
-    }
+AreSoundModules-none built_in apart = grind (arith, All-nil, AllPairs-few, append-nil)
 
 -- ---- the regions of the kernel itself
 
 picked : (start end : ℕ) → IfSome {T = ℕ × ℕ} (cond (nat_lt start end) (Some (start, end)) None) (λ r. r.0 < r.1)
-picked start end =
-    elim (nat_lt start end) as (λ b. nat_lt start end ≡ b → IfSome {T = ℕ × ℕ} (cond b (Some (start, end)) None) (λ r. r.0 < r.1))
-    [ true ↦ λ h. grind (arith, nat_tests) | false ↦ λ h. tt ] refl
+picked start end = grind (arith, nat_tests)
 
 -- a region between two symbols has an address
 pub valid_built_in : (start end : Option ℕ) → IfSome {T = ℕ × ℕ} (option_and_then (λ s. option_and_then (λ e. cond (nat_lt s e) (Some (s, e)) None) end) start) (λ r. r.0 < r.1)
@@ -102,9 +86,7 @@ apart_one r valid = AreApart-push [] r apart_none valid refl
 
 apart_with : (regions : List (ℕ × ℕ)) (region : Option (ℕ × ℕ)) → AreApart regions → IsValid region → AreApart (with_apart regions region)
 apart_with regions None apart valid = apart
-apart_with regions (Some r) apart valid =
-    elim (list_all (is_apart r) regions) as (λ b. list_all (is_apart r) regions ≡ b → AreApart (cond b (regions ++ r ∷ []) regions))
-    [ true ↦ λ beside. AreApart-push regions r apart valid beside | false ↦ λ _. apart ] refl
+apart_with regions (Some r) apart valid = grind (arith, AreApart-push)
 
 apart_listed : (region : Option (ℕ × ℕ)) → IsValid region → AreApart (option_to_list region)
 apart_listed None valid = apart_none
@@ -115,10 +97,7 @@ apart_or None rest valid apart = apart
 apart_or (Some r) rest valid apart = apart_one r valid
 
 pub kernel_apart : (names : Option BoundNames) (lines : List ListedSymbol) → AreApart (kernel_regions names lines)
-kernel_apart None lines =
-    let text : Option (ℕ × ℕ) = built_in_region text_bounds lines in
-    apart_or (built_in_region usual_bounds lines) (code_regions lines) (valid_region usual_bounds lines)
-    (apart_with (with_apart [] text) (built_in_region start_bounds lines) (apart_with [] text apart_none (valid_region text_bounds lines)) (valid_region start_bounds lines))
+kernel_apart None lines = search (rules, apart_or, valid_region, apart_with)
 kernel_apart (Some names) lines = apart_listed (built_in_region names lines) (valid_region names lines)
 
 -- as the test of a list has it
@@ -135,9 +114,7 @@ none_beside (r ∷ rs) = none_beside rs
 
 length_with : (regions : List (ℕ × ℕ)) (region : Option (ℕ × ℕ)) → length (with_apart regions region) ≤ length regions + 1
 length_with regions None = omega arith
-length_with regions (Some r) =
-    elim (list_all (is_apart r) regions) as (λ b. length (cond b (regions ++ r ∷ []) regions) ≤ length regions + 1)
-    [ true ↦ omega (arith, length-append regions (r ∷ [])) | false ↦ omega arith ]
+length_with regions (Some r) = grind (arith, length-append)
 
 length_listed : (region : Option (ℕ × ℕ)) → length (option_to_list region) ≤ 1
 length_listed None = omega arith
@@ -149,9 +126,7 @@ length_or (Some r) rest few = omega arith
 
 -- there are two at most
 pub two_of_kernel : (names : Option BoundNames) (lines : List ListedSymbol) → length (kernel_regions names lines) ≤ 2
-two_of_kernel None lines =
-    let text : Option (ℕ × ℕ) = built_in_region text_bounds lines in
-    length_or (built_in_region usual_bounds lines) (code_regions lines) (omega (arith, length_with [] text, length_with (with_apart [] text) (built_in_region start_bounds lines)))
+two_of_kernel None lines = grind (arith, length_or, length_with)
 two_of_kernel (Some names) lines = omega (arith, length_listed (built_in_region names lines))
 
 pub all_placed : (regions : List ListedRegion) (modules : List ListedModule) → All (λ l. fits l ≡ true) modules → All (λ l. region_fits l ≡ true) regions → All IsPlaced (map (placed_line regions) modules)
@@ -165,11 +140,7 @@ accepted_good names modules regions symbols fit regions_fit = AreSoundModules-fo
 -- ---- of the catalog
 
 built_in_after : (a : Accepted) (m : PlacedModule) → (after_module a m).built_in ≡ a.built_in
-built_in_after a m =
-    elim (list_any (bytes_eq m.name) (names_of a.modules)) as (λ b. (cond b (record a { double = a.double + 1 }) (cond (lie_apart m.regions && are_beside (taken_regions a) m.regions) (record a { modules = a.modules ++ m ∷ [] }) (record a { overlap = a.overlap + 1 }))).built_in ≡ a.built_in) [
-      | true ↦ refl
-      | false ↦ elim (lie_apart m.regions && are_beside (taken_regions a) m.regions) as (λ b. (cond b (record a { modules = a.modules ++ m ∷ [] }) (record a { overlap = a.overlap + 1 })).built_in ≡ a.built_in) [ true ↦ refl | false ↦ refl ]
-    ]
+built_in_after a m = grind arith
 
 pub built_in_kept : (a : Accepted) (ms : List PlacedModule) → (fold after_module a ms).built_in ≡ a.built_in
 built_in_kept a [] = refl
@@ -215,27 +186,17 @@ IsSound-catalog_with a symbols good =
     }
 
 pub IsSound-catalog_of : (names : Option BoundNames) (modules : List ListedModule) (regions : List ListedRegion) (symbols : List ListedSymbol) → All (λ l. fits l ≡ true) modules → All (λ l. region_fits l ≡ true) regions → IsSoundCatalog (catalog_of names modules regions symbols)
-IsSound-catalog_of names modules regions symbols fit regions_fit =
-    IsSound-catalog_with (accepted_of (kernel_regions names symbols) regions modules) symbols (accepted_good names modules regions symbols fit regions_fit)
+IsSound-catalog_of names modules regions symbols fit regions_fit = search (rules, IsSound-catalog_with, accepted_good)
 
 -- how many regions the kernel itself and the modules have
 pub count_of_regions : (built_in : List (ℕ × ℕ)) (symbols : List SymbolEntry) (modules : List ModuleEntry) → length built_in + length (flat_map (λ m. m.regions) modules) ≡ length (flat_map (λ m. m.regions) (option_to_list (built_in_with built_in symbols) ++ modules))
 count_of_regions [] symbols modules = omega arith
 count_of_regions (r ∷ rs) symbols modules = sym (length-append (r ∷ rs) (flat_map (λ (x : ModuleEntry). x.regions) modules))
 
--- each line in turn, at its module, as the modules in turn
-pub fold_placed : (regions : List ListedRegion) (a : Accepted) (lines : List ListedModule) → fold (λ b x. after_module b (placed_line regions x)) a lines ≡ fold after_module a (map (placed_line regions) lines)
-fold_placed regions a [] = refl
-fold_placed regions a (l ∷ ls) = fold_placed regions (after_module a (placed_line regions l)) ls
-
 -- ---- how many regions
 
 few_after : (a : Accepted) (m : PlacedModule) → All HasFew a.modules → HasFew m → All HasFew (after_module a m).modules
-few_after a m all few =
-    elim (list_any (bytes_eq m.name) (names_of a.modules)) as (λ b. All HasFew (cond b (record a { double = a.double + 1 }) (cond (lie_apart m.regions && are_beside (taken_regions a) m.regions) (record a { modules = a.modules ++ m ∷ [] }) (record a { overlap = a.overlap + 1 }))).modules) [
-      | true ↦ all
-      | false ↦ elim (lie_apart m.regions && are_beside (taken_regions a) m.regions) as (λ b. All HasFew (cond b (record a { modules = a.modules ++ m ∷ [] }) (record a { overlap = a.overlap + 1 })).modules) [ true ↦ All-push HasFew a.modules m all few | false ↦ all ]
-    ]
+few_after a m all few = grind (arith, common_steps, HasFew, All-push)
 
 few_fold : (regions : List ListedRegion) (a : Accepted) (modules : List ListedModule) → are_few regions ≡ true → All HasFew a.modules → All HasFew (fold after_module a (map (placed_line regions) modules)).modules
 few_fold regions a [] few all = all
@@ -250,25 +211,15 @@ few_entries symbols (m ∷ ms) all = All-cons (λ (x : ModuleEntry). length x.re
 
 -- no module of the catalog of listings has more than seven
 pub few_in_catalog : (names : Option BoundNames) (modules : List ListedModule) (regions : List ListedRegion) (symbols : List ListedSymbol) → are_few regions ≡ true → All (λ m. length m.regions ≤ 7) (catalog_of names modules regions symbols).modules
-few_in_catalog names modules regions symbols few =
-    few_entries symbols (accepted_of (kernel_regions names symbols) regions modules).modules (accepted_few (kernel_regions names symbols) regions modules few)
+few_in_catalog names modules regions symbols few = grind (arith, few_entries, accepted_few)
 
 -- so many modules of at most seven regions
 few_regions : (ms : List PlacedModule) → All HasFew ms → length (flat_map (λ (m : PlacedModule). m.regions) ms) ≤ 7 * length ms
 few_regions [] all = omega arith
-few_regions (m ∷ ms) all =
-    let one : length m.regions ≤ 7 = All-head HasFew m ms all in
-    omega (arith, one, few_regions ms (All-tail HasFew m ms all), length-append m.regions (flat_map (λ (n : PlacedModule). n.regions) ms))
+few_regions (m ∷ ms) all = grind (arith, All-head, HasFew, All-tail, length-append, few_regions ms (All-tail HasFew m ms all))
 
 count_after : (a : Accepted) (m : PlacedModule) → length (after_module a m).modules ≤ length a.modules + 1
-count_after a m =
-    elim (list_any (bytes_eq m.name) (names_of a.modules)) as (λ b. length (cond b (record a { double = a.double + 1 }) (cond (lie_apart m.regions && are_beside (taken_regions a) m.regions) (record a { modules = a.modules ++ m ∷ [] }) (record a { overlap = a.overlap + 1 }))).modules ≤ length a.modules + 1) [
-      | true ↦ omega arith
-      | false ↦ elim (lie_apart m.regions && are_beside (taken_regions a) m.regions) as (λ b. length (cond b (record a { modules = a.modules ++ m ∷ [] }) (record a { overlap = a.overlap + 1 })).modules ≤ length a.modules + 1) [
-        | true ↦ omega (arith, length-append a.modules (m ∷ []))
-        | false ↦ omega arith
-      ]
-    ]
+count_after a m = grind (arith, length-append)
 
 count_fold : (a : Accepted) (ms : List PlacedModule) → length (fold after_module a ms).modules ≤ length a.modules + length ms
 count_fold a [] = omega arith
@@ -276,11 +227,4 @@ count_fold a (m ∷ ms) = omega (arith, count_fold (after_module a m) ms, count_
 
 -- no more than seven regions a line of a module
 pub few_accepted : (built_in : List (ℕ × ℕ)) (regions : List ListedRegion) (modules : List ListedModule) → are_few regions ≡ true → length (flat_map (λ m. m.regions) (accepted_of built_in regions modules).modules) ≤ 7 * length modules
-few_accepted built_in regions modules few =
-    let placed : List PlacedModule = map (placed_line regions) modules in
-    omega (
-      arith,
-      few_regions (accepted_of built_in regions modules).modules (accepted_few built_in regions modules few),
-      count_fold (none_yet built_in) placed,
-      length-map modules (placed_line regions),
-    )
+few_accepted built_in regions modules few = grind (arith, few_regions, accepted_few, count_fold, length-map)

@@ -1,5 +1,5 @@
 -- Each module has a region of its core.
-use Rattle.modules.proofs.Words.{◌≡◌, ℕ, ◌<◌, true, List, length, get_or, Some, None, Option, refl, sym, ap, ◌∙◌, arith, is_some, position, slice_get, option_and_then, option_map}
+use Rattle.modules.proofs.Words.{◌≡◌, ℕ, ◌<◌, true, List, length, get_or, Some, None, Option, sym, ap, ◌∙◌, arith, is_some, position, slice_get, option_and_then, option_map}
 use Rattle.modules.proofs.Lemmas.{position_from-zero, position-Some, slice_get-get_or, Some_ne_None, is_some-position_from}
 use Rattle.modules.proofs.Definitions.{placed_module_of, ModuleEntry, is_core, IsPlaced, first_start, start_at, Part, Core}
 
@@ -12,7 +12,4 @@ start_by (Some k) regions parts is some same none =
     Some_ne_None (get_or regions k (0, 0)).0 (sym (ap (option_map (λ (r : ℕ × ℕ). r.0)) here) ∙ none)
 
 pub core_starts : (m : ModuleEntry) → IsPlaced (placed_module_of m) → first_start is_core m ≡ None → ⊥
-core_starts m placed none =
-    start_by (position is_core m.parts) m.regions m.parts refl
-    (ap is_some (position_from-zero is_core m.parts) ∙ is_some-position_from is_core 0 m.parts ∙ placed.some_core)
-    placed.same none
+core_starts m placed none = grind (arith, start_by, position_from-zero, is_some-position_from)

@@ -1,6 +1,6 @@
 -- What one step of the sweep adds.
 use Rattle.modules.proofs.Words.{◌≡◌, ℕ, ◌+◌, ◌-◌, ◌^◌, ◌<◌, ◌≤◌, true, List, length, get_or, ap, sym, subst, ◌∙◌, inl, inr, ⊎_elim, arith, ◌≢◌, ◌⊎◌, ◌↔◌, IsNonDecreasingBy}
-use Rattle.modules.proofs.Lemmas.{cases_lt, get_or_default}
+use Rattle.modules.proofs.Lemmas.{cases_lt, get_or_default, common_steps}
 use Rattle.modules.proofs.Definitions.{Item, HoldsFor, GoesOn, IsFirstMark, IsNearestMark, IsNextMark, Owns, is_in_page, reach, Mark}
 
 -- of the marks below a place, this is the first of the greatest address
@@ -18,22 +18,10 @@ AreAbove marks done next = (k : ℕ) (d : Mark) → done ≤ k → k < length ma
 -- ---- the nearest mark
 
 first_mark : (marks : List Mark) (done : ℕ) (from : Mark) → IsFrom marks done from → IsFirstMark marks from
-first_mark marks done from is = record {
-  place = is.place;
-  within = is.within;
-  listed = is.listed;
-  first = λ k d less e. (let f = is.first k d less in omega arith);
-}
+first_mark marks done from is = grind arith
 
 pub nearest_from : (marks : List Mark) (done : ℕ) (from : Mark) (next x : ℕ) → IsFrom marks done from → AreAbove marks done next → from.addr ≤ x → x < next → IsNearestMark marks x from
-nearest_from marks done from next x is rest le lt = record {
-  its = first_mark marks done from is;
-  below = le;
-  clear = λ k d within. ⊎_elim
-      (λ less. inl (is.greatest k d less within))
-      (λ ge. inr (let r = rest k d ge within in omega arith))
-      (cases_lt k done);
-}
+nearest_from marks done from next x is rest le lt = grind (arith, first_mark, cases_lt)
 
 address_at : (marks : List Mark) (l : Mark) (p : IsFirstMark marks l) → (get_or marks p.place l).addr ≡ l.addr
 address_at marks l p = ap (λ (s : Mark). s.addr) p.listed
@@ -43,56 +31,24 @@ place_ge : (marks : List Mark) (l n : Mark) → (p : IsFirstMark marks l) → (q
 place_ge marks l n p q same lt = let e = address_at marks l p in q.first p.place l lt (omega arith)
 
 first_is_one : (marks : List Mark) (l n : Mark) → IsFirstMark marks l → IsFirstMark marks n → l.addr ≡ n.addr → l ≡ n
-first_is_one marks l n p q same =
-    ⊎_elim
-    (λ lt. absurd (place_ge marks l n p q same lt))
-    (λ ge. ⊎_elim
-    (λ lt. absurd (place_ge marks n l q p (sym same) lt))
-    (λ le. let e : p.place ≡ q.place = omega arith in
-    sym p.listed ∙ get_or_default marks p.place l n p.within ∙ ap (λ k. get_or marks k n) e ∙ q.listed)
-    (cases_lt q.place p.place))
-    (cases_lt p.place q.place)
+first_is_one marks l n p q same = grind (arith, place_ge, get_or_default, cases_lt)
 
 nearest_le : (marks : List Mark) (x : ℕ) (l n : Mark) → IsNearestMark marks x l → IsNearestMark marks x n → l.addr ≤ n.addr
-nearest_le marks x l n p q =
-    let e = address_at marks l p.its in
-    let b = p.below in
-    ⊎_elim (λ le. omega arith) (λ lt. absurd (omega arith)) (q.clear p.its.place l p.its.within)
+nearest_le marks x l n p q = grind (arith, address_at)
 
 -- there is one
 pub nearest_is_one : (marks : List Mark) (x : ℕ) (l n : Mark) → IsNearestMark marks x l → IsNearestMark marks x n → l ≡ n
-nearest_is_one marks x l n p q =
-    let a = nearest_le marks x l n p q in
-    let b = nearest_le marks x n l q p in
-    first_is_one marks l n p.its q.its (omega arith)
+nearest_is_one marks x l n p q = grind (arith, common_steps, nearest_le, first_is_one)
 
 next_le : (marks : List Mark) (x : ℕ) (l n : Mark) → IsNextMark marks x l → IsNextMark marks x n → n.addr ≤ l.addr
-next_le marks x l n p q =
-    let e = address_at marks l p.its in
-    let b = p.above in
-    ⊎_elim (λ le. absurd (omega arith)) (λ ge. omega arith) (q.clear p.its.place l p.its.within)
+next_le marks x l n p q = grind (arith, address_at)
 
 next_is_one : (marks : List Mark) (x : ℕ) (l n : Mark) → IsNextMark marks x l → IsNextMark marks x n → l ≡ n
-next_is_one marks x l n p q =
-    let a = next_le marks x l n p q in
-    let b = next_le marks x n l q p in
-    first_is_one marks l n p.its q.its (omega arith)
+next_is_one marks x l n p q = grind (arith, common_steps, next_le, first_is_one)
 
 -- the mark at a place is the next of those that lie above the ones before it
 next_at : (marks : List Mark) (done : ℕ) (from next : Mark) (x : ℕ) → IsFrom marks done from → AreAbove marks done next.addr → done < length marks → get_or marks done next ≡ next → from.addr ≤ x → x < next.addr → IsNextMark marks x next
-next_at marks done from next x is rest within at le lt = record {
-  its = record {
-    place = done;
-    within = within;
-    listed = at;
-    first = λ k d less e. (let g = is.greatest k d less (omega arith) in omega arith);
-  };
-  above = lt;
-  clear = λ k d inside. ⊎_elim
-      (λ less. inl (let g = is.greatest k d less inside in omega arith))
-      (λ ge. inr (rest k d ge inside))
-      (cases_lt k done);
-}
+next_at marks done from next x is rest within at le lt = grind (arith, cases_lt)
 
 -- ---- how far a mark's addresses go
 
@@ -119,18 +75,7 @@ reached_before marks done from next end is rest within at exact x le lt =
 pub reached_last : (marks : List Mark) (done : ℕ) (from : Mark) (end : ℕ) → IsFrom marks done from → length marks ≤ done
     → ((x : ℕ) → from.addr ≤ x → x < 2 ^ 64 - 1 → (is_in_page from.addr x ≡ true) ↔ (x < end))
     → (x : ℕ) → from.addr ≤ x → x < 2 ^ 64 - 1 → (x < end) ↔ IsReached marks from x
-reached_last marks done from end is all exact x le lt = (
-  λ h. inl ((exact x le lt).1 h),
-  λ h. (exact x le lt).0 (⊎_elim
-      (λ page. page)
-      (λ on.
-      let f : IsFirstMark marks on.mark = on.next.its in
-      let e = address_at marks on.mark f in
-      let g = is.greatest f.place on.mark (let w = f.within in omega arith) f.within in
-      let a = on.next.above in
-      absurd (omega arith))
-      h),
-)
+reached_last marks done from end is all exact x le lt = grind (arith, address_at)
 
 -- ---- the items of the addresses so far
 
@@ -185,43 +130,15 @@ exact_none marks items from rising is none m x = (
 -- ---- the first mark of the greatest address so far
 
 pub from_first : (marks : List Mark) (from : Mark) → 0 < length marks → get_or marks 0 from ≡ from → IsFrom marks 0 from
-from_first marks from some is = record {
-  place = 0;
-  within = some;
-  listed = is;
-  first = λ k d lt. absurd (omega arith);
-  greatest = λ k d lt within. absurd (omega arith);
-}
+from_first marks from some is = grind arith
 
 -- the next mark lies above
 pub from_next : (marks : List Mark) (done : ℕ) (from next : Mark) → IsNonDecreasingBy (λ l. l.addr) marks → IsFrom marks done from → done < length marks → get_or marks done next ≡ next → from.addr < next.addr → IsFrom marks (done + 1) next
-from_next marks done from next rising is within at above = record {
-  place = done;
-  within = within;
-  listed = at;
-  first = λ k d lt. (let g = is.greatest k d lt (omega arith) in omega arith);
-  greatest = λ k d lt inside.
-      let up : (get_or marks k next).addr ≤ (get_or marks done next).addr = rising k done next (omega arith) within in
-      let e : (get_or marks done next).addr ≡ next.addr = ap (λ (s : Mark). s.addr) at in
-      let f : (get_or marks k d).addr ≡ (get_or marks k next).addr = ap (λ (s : Mark). s.addr) (get_or_default marks k d next inside) in
-      omega arith;
-}
+from_next marks done from next rising is within at above = grind (arith, get_or_default)
 
 -- the next mark does not
 pub from_same : (marks : List Mark) (done : ℕ) (from next : Mark) → IsFrom marks done from → get_or marks done next ≡ next → next.addr ≤ from.addr → IsFrom marks (done + 1) from
-from_same marks done from next is at below = record {
-  place = is.place;
-  within = is.within;
-  listed = is.listed;
-  first = is.first;
-  greatest = λ k d lt inside. ⊎_elim
-      (λ less. is.greatest k d less inside)
-      (λ ge.
-      let same : k ≡ done = omega arith in
-      let f : (get_or marks k d).addr ≡ next.addr = ap (λ (s : Mark). s.addr) (get_or_default marks k d next inside ∙ ap (λ j. get_or marks j next) same ∙ at) in
-      omega arith)
-      (cases_lt k done);
-}
+from_same marks done from next is at below = grind (arith, get_or_default, cases_lt)
 
 pub is_above : (marks : List Mark) (done : ℕ) (next : Mark) → IsNonDecreasingBy (λ l. l.addr) marks → get_or marks done next ≡ next → AreAbove marks done next.addr
 is_above marks done next rising at = λ k d le inside.

@@ -1,7 +1,7 @@
 -- The regions of numbers, of which some are taken.
-use Rattle.modules.proofs.Words.{◌≡◌, ◌≢◌, ℕ, zero, suc, zero-add, ◌+◌, ◌<◌, ◌≤◌, Bool, true, false, ◌||◌, nat_eq, cond, List, [], ◌∷◌, ◌++◌, length, get_or, map, take, Option, Some, None, refl, sym, ap, subst, ◌∙◌, ⊎_elim, arith, length-append, All, Contains, filter, fold, count_by, Vec, flat_map, list_any, option_map_or}
-use Rattle.modules.proofs.Lemmas.{set, length-set, cases_eq, eqb-true, eq-eqb, ne_eqb, or_left, or_parts, or_right, append-nil, get_or-set_other, get_or_default, map-append, take_more, All-contains, list_any-append, count_by-le-length, sum_by-append, sum_by-cons, get_or-set_at, look_is}
-use Rattle.modules.proofs.Definitions.{Item, half_open, IsLook, look, AreLeft, is_kept_mark, kept_numbers, modules_numbered, name_of, with_number, numbered_module, ranges_of, AreLaid, AreRegions, HoldsFor, PlacedModule, AreRising, Mark}
+use Rattle.modules.proofs.Words.{◌≡◌, ◌≢◌, ℕ, zero, suc, zero-add, ◌+◌, ◌<◌, ◌≤◌, Bool, true, false, ◌||◌, nat_eq, cond, List, [], ◌∷◌, ◌++◌, length, get_or, map, take, Option, Some, None, refl, sym, ap, subst, ◌∙◌, ⊎_elim, arith, length-append, All, Contains, filter, fold, count_by, Vec, flat_map, list_any, option_map_or, rules}
+use Rattle.modules.proofs.Lemmas.{set, length-set, cases_eq, eqb-true, eq-eqb, ne_eqb, or_left, or_parts, or_right, append-nil, get_or-set_other, get_or_default, map-append, take_more, All-contains, list_any-append, count_by-le-length, sum_by-append, sum_by-cons, get_or-set_at, look_is, common_steps}
+use Rattle.modules.proofs.Definitions.{Item, half_open, look, AreLeft, is_kept_mark, kept_numbers, modules_numbered, name_of, with_number, numbered_module, ranges_of, AreLaid, AreRegions, HoldsFor, PlacedModule, AreRising, Mark}
 use Rattle.modules.proofs.MarkedModuleLemmas.{from_holds, spaced, valid_ranges}
 use Rattle.modules.proofs.SpacedLemmas.{lies}
 
@@ -12,9 +12,7 @@ range_of i = (i.a, i.b)
 
 ranges_more : (n : ℕ) (is : List Item) (i : Item) → ranges_of n (is ++ i ∷ []) ≡ ranges_of n is ++ cond (nat_eq i.tag n) (range_of i ∷ []) []
 ranges_more n [] i = elim (nat_eq i.tag n) as (λ b. map range_of (cond b (i ∷ []) []) ≡ cond b (range_of i ∷ []) []) [ true ↦ refl | false ↦ refl ]
-ranges_more n (j ∷ js) i =
-    elim (nat_eq j.tag n) as (λ b. map range_of (cond b (j ∷ filter (λ x. nat_eq x.tag n) (js ++ i ∷ [])) (filter (λ x. nat_eq x.tag n) (js ++ i ∷ []))) ≡ map range_of (cond b (j ∷ filter (λ x. nat_eq x.tag n) js) (filter (λ x. nat_eq x.tag n) js)) ++ cond (nat_eq i.tag n) (range_of i ∷ []) [])
-    [ true ↦ ap (λ (rs : List (ℕ × ℕ)). range_of j ∷ rs) (ranges_more n js i) | false ↦ ranges_more n js i ]
+ranges_more n (j ∷ js) i = grind (arith, ranges_more n js i)
 
 -- ---- a list at a place
 
@@ -49,11 +47,7 @@ left_more count k items i d lists v u lt is within left at pushed = (length-set 
 -- ---- one number more that is taken
 
 any_own : (taken : List ℕ) (n : ℕ) → list_any (nat_eq n) (with_number taken n) ≡ true
-any_own taken n =
-    elim (list_any (nat_eq n) taken) as (λ b. list_any (nat_eq n) taken ≡ b → list_any (nat_eq n) (cond b taken (taken ++ n ∷ [])) ≡ true) [
-      | true ↦ λ there. there
-      | false ↦ λ _. list_any-append (nat_eq n) taken (n ∷ []) ∙ or_right (list_any (nat_eq n) taken) (list_any (nat_eq n) (n ∷ [])) (or_left (nat_eq n n) false (eq-eqb n n refl))
-    ] refl
+any_own taken n = grind (arith, list_any-append, or_right, or_left, eq-eqb)
 
 any_other : (taken : List ℕ) (n j : ℕ) → j ≢ n → list_any (nat_eq j) (with_number taken n) ≡ list_any (nat_eq j) taken
 any_other taken n j differs =
@@ -83,18 +77,14 @@ left_taken count n items taken lists v within empty left = (length-set lists n v
 
 kept_by : (items : List Item) (m : Mark) (o : Option Item) → look half_open m.addr items ≡ o → option_map_or (λ (i : Item). nat_eq i.tag m.owner) o false ≡ true → (i : Item) × Contains items i × (i.tag ≡ m.owner)
 kept_by items m None at h = absurd (cc)
-kept_by items m (Some i) at h =
-    let is : IsLook half_open m.addr items (Some i) = subst (λ (o : Option Item). IsLook half_open m.addr items o) at (look_is half_open m.addr items) in
-    (i, is.0, eqb-true i.tag m.owner h)
+kept_by items m (Some i) at h = grind (arith, look_is, eqb-true)
 
 -- some item has it
 pub kept_item : (items : List Item) (m : Mark) → is_kept_mark items m ≡ true → (i : Item) × Contains items i × (i.tag ≡ m.owner)
 kept_item items m kept = kept_by items m (look half_open m.addr items) refl kept
 
 pub kept_number : (count : ℕ) (items : List Item) (m : Mark) → All (λ i. (0 < i.tag) × (i.tag ≤ count)) items → is_kept_mark items m ≡ true → (0 < m.owner) × (m.owner ≤ count)
-kept_number count items m numbered kept =
-    let (i, there, its) = kept_item items m kept in
-    subst (λ n. (0 < n) × (n ≤ count)) its (All-contains (λ (x : Item). (0 < x.tag) × (x.tag ≤ count)) items i numbered there)
+kept_number count items m numbered kept = grind (arith, kept_item, All-contains)
 
 -- and its module has a region
 kept_ranges : (items : List Item) (m : Mark) → All (λ i. i.a < i.b) items → is_kept_mark items m ≡ true → ranges_of m.owner items ≢ []
@@ -109,13 +99,8 @@ kept_ranges items m valid kept none =
 
 kept_numbers_push : (items : List Item) (acc : List ℕ) (ms : List Mark) (m : Mark) → fold with_number acc (map (λ (t : Mark). t.owner) (filter (is_kept_mark items) (ms ++ m ∷ [])))
     ≡ cond (is_kept_mark items m) (with_number (fold with_number acc (map (λ (t : Mark). t.owner) (filter (is_kept_mark items) ms))) m.owner) (fold with_number acc (map (λ (t : Mark). t.owner) (filter (is_kept_mark items) ms)))
-kept_numbers_push items acc [] m =
-    elim (is_kept_mark items m) as (λ b. fold with_number acc (map (λ (t : Mark). t.owner) (cond b (m ∷ []) [])) ≡ cond b (with_number acc m.owner) acc)
-    [ true ↦ refl | false ↦ refl ]
-kept_numbers_push items acc (x ∷ ms) m =
-    elim (is_kept_mark items x) as (λ b. fold with_number acc (map (λ (t : Mark). t.owner) (cond b (x ∷ filter (is_kept_mark items) (ms ++ m ∷ [])) (filter (is_kept_mark items) (ms ++ m ∷ []))))
-    ≡ cond (is_kept_mark items m) (with_number (fold with_number acc (map (λ (t : Mark). t.owner) (cond b (x ∷ filter (is_kept_mark items) ms) (filter (is_kept_mark items) ms)))) m.owner) (fold with_number acc (map (λ (t : Mark). t.owner) (cond b (x ∷ filter (is_kept_mark items) ms) (filter (is_kept_mark items) ms)))))
-    [ true ↦ kept_numbers_push items (with_number acc x.owner) ms m | false ↦ kept_numbers_push items acc ms m ]
+kept_numbers_push items acc [] m = grind arith
+kept_numbers_push items acc (x ∷ ms) m = grind (arith, kept_numbers_push items (with_number acc x.owner) ms m, kept_numbers_push items acc ms m)
 
 -- the numbers with that of one mark more
 pub kept_numbers_more : (items : List Item) (marks : List Mark) (k : ℕ) (d : Mark) → k < length marks
@@ -133,23 +118,14 @@ left_by false rs left is some = (refl, is)
 module _ (names : List (List ℕ)) (items : List Item) (taken : List ℕ) (m : Mark) (left : List (ℕ × ℕ)) (is : left ≡ cond (list_any (nat_eq m.owner) taken) [] (ranges_of m.owner items)) where
   -- where no regions are left its module was taken, or the mark is not kept
   pub taken_before : All (λ i. i.a < i.b) items → left ≡ [] → cond (is_kept_mark items m) (with_number taken m.owner) taken ≡ taken
-  taken_before valid none =
-      elim (is_kept_mark items m) as (λ b. is_kept_mark items m ≡ b → cond b (with_number taken m.owner) taken ≡ taken) [
-        | true ↦ λ kept.
-            let there : list_any (nat_eq m.owner) taken ≡ true = taken_by (list_any (nat_eq m.owner) taken) (ranges_of m.owner items) left is (kept_ranges items m valid kept) none in
-            ap (λ (b : Bool). cond b taken (taken ++ m.owner ∷ [])) there
-        | false ↦ λ _. refl
-      ] refl
+  taken_before valid none = grind (arith, taken_by, kept_ranges)
 
   pub own_ranges : left ≢ [] → left ≡ ranges_of m.owner items
   own_ranges some = (left_by (list_any (nat_eq m.owner) taken) (ranges_of m.owner items) left is some).1
 
   -- one that was not has all of its regions
   pub taken_now : left ≢ [] → modules_numbered names items taken ++ numbered_module m.owner (name_of names m.owner) items ∷ [] ≡ modules_numbered names items (with_number taken m.owner)
-  taken_now some =
-      let absent : list_any (nat_eq m.owner) taken ≡ false = (left_by (list_any (nat_eq m.owner) taken) (ranges_of m.owner items) left is some).0 in
-      sym (map-append (λ n. numbered_module n (name_of names n) items) taken (m.owner ∷ []))
-      ∙ ap (λ (b : Bool). modules_numbered names items (cond b taken (taken ++ m.owner ∷ []))) (sym absent)
+  taken_now some = grind (arith, left_by, map-append)
 
 -- what is left is empty, or rises
 pub left_rising : (n : ℕ) (items : List Item) (taken : List ℕ) (left : List (ℕ × ℕ)) → AreLaid items → left ≡ cond (list_any (nat_eq n) taken) [] (ranges_of n items) → AreRising left
@@ -162,14 +138,11 @@ left_rising n items taken left laid is = subst AreRising (sym is) (by (list_any 
 -- ---- there are no more regions than items
 
 range_count : (i : Item) (is : List Item) (n : ℕ) → length (ranges_of n (i ∷ is)) ≡ cond (nat_eq i.tag n) 1 0 + length (ranges_of n is)
-range_count i is n =
-    elim (nat_eq i.tag n) as (λ b. length (map range_of (cond b (i ∷ filter (λ x. nat_eq x.tag n) is) (filter (λ x. nat_eq x.tag n) is))) ≡ cond b 1 0 + length (ranges_of n is))
-    [ true ↦ omega arith | false ↦ omega arith ]
+range_count i is n = grind arith
 
 one_item : (i : Item) (is : List Item) (ns : List ℕ) → length (flat_map (λ n. ranges_of n (i ∷ is)) ns) ≡ count_by (nat_eq i.tag) ns + length (flat_map (λ n. ranges_of n is) ns)
 one_item i is [] = omega arith
-one_item i is (n ∷ ns) =
-    omega (arith, one_item i is ns, range_count i is n, sum_by-cons (λ (x : ℕ). cond (nat_eq i.tag x) 1 0) n ns, length-append (ranges_of n (i ∷ is)) (flat_map (λ x. ranges_of x (i ∷ is)) ns), length-append (ranges_of n is) (flat_map (λ x. ranges_of x is) ns))
+one_item i is (n ∷ ns) = grind (arith, common_steps, range_count, sum_by-cons, length-append, one_item i is ns)
 
 no_items : (ns : List ℕ) → length (flat_map (λ n. ranges_of n []) ns) ≡ 0
 no_items [] = refl
@@ -210,9 +183,7 @@ regions_of_numbered names items [] = refl
 regions_of_numbered names items (n ∷ ns) = ap (λ (rs : List (ℕ × ℕ)). ranges_of n items ++ rs) (regions_of_numbered names items ns)
 
 pub few_regions : (names : List (List ℕ)) (items : List Item) (marks : List Mark) → length (flat_map (λ (m : PlacedModule). m.regions) (modules_numbered names items (kept_numbers items marks))) ≤ length items
-few_regions names items marks =
-    let once : AreOnce (kept_numbers items marks) = once_all (map (λ (m : Mark). m.owner) (filter (is_kept_mark items) marks)) [] (λ t. omega arith) in
-    omega (arith, few_ranges items (kept_numbers items marks) once, ap length (regions_of_numbered names items (kept_numbers items marks)))
+few_regions names items marks = search (rules, once_all, few_ranges, regions_of_numbered)
 
 -- ---- the numbers of the items
 

@@ -1,32 +1,14 @@
 -- The symbols of a module that lie in one of its regions.
-use Rattle.modules.proofs.Words.{◌≡◌, ℕ, ◌<◌, ◌≤◌, Bool, true, false, ◌&&◌, ◌||◌, not, nat_lt, nat_le, cond, min, List, get_or, Some, None, Option, refl, ap, ◌∙◌, arith, find, unwrap_or, list_all, option_map}
+use Rattle.modules.proofs.Words.{◌≡◌, ℕ, ◌<◌, ◌≤◌, ◌&&◌, nat_lt, nat_le, cond, min, List, Some, None, Option, ap, ◌∙◌, arith, find, unwrap_or, option_map}
 use Rattle.modules.proofs.Lemmas.{le-leb, leb-true, lt-leb, lt-ltb, ltb-false, ltb-true, le_or_past_within, least_above_within, find-agree, find-both_none, find-both_some, find-filter, list_all-agree, list_all-filter, and-needless_first, and-needless_second}
-use Rattle.modules.proofs.Definitions.{address_above, is_nearest, is_next, symbol_below, SymbolEntry, holds, symbols_from}
+use Rattle.modules.proofs.Definitions.{address_above, is_nearest, is_next, symbol_below, SymbolEntry, symbols_from}
 use Rattle.modules.proofs.AroundLemmas.{one_nearest, one_next}
 
 below_within : (symbols : List SymbolEntry) (start end addr : ℕ) → start ≤ addr → addr < end → symbol_below (symbols_from symbols start end) addr ≡ find (λ s. nat_le start s.addr && is_nearest symbols addr s) symbols
-below_within symbols start end addr from below =
-    let inside : SymbolEntry → Bool = λ s. holds (start, end) s.addr in
-    find-filter (is_nearest (symbols_from symbols start end) addr) inside symbols
-    ∙ find-agree (λ s. inside s && is_nearest (symbols_from symbols start end) addr s) (λ s. nat_le start s.addr && is_nearest symbols addr s) symbols (λ k d lt.
-    let s = get_or symbols k d in
-    and-needless_second (nat_le start s.addr) (nat_lt s.addr end) (nat_le s.addr addr)
-    (list_all (λ (t : SymbolEntry). nat_le t.addr s.addr || nat_lt addr t.addr) (symbols_from symbols start end))
-    (list_all (λ (t : SymbolEntry). nat_le t.addr s.addr || nat_lt addr t.addr) symbols)
-    (λ a b. let low : s.addr ≤ addr = leb-true s.addr addr b in lt-ltb s.addr end (omega arith))
-    (λ a. list_all-filter (λ (t : SymbolEntry). nat_le t.addr s.addr || nat_lt addr t.addr) inside symbols ∙ list_all-agree (λ (t : SymbolEntry). not (inside t) || (nat_le t.addr s.addr || nat_lt addr t.addr)) (λ (t : SymbolEntry). nat_le t.addr s.addr || nat_lt addr t.addr) symbols (λ j e l. le_or_past_within (get_or symbols j e).addr s.addr addr start end (leb-true start s.addr a) below)))
+below_within symbols start end addr from below = grind (arith, find-filter, find-agree, and-needless_second, leb-true, lt-ltb, list_all-filter, list_all-agree, le_or_past_within)
 
 above_within : (symbols : List SymbolEntry) (start end addr : ℕ) → start ≤ addr → find (is_next (symbols_from symbols start end) addr) (symbols_from symbols start end) ≡ find (λ s. nat_lt s.addr end && is_next symbols addr s) symbols
-above_within symbols start end addr from =
-    let inside : SymbolEntry → Bool = λ s. holds (start, end) s.addr in
-    find-filter (is_next (symbols_from symbols start end) addr) inside symbols
-    ∙ find-agree (λ s. inside s && is_next (symbols_from symbols start end) addr s) (λ s. nat_lt s.addr end && is_next symbols addr s) symbols (λ k d lt.
-    let s = get_or symbols k d in
-    and-needless_first (nat_le start s.addr) (nat_lt s.addr end) (nat_lt addr s.addr)
-    (list_all (λ (t : SymbolEntry). nat_le t.addr addr || nat_le s.addr t.addr) (symbols_from symbols start end))
-    (list_all (λ (t : SymbolEntry). nat_le t.addr addr || nat_le s.addr t.addr) symbols)
-    (λ c. let high : addr < s.addr = ltb-true addr s.addr c in le-leb start s.addr (omega arith))
-    (λ b. list_all-filter (λ (t : SymbolEntry). nat_le t.addr addr || nat_le s.addr t.addr) inside symbols ∙ list_all-agree (λ (t : SymbolEntry). not (inside t) || (nat_le t.addr addr || nat_le s.addr t.addr)) (λ (t : SymbolEntry). nat_le t.addr addr || nat_le s.addr t.addr) symbols (λ j e l. least_above_within (get_or symbols j e).addr s.addr addr start end from (ltb-true s.addr end b))))
+above_within symbols start end addr from = grind (arith, find-filter, find-agree, and-needless_first, ltb-true, le-leb, list_all-filter, list_all-agree, least_above_within)
 
 -- where no symbol of the module is below the address, none of the region is
 pub none_within : (symbols : List SymbolEntry) (start end addr : ℕ) → start ≤ addr → addr < end → symbol_below symbols addr ≡ None → symbol_below (symbols_from symbols start end) addr ≡ None
@@ -48,11 +30,7 @@ some_within symbols start end addr s from below is on =
     nearest_within symbols start end addr s from below is ∙ ap (λ b. cond b (Some s) None) (le-leb start s.addr on)
 
 reach_at : (s : SymbolEntry) (end : ℕ) → unwrap_or (option_map (λ (t : SymbolEntry). t.addr) (cond (nat_lt s.addr end) (Some s) None)) end ≡ min s.addr end
-reach_at s end =
-    elim (nat_lt s.addr end) as (λ b. nat_lt s.addr end ≡ b → unwrap_or (option_map (λ (t : SymbolEntry). t.addr) (cond b (Some s) None)) end ≡ min s.addr end) [
-      | true ↦ λ yes. let lt : s.addr < end = ltb-true s.addr end yes in omega arith
-      | false ↦ λ no. let le : end ≤ s.addr = ltb-false s.addr end no in omega arith
-    ] refl
+reach_at s end = grind (arith, ltb-true, ltb-false)
 
 reach_by : (o : Option SymbolEntry) (symbols : List SymbolEntry) (end addr : ℕ) → find (is_next symbols addr) symbols ≡ o → unwrap_or (option_map (λ (s : SymbolEntry). s.addr) (find (λ s. nat_lt s.addr end && is_next symbols addr s) symbols)) end ≡ min (unwrap_or (option_map (λ (s : SymbolEntry). s.addr) o) end) end
 reach_by None symbols end addr none =
@@ -63,6 +41,4 @@ reach_by (Some s) symbols end addr is =
 
 -- a symbol of the region reaches to the next one of the module, or to the region's end
 pub reach_within : (symbols : List SymbolEntry) (start end addr : ℕ) → start ≤ addr → unwrap_or (address_above (symbols_from symbols start end) addr) end ≡ min (unwrap_or (address_above symbols addr) end) end
-reach_within symbols start end addr from =
-    ap (λ (o : Option SymbolEntry). unwrap_or (option_map (λ (s : SymbolEntry). s.addr) o) end) (above_within symbols start end addr from)
-    ∙ reach_by (find (is_next symbols addr) symbols) symbols end addr refl
+reach_within symbols start end addr from = grind (arith, above_within, reach_by)
