@@ -10,7 +10,7 @@ pub use Rattle.modules.specs.Found.{Found, IsFound, ReachesUpTo, found_in, symbo
 pub use Rattle.modules.specs.FromSymbols.{HasItsRegions, IsFromSymbols, is_kept_line, owner_names, with_name}
 pub use Rattle.modules.specs.Gathering.{BelongsOnlyAt, CountsStay, Gathers, HasRoom, Keeps, KeepsRun, lies_for, owner_for}
 pub use Rattle.modules.specs.Grouped.{IsCut, comes_first, lines_at}
-pub use Rattle.modules.specs.Index.{HasOrdered, IsFirstBorder, IsFirstOf, IsIndex, IsOrdered, IsRising, IsSplit, IsSplitBy, IsSplitOf, comes_before, index_entries_of, symbol_of_entry}
+pub use Rattle.modules.specs.Index.{IsFirstBorder, IsFirstOf, IsIndex, IsOrdered, IsRising, IsSplit, IsSplitBy, IsSplitOf, comes_before, index_entries_of, symbol_of_entry}
 pub use Rattle.modules.specs.Items.{item_of_address, items_at, items_below, items_of}
 pub use Rattle.modules.specs.Kept.{AreDistinctNames, belongs, entry_of, is_built_in, is_kept, is_used, lies_in, symbols_that}
 pub use Rattle.modules.specs.LineMarks.{AreLeft, AreNamed, HasFirstLine, HaveFirstLines, is_kept_mark, kept_numbers, kernel_marks, line_marks, mark_of, marks_of, modules_numbered, name_of, number_for, number_in, symbol_marks, with_number, with_owner}

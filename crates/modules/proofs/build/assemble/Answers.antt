@@ -1,11 +1,7 @@
-use Rattle.modules.proofs.Words.{ap, ◌∙◌, option_copied}
-use Rattle.modules.proofs.Definitions.{Accepted, accepted_of, admission_view, catalog_with, kernel_regions, KeptCounts}
+use Rattle.modules.proofs.Words.{ap, option_copied}
+use Rattle.modules.proofs.Definitions.{accepted_of, admission_view, kernel_regions, KeptCounts}
 use Rattle.modules.proofs.MakingLemmas.{counts_from}
 use Rattle.modules.proofs.build.assemble.Goals as goal
-
-pub returns-clause-built : goal.returns-clause-built
-returns-clause-built c =
-    c.in_ok-catalog.ensures.built ∙ ap (λ (x : Accepted). catalog_with x c.args.symbols) c.in_ok-admission.ensures.accepted
 
 pub returns-clause-counted : goal.returns-clause-counted
 returns-clause-counted c =

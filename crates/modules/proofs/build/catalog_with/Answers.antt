@@ -1,4 +1,5 @@
 use Rattle.modules.proofs.Words.{◌≡◌, ◌+◌, ◌^◌, ◌<◌, List, Option, sym, ap, subst, ◌∙◌, length, length-append, map, arith, All, ◌++◌, option_to_list, flat_map}
+use Rattle.modules.proofs.Lemmas.{common_steps}
 use Rattle.modules.proofs.Definitions.{Accepted, taken_regions, AreModules, built_in_with, IsSoundCatalog, entry_for, ModuleEntry, Gathers, IsPlaced, PlacedModule}
 use Rattle.modules.proofs.SoundnessLemmas.{count_of_regions, valid_kernel, IsSound-catalog_with}
 use Rattle.modules.proofs.MakingLemmas.{catalog_from, kept_from, modules_are, regions_made}
@@ -67,16 +68,7 @@ invariant_of-catalog c =
     }
 
 pub returns-clause-built : goal.returns-clause-built
-returns-clause-built c =
-    let a : Accepted = c.args.placed in
-    let symbols = c.args.symbols in
-    let g = c.in_ok-gathered.gathered in
-    let built_in = c.in_ok-built_in.built_in in
-    let made : List ModuleEntry = c.in_ok-modules.modules.items in
-    let gathers : Gathers a symbols g = c.in_ok-gathered.ensures in
-    let others : made ≡ map (entry_for symbols) a.modules = modules_are a symbols g made gathers (subst (λ (x : Accepted). AreModules x.modules g.modules.items made) c.placed.view_is c.in_ok-modules.ensures) in
-    let first : built_in ≡ built_in_with a.built_in g.built_in.items = c.in_ok-built_in.ensures ∙ ap (λ (x : Accepted). built_in_with x.built_in g.built_in.items) c.placed.view_is in
-    catalog_from a g symbols built_in made gathers first others
+returns-clause-built c = grind (arith, common_steps, modules_are, catalog_from)
 
 pub returns-clause-counted : goal.returns-clause-counted
 returns-clause-counted c =

@@ -1,19 +1,9 @@
-use Rattle.modules.proofs.Words.{◌≡◌, ◌+◌, ◌≤◌, ℕ, suc, [], ◌∷◌, ◌++◌, length, get_or, drop, sym, ap, subst, List, ◌∙◌, arith, length-append, append_assoc, Vec, into_iter_items}
+use Rattle.modules.proofs.Words.{◌≡◌, ◌+◌, ℕ, suc, [], ◌∷◌, ◌++◌, length, get_or, drop, sym, ap, subst, List, ◌∙◌, arith, length-append, append_assoc, into_iter_items}
+use Rattle.modules.proofs.Lemmas.{common_steps}
 use Rattle.std.proofs.lemmas.List.{append-nil, nil_from_length}
-use Rattle.modules.proofs.Definitions.{EachMade, module_with, ModuleEntry, SymbolEntry, IsPlaced, PlacedModule}
+use Rattle.modules.proofs.Definitions.{EachMade, module_with, ModuleEntry, IsPlaced, PlacedModule}
 use Rattle.modules.proofs.MakingLemmas.{EachMade-push, drop_next, drop_none}
 use Rattle.modules.proofs.build.modules_from.Goals as goal
-
-pub loop-symbols-init : goal.loop-symbols-init
-loop-symbols-init c =
-    record {
-      can_next = tt;
-      finite = tt;
-      gone = sym c.into_iter-symbols-iterator.ensures.into_iter_gives.0;
-      left = c.into_iter-rest.ensures.rest;
-      count = ap length c.new-modules.ensures.items;
-      each = λ j p d m lt. absurd (omega (arith, lt));
-    }
 
 pub new-requires : goal.new-requires
 new-requires c =
@@ -25,12 +15,7 @@ new-requires c =
 
 -- there is a place for each list
 pub loop-symbols-preserved : goal.loop-symbols-preserved
-loop-symbols-preserved c =
-    let i = c.loop-symbols.invariant in
-    let done = c.loop-symbols.yielded in
-    let places = c.args.places.items in
-    let past : length places ≤ length done = drop_none places (length done) (sym i.left ∙ nil_from_length (into_iter_items c.loop-symbols.rest) (sym c.loop-symbols.rest.rest.ok.0 ∙ c.in_default.ensures.cases.0)) in
-    absurd (omega (arith, past, ap length i.gone, length-append done (into_iter_items c.loop-symbols.symbols-iterator), ap length c.in-Some.ensures.steps.0, c.requires.same))
+loop-symbols-preserved c = grind (arith, common_steps, drop_none, nil_from_length, length-append)
 
 pub loop-symbols-preserved-in_ok-push : goal.loop-symbols-preserved-in_ok-push
 loop-symbols-preserved-in_ok-push c =
@@ -52,11 +37,4 @@ loop-symbols-preserved-in_ok-push c =
     }
 
 pub returns : goal.returns
-returns c =
-    let i = c.loop-symbols.invariant in
-    let done = c.loop-symbols.yielded in
-    let all : c.args.lists.items ≡ done = i.gone ∙ ap (λ xs. done ++ xs) (nil_from_length (into_iter_items c.loop-symbols.symbols-iterator) (sym c.loop-symbols.symbols-iterator.rest.ok.0 ∙ c.in-None.ensures.steps.0)) ∙ append-nil done in
-    record {
-      same = i.count ∙ ap length (sym all);
-      each = subst (λ (ls : List (Vec SymbolEntry)). EachMade c.args.places.items ls c.loop-symbols.modules.items) (sym all) i.each;
-    }
+returns c = grind (arith, common_steps, nil_from_length, append-nil)

@@ -1,9 +1,9 @@
-use Rattle.modules.proofs.Words.{ℕ, suc, ◌<◌, List, [], ◌∷◌, ◌++◌, length, get_or, take, drop, sym, ap, ◌∙◌, arith, bytes_eq}
-use Rattle.modules.proofs.Lemmas.{get_or_default, take_push}
+use Rattle.modules.proofs.Words.{ℕ, suc, List, get_or, take, drop, sym, ap, ◌∙◌, arith, bytes_eq}
+use Rattle.modules.proofs.Lemmas.{get_or_default, take_push, common_steps}
 use Rattle.modules.proofs.Definitions.{starts_of, Core}
 use Rattle.modules.proofs.ErasingLemmas.{all_words, other_more, other_words, starts_split, wanted_more, whole_starts}
 use Rattle.modules.proofs.loads.are_starts.Goals as goal
-use Rattle.modules.proofs.loads.are_starts.Goals.{then-is_of+else-count-words+else-words-count, else-is_of, then-count-words-via-then-count-words, then-count-words-via-else-count-words+then-words-count}
+use Rattle.modules.proofs.loads.are_starts.Goals.{then-count-words-via-then-count-words, then-count-words-via-else-count-words+then-words-count}
 
 pub returns-then-count-words : goal.returns-then-count-words
 returns-then-count-words c =
@@ -25,36 +25,7 @@ returns-then-count-words c =
     ]))
 
 pub loop-place-preserved : goal.loop-place-preserved
-loop-place-preserved c =
-    let words = c.args.words.now in
-    let regions = c.args.regions.now in
-    let parts = c.args.parts.now in
-    let place = c.loop-place.place in
-    let count = c.loop-place.count in
-    let i = c.loop-place.invariant in
-    elim c.if-is_of.branch [
-      | then-is_of+else-count-words+else-words-count w ↦
-          let within : count < length words = (let other = w.if-count-words.false in omega (arith, i.bounded, other)) in
-          rw w.count-is (record {
-            begins = wanted_more c.args.core c.args.init regions parts place (0, 0) Core (omega (arith, c.requires)) (omega arith) (sym c.is_of.ensures ∙ w.if-is_of.true)
-                ∙ ap (λ (s : List ℕ). s ++ (get_or regions place (0, 0)).0 ∷ []) i.begins
-                ∙ take_push words count (get_or regions place (0, 0)).0 within
-                (sym (sym (get_or_default words count 0 (get_or regions place (0, 0)).0 within) ∙ w.if-words-count.false ∙ w.start.ensures ∙ ap (λ (x : ℕ × ℕ). x.0) (w.index-regions-place.is ∙ get_or_default regions place w.index-regions-place.result (0, 0) (omega (arith, c.requires)))));
-            bounded = omega (arith, within);
-          })
-      | else-is_of w ↦
-          rw w.count-is (record {
-            begins = other_more c.args.core c.args.init regions parts place (0, 0) Core (omega (arith, c.requires)) (omega arith) (sym c.is_of.ensures ∙ w.if-is_of.false) ∙ i.begins;
-            bounded = i.bounded;
-          })
-    ]
+loop-place-preserved c = grind (arith, common_steps, wanted_more, take_push, get_or_default, other_more)
 
 pub returns : goal.returns
-returns c =
-    let words = c.args.words.now in
-    let regions = c.args.regions.now in
-    let parts = c.args.parts.now in
-    let place = c.loop-place.place in
-    let i = c.loop-place.invariant in
-    all_words words (starts_of c.args.core c.args.init (take place regions) (take place parts)) c.loop-place.count i.begins i.bounded
-    ∙ ap (λ (s : List ℕ). bytes_eq s words) (whole_starts c.args.core c.args.init regions parts place (omega (arith, c.requires)) (omega arith))
+returns c = grind (arith, common_steps, all_words, whole_starts)

@@ -1,4 +1,5 @@
 use Rattle.std.proofs.Common.{ℕ, List, [], ◌∷◌, ◌++◌, length, get_or, take, sym, ap, ◌∙◌, arith, length-append}
+use Rattle.modules.proofs.Lemmas.{common_steps}
 use Rattle.std.proofs.lemmas.List.{get_or_default}
 use Rattle.modules.proofs.Definitions.{starts_of, Core}
 use Rattle.modules.proofs.ErasingLemmas.{none_of_length, not_only_one, only_one, other_more, wanted_more, whole_starts}
@@ -31,11 +32,7 @@ loop-place-preserved c =
     ]
 
 pub returns-then-count-eq1 : goal.returns-then-count-eq1
-returns-then-count-eq1 c =
-    let whole = whole_starts c.args.core c.args.init c.args.regions.now c.args.parts.now c.loop-place.place (omega (arith, c.requires)) (omega arith) in
-    only_one _ c.loop-place.last (sym whole ∙ c.loop-place.invariant.one c.if-count-eq1.true)
+returns-then-count-eq1 c = grind (arith, common_steps, whole_starts, only_one)
 
 pub returns-else-count-eq1 : goal.returns-else-count-eq1
-returns-else-count-eq1 c =
-    let whole = whole_starts c.args.core c.args.init c.args.regions.now c.args.parts.now c.loop-place.place (omega (arith, c.requires)) (omega arith) in
-    not_only_one _ (λ e. c.if-count-eq1.false (c.loop-place.invariant.counted ∙ ap (λ (xs : List ℕ). length xs) whole ∙ e))
+returns-else-count-eq1 c = grind (arith, common_steps, whole_starts, not_only_one)

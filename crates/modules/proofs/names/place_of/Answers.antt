@@ -1,6 +1,6 @@
-use Rattle.modules.proofs.Words.{[], get_or, rules, nat_cmp, slice_cmp}
-use Rattle.modules.proofs.Lemmas.{nat_list_cmp_total, always_returns_same, length-map, searchable_from_sorted}
-use Rattle.modules.proofs.Definitions.{ModuleEntry, names_in}
+use Rattle.modules.proofs.Words.{[], get_or, rules, nat_cmp, slice_cmp, arith}
+use Rattle.modules.proofs.Lemmas.{nat_list_cmp_total, always_returns_same, length-map, searchable_from_sorted, common_steps}
+use Rattle.modules.proofs.Definitions.{names_in}
 use Rattle.modules.proofs.NameLemmas.{found, absent, place_in}
 use Rattle.modules.proofs.names.place_of.Goals as goal
 
@@ -11,8 +11,7 @@ returns-in-Ok-clause-place c =
     found names c.args.by_name.now c.requires.indexed c.requires.distinct c.args.name.now c.in-Ok.at c.in-Ok.ensures.bound (holds 0)
 
 pub returns-in-Ok-clause-within : goal.returns-in-Ok-clause-within
-returns-in-Ok-clause-within c =
-    rw (← length-map c.args.modules.now (λ (m : ModuleEntry). m.name)) (place_in (names_in c.args.modules.now) c.args.by_name.now c.requires.indexed c.in-Ok.at 0 c.in-Ok.ensures.bound)
+returns-in-Ok-clause-within c = grind (arith, common_steps, length-map, place_in)
 
 pub returns-in-Err-clause-place : goal.returns-in-Err-clause-place
 returns-in-Err-clause-place c =

@@ -1,4 +1,5 @@
-use Rattle.std.proofs.Common.{◌≡◌, ◌+◌, ◌++◌, List, suc, take, drop, get_or, ◌∙◌, ap, sym, Some}
+use Rattle.std.proofs.Common.{◌≡◌, ◌+◌, ◌++◌, List, suc, take, drop, ◌∙◌, ap, sym, Some, arith}
+use Rattle.modules.proofs.Lemmas.{common_steps}
 use Rattle.std.proofs.lemmas.List.{take_more}
 use Rattle.modules.proofs.Definitions.{first_address, ListedSymbol, lines_of_run, lines_of_all, Run}
 use Rattle.modules.proofs.RunLemmas.{first_address-append, first_address-front, lines_of_all-at, lines_of_all-last}
@@ -17,11 +18,4 @@ returns-in-Some c =
     sym (ap (first_address name) all ∙ first_address-append name before (lines_of_run run ++ behind) c.loop-run.invariant ∙ first_address-front name (lines_of_run run) behind c.in-Some.addr found)
 
 pub loop-run-preserved : goal.loop-run-preserved
-loop-run-preserved c =
-    let name = c.args.name.now in
-    let runs = c.args.runs.now in
-    let i = c.loop-run.run-index in
-    let run : Run = c.run-item.result in
-    let more : lines_of_all (take (i + 1) runs) ≡ lines_of_all (take i runs) ++ lines_of_run run =
-    ap lines_of_all (take_more runs i run c.loop-run-test.true) ∙ lines_of_all-last (take i runs) (get_or runs i run) ∙ ap (λ (r : Run). lines_of_all (take i runs) ++ lines_of_run r) (sym c.run-item.is) in
-    ap (first_address name) more ∙ first_address-append name (lines_of_all (take i runs)) (lines_of_run run) c.loop-run.invariant ∙ sym c.in_default.ensures
+loop-run-preserved c = grind (arith, common_steps, take_more, lines_of_all-last, first_address-append)

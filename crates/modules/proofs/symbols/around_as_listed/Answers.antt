@@ -1,13 +1,12 @@
-use Rattle.std.proofs.Common.{ℕ, ◌<◌, [], arith, sym, subst, ◌∙◌}
+use Rattle.std.proofs.Common.{ℕ, ◌<◌, [], arith, sym, ◌∙◌}
+use Rattle.modules.proofs.Lemmas.{common_steps}
 use Rattle.std.proofs.lemmas.Option.{slice_get-get_or}
-use Rattle.modules.proofs.Definitions.{SymbolEntry, IsSplitOf}
+use Rattle.modules.proofs.Definitions.{SymbolEntry}
 use Rattle.modules.proofs.RisingLemmas.{none_below, first_within, first_below, above_in}
 use Rattle.modules.proofs.symbols.around_as_listed.Goals as goal
 
 pub returns-then-split-eq0-clause-below : goal.returns-then-split-eq0-clause-below
-returns-then-split-eq0-clause-below c =
-    let parts = subst (λ n. IsSplitOf c.args.symbols.now c.args.addr n) c.if-split-eq0.true c.split_at-split.ensures in
-    sym (none_below c.args.symbols.now c.args.addr parts)
+returns-then-split-eq0-clause-below c = grind (arith, common_steps, none_below)
 
 pub returns-then-split-eq0-clause-above : goal.returns-then-split-eq0-clause-above
 returns-then-split-eq0-clause-above c = c.address_at-above.ensures ∙ above_in c.args.symbols.now c.args.addr c.split_at-split.result c.requires c.split_at-split.ensures

@@ -1,4 +1,5 @@
-use Rattle.std.proofs.Common.{ℕ, ◌<◌, arith, sym, ◌∙◌}
+use Rattle.std.proofs.Common.{arith, sym}
+use Rattle.modules.proofs.Lemmas.{common_steps}
 use Rattle.modules.proofs.OrderedLemmas.{above_at, last_below, none_below}
 use Rattle.modules.proofs.symbols.around_in_order.Goals as goal
 
@@ -7,15 +8,10 @@ returns-then-split-eq0-clause-below c = λ symbols is.
     sym (none_below symbols c.args.ordered.now is c.args.addr c.split_at-split.result c.split_at-split.ensures c.if-split-eq0.true)
 
 pub returns-then-split-eq0-clause-above : goal.returns-then-split-eq0-clause-above
-returns-then-split-eq0-clause-above c = λ symbols is.
-    c.address_at-above.ensures ∙ above_at symbols c.args.ordered.now is c.args.addr c.split_at-split.result c.split_at-split.ensures
+returns-then-split-eq0-clause-above c = grind (arith, common_steps, above_at)
 
 pub returns-clause-below : goal.returns-clause-below
-returns-clause-below c = λ symbols is.
-    let split : ℕ = c.split_at-split.result in
-    let some : 0 < split = omega arith in
-    c.symbol_at.ensures ∙ last_below symbols c.args.ordered.now is c.args.addr split c.split_at-split.ensures some
+returns-clause-below c = grind (arith, common_steps, last_below)
 
 pub returns-clause-above : goal.returns-clause-above
-returns-clause-above c = λ symbols is.
-    c.address_at-above.ensures ∙ above_at symbols c.args.ordered.now is c.args.addr c.split_at-split.result c.split_at-split.ensures
+returns-clause-above c = grind (arith, common_steps, above_at)

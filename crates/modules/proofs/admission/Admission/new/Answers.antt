@@ -1,8 +1,7 @@
-use Rattle.std.proofs.Common.{ap, ◌∙◌, List, ℕ}
-use Rattle.modules.specs.Regions.{are_beside}
+use Rattle.std.proofs.Common.{arith}
+use Rattle.modules.proofs.Lemmas.{common_steps}
 use Rattle.modules.proofs.SoundnessLemmas.{none_beside}
 use Rattle.modules.proofs.admission.Admission.new.Goals as goal
 
 pub take_all-requires-clause-beside : goal.take_all-requires-clause-beside
-take_all-requires-clause-beside c =
-    ap (λ (taken : List (ℕ × ℕ)). are_beside taken c.as_slice.result.now) c.new-taken.ensures ∙ none_beside c.as_slice.result.now
+take_all-requires-clause-beside c = grind (arith, common_steps, none_beside)

@@ -1,15 +1,11 @@
-use Rattle.modules.proofs.Words.{◌≡◌, ℕ, ◌+◌, suc, true, false, List, [], ◌∷◌, ◌++◌, length, sym, ap, subst, ◌∙◌, arith, Bor, list_any, position_from, option_copied, option_map, bytes_eq}
-use Rattle.modules.proofs.Lemmas.{length-map, btree_map_updates_str}
-use Rattle.modules.proofs.Definitions.{with_owner, names_at}
+use Rattle.modules.proofs.Words.{◌≡◌, ℕ, ◌+◌, suc, false, List, [], ◌∷◌, ◌++◌, length, sym, ap, ◌∙◌, arith, Bor, list_any, position_from, option_map, bytes_eq}
+use Rattle.modules.proofs.Lemmas.{length-map, btree_map_updates_str, common_steps}
+use Rattle.modules.proofs.Definitions.{names_at}
 use Rattle.modules.proofs.NumberLemmas.{has_number, names_more, numbers_more, owner_known, owner_new}
 use Rattle.modules.proofs.module_numbers.ModuleNumbers.take.Goals as goal
 
 pub returns-then-contains_key : goal.returns-then-contains_key
-returns-then-contains_key c =
-    let names : List (List ℕ) = names_at c.self.inside.names.items in
-    let new = c.in-Some.name.now in
-    let known : list_any (bytes_eq new) names ≡ true = has_number names new _ c.contains_key.result (c.self.invariant new) c.contains_key.ensures ∙ c.if-contains_key.true in
-    subst (λ (ns : List (List ℕ)). ns ≡ with_owner ns (option_copied c.args.owner)) c.self.view_is (owner_known names c.args.owner c.in-Some.name c.in-Some.is known)
+returns-then-contains_key c = grind (arith, common_steps, has_number, owner_known)
 
 pub invariant_of-self-2 : goal.invariant_of-self-2
 invariant_of-self-2 c =
@@ -26,12 +22,4 @@ invariant_of-self-2 c =
     ∙ ap (λ (ns : List (List ℕ)). option_map suc (position_from (bytes_eq name) 0 ns)) (sym joined)
 
 pub returns : goal.returns
-returns c =
-    let items = c.self.inside.names.items in
-    let names : List (List ℕ) = names_at items in
-    let new = c.in-Some.name.now in
-    let absent : list_any (bytes_eq new) names ≡ false = has_number names new _ c.contains_key.result (c.self.invariant new) c.contains_key.ensures ∙ c.if-contains_key.false in
-    let pushed : c.push.new.self.items ≡ c.reserve.new.self.items ++ c.in-Some.name ∷ [] = rw c.unwrap.ensures at c.push.ensures.items in
-    names_more items c.push.new.self.items c.in-Some.name (pushed ∙ ap (λ (ns : List (Bor (List ℕ))). ns ++ c.in-Some.name ∷ []) c.in_ok-reserve.ensures.items)
-    ∙ owner_new names c.args.owner c.in-Some.name c.in-Some.is absent
-    ∙ ap (λ (ns : List (List ℕ)). with_owner ns (option_copied c.args.owner)) c.self.view_is
+returns c = grind (arith, common_steps, has_number, names_more, owner_new)

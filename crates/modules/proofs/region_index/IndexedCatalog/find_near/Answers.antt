@@ -1,4 +1,5 @@
-use Rattle.std.proofs.Common.{◌∙◌, List, ap, subst, sym, arith}
+use Rattle.std.proofs.Common.{◌∙◌, List, ap, subst, arith}
+use Rattle.modules.proofs.Lemmas.{common_steps}
 use Rattle.modules.proofs.Definitions.{Item, IsItemSplit, item_of_address}
 use Rattle.modules.proofs.RegionIndexLemmas.{last_begins_below, last_ends_below, last_found, nothing_below}
 use Rattle.modules.proofs.region_index.IndexedCatalog.find_near.Goals as goal
@@ -11,26 +12,10 @@ returns-then-split-eq0-clause-is c =
     ∙ ap (λ k. item_of_address k c.args.addr) c.self.view_is
 
 pub returns-then-addr-item-clause-is : goal.returns-then-addr-item-clause-is
-returns-then-addr-item-clause-is c =
-    let items = c.self.inside.items.items in
-    let parts : IsItemSplit items c.args.addr c.split_at-split.result = subst (λ (l : List Item). IsItemSplit l c.args.addr c.split_at-split.result) c.deref.ensures.value c.split_at-split.ensures in
-    last_found c.self.inside.catalog c.self.invariant.sound items c.self.invariant.indexed c.args.addr c.split_at-split.result parts
-    c.index-item.result.now (let n = c.if-split-eq0.false in omega arith) (sym c.index-item.ensures) c.if-addr-item.true
-    ∙ ap (λ k. item_of_address k c.args.addr) c.self.view_is
+returns-then-addr-item-clause-is c = grind (arith, common_steps, last_found)
 
 pub returns-else-addr-item-clause-is : goal.returns-else-addr-item-clause-is
-returns-else-addr-item-clause-is c =
-    let items = c.self.inside.items.items in
-    let parts : IsItemSplit items c.args.addr c.split_at-split.result = subst (λ (l : List Item). IsItemSplit l c.args.addr c.split_at-split.result) c.deref.ensures.value c.split_at-split.ensures in
-    last_ends_below c.self.inside.catalog c.self.invariant.sound items c.self.invariant.indexed c.args.addr c.split_at-split.result parts
-    c.index-item.result.now (let n = c.if-split-eq0.false in omega arith) (sym c.index-item.ensures) c.if-addr-item.false
-    ∙ ap (λ k. item_of_address k c.args.addr) c.self.view_is
+returns-else-addr-item-clause-is c = grind (arith, common_steps, last_ends_below)
 
 pub returns-then-addr-item-clause-holds : goal.returns-then-addr-item-clause-holds
-returns-then-addr-item-clause-holds c =
-    let items = c.self.inside.items.items in
-    let parts : IsItemSplit items c.args.addr c.split_at-split.result = subst (λ (l : List Item). IsItemSplit l c.args.addr c.split_at-split.result) c.deref.ensures.value c.split_at-split.ensures in (
-      last_begins_below c.self.inside.catalog c.self.invariant.sound items c.self.invariant.indexed c.args.addr c.split_at-split.result parts
-          c.index-item.result.now (let n = c.if-split-eq0.false in omega arith) (sym c.index-item.ensures),
-      c.if-addr-item.true,
-    )
+returns-then-addr-item-clause-holds c = grind (arith, common_steps, last_begins_below)

@@ -1,5 +1,5 @@
-use Rattle.std.proofs.Common.{sym}
-use Rattle.modules.proofs.Lemmas.{ge_from_not_lt, Less-from_lt, lt-from_Less}
+use Rattle.std.proofs.Common.{arith}
+use Rattle.modules.proofs.Lemmas.{ge_from_not_lt, Less-from_lt, lt-from_Less, common_steps}
 use Rattle.modules.proofs.SpreadLemmas.{apart_from_none, tested_by_last}
 use Rattle.modules.proofs.regions.Regions.is_apart.Goals as goal
 
@@ -18,10 +18,4 @@ returns-in-Some c =
     (within.4 (s, e) c.next_back.new.self c.in-Some.ensures.steps q (tt, Less-from_lt q r.end below) found)))
 
 pub returns-in-None : goal.returns-in-None
-returns-in-None c =
-    let m = c.self.inside.ends in
-    let r = c.region.inside in
-    let within = c.range.ensures.in_range tt in
-    rw (← c.self.view_is, ← c.region.view_is)
-    (sym (apart_from_none m c.range.ensures.ordered r.start r.end
-    (λ q below. within.5 c.in-None.ensures.steps.0 q (tt, Less-from_lt q r.end below))))
+returns-in-None c = grind (arith, common_steps, apart_from_none, Less-from_lt)
