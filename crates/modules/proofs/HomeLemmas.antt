@@ -1,6 +1,6 @@
 -- Which lines of a run are kept, and where.
-use Rattle.modules.proofs.Words.{◌≡◌, ℕ, ◌+◌, ◌<◌, Bool, true, false, cond, not, List, [], ◌∷◌, length, get_or, map, Some, None, Option, refl, sym, ap, ◌∙◌, ⊎_elim, arith, filter, count_by, list_any, position_from, bytes_eq}
-use Rattle.modules.proofs.Lemmas.{cases_Bool, cases_eq, list_any_at, list_any_none, sum_by-cons, slice_get-get_or, or-false, count_either, common_steps}
+use Rattle.modules.proofs.Words.{◌≡◌, ℕ, ◌+◌, ◌<◌, Bool, true, false, cond, not, List, [], ◌∷◌, length, get_or, map, Some, None, Option, refl, sym, ap, ◌∙◌, ⊎_elim, arith, filter, count_by, list_any, position_from, bytes_eq, common_steps}
+use Rattle.modules.proofs.Lemmas.{cases_Bool, cases_eq, list_any_at, list_any_none, sum_by-cons, slice_get-get_or, or-false, count_either}
 use Rattle.modules.proofs.Definitions.{Accepted, names_of, SymbolEntry, lies_for, AreDistinctNames, belongs, is_kept, symbols_that, ListedSymbol, PlacedModule, line_of}
 use Rattle.modules.specs.declared.gathering.Owner.TheVariants as owner
 use Rattle.modules.proofs.KeptLemmas.{no_home, place_within, only_home, belongs_at}

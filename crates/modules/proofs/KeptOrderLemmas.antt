@@ -1,6 +1,6 @@
 -- The modules in the order of their first kept lines are those of the lines.
-use Rattle.modules.proofs.Words.{◌≡◌, ◌≢◌, ℕ, ◌-◌, ◌^◌, ◌<◌, Bool, true, false, ◌&&◌, ◌||◌, nat_lt, nat_eq, cond, suc, List, [], ◌∷◌, ◌++◌, get_or, map, Option, Some, None, refl, sym, ap, subst, ◌∙◌, arith, All, IfSome, Contains, filter, find, fold, is_none, is_some, flat_map, list_any, position_from, option_and_then, option_map, option_map_or, option_to_list, bytes_eq, bytes_decides, rules}
-use Rattle.modules.proofs.Lemmas.{and_parts, eq-eqb, eqb-true, ltb-true, map-append, All-cons, All-filter, All-head, All-nil, All-push, All-tail, begins, ends, look_is, find-passes, is_some-position_from, common_steps}
+use Rattle.modules.proofs.Words.{◌≡◌, ◌≢◌, ℕ, ◌-◌, ◌^◌, ◌<◌, Bool, true, false, ◌&&◌, ◌||◌, nat_lt, nat_eq, cond, suc, List, [], ◌∷◌, ◌++◌, get_or, map, Option, Some, None, refl, sym, ap, subst, ◌∙◌, arith, All, IfSome, Contains, filter, find, fold, is_none, is_some, flat_map, list_any, position_from, option_and_then, option_map, option_map_or, option_to_list, bytes_eq, bytes_decides, rules, common_steps}
+use Rattle.modules.proofs.Lemmas.{and_parts, eq-eqb, eqb-true, ltb-true, map-append, All-cons, All-filter, All-head, All-nil, All-push, All-tail, begins, ends, look_is, find-passes, is_some-position_from}
 use Rattle.modules.proofs.Definitions.{Item, half_open, look, HasItsRegions, IsFromSymbols, is_kept_line, with_name, is_built_in, accepted_with, AreNamed, HasFirstLine, HaveFirstLines, is_kept_mark, kept_numbers, kernel_marks, mark_of, marks_of, modules_numbered, name_of, number_for, number_in, with_number, built_in_region, first_address, kernel_regions, with_apart, BoundNames, ListedSymbol, numbered_module, AreRegions, HoldsFor, is_outside, module_of_address, posts, PlacedModule, Mark}
 use Rattle.modules.proofs.LaidLemmas.{found}
 use Rattle.modules.proofs.MarkedModuleLemmas.{its_regions}

@@ -7,7 +7,7 @@ pub use Rattle.std.proofs.lemmas.Bool.{and_from, and_left, and_parts, cases_Bool
 pub use Rattle.std.proofs.lemmas.Bool.Decides.{nat_tests}
 pub use Rattle.std.proofs.lemmas.Cmp.{nat_cmp_total, nat_list_cmp_total}
 pub use Rattle.std.proofs.lemmas.Fn.{always_returns_same}
-pub use Rattle.std.proofs.lemmas.Grind.{common_steps, get_or-set_at, common_steps}
+pub use Rattle.std.proofs.lemmas.Grind.{get_or-set_at}
 pub use Rattle.std.proofs.lemmas.Iterator.{YieldsList-from_slice}
 pub use Rattle.std.proofs.lemmas.Iterator.Adapters.{position_from-zero, serves_from_places}
 pub use Rattle.std.proofs.lemmas.Iterator.Consumers.{YieldsList-at}

@@ -1,6 +1,6 @@
 -- The items that a load inserts, and when the update that inserts them is accepted.
-use Rattle.modules.proofs.Words.{◌≡◌, ℕ, ◌+◌, ◌<◌, ◌≤◌, true, false, List, [], ◌∷◌, length, Option, Some, None, refl, sym, ◌∙◌, ap, ⊎_elim, arith, zero, suc, Result, Ok, Err, Contains, nat_lt, list_any, option_map_or, rules}
-use Rattle.modules.proofs.Lemmas.{nat_tests, without_none, all_are_valid, insert_accepted, no_test_holds, none_meet, length-map, All-contains, Contains-append_left, Contains-append_right, get_or_from_slice_get, slice_get_within, common_steps}
+use Rattle.modules.proofs.Words.{◌≡◌, ℕ, ◌+◌, ◌<◌, ◌≤◌, true, false, List, [], ◌∷◌, length, Option, Some, None, refl, sym, ◌∙◌, ap, ⊎_elim, arith, zero, suc, Result, Ok, Err, Contains, nat_lt, list_any, option_map_or, rules, common_steps}
+use Rattle.modules.proofs.Lemmas.{nat_tests, without_none, all_are_valid, insert_accepted, no_test_holds, none_meet, length-map, All-contains, Contains-append_left, Contains-append_right, get_or_from_slice_get, slice_get_within}
 use Rattle.modules.proofs.Definitions.{Item, half_open, without_all, Update, erased, inserted, refusal_for, some_invalid, some_meet, some_overlap, update_of, GivesOrLacksMemory, load_of, load_update, Refusal, OutOfMemory, UnknownModule, IsSoundCatalog, entries_of, module_of, CatalogEntries, ModuleEntry, items_at, is_core, IsPlaced, PlacedModule, Held, Part}
 
 -- the update that loads a module inserts its items, of which there is one at least

@@ -1,6 +1,6 @@
 -- Copies of symbols in the order of their index.
-use Rattle.modules.proofs.Words.{◌≡◌, ℕ, ◌-◌, ◌<◌, ◌≤◌, List, [], length, get_or, Some, None, ap, sym, subst, ◌∙◌, ⊎_elim, arith, slice_get, option_map}
-use Rattle.modules.proofs.Lemmas.{get_or-map, get_or_default, length-map, slice_get-get_or, slice_get_cases, common_steps}
+use Rattle.modules.proofs.Words.{◌≡◌, ℕ, ◌-◌, ◌<◌, ◌≤◌, List, [], length, get_or, Some, None, ap, sym, subst, ◌∙◌, ⊎_elim, arith, slice_get, option_map, common_steps}
+use Rattle.modules.proofs.Lemmas.{get_or-map, get_or_default, length-map, slice_get-get_or, slice_get_cases}
 use Rattle.modules.proofs.Definitions.{address_above, symbol_below, SymbolEntry, IsIndex, IsOrdered, IsRising, IsSplit, IsSplitOf, symbol_of_entry, IndexEntry}
 use Rattle.modules.proofs.IndexLemmas.{each_entry, first_above, last_below as last_entry_below, none_above, none_below as no_entry_below, rising as index_rises}
 

@@ -1,6 +1,6 @@
 -- What a further piece changes.
-use Rattle.modules.proofs.Words.{◌≡◌, ℕ, ◌<◌, ◌≤◌, List, [], ◌∷◌, ◌++◌, length, get_or, sym, subst, ◌∙◌, inl, inr, ⊎_elim, arith, length-append, ◌≢◌, ◌⊎◌, ◌↔◌, All, AllPairs, rules}
-use Rattle.modules.proofs.Lemmas.{cases_lt, get_or_append_left, get_or-append_seam, All-push, Contains-push, Contains-append_left, Contains-push_cases, all_pairs_push, common_steps}
+use Rattle.modules.proofs.Words.{◌≡◌, ℕ, ◌<◌, ◌≤◌, List, [], ◌∷◌, ◌++◌, length, get_or, sym, subst, ◌∙◌, inl, inr, ⊎_elim, arith, length-append, ◌≢◌, ◌⊎◌, ◌↔◌, All, AllPairs, rules, common_steps}
+use Rattle.modules.proofs.Lemmas.{cases_lt, get_or_append_left, get_or-append_seam, All-push, Contains-push, Contains-append_left, Contains-push_cases, all_pairs_push}
 use Rattle.modules.proofs.Definitions.{Item, AreLaid, Follows, HoldsFor}
 
 module _ {X : Type 0} (xs : List X) (y : X) where

@@ -1,6 +1,6 @@
 -- What one step of the sweep adds.
-use Rattle.modules.proofs.Words.{◌≡◌, ℕ, ◌+◌, ◌-◌, ◌^◌, ◌<◌, ◌≤◌, true, List, length, get_or, ap, sym, subst, ◌∙◌, inl, inr, ⊎_elim, arith, ◌≢◌, ◌⊎◌, ◌↔◌, IsNonDecreasingBy}
-use Rattle.modules.proofs.Lemmas.{cases_lt, get_or_default, common_steps}
+use Rattle.modules.proofs.Words.{◌≡◌, ℕ, ◌+◌, ◌-◌, ◌^◌, ◌<◌, ◌≤◌, true, List, length, get_or, ap, sym, subst, ◌∙◌, inl, inr, ⊎_elim, arith, ◌≢◌, ◌⊎◌, ◌↔◌, IsNonDecreasingBy, common_steps}
+use Rattle.modules.proofs.Lemmas.{cases_lt, get_or_default}
 use Rattle.modules.proofs.Definitions.{Item, HoldsFor, GoesOn, IsFirstMark, IsNearestMark, IsNextMark, Owns, is_in_page, reach, Mark}
 
 -- of the marks below a place, this is the first of the greatest address

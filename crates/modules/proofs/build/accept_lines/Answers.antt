@@ -1,5 +1,4 @@
-use Rattle.modules.proofs.Words.{◌≡◌, ℕ, List, Option, sym, ap, ◌∙◌, subst, arith, length-append, option_copied}
-use Rattle.modules.proofs.Lemmas.{common_steps}
+use Rattle.modules.proofs.Words.{◌≡◌, ℕ, List, Option, sym, ap, ◌∙◌, subst, arith, length-append, option_copied, common_steps}
 use Rattle.modules.proofs.Definitions.{accepted_of, admission_view, kernel_regions, BoundNames, AreSoundModules}
 use Rattle.modules.proofs.SoundnessLemmas.{accepted_good, built_in_of_accepted, few_accepted, kernel_apart, lie_apart_is, two_of_kernel}
 use Rattle.modules.proofs.build.accept_lines.Goals as goal

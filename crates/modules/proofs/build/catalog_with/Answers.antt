@@ -1,5 +1,4 @@
-use Rattle.modules.proofs.Words.{◌≡◌, ◌+◌, ◌^◌, ◌<◌, List, Option, sym, ap, subst, ◌∙◌, length, length-append, map, arith, All, ◌++◌, option_to_list, flat_map}
-use Rattle.modules.proofs.Lemmas.{common_steps}
+use Rattle.modules.proofs.Words.{◌≡◌, ◌+◌, ◌^◌, ◌<◌, List, Option, sym, ap, subst, ◌∙◌, length, length-append, map, arith, All, ◌++◌, option_to_list, flat_map, common_steps}
 use Rattle.modules.proofs.Definitions.{Accepted, taken_regions, AreModules, built_in_with, IsSoundCatalog, entry_for, ModuleEntry, Gathers, IsPlaced, PlacedModule}
 use Rattle.modules.proofs.SoundnessLemmas.{count_of_regions, valid_kernel, IsSound-catalog_with}
 use Rattle.modules.proofs.MakingLemmas.{catalog_from, kept_from, modules_are, regions_made}

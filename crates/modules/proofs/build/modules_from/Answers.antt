@@ -1,5 +1,4 @@
-use Rattle.modules.proofs.Words.{◌≡◌, ◌+◌, ℕ, suc, [], ◌∷◌, ◌++◌, length, get_or, drop, sym, ap, subst, List, ◌∙◌, arith, length-append, append_assoc, into_iter_items}
-use Rattle.modules.proofs.Lemmas.{common_steps}
+use Rattle.modules.proofs.Words.{◌≡◌, ◌+◌, ℕ, suc, [], ◌∷◌, ◌++◌, length, get_or, drop, sym, ap, subst, List, ◌∙◌, arith, length-append, append_assoc, into_iter_items, common_steps}
 use Rattle.std.proofs.lemmas.List.{append-nil, nil_from_length}
 use Rattle.modules.proofs.Definitions.{EachMade, module_with, ModuleEntry, IsPlaced, PlacedModule}
 use Rattle.modules.proofs.MakingLemmas.{EachMade-push, drop_next, drop_none}

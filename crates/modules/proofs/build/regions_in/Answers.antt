@@ -1,5 +1,4 @@
-use Rattle.std.proofs.Common.{arith}
-use Rattle.modules.proofs.Lemmas.{common_steps}
+use Rattle.modules.proofs.Words.{arith, common_steps}
 use Rattle.modules.proofs.MakingLemmas.{flat_map_more, length-flat_map_take}
 use Rattle.modules.proofs.build.regions_in.Goals as goal
 

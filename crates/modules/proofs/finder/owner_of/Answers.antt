@@ -1,5 +1,4 @@
-use Rattle.modules.proofs.Words.{◌≡◌, ◌≤◌, ◌<◌, ℕ, Option, Some, None, Bor, sym, IfSome, option_copied, arith}
-use Rattle.modules.proofs.Lemmas.{common_steps}
+use Rattle.modules.proofs.Words.{◌≡◌, ◌≤◌, ◌<◌, ℕ, Option, Some, None, Bor, sym, IfSome, option_copied, arith, common_steps}
 use Rattle.modules.proofs.Definitions.{Item, IsRegionOf, module_of, CatalogEntries, ModuleEntry, item_of_address}
 use Rattle.modules.proofs.AgainLemmas.{item_again}
 use Rattle.modules.proofs.finder.owner_of.Goals as goal

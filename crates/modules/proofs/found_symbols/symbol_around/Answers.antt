@@ -1,5 +1,4 @@
-use Rattle.modules.proofs.Words.{arith}
-use Rattle.modules.proofs.Lemmas.{common_steps}
+use Rattle.modules.proofs.Words.{arith, common_steps}
 use Rattle.modules.proofs.AroundLemmas.{above_gt, below_le}
 use Rattle.modules.proofs.NearestLemmas.{found_is}
 use Rattle.modules.proofs.WithinLemmas.{before_within, none_within, reach_within, some_within}

@@ -1,5 +1,4 @@
-use Rattle.std.proofs.Common.{arith}
-use Rattle.modules.proofs.Lemmas.{common_steps}
+use Rattle.modules.proofs.Words.{arith, common_steps}
 use Rattle.modules.proofs.TakenLemmas.{left_more}
 use Rattle.modules.proofs.from_symbols.regions_by_number.Goals as goal
 

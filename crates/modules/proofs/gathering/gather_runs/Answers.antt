@@ -1,5 +1,4 @@
-use Rattle.modules.proofs.Words.{append_assoc, arith}
-use Rattle.modules.proofs.Lemmas.{common_steps}
+use Rattle.modules.proofs.Words.{append_assoc, arith, common_steps}
 use Rattle.std.proofs.lemmas.List.{append-nil, nil_from_length}
 use Rattle.modules.proofs.GatheringLemmas.{Gathers-run, counts_run}
 use Rattle.modules.proofs.RunLemmas.{lines_of_all-last}

@@ -1,5 +1,4 @@
-use Rattle.std.proofs.Common.{arith}
-use Rattle.modules.proofs.Lemmas.{common_steps}
+use Rattle.modules.proofs.Words.{arith, common_steps}
 use Rattle.std.proofs.lemmas.List.{take_all, take_more}
 use Rattle.modules.proofs.LineMarkLemmas.{marks_more}
 use Rattle.modules.proofs.line_marks.marks_of.Goals as goal

@@ -1,5 +1,5 @@
-use Rattle.modules.proofs.Words.{ℕ, suc, List, get_or, take, drop, sym, ap, ◌∙◌, arith, bytes_eq}
-use Rattle.modules.proofs.Lemmas.{get_or_default, take_push, common_steps}
+use Rattle.modules.proofs.Words.{ℕ, suc, List, get_or, take, drop, sym, ap, ◌∙◌, arith, bytes_eq, common_steps}
+use Rattle.modules.proofs.Lemmas.{get_or_default, take_push}
 use Rattle.modules.proofs.Definitions.{starts_of, Core}
 use Rattle.modules.proofs.ErasingLemmas.{all_words, other_more, other_words, starts_split, wanted_more, whole_starts}
 use Rattle.modules.proofs.loads.are_starts.Goals as goal

@@ -1,5 +1,4 @@
-use Rattle.std.proofs.Common.{ℕ, List, [], ◌∷◌, ◌++◌, length, get_or, take, sym, ap, ◌∙◌, arith, length-append}
-use Rattle.modules.proofs.Lemmas.{common_steps}
+use Rattle.modules.proofs.Words.{ℕ, List, [], ◌∷◌, ◌++◌, length, get_or, take, sym, ap, ◌∙◌, arith, length-append, common_steps}
 use Rattle.std.proofs.lemmas.List.{get_or_default}
 use Rattle.modules.proofs.Definitions.{starts_of, Core}
 use Rattle.modules.proofs.ErasingLemmas.{none_of_length, not_only_one, only_one, other_more, wanted_more, whole_starts}

@@ -1,5 +1,4 @@
-use Rattle.std.proofs.Common.{true, arith, add-one}
-use Rattle.modules.proofs.Lemmas.{common_steps}
+use Rattle.modules.proofs.Words.{true, arith, add-one, common_steps}
 use Rattle.modules.proofs.LoadLemmas.{other_length, same_end, same_here}
 use Rattle.modules.proofs.loads.same_items.Goals as goal
 

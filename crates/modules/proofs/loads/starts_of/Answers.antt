@@ -1,5 +1,4 @@
-use Rattle.std.proofs.Common.{arith}
-use Rattle.modules.proofs.Lemmas.{common_steps}
+use Rattle.modules.proofs.Words.{arith, common_steps}
 use Rattle.modules.proofs.ErasingLemmas.{other_more, wanted_more}
 use Rattle.modules.proofs.loads.starts_of.Goals as goal
 

@@ -1,5 +1,5 @@
-use Rattle.modules.proofs.Words.{[], get_or, rules, nat_cmp, slice_cmp, arith}
-use Rattle.modules.proofs.Lemmas.{nat_list_cmp_total, always_returns_same, length-map, searchable_from_sorted, common_steps}
+use Rattle.modules.proofs.Words.{[], get_or, rules, nat_cmp, slice_cmp, arith, common_steps}
+use Rattle.modules.proofs.Lemmas.{nat_list_cmp_total, always_returns_same, length-map, searchable_from_sorted}
 use Rattle.modules.proofs.Definitions.{names_in}
 use Rattle.modules.proofs.NameLemmas.{found, absent, place_in}
 use Rattle.modules.proofs.names.place_of.Goals as goal

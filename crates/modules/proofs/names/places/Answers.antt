@@ -1,5 +1,4 @@
-use Rattle.modules.proofs.Words.{zero-add, arith}
-use Rattle.modules.proofs.Lemmas.{common_steps}
+use Rattle.modules.proofs.Words.{zero-add, arith, common_steps}
 use Rattle.facts.proofs.Ranges.{range-push}
 use Rattle.modules.proofs.names.places.Goals as goal
 

@@ -1,5 +1,4 @@
-use Rattle.std.proofs.Common.{arith}
-use Rattle.modules.proofs.Lemmas.{common_steps}
+use Rattle.modules.proofs.Words.{arith, common_steps}
 use Rattle.modules.proofs.ItemLemmas.{one_number_more}
 use Rattle.modules.proofs.region_index.items_of.Goals as goal
 

@@ -1,5 +1,4 @@
-use Rattle.std.proofs.Common.{arith}
-use Rattle.modules.proofs.Lemmas.{common_steps}
+use Rattle.modules.proofs.Words.{arith, common_steps}
 use Rattle.modules.proofs.RunLemmas.{first_in_last, first_in_front}
 use Rattle.modules.proofs.symbol_lines.first_address.Goals as goal
 

@@ -1,5 +1,4 @@
-use Rattle.std.proofs.Common.{◌≡◌, ◌+◌, ◌++◌, List, suc, take, drop, ◌∙◌, ap, sym, Some, arith}
-use Rattle.modules.proofs.Lemmas.{common_steps}
+use Rattle.modules.proofs.Words.{◌≡◌, ◌+◌, ◌++◌, List, suc, take, drop, ◌∙◌, ap, sym, Some, arith, common_steps}
 use Rattle.std.proofs.lemmas.List.{take_more}
 use Rattle.modules.proofs.Definitions.{first_address, ListedSymbol, lines_of_run, lines_of_all, Run}
 use Rattle.modules.proofs.RunLemmas.{first_address-append, first_address-front, lines_of_all-at, lines_of_all-last}

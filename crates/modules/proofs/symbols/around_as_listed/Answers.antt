@@ -1,5 +1,4 @@
-use Rattle.std.proofs.Common.{ℕ, ◌<◌, [], arith, sym, ◌∙◌}
-use Rattle.modules.proofs.Lemmas.{common_steps}
+use Rattle.modules.proofs.Words.{ℕ, ◌<◌, [], arith, sym, ◌∙◌, common_steps}
 use Rattle.std.proofs.lemmas.Option.{slice_get-get_or}
 use Rattle.modules.proofs.Definitions.{SymbolEntry}
 use Rattle.modules.proofs.RisingLemmas.{none_below, first_within, first_below, above_in}

@@ -1,5 +1,4 @@
-use Rattle.std.proofs.Common.{arith, sym}
-use Rattle.modules.proofs.Lemmas.{common_steps}
+use Rattle.modules.proofs.Words.{arith, sym, common_steps}
 use Rattle.modules.proofs.OrderedLemmas.{above_at, last_below, none_below}
 use Rattle.modules.proofs.symbols.around_in_order.Goals as goal
 

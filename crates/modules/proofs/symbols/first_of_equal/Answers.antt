@@ -1,5 +1,4 @@
-use Rattle.std.proofs.Common.{arith}
-use Rattle.modules.proofs.Lemmas.{common_steps}
+use Rattle.modules.proofs.Words.{arith, common_steps}
 use Rattle.std.proofs.lemmas.List.{get_or_default}
 use Rattle.modules.proofs.symbols.first_of_equal.Goals as goal
 

@@ -1,5 +1,4 @@
-use Rattle.std.proofs.Common.{arith}
-use Rattle.modules.proofs.Lemmas.{common_steps}
+use Rattle.modules.proofs.Words.{arith, common_steps}
 use Rattle.modules.proofs.SoundnessLemmas.{none_beside}
 use Rattle.modules.proofs.admission.Admission.new.Goals as goal
 

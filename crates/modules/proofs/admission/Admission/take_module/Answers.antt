@@ -1,5 +1,4 @@
-use Rattle.modules.proofs.Words.{arith}
-use Rattle.modules.proofs.Lemmas.{common_steps}
+use Rattle.modules.proofs.Words.{arith, common_steps}
 use Rattle.modules.proofs.AdmissionLemmas.{after_double, after_overlap, after_accepted, free_in, IsTied-accepted}
 use Rattle.modules.proofs.admission.Admission.take_module.Goals as goal
 

@@ -1,5 +1,4 @@
-use Rattle.modules.proofs.Words.{arith}
-use Rattle.modules.proofs.Lemmas.{common_steps}
+use Rattle.modules.proofs.Words.{arith, common_steps}
 use Rattle.modules.proofs.LoadLemmas.{drop_answers}
 use Rattle.modules.proofs.catalog.Catalog.gives_drop_init.Goals as goal
 

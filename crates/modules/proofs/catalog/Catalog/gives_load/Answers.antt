@@ -1,5 +1,4 @@
-use Rattle.modules.proofs.Words.{arith}
-use Rattle.modules.proofs.Lemmas.{common_steps}
+use Rattle.modules.proofs.Words.{arith, common_steps}
 use Rattle.modules.proofs.LoadLemmas.{load_answers}
 use Rattle.modules.proofs.catalog.Catalog.gives_load.Goals as goal
 

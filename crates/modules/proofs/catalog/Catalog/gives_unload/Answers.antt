@@ -1,5 +1,4 @@
-use Rattle.modules.proofs.Words.{arith}
-use Rattle.modules.proofs.Lemmas.{common_steps}
+use Rattle.modules.proofs.Words.{arith, common_steps}
 use Rattle.modules.proofs.LoadLemmas.{unload_answers_first, unload_answers_second}
 use Rattle.modules.proofs.catalog.Catalog.gives_unload.Goals as goal
 

@@ -1,5 +1,5 @@
-use Rattle.modules.proofs.Words.{◌≡◌, ℕ, ◌+◌, suc, false, List, [], ◌∷◌, ◌++◌, length, sym, ap, ◌∙◌, arith, Bor, list_any, position_from, option_map, bytes_eq}
-use Rattle.modules.proofs.Lemmas.{length-map, btree_map_updates_str, common_steps}
+use Rattle.modules.proofs.Words.{◌≡◌, ℕ, ◌+◌, suc, false, List, [], ◌∷◌, ◌++◌, length, sym, ap, ◌∙◌, arith, Bor, list_any, position_from, option_map, bytes_eq, common_steps}
+use Rattle.modules.proofs.Lemmas.{length-map, btree_map_updates_str}
 use Rattle.modules.proofs.Definitions.{names_at}
 use Rattle.modules.proofs.NumberLemmas.{has_number, names_more, numbers_more, owner_known, owner_new}
 use Rattle.modules.proofs.module_numbers.ModuleNumbers.take.Goals as goal

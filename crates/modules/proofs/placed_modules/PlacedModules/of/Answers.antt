@@ -1,5 +1,4 @@
-use Rattle.modules.proofs.Words.{◌≡◌, false, ◌∷◌, ◌++◌, List, ap, subst, ◌∙◌, append_assoc, list_any, bytes_eq, into_iter_items, arith}
-use Rattle.modules.proofs.Lemmas.{common_steps}
+use Rattle.modules.proofs.Words.{◌≡◌, false, ◌∷◌, ◌++◌, List, ap, subst, ◌∙◌, append_assoc, list_any, bytes_eq, into_iter_items, arith, common_steps}
 use Rattle.std.proofs.lemmas.List.{append-nil, nil_from_length}
 use Rattle.modules.proofs.Definitions.{Accepted, names_of, AreDistinctNames, PlacedModule}
 use Rattle.modules.proofs.NewNameLemmas.{new_after}

@@ -1,5 +1,4 @@
-use Rattle.modules.proofs.Words.{arith}
-use Rattle.modules.proofs.Lemmas.{common_steps}
+use Rattle.modules.proofs.Words.{arith, common_steps}
 use Rattle.std.proofs.lemmas.List.{length-map}
 use Rattle.modules.proofs.placing.RegionLines.are_few_of.Goals as goal
 

@@ -1,5 +1,4 @@
-use Rattle.std.proofs.Common.{◌∙◌, List, ap, subst, arith}
-use Rattle.modules.proofs.Lemmas.{common_steps}
+use Rattle.modules.proofs.Words.{◌∙◌, List, ap, subst, arith, common_steps}
 use Rattle.modules.proofs.Definitions.{Item, IsItemSplit, item_of_address}
 use Rattle.modules.proofs.RegionIndexLemmas.{last_begins_below, last_ends_below, last_found, nothing_below}
 use Rattle.modules.proofs.region_index.IndexedCatalog.find_near.Goals as goal

@@ -1,5 +1,4 @@
-use Rattle.modules.proofs.Words.{arith}
-use Rattle.modules.proofs.Lemmas.{common_steps}
+use Rattle.modules.proofs.Words.{arith, common_steps}
 use Rattle.facts.proofs.Maps.{list_all-insert_entry}
 use Rattle.modules.proofs.SpreadLemmas.{IsSpread-inserted, absent_from_apart}
 use Rattle.modules.proofs.regions.Regions.insert.Goals as goal

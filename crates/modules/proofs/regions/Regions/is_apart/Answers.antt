@@ -1,5 +1,5 @@
-use Rattle.std.proofs.Common.{arith}
-use Rattle.modules.proofs.Lemmas.{ge_from_not_lt, Less-from_lt, lt-from_Less, common_steps}
+use Rattle.modules.proofs.Words.{arith, common_steps}
+use Rattle.modules.proofs.Lemmas.{ge_from_not_lt, Less-from_lt, lt-from_Less}
 use Rattle.modules.proofs.SpreadLemmas.{apart_from_none, tested_by_last}
 use Rattle.modules.proofs.regions.Regions.is_apart.Goals as goal
 

@@ -1,5 +1,4 @@
-use Rattle.modules.proofs.Words.{Bool, List, list_any, arith}
-use Rattle.modules.proofs.Lemmas.{common_steps}
+use Rattle.modules.proofs.Words.{Bool, List, list_any, arith, common_steps}
 use Rattle.modules.proofs.Definitions.{lines_of_run, Run}
 use Rattle.modules.proofs.RunLemmas.{is_in_kernel, kernel_in_all}
 use Rattle.modules.proofs.symbol_lines.SymbolLines.has_kernel_line.Goals as goal
