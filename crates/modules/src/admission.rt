@@ -65,6 +65,7 @@ fn take_all(taken: &mut Regions, regions: &[Region]) -> Result<(), AllocError>
 }
 
 impl<'a> Admission<'a> {
+    #[tactic(auto, using(crate::proofs::SoundnessLemmas::none_beside))]
     fn new(alloc: Global, built_in: Vec<Region>) -> Result<Admission<'a>, AllocError>
         requires { lie_apart built_in.items ≡ true }
         ensures none { IfOk result (λ a. admission_view a ≡ none_yet built_in.items) }

@@ -231,6 +231,7 @@ impl<'a> Catalog<'a> {
     }
 
     /// The number of the module of this name, and [`ABSENT_MODULE`] where there is none.
+    #[tactic(auto, using(crate::proofs::AbsentLemmas::none_absent))]
     pub fn number_for(&self, name: &[u8]) -> u64
         ensures number { result ≡ number_for self.now name.now }
         ensures absent { IsNoneAbsent self.now }
@@ -316,6 +317,7 @@ impl<'a> Catalog<'a> {
     }
 
     /// Whether [`Catalog::load`] gives this update, whatever is held. It takes no memory.
+    #[tactic(auto, using(crate::proofs::LoadLemmas::load_answers))]
     pub fn gives_load(&self, number: u64, update: &Update) -> bool
         ensures { IsTrue result ↔ GivesSome (load_of self.now number) update.now }
     {
@@ -336,6 +338,7 @@ impl<'a> Catalog<'a> {
     }
 
     /// Whether [`Catalog::drop_init`] gives this update, whatever is held. It takes no memory.
+    #[tactic(auto, using(crate::proofs::LoadLemmas::drop_answers))]
     pub fn gives_drop_init(&self, number: u64, update: &Update) -> bool
         ensures { IsTrue result ↔ GivesSome (drop_init_of self.now number) update.now }
     {

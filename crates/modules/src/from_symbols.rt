@@ -57,6 +57,7 @@ fn empty_lists(alloc: Global, count: usize) -> Result<Vec<Vec<Region>>, AllocErr
 }
 
 /// The regions of each number below `count`, by number.
+#[tactic(auto, using(crate::proofs::TakenLemmas::left_more))]
 fn regions_by_number(
     alloc: Global,
     items: &[Item],

@@ -30,6 +30,7 @@ pub fn each_line_is_counted_once()
 {}
 
 /// Each kept line is the symbol of one module: the modules have as many symbols as lines were kept.
+#[tactic(auto, using(crate::proofs::CountLemmas::kept_in_one))]
 pub fn each_kept_line_is_in_one_module()
     ensures { (names : Option BoundNames) (modules : List ListedModule)
         (regions : List ListedRegion) (symbols : List ListedSymbol)
@@ -75,6 +76,7 @@ pub fn every_catalog_of_symbols_is_sound()
 
 /// No module of a sound catalog has the number that stands for an absent one, as long as there are
 /// fewer regions.
+#[tactic(auto, using(crate::proofs::AbsentLemmas::none_absent))]
 pub fn no_module_is_absent()
     ensures { (c : CatalogEntries) → IsSoundCatalog c → IsNoneAbsent c }
 {}
@@ -82,6 +84,7 @@ pub fn no_module_is_absent()
 /// What is found for an address is the symbol at or below it that no other lies between, the first
 /// of those listed, and it reaches to the next symbol above its own address or to the region's end.
 /// Nothing is found exactly where all symbols lie above the address.
+#[tactic(auto, using(crate::proofs::FindLemmas::found_by_place))]
 pub fn a_found_symbol_is_the_nearest()
     ensures { (symbols : List SymbolEntry) (end addr : ℕ)
         → MatchOption (found_in symbols end addr) (All (λ s. addr < s.addr) symbols)
@@ -89,6 +92,7 @@ pub fn a_found_symbol_is_the_nearest()
 {}
 
 /// A listing of symbols alone determines the kernel's regions and the modules with their regions.
+#[tactic(auto, using(crate::proofs::SpacedLemmas::same_accepted))]
 pub fn the_symbols_determine_the_modules()
     ensures { (names : Option BoundNames) (lines : List ListedSymbol) (a b : Accepted)
         → IsFromSymbols names lines a → IsFromSymbols names lines b → a ≡ b }
@@ -96,6 +100,7 @@ pub fn the_symbols_determine_the_modules()
 
 /// A line of a module that has its regions lies in one of them where its own address is that
 /// module's, and nowhere else: so what is kept by the regions is what is kept by the lines.
+#[tactic(auto, using(crate::proofs::OwnLineLemmas::kept_same))]
 pub fn a_line_is_kept_by_its_own_address()
     ensures { (lines : List ListedSymbol) (m : PlacedModule) (l : ListedSymbol)
         → HasItsRegions lines m → l.addr < 2 ^ 64 - 1 → l.owner ≡ Some m.name

@@ -38,6 +38,7 @@ fn items_of(alloc: Global, regions: &[Region], number: u64) -> Result<Vec<Item>,
 }
 
 /// The batch that puts in several regions of a module.
+#[tactic(auto, using(crate::proofs::LoadLemmas::many_given, crate::proofs::LoadLemmas::many_lacks))]
 fn inserting_many(alloc: Global, regions: &[Region], number: u64) -> Result<Update, Refusal>
     requires { length regions.now ≢ 1 }
     ensures { GivesOrLacksMemory (Ok (update_of [] (map (item_of number) regions.now))) result }

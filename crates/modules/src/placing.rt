@@ -222,6 +222,7 @@ fn any_core(lines: &[&RegionLine]) -> bool
 }
 
 /// Whether one of the lines is of a core region.
+#[tactic(auto, using(crate::proofs::GroupLemmas::core_at))]
 fn has_core(lines: &[&RegionLine]) -> bool
     ensures { result ≡ has_core (lines_at lines.now) }
 {

@@ -78,6 +78,7 @@ fn push_items(items: &mut Vec<Item>, catalog: &Catalog, number: u64) -> Result<(
 }
 
 /// The items of all regions, in the order of the catalog.
+#[tactic(auto, using(crate::proofs::ItemLemmas::one_number_more))]
 fn items_of(alloc: Global, catalog: &Catalog) -> Result<Vec<Item>, AllocError>
     ensures { IfOk result (λ v. v.items ≡ items_of catalog.now) }
 {

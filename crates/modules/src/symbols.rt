@@ -232,6 +232,7 @@ fn first_back(symbols: &[Symbol], place: usize, addr: u64) -> usize
 
 /// The place of the first symbol that has the address of the one at a place.
 #[inline(always)]
+#[tactic(auto, using(std::proofs::lemmas::List::get_or_default))]
 fn first_of_equal(symbols: &[Symbol], place: usize) -> usize
     requires rising { IsRising symbols.now }
     requires within { place < length symbols.now }
