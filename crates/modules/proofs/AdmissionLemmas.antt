@@ -1,5 +1,5 @@
 -- One more module.
-use Rattle.modules.proofs.Words.{◌≡◌, ℕ, ◌+◌, Bool, true, false, ◌&&◌, List, [], ◌∷◌, ◌++◌, length, refl, sym, ap, ◌∙◌, arith, length-append, add-one, take, drop, drop-cons, get_or, ◌<◌, list_any, list_all, bytes_eq}
+use Rattle.modules.proofs.Words.{◌≡◌, ℕ, ◌+◌, Bool, true, false, ◌&&◌, List, [], ◌∷◌, ◌++◌, length, refl, sym, ap, ◌∙◌, arith, length-append, add-one, take, drop, drop-cons, get_or, ◌<◌, list_any, list_all, bytes_eq, common_steps, nat_tests}
 use Rattle.modules.proofs.Lemmas.{and_from, and_parts, list_all-append, list_all_more, and_rotate, list_all-each_agree}
 use Rattle.modules.proofs.Definitions.{Accepted, after_module, names_of, taken_regions, PlacedModule, are_beside, is_apart, lie_apart, admission_view, IsAdmission, Admission}
 use Rattle.modules.proofs.SoundnessLemmas.{taken_more, turned}
@@ -54,10 +54,7 @@ taking old now next i rs d lt before more =
     let r : ℕ × ℕ = get_or rs i d in
     let rest : List (ℕ × ℕ) = drop (i + 1) rs in
     let opened : drop i rs ≡ r ∷ rest = rw (add-one) (drop-cons rs i d lt) in
-    let lies = and_parts (list_all (is_apart r) rest) (lie_apart rest) (sym (ap lie_apart opened) ∙ before.apart) in
-    let besides = and_parts (list_all (is_apart r) now) (are_beside now rest) (sym (ap (are_beside now) opened) ∙ before.beside) in
-    record {
-      apart = lies.1;
-      beside = beside_next now next r rest more lies.0 besides.1;
-      all = λ p. more p ∙ ap (λ b. p r && b) (before.all p) ∙ and_rotate (list_all p old) (list_all p (take i rs)) (p r) ∙ ap (λ b. list_all p old && b) (sym (list_all_more p rs i d lt));
-    }
+    grind (arith, common_steps, nat_tests, add-one, drop-cons, and_parts, beside_next, and_rotate, list_all_more)
+
+-- what becomes of a line
+pub ruleset after_line = (after_double, after_overlap, after_accepted, free_in, IsTied-accepted)

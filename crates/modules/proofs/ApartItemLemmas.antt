@@ -1,5 +1,5 @@
 -- The items of a catalog have addresses, and two of them lie apart, so that one at most has an address.
-use Rattle.modules.proofs.Words.{◌≡◌, ℕ, ◌<◌, ◌≤◌, ◌⊎◌, inl, inr, ⊎_elim, true, length, map, get_or, Option, Some, None, refl, sym, ap, subst, ◌∙◌, arith, Contains, All, AllPairs}
+use Rattle.modules.proofs.Words.{◌≡◌, ℕ, ◌<◌, ◌≤◌, ◌⊎◌, inl, inr, ⊎_elim, true, length, map, get_or, Option, Some, None, refl, sym, ap, subst, arith, Contains, All, AllPairs, common_steps}
 use Rattle.modules.proofs.Lemmas.{cases_lt, nat_tests, get_or_default, length-map, All-contains, Contains-map, get_or-map_default, begins, ends, equal_inside}
 use Rattle.modules.proofs.Definitions.{Item, half_open, IsLook, IsSoundCatalog, CatalogEntries, items_of, is_apart}
 use Rattle.modules.proofs.ItemLemmas.{all_regions, region_of}
@@ -15,9 +15,7 @@ module _ (c : CatalogEntries) (sound : IsSoundCatalog c) where
   earlier : (x y : Item) (i j : ℕ) → i < j → j < length (items_of c) → get_or (items_of c) i x ≡ x → get_or (items_of c) j y ≡ y → (x.b ≤ y.a) ⊎ (y.b ≤ x.a)
   earlier x y i j less lt at there =
       let r = pairs i j (region_of x) less (omega (arith, length-map (items_of c) region_of)) in
-      let e : get_or (map region_of (items_of c)) i (region_of x) ≡ region_of x = get_or-map_default region_of (items_of c) i x ∙ ap region_of at in
-      let f : get_or (map region_of (items_of c)) j (region_of x) ≡ region_of y = get_or-map_default region_of (items_of c) j x ∙ ap region_of (get_or_default (items_of c) j x y lt ∙ there) in
-      beside x y (subst (λ b. is_apart (region_of x) b ≡ true) f (subst (λ a. is_apart a (get_or (map region_of (items_of c)) j (region_of x)) ≡ true) e r))
+      grind (arith, common_steps, nat_tests, region_of, length-map, get_or-map_default, get_or_default, beside)
 
   other_side : (x y : Item) → (y.b ≤ x.a) ⊎ (x.b ≤ y.a) → (x.b ≤ y.a) ⊎ (y.b ≤ x.a)
   other_side x y h = ⊎_elim (λ le. inr le) (λ le. inl le) h

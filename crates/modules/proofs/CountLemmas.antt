@@ -1,5 +1,5 @@
 -- Each line is counted once.
-use Rattle.modules.proofs.Words.{◌≡◌, ◌≢◌, ℕ, ◌+◌, Bool, true, false, ◌&&◌, cond, List, [], ◌∷◌, ◌++◌, length, get_or, map, Some, None, Option, refl, sym, suc, ap, ◌∙◌, arith, All, count_by, filter, fold, is_none, sum_by, list_any, option_map_or, option_to_list, bytes_eq, first_so, rules, common_steps}
+use Rattle.modules.proofs.Words.{◌≡◌, ◌≢◌, ℕ, ◌+◌, Bool, true, false, ◌&&◌, cond, List, [], ◌∷◌, ◌++◌, length, get_or, map, Some, None, Option, refl, sym, suc, ap, ◌∙◌, arith, All, count_by, filter, fold, is_none, sum_by, list_any, option_map_or, option_to_list, bytes_eq, first_so, rules, common_steps, nat_tests}
 use Rattle.modules.proofs.Lemmas.{and_left, or_parts, length-map, get_or-map, length-filter, sum_by-cons, list_any_none, count-and_false, count-or, count-or_apart, count_by-either, bytes_eq-one_name}
 use Rattle.modules.proofs.Definitions.{Accepted, accepted_of, after_module, names_of, none_yet, built_in_of, catalog_of, catalog_with, counts_of, entries_of, entry_for, ModuleEntry, AreDistinctNames, belongs, entry_of, is_built_in, is_kept, is_used, lies_in, symbols_that, fits, kernel_regions, region_fits, BoundNames, ListedModule, ListedRegion, ListedSymbol, PlacedModule, are_few, placed_line, lies_in_any}
 use Rattle.modules.proofs.AdmissionLemmas.{total, total-after_module}
@@ -87,16 +87,7 @@ kept_by_home built_in a [] same distinct = omega arith
 kept_by_home built_in a (s ∷ symbols) same distinct =
     let one : homes a.modules s ≡ cond (list_any (λ m. belongs m s) a.modules) 1 0 = one_home a.modules s distinct in
     let apart : is_built_in a.built_in s ≡ true → list_any (λ m. belongs m s) a.modules ≡ false = λ h. unowned s.owner s.addr a.modules (first_so (is_none s.owner) (lies_in_any a.built_in s.addr) h) in
-    let this : cond (is_built_in built_in s) 1 0 + cond (list_any (λ m. belongs m s) a.modules) 1 0 ≡ cond (is_kept a s) 1 0 = ap (λ (b : List (ℕ × ℕ)). cond (is_built_in b s) 1 0 + cond (list_any (λ m. belongs m s) a.modules) 1 0) (sym same) ∙ count-or_apart (is_built_in a.built_in s) (list_any (λ m. belongs m s) a.modules) apart in
-    omega (
-      arith,
-      one,
-      this,
-      kept_by_home built_in a symbols same distinct,
-      sum_by-cons (λ x. cond (is_built_in built_in x) 1 0) s symbols,
-      sum_by-cons (homes a.modules) s symbols,
-      sum_by-cons (λ x. cond (is_kept a x) 1 0) s symbols,
-    )
+    grind (arith, common_steps, nat_tests, one_home, unowned, first_so, count-or_apart, sum_by-cons, kept_by_home built_in a symbols same distinct)
 
 sum_of_modules : (symbols : List ListedSymbol) (lines : List PlacedModule) → sum_by (λ (m : ModuleEntry). length m.symbols) (map (entry_for symbols) lines) ≡ sum_by (λ m. count_by (belongs m) symbols) lines
 sum_of_modules symbols [] = refl

@@ -1,5 +1,5 @@
 -- The region that an address lies in, among regions that are laid.
-use Rattle.modules.proofs.Words.{◌≡◌, ℕ, ◌-◌, ◌<◌, ◌≤◌, true, false, nat_le, List, length, get_or, Option, Some, None, refl, ap, sym, ◌∙◌, ⊎_elim, arith, Contains, IsNonDecreasingBy, IsPartitionPoint}
+use Rattle.modules.proofs.Words.{◌≡◌, ℕ, ◌-◌, ◌<◌, ◌≤◌, true, false, nat_le, List, length, get_or, Option, Some, None, refl, ap, sym, ◌∙◌, ⊎_elim, arith, Contains, IsNonDecreasingBy, IsPartitionPoint, common_steps, nat_tests}
 use Rattle.modules.proofs.Lemmas.{cases_lt, leb-true, leb-false, get_or_default, begins, ends, equal_inside, look_is}
 use Rattle.modules.proofs.Definitions.{Item, half_open, IsLook, look, AreLaid}
 
@@ -14,9 +14,7 @@ module _ (items : List Item) (laid : AreLaid items) where
   not_before : (x y : Item) (addr i j : ℕ) → i < j → j < length items → get_or items i x ≡ x → get_or items j y ≡ y → addr < x.b → y.a ≤ addr → ⊥
   not_before x y addr i j less lt at there below from =
       let e : (get_or items i x).b ≤ (get_or items j x).a = ends_before i j x less lt in
-      let f : (get_or items i x).b ≡ x.b = ap (λ (k : Item). k.b) at in
-      let g : (get_or items j x).a ≡ y.a = ap (λ (k : Item). k.a) (get_or_default items j x y lt ∙ there) in
-      omega arith
+      grind (arith, common_steps, nat_tests, ends_before, get_or_default)
 
   -- one item at most holds an address
   pub one_holds : (x y : Item) (addr : ℕ) → Contains items x → x.a ≤ addr → addr < x.b → Contains items y → y.a ≤ addr → addr < y.b → x ≡ y

@@ -4,14 +4,14 @@ pub use Rattle.std.proofs.Math.ListN.{length-set, set}
 pub use Rattle.std.proofs.Math.Nat.{le_antisymm}
 pub use Rattle.std.proofs.Math.Seq.{get_or-append_seam, take-length}
 pub use Rattle.std.proofs.lemmas.Bool.{and_from, and_left, and_parts, cases_Bool, cases_eq, cases_lt, cases_order, eq-eqb, eqb-false, eqb-true, false_from_ne_true, false≢true, le-leb, le-ltb, leb-false, leb-true, lt-leb, lt-ltb, ltb-false, ltb-true, ne_eqb, not-true, or_cases, or_from, or_left, or_parts, or_right}
-pub use Rattle.std.proofs.lemmas.Bool.Decides.{nat_tests}
+pub use Rattle.std.proofs.lemmas.Bool.Decides.{nat_tests, nat_tests}
 pub use Rattle.std.proofs.lemmas.Cmp.{nat_cmp_total, nat_list_cmp_total}
 pub use Rattle.std.proofs.lemmas.Fn.{always_returns_same}
 pub use Rattle.std.proofs.lemmas.Grind.{get_or-set_at}
 pub use Rattle.std.proofs.lemmas.Iterator.{YieldsList-from_slice}
 pub use Rattle.std.proofs.lemmas.Iterator.Adapters.{position_from-zero, serves_from_places}
 pub use Rattle.std.proofs.lemmas.Iterator.Consumers.{YieldsList-at}
-pub use Rattle.std.proofs.lemmas.List.{append-nil, get_or-map, get_or-set_other, get_or_append_left, get_or_default, get_or_push, length-map, length-take-le, map-append, nil_from_length, same_lists, take_at, take_more}
+pub use Rattle.std.proofs.lemmas.List.{append-nil, get_or-map, get_or-set_other, get_or_append_left, get_or_default, get_or_push, length-map, length-take-le, map-append, nil_from_length, same_lists, take_all, take_at, take_more}
 pub use Rattle.std.proofs.lemmas.List.Concat.{flat_map-append}
 pub use Rattle.std.proofs.lemmas.List.Elements.{All-append, All-cons, All-contains, All-filter, All-head, All-map, All-nil, All-push, All-tail, Contains-append_left, Contains-append_right, Contains-get_or, Contains-push, Contains-push_cases, filter-append, filter_agree, filter_passes}
 pub use Rattle.std.proofs.lemmas.List.Filters.{length-filter_both}
@@ -27,7 +27,7 @@ pub use Rattle.std.proofs.lemmas.Map.Views.{All-found, btree_map_get_iff}
 pub use Rattle.std.proofs.lemmas.Option.{get_or_from_slice_get, slice_get-get_or, slice_get_cases, slice_get_past, slice_get_within}
 pub use Rattle.facts.proofs.Bools.{and-needless_first, and-needless_second, and-second, and_by_second, and_rotate, count-and_false, count-or, count-or_apart, count_either, or_by_first, or_by_second, or_from_cases}
 pub use Rattle.facts.proofs.Lists.{get_or-map_default, take_push}
-pub use Rattle.facts.proofs.Maps.{inserted_cases}
+pub use Rattle.facts.proofs.Maps.{inserted_cases, list_all-insert_entry}
 pub use Rattle.facts.proofs.Members.{Contains-cons_cases, Contains-head, Contains-map, Contains-rest, Contains-slice_get}
 pub use Rattle.facts.proofs.Numbers.{eqb-one_false, eqb-one_more, is_lt-then, le_or_past, le_or_past_below, le_or_past_cases, le_or_past_within, le_unless_past, least_above, least_above_below, least_above_cases, least_above_past, least_above_within, pairs_chain, pairs_not_before, pairs_one_way}
 pub use Rattle.facts.proofs.Options.{Some_ne_None, bytes_eq-one_name}

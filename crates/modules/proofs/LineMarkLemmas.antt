@@ -1,6 +1,6 @@
 -- The marks of the lines of runs.
 use Rattle.modules.proofs.Words.{◌≡◌, ℕ, ◌≤◌, true, false, List, [], ◌∷◌, ◌++◌, length, map, Option, Some, None, refl, arith, append_assoc, All, is_some, Bor, option_copied, rules}
-use Rattle.modules.proofs.Lemmas.{map-append, All-append, filter-append}
+use Rattle.modules.proofs.Lemmas.{map-append, All-append, filter-append, take_more, take_all}
 use Rattle.modules.proofs.Definitions.{SymbolEntry, line_marks, marks_of, number_for, number_in, symbol_marks, ListedSymbol, lines_of_all, lines_of_run, line_of, Mark, Run}
 use Rattle.modules.proofs.NumberLemmas.{number_within}
 use Rattle.modules.proofs.PostLemmas.{all_mapped}
@@ -44,3 +44,6 @@ module _ (kernel : List (ℕ × ℕ)) (names : List (List ℕ)) where
 
   pub marks_more : (runs : List Run) (run : Run) (marks new : List Mark) → marks ≡ marks_of kernel names (lines_of_all runs) → new ≡ marks ++ line_marks kernel names (lines_of_run run) → new ≡ marks_of kernel names (lines_of_all (runs ++ run ∷ []))
   marks_more runs run marks new before pushed = grind (arith, append_assoc, line_marks-append, lines_of_all-last)
+
+-- one run more
+pub ruleset one_run_more = (take_more, take_all, marks_more)

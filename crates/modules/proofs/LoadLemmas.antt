@@ -184,3 +184,9 @@ many_given number rs erase insert several none is = grind (arith, batch_of)
 
 pub many_lacks : (number : ℕ) (rs : List (ℕ × ℕ)) (r : Result Update Refusal) → (length rs ≡ 1 → ⊥) → r ≡ Err OutOfMemory → GivesOrLacksMemory (Ok (update_of [] (map (item_of number) rs))) r
 many_lacks number rs r several lacks = inr (lacks, subst (λ (u : Update). TakesMemory (Ok u)) (sym (batch_of number rs several)) tt)
+
+-- the update takes out what one of the two would
+pub ruleset unload_either = (unload_answers_first, unload_answers_second)
+
+-- one item more
+pub ruleset one_item_more = (add-one, other_length, same_here, same_end)

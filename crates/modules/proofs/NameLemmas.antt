@@ -1,5 +1,5 @@
 -- A name among names that are distinct.
-use Rattle.modules.proofs.Words.{◌≡◌, ℕ, ◌+◌, ◌<◌, true, false, List, [], length, get_or, Some, None, refl, sym, ap, ◌∙◌, ⊎_elim, arith, zero-add, All, is_some, Less, Equal, Greater, bytes_decides, slice_cmp, list_any, position_from, range_with_len, IsPartitionPoint, nat_cmp, bytes_eq}
+use Rattle.modules.proofs.Words.{◌≡◌, ℕ, ◌+◌, ◌<◌, true, false, List, [], length, get_or, Some, None, refl, sym, ap, ◌∙◌, ⊎_elim, arith, zero-add, All, is_some, Less, Equal, Greater, bytes_decides, slice_cmp, list_any, position_from, range_with_len, IsPartitionPoint, nat_cmp, bytes_eq, common_steps, nat_tests}
 use Rattle.modules.proofs.Lemmas.{cases_lt, cases_order, position_from-zero, list_any_at, length-range_with_len, get_or-range_with_len, position-Some, All-permutation, IsPermutation-sym, exact_bytes, slice_cmp-same, is_some-position_from}
 use Rattle.modules.proofs.Definitions.{AreDistinctNames, IsNameIndex}
 
@@ -14,8 +14,7 @@ place_in names index is = All-permutation (λ p. p < length names) (range_with_l
 pub all_places : (names : List (List ℕ)) (index : List ℕ) → IsNameIndex names index → (P : ℕ → Type 0) → All P index → (k : ℕ) → k < length names → P k
 all_places names index is P all k lt =
     let here : P (get_or (range_with_len 0 (length names)) k 0) = All-permutation P index (range_with_len 0 (length names)) (IsPermutation-sym (range_with_len 0 (length names)) index is.listed) all k 0 (rw (length-range_with_len 0 (length names)) lt) in
-    let at : get_or (range_with_len 0 (length names)) k 0 ≡ k = get_or-range_with_len 0 (length names) k 0 lt ∙ zero-add k in
-    rw at at here
+    grind (arith, common_steps, nat_tests, All-permutation, IsPermutation-sym, length-range_with_len, get_or-range_with_len, zero-add)
 
 -- the place of a name that stands at one place
 pub place_is : (names : List (List ℕ)) (name : List ℕ) (k : ℕ) → AreDistinctNames names → k < length names → get_or names k [] ≡ name → position_from (bytes_eq name) 0 names ≡ Some k

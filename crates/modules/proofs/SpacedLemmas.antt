@@ -1,7 +1,7 @@
 -- Regions by rising address, with addresses between any two, are determined by what they hold.
-use Rattle.modules.proofs.Words.{◌≡◌, ℕ, ◌<◌, ◌≤◌, suc, Bool, true, List, [], ◌∷◌, map, Option, Some, refl, ap, sym, ◌∙◌, ⊎_elim, arith, All, AllPairs, list_any}
+use Rattle.modules.proofs.Words.{◌≡◌, ℕ, ◌<◌, ◌≤◌, suc, Bool, true, List, [], ◌∷◌, map, Option, Some, refl, ap, sym, ◌∙◌, ⊎_elim, arith, All, AllPairs, list_any, common_steps}
 use Rattle.modules.proofs.Lemmas.{cases_lt, or_cases, or_left, or_right, nat_tests, All-head, All-tail}
-use Rattle.modules.proofs.Definitions.{Accepted, kernel_regions, BoundNames, ListedSymbol, posts, PlacedModule, holds, Core, HasItsRegions, IsFromSymbols}
+use Rattle.modules.proofs.Definitions.{Accepted, kernel_regions, BoundNames, ListedSymbol, posts, PlacedModule, holds, HasItsRegions, IsFromSymbols}
 
 abbrev pub Range : Type 0
 Range = ℕ × ℕ
@@ -55,10 +55,7 @@ module _ (r : Range) (rs : List Range) (s : Range) (ss : List Range) (r_valid : 
   tail_sub : r.1 ≡ s.1 → (x : ℕ) → lies rs x ≡ true → lies ss x ≡ true
   tail_sub same x h =
       let over : r.1 < x = above rs r.1 x r_last h in
-      ⊎_elim
-      (λ here. let (le, lt) = inside s x here in absurd (omega arith))
-      (λ rest. rest)
-      (or_cases (holds s x) (lies ss x) (sub x (or_right (holds r x) (lies rs x) h)))
+      grind (arith, common_steps, nat_tests, above, inside, or_cases, or_right)
 
 pub same_regions : (rs ss : List Range) → All (λ r. r.0 < r.1) rs → AllPairs (λ r s. r.1 < s.0) rs → All (λ r. r.0 < r.1) ss → AllPairs (λ r s. r.1 < s.0) ss
     → ((x : ℕ) → lies rs x ≡ true → lies ss x ≡ true) → ((x : ℕ) → lies ss x ≡ true → lies rs x ≡ true) → rs ≡ ss
@@ -88,10 +85,7 @@ one_module lines m n p q name =
     let regions : m.regions ≡ n.regions = same_regions m.regions n.regions p.valid p.longest q.valid q.longest
     (λ x h. let (lt, is) = (p.exact x).0 h in (q.exact x).1 (lt, is ∙ ap Some name))
     (λ x h. let (lt, is) = (q.exact x).0 h in (p.exact x).1 (lt, is ∙ ap Some (sym name))) in
-    let parts : m.parts ≡ n.parts = p.parts ∙ ap (map (λ _. Core)) regions ∙ sym q.parts in
-    ap (λ x. record { name = x; regions = m.regions; parts = m.parts }) name
-    ∙ ap (λ x. record { name = n.name; regions = x; parts = m.parts }) regions
-    ∙ ap (λ x. record { name = n.name; regions = n.regions; parts = x }) parts
+    grind (arith, common_steps, nat_tests, same_regions)
 
 pub same_modules : (lines : List ListedSymbol) (ms ns : List PlacedModule) → map (λ m. m.name) ms ≡ map (λ m. m.name) ns → All (HasItsRegions lines) ms → All (HasItsRegions lines) ns → ms ≡ ns
 same_modules lines [] [] e p q = refl
@@ -106,7 +100,4 @@ same_modules lines (m ∷ ms) (n ∷ ns) e p q =
 pub same_accepted : (names : Option BoundNames) (lines : List ListedSymbol) (a b : Accepted) → IsFromSymbols names lines a → IsFromSymbols names lines b → a ≡ b
 same_accepted names lines a b p q =
     let modules : a.modules ≡ b.modules = same_modules (posts (kernel_regions names lines) lines) a.modules b.modules (p.named ∙ sym q.named) p.regions q.regions in
-    ap (λ x. record { built_in = x; modules = a.modules; double = a.double; overlap = a.overlap }) (p.kernel ∙ sym q.kernel)
-    ∙ ap (λ x. record { built_in = b.built_in; modules = x; double = a.double; overlap = a.overlap }) modules
-    ∙ ap (λ x. record { built_in = b.built_in; modules = b.modules; double = x; overlap = a.overlap }) (p.double ∙ sym q.double)
-    ∙ ap (λ x. record { built_in = b.built_in; modules = b.modules; double = b.double; overlap = x }) (p.overlap ∙ sym q.overlap)
+    grind (arith, common_steps, nat_tests, same_modules)

@@ -1,5 +1,5 @@
 -- The regions of numbers, of which some are taken.
-use Rattle.modules.proofs.Words.{◌≡◌, ◌≢◌, ℕ, zero, suc, zero-add, ◌+◌, ◌<◌, ◌≤◌, Bool, true, false, ◌||◌, nat_eq, cond, List, [], ◌∷◌, ◌++◌, length, get_or, map, take, Option, Some, None, refl, sym, ap, subst, ◌∙◌, ⊎_elim, arith, length-append, All, Contains, filter, fold, count_by, Vec, flat_map, list_any, option_map_or, rules, common_steps}
+use Rattle.modules.proofs.Words.{◌≡◌, ◌≢◌, ℕ, zero, suc, zero-add, ◌+◌, ◌<◌, ◌≤◌, Bool, true, false, ◌||◌, nat_eq, cond, List, [], ◌∷◌, ◌++◌, length, get_or, map, take, Option, Some, None, refl, sym, ap, subst, ◌∙◌, ⊎_elim, arith, length-append, All, Contains, filter, fold, count_by, Vec, flat_map, list_any, option_map_or, rules, common_steps, nat_tests}
 use Rattle.modules.proofs.Lemmas.{set, length-set, cases_eq, eqb-true, eq-eqb, ne_eqb, or_left, or_parts, or_right, append-nil, get_or-set_other, get_or_default, map-append, take_more, All-contains, list_any-append, count_by-le-length, sum_by-append, sum_by-cons, get_or-set_at, look_is}
 use Rattle.modules.proofs.Definitions.{Item, half_open, look, AreLeft, is_kept_mark, kept_numbers, modules_numbered, name_of, with_number, numbered_module, ranges_of, AreLaid, AreRegions, HoldsFor, PlacedModule, AreRising, Mark}
 use Rattle.modules.proofs.MarkedModuleLemmas.{from_holds, spaced, valid_ranges}
@@ -92,8 +92,7 @@ kept_ranges items m valid kept none =
     let (i, there, its) = kept_item items m kept in
     let some : i.a < i.b = All-contains (λ (x : Item). x.a < x.b) items i valid there in
     let holds : lies (ranges_of m.owner items) i.a ≡ true = from_holds m.owner items i.a i there its (omega arith) some in
-    let never : lies [] i.a ≡ true = subst (λ (rs : List (ℕ × ℕ)). lies rs i.a ≡ true) none holds in
-    absurd (cc)
+    grind (arith, common_steps, nat_tests, kept_item, All-contains, lies, from_holds)
 
 -- ---- what a kept mark takes
 

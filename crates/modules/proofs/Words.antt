@@ -8,10 +8,11 @@ pub use Rattle.std.specs.Global.{Vec}
 pub use Rattle.std.specs.List.{AllPairs, IsAllAdjacentAnswer, enumerate_from, list_all, list_any, position_from, range_with_len}
 pub use Rattle.std.specs.List.Sorted.{IsNonDecreasingBy, IsPartitionPoint, IsPartitionedBy, IsSortedBy, IsStableBy, IsStableByKey, ties}
 pub use Rattle.std.specs.Option.{option_and_then, option_copied, option_map, option_map_or, option_to_list}
-pub use Rattle.std.specs.Ordering.{is_le, is_lt, nat_cmp, ordering_index, ordering_then}
+pub use Rattle.std.specs.Ordering.{is_le, is_lt, nat_cmp, ordering_index}
 pub use Rattle.std.specs.Str.{bytes_eq}
 pub use Rattle.std.specs.Vec.Iter.{into_iter_items}
 pub use Rattle.std.specs.declared.alloc.AllocError.{AllocError}
 pub use Rattle.std.specs.declared.cmp.Ordering.{Ordering}
 pub use Rattle.std.specs.declared.cmp.Ordering.TheVariants.{Equal, Greater, Less}
 pub use Rattle.std.proofs.lemmas.Grind.{common_steps}
+pub use Rattle.std.proofs.lemmas.Bool.Decides.{nat_tests}

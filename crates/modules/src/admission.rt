@@ -82,6 +82,7 @@ impl<'a> Admission<'a> {
     }
 
     /// Accepts the module, or counts why it is not accepted.
+    #[tactic(auto, using(crate::proofs::AdmissionLemmas::after_line))]
     fn take_module(&mut self, placed: Placed<'a>) -> Result<(), AllocError>
         requires tied { IsAdmission self.old }
         requires counts { self.old.double + self.old.overlap + 1 < 2 ^ 64 }

@@ -328,6 +328,7 @@ impl<'a> Catalog<'a> {
     }
 
     /// Whether [`Catalog::unload`] gives this update, whatever is held. It takes no memory.
+    #[tactic(auto, using(crate::proofs::LoadLemmas::unload_either))]
     pub fn gives_unload(&self, number: u64, update: &Update) -> bool
         ensures { IsTrue result ↔ GivesSome (unload_of self.now number) update.now }
     {

@@ -46,6 +46,7 @@ pub fn symbol_in<'c, 'a>(
 
 /// The same, tried first at a place by rising address.
 #[inline(always)]
+#[tactic(auto, using(crate::proofs::NearestLemmas::found_around))]
 pub(crate) fn symbol_around<'c, 'a>(
     owner: &'c Module<'a>,
     near: usize,

@@ -87,6 +87,7 @@ fn kernel_marks(alloc: Global, kernel: &[Region]) -> Result<Vec<Mark>, AllocErro
 }
 
 /// The marks of the kernel itself, and then those of the lines of modules as they are listed.
+#[tactic(auto, using(crate::proofs::LineMarkLemmas::one_run_more))]
 pub(crate) fn marks_of(
     alloc: Global,
     kernel: &[Region],

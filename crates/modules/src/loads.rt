@@ -173,6 +173,7 @@ fn is_item_of(region: Region, number: u64, item: Item) -> bool
 }
 
 /// Whether the items are those of the regions.
+#[tactic(auto, using(crate::proofs::LoadLemmas::one_item_more))]
 fn same_items(regions: &[Region], number: u64, items: &[Item]) -> bool
     ensures { result ≡ same_items number regions.now items.now }
 {

@@ -111,6 +111,7 @@ impl Regions {
     }
 
     /// Takes the region in. An error leaves these as they were.
+    #[tactic(auto, using(crate::proofs::SpreadLemmas::one_more))]
     pub(crate) fn insert(&mut self, region: Region) -> Result<(), AllocError>
         requires { list_all (is_apart region) self.old ≡ true }
         ensures { OnOk result ((p : ℕ × ℕ → Bool)

@@ -1,6 +1,6 @@
-use Rattle.modules.proofs.Words.{◌≡◌, ◌+◌, ℕ, suc, [], ◌∷◌, ◌++◌, length, get_or, drop, sym, ap, subst, List, ◌∙◌, arith, length-append, append_assoc, into_iter_items, common_steps}
+use Rattle.modules.proofs.Words.{◌≡◌, ◌+◌, ℕ, suc, [], ◌∷◌, ◌++◌, length, sym, subst, ◌∙◌, arith, length-append, append_assoc, into_iter_items, common_steps, nat_tests}
 use Rattle.std.proofs.lemmas.List.{append-nil, nil_from_length}
-use Rattle.modules.proofs.Definitions.{EachMade, module_with, ModuleEntry, IsPlaced, PlacedModule}
+use Rattle.modules.proofs.Definitions.{IsPlaced}
 use Rattle.modules.proofs.MakingLemmas.{EachMade-push, drop_next, drop_none}
 use Rattle.modules.proofs.build.modules_from.Goals as goal
 
@@ -24,16 +24,7 @@ loop-symbols-preserved-in_ok-push c =
     let place = c.in-Some-next.place in
     let next = drop_next places (into_iter_items c.next-in-loop-symbols.new.self) (length done) place (sym i.left ∙ c.in-Some-next.ensures.items) in
     let more : suc (length done) ≡ length (done ++ c.in-Some.symbols ∷ []) = omega (arith, length-append done (c.in-Some.symbols ∷ [])) in
-    let made : (p : PlacedModule) → c.in_ok-new.field-0 ≡ module_with (get_or places (length done) p) c.in-Some.symbols.items = λ p.
-    c.in_ok-new.ensures ∙ ap (λ (x : PlacedModule). module_with x c.in-Some.symbols.items) (sym (next.1 p)) in
-    record {
-      can_next = tt;
-      finite = tt;
-      gone = i.gone ∙ ap (λ xs. done ++ xs) c.in-Some.ensures.steps.0 ∙ sym (append_assoc done (c.in-Some.symbols ∷ []) (into_iter_items c.next.new.self));
-      left = sym next.2 ∙ ap (λ n. drop n places) more;
-      count = ap length c.in_ok-push.ensures.items ∙ length-append c.loop-symbols.modules.items (c.in_ok-new.field-0 ∷ []) ∙ ap (λ n. n + 1) i.count ∙ sym (length-append done (c.in-Some.symbols ∷ []));
-      each = subst (λ (ms : List ModuleEntry). EachMade places (done ++ c.in-Some.symbols ∷ []) ms) (sym c.in_ok-push.ensures.items) (EachMade-push places done c.loop-symbols.modules.items c.in-Some.symbols c.in_ok-new.field-0 i.count i.each made);
-    }
+    grind (arith, common_steps, nat_tests, drop_next, length-append, append_assoc, EachMade-push)
 
 pub returns : goal.returns
 returns c = grind (arith, common_steps, nil_from_length, append-nil)
