@@ -1,7 +1,7 @@
 -- The modules of symbols alone lie apart, and have distinct names.
-use Rattle.modules.proofs.Words.{◌≡◌, ◌≢◌, ℕ, ◌-◌, ◌^◌, ◌<◌, ◌≤◌, Bool, true, false, ◌&&◌, ◌||◌, not, nat_le, nat_lt, cond, List, [], ◌∷◌, ◌++◌, length, get_or, map, Option, Some, None, refl, sym, ap, subst, ◌∙◌, ⊎_elim, arith, All, filter, find, fold, first_so, second_so, AllPairs, flat_map, list_any, option_and_then, option_to_list, bytes_eq, rules}
+use Rattle.modules.proofs.Words.{◌≡◌, ◌≢◌, ℕ, ◌-◌, ◌^◌, ◌<◌, Bool, true, false, ◌||◌, nat_le, nat_lt, cond, List, [], ◌∷◌, ◌++◌, length, get_or, map, Option, Some, None, refl, sym, ap, subst, ◌∙◌, ⊎_elim, arith, All, filter, find, fold, first_so, second_so, AllPairs, flat_map, list_any, option_to_list, bytes_eq, rules, common_steps, nat_tests}
 use Rattle.modules.proofs.Lemmas.{and_parts, cases_lt, le-leb, leb-false, leb-true, ltb-true, or_cases, or_left, or_parts, get_or-map, length-map, All-append, All-contains, All-filter, All-head, All-nil, All-cons, All-push, All-tail, filter_passes, list_any_at, AllPass-from_list_all, AllPairs-few, find-has, find-passes}
-use Rattle.modules.proofs.Definitions.{Accepted, names_of, HasItsRegions, IsFromSymbols, is_kept_line, owner_names, with_name, AreDistinctNames, is_built_in, lies_in, HaveFirstLines, kernel_regions, BoundNames, ListedSymbol, goes_on, is_in_page, is_nearest_line, is_outside, module_of_address, post_below, posts, is_core, IsPlaced, PlacedModule, AreSoundModules, AreApart, holds, is_apart, lies_in_any, Core}
+use Rattle.modules.proofs.Definitions.{Accepted, names_of, HasItsRegions, IsFromSymbols, is_kept_line, owner_names, with_name, AreDistinctNames, is_built_in, lies_in, HaveFirstLines, kernel_regions, BoundNames, ListedSymbol, is_nearest_line, is_outside, module_of_address, posts, is_core, IsPlaced, PlacedModule, AreSoundModules, AreApart, holds, is_apart, lies_in_any, Core}
 use Rattle.modules.proofs.KeptOrderLemmas.{first_lines}
 use Rattle.modules.proofs.MarkedModuleLemmas.{pairs_cons, pairs_first, pairs_rest}
 use Rattle.modules.proofs.OwnLineLemmas.{is_of}
@@ -17,17 +17,7 @@ record IsOwner (lines : List ListedSymbol) (addr : ℕ) (name : List ℕ) (l : L
   pub its : l.owner ≡ Some name
 
 owner_of : (lines : List ListedSymbol) (addr : ℕ) (name : List ℕ) → module_of_address lines addr ≡ Some name → (l : ListedSymbol) × IsOwner lines addr name l
-owner_of lines addr name h = by (post_below lines addr) refl h
-  where
-    reached : (l : ListedSymbol) (b : Bool) → cond b l.owner None ≡ Some name → l.owner ≡ Some name
-    reached l true e = e
-    reached l false e = absurd (cc)
-
-    by : (o : Option ListedSymbol) → post_below lines addr ≡ o
-        → option_and_then (λ (t : ListedSymbol). cond (is_in_page t.addr addr || goes_on lines addr t) t.owner None) o ≡ Some name
-        → (l : ListedSymbol) × IsOwner lines addr name l
-    by None at e = absurd (cc)
-    by (Some l) at e = (l, record { found = at; its = reached l (is_in_page l.addr addr || goes_on lines addr l) e })
+owner_of lines addr name h = grind (arith, common_steps, nat_tests)
 
 -- ---- a module and the kernel itself
 
@@ -36,14 +26,7 @@ is_post kernel l = is_built_in kernel l || is_outside kernel l
 
 -- a post of a module lies outside the kernel's regions
 outside : (kernel : List Range) (l : ListedSymbol) (name : List ℕ) → l.owner ≡ Some name → is_post kernel l ≡ true → lies_in_any kernel l.addr ≡ false
-outside kernel l name own h =
-    let out : is_outside kernel l ≡ true = ⊎_elim (λ built. absurd (let no : is_built_in kernel l ≡ false = rw own refl in cc)) (λ o. o) (or_cases (is_built_in kernel l) (is_outside kernel l) h) in
-    let free : (not (lies_in_any kernel l.addr) && nat_lt l.addr (2 ^ 64 - 1)) ≡ true = (rw own at out) in
-    by (lies_in_any kernel l.addr) refl (and_parts (not (lies_in_any kernel l.addr)) (nat_lt l.addr (2 ^ 64 - 1)) free).0
-  where
-    by : (b : Bool) → lies_in_any kernel l.addr ≡ b → not b ≡ true → b ≡ false
-    by true e h = absurd (cc)
-    by false e h = refl
+outside kernel l name own h = grind (arith, common_steps, nat_tests, or_cases, and_parts)
 
 -- no address of one of the kernel's regions is a module's
 kernel_owns : (kernel : List Range) (lines : List ListedSymbol) (k : ℕ) (d : Range) (addr : ℕ) (name : List ℕ) → HaveFirstLines kernel lines → k < length kernel → holds (get_or kernel k d) addr ≡ true → module_of_address (posts kernel lines) addr ≡ Some name → ⊥
@@ -62,11 +45,7 @@ kernel_owns kernel lines k d addr name has lt in' h =
     let here : lies_in_any kernel t.addr ≡ true = held t.addr (within r t.addr (omega (arith, at_start)) (omega (arith, at_start))) in
     let start : is_post kernel t ≡ true = or_left (is_built_in kernel t) (is_outside kernel t) (rw unowned here) in
     let cleared : (nat_le t.addr l.addr || nat_lt addr t.addr) ≡ true = All-contains (λ (u : ListedSymbol). is_post kernel u ≡ true → (nat_le u.addr l.addr || nat_lt addr u.addr) ≡ true) lines t (all_of_passing (is_post kernel) (λ u. (nat_le u.addr l.addr || nat_lt addr u.addr) ≡ true) lines clear) there start in
-    let below : l.addr ≤ addr = leb-true l.addr addr (first_so (nat_le l.addr addr) _ near) in
-    ⊎_elim
-    (λ le. let from : t.addr ≤ l.addr = leb-true t.addr l.addr le in let its : lies_in_any kernel l.addr ≡ true = held l.addr (within r l.addr (omega (arith, at_start)) (omega arith)) in cc)
-    (λ past. let over : addr < t.addr = ltb-true addr t.addr past in omega (arith, at_start))
-    (or_cases (nat_le t.addr l.addr) (nat_lt addr t.addr) cleared)
+    grind (arith, common_steps, nat_tests, Range, owner_of, find-passes, find-has, filter_passes, outside, list_any_at, AllPass-from_list_all, second_so, inside, within, or_left, All-contains, all_of_passing, leb-true, first_so, ltb-true, or_cases)
 
 -- ---- each module has a kept line
 

@@ -1,5 +1,5 @@
 -- Which first addresses an update takes out.
-use Rattle.modules.proofs.Words.{◌≡◌, ℕ, ◌+◌, ◌<◌, ◌≤◌, Bool, true, false, not, nat_eq, cond, zero, suc, List, [], ◌∷◌, ◌++◌, length, get_or, take, drop, Some, None, refl, sym, ap, ◌∙◌, ⊎_elim, arith, length-append, bytes_decides, bytes_eq}
+use Rattle.modules.proofs.Words.{◌≡◌, ℕ, ◌+◌, ◌<◌, ◌≤◌, Bool, true, false, not, nat_eq, cond, zero, suc, List, [], ◌∷◌, ◌++◌, length, get_or, take, drop, Some, None, refl, sym, ap, ◌∙◌, arith, length-append, bytes_decides, bytes_eq, common_steps, nat_tests}
 use Rattle.modules.proofs.Lemmas.{cases_lt, eqb-true, eq-eqb, append-nil, length-take-le, get_or-append_seam, take-length}
 use Rattle.modules.proofs.Definitions.{only_of, is_of, starts_of, Part}
 use Rattle.modules.proofs.LoadLemmas.{starts_more}
@@ -66,22 +66,4 @@ other_words words starts more start count is bound other =
     not_true false h = refl
 
 pub all_words : (words starts : List ℕ) (count : ℕ) → starts ≡ take count words → count ≤ length words → nat_eq count (length words) ≡ bytes_eq starts words
-all_words words starts count is bound =
-    ⊎_elim
-    (λ less.
-    eqb_by (nat_eq count (length words)) (bytes_eq starts words)
-    (λ e. let k : count ≡ length words = eqb-true count (length words) e in absurd (omega arith))
-    (λ e.
-    let same : starts ≡ words = (bytes_decides starts words).0 e in
-    let length_is : length starts ≡ count = ap (λ (xs : List ℕ). length xs) is ∙ length-take-le count words bound in
-    let k : length starts ≡ length words = ap (λ (xs : List ℕ). length xs) same in absurd (omega arith)))
-    (λ ge.
-    let k : count ≡ length words = omega arith in
-    let same : starts ≡ words = is ∙ ap (λ n. take n words) k ∙ take-length words in
-    eq-eqb count (length words) k ∙ sym ((bytes_decides starts words).1 same))
-    (cases_lt count (length words))
-  where
-    eqb_by : (a b : Bool) → (a ≡ true → ⊥) → (b ≡ true → ⊥) → a ≡ b
-    eqb_by true b f g = absurd (f refl)
-    eqb_by false true f g = absurd (g refl)
-    eqb_by false false f g = refl
+all_words words starts count is bound = grind (arith, common_steps, nat_tests, eqb-true, bytes_decides, length-take-le, take-length, eq-eqb, cases_lt)

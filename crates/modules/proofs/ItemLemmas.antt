@@ -1,5 +1,5 @@
 -- The items of a catalog are its regions.
-use Rattle.modules.proofs.Words.{◌≡◌, ℕ, zero, suc, ◌+◌, List, [], ◌∷◌, ◌++◌, length, map, flat_map, Option, Some, None, refl, sym, ◌∙◌, ap, subst, arith, append-nil, add-one, slice_get, range_with_len, option_map_or, option_to_list}
+use Rattle.modules.proofs.Words.{◌≡◌, ℕ, zero, suc, ◌+◌, List, [], ◌∷◌, ◌++◌, length, map, flat_map, Some, refl, ◌∙◌, ap, subst, arith, append-nil, add-one, slice_get, range_with_len, option_map_or, option_to_list, common_steps, nat_tests}
 use Rattle.modules.proofs.Lemmas.{map-append, flat_map-append, range-append_from_zero}
 use Rattle.modules.proofs.Definitions.{Item, module_of, regions_of, CatalogEntries, ModuleEntry, items_at, items_below, items_of, item_of}
 
@@ -36,11 +36,7 @@ module_at c i zero m e is = absurd (omega arith)
 module_at c i (suc j) m e is = subst (λ p. slice_get c.modules p ≡ Some m) (let q : i ≡ j = omega arith in q) is
 
 built_in_regions : (c : CatalogEntries) → map region_of (items_at c 0) ≡ flat_map (λ m. m.regions) (option_to_list c.built_in)
-built_in_regions c = go c.built_in
-  where
-    go : (o : Option ModuleEntry) → map region_of (option_map_or (λ m. map (item_of 0) m.regions) o []) ≡ flat_map (λ m. m.regions) (option_to_list o)
-    go None = refl
-    go (Some m) = regions_again 0 m.regions ∙ sym (append-nil m.regions)
+built_in_regions c = grind (arith, common_steps, nat_tests, regions_again, append-nil)
 
 pub all_regions : (c : CatalogEntries) → map region_of (items_of c) ≡ regions_of c
 all_regions c = grind (arith, add-one, map-append, built_in_regions, regions_from, module_at, flat_map-append)

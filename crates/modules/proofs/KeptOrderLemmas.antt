@@ -1,7 +1,7 @@
 -- The modules in the order of their first kept lines are those of the lines.
-use Rattle.modules.proofs.Words.{◌≡◌, ◌≢◌, ℕ, ◌-◌, ◌^◌, ◌<◌, Bool, true, false, ◌&&◌, ◌||◌, nat_lt, nat_eq, cond, suc, List, [], ◌∷◌, ◌++◌, get_or, map, Option, Some, None, refl, sym, ap, subst, ◌∙◌, arith, All, IfSome, Contains, filter, find, fold, is_none, is_some, flat_map, list_any, position_from, option_and_then, option_map, option_map_or, option_to_list, bytes_eq, bytes_decides, rules, common_steps}
+use Rattle.modules.proofs.Words.{◌≡◌, ◌≢◌, ℕ, ◌-◌, ◌^◌, ◌<◌, Bool, true, false, ◌||◌, nat_lt, nat_eq, cond, suc, List, [], ◌∷◌, ◌++◌, get_or, map, Option, Some, None, refl, sym, ap, subst, ◌∙◌, arith, All, IfSome, Contains, filter, fold, is_some, flat_map, list_any, position_from, option_map_or, option_to_list, bytes_eq, bytes_decides, rules, common_steps, nat_tests}
 use Rattle.modules.proofs.Lemmas.{and_parts, eq-eqb, eqb-true, ltb-true, map-append, All-cons, All-filter, All-head, All-nil, All-push, All-tail, begins, ends, look_is, find-passes, is_some-position_from}
-use Rattle.modules.proofs.Definitions.{Item, half_open, look, HasItsRegions, IsFromSymbols, is_kept_line, with_name, is_built_in, accepted_with, AreNamed, HasFirstLine, HaveFirstLines, is_kept_mark, kept_numbers, kernel_marks, mark_of, marks_of, modules_numbered, name_of, number_for, number_in, with_number, built_in_region, first_address, kernel_regions, with_apart, BoundNames, ListedSymbol, numbered_module, AreRegions, HoldsFor, is_outside, module_of_address, posts, PlacedModule, Mark}
+use Rattle.modules.proofs.Definitions.{Item, half_open, look, HasItsRegions, IsFromSymbols, is_kept_line, with_name, is_built_in, accepted_with, AreNamed, HasFirstLine, HaveFirstLines, is_kept_mark, kept_numbers, kernel_marks, mark_of, marks_of, modules_numbered, name_of, number_for, number_in, with_number, built_in_region, first_address, kernel_regions, with_apart, BoundNames, ListedSymbol, numbered_module, AreRegions, HoldsFor, is_outside, posts, PlacedModule, Mark}
 use Rattle.modules.proofs.LaidLemmas.{found}
 use Rattle.modules.proofs.MarkedModuleLemmas.{its_regions}
 use Rattle.modules.proofs.OwnLineLemmas.{is_of, of_is, same_bool}
@@ -10,27 +10,10 @@ use Rattle.modules.proofs.PostLemmas.{all_mapped, listed_found, marks_stand, num
 -- ---- the first lines of the kernel's regions
 
 first_line : (name : List ℕ) (lines : List ListedSymbol) (a : ℕ) → first_address name lines ≡ Some a → (l : ListedSymbol) × Contains lines l × (l.owner ≡ None) × (l.addr ≡ a)
-first_line name lines a h = by (find (λ l. is_none l.owner && bytes_eq l.name name) lines) refl h
-  where
-    unnamed : (o : Option (List ℕ)) (b : Bool) → (is_none o && b) ≡ true → o ≡ None
-    unnamed None b e = refl
-    unnamed (Some n) b e = absurd (cc)
-
-    by : (o : Option ListedSymbol) → find (λ l. is_none l.owner && bytes_eq l.name name) lines ≡ o → option_map (λ (l : ListedSymbol). l.addr) o ≡ Some a → (l : ListedSymbol) × Contains lines l × (l.owner ≡ None) × (l.addr ≡ a)
-    by None at e = absurd (cc)
-    by (Some l) at e = (l, listed_found (λ (t : ListedSymbol). is_none t.owner && bytes_eq t.name name) lines l at, unnamed l.owner (bytes_eq l.name name) (find-passes (λ (t : ListedSymbol). is_none t.owner && bytes_eq t.name name) lines l at), (let same : l.addr ≡ a = cc in same))
+first_line name lines a h = grind (arith, common_steps, nat_tests, listed_found, find-passes)
 
 one_first_line : (names : BoundNames) (lines : List ListedSymbol) → IfSome (built_in_region names lines) (HasFirstLine lines)
-one_first_line names lines = by (first_address names.start lines) (first_address names.end lines) refl
-  where
-    by : (s e : Option ℕ) → first_address names.start lines ≡ s → IfSome {T = ℕ × ℕ} (option_and_then (λ start. option_and_then (λ end. cond (nat_lt start end) (Some (start, end)) None) e) s) (HasFirstLine lines)
-    by None e at = tt
-    by (Some s) None at = tt
-    by (Some s) (Some e) at =
-        elim (nat_lt s e) as (λ b. nat_lt s e ≡ b → IfSome {T = ℕ × ℕ} (cond b (Some (s, e)) None) (HasFirstLine lines)) [
-          | true ↦ λ lt. (ltb-true s e lt, first_line names.start lines s at)
-          | false ↦ λ _. tt
-        ] refl
+one_first_line names lines = grind (arith, common_steps, nat_tests, ltb-true, first_line)
 
 module _ (P : ℕ × ℕ → Type 0) where
   all_listed : (region : Option (ℕ × ℕ)) → IfSome region P → All P (option_to_list region)
@@ -81,10 +64,7 @@ module _ (kernel : List (ℕ × ℕ)) (names : List (List ℕ)) (lines : List Li
   kept_same l name own some lt =
       let n : ℕ = number_in names name in
       let stands = marks_stand names lines kernel n name has (numbered names name some) refl in
-      rw own
-      (same_bool (option_map_or (λ (i : Item). nat_eq i.tag n) (look half_open l.addr items) false) (option_map_or (bytes_eq name) (module_of_address (posts kernel lines) l.addr) false)
-      (λ kept. of_is name (module_of_address (posts kernel lines) l.addr) ((stands l.addr lt).0 ((regions.exact n l.addr).0 (at_look n l.addr (look half_open l.addr items) refl kept)).1))
-      (λ kept. by_look n l.addr ((regions.exact n l.addr).1 (lt, (stands l.addr lt).1 (is_of name (module_of_address (posts kernel lines) l.addr) kept)))))
+      grind (arith, common_steps, nat_tests, marks_stand, numbered, same_bool, of_is, at_look, by_look, is_of)
 
   kernel_not_kept : (r : ℕ × ℕ) → is_kept_mark items (record { addr = r.0; owner = 0 }) ≡ false
   kernel_not_kept r = by (is_kept_mark items (record { addr = r.0; owner = 0 })) refl

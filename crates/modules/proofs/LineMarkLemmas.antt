@@ -1,5 +1,5 @@
 -- The marks of the lines of runs.
-use Rattle.modules.proofs.Words.{◌≡◌, ℕ, ◌≤◌, true, false, List, [], ◌∷◌, ◌++◌, length, map, Option, Some, None, refl, arith, append_assoc, All, is_some, Bor, option_copied, rules}
+use Rattle.modules.proofs.Words.{◌≡◌, ℕ, ◌≤◌, true, false, List, [], ◌∷◌, ◌++◌, length, map, Some, None, refl, arith, append_assoc, All, is_some, option_copied, rules, common_steps, nat_tests}
 use Rattle.modules.proofs.Lemmas.{map-append, All-append, filter-append, take_more, take_all}
 use Rattle.modules.proofs.Definitions.{SymbolEntry, line_marks, marks_of, number_for, number_in, symbol_marks, ListedSymbol, lines_of_all, lines_of_run, line_of, Mark, Run}
 use Rattle.modules.proofs.NumberLemmas.{number_within}
@@ -23,19 +23,11 @@ module _ (kernel : List (ℕ × ℕ)) (names : List (List ℕ)) where
 
   -- the lines of the kernel itself have none
   pub marks_of_kernel_run : (r : Run) → is_some r.module ≡ false → line_marks kernel names (lines_of_run r) ≡ []
-  marks_of_kernel_run r none = by r.module none
-    where
-      by : (m : Option (Bor (List ℕ))) → is_some m ≡ false → line_marks kernel names (map (line_of (option_copied m)) r.symbols.items) ≡ []
-      by None e = of_kernel r.symbols.items
-      by (Some b) e = absurd (cc)
+  marks_of_kernel_run r none = grind (arith, common_steps, nat_tests, of_kernel)
 
   -- those of a module have its number
   pub marks_of_module_run : (r : Run) → is_some r.module ≡ true → line_marks kernel names (lines_of_run r) ≡ symbol_marks kernel (number_for names (option_copied r.module)) r.symbols.items
-  marks_of_module_run r some = by r.module some
-    where
-      by : (m : Option (Bor (List ℕ))) → is_some m ≡ true → line_marks kernel names (map (line_of (option_copied m)) r.symbols.items) ≡ symbol_marks kernel (number_for names (option_copied m)) r.symbols.items
-      by None e = absurd (cc)
-      by (Some b) e = of_module b.now r.symbols.items
+  marks_of_module_run r some = grind (arith, common_steps, nat_tests, of_module)
 
   -- ---- one run more
 

@@ -1,5 +1,5 @@
 -- What a further piece changes.
-use Rattle.modules.proofs.Words.{◌≡◌, ℕ, ◌<◌, ◌≤◌, List, [], ◌∷◌, ◌++◌, length, get_or, sym, subst, ◌∙◌, inl, inr, ⊎_elim, arith, length-append, ◌≢◌, ◌⊎◌, ◌↔◌, All, AllPairs, rules, common_steps}
+use Rattle.modules.proofs.Words.{◌≡◌, ℕ, ◌<◌, ◌≤◌, List, [], ◌∷◌, ◌++◌, length, get_or, sym, subst, ◌∙◌, arith, length-append, ◌≢◌, ◌⊎◌, ◌↔◌, All, AllPairs, rules, common_steps, nat_tests}
 use Rattle.modules.proofs.Lemmas.{cases_lt, get_or_append_left, get_or-append_seam, All-push, Contains-push, Contains-append_left, Contains-push_cases, all_pairs_push}
 use Rattle.modules.proofs.Definitions.{Item, AreLaid, Follows, HoldsFor}
 
@@ -68,22 +68,4 @@ holds_with items p m x = grind (arith, common_steps, Contains-push_cases, Contai
 -- the longer item holds what the last one held, and the piece
 pub holds_merged : (init old new : List Item) (last p m : Item) → old ≡ init ++ last ∷ [] → new ≡ init ++ m ∷ [] → m.a ≡ last.a → m.b ≡ p.b → m.tag ≡ last.tag → last.b ≡ p.a → last.tag ≡ p.tag → last.a < last.b → p.a < p.b → (owner x : ℕ)
     → HoldsFor new owner x ↔ (HoldsFor old owner x ⊎ InPiece p owner x)
-holds_merged init old new last p m was is from to its on of valid more owner x = (
-  λ h. ⊎_elim
-      (λ front. inl (in_old (inl front)))
-      (λ (tag, le, lt). ⊎_elim
-      (λ below. inl (in_old (inr (sym its ∙ tag, omega arith, below))))
-      (λ above. inr (sym of ∙ sym its ∙ tag, omega arith, omega arith))
-      (cases_lt x last.b))
-      ((holds_with init m owner x).0 (subst (λ (xs : List Item). HoldsFor xs owner x) is h)),
-  λ e. subst (λ (xs : List Item). HoldsFor xs owner x) (sym is) ((holds_with init m owner x).1 (⊎_elim
-      (λ h. ⊎_elim
-      (λ front. inl front)
-      (λ (tag, le, lt). inr (its ∙ tag, omega arith, omega arith))
-      ((holds_with init last owner x).0 (subst (λ (xs : List Item). HoldsFor xs owner x) was h)))
-      (λ (tag, le, lt). inr (its ∙ of ∙ tag, omega arith, omega arith))
-      e)),
-)
-  where
-    in_old : HoldsFor init owner x ⊎ InPiece last owner x → HoldsFor old owner x
-    in_old e = subst (λ (xs : List Item). HoldsFor xs owner x) (sym was) ((holds_with init last owner x).1 e)
+holds_merged init old new last p m was is from to its on of valid more owner x = grind (arith, common_steps, nat_tests, cases_lt, holds_with)

@@ -1,5 +1,5 @@
 -- Whose an address is by the marks of a listing is what its lines say.
-use Rattle.modules.proofs.Words.{◌≡◌, ◌≢◌, ℕ, ◌+◌, ◌-◌, ◌^◌, ◌<◌, ◌≤◌, Bool, true, false, ◌&&◌, ◌||◌, not, nat_le, nat_lt, nat_eq, cond, suc, List, [], ◌∷◌, ◌++◌, get_or, map, Option, Some, None, refl, sym, ap, subst, ◌∙◌, inl, inr, ⊎_elim, arith, ◌⊎◌, All, Contains, filter, find, is_none, is_some, first_so, second_so, position_from, option_and_then, option_map, option_map_or, bytes_eq, bytes_decides, rules}
+use Rattle.modules.proofs.Words.{◌≡◌, ◌≢◌, ℕ, ◌+◌, ◌-◌, ◌<◌, ◌≤◌, Bool, true, false, ◌&&◌, ◌||◌, not, nat_le, nat_lt, nat_eq, cond, suc, List, [], ◌∷◌, ◌++◌, get_or, map, Option, Some, None, refl, sym, ap, subst, ◌∙◌, inl, inr, ⊎_elim, arith, ◌⊎◌, All, Contains, filter, find, is_none, first_so, second_so, position_from, option_and_then, option_map, option_map_or, bytes_eq, bytes_decides, rules, common_steps, nat_tests}
 use Rattle.modules.proofs.Lemmas.{and_from, and_parts, cases_lt, eq-eqb, eqb-true, le-leb, leb-true, lt-ltb, ltb-true, ne_eqb, or_cases, or_left, or_parts, or_right, position_from-zero, All-append, All-cons, All-contains, All-head, All-nil, All-tail, list_any_at, position-Some, AllPass-from_list_all, list_all-from_AllPass, Contains-slice_get, find-agree, find-filter, find-has, find-passes, find_place}
 use Rattle.modules.proofs.Definitions.{is_built_in, HaveFirstLines, kernel_marks, line_marks, mark_of, marks_of, name_of, number_for, number_in, ListedSymbol, StandsFor, GoesOn, IsFirstMark, IsNearestMark, IsNextMark, Owns, goes_on, is_in_page, is_nearest_line, is_next_line, is_of_one_module, is_outside, module_of_address, post_above, post_below, posts, reach, holds, lies_in_any, Mark}
 use Rattle.modules.proofs.KeptLemmas.{not_built_in}
@@ -126,8 +126,7 @@ number_some : (names : List (List ℕ)) (name : List ℕ) (o : Option ℕ) (n : 
 number_some names name None n at is some = absurd (some (sym is))
 number_some names name (Some k) n at is some =
     let found = position-Some (bytes_eq name) names k [] (position_from-zero (bytes_eq name) names ∙ at) in
-    let place : n - 1 ≡ k = omega (arith, is) in
-    ap (λ j. get_or names j []) place ∙ sym ((bytes_decides name (get_or names k [])).0 found.1)
+    grind (arith, common_steps, nat_tests, position-Some, position_from-zero, bytes_decides)
 
 pub number_names : (names : List (List ℕ)) (name : List ℕ) (n : ℕ) → number_in names name ≡ n → n ≢ 0 → name_of names n ≡ name
 number_names names name n is some = number_some names name (position_from (bytes_eq name) 0 names) n refl is some
@@ -142,35 +141,11 @@ abbrev is_inside : List (ℕ × ℕ) → ℕ → Bool
 is_inside kernel a = lies_in_any kernel a
 
 outside_not_inside : (kernel : List (ℕ × ℕ)) (l : ListedSymbol) → is_outside kernel l ≡ true → is_inside kernel l.addr ≡ false
-outside_not_inside kernel l h =
-    let first = and_parts (is_some l.owner && not (is_inside kernel l.addr)) (nat_lt l.addr (2 ^ 64 - 1)) h in
-    let both = and_parts (is_some l.owner) (not (is_inside kernel l.addr)) first.0 in
-    turned (is_inside kernel l.addr) both.1
-  where
-    turned : (b : Bool) → not b ≡ true → b ≡ false
-    turned true h = absurd (cc)
-    turned false h = refl
+outside_not_inside kernel l h = grind (arith, common_steps, nat_tests, and_parts)
 
 -- of lines at an address outside the kernel's region, just those of modules are posts
 posts_at : (kernel : List (ℕ × ℕ)) (lines : List ListedSymbol) (a : ℕ) → is_inside kernel a ≡ false → find (is_line_at a) (posts kernel lines) ≡ find (is_line_at a) (filter (is_outside kernel) lines)
-posts_at kernel lines a out =
-    find-filter (is_line_at a) (λ l. is_built_in kernel l || is_outside kernel l) lines
-    ∙ find-agree (λ l. (is_built_in kernel l || is_outside kernel l) && is_line_at a l) (λ l. is_outside kernel l && is_line_at a l) lines (λ k d lt. here (get_or lines k d))
-    ∙ sym (find-filter (is_line_at a) (is_outside kernel) lines)
-  where
-    by : (built_in outside at : Bool) → (at ≡ true → built_in ≡ false) → ((built_in || outside) && at) ≡ (outside && at)
-    by true outside true h = absurd (let e = h refl in cc)
-    by true true false h = refl
-    by true false false h = refl
-    by false outside at h = refl
-
-    no : (b : Bool) → (b && false) ≡ false
-    no true = refl
-    no false = refl
-
-    here : (l : ListedSymbol) → ((is_built_in kernel l || is_outside kernel l) && is_line_at a l) ≡ (is_outside kernel l && is_line_at a l)
-    here l = by (is_built_in kernel l) (is_outside kernel l) (is_line_at a l) (λ at.
-        ap (λ n. is_none l.owner && is_inside kernel n) (eqb-true l.addr a at) ∙ ap (λ b. is_none l.owner && b) out ∙ no (is_none l.owner))
+posts_at kernel lines a out = grind (arith, common_steps, nat_tests, find-filter, find-agree, eqb-true)
 
 first_apart : (r : ℕ × ℕ) (a : ℕ) → r.0 < r.1 → holds r a ≡ false → r.0 ≡ a → ⊥
 first_apart r a valid out e = let in' : holds r a ≡ true = within r a (omega arith) (omega arith) in cc
@@ -334,10 +309,7 @@ module _ (names : List (List ℕ)) (lines : List ListedSymbol) where
   line_of_first : (kernel : List (ℕ × ℕ)) (m : Mark) → m.owner ≢ 0 → IsFirstMark (marks_of kernel names lines) m → (l : ListedSymbol) × IsLineOf kernel m l
   line_of_first kernel m some first =
       let (l, at, made) = mark_found kernel m some (found_first (marks_of kernel names lines) m first) in
-      let addr : m.addr ≡ l.addr = sym (ap (λ (s : Mark). s.addr) made) in
-      let here : find (is_line_at l.addr) (filter (is_outside kernel) lines) ≡ Some l = subst (λ a. find (is_line_at a) (filter (is_outside kernel) lines) ≡ Some l) addr at in
-      let out : is_inside kernel l.addr ≡ false = outside_not_inside kernel l (passes_outside kernel l l.addr here) in
-      (l, record { made = made; out = out; first = posts_at kernel lines l.addr out ∙ here })
+      grind (arith, common_steps, nat_tests, mark_found, found_first, outside_not_inside, passes_outside, posts_at)
 
   owner_of_line : (kernel : List (ℕ × ℕ)) (m : Mark) (l : ListedSymbol) (n : ℕ) (name : List ℕ) → n ≢ 0 → number_in names name ≡ n → m.owner ≡ n → IsLineOf kernel m l → l.owner ≡ Some name
   owner_of_line kernel m l n name some is its line =
@@ -356,13 +328,7 @@ module _ (names : List (List ℕ)) (lines : List ListedSymbol) where
   one_of l t name own h = let here : option_map_or (bytes_eq name) t.owner false ≡ true = (rw own at h) in is_of name t.owner here
 
   next_near : (kernel : List (ℕ × ℕ)) (x : ℕ) (l : ListedSymbol) (name : List ℕ) → l.owner ≡ Some name → goes_on (posts kernel lines) x l ≡ true → (t : ListedSymbol) × (post_above (posts kernel lines) x ≡ Some t) × (t.owner ≡ Some name) × (t.addr < l.addr + reach)
-  next_near kernel x l name own h = by (post_above (posts kernel lines) x) refl h
-    where
-      by : (o : Option ListedSymbol) → post_above (posts kernel lines) x ≡ o → option_map_or (λ t. is_of_one_module l t && nat_lt t.addr (l.addr + reach)) o false ≡ true → (t : ListedSymbol) × (post_above (posts kernel lines) x ≡ Some t) × (t.owner ≡ Some name) × (t.addr < l.addr + reach)
-      by None at e = absurd (cc)
-      by (Some t) at e =
-          let both = and_parts (is_of_one_module l t) (nat_lt t.addr (l.addr + reach)) e in
-          (t, at, one_of l t name own both.0, ltb-true t.addr (l.addr + reach) both.1)
+  next_near kernel x l name own h = grind (arith, common_steps, nat_tests, and_parts, one_of, ltb-true)
 
   to_goes_on : (kernel : List (ℕ × ℕ)) (n x : ℕ) (name : List ℕ) (m : Mark) (l : ListedSymbol) → n ≢ 0 → number_in names name ≡ n → m.owner ≡ n → IsLineOf kernel m l → IsNearestIn (marks_of kernel names lines) x l.addr → GoesOn (marks_of kernel names lines) x m → goes_on (posts kernel lines) x l ≡ true
   to_goes_on kernel n x name m l some is its line near on =

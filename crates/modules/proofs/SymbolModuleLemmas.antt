@@ -1,5 +1,6 @@
 -- The modules of a listing that is kept in runs.
-use Rattle.std.proofs.Common.{◌≡◌, ℕ, List, Option, sym, ap, subst, ◌∙◌}
+use Rattle.std.proofs.Common.{◌≡◌, ℕ, List, Option, ap, subst, ◌∙◌, arith}
+use Rattle.modules.proofs.Words.{common_steps, nat_tests}
 use Rattle.modules.proofs.Definitions.{Item, accepted_with, IsFromSymbols, AreNamed, kept_numbers, marks_of, modules_numbered, kernel_regions, BoundNames, ListedSymbol, AreRegions, PlacedModule, lines_of_all, Mark, Run}
 use Rattle.modules.proofs.KeptOrderLemmas.{from_symbols}
 
@@ -15,5 +16,4 @@ found_modules bounds kernel names runs lines marks items modules shown named are
     ∙ ap (λ (k : List (ℕ × ℕ)). marks_of k names lines) at in
     let all : AreNamed names lines = subst (λ (ls : List ListedSymbol). AreNamed names ls) shown named in
     let found = from_symbols bounds lines names items all (subst (λ (ms : List Mark). AreRegions ms items) same regions) in
-    subst (λ (k : List (ℕ × ℕ)). IsFromSymbols bounds lines (accepted_with k modules)) (sym at)
-    (subst (λ (ms : List PlacedModule). IsFromSymbols bounds lines (accepted_with built_in ms)) (sym (is ∙ ap (λ (ms : List Mark). modules_numbered names items (kept_numbers items ms)) same)) found)
+    grind (arith, common_steps, nat_tests, from_symbols)

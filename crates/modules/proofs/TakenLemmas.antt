@@ -1,5 +1,5 @@
 -- The regions of numbers, of which some are taken.
-use Rattle.modules.proofs.Words.{◌≡◌, ◌≢◌, ℕ, zero, suc, zero-add, ◌+◌, ◌<◌, ◌≤◌, Bool, true, false, ◌||◌, nat_eq, cond, List, [], ◌∷◌, ◌++◌, length, get_or, map, take, Option, Some, None, refl, sym, ap, subst, ◌∙◌, ⊎_elim, arith, length-append, All, Contains, filter, fold, count_by, Vec, flat_map, list_any, option_map_or, rules, common_steps, nat_tests}
+use Rattle.modules.proofs.Words.{◌≡◌, ◌≢◌, ℕ, zero, suc, zero-add, ◌+◌, ◌<◌, ◌≤◌, Bool, true, false, ◌||◌, nat_eq, cond, List, [], ◌∷◌, ◌++◌, length, get_or, map, take, Option, Some, None, refl, sym, ap, ◌∙◌, ⊎_elim, arith, length-append, All, Contains, filter, fold, count_by, Vec, flat_map, list_any, option_map_or, rules, common_steps, nat_tests}
 use Rattle.modules.proofs.Lemmas.{set, length-set, cases_eq, eqb-true, eq-eqb, ne_eqb, or_left, or_parts, or_right, append-nil, get_or-set_other, get_or_default, map-append, take_more, All-contains, list_any-append, count_by-le-length, sum_by-append, sum_by-cons, get_or-set_at, look_is}
 use Rattle.modules.proofs.Definitions.{Item, half_open, look, AreLeft, is_kept_mark, kept_numbers, modules_numbered, name_of, with_number, numbered_module, ranges_of, AreLaid, AreRegions, HoldsFor, PlacedModule, AreRising, Mark}
 use Rattle.modules.proofs.MarkedModuleLemmas.{from_holds, spaced, valid_ranges}
@@ -19,30 +19,7 @@ ranges_more n (j ∷ js) i = grind (arith, ranges_more n js i)
 -- the list of a number grows by the range of an item
 pub left_more : (count k : ℕ) (items : List Item) (i d : Item) (lists : List (Vec (ℕ × ℕ))) (v u : Vec (ℕ × ℕ)) → k < length items → i ≡ get_or items k d → i.tag < count → AreLeft count (take k items) [] lists
     → u ≡ get_or lists i.tag u → v.items ≡ u.items ++ range_of i ∷ [] → AreLeft count (take (k + 1) items) [] (set lists i.tag v)
-left_more count k items i d lists v u lt is within left at pushed = (length-set lists i.tag v ∙ left.0, λ n e below. ⊎_elim (own n e below) (other n e below) (cases_eq n i.tag))
-  where
-    taken : (n : ℕ) → ranges_of n (take (k + 1) items) ≡ ranges_of n (take k items) ++ cond (nat_eq i.tag n) (range_of i ∷ []) []
-    taken n =
-        ap (ranges_of n) (take_more items k d lt ∙ ap (λ (x : Item). take k items ++ x ∷ []) (sym is))
-        ∙ ranges_more n (take k items) i
-
-    own : (n : ℕ) (e : Vec (ℕ × ℕ)) → n < count → n ≡ i.tag → (get_or (set lists i.tag v) n e).items ≡ ranges_of n (take (k + 1) items)
-    own n e below same =
-        let fits : i.tag < length lists = (let l = left.0 in omega arith) in
-        ap (λ (w : Vec (ℕ × ℕ)). w.items) (get_or-set_at lists i.tag n v e same fits)
-        ∙ pushed
-        ∙ ap (λ (rs : List (ℕ × ℕ)). rs ++ range_of i ∷ []) (ap (λ (w : Vec (ℕ × ℕ)). w.items) at ∙ left.1 i.tag u within)
-        ∙ ap (λ (m : ℕ). ranges_of m (take k items) ++ range_of i ∷ []) (sym same)
-        ∙ ap (λ (b : Bool). ranges_of n (take k items) ++ cond b (range_of i ∷ []) []) (sym (eq-eqb i.tag n (sym same)))
-        ∙ sym (taken n)
-
-    other : (n : ℕ) (e : Vec (ℕ × ℕ)) → n < count → n ≢ i.tag → (get_or (set lists i.tag v) n e).items ≡ ranges_of n (take (k + 1) items)
-    other n e below differs =
-        ap (λ (w : Vec (ℕ × ℕ)). w.items) (get_or-set_other lists i.tag n v e differs)
-        ∙ left.1 n e below
-        ∙ sym (append-nil (ranges_of n (take k items)))
-        ∙ ap (λ (b : Bool). ranges_of n (take k items) ++ cond b (range_of i ∷ []) []) (sym (ne_eqb i.tag n (λ is. differs (sym is))))
-        ∙ sym (taken n)
+left_more count k items i d lists v u lt is within left at pushed = grind (arith, common_steps, nat_tests, length-set, cases_eq, take_more, ranges_more, set, get_or-set_at, eq-eqb, get_or-set_other, append-nil, ne_eqb)
 
 -- ---- one number more that is taken
 
@@ -50,28 +27,10 @@ any_own : (taken : List ℕ) (n : ℕ) → list_any (nat_eq n) (with_number take
 any_own taken n = grind (arith, list_any-append, or_right, or_left, eq-eqb)
 
 any_other : (taken : List ℕ) (n j : ℕ) → j ≢ n → list_any (nat_eq j) (with_number taken n) ≡ list_any (nat_eq j) taken
-any_other taken n j differs =
-    elim (list_any (nat_eq n) taken) as (λ b. list_any (nat_eq j) (cond b taken (taken ++ n ∷ [])) ≡ list_any (nat_eq j) taken) [
-      | true ↦ refl
-      | false ↦ list_any-append (nat_eq j) taken (n ∷ []) ∙ ap (λ b. list_any (nat_eq j) taken || (b || false)) (ne_eqb j n differs) ∙ or_none (list_any (nat_eq j) taken)
-    ]
-  where
-    or_none : (b : Bool) → (b || (false || false)) ≡ b
-    or_none true = refl
-    or_none false = refl
+any_other taken n j differs = grind (arith, common_steps, nat_tests, list_any-append, ne_eqb)
 
 pub left_taken : (count n : ℕ) (items : List Item) (taken : List ℕ) (lists : List (Vec (ℕ × ℕ))) (v : Vec (ℕ × ℕ)) → n < count → v.items ≡ [] → AreLeft count items taken lists → AreLeft count items (with_number taken n) (set lists n v)
-left_taken count n items taken lists v within empty left = (length-set lists n v ∙ left.0, λ j d below. ⊎_elim (own j d below) (other j d below) (cases_eq j n))
-  where
-    own : (j : ℕ) (d : Vec (ℕ × ℕ)) → j < count → j ≡ n → (get_or (set lists n v) j d).items ≡ cond (list_any (nat_eq j) (with_number taken n)) [] (ranges_of j items)
-    own j d below same =
-        let fits : n < length lists = (let l = left.0 in omega arith) in
-        let there : list_any (nat_eq j) (with_number taken n) ≡ true = ap (λ m. list_any (nat_eq m) (with_number taken n)) same ∙ any_own taken n in
-        ap (λ (w : Vec (ℕ × ℕ)). w.items) (get_or-set_at lists n j v d same fits) ∙ empty ∙ ap (λ (b : Bool). cond b [] (ranges_of j items)) (sym there)
-
-    other : (j : ℕ) (d : Vec (ℕ × ℕ)) → j < count → j ≢ n → (get_or (set lists n v) j d).items ≡ cond (list_any (nat_eq j) (with_number taken n)) [] (ranges_of j items)
-    other j d below differs =
-        ap (λ (w : Vec (ℕ × ℕ)). w.items) (get_or-set_other lists n j v d differs) ∙ left.1 j d below ∙ ap (λ (b : Bool). cond b [] (ranges_of j items)) (sym (any_other taken n j differs))
+left_taken count n items taken lists v within empty left = grind (arith, common_steps, nat_tests, length-set, cases_eq, set, any_own, get_or-set_at, get_or-set_other, any_other)
 
 -- ---- the number of a kept mark
 
@@ -128,11 +87,7 @@ module _ (names : List (List ℕ)) (items : List Item) (taken : List ℕ) (m : M
 
 -- what is left is empty, or rises
 pub left_rising : (n : ℕ) (items : List Item) (taken : List ℕ) (left : List (ℕ × ℕ)) → AreLaid items → left ≡ cond (list_any (nat_eq n) taken) [] (ranges_of n items) → AreRising left
-left_rising n items taken left laid is = subst AreRising (sym is) (by (list_any (nat_eq n) taken))
-  where
-    by : (b : Bool) → AreRising (cond b [] (ranges_of n items))
-    by true = record { valid = λ k d lt. absurd (omega arith); rising = λ i j d less lt. absurd (omega arith) }
-    by false = record { valid = valid_ranges n items laid.valid; rising = spaced n items laid.follow }
+left_rising n items taken left laid is = grind (arith, common_steps, nat_tests, valid_ranges, spaced)
 
 -- ---- there are no more regions than items
 
