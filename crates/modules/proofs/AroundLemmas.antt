@@ -1,6 +1,6 @@
 -- The symbol below an address and the address above it.
-use Rattle.modules.proofs.Words.{◌≡◌, ℕ, ◌-◌, ◌<◌, ◌≤◌, true, ◌&&◌, ◌||◌, nat_lt, nat_le, List, get_or, Some, None, Option, refl, ap, ◌∙◌, false, arith, All, find, unwrap_or, list_all, option_map, first_so, second_so, inl, inr, ⊎_elim, list_any}
-use Rattle.modules.proofs.Lemmas.{AllPass-from_list_all, leb-true, ltb-true, le-leb, lt-ltb, le_or_past_below, least_above_below, le_unless_past, least_above_past, find-agree, find-passes, list_all-agree, find-has, le_antisymm, cases_lt, and_from, All-contains, list_any_at, list_all-from_AllPass, or_from_cases, All-from_find, least_in}
+use Rattle.modules.proofs.Words.{◌≢◌, ◌⊎◌, length, ◌≡◌, ℕ, ◌-◌, ◌<◌, ◌≤◌, true, ◌&&◌, ◌||◌, nat_lt, nat_le, List, get_or, Some, None, Option, refl, ap, ◌∙◌, false, arith, All, find, unwrap_or, list_all, option_map, first_so, second_so, inl, inr, ⊎_elim, list_any}
+use Rattle.modules.proofs.Lemmas.{AllPass-from_list_all, leb-true, ltb-true, le-leb, lt-ltb, le_or_past_below, least_above_below, le_unless_past, least_above_past, find-agree, find-passes, list_all-agree, find-has, le_antisymm, cases_lt, and_from, All-contains, list_any_at, list_all-from_AllPass, or_from_cases, All-from_find, least_in, find-none, find-first, find-number, le-ltb, lt-leb, false_from_ne_true, le_or_past, least_above}
 use Rattle.modules.proofs.Definitions.{address_above, is_nearest, is_next, symbol_below, SymbolEntry}
 
 pub below_le : (symbols : List SymbolEntry) (addr : ℕ) (s : SymbolEntry) → symbol_below symbols addr ≡ Some s → s.addr ≤ addr
@@ -86,3 +86,36 @@ none_over symbols addr none = λ k d lt.
     absurd (cc))
     (λ under. under)
     (cases_lt addr (get_or symbols k d).addr)
+
+-- ---- what is found, by places
+
+pub below_none : (symbols : List SymbolEntry) (addr : ℕ) → All (λ t. addr < t.addr) symbols → symbol_below symbols addr ≡ None
+below_none symbols addr over = grind (arith, find-none, lt-leb)
+
+-- a symbol not above the address with none between them, the first of its address
+pub below_found : (symbols : List SymbolEntry) (addr place : ℕ) (s : SymbolEntry) → place < length symbols → (get_or symbols place s).addr ≤ addr → All (λ t. (t.addr ≤ (get_or symbols place s).addr) ⊎ (addr < t.addr)) symbols
+    → ((k : ℕ) → k < place → (get_or symbols k s).addr ≢ (get_or symbols place s).addr) → symbol_below symbols addr ≡ Some (get_or symbols place s)
+below_found symbols addr place s within low near first =
+    let a : ℕ = (get_or symbols place s).addr in
+    find-first (is_nearest symbols addr) symbols place s within
+    (rw (le-leb a addr low) (list_all-from_AllPass (λ (t : SymbolEntry). nat_le t.addr a || nat_lt addr t.addr) symbols (λ j t lt. le_or_past (get_or symbols j t).addr a addr (near j t lt))))
+    (λ k less. false_from_ne_true (is_nearest symbols addr (get_or symbols k s)) (λ yes.
+    let both = nearest_parts symbols addr (get_or symbols k s) yes in
+    let upper : a ≤ (get_or symbols k s).addr = le_unless_past a (get_or symbols k s).addr addr (both.1 place s within) low in
+    first k less (⊎_elim (λ le. omega arith) (λ past. absurd (omega arith)) (near k s (omega arith)))))
+
+pub above_none : (symbols : List SymbolEntry) (addr : ℕ) → All (λ t. t.addr ≤ addr) symbols → address_above symbols addr ≡ None
+above_none symbols addr under = grind (arith, find-none, le-ltb)
+
+-- a symbol above the address with none between them
+pub above_found : (symbols : List SymbolEntry) (addr place : ℕ) (s : SymbolEntry) → place < length symbols → addr < (get_or symbols place s).addr → All (λ t. (t.addr ≤ addr) ⊎ ((get_or symbols place s).addr ≤ t.addr)) symbols
+    → address_above symbols addr ≡ Some (get_or symbols place s).addr
+above_found symbols addr place s within high near =
+    let a : ℕ = (get_or symbols place s).addr in
+    find-number (is_next symbols addr) (λ (t : SymbolEntry). t.addr) symbols a
+    (λ j t lt yes.
+    let both = next_parts symbols addr (get_or symbols j t) yes in
+    let upper : (get_or symbols j t).addr ≤ a = least_above_past (get_or symbols j t).addr a addr (both.1 place s within) high in
+    ⊎_elim (λ le. absurd (omega arith)) (λ le. omega arith) (near j t lt))
+    (list_any_at (is_next symbols addr) symbols place s within
+    (rw (lt-ltb addr a high) (list_all-from_AllPass (λ (u : SymbolEntry). nat_le u.addr addr || nat_le a u.addr) symbols (λ j t l. least_above a (get_or symbols j t).addr addr (near j t l)))))

@@ -1,7 +1,8 @@
 -- Symbols that are listed by rising address.
-use Rattle.modules.proofs.Words.{◌≡◌, ℕ, ◌-◌, ◌<◌, ◌≤◌, ◌⊎◌, true, false, ◌||◌, nat_lt, nat_le, List, length, get_or, Some, None, ap, subst, inl, inr, ⊎_elim, arith, slice_get, option_map, IsPartitionPoint}
-use Rattle.modules.proofs.Lemmas.{cases_lt, false_from_ne_true, and_parts, le-leb, le-ltb, lt-leb, lt-ltb, ltb-false, ltb-true, get_or_default, AllPass-from_list_all, list_all-from_AllPass, slice_get_cases, le_or_past, le_unless_past, least_above, find-first, find-none}
-use Rattle.modules.proofs.Definitions.{is_nearest, symbol_below, is_next, address_above, SymbolEntry, IsFirstBorder, IsFirstOf, IsRising, IsSplitOf}
+use Rattle.modules.proofs.Words.{◌≡◌, ℕ, ◌-◌, ◌<◌, ◌≤◌, true, false, nat_lt, List, length, get_or, Some, None, arith, slice_get, option_map, IsPartitionPoint}
+use Rattle.modules.proofs.Lemmas.{cases_lt, ltb-false, ltb-true, get_or_default, slice_get_cases}
+use Rattle.modules.proofs.Definitions.{symbol_below, address_above, SymbolEntry, IsFirstBorder, IsFirstOf, IsRising, IsSplitOf}
+use Rattle.modules.proofs.AroundLemmas.{above_found, above_none, below_found, below_none}
 
 pub IsFirstOf-from_partition : (symbols : List SymbolEntry) (addr split : ℕ) → split ≤ length symbols → IsPartitionPoint (λ s. nat_lt s.addr addr ≡ true) (λ s. nat_lt s.addr addr ≡ false) symbols split → IsFirstOf symbols addr split
 IsFirstOf-from_partition symbols addr split bound point = grind (arith, ltb-true, ltb-false)
@@ -22,7 +23,7 @@ IsFirstOf-from_border symbols addr place rising border =
 -- ---- the symbol that is not above an address
 
 pub none_below : (symbols : List SymbolEntry) (addr : ℕ) → IsSplitOf symbols addr 0 → symbol_below symbols addr ≡ None
-none_below symbols addr split = grind (arith, find-none, lt-leb)
+none_below symbols addr split = below_none symbols addr (λ k d lt. split.above k d (omega arith) lt)
 
 -- the first of those that have the address of the last one below
 record IsFound (symbols : List SymbolEntry) (addr split first : ℕ) (s : SymbolEntry) : Type 0 where
@@ -39,41 +40,16 @@ first_within symbols addr split first s rising parts some is = (first_found symb
 pub first_below : (symbols : List SymbolEntry) (addr split first : ℕ) (s : SymbolEntry) → IsRising symbols → IsSplitOf symbols addr split → 0 < split → IsFirstOf symbols (get_or symbols (split - 1) s).addr first → symbol_below symbols addr ≡ Some (get_or symbols first s)
 first_below symbols addr split first s rising parts some is =
     let found = first_found symbols addr split first s rising parts some is in
-    let a : ℕ = (get_or symbols (split - 1) s).addr in
-    let its : (get_or symbols first s).addr ≡ a = found.same in
-    let low : a ≤ addr = parts.below (split - 1) s (omega arith) in
-    let bound = parts.bound in
-    let near : (j : ℕ) (t : SymbolEntry) → j < length symbols → ((get_or symbols j t).addr ≤ a) ⊎ (addr < (get_or symbols j t).addr) = λ j t lt. ⊎_elim
-    (λ before. inl (subst (λ (x : SymbolEntry). (get_or symbols j t).addr ≤ x.addr) (get_or_default symbols (split - 1) t s (omega arith)) (rising j (split - 1) t (omega arith) (omega arith))))
-    (λ after. inr (parts.above j t after lt))
-    (cases_lt j split) in
-    find-first (is_nearest symbols addr) symbols first s found.within
-    (let le : nat_le (get_or symbols first s).addr addr ≡ true = rw its (le-leb a addr low) in
-    rw le (list_all-from_AllPass (λ (t : SymbolEntry). nat_le t.addr (get_or symbols first s).addr || nat_lt addr t.addr) symbols (λ j t lt. rw its (le_or_past (get_or symbols j t).addr a addr (near j t lt)))))
-    (λ k less. false_from_ne_true (is_nearest symbols addr (get_or symbols k s)) (λ yes.
-    let both = and_parts (nat_le (get_or symbols k s).addr addr) _ yes in
-    let test = AllPass-from_list_all (λ (t : SymbolEntry). nat_le t.addr (get_or symbols k s).addr || nat_lt addr t.addr) symbols both.1 (split - 1) s (omega arith) in
-    let upper : a ≤ (get_or symbols k s).addr = le_unless_past a (get_or symbols k s).addr addr test low in
-    let under : (get_or symbols k s).addr < a = is.below k s less in
-    absurd (omega arith)))
+    let low : (get_or symbols (split - 1) s).addr ≤ addr = parts.below (split - 1) s (omega arith) in
+    below_found symbols addr first s found.within (omega (arith, found.same, low))
+    (λ j t lt. grind (arith, cases_lt, get_or_default, found.same, rising j (split - 1) s, rising j (split - 1) t))
+    (λ k less same. let under = is.below k s less in omega (arith, found.same, same))
 
 -- ---- the least address above an address
 
 first_above : (symbols : List SymbolEntry) (addr split : ℕ) → IsRising symbols → IsSplitOf symbols addr split → (s : SymbolEntry) → split < length symbols → address_above symbols addr ≡ Some (get_or symbols split s).addr
 first_above symbols addr split rising parts s within =
-    let high : addr < (get_or symbols split s).addr = parts.above split s (omega arith) within in
-    ap (option_map (λ (t : SymbolEntry). t.addr)) (find-first (is_next symbols addr) symbols split s within
-    (let lt : nat_lt addr (get_or symbols split s).addr ≡ true = lt-ltb addr (get_or symbols split s).addr high in
-    rw lt (list_all-from_AllPass (λ (t : SymbolEntry). nat_le t.addr addr || nat_le (get_or symbols split s).addr t.addr) symbols (λ j t l. least_above (get_or symbols split s).addr (get_or symbols j t).addr addr (⊎_elim
-    (λ before. inl (parts.below j t before))
-    (λ after. inr (subst (λ (x : SymbolEntry). x.addr ≤ (get_or symbols j t).addr) (get_or_default symbols split t s within) (rising split j t after l)))
-    (cases_lt j split)))))
-    (λ k less.
-    let under : (get_or symbols k s).addr ≤ addr = parts.below k s less in
-    rw (le-ltb addr (get_or symbols k s).addr under)))
-
-none_above : (symbols : List SymbolEntry) (addr split : ℕ) → IsSplitOf symbols addr split → length symbols ≤ split → address_above symbols addr ≡ None
-none_above symbols addr split parts all = grind (arith, find-none, le-ltb)
+    above_found symbols addr split s within (parts.above split s (omega arith) within) (λ j t l. grind (arith, cases_lt, get_or_default, rising split j t))
 
 pub above_in : (symbols : List SymbolEntry) (addr split : ℕ) → IsRising symbols → IsSplitOf symbols addr split → option_map (λ s. s.addr) (slice_get symbols split) ≡ address_above symbols addr
-above_in symbols addr split rising parts = grind (arith, first_above, none_above, slice_get_cases)
+above_in symbols addr split rising parts = grind (arith, first_above, above_none, slice_get_cases)
