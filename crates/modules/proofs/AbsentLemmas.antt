@@ -1,19 +1,15 @@
 -- A number above that of the regions is no module's.
-use Rattle.modules.proofs.Words.{◌≡◌, ℕ, suc, ◌<◌, ◌≤◌, true, List, [], ◌∷◌, ◌++◌, length, flat_map, Option, Some, None, arith, length-append, All, list_any, option_to_list}
+use Rattle.modules.proofs.Words.{◌≡◌, ℕ, suc, ◌≤◌, List, [], ◌∷◌, ◌++◌, length, flat_map, Option, Some, None, arith, length-append, All, option_to_list, common_steps, nat_tests}
 use Rattle.modules.proofs.Lemmas.{All-head, All-tail, slice_get_past}
-use Rattle.modules.proofs.Definitions.{placed_module_of, module_of, regions_of, IsNoneAbsent, IsSoundCatalog, CatalogEntries, ModuleEntry, is_core, IsPlaced, Part}
+use Rattle.modules.proofs.Definitions.{placed_module_of, module_of, regions_of, IsNoneAbsent, IsSoundCatalog, CatalogEntries, ModuleEntry, IsPlaced}
 
 abbrev IsPlacedEntry : ModuleEntry → Type 0
 IsPlacedEntry m = IsPlaced (placed_module_of m)
 
-some_part : (parts : List Part) → list_any is_core parts ≡ true → 0 < length parts
-some_part [] some = absurd (cc)
-some_part (p ∷ ps) some = omega arith
-
 -- each module has a region at least
 as_many_regions : (ms : List ModuleEntry) → All IsPlacedEntry ms → length ms ≤ length (flat_map (λ m. m.regions) ms)
 as_many_regions [] all = omega arith
-as_many_regions (m ∷ ms) all = grind (arith, All-head, All-tail, some_part, length-append, as_many_regions ms (All-tail IsPlacedEntry m ms all))
+as_many_regions (m ∷ ms) all = grind (arith, All-head, All-tail, length-append, as_many_regions ms (All-tail IsPlacedEntry m ms all), common_steps, nat_tests)
 
 no_more_modules : (built_in : Option ModuleEntry) (ms : List ModuleEntry) → All IsPlacedEntry (option_to_list built_in ++ ms)
     → length ms ≤ length (flat_map (λ m. m.regions) (option_to_list built_in ++ ms))

@@ -1,8 +1,8 @@
 -- One more module.
-use Rattle.modules.proofs.Words.{◌≡◌, ℕ, ◌+◌, Bool, true, false, ◌&&◌, List, [], ◌∷◌, ◌++◌, length, refl, sym, ap, ◌∙◌, arith, length-append, add-one, take, drop, drop-cons, get_or, ◌<◌, list_any, list_all, bytes_eq, common_steps, nat_tests}
-use Rattle.modules.proofs.Lemmas.{and_from, and_parts, list_all-append, list_all_more, and_rotate, list_all-each_agree}
+use Rattle.modules.proofs.Words.{◌≡◌, ℕ, ◌+◌, Bool, true, false, ◌&&◌, List, [], ◌∷◌, ◌++◌, length, refl, sym, ◌∙◌, arith, length-append, add-one, take, drop, drop-cons, get_or, ◌<◌, list_any, list_all, bytes_eq, common_steps, nat_tests}
+use Rattle.modules.proofs.Lemmas.{and_from, and_parts, list_all_more, and_rotate, list_all-each_agree}
 use Rattle.modules.proofs.Definitions.{Accepted, after_module, names_of, taken_regions, PlacedModule, are_beside, is_apart, lie_apart, admission_view, IsAdmission, Admission}
-use Rattle.modules.proofs.SoundnessLemmas.{taken_more, turned}
+use Rattle.modules.proofs.SoundnessLemmas.{turned}
 
 pub after_double : (a : Accepted) (m : PlacedModule) → list_any (bytes_eq m.name) (names_of a.modules) ≡ true → after_module a m ≡ record a { double = a.double + 1 }
 after_double a m h = rw h
@@ -12,10 +12,6 @@ after_overlap a m h k = rw (h, k)
 
 pub after_accepted : (a : Accepted) (m : PlacedModule) → list_any (bytes_eq m.name) (names_of a.modules) ≡ false → (lie_apart m.regions && are_beside (taken_regions a) m.regions) ≡ true → after_module a m ≡ record a { modules = a.modules ++ m ∷ [] }
 after_accepted a m h k = rw (h, k)
-
--- what all regions that are taken pass, once a module was accepted
-pub list_all-taken_after : (p : ℕ × ℕ → Bool) (a : Accepted) (m : PlacedModule) → list_all p (taken_regions (record a { modules = a.modules ++ m ∷ [] })) ≡ (list_all p (taken_regions a) && list_all p m.regions)
-list_all-taken_after p a m = ap (list_all p) (taken_more a m) ∙ list_all-append p (taken_regions a) m.regions
 
 -- how many lines were gone through
 abbrev pub total : Accepted → ℕ
@@ -31,7 +27,7 @@ free_in a tied regions = sym (list_all-each_agree is_apart a.taken (taken_region
 pub IsTied-accepted : (a : Admission) (m : PlacedModule) → IsAdmission a → (n : Admission) → admission_view n ≡ record (admission_view a) { modules = (admission_view a).modules ++ m ∷ [] }
     → ((p : ℕ × ℕ → Bool) → list_all p n.taken ≡ (list_all p a.taken && list_all p m.regions))
     → IsAdmission n
-IsTied-accepted a m tied n shows regions = grind (arith, list_all-taken_after)
+IsTied-accepted a m tied n shows regions = grind (arith, common_steps, nat_tests)
 
 -- ---- the regions of a module, taken one after the other
 

@@ -17,12 +17,9 @@ module _ (c : CatalogEntries) (sound : IsSoundCatalog c) where
       let r = pairs i j (region_of x) less (omega (arith, length-map (items_of c) region_of)) in
       grind (arith, common_steps, nat_tests, region_of, length-map, get_or-map_default, get_or_default, beside)
 
-  other_side : (x y : Item) → (y.b ≤ x.a) ⊎ (x.b ≤ y.a) → (x.b ≤ y.a) ⊎ (y.b ≤ x.a)
-  other_side x y h = ⊎_elim (λ le. inr le) (λ le. inl le) h
-
   -- two items are one, or apart
   pub same_or_apart : (x y : Item) → Contains (items_of c) x → Contains (items_of c) y → (x ≡ y) ⊎ ((x.b ≤ y.a) ⊎ (y.b ≤ x.a))
-  same_or_apart x y (i, lt, at) (j, less, there) = grind (arith, earlier, other_side, get_or_default, cases_lt)
+  same_or_apart x y (i, lt, at) (j, less, there) = grind (arith, earlier, get_or_default, cases_lt)
 
   pub each_has_addresses : (x : Item) → Contains (items_of c) x → x.a < x.b
   each_has_addresses x m =

@@ -1,6 +1,6 @@
 -- Each line is counted once.
-use Rattle.modules.proofs.Words.{◌≡◌, ◌≢◌, ℕ, ◌+◌, Bool, true, false, ◌&&◌, cond, List, [], ◌∷◌, ◌++◌, length, get_or, map, Some, None, Option, refl, sym, suc, ap, ◌∙◌, arith, All, count_by, filter, fold, is_none, sum_by, list_any, option_map_or, option_to_list, bytes_eq, first_so, rules, common_steps, nat_tests}
-use Rattle.modules.proofs.Lemmas.{and_left, or_parts, length-map, get_or-map, length-filter, sum_by-cons, list_any_none, count-and_false, count-or, count-or_apart, count_by-either, bytes_eq-one_name}
+use Rattle.modules.proofs.Words.{◌≡◌, ◌≢◌, ℕ, ◌+◌, Bool, true, false, ◌&&◌, cond, List, [], ◌∷◌, ◌++◌, length, get_or, map, Some, None, Option, refl, sym, suc, ◌∙◌, arith, All, count_by, filter, fold, is_none, sum_by, list_any, option_map_or, option_to_list, bytes_eq, first_so, rules, common_steps, nat_tests}
+use Rattle.modules.proofs.Lemmas.{and_left, length-map, get_or-map, length-filter, sum_by-cons, list_any_none, count-and_false, count-or, count-or_apart, count_by-either, bytes_eq-one_name}
 use Rattle.modules.proofs.Definitions.{Accepted, accepted_of, after_module, names_of, none_yet, built_in_of, catalog_of, catalog_with, counts_of, entries_of, entry_for, ModuleEntry, AreDistinctNames, belongs, entry_of, is_built_in, is_kept, is_used, lies_in, symbols_that, fits, kernel_regions, region_fits, BoundNames, ListedModule, ListedRegion, ListedSymbol, PlacedModule, are_few, placed_line, lies_in_any}
 use Rattle.modules.proofs.AdmissionLemmas.{total, total-after_module}
 use Rattle.modules.proofs.SoundnessLemmas.{accepted_good}
@@ -62,16 +62,9 @@ no_home_left m ms s distinct h = list_any_none (λ (n : PlacedModule). belongs n
 distinct_tail : (m : PlacedModule) (ms : List PlacedModule) → AreDistinctNames (names_of (m ∷ ms)) → AreDistinctNames (names_of ms)
 distinct_tail m ms distinct = λ i j d lt within. distinct (suc i) (suc j) d (omega arith) (omega arith)
 
-count_of_none : (ms : List PlacedModule) (s : ListedSymbol) → list_any (λ n. belongs n s) ms ≡ false → homes ms s ≡ 0
-count_of_none [] s h = refl
-count_of_none (m ∷ ms) s h =
-    let both = or_parts (belongs m s) (list_any (λ n. belongs n s) ms) h in
-    let first : cond {A = ℕ} (belongs m s) 1 0 ≡ 0 = ap (λ b. cond b 1 0) both.0 in
-    omega (arith, first, count_of_none ms s both.1, sum_by-cons (λ n. cond (belongs n s) 1 0) m ms)
-
 one_home : (lines : List PlacedModule) (s : ListedSymbol) → AreDistinctNames (names_of lines) → homes lines s ≡ cond (list_any (λ m. belongs m s) lines) 1 0
 one_home [] s distinct = refl
-one_home (m ∷ ms) s distinct = grind (arith, common_steps, sum_by-cons, count-or, distinct_tail, count_of_none, no_home_left, one_home ms s (distinct_tail m ms distinct))
+one_home (m ∷ ms) s distinct = grind (arith, common_steps, sum_by-cons, count-or, distinct_tail, no_home_left, one_home ms s (distinct_tail m ms distinct))
 
 -- a symbol of the kernel itself belongs to no module
 abbrev pub without_owner : Option (List ℕ) → ℕ → PlacedModule → Bool

@@ -1,7 +1,6 @@
 -- The definitions of this crate and of those below, of whatever module, that its proofs use.
 pub use Rattle.modules.specs.Accepted.{Accepted, accepted_of, accepted_with, after_module, names_of, none_yet, taken_regions}
 pub use Rattle.modules.specs.Admissions.{IsAdmission, admission_view, module_counts}
-pub use Rattle.modules.specs.Again.{IsRegionOf}
 pub use Rattle.modules.specs.Around.{address_above, is_nearest, is_next, symbol_below}
 pub use Rattle.modules.specs.Building.{AreModules, EachMade, built_in_with, kernel_at, module_with, placed_module_of}
 pub use Rattle.modules.specs.Catalogs.{IsNoneAbsent, IsSoundCatalog, built_in_of, catalog_of, catalog_with, counts_of, entries_of, entry_for, kept_counts, module_of, regions_of}
@@ -16,7 +15,7 @@ pub use Rattle.modules.specs.Kept.{AreDistinctNames, belongs, entry_of, is_built
 pub use Rattle.modules.specs.LineMarks.{AreLeft, AreNamed, HasFirstLine, HaveFirstLines, is_kept_mark, kept_numbers, kernel_marks, line_marks, mark_of, marks_of, modules_numbered, name_of, number_for, number_in, symbol_marks, with_number, with_owner}
 pub use Rattle.modules.specs.Lines.{built_in_region, first_address, fits, is_region, kernel_regions, module_line_region, region_fits, region_line_region, with_apart}
 pub use Rattle.modules.specs.Listed.{BoundNames, ListedModule, ListedRegion, ListedSymbol}
-pub use Rattle.modules.specs.Loads.{GivesOrLacksMemory, GivesSome, TakesMemory, drop_init_update, has_no_items, is_erasing, is_inserting, is_item_of, item_of, load_of, load_update, only_of, same_items, unload_update, update_of}
+pub use Rattle.modules.specs.Loads.{GivesOrLacksMemory, GivesSome, TakesMemory, drop_init_update, has_no_items, is_erasing, is_inserting, is_item_of, item_of, load_of, load_update, same_items, unload_update, update_of}
 pub use Rattle.modules.specs.MarkedModules.{StandsFor, numbered_module, ranges_of}
 pub use Rattle.modules.specs.Marks.{AreLaid, AreRegions, Follows, GoesOn, HoldsFor, IsFirstMark, IsNearestMark, IsNextMark, Owns}
 pub use Rattle.modules.specs.Modules.{module_view}

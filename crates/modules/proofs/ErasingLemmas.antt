@@ -1,18 +1,10 @@
 -- Which first addresses an update takes out.
-use Rattle.modules.proofs.Words.{◌≡◌, ℕ, ◌+◌, ◌<◌, ◌≤◌, Bool, true, false, not, nat_eq, cond, zero, suc, List, [], ◌∷◌, ◌++◌, length, get_or, take, drop, Some, None, refl, sym, ap, ◌∙◌, arith, length-append, bytes_decides, bytes_eq, common_steps, nat_tests}
+use Rattle.modules.proofs.Words.{◌≡◌, ℕ, ◌+◌, ◌<◌, ◌≤◌, Bool, true, false, not, nat_eq, cond, zero, suc, List, [], ◌∷◌, ◌++◌, length, get_or, take, drop, refl, sym, ap, ◌∙◌, arith, length-append, bytes_decides, bytes_eq, common_steps, nat_tests}
 use Rattle.modules.proofs.Lemmas.{cases_lt, eqb-true, eq-eqb, append-nil, length-take-le, get_or-append_seam, take-length}
-use Rattle.modules.proofs.Definitions.{only_of, is_of, starts_of, Part}
+use Rattle.modules.proofs.Definitions.{is_of, starts_of, Part}
 use Rattle.modules.proofs.LoadLemmas.{starts_more}
 
 -- ---- just one first address, or several
-
-pub only_one : (starts : List ℕ) (last : ℕ) → starts ≡ last ∷ [] → Some last ≡ only_of starts
-only_one starts last is = sym (ap (λ (xs : List ℕ). only_of xs) is)
-
-pub not_only_one : (starts : List ℕ) → (length starts ≡ 1 → ⊥) → None ≡ only_of starts
-not_only_one [] several = refl
-not_only_one (x ∷ []) several = absurd (several refl)
-not_only_one (x ∷ y ∷ rest) several = refl
 
 pub none_of_length : (xs : List ℕ) → length xs ≡ 0 → xs ≡ []
 none_of_length [] h = refl
@@ -26,16 +18,6 @@ module _ (core init : Bool) (rs : List (ℕ × ℕ)) (ps : List Part) (i : ℕ) 
 
   pub other_more : is_of core init (get_or ps i p) ≡ false → starts_of core init (take (i + 1) rs) (take (i + 1) ps) ≡ starts_of core init (take i rs) (take i ps)
   other_more is = starts_more core init rs ps i r p lt lp ∙ ap (λ b. starts_of core init (take i rs) (take i ps) ++ cond b ((get_or rs i r).0 ∷ []) []) is ∙ append-nil (starts_of core init (take i rs) (take i ps))
-
-take_past : {X : Type 0} (xs : List X) (i : ℕ) → length xs ≤ i → take i xs ≡ xs
-take_past [] zero le = refl
-take_past [] (suc i) le = refl
-take_past (x ∷ xs) zero le = absurd (omega arith)
-take_past (x ∷ xs) (suc i) le = ap (λ ys. x ∷ ys) (take_past xs i (omega arith))
-
--- past the last place these are all
-pub whole_starts : (core init : Bool) (rs : List (ℕ × ℕ)) (ps : List Part) (i : ℕ) → length rs ≤ i → length ps ≤ i → starts_of core init (take i rs) (take i ps) ≡ starts_of core init rs ps
-whole_starts core init rs ps i le lp = ap (λ (xs : List (ℕ × ℕ)). starts_of core init xs (take i ps)) (take_past rs i le) ∙ ap (λ (xs : List Part). starts_of core init rs xs) (take_past ps i lp)
 
 -- all first addresses are those before a place, that of the place, and those after it
 pub starts_split : (core init : Bool) (rs : List (ℕ × ℕ)) (ps : List Part) (i : ℕ) (r : ℕ × ℕ) (p : Part) → i < length rs → i < length ps → is_of core init (get_or ps i p) ≡ true

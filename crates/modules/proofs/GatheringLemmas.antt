@@ -1,5 +1,5 @@
 -- One more run of symbol lines.
-use Rattle.modules.proofs.Words.{◌≡◌, ℕ, ◌+◌, ◌<◌, ◌≤◌, Bool, false, cond, List, ◌++◌, length, get_or, map, not, Some, None, Ok, Err, Option, Result, refl, sym, ap, subst, ◌∙◌, ⊎_elim, arith, length-append, filter, count_by, OnOk, Bor, Vec, position_from, option_copied, option_map_or, AllocError, bytes_eq, append_assoc}
+use Rattle.modules.proofs.Words.{◌≡◌, ℕ, ◌+◌, ◌<◌, ◌≤◌, Bool, false, cond, List, ◌++◌, length, get_or, map, not, Some, None, Ok, Err, Option, Result, refl, sym, ap, ◌∙◌, ⊎_elim, arith, length-append, filter, count_by, OnOk, Bor, Vec, position_from, option_copied, option_map_or, AllocError, bytes_eq, append_assoc}
 use Rattle.modules.proofs.Lemmas.{cases_eq, map-append, append-nil, length-map, filter-append, length-filter_both, sum_by-append, nil_from_length}
 use Rattle.modules.proofs.Definitions.{Accepted, names_of, SymbolEntry, CountsStay, Gathers, HasRoom, Keeps, KeepsRun, lies_for, owner_for, AreDistinctNames, belongs, is_built_in, is_kept, symbols_that, entry_of, ListedSymbol, PlacedModule, lines_of_run, line_of, Gathered, Owner, Run}
 use Rattle.modules.specs.declared.gathering.Owner.TheVariants as owner
@@ -110,19 +110,11 @@ room_for a (Some name) g lists = room_at a name (position_from (bytes_eq name) 0
 pub room_of : (a : Accepted) (m : Option (Bor (List ℕ))) (g : Gathered) (o : Owner) → o ≡ owner_for a (option_copied m) → length g.modules.items ≡ length a.modules → HasRoom g o
 room_of a m g o is lists = rw is (room_for a (option_copied m) g lists)
 
-keeps_same : (o : Owner) (g h : Gathered) (kept stray : ℕ) (ss : List SymbolEntry) → Keeps o ss (record g { kept = kept; stray = stray }) h → Keeps o ss g h
-keeps_same owner.BuiltIn g h kept stray ss keeps = keeps
-keeps_same (owner.Module place) g h kept stray ss keeps = keeps
-keeps_same owner.Nobody g h kept stray ss keeps = keeps
-
-lists_of : (o p : Owner) (ss ts : List SymbolEntry) (g h : Gathered) (kept stray : ℕ) → o ≡ p → ss ≡ ts → Keeps o ss (record g { kept = kept; stray = stray }) h → Keeps p ts g h
-lists_of o p ss ts g h kept stray owner all keeps = subst (λ (q : Owner). Keeps q ts g h) owner (keeps_same o g h kept stray ts (subst (λ (es : List SymbolEntry). Keeps o es (record g { kept = kept; stray = stray }) h) all keeps))
-
 -- what a run adds is in the lists and in the counts
 pub kept_or_fails : (a : Accepted) (r : Run) (g : Gathered) (kept rest : ℕ) (o : Owner) (symbols : List SymbolEntry) (h : Gathered) (result : Result (Unit {0}) AllocError) → o ≡ owner_for a (option_copied r.module) → symbols ≡ filter (lies a o) r.symbols.items → kept ≡ length symbols → rest + length symbols ≡ length r.symbols.items
     → OnOk result (Keeps o symbols (record g { kept = g.kept + kept; stray = g.stray + rest }) h) → OnOk result (CountsStay (record g { kept = g.kept + kept; stray = g.stray + rest }) h) → OnOk result (KeepsRun a r g h)
 kept_or_fails a r g kept rest o symbols h (Err e) owner is few others lists counts = tt
-kept_or_fails a r g kept rest o symbols h (Ok v) owner is few others lists counts = grind (arith, lists_of)
+kept_or_fails a r g kept rest o symbols h (Ok v) owner is few others lists counts = grind arith
 
 -- one run more
 pub ruleset one_run_more = (lines_of_all-last, append_assoc, append-nil, nil_from_length, Gathers-run, counts_run)

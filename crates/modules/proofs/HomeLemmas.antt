@@ -1,9 +1,9 @@
 -- Which lines of a run are kept, and where.
-use Rattle.modules.proofs.Words.{◌≡◌, ℕ, ◌+◌, ◌<◌, Bool, true, false, cond, not, List, [], ◌∷◌, length, get_or, map, Some, None, Option, refl, sym, ap, ◌∙◌, ⊎_elim, arith, filter, count_by, list_any, position_from, bytes_eq, common_steps}
+use Rattle.modules.proofs.Words.{◌≡◌, ℕ, ◌+◌, ◌<◌, Bool, false, not, List, [], ◌∷◌, length, get_or, map, Some, None, Option, refl, sym, ap, ◌∙◌, ⊎_elim, arith, filter, count_by, list_any, position_from, bytes_eq, common_steps}
 use Rattle.modules.proofs.Lemmas.{cases_Bool, cases_eq, list_any_at, list_any_none, sum_by-cons, slice_get-get_or, or-false, count_either}
 use Rattle.modules.proofs.Definitions.{Accepted, names_of, SymbolEntry, lies_for, AreDistinctNames, belongs, is_kept, symbols_that, ListedSymbol, PlacedModule, line_of}
 use Rattle.modules.specs.declared.gathering.Owner.TheVariants as owner
-use Rattle.modules.proofs.KeptLemmas.{no_home, place_within, only_home, belongs_at}
+use Rattle.modules.proofs.KeptLemmas.{no_home, place_within, only_home}
 
 -- of the lines of a module, where a test of a line is one of its symbol
 pub that_run : (p : ListedSymbol → Bool) (q : SymbolEntry → Bool) (o : Option (List ℕ)) → ((s : SymbolEntry) → p (line_of o s) ≡ q s) → (ss : List SymbolEntry) → symbols_that p (map (line_of o) ss) ≡ filter q ss
@@ -14,17 +14,13 @@ pub that_none : (p : ListedSymbol → Bool) (o : Option (List ℕ)) → ((s : Sy
 that_none p o none [] = refl
 that_none p o none (s ∷ ss) = grind (arith, that_none p o none ss)
 
--- how many lines pass, and how many do not
-length_filter : (q : SymbolEntry → Bool) (s : SymbolEntry) (ss : List SymbolEntry) → length (filter q (s ∷ ss)) ≡ cond (q s) 1 0 + length (filter q ss)
-length_filter q s ss = elim (q s) as (λ b. length (cond b (s ∷ filter q ss) (filter q ss)) ≡ cond b 1 0 + length (filter q ss)) [ true ↦ omega arith | false ↦ omega arith ]
-
 pub count_run : (p : ListedSymbol → Bool) (q : SymbolEntry → Bool) (o : Option (List ℕ)) → ((s : SymbolEntry) → p (line_of o s) ≡ q s) → (ss : List SymbolEntry) → count_by p (map (line_of o) ss) ≡ length (filter q ss)
 count_run p q o is [] = refl
-count_run p q o is (s ∷ ss) = grind (arith, common_steps, sum_by-cons, length_filter, count_run p q o is ss)
+count_run p q o is (s ∷ ss) = grind (arith, common_steps, sum_by-cons, count_run p q o is ss)
 
 pub count_rest : (p : ListedSymbol → Bool) (q : SymbolEntry → Bool) (o : Option (List ℕ)) → ((s : SymbolEntry) → p (line_of o s) ≡ q s) → (ss : List SymbolEntry) → count_by (λ l. not (p l)) (map (line_of o) ss) + length (filter q ss) ≡ length ss
 count_rest p q o is [] = refl
-count_rest p q o is (s ∷ ss) = grind (arith, common_steps, sum_by-cons, count_either, length_filter, count_rest p q o is ss)
+count_rest p q o is (s ∷ ss) = grind (arith, common_steps, sum_by-cons, count_either, count_rest p q o is ss)
 
 no_lines : (a : Accepted) (s : ListedSymbol) → ((j : ℕ) (m : PlacedModule) → j < length a.modules → belongs (get_or a.modules j m) s ≡ false) → list_any (λ m. belongs m s) a.modules ≡ false
 no_lines a s none = list_any_none (λ (m : PlacedModule). belongs m s) a.modules none
@@ -39,7 +35,7 @@ kept_nowhere a name absent s = no_lines a (line_of (Some name) s) (no_home a (li
 
 -- and that of an accepted module is where its regions have it
 pub belongs_there : (a : Accepted) (name : List ℕ) (k : ℕ) → position_from (bytes_eq name) 0 (names_of a.modules) ≡ Some k → (m : PlacedModule) (s : SymbolEntry) → belongs (get_or a.modules k m) (line_of (Some name) s) ≡ lies_for a (owner.Module k) s.addr
-belongs_there a name k at m s = grind (arith, place_within, belongs_at, slice_get-get_or)
+belongs_there a name k at m s = grind (arith, place_within, slice_get-get_or)
 
 pub kept_there : (a : Accepted) (name : List ℕ) (k : ℕ) → AreDistinctNames (names_of a.modules) → position_from (bytes_eq name) 0 (names_of a.modules) ≡ Some k → (s : SymbolEntry) → is_kept a (line_of (Some name) s) ≡ lies_for a (owner.Module k) s.addr
 kept_there a name k distinct at s =

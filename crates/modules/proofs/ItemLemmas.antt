@@ -1,5 +1,5 @@
 -- The items of a catalog are its regions.
-use Rattle.modules.proofs.Words.{◌≡◌, ℕ, zero, suc, ◌+◌, List, [], ◌∷◌, ◌++◌, length, map, flat_map, Some, refl, ◌∙◌, ap, subst, arith, append-nil, add-one, slice_get, range_with_len, option_map_or, option_to_list, common_steps, nat_tests}
+use Rattle.modules.proofs.Words.{◌≡◌, ℕ, suc, ◌+◌, List, [], ◌∷◌, ◌++◌, length, map, flat_map, Some, refl, ◌∙◌, ap, subst, arith, append-nil, add-one, slice_get, range_with_len, option_map_or, common_steps, nat_tests}
 use Rattle.modules.proofs.Lemmas.{map-append, flat_map-append, range-append_from_zero}
 use Rattle.modules.proofs.Definitions.{Item, module_of, regions_of, CatalogEntries, ModuleEntry, items_at, items_below, items_of, item_of}
 
@@ -31,12 +31,5 @@ regions_from c (m ∷ ms) s h =
     ∙ ap (λ l. l ++ map region_of (flat_map (items_at c) (range_with_len (s + 1) (length ms)))) (regions_at c s m here)
     ∙ ap (λ l. m.regions ++ l) (regions_from c ms (s + 1) there)
 
-module_at : (c : CatalogEntries) (i k : ℕ) (m : ModuleEntry) → k ≡ 1 + i → slice_get c.modules i ≡ Some m → module_of c k ≡ Some m
-module_at c i zero m e is = absurd (omega arith)
-module_at c i (suc j) m e is = subst (λ p. slice_get c.modules p ≡ Some m) (let q : i ≡ j = omega arith in q) is
-
-built_in_regions : (c : CatalogEntries) → map region_of (items_at c 0) ≡ flat_map (λ m. m.regions) (option_to_list c.built_in)
-built_in_regions c = grind (arith, common_steps, nat_tests, regions_again, append-nil)
-
 pub all_regions : (c : CatalogEntries) → map region_of (items_of c) ≡ regions_of c
-all_regions c = grind (arith, add-one, map-append, built_in_regions, regions_from, module_at, flat_map-append)
+all_regions c = grind (arith, add-one, map-append, regions_from, flat_map-append, common_steps, nat_tests, regions_again, append-nil)

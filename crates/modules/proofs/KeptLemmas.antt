@@ -1,6 +1,6 @@
 -- Where a symbol is kept.
 use Rattle.modules.proofs.Words.{◌≡◌, ℕ, ◌<◌, true, false, ◌&&◌, List, [], length, get_or, Some, None, sym, ap, ◌∙◌, is_some, bytes_decides, list_any, position_from, bytes_eq, arith, common_steps, nat_tests}
-use Rattle.modules.proofs.Lemmas.{cases_order, false_from_ne_true, and_left, position_from-zero, get_or-map, length-map, list_any_at, position-Some, and-second, is_some-position_from}
+use Rattle.modules.proofs.Lemmas.{cases_order, false_from_ne_true, and_left, position_from-zero, get_or-map, length-map, list_any_at, position-Some, is_some-position_from}
 use Rattle.modules.proofs.Definitions.{Accepted, names_of, BelongsOnlyAt, AreDistinctNames, belongs, is_built_in, lies_in, ListedSymbol, PlacedModule}
 
 pub not_built_in : (built_in : List (ℕ × ℕ)) (s : ListedSymbol) (name : List ℕ) → s.owner ≡ Some name → is_built_in built_in s ≡ false
@@ -29,6 +29,3 @@ pub only_home : (a : Accepted) (s : ListedSymbol) (name : List ℕ) (k : ℕ) �
 only_home a s name k distinct owner at j m lt other =
     let found = position-Some (bytes_eq name) (names_of a.modules) k [] (position_from-zero (bytes_eq name) (names_of a.modules) ∙ at) in
     grind (arith, common_steps, nat_tests, position-Some, position_from-zero, bytes_decides, length-map, cases_order, false_from_ne_true, name_at, owned_by, and_left)
-
-pub belongs_at : (a : Accepted) (s : ListedSymbol) (name : List ℕ) (k : ℕ) → s.owner ≡ Some name → position_from (bytes_eq name) 0 (names_of a.modules) ≡ Some k → (m : PlacedModule) → belongs (get_or a.modules k m) s ≡ lies_in (get_or a.modules k m) s.addr
-belongs_at a s name k owner at m = owned_by s name (get_or a.modules k m) owner ∙ and-second (bytes_eq name (get_or a.modules k m).name) (lies_in (get_or a.modules k m) s.addr) ((place_within a.modules name k at).1 m)

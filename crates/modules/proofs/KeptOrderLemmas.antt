@@ -1,19 +1,16 @@
 -- The modules in the order of their first kept lines are those of the lines.
-use Rattle.modules.proofs.Words.{◌≡◌, ◌≢◌, ℕ, ◌-◌, ◌^◌, ◌<◌, Bool, true, false, ◌||◌, nat_lt, nat_eq, cond, suc, List, [], ◌∷◌, ◌++◌, get_or, map, Option, Some, None, refl, sym, ap, subst, ◌∙◌, arith, All, IfSome, Contains, filter, fold, is_some, flat_map, list_any, position_from, option_map_or, option_to_list, bytes_eq, bytes_decides, rules, common_steps, nat_tests}
+use Rattle.modules.proofs.Words.{◌≡◌, ◌≢◌, ℕ, ◌-◌, ◌^◌, ◌<◌, Bool, true, false, ◌||◌, nat_lt, nat_eq, cond, suc, List, [], ◌∷◌, ◌++◌, get_or, map, Option, Some, None, refl, sym, ap, subst, ◌∙◌, arith, All, IfSome, filter, fold, is_some, flat_map, list_any, position_from, option_map_or, option_to_list, bytes_eq, bytes_decides, rules, common_steps, nat_tests}
 use Rattle.modules.proofs.Lemmas.{and_parts, eq-eqb, eqb-true, ltb-true, map-append, All-cons, All-filter, All-head, All-nil, All-push, All-tail, begins, ends, look_is, find-passes, is_some-position_from}
-use Rattle.modules.proofs.Definitions.{Item, half_open, look, HasItsRegions, IsFromSymbols, is_kept_line, with_name, is_built_in, accepted_with, AreNamed, HasFirstLine, HaveFirstLines, is_kept_mark, kept_numbers, kernel_marks, mark_of, marks_of, modules_numbered, name_of, number_for, number_in, with_number, built_in_region, first_address, kernel_regions, with_apart, BoundNames, ListedSymbol, numbered_module, AreRegions, HoldsFor, is_outside, posts, PlacedModule, Mark}
+use Rattle.modules.proofs.Definitions.{Item, half_open, look, HasItsRegions, IsFromSymbols, is_kept_line, with_name, is_built_in, accepted_with, AreNamed, HasFirstLine, HaveFirstLines, is_kept_mark, kept_numbers, kernel_marks, mark_of, marks_of, modules_numbered, name_of, number_for, number_in, with_number, built_in_region, kernel_regions, with_apart, BoundNames, ListedSymbol, numbered_module, AreRegions, HoldsFor, is_outside, posts, PlacedModule, Mark}
 use Rattle.modules.proofs.LaidLemmas.{found}
 use Rattle.modules.proofs.MarkedModuleLemmas.{its_regions}
-use Rattle.modules.proofs.OwnLineLemmas.{is_of, of_is, same_bool}
+use Rattle.modules.proofs.OwnLineLemmas.{is_of, of_is}
 use Rattle.modules.proofs.PostLemmas.{all_mapped, listed_found, marks_stand, number_names}
 
 -- ---- the first lines of the kernel's regions
 
-first_line : (name : List ℕ) (lines : List ListedSymbol) (a : ℕ) → first_address name lines ≡ Some a → (l : ListedSymbol) × Contains lines l × (l.owner ≡ None) × (l.addr ≡ a)
-first_line name lines a h = grind (arith, common_steps, nat_tests, listed_found, find-passes)
-
 one_first_line : (names : BoundNames) (lines : List ListedSymbol) → IfSome (built_in_region names lines) (HasFirstLine lines)
-one_first_line names lines = grind (arith, common_steps, nat_tests, ltb-true, first_line)
+one_first_line names lines = grind (arith, common_steps, nat_tests, ltb-true, listed_found, find-passes)
 
 module _ (P : ℕ × ℕ → Type 0) where
   all_listed : (region : Option (ℕ × ℕ)) → IfSome region P → All P (option_to_list region)
@@ -64,7 +61,7 @@ module _ (kernel : List (ℕ × ℕ)) (names : List (List ℕ)) (lines : List Li
   kept_same l name own some lt =
       let n : ℕ = number_in names name in
       let stands = marks_stand names lines kernel n name has (numbered names name some) refl in
-      grind (arith, common_steps, nat_tests, marks_stand, numbered, same_bool, of_is, at_look, by_look, is_of)
+      grind (arith, common_steps, nat_tests, marks_stand, numbered, of_is, at_look, by_look, is_of)
 
   kernel_not_kept : (r : ℕ × ℕ) → is_kept_mark items (record { addr = r.0; owner = 0 }) ≡ false
   kernel_not_kept r = by (is_kept_mark items (record { addr = r.0; owner = 0 })) refl
@@ -149,7 +146,7 @@ module _ (kernel : List (ℕ × ℕ)) (names : List (List ℕ)) (lines : List Li
 
 module _ (names : List (List ℕ)) where
   same_number : (n m : ℕ) → IsNumber names n → IsNumber names m → nat_eq n m ≡ bytes_eq (name_of names n) (name_of names m)
-  same_number n m good well = grind (arith, same_bool, bytes_decides, eqb-true, eq-eqb)
+  same_number n m good well = grind (arith, bytes_decides, eqb-true, eq-eqb)
 
   same_has : (acc : List ℕ) (n : ℕ) → All (IsNumber names) acc → IsNumber names n → list_any (nat_eq n) acc ≡ list_any (bytes_eq (name_of names n)) (map (name_of names) acc)
   same_has [] n all good = refl

@@ -4,7 +4,7 @@ pub use Rattle.std.proofs.Math.ListN.{length-set, set}
 pub use Rattle.std.proofs.Math.Nat.{le_antisymm}
 pub use Rattle.std.proofs.Math.Seq.{get_or-append_seam, take-length}
 pub use Rattle.std.proofs.lemmas.Bool.{and_from, and_left, and_parts, cases_Bool, cases_eq, cases_lt, cases_order, eq-eqb, eqb-false, eqb-true, false_from_ne_true, false≢true, le-leb, le-ltb, leb-false, leb-true, lt-leb, lt-ltb, ltb-false, ltb-true, ne_eqb, not-true, or_cases, or_from, or_left, or_parts, or_right}
-pub use Rattle.std.proofs.lemmas.Bool.Decides.{nat_tests, nat_tests, nat_tests}
+pub use Rattle.std.proofs.lemmas.Bool.Decides.{nat_tests, nat_tests, nat_tests, nat_tests, nat_tests}
 pub use Rattle.std.proofs.lemmas.Cmp.{nat_cmp_total, nat_list_cmp_total}
 pub use Rattle.std.proofs.lemmas.Fn.{always_returns_same}
 pub use Rattle.std.proofs.lemmas.Grind.{get_or-set_at}
@@ -25,7 +25,7 @@ pub use Rattle.std.proofs.lemmas.Map.Lookups.{exact_bytes, exact_unsigned}
 pub use Rattle.std.proofs.lemmas.Map.Text.{btree_map_updates_str, is_eq-slice_cmp}
 pub use Rattle.std.proofs.lemmas.Map.Views.{All-found, btree_map_get_iff}
 pub use Rattle.std.proofs.lemmas.Option.{get_or_from_slice_get, slice_get-get_or, slice_get_cases, slice_get_past, slice_get_within}
-pub use Rattle.facts.proofs.Bools.{and-needless_first, and-needless_second, and-second, and_by_second, and_rotate, count-and_false, count-or, count-or_apart, count_either, or_by_first, or_by_second, or_from_cases}
+pub use Rattle.facts.proofs.Bools.{and-needless_first, and-needless_second, and_by_second, and_rotate, count-and_false, count-or, count-or_apart, count_either, or_by_first, or_by_second, or_from_cases}
 pub use Rattle.facts.proofs.Lists.{get_or-map_default, take_push}
 pub use Rattle.facts.proofs.Maps.{inserted_cases, list_all-insert_entry}
 pub use Rattle.facts.proofs.Members.{Contains-cons_cases, Contains-head, Contains-map, Contains-rest, Contains-slice_get}

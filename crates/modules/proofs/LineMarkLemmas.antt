@@ -1,6 +1,6 @@
 -- The marks of the lines of runs.
 use Rattle.modules.proofs.Words.{◌≡◌, ℕ, ◌≤◌, true, false, List, [], ◌∷◌, ◌++◌, length, map, Some, None, refl, arith, append_assoc, All, is_some, option_copied, rules, common_steps, nat_tests}
-use Rattle.modules.proofs.Lemmas.{map-append, All-append, filter-append, take_more, take_all}
+use Rattle.modules.proofs.Lemmas.{All-append, take_more, take_all}
 use Rattle.modules.proofs.Definitions.{SymbolEntry, line_marks, marks_of, number_for, number_in, symbol_marks, ListedSymbol, lines_of_all, lines_of_run, line_of, Mark, Run}
 use Rattle.modules.proofs.NumberLemmas.{number_within}
 use Rattle.modules.proofs.PostLemmas.{all_mapped}
@@ -31,11 +31,8 @@ module _ (kernel : List (ℕ × ℕ)) (names : List (List ℕ)) where
 
   -- ---- one run more
 
-  line_marks-append : (xs ys : List ListedSymbol) → line_marks kernel names (xs ++ ys) ≡ line_marks kernel names xs ++ line_marks kernel names ys
-  line_marks-append xs ys = grind (arith, filter-append, map-append)
-
   pub marks_more : (runs : List Run) (run : Run) (marks new : List Mark) → marks ≡ marks_of kernel names (lines_of_all runs) → new ≡ marks ++ line_marks kernel names (lines_of_run run) → new ≡ marks_of kernel names (lines_of_all (runs ++ run ∷ []))
-  marks_more runs run marks new before pushed = grind (arith, append_assoc, line_marks-append, lines_of_all-last)
+  marks_more runs run marks new before pushed = grind (arith, append_assoc, lines_of_all-last, common_steps, nat_tests)
 
 -- one run more
 pub ruleset one_run_more = (take_more, take_all, marks_more)

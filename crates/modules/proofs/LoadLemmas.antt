@@ -1,6 +1,6 @@
 -- Which updates a load, an unload, and the end of a module's start give.
-use Rattle.modules.proofs.Words.{◌≡◌, ℕ, ◌+◌, ◌<◌, ◌≤◌, Bool, true, false, ◌&&◌, ◌||◌, nat_eq, cond, zero, suc, List, [], ◌∷◌, ◌++◌, length, get_or, map, take, drop, drop-cons, Some, Ok, Err, Option, Result, refl, sym, ap, subst, ◌∙◌, inr, ⊎_elim, arith, add-one, bytes_decides, list_any, option_map_or, rules}
-use Rattle.modules.proofs.Lemmas.{and_from, and_parts, eqb-true, not-true, or_cases, or_left, or_right, eq-eqb, length-map, and_by_second, or_by_first, or_by_second, eqb-one_false, eqb-one_more}
+use Rattle.modules.proofs.Words.{◌≡◌, ℕ, ◌+◌, ◌<◌, ◌≤◌, Bool, true, false, ◌&&◌, ◌||◌, nat_eq, cond, zero, suc, List, [], ◌∷◌, ◌++◌, length, get_or, map, take, drop, drop-cons, Some, Ok, Err, Option, Result, refl, sym, ap, subst, ◌∙◌, inr, ⊎_elim, arith, add-one, bytes_decides, list_any, option_map_or, rules, common_steps, nat_tests}
+use Rattle.modules.proofs.Lemmas.{and_parts, eqb-true, not-true, or_cases, or_left, or_right, eq-eqb, length-map, and_by_second, or_by_first, or_by_second, eqb-one_false, eqb-one_more}
 use Rattle.modules.proofs.Definitions.{Update, Insert, Erase, Batch, Item, Refusal, OutOfMemory, UnknownModule, ModuleEntry, GivesOrLacksMemory, GivesSome, TakesMemory, drop_init_update, is_erasing, is_inserting, item_of, load_update, has_no_items, is_item_of, same_items, unload_update, update_of, is_init, is_of, starts_of, Held, Part}
 
 -- ---- the first addresses of the regions, one more at a time
@@ -39,17 +39,11 @@ items_same number (r ∷ rs) = rw (eq-eqb r.0 r.0 refl, eq-eqb r.1 r.1 refl, eq-
 
 -- ---- the items of regions, one after the other
 
-drop_past : {X : Type 0} (xs : List X) (n : ℕ) → length xs ≤ n → drop n xs ≡ []
-drop_past [] zero le = refl
-drop_past [] (suc n) le = refl
-drop_past (x ∷ xs) zero le = absurd (omega arith)
-drop_past (x ∷ xs) (suc n) le = drop_past xs n (omega arith)
-
 pub same_here : (number : ℕ) (rs : List (ℕ × ℕ)) (is : List Item) (n : ℕ) (r : ℕ × ℕ) (i : Item) → n < length rs → n < length is → same_items number (drop n rs) (drop n is) ≡ (is_item_of number (get_or rs n r) (get_or is n i) && same_items number (drop (suc n) rs) (drop (suc n) is))
 same_here number rs is n r i lt less = grind (arith, drop-cons)
 
 pub same_end : (number : ℕ) (rs : List (ℕ × ℕ)) (is : List Item) (n : ℕ) → length rs ≤ n → length is ≤ n → same_items number (drop n rs) (drop n is) ≡ true
-same_end number rs is n le less = grind (arith, drop_past)
+same_end number rs is n le less = grind (arith, common_steps, nat_tests)
 
 pub other_length : (number : ℕ) (rs : List (ℕ × ℕ)) (is : List Item) → (length rs ≡ length is → ⊥) → false ≡ same_items number rs is
 other_length number [] [] other = absurd (other refl)
@@ -68,11 +62,6 @@ none_from : {A : Type 0} (xs : List A) → has_no_items xs ≡ true → xs ≡ [
 none_from [] h = refl
 none_from (x ∷ xs) h = absurd (cc)
 
-erase_batch : (starts : List ℕ) → nat_eq (length starts) 1 ≡ false → update_of starts [] ≡ Batch starts []
-erase_batch [] h = refl
-erase_batch (a ∷ []) h = absurd (cc)
-erase_batch (a ∷ b ∷ rest) h = refl
-
 insert_batch : (items : List Item) → nat_eq (length items) 1 ≡ false → update_of [] items ≡ Batch [] items
 insert_batch [] h = refl
 insert_batch (i ∷ []) h = absurd (cc)
@@ -81,7 +70,7 @@ insert_batch (i ∷ j ∷ rest) h = refl
 pub erasing_from : (starts : List ℕ) (u : Update) → is_erasing starts u ≡ true → update_of starts [] ≡ u
 erasing_from starts (Insert i) h = absurd (cc)
 erasing_from starts (Erase a) h = ap (λ (s : List ℕ). update_of s []) ((bytes_decides starts (a ∷ [])).0 h)
-erasing_from starts (Batch erase insert) h = grind (arith, and_parts, erase_batch, not-true, bytes_decides, none_from)
+erasing_from starts (Batch erase insert) h = grind (arith, and_parts, not-true, bytes_decides, none_from)
 
 erasing_self : (starts : List ℕ) → is_erasing starts (update_of starts []) ≡ true
 erasing_self [] = refl
@@ -145,15 +134,6 @@ drop_from m u h =
     let parts = and_parts (list_any is_init m.parts) (is_erasing (starts_of false true m.regions m.parts) u) h in
     (record { core = true; init = true }, rw parts.0 (ap (λ (v : Update). Ok v) (erasing_from (starts_of false true m.regions m.parts) u parts.1)))
 
-held_init : (core init some : Bool) (e d : Refusal) (v u : Update) → cond core (cond (init && some) (Ok v) (Err e)) (Err d) ≡ Ok u → (some ≡ true) × (v ≡ u)
-held_init true true true e d v u h = (refl, given v u h)
-held_init true true false e d v u h = absurd (cc)
-held_init true false some e d v u h = absurd (cc)
-held_init false init some e d v u h = absurd (cc)
-
-pub drop_to : (m : ModuleEntry) (u : Update) → GivesSome (asked drop_init_update (Some m)) u → (list_any is_init m.parts && is_erasing (starts_of false true m.regions m.parts) u) ≡ true
-drop_to m u g = grind (arith, held_init, and_from, erasing_of)
-
 -- ---- the answers of the catalog
 
 abbrev pub Answers : Bool → (Held → Result Update Refusal) → Update → Type 0
@@ -172,7 +152,7 @@ pub unload_answers_second : (o : Option ModuleEntry) (m : ModuleEntry) (u : Upda
 unload_answers_second o m u s r at first fails second = unload_answers o m u r at (or_by_second s r (is_erasing (starts_of true false m.regions m.parts) u) (is_erasing (starts_of true true m.regions m.parts) u) first fails second)
 
 pub drop_answers : (o : Option ModuleEntry) (m : ModuleEntry) (u : Update) (s r : Bool) → Some m ≡ o → s ≡ list_any is_init m.parts → s ≡ true → r ≡ is_erasing (starts_of false true m.regions m.parts) u → Answers r (asked drop_init_update o) u
-drop_answers o m u s r at has holds is = search (rules, and_by_second, drop_from, drop_to)
+drop_answers o m u s r at has holds is = search (rules, and_by_second, drop_from)
 
 -- ---- several regions put in
 

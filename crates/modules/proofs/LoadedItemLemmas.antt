@@ -20,11 +20,8 @@ among_entries c (suc j) m e = search (rules, Contains-append_right, slice_get_wi
 has_region : (m : PlacedModule) → IsPlaced m → 0 < length m.regions
 has_region m placed = grind (arith, common_steps, nat_tests)
 
-loads_some : (c : CatalogEntries) (k : ℕ) (u : Update) (m : ModuleEntry) → IsSoundCatalog c → module_of c k ≡ Some m → load_of c k none_held ≡ Ok u → LoadsItems c k u
-loads_some c k u m sound e loads = grind (arith, common_steps, All-contains, among_entries, has_region, length-map)
-
 pub loads_items : (c : CatalogEntries) (k : ℕ) (u : Update) → IsSoundCatalog c → load_of c k none_held ≡ Ok u → LoadsItems c k u
-loads_items c k u sound loads = grind (arith, common_steps, nat_tests, loads_some)
+loads_items c k u sound loads = grind (arith, common_steps, nat_tests, All-contains, among_entries, has_region, length-map)
 
 -- a load that gives an update gives the one that is asked for
 pub is_given : (asked r : Result Update Refusal) (u : Update) → GivesOrLacksMemory asked r → r ≡ Ok u → asked ≡ Ok u

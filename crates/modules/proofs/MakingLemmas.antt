@@ -1,7 +1,7 @@
 -- The modules that are made of the accepted ones.
 use Rattle.modules.proofs.Words.{◌≡◌, ℕ, zero, suc, ◌<◌, ◌≤◌, List, [], ◌∷◌, ◌++◌, length, get_or, map, drop, not, Option, sym, ap, ◌∙◌, ⊎_elim, arith, length-append, take, ◌+◌, count_by, Vec, flat_map, common_steps}
 use Rattle.modules.proofs.Lemmas.{cases_lt, flat_map-append, append-nil, get_or-map, get_or_append_left, get_or_push, length-map, same_lists, take_more, slice_get_cases}
-use Rattle.modules.proofs.Definitions.{Accepted, module_counts, AreModules, EachMade, module_with, built_in_with, catalog_with, entry_for, kept_counts, CatalogEntries, ModuleEntry, SymbolEntry, Gathers, is_kept, is_used, ListedRegion, ListedSymbol, PlacedModule, BuildCounts, KeptCounts, Gathered}
+use Rattle.modules.proofs.Definitions.{Accepted, module_counts, AreModules, EachMade, module_with, built_in_with, catalog_with, entry_for, kept_counts, CatalogEntries, ModuleEntry, SymbolEntry, Gathers, is_kept, ListedRegion, ListedSymbol, PlacedModule, BuildCounts, KeptCounts, Gathered}
 use Rattle.modules.proofs.SoundnessLemmas.{module_regions}
 
 pub EachMade-push : (places : List PlacedModule) (lists : List (Vec SymbolEntry)) (modules : List ModuleEntry) (list : Vec SymbolEntry) (made : ModuleEntry) → length modules ≡ length lists → EachMade places lists modules → ((p : PlacedModule) → made ≡ module_with (get_or places (length lists) p) list.items) → EachMade places (lists ++ list ∷ []) (modules ++ made ∷ [])
@@ -42,14 +42,6 @@ pub kept_from : (a : Accepted) (g : Gathered) (symbols : List ListedSymbol) (mad
     → kept len regions g.kept g.stray ≡ kept_counts a symbols
 kept_from a g symbols made len regions gathers others all counted = grind (arith, length-map, regions_made)
 
-abbrev module_counts_with : Accepted → ℕ → ℕ → ℕ → BuildCounts
-module_counts_with a modules used strays = record { modules = modules; double = a.double; overlap = a.overlap; regions = used; stray_regions = strays; symbols = 0; stray = 0 }
-
--- what was counted of the lines of modules and of regions
-pub module_counts_from : (a : Accepted) (regions : List ListedRegion) (modules used strays : ℕ) → modules ≡ length a.modules → used ≡ count_by (is_used a regions) regions → strays ≡ count_by (λ r. not (is_used a regions r)) regions
-    → module_counts_with a modules used strays ≡ module_counts a regions
-module_counts_from a regions modules used strays all used_is strays_are = grind arith
-
 abbrev pub with_symbols : BuildCounts → ℕ → ℕ → BuildCounts
 with_symbols n symbols stray = record n { symbols = symbols; stray = stray }
 
@@ -69,11 +61,6 @@ drop_next [] rest zero x h = absurd (cc)
 drop_next [] rest (suc n) x h = absurd (cc)
 drop_next (y ∷ ys) rest zero x h = (omega arith, (λ d. let e : y ≡ x = cc in e), (let e : ys ≡ rest = cc in e))
 drop_next (y ∷ ys) rest (suc n) x h = let (lt, at, left) = drop_next ys rest n x h in (omega arith, at, left)
-
-pub drop_none : {X : Type 0} (xs : List X) (n : ℕ) → drop n xs ≡ [] → length xs ≤ n
-drop_none [] n h = omega arith
-drop_none (y ∷ ys) zero h = absurd (cc)
-drop_none (y ∷ ys) (suc n) h = let le : length ys ≤ n = drop_none ys n h in omega arith
 
 -- ---- how many things a list of lists has
 

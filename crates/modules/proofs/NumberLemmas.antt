@@ -38,12 +38,6 @@ number_within names (Some name) = by (position_from (bytes_eq name) 0 names) ref
 
 -- ---- the names with that of an owner
 
-pub owner_known : (names : List (List ℕ)) (o : Option (Bor (List ℕ))) (b : Bor (List ℕ)) → o ≡ Some b → list_any (bytes_eq b.now) names ≡ true → names ≡ with_owner names (option_copied o)
-owner_known names o b is known = grind arith
-
-pub owner_new : (names : List (List ℕ)) (o : Option (Bor (List ℕ))) (b : Bor (List ℕ)) → o ≡ Some b → list_any (bytes_eq b.now) names ≡ false → names ++ b.now ∷ [] ≡ with_owner names (option_copied o)
-owner_new names o b is absent = grind arith
-
 module _ (names : List (List ℕ)) where
   -- the module of a line is among these
   abbrev IsOwner : List (List ℕ) → Option (List ℕ) → Type 0

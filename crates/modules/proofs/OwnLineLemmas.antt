@@ -1,11 +1,6 @@
 -- What is kept by the regions is what is kept by the lines.
-use Rattle.modules.proofs.Words.{◌≡◌, ℕ, ◌-◌, ◌^◌, ◌<◌, Bool, true, false, List, Option, Some, None, refl, ap, sym, option_map_or, bytes_eq, bytes_decides, arith}
+use Rattle.modules.proofs.Words.{◌≡◌, ℕ, ◌-◌, ◌^◌, ◌<◌, true, false, List, Option, Some, None, refl, ap, sym, option_map_or, bytes_eq, bytes_decides, arith}
 use Rattle.modules.proofs.Definitions.{belongs, ListedSymbol, PlacedModule, HasItsRegions, is_kept_line}
-
-pub same_bool : (a b : Bool) → (a ≡ true → b ≡ true) → (b ≡ true → a ≡ true) → a ≡ b
-same_bool true b f g = sym (f refl)
-same_bool false true f g = g refl
-same_bool false false f g = refl
 
 pub named : (name : List ℕ) → bytes_eq name name ≡ true
 named name = (bytes_decides name name).1 refl
@@ -18,4 +13,4 @@ pub of_is : (name : List ℕ) (o : Option (List ℕ)) → o ≡ Some name → op
 of_is name o e = rw e (named name)
 
 pub kept_same : (lines : List ListedSymbol) (m : PlacedModule) (l : ListedSymbol) → HasItsRegions lines m → l.addr < 2 ^ 64 - 1 → l.owner ≡ Some m.name → belongs m l ≡ is_kept_line lines l
-kept_same lines m l h lt own = grind (arith, named, same_bool, of_is, is_of)
+kept_same lines m l h lt own = grind (arith, named, of_is, is_of)

@@ -1,10 +1,10 @@
 -- Whose an address is by the marks of a listing is what its lines say.
-use Rattle.modules.proofs.Words.{◌≡◌, ◌≢◌, ℕ, ◌+◌, ◌-◌, ◌<◌, ◌≤◌, Bool, true, false, ◌&&◌, ◌||◌, not, nat_le, nat_lt, nat_eq, cond, suc, List, [], ◌∷◌, ◌++◌, get_or, map, Option, Some, None, refl, sym, ap, subst, ◌∙◌, inl, inr, ⊎_elim, arith, ◌⊎◌, All, Contains, filter, find, is_none, first_so, second_so, position_from, option_and_then, option_map, option_map_or, bytes_eq, bytes_decides, rules, common_steps, nat_tests}
+use Rattle.modules.proofs.Words.{◌≡◌, ◌≢◌, ℕ, ◌+◌, ◌-◌, ◌<◌, ◌≤◌, Bool, true, false, ◌&&◌, ◌||◌, not, nat_lt, nat_eq, cond, suc, List, [], ◌∷◌, ◌++◌, get_or, map, Option, Some, None, refl, sym, ap, subst, ◌∙◌, inl, inr, ⊎_elim, arith, ◌⊎◌, All, Contains, filter, find, is_none, first_so, second_so, position_from, option_and_then, option_map, option_map_or, bytes_eq, bytes_decides, rules, common_steps, nat_tests}
 use Rattle.modules.proofs.Lemmas.{and_from, and_parts, cases_lt, eq-eqb, eqb-true, le-leb, leb-true, lt-ltb, ltb-true, ne_eqb, or_cases, or_left, or_parts, or_right, position_from-zero, All-append, All-cons, All-contains, All-head, All-nil, All-tail, list_any_at, position-Some, AllPass-from_list_all, list_all-from_AllPass, Contains-slice_get, find-agree, find-filter, find-has, find-passes, find_place}
 use Rattle.modules.proofs.Definitions.{is_built_in, HaveFirstLines, kernel_marks, line_marks, mark_of, marks_of, name_of, number_for, number_in, ListedSymbol, StandsFor, GoesOn, IsFirstMark, IsNearestMark, IsNextMark, Owns, goes_on, is_in_page, is_nearest_line, is_next_line, is_of_one_module, is_outside, module_of_address, post_above, post_below, posts, reach, holds, lies_in_any, Mark}
 use Rattle.modules.proofs.KeptLemmas.{not_built_in}
 use Rattle.modules.proofs.MarkOrderLemmas.{first_found, found_first, is_at}
-use Rattle.modules.proofs.OwnLineLemmas.{is_of, named, same_bool}
+use Rattle.modules.proofs.OwnLineLemmas.{is_of, named}
 use Rattle.modules.proofs.SpacedLemmas.{inside, within}
 
 -- ---- what passes a test
@@ -72,50 +72,30 @@ IsNearestIn ms x a = IsNearestAddress (λ (t : Mark). t.addr) ms x a
 abbrev is_line_at : ℕ → ListedSymbol → Bool
 is_line_at a t = nat_eq t.addr a
 
-either : (t a x : ℕ) → (nat_le t a || nat_lt x t) ≡ true → (t ≤ a) ⊎ (x < t)
-either t a x h = ⊎_elim (λ e. inl (leb-true t a e)) (λ e. inr (ltb-true x t e)) (or_cases (nat_le t a) (nat_lt x t) h)
-
-from_either : (t a x : ℕ) → (t ≤ a) ⊎ (x < t) → (nat_le t a || nat_lt x t) ≡ true
-from_either t a x h = ⊎_elim (λ e. or_left (nat_le t a) (nat_lt x t) (le-leb t a e)) (λ e. or_right (nat_le t a) (nat_lt x t) (lt-ltb x t e)) h
-
 nearest_line_is : (ls : List ListedSymbol) (x : ℕ) (l : ListedSymbol) → is_nearest_line ls x l ≡ true → IsNearestOf ls x l.addr
-nearest_line_is ls x l h = grind (arith, leb-true, first_so, either, AllPass-from_list_all, second_so)
+nearest_line_is ls x l h = grind (arith, leb-true, first_so, AllPass-from_list_all, second_so)
 
 line_is_nearest : (ls : List ListedSymbol) (x : ℕ) (l : ListedSymbol) → IsNearestOf ls x l.addr → is_nearest_line ls x l ≡ true
-line_is_nearest ls x l n = grind (arith, and_from, le-leb, list_all-from_AllPass, from_either)
-
--- of two nearest addresses that are listed neither is above the other
-not_above : {X : Type 0} (at : X → ℕ) (xs : List X) (x a b : ℕ) (t : X) → IsNearestAddress at xs x a → IsNearestAddress at xs x b → Contains xs t → at t ≡ b → b ≤ a
-not_above at xs x a b t n m there is = grind (arith, All-contains)
+line_is_nearest ls x l n = grind (arith, and_from, le-leb, list_all-from_AllPass)
 
 -- the first of the nearest lines is the first of their address
 nearest_by_address : (ls : List ListedSymbol) (x : ℕ) (l : ListedSymbol) → Contains ls l → IsNearestOf ls x l.addr → find (is_nearest_line ls x) ls ≡ find (is_line_at l.addr) ls
-nearest_by_address ls x l there n = grind (arith, find-agree, same_bool, nearest_line_is, not_above, eq-eqb, line_is_nearest, eqb-true)
+nearest_by_address ls x l there n = grind (arith, find-agree, nearest_line_is, eq-eqb, line_is_nearest, eqb-true)
 
 mark_nearest : (ms : List Mark) (x : ℕ) (m : Mark) → IsNearestIn ms x m.addr → find (is_at m.addr) ms ≡ Some m → IsNearestMark ms x m
 mark_nearest ms x m n found = record { its = first_found ms m found; below = n.below; clear = n.clear }
 
 -- ---- the next address above
 
-either_above : (t a x : ℕ) → (nat_le t x || nat_le a t) ≡ true → (t ≤ x) ⊎ (a ≤ t)
-either_above t a x h = ⊎_elim (λ e. inl (leb-true t x e)) (λ e. inr (leb-true a t e)) (or_cases (nat_le t x) (nat_le a t) h)
-
-from_either_above : (t a x : ℕ) → (t ≤ x) ⊎ (a ≤ t) → (nat_le t x || nat_le a t) ≡ true
-from_either_above t a x h = ⊎_elim (λ e. or_left (nat_le t x) (nat_le a t) (le-leb t x e)) (λ e. or_right (nat_le t x) (nat_le a t) (le-leb a t e)) h
-
 next_line_is : (ls : List ListedSymbol) (x : ℕ) (l : ListedSymbol) → is_next_line ls x l ≡ true → IsNextOf ls x l.addr
-next_line_is ls x l h = grind (arith, ltb-true, first_so, either_above, AllPass-from_list_all, second_so)
+next_line_is ls x l h = grind (arith, ltb-true, first_so, AllPass-from_list_all, second_so)
 
 line_is_next : (ls : List ListedSymbol) (x : ℕ) (l : ListedSymbol) → IsNextOf ls x l.addr → is_next_line ls x l ≡ true
-line_is_next ls x l n = grind (arith, and_from, lt-ltb, list_all-from_AllPass, from_either_above)
-
--- of two next addresses that are listed neither is below the other
-not_below : {X : Type 0} (at : X → ℕ) (xs : List X) (x a b : ℕ) (t : X) → IsNextAddress at xs x a → IsNextAddress at xs x b → Contains xs t → at t ≡ b → a ≤ b
-not_below at xs x a b t n m there is = grind (arith, All-contains)
+line_is_next ls x l n = grind (arith, and_from, lt-ltb, list_all-from_AllPass)
 
 -- the first of the next lines is the first of their address
 next_by_address : (ls : List ListedSymbol) (x : ℕ) (l : ListedSymbol) → Contains ls l → IsNextOf ls x l.addr → find (is_next_line ls x) ls ≡ find (is_line_at l.addr) ls
-next_by_address ls x l there n = grind (arith, find-agree, same_bool, next_line_is, not_below, eq-eqb, line_is_next, eqb-true)
+next_by_address ls x l there n = grind (arith, find-agree, next_line_is, eq-eqb, line_is_next, eqb-true)
 
 mark_next : (ms : List Mark) (x : ℕ) (m : Mark) → IsNextIn ms x m.addr → find (is_at m.addr) ms ≡ Some m → IsNextMark ms x m
 mark_next ms x m n found = record { its = first_found ms m found; above = n.above; clear = n.clear }

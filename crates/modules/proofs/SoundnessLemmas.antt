@@ -1,7 +1,7 @@
 -- The accepted modules have distinct names and regions that lie apart.
-use Rattle.modules.proofs.Words.{◌≡◌, ℕ, ◌+◌, ◌*◌, ◌<◌, ◌≤◌, suc, true, false, ◌&&◌, nat_lt, cond, List, [], ◌∷◌, ◌++◌, length, map, Some, None, Option, refl, sym, ap, ◌∙◌, subst, arith, append_assoc, length-append, All, IfSome, fold, bytes_decides, AllPairs, flat_map, list_any, list_all, option_and_then, option_map_or, option_to_list, bytes_eq, rules, common_steps}
-use Rattle.modules.proofs.Lemmas.{nat_tests, append-nil, length-map, map-append, flat_map-append, All-nil, All-push, All-head, All-tail, All-cons, list_all-append, list_any_at, all_pairs_push, AllPass-from_list_all, list_all-from_AllPass, and_from, and_parts, AllPairs-few}
-use Rattle.modules.proofs.Definitions.{Accepted, accepted_of, after_module, names_of, none_yet, taken_regions, built_in_with, kernel_at, module_with, placed_module_of, IsSoundCatalog, built_in_of, catalog_of, catalog_with, entry_for, ModuleEntry, SymbolEntry, AreDistinctNames, is_built_in, symbols_that, fits, region_fits, first_address, built_in_region, kernel_regions, with_apart, BoundNames, ListedModule, ListedRegion, ListedSymbol, names_in, IsPlaced, PlacedModule, are_few, placed_line, AreSoundModules, AreApart, are_beside, is_apart, lie_apart, Core}
+use Rattle.modules.proofs.Words.{◌≡◌, ℕ, ◌+◌, ◌*◌, ◌<◌, ◌≤◌, true, false, ◌&&◌, nat_lt, cond, List, [], ◌∷◌, ◌++◌, length, map, Some, None, Option, refl, sym, ap, ◌∙◌, subst, arith, append_assoc, length-append, All, IfSome, fold, bytes_decides, flat_map, list_any, list_all, option_and_then, option_to_list, bytes_eq, rules, common_steps}
+use Rattle.modules.proofs.Lemmas.{nat_tests, append-nil, length-map, map-append, flat_map-append, All-nil, All-push, All-head, All-tail, All-cons, list_all-append, list_any_at, all_pairs_push, AllPass-from_list_all, and_from, and_parts, AllPairs-few}
+use Rattle.modules.proofs.Definitions.{Accepted, accepted_of, after_module, names_of, none_yet, taken_regions, built_in_with, kernel_at, module_with, placed_module_of, IsSoundCatalog, built_in_of, catalog_of, catalog_with, entry_for, ModuleEntry, SymbolEntry, AreDistinctNames, is_built_in, symbols_that, fits, region_fits, first_address, built_in_region, kernel_regions, BoundNames, ListedModule, ListedRegion, ListedSymbol, names_in, IsPlaced, PlacedModule, are_few, placed_line, AreSoundModules, AreApart, are_beside, is_apart, lie_apart, Core}
 use Rattle.modules.proofs.RegionLemmas.{HasFew, IsPlaced-placed, few_placed}
 
 pub turned : (r s : ℕ × ℕ) → is_apart r s ≡ true → is_apart s r ≡ true
@@ -84,49 +84,25 @@ apart_none = record { valid = All-nil (λ (x : ℕ × ℕ). x.0 < x.1); apart = 
 apart_one : (r : ℕ × ℕ) → r.0 < r.1 → AreApart (r ∷ [])
 apart_one r valid = AreApart-push [] r apart_none valid refl
 
-apart_with : (regions : List (ℕ × ℕ)) (region : Option (ℕ × ℕ)) → AreApart regions → IsValid region → AreApart (with_apart regions region)
-apart_with regions None apart valid = apart
-apart_with regions (Some r) apart valid = grind (arith, AreApart-push)
-
 apart_listed : (region : Option (ℕ × ℕ)) → IsValid region → AreApart (option_to_list region)
 apart_listed None valid = apart_none
 apart_listed (Some r) valid = apart_one r valid
 
-apart_or : (region : Option (ℕ × ℕ)) (rest : List (ℕ × ℕ)) → IsValid region → AreApart rest → AreApart (option_map_or (λ r. r ∷ []) region rest)
-apart_or None rest valid apart = apart
-apart_or (Some r) rest valid apart = apart_one r valid
-
 pub kernel_apart : (names : Option BoundNames) (lines : List ListedSymbol) → AreApart (kernel_regions names lines)
-kernel_apart None lines = search (rules, apart_or, valid_region, apart_with)
+kernel_apart None lines = search (rules, valid_region)
 kernel_apart (Some names) lines = apart_listed (built_in_region names lines) (valid_region names lines)
-
--- as the test of a list has it
-pub lie_apart_is : (regions : List (ℕ × ℕ)) → AllPairs (λ r s. is_apart r s ≡ true) regions → lie_apart regions ≡ true
-lie_apart_is [] pairs = refl
-lie_apart_is (r ∷ rs) pairs =
-    and_from (list_all (is_apart r) rs) (lie_apart rs)
-    (list_all-from_AllPass (is_apart r) rs (λ k d lt. pairs 0 (suc k) d (omega arith) (omega arith)))
-    (lie_apart_is rs (λ i j d less lt. pairs (suc i) (suc j) d (omega arith) (omega arith)))
 
 pub none_beside : (regions : List (ℕ × ℕ)) → are_beside [] regions ≡ true
 none_beside [] = refl
 none_beside (r ∷ rs) = none_beside rs
 
-length_with : (regions : List (ℕ × ℕ)) (region : Option (ℕ × ℕ)) → length (with_apart regions region) ≤ length regions + 1
-length_with regions None = omega arith
-length_with regions (Some r) = grind (arith, length-append)
-
 length_listed : (region : Option (ℕ × ℕ)) → length (option_to_list region) ≤ 1
 length_listed None = omega arith
 length_listed (Some r) = omega arith
 
-length_or : (region : Option (ℕ × ℕ)) (rest : List (ℕ × ℕ)) → length rest ≤ 2 → length (option_map_or (λ r. r ∷ []) region rest) ≤ 2
-length_or None rest few = few
-length_or (Some r) rest few = omega arith
-
 -- there are two at most
 pub two_of_kernel : (names : Option BoundNames) (lines : List ListedSymbol) → length (kernel_regions names lines) ≤ 2
-two_of_kernel None lines = grind (arith, length_or, length_with)
+two_of_kernel None lines = grind arith
 two_of_kernel (Some names) lines = omega (arith, length_listed (built_in_region names lines))
 
 pub all_placed : (regions : List ListedRegion) (modules : List ListedModule) → All (λ l. fits l ≡ true) modules → All (λ l. region_fits l ≡ true) regions → All IsPlaced (map (placed_line regions) modules)

@@ -17,34 +17,18 @@ AreAbove marks done next = (k : ℕ) (d : Mark) → done ≤ k → k < length ma
 
 -- ---- the nearest mark
 
-first_mark : (marks : List Mark) (done : ℕ) (from : Mark) → IsFrom marks done from → IsFirstMark marks from
-first_mark marks done from is = grind arith
-
 pub nearest_from : (marks : List Mark) (done : ℕ) (from : Mark) (next x : ℕ) → IsFrom marks done from → AreAbove marks done next → from.addr ≤ x → x < next → IsNearestMark marks x from
-nearest_from marks done from next x is rest le lt = grind (arith, first_mark, cases_lt)
+nearest_from marks done from next x is rest le lt = grind (arith, cases_lt)
 
 address_at : (marks : List Mark) (l : Mark) (p : IsFirstMark marks l) → (get_or marks p.place l).addr ≡ l.addr
 address_at marks l p = ap (λ (s : Mark). s.addr) p.listed
 
--- of one address there is one first mark
-place_ge : (marks : List Mark) (l n : Mark) → (p : IsFirstMark marks l) → (q : IsFirstMark marks n) → l.addr ≡ n.addr → p.place < q.place → ⊥
-place_ge marks l n p q same lt = let e = address_at marks l p in q.first p.place l lt (omega arith)
-
-first_is_one : (marks : List Mark) (l n : Mark) → IsFirstMark marks l → IsFirstMark marks n → l.addr ≡ n.addr → l ≡ n
-first_is_one marks l n p q same = grind (arith, place_ge, get_or_default, cases_lt)
-
-nearest_le : (marks : List Mark) (x : ℕ) (l n : Mark) → IsNearestMark marks x l → IsNearestMark marks x n → l.addr ≤ n.addr
-nearest_le marks x l n p q = grind (arith, address_at)
-
 -- there is one
 pub nearest_is_one : (marks : List Mark) (x : ℕ) (l n : Mark) → IsNearestMark marks x l → IsNearestMark marks x n → l ≡ n
-nearest_is_one marks x l n p q = grind (arith, common_steps, nearest_le, first_is_one)
-
-next_le : (marks : List Mark) (x : ℕ) (l n : Mark) → IsNextMark marks x l → IsNextMark marks x n → n.addr ≤ l.addr
-next_le marks x l n p q = grind (arith, address_at)
+nearest_is_one marks x l n p q = grind (arith, common_steps)
 
 next_is_one : (marks : List Mark) (x : ℕ) (l n : Mark) → IsNextMark marks x l → IsNextMark marks x n → l ≡ n
-next_is_one marks x l n p q = grind (arith, common_steps, next_le, first_is_one)
+next_is_one marks x l n p q = grind (arith, common_steps)
 
 -- the mark at a place is the next of those that lie above the ones before it
 next_at : (marks : List Mark) (done : ℕ) (from next : Mark) (x : ℕ) → IsFrom marks done from → AreAbove marks done next.addr → done < length marks → get_or marks done next ≡ next → from.addr ≤ x → x < next.addr → IsNextMark marks x next

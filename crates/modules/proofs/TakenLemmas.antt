@@ -1,6 +1,6 @@
 -- The regions of numbers, of which some are taken.
-use Rattle.modules.proofs.Words.{◌≡◌, ◌≢◌, ℕ, zero, suc, zero-add, ◌+◌, ◌<◌, ◌≤◌, Bool, true, false, ◌||◌, nat_eq, cond, List, [], ◌∷◌, ◌++◌, length, get_or, map, take, Option, Some, None, refl, sym, ap, ◌∙◌, ⊎_elim, arith, length-append, All, Contains, filter, fold, count_by, Vec, flat_map, list_any, option_map_or, rules, common_steps, nat_tests}
-use Rattle.modules.proofs.Lemmas.{set, length-set, cases_eq, eqb-true, eq-eqb, ne_eqb, or_left, or_parts, or_right, append-nil, get_or-set_other, get_or_default, map-append, take_more, All-contains, list_any-append, count_by-le-length, sum_by-append, sum_by-cons, get_or-set_at, look_is}
+use Rattle.modules.proofs.Words.{◌≡◌, ◌≢◌, ℕ, zero, suc, zero-add, ◌+◌, ◌<◌, ◌≤◌, Bool, true, false, ◌||◌, nat_eq, cond, List, [], ◌∷◌, ◌++◌, length, get_or, map, take, Option, Some, None, refl, ap, ◌∙◌, ⊎_elim, arith, length-append, All, Contains, filter, fold, count_by, Vec, flat_map, list_any, option_map_or, rules, common_steps, nat_tests}
+use Rattle.modules.proofs.Lemmas.{set, length-set, cases_eq, eqb-true, eq-eqb, ne_eqb, or_parts, append-nil, get_or-set_other, get_or_default, map-append, take_more, All-contains, count_by-le-length, sum_by-append, sum_by-cons, get_or-set_at, look_is}
 use Rattle.modules.proofs.Definitions.{Item, half_open, look, AreLeft, is_kept_mark, kept_numbers, modules_numbered, name_of, with_number, numbered_module, ranges_of, AreLaid, AreRegions, HoldsFor, PlacedModule, AreRising, Mark}
 use Rattle.modules.proofs.MarkedModuleLemmas.{from_holds, spaced, valid_ranges}
 use Rattle.modules.proofs.SpacedLemmas.{lies}
@@ -10,27 +10,17 @@ use Rattle.modules.proofs.SpacedLemmas.{lies}
 abbrev range_of : Item → ℕ × ℕ
 range_of i = (i.a, i.b)
 
-ranges_more : (n : ℕ) (is : List Item) (i : Item) → ranges_of n (is ++ i ∷ []) ≡ ranges_of n is ++ cond (nat_eq i.tag n) (range_of i ∷ []) []
-ranges_more n [] i = elim (nat_eq i.tag n) as (λ b. map range_of (cond b (i ∷ []) []) ≡ cond b (range_of i ∷ []) []) [ true ↦ refl | false ↦ refl ]
-ranges_more n (j ∷ js) i = grind (arith, ranges_more n js i)
-
 -- ---- a list at a place
 
 -- the list of a number grows by the range of an item
 pub left_more : (count k : ℕ) (items : List Item) (i d : Item) (lists : List (Vec (ℕ × ℕ))) (v u : Vec (ℕ × ℕ)) → k < length items → i ≡ get_or items k d → i.tag < count → AreLeft count (take k items) [] lists
     → u ≡ get_or lists i.tag u → v.items ≡ u.items ++ range_of i ∷ [] → AreLeft count (take (k + 1) items) [] (set lists i.tag v)
-left_more count k items i d lists v u lt is within left at pushed = grind (arith, common_steps, nat_tests, length-set, cases_eq, take_more, ranges_more, set, get_or-set_at, eq-eqb, get_or-set_other, append-nil, ne_eqb)
+left_more count k items i d lists v u lt is within left at pushed = grind (arith, common_steps, nat_tests, length-set, cases_eq, take_more, set, get_or-set_at, eq-eqb, get_or-set_other, append-nil, ne_eqb)
 
 -- ---- one number more that is taken
 
-any_own : (taken : List ℕ) (n : ℕ) → list_any (nat_eq n) (with_number taken n) ≡ true
-any_own taken n = grind (arith, list_any-append, or_right, or_left, eq-eqb)
-
-any_other : (taken : List ℕ) (n j : ℕ) → j ≢ n → list_any (nat_eq j) (with_number taken n) ≡ list_any (nat_eq j) taken
-any_other taken n j differs = grind (arith, common_steps, nat_tests, list_any-append, ne_eqb)
-
 pub left_taken : (count n : ℕ) (items : List Item) (taken : List ℕ) (lists : List (Vec (ℕ × ℕ))) (v : Vec (ℕ × ℕ)) → n < count → v.items ≡ [] → AreLeft count items taken lists → AreLeft count items (with_number taken n) (set lists n v)
-left_taken count n items taken lists v within empty left = grind (arith, common_steps, nat_tests, length-set, cases_eq, set, any_own, get_or-set_at, get_or-set_other, any_other)
+left_taken count n items taken lists v within empty left = grind (arith, common_steps, nat_tests, length-set, cases_eq, set, get_or-set_at, get_or-set_other)
 
 -- ---- the number of a kept mark
 
@@ -65,10 +55,6 @@ pub kept_numbers_more : (items : List Item) (marks : List Mark) (k : ℕ) (d : M
     → kept_numbers items (take (k + 1) marks) ≡ cond (is_kept_mark items (get_or marks k d)) (with_number (kept_numbers items (take k marks)) (get_or marks k d).owner) (kept_numbers items (take k marks))
 kept_numbers_more items marks k d lt = ap (kept_numbers items) (take_more marks k d lt) ∙ kept_numbers_push items [] (take k marks) (get_or marks k d)
 
-taken_by : (b : Bool) (rs left : List (ℕ × ℕ)) → left ≡ cond b [] rs → rs ≢ [] → left ≡ [] → b ≡ true
-taken_by true rs left is some none = refl
-taken_by false rs left is some none = absurd (some (sym is ∙ none))
-
 left_by : (b : Bool) (rs left : List (ℕ × ℕ)) → left ≡ cond b [] rs → left ≢ [] → (b ≡ false) × (left ≡ rs)
 left_by true rs left is some = absurd (some is)
 left_by false rs left is some = (refl, is)
@@ -76,7 +62,7 @@ left_by false rs left is some = (refl, is)
 module _ (names : List (List ℕ)) (items : List Item) (taken : List ℕ) (m : Mark) (left : List (ℕ × ℕ)) (is : left ≡ cond (list_any (nat_eq m.owner) taken) [] (ranges_of m.owner items)) where
   -- where no regions are left its module was taken, or the mark is not kept
   pub taken_before : All (λ i. i.a < i.b) items → left ≡ [] → cond (is_kept_mark items m) (with_number taken m.owner) taken ≡ taken
-  taken_before valid none = grind (arith, taken_by, kept_ranges)
+  taken_before valid none = grind (arith, kept_ranges)
 
   pub own_ranges : left ≢ [] → left ≡ ranges_of m.owner items
   own_ranges some = (left_by (list_any (nat_eq m.owner) taken) (ranges_of m.owner items) left is some).1
@@ -91,12 +77,9 @@ left_rising n items taken left laid is = grind (arith, common_steps, nat_tests, 
 
 -- ---- there are no more regions than items
 
-range_count : (i : Item) (is : List Item) (n : ℕ) → length (ranges_of n (i ∷ is)) ≡ cond (nat_eq i.tag n) 1 0 + length (ranges_of n is)
-range_count i is n = grind arith
-
 one_item : (i : Item) (is : List Item) (ns : List ℕ) → length (flat_map (λ n. ranges_of n (i ∷ is)) ns) ≡ count_by (nat_eq i.tag) ns + length (flat_map (λ n. ranges_of n is) ns)
 one_item i is [] = omega arith
-one_item i is (n ∷ ns) = grind (arith, common_steps, range_count, sum_by-cons, length-append, one_item i is ns)
+one_item i is (n ∷ ns) = grind (arith, common_steps, sum_by-cons, length-append, one_item i is ns)
 
 no_items : (ns : List ℕ) → length (flat_map (λ n. ranges_of n []) ns) ≡ 0
 no_items [] = refl

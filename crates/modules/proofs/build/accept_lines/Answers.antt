@@ -1,10 +1,10 @@
 use Rattle.modules.proofs.Words.{◌≡◌, ℕ, List, Option, sym, ap, ◌∙◌, subst, arith, length-append, option_copied, common_steps}
 use Rattle.modules.proofs.Definitions.{accepted_of, admission_view, kernel_regions, BoundNames, AreSoundModules}
-use Rattle.modules.proofs.SoundnessLemmas.{accepted_good, built_in_of_accepted, few_accepted, kernel_apart, lie_apart_is, two_of_kernel}
+use Rattle.modules.proofs.SoundnessLemmas.{accepted_good, built_in_of_accepted, few_accepted, kernel_apart, two_of_kernel}
 use Rattle.modules.proofs.build.accept_lines.Goals as goal
 
 pub admit-requires : goal.admit-requires
-admit-requires c = grind (arith, common_steps, kernel_apart, lie_apart_is)
+admit-requires c = grind (arith, common_steps, kernel_apart)
 
 pub returns-clause-sound : goal.returns-clause-sound
 returns-clause-sound c =

@@ -1,5 +1,5 @@
-use Rattle.modules.proofs.Words.{◌≡◌, ℕ, ◌^◌, ◌<◌, List, Ok, Err, Option, Result, sym, ap, subst, length, length-append, arith, ◌∙◌, IfOk, flat_map, option_copied, AllocError}
-use Rattle.modules.proofs.Definitions.{Accepted, accepted_with, taken_regions, catalog_with, kept_counts, CatalogEntries, IsFromSymbols, BoundNames, ListedSymbol, PlacedModule, AreSoundModules, KeptCounts}
+use Rattle.modules.proofs.Words.{◌≡◌, ℕ, List, Ok, Err, Option, Result, sym, subst, length-append, arith, ◌∙◌, IfOk, option_copied, AllocError}
+use Rattle.modules.proofs.Definitions.{Accepted, accepted_with, catalog_with, kept_counts, CatalogEntries, IsFromSymbols, BoundNames, ListedSymbol, PlacedModule, KeptCounts}
 use Rattle.modules.proofs.AloneLemmas.{sound_alone}
 use Rattle.modules.proofs.SoundnessLemmas.{two_of_kernel}
 use Rattle.modules.proofs.build.assemble_symbols.Goals as goal
@@ -19,19 +19,7 @@ of-requires c =
     (sound_alone names lines (accepted_with c.in_ok-kernel.kernel.items made) found).distinct
 
 pub catalog_with-requires : goal.catalog_with-requires
-catalog_with-requires c =
-    let lines = c.args.symbols in
-    let names : Option BoundNames = option_copied c.args.names in
-    let made : List PlacedModule = c.in_ok-modules.modules.items in
-    let found = subst (λ (k : List (ℕ × ℕ)). IsFromSymbols names lines (accepted_with k made)) c.as_slice.ensures.value (c.in_ok-modules.ensures.found names (c.as_slice.ensures.value ∙ c.in_ok-kernel.ensures)) in
-    let is = c.in_ok-placed.ensures in
-    record {
-      sound = subst AreSoundModules (sym is) (sound_alone names lines (accepted_with c.in_ok-kernel.kernel.items made) found);
-      few =
-          let kernel = ap length c.in_ok-kernel.ensures in
-          subst (λ (a : Accepted). length (taken_regions a) < 2 ^ 64) (sym is)
-          (omega (arith, kernel, two_of_kernel names lines, length-append c.in_ok-kernel.kernel.items (flat_map (λ (m : PlacedModule). m.regions) made), c.in_ok-modules.ensures.few));
-    }
+catalog_with-requires c = grind (arith, sound_alone, two_of_kernel, length-append)
 
 pub returns : goal.returns
 returns c =

@@ -1,5 +1,5 @@
-use Rattle.modules.proofs.Words.{◌≡◌, ◌+◌, ◌^◌, ◌<◌, List, Option, sym, ap, subst, ◌∙◌, length, length-append, map, arith, All, ◌++◌, option_to_list, flat_map, common_steps}
-use Rattle.modules.proofs.Definitions.{Accepted, taken_regions, AreModules, built_in_with, IsSoundCatalog, entry_for, ModuleEntry, Gathers, IsPlaced, PlacedModule}
+use Rattle.modules.proofs.Words.{◌≡◌, ◌+◌, ◌<◌, List, Option, sym, ap, subst, ◌∙◌, length, length-append, map, arith, All, ◌++◌, option_to_list, flat_map, common_steps, nat_tests}
+use Rattle.modules.proofs.Definitions.{Accepted, taken_regions, AreModules, built_in_with, IsSoundCatalog, entry_for, ModuleEntry, Gathers, PlacedModule}
 use Rattle.modules.proofs.SoundnessLemmas.{count_of_regions, valid_kernel, IsSound-catalog_with}
 use Rattle.modules.proofs.MakingLemmas.{catalog_from, kept_from, modules_are, regions_made}
 use Rattle.modules.proofs.build.catalog_with.Goals as goal
@@ -14,12 +14,7 @@ built_in_module-requires c =
     subst (λ (x : Accepted). All (λ r. r.0 < r.1) x.built_in) (sym c.placed.view_is) (valid_kernel a.built_in (flat_map (λ (m : PlacedModule). m.regions) a.modules) c.requires.sound.apart.valid)
 
 pub modules_from-requires : goal.modules_from-requires
-modules_from-requires c =
-    let g = c.in_ok-gathered.gathered in
-    record {
-      placed = subst (λ (x : Accepted). All IsPlaced x.modules) (sym c.placed.view_is) c.requires.sound.placed;
-      same = c.in_ok-gathered.ensures.lists ∙ ap (λ (x : Accepted). length x.modules) (sym c.placed.view_is);
-    }
+modules_from-requires c = grind (arith)
 
 pub regions_in-regions-requires : goal.regions_in-regions-requires
 regions_in-regions-requires c =
@@ -29,8 +24,7 @@ regions_in-regions-requires c =
     let made : List ModuleEntry = c.in_ok-modules.modules.items in
     let gathers : Gathers a symbols g = c.in_ok-gathered.ensures in
     let others : made ≡ map (entry_for symbols) a.modules = modules_are a symbols g made gathers (subst (λ (x : Accepted). AreModules x.modules g.modules.items made) c.placed.view_is c.in_ok-modules.ensures) in
-    let total : length (flat_map (λ (m : ModuleEntry). m.regions) made) ≡ length (flat_map (λ (m : PlacedModule). m.regions) a.modules) = ap length (regions_made a symbols made others) in
-    subst (λ (ms : List ModuleEntry). length (flat_map (λ (m : ModuleEntry). m.regions) ms) < 2 ^ 64) (sym c.as_slice-2.ensures.value) (omega (arith, total, taken_of a, c.requires.few))
+    grind (arith, common_steps, nat_tests, modules_are, regions_made, taken_of)
 
 pub overflow_add-catalog : goal.overflow_add-catalog
 overflow_add-catalog c =
@@ -41,9 +35,7 @@ overflow_add-catalog c =
     let gathers : Gathers a symbols g = c.in_ok-gathered.ensures in
     let others : made ≡ map (entry_for symbols) a.modules = modules_are a symbols g made gathers (subst (λ (x : Accepted). AreModules x.modules g.modules.items made) c.placed.view_is c.in_ok-modules.ensures) in
     let total : length (flat_map (λ (m : ModuleEntry). m.regions) made) ≡ length (flat_map (λ (m : PlacedModule). m.regions) a.modules) = ap length (regions_made a symbols made others) in
-    let counted = c.regions_in-regions.ensures ∙ ap (λ (ms : List ModuleEntry). length (flat_map (λ (m : ModuleEntry). m.regions) ms)) c.as_slice-2.ensures.value ∙ total in
-    let kernel = c.len-of_kernel.ensures ∙ c.placed.inside.built_in.ok.0 ∙ ap (λ (x : Accepted). length x.built_in) c.placed.view_is in
-    omega (arith, counted, kernel, taken_of a, c.requires.few)
+    grind (arith, common_steps, nat_tests, modules_are, regions_made, taken_of)
 
 pub invariant_of-catalog : goal.invariant_of-catalog
 invariant_of-catalog c =

@@ -1,7 +1,7 @@
 use Rattle.modules.proofs.Words.{◌≡◌, ◌+◌, ℕ, suc, [], ◌∷◌, ◌++◌, length, sym, subst, ◌∙◌, arith, length-append, append_assoc, into_iter_items, common_steps, nat_tests}
 use Rattle.std.proofs.lemmas.List.{append-nil, nil_from_length}
 use Rattle.modules.proofs.Definitions.{IsPlaced}
-use Rattle.modules.proofs.MakingLemmas.{EachMade-push, drop_next, drop_none}
+use Rattle.modules.proofs.MakingLemmas.{EachMade-push, drop_next}
 use Rattle.modules.proofs.build.modules_from.Goals as goal
 
 pub new-requires : goal.new-requires
@@ -14,7 +14,7 @@ new-requires c =
 
 -- there is a place for each list
 pub loop-symbols-preserved : goal.loop-symbols-preserved
-loop-symbols-preserved c = grind (arith, common_steps, drop_none, nil_from_length, length-append)
+loop-symbols-preserved c = grind (arith, common_steps, nil_from_length, length-append)
 
 pub loop-symbols-preserved-in_ok-push : goal.loop-symbols-preserved-in_ok-push
 loop-symbols-preserved-in_ok-push c =

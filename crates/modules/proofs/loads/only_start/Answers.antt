@@ -1,7 +1,7 @@
 use Rattle.modules.proofs.Words.{ℕ, List, [], ◌∷◌, ◌++◌, length, get_or, take, sym, ap, ◌∙◌, arith, length-append, common_steps}
 use Rattle.std.proofs.lemmas.List.{get_or_default}
 use Rattle.modules.proofs.Definitions.{starts_of, Core}
-use Rattle.modules.proofs.ErasingLemmas.{none_of_length, not_only_one, only_one, other_more, wanted_more, whole_starts}
+use Rattle.modules.proofs.ErasingLemmas.{none_of_length, other_more, wanted_more}
 use Rattle.modules.proofs.loads.only_start.Goals as goal
 use Rattle.modules.proofs.loads.only_start.Goals.{then-is_of, else-is_of}
 
@@ -31,7 +31,7 @@ loop-place-preserved c =
     ]
 
 pub returns-then-count-eq1 : goal.returns-then-count-eq1
-returns-then-count-eq1 c = grind (arith, common_steps, whole_starts, only_one)
+returns-then-count-eq1 c = grind (arith, common_steps)
 
 pub returns-else-count-eq1 : goal.returns-else-count-eq1
-returns-else-count-eq1 c = grind (arith, common_steps, whole_starts, not_only_one)
+returns-else-count-eq1 c = grind (arith, common_steps)

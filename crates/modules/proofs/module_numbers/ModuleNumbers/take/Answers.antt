@@ -1,11 +1,11 @@
 use Rattle.modules.proofs.Words.{◌≡◌, ℕ, ◌+◌, suc, false, List, [], ◌∷◌, ◌++◌, length, sym, ap, ◌∙◌, arith, Bor, list_any, position_from, option_map, bytes_eq, common_steps}
 use Rattle.modules.proofs.Lemmas.{length-map, btree_map_updates_str}
 use Rattle.modules.proofs.Definitions.{names_at}
-use Rattle.modules.proofs.NumberLemmas.{has_number, names_more, numbers_more, owner_known, owner_new}
+use Rattle.modules.proofs.NumberLemmas.{has_number, names_more, numbers_more}
 use Rattle.modules.proofs.module_numbers.ModuleNumbers.take.Goals as goal
 
 pub returns-then-contains_key : goal.returns-then-contains_key
-returns-then-contains_key c = grind (arith, common_steps, has_number, owner_known)
+returns-then-contains_key c = grind (arith, common_steps, has_number)
 
 pub invariant_of-self-2 : goal.invariant_of-self-2
 invariant_of-self-2 c =
@@ -22,4 +22,4 @@ invariant_of-self-2 c =
     ∙ ap (λ (ns : List (List ℕ)). option_map suc (position_from (bytes_eq name) 0 ns)) (sym joined)
 
 pub returns : goal.returns
-returns c = grind (arith, common_steps, has_number, names_more, owner_new)
+returns c = grind (arith, common_steps, has_number, names_more)

@@ -8,8 +8,8 @@ in_runs runs = list_any (λ r. list_any is_in_kernel (lines_of_run r)) runs
 
 pub returns-then-is_some_in_kernel : goal.returns-then-is_some_in_kernel
 unfolding in_runs
-returns-then-is_some_in_kernel c = grind (arith, common_steps, in_runs, is_in_kernel, kernel_in_all)
+returns-then-is_some_in_kernel c = grind (arith, common_steps, is_in_kernel, kernel_in_all)
 
 pub returns-else-is_some_in_kernel : goal.returns-else-is_some_in_kernel
 unfolding in_runs
-returns-else-is_some_in_kernel c = grind (arith, common_steps, in_runs, is_in_kernel, kernel_in_all)
+returns-else-is_some_in_kernel c = grind (arith, common_steps, is_in_kernel, kernel_in_all)
