@@ -1,13 +1,10 @@
 -- Where a symbol is kept.
-use Rattle.modules.proofs.Words.{◌≡◌, ℕ, ◌<◌, true, false, ◌&&◌, List, [], length, get_or, Some, None, sym, ap, ◌∙◌, is_some, bytes_decides, list_any, position_from, bytes_eq, arith, common_steps, nat_tests}
+use Rattle.modules.proofs.Words.{◌≡◌, ℕ, ◌<◌, true, false, List, [], length, get_or, Some, None, sym, ap, ◌∙◌, is_some, bytes_decides, list_any, position_from, bytes_eq, arith, common_steps, nat_tests}
 use Rattle.modules.proofs.Lemmas.{cases_order, false_from_ne_true, and_left, position_from-zero, get_or-map, length-map, list_any_at, position-Some, is_some-position_from}
-use Rattle.modules.proofs.Definitions.{Accepted, names_of, BelongsOnlyAt, AreDistinctNames, belongs, is_built_in, lies_in, ListedSymbol, PlacedModule}
+use Rattle.modules.proofs.Definitions.{Accepted, names_of, BelongsOnlyAt, AreDistinctNames, belongs, is_built_in, ListedSymbol, PlacedModule}
 
 pub not_built_in : (built_in : List (ℕ × ℕ)) (s : ListedSymbol) (name : List ℕ) → s.owner ≡ Some name → is_built_in built_in s ≡ false
 not_built_in built_in s name owner = rw owner
-
-owned_by : (s : ListedSymbol) (name : List ℕ) (m : PlacedModule) → s.owner ≡ Some name → belongs m s ≡ (bytes_eq name m.name && lies_in m s.addr)
-owned_by s name m owner = rw owner
 
 name_at : (lines : List PlacedModule) (j : ℕ) (m : PlacedModule) → j < length lines → get_or (names_of lines) j [] ≡ (get_or lines j m).name
 name_at lines j m lt = get_or-map (λ (l : PlacedModule). l.name) lines j m [] lt
@@ -16,7 +13,7 @@ name_at lines j m lt = get_or-map (λ (l : PlacedModule). l.name) lines j m [] l
 pub no_home : (a : Accepted) (s : ListedSymbol) (name : List ℕ) → s.owner ≡ Some name → position_from (bytes_eq name) 0 (names_of a.modules) ≡ None → (j : ℕ) (m : PlacedModule) → j < length a.modules → belongs (get_or a.modules j m) s ≡ false
 no_home a s name owner absent j m lt =
     let none : list_any (bytes_eq name) (names_of a.modules) ≡ false = sym (is_some-position_from (bytes_eq name) 0 (names_of a.modules)) ∙ ap is_some absent in
-    grind (arith, common_steps, nat_tests, is_some-position_from, false_from_ne_true, list_any_at, length-map, name_at, owned_by, and_left)
+    grind (arith, common_steps, nat_tests, is_some-position_from, false_from_ne_true, list_any_at, length-map, name_at, and_left)
 
 -- the place of a name
 pub place_within : (lines : List PlacedModule) (name : List ℕ) (k : ℕ) → position_from (bytes_eq name) 0 (names_of lines) ≡ Some k → (k < length lines) × ((m : PlacedModule) → bytes_eq name (get_or lines k m).name ≡ true)
@@ -28,4 +25,4 @@ place_within lines name k at =
 pub only_home : (a : Accepted) (s : ListedSymbol) (name : List ℕ) (k : ℕ) → AreDistinctNames (names_of a.modules) → s.owner ≡ Some name → position_from (bytes_eq name) 0 (names_of a.modules) ≡ Some k → BelongsOnlyAt a s k
 only_home a s name k distinct owner at j m lt other =
     let found = position-Some (bytes_eq name) (names_of a.modules) k [] (position_from-zero (bytes_eq name) (names_of a.modules) ∙ at) in
-    grind (arith, common_steps, nat_tests, position-Some, position_from-zero, bytes_decides, length-map, cases_order, false_from_ne_true, name_at, owned_by, and_left)
+    grind (arith, common_steps, nat_tests, position-Some, position_from-zero, bytes_decides, length-map, cases_order, false_from_ne_true, name_at, and_left)

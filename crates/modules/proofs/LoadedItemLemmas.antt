@@ -1,7 +1,7 @@
 -- The items that a load inserts, and when the update that inserts them is accepted.
 use Rattle.modules.proofs.Words.{◌≡◌, ℕ, ◌+◌, ◌<◌, ◌≤◌, true, false, List, [], ◌∷◌, length, Some, None, refl, sym, ◌∙◌, ap, ⊎_elim, arith, zero, suc, Result, Ok, Err, Contains, nat_lt, rules, common_steps}
 use Rattle.modules.proofs.Lemmas.{nat_tests, without_none, all_are_valid, insert_accepted, no_test_holds, none_meet, length-map, All-contains, Contains-append_left, Contains-append_right, get_or_from_slice_get, slice_get_within}
-use Rattle.modules.proofs.Definitions.{Item, half_open, without_all, Update, erased, inserted, refusal_for, some_invalid, some_meet, some_overlap, update_of, GivesOrLacksMemory, load_of, Refusal, OutOfMemory, IsSoundCatalog, entries_of, module_of, CatalogEntries, ModuleEntry, items_at, IsPlaced, PlacedModule, Held}
+use Rattle.modules.proofs.Definitions.{Item, half_open, without_all, Update, erased, inserted, refusal_for, some_invalid, some_meet, some_overlap, update_of, GivesOrLacksMemory, load_of, Refusal, OutOfMemory, IsSoundCatalog, entries_of, module_of, CatalogEntries, ModuleEntry, items_at, Held}
 
 -- the update that loads a module inserts its items, of which there is one at least
 pub record LoadsItems (c : CatalogEntries) (k : ℕ) (u : Update) : Type 0 where
@@ -16,12 +16,8 @@ among_entries : (c : CatalogEntries) (k : ℕ) (m : ModuleEntry) → module_of c
 among_entries c zero m e = search (rules, Contains-append_left)
 among_entries c (suc j) m e = search (rules, Contains-append_right, slice_get_within, get_or_from_slice_get)
 
--- a module has a core region
-has_region : (m : PlacedModule) → IsPlaced m → 0 < length m.regions
-has_region m placed = grind (arith, common_steps, nat_tests)
-
 pub loads_items : (c : CatalogEntries) (k : ℕ) (u : Update) → IsSoundCatalog c → load_of c k none_held ≡ Ok u → LoadsItems c k u
-loads_items c k u sound loads = grind (arith, common_steps, nat_tests, All-contains, among_entries, has_region, length-map)
+loads_items c k u sound loads = grind (arith, common_steps, nat_tests, All-contains, among_entries, length-map)
 
 -- a load that gives an update gives the one that is asked for
 pub is_given : (asked r : Result Update Refusal) (u : Update) → GivesOrLacksMemory asked r → r ≡ Ok u → asked ≡ Ok u

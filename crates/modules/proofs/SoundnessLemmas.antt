@@ -96,15 +96,6 @@ pub none_beside : (regions : List (ℕ × ℕ)) → are_beside [] regions ≡ tr
 none_beside [] = refl
 none_beside (r ∷ rs) = none_beside rs
 
-length_listed : (region : Option (ℕ × ℕ)) → length (option_to_list region) ≤ 1
-length_listed None = omega arith
-length_listed (Some r) = omega arith
-
--- there are two at most
-pub two_of_kernel : (names : Option BoundNames) (lines : List ListedSymbol) → length (kernel_regions names lines) ≤ 2
-two_of_kernel None lines = grind arith
-two_of_kernel (Some names) lines = omega (arith, length_listed (built_in_region names lines))
-
 pub all_placed : (regions : List ListedRegion) (modules : List ListedModule) → All (λ l. fits l ≡ true) modules → All (λ l. region_fits l ≡ true) regions → All IsPlaced (map (placed_line regions) modules)
 all_placed regions [] fit regions_fit = All-nil IsPlaced
 all_placed regions (l ∷ ls) fit regions_fit =

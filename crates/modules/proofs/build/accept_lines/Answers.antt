@@ -1,6 +1,6 @@
 use Rattle.modules.proofs.Words.{◌≡◌, ℕ, List, Option, sym, ap, ◌∙◌, subst, arith, length-append, option_copied, common_steps}
 use Rattle.modules.proofs.Definitions.{accepted_of, admission_view, kernel_regions, BoundNames, AreSoundModules}
-use Rattle.modules.proofs.SoundnessLemmas.{accepted_good, built_in_of_accepted, few_accepted, kernel_apart, two_of_kernel}
+use Rattle.modules.proofs.SoundnessLemmas.{accepted_good, built_in_of_accepted, few_accepted, kernel_apart}
 use Rattle.modules.proofs.build.accept_lines.Goals as goal
 
 pub admit-requires : goal.admit-requires
@@ -14,4 +14,4 @@ returns-clause-sound c =
     record { placed = good.placed; apart = good.apart; distinct = good.distinct }
 
 pub returns-clause-few : goal.returns-clause-few
-returns-clause-few c = grind (arith, common_steps, built_in_of_accepted, length-append, two_of_kernel, few_accepted)
+returns-clause-few c = grind (arith, common_steps, built_in_of_accepted, length-append, few_accepted)

@@ -1,7 +1,6 @@
 use Rattle.modules.proofs.Words.{◌≡◌, ℕ, List, Ok, Err, Option, Result, sym, subst, length-append, arith, ◌∙◌, IfOk, option_copied, AllocError}
 use Rattle.modules.proofs.Definitions.{Accepted, accepted_with, catalog_with, kept_counts, CatalogEntries, IsFromSymbols, BoundNames, ListedSymbol, PlacedModule, KeptCounts}
 use Rattle.modules.proofs.AloneLemmas.{sound_alone}
-use Rattle.modules.proofs.SoundnessLemmas.{two_of_kernel}
 use Rattle.modules.proofs.build.assemble_symbols.Goals as goal
 
 answered : (names : Option BoundNames) (lines : List ListedSymbol) (a : Accepted) (result : Result (CatalogEntries × KeptCounts) AllocError) → IsFromSymbols names lines a
@@ -19,7 +18,7 @@ of-requires c =
     (sound_alone names lines (accepted_with c.in_ok-kernel.kernel.items made) found).distinct
 
 pub catalog_with-requires : goal.catalog_with-requires
-catalog_with-requires c = grind (arith, sound_alone, two_of_kernel, length-append)
+catalog_with-requires c = grind (arith, sound_alone, length-append)
 
 pub returns : goal.returns
 returns c =

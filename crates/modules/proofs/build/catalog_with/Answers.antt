@@ -1,12 +1,8 @@
-use Rattle.modules.proofs.Words.{◌≡◌, ◌+◌, ◌<◌, List, Option, sym, ap, subst, ◌∙◌, length, length-append, map, arith, All, ◌++◌, option_to_list, flat_map, common_steps, nat_tests}
-use Rattle.modules.proofs.Definitions.{Accepted, taken_regions, AreModules, built_in_with, IsSoundCatalog, entry_for, ModuleEntry, Gathers, PlacedModule}
+use Rattle.modules.proofs.Words.{◌≡◌, ◌+◌, ◌<◌, List, Option, sym, ap, subst, ◌∙◌, length, map, arith, All, ◌++◌, option_to_list, flat_map, common_steps, nat_tests}
+use Rattle.modules.proofs.Definitions.{Accepted, AreModules, built_in_with, IsSoundCatalog, entry_for, ModuleEntry, Gathers, PlacedModule}
 use Rattle.modules.proofs.SoundnessLemmas.{count_of_regions, valid_kernel, IsSound-catalog_with}
 use Rattle.modules.proofs.MakingLemmas.{catalog_from, kept_from, modules_are, regions_made}
 use Rattle.modules.proofs.build.catalog_with.Goals as goal
-
--- how many regions are taken
-taken_of : (a : Accepted) → length (taken_regions a) ≡ length a.built_in + length (flat_map (λ m. m.regions) a.modules)
-taken_of a = length-append a.built_in (flat_map (λ (m : PlacedModule). m.regions) a.modules)
 
 pub built_in_module-requires : goal.built_in_module-requires
 built_in_module-requires c =
@@ -24,7 +20,7 @@ regions_in-regions-requires c =
     let made : List ModuleEntry = c.in_ok-modules.modules.items in
     let gathers : Gathers a symbols g = c.in_ok-gathered.ensures in
     let others : made ≡ map (entry_for symbols) a.modules = modules_are a symbols g made gathers (subst (λ (x : Accepted). AreModules x.modules g.modules.items made) c.placed.view_is c.in_ok-modules.ensures) in
-    grind (arith, common_steps, nat_tests, modules_are, regions_made, taken_of)
+    grind (arith, common_steps, nat_tests, modules_are, regions_made)
 
 pub overflow_add-catalog : goal.overflow_add-catalog
 overflow_add-catalog c =
@@ -35,7 +31,7 @@ overflow_add-catalog c =
     let gathers : Gathers a symbols g = c.in_ok-gathered.ensures in
     let others : made ≡ map (entry_for symbols) a.modules = modules_are a symbols g made gathers (subst (λ (x : Accepted). AreModules x.modules g.modules.items made) c.placed.view_is c.in_ok-modules.ensures) in
     let total : length (flat_map (λ (m : ModuleEntry). m.regions) made) ≡ length (flat_map (λ (m : PlacedModule). m.regions) a.modules) = ap length (regions_made a symbols made others) in
-    grind (arith, common_steps, nat_tests, modules_are, regions_made, taken_of)
+    grind (arith, common_steps, nat_tests, modules_are, regions_made)
 
 pub invariant_of-catalog : goal.invariant_of-catalog
 invariant_of-catalog c =

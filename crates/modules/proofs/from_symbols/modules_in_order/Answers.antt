@@ -1,6 +1,6 @@
-use Rattle.modules.proofs.Words.{◌≡◌, ◌≢◌, ℕ, ◌+◌, true, false, cond, nat_eq, [], ◌∷◌, ◌++◌, List, length, get_or, map, take, sym, ap, ◌∙◌, arith, Vec, list_any}
+use Rattle.modules.proofs.Words.{◌≡◌, ◌≢◌, ℕ, ◌+◌, true, false, cond, nat_eq, [], List, length, get_or, take, sym, ap, ◌∙◌, arith, Vec, list_any, common_steps}
 use Rattle.modules.proofs.Lemmas.{eqb-false, eqb-true, nil_from_length}
-use Rattle.modules.proofs.Definitions.{is_kept_mark, kept_numbers, modules_numbered, name_of, with_number, numbered_module, ranges_of, PlacedModule, Core, Mark}
+use Rattle.modules.proofs.Definitions.{is_kept_mark, kept_numbers, with_number, ranges_of, Mark}
 use Rattle.modules.proofs.TakenLemmas.{kept_number, left_rising, left_taken, kept_numbers_more, own_ranges, taken_before, taken_now}
 use Rattle.modules.proofs.from_symbols.modules_in_order.Goals as goal
 use Rattle.modules.proofs.from_symbols.modules_in_order.Goals.{then-not-is_empty+then-is_kept+in_ok-in_rising+in_ok-push, else-not-is_empty, else-not-is_empty-via-then-not-is_empty+else-is_kept, else-not-is_empty-via-else-not-is_empty}
@@ -36,19 +36,9 @@ loop-mark-preserved c =
           let kept : is_kept_mark items m ≡ true = sym w.is_kept.ensures ∙ w.if-is_kept.true in
           let numbered : kept_numbers items (take (k + 1) marks) ≡ with_number taken m.owner = next ∙ ap (λ b. cond b (with_number taken m.owner) taken) kept in
           let some : own.items ≢ [] = λ none. eqb-false own.len 0 (sym c.is_empty.ensures ∙ w.if-not-is_empty.true) (own.ok.0 ∙ ap length none) in
-          let empty : w.replace-regions.new.dest.items ≡ [] = ap (λ (v : Vec (ℕ × ℕ)). v.items) w.replace-regions.ensures.after ∙ w.new.ensures.items in
-          let again : w.index_mut.result.now.items ≡ own.items = ap (λ (v : Vec (ℕ × ℕ)). v.items) w.index_mut.ensures.value ∙ i.left.1 m.owner w.index_mut.result.now (omega (arith, within)) ∙ sym left in
-          let regions : w.replace-regions.result.items ≡ ranges_of m.owner items = ap (λ (v : Vec (ℕ × ℕ)). v.items) w.replace-regions.ensures.value ∙ again ∙ own_ranges numbers items taken m own.items left some in
-          let is : w.in_ok-in_rising.field-0 ≡ numbered_module m.owner (name_of numbers m.owner) items =
-          w.in_ok-in_rising.ensures
-          ∙ ap (λ (n : List ℕ). record { name = n; regions = w.replace-regions.result.items; parts = map (λ _. Core) w.replace-regions.result.items }) w.name_of-name.ensures
-          ∙ ap (λ (rs : List (ℕ × ℕ)). record { name = name_of numbers m.owner; regions = rs; parts = map (λ _. Core) rs }) regions in
           rw (w.lists-is, w.modules-is, numbered) (record {
-            modules = w.in_ok-push.ensures.items
-                ∙ ap (λ (ms : List PlacedModule). ms ++ w.in_ok-in_rising.field-0 ∷ []) i.modules
-                ∙ ap (λ (p : PlacedModule). modules_numbered numbers items taken ++ p ∷ []) is
-                ∙ taken_now numbers items taken m own.items left some;
-            left = left_taken (length numbers + 1) m.owner items taken c.loop-mark.lists.items w.replace-regions.new.dest (omega (arith, within)) empty i.left;
+            modules = grind (arith, common_steps, own_ranges numbers items taken m own.items left some, taken_now numbers items taken m own.items left some);
+            left = left_taken (length numbers + 1) m.owner items taken c.loop-mark.lists.items w.replace-regions.new.dest (omega (arith, within)) (grind arith) i.left;
           })
       | else-not-is_empty w ↦
           elim w.else-not-is_empty.branch [
