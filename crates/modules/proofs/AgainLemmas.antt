@@ -1,5 +1,5 @@
 -- One answer for all addresses that a found symbol reaches to.
-use Rattle.modules.proofs.Words.{◌≡◌, ℕ, ◌+◌, ◌-◌, ◌<◌, ◌≤◌, ◌⊎◌, List, Option, None, Some, sym, subst, arith, All, MatchOption, option_and_then}
+use Rattle.modules.proofs.Words.{◌≡◌, ℕ, ◌+◌, ◌-◌, ◌<◌, ◌≤◌, ◌⊎◌, List, Option, Some, sym, subst, arith, All, MatchOption, option_and_then}
 use Rattle.modules.proofs.Lemmas.{find-agree, list_all-agree, look_is}
 use Rattle.modules.proofs.Definitions.{Item, half_open, IsLook, symbol_below, IsSoundCatalog, module_of, CatalogEntries, ModuleEntry, SymbolEntry, Found, IsFound, found_in, symbol_at, symbols_from, items_of, item_of_address}
 use Rattle.modules.proofs.ApartItemLemmas.{some_found}
@@ -25,8 +25,7 @@ module _ (c : CatalogEntries) (item : Item) (addr x : ℕ) where
     in_module : (o : Option ModuleEntry)
         → option_and_then (λ (m : ModuleEntry). found_in (symbols_from m.symbols item.a item.b) item.b addr) o ≡ Some f
         → option_and_then (λ (m : ModuleEntry). found_in (symbols_from m.symbols item.a item.b) item.b x) o ≡ Some (found f.symbol (x - f.symbol.addr) f.size)
-    in_module None is = absurd (cc)
-    in_module (Some m) is = found_again (symbols_from m.symbols item.a item.b) item.b addr x f from below is
+    in_module o is = grind (arith, found_again)
 
     pub symbol_again : symbol_at c item addr ≡ Some f → symbol_at c item x ≡ Some (found f.symbol (x - f.symbol.addr) f.size)
     symbol_again is = in_module (module_of c item.tag) is

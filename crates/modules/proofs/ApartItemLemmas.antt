@@ -1,6 +1,6 @@
 -- The items of a catalog have addresses, and two of them lie apart, so that one at most has an address.
-use Rattle.modules.proofs.Words.{◌≡◌, ℕ, ◌<◌, ◌≤◌, ◌⊎◌, inl, inr, ⊎_elim, true, length, map, get_or, Option, Some, None, refl, sym, ap, subst, arith, Contains, All, AllPairs, common_steps}
-use Rattle.modules.proofs.Lemmas.{cases_lt, nat_tests, get_or_default, length-map, All-contains, Contains-map, get_or-map_default, begins, ends, equal_inside}
+use Rattle.modules.proofs.Words.{◌≡◌, ℕ, ◌<◌, ◌≤◌, ◌⊎◌, inl, inr, ⊎_elim, true, length, map, get_or, Option, Some, None, sym, ap, subst, arith, Contains, All, AllPairs, common_steps, nat_tests}
+use Rattle.modules.proofs.Lemmas.{cases_lt, get_or_default, length-map, All-contains, Contains-map, get_or-map_default, begins, ends, equal_inside}
 use Rattle.modules.proofs.Definitions.{Item, half_open, IsLook, IsSoundCatalog, CatalogEntries, items_of, is_apart}
 use Rattle.modules.proofs.ItemLemmas.{all_regions, region_of}
 
@@ -34,5 +34,4 @@ module _ (c : CatalogEntries) (sound : IsSoundCatalog c) where
       ap Some (⊎_elim (λ same. same) (λ apart. ⊎_elim (λ p. absurd (omega arith)) (λ p. absurd (omega arith)) apart) (same_or_apart i y m h.0))
 
   pub none_found : (addr : ℕ) (r : Option Item) → ((y : Item) → Contains (items_of c) y → y.a ≤ addr → addr < y.b → ⊥) → IsLook half_open addr (items_of c) r → None ≡ r
-  none_found addr None not_in h = refl
-  none_found addr (Some y) not_in h = absurd (not_in y h.0 (begins addr y h.1) (ends addr y h.1))
+  none_found addr r not_in h = grind (arith, begins, ends)

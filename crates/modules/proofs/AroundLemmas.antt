@@ -7,8 +7,7 @@ pub below_le : (symbols : List SymbolEntry) (addr : ℕ) (s : SymbolEntry) → s
 below_le symbols addr s h = leb-true s.addr addr (first_so (nat_le s.addr addr) (list_all (λ t. nat_le t.addr s.addr || nat_lt addr t.addr) symbols) (find-passes (is_nearest symbols addr) symbols s h))
 
 above_from : (symbols : List SymbolEntry) (addr : ℕ) (o : Option SymbolEntry) → find (is_next symbols addr) symbols ≡ o → (end : ℕ) → addr < end → addr < unwrap_or (option_map (λ (s : SymbolEntry). s.addr) o) end
-above_from symbols addr None h end lt = lt
-above_from symbols addr (Some s) h end lt = ltb-true addr s.addr (first_so (nat_lt addr s.addr) (list_all (λ t. nat_le t.addr addr || nat_le s.addr t.addr) symbols) (find-passes (is_next symbols addr) symbols s h))
+above_from symbols addr o h end lt = grind (arith, ltb-true, first_so, find-passes)
 
 pub above_gt : (symbols : List SymbolEntry) (addr end : ℕ) → addr < end → addr < unwrap_or (address_above symbols addr) end
 above_gt symbols addr end lt = above_from symbols addr (find (is_next symbols addr) symbols) refl end lt

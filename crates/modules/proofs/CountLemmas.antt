@@ -1,5 +1,5 @@
 -- Each line is counted once.
-use Rattle.modules.proofs.Words.{◌≡◌, ◌≢◌, ℕ, ◌+◌, Bool, true, false, ◌&&◌, cond, List, [], ◌∷◌, ◌++◌, length, get_or, map, Some, None, Option, refl, sym, suc, ◌∙◌, arith, All, count_by, filter, fold, is_none, sum_by, list_any, option_map_or, option_to_list, bytes_eq, first_so, rules, common_steps, nat_tests}
+use Rattle.modules.proofs.Words.{◌≡◌, ◌≢◌, ℕ, ◌+◌, Bool, true, false, ◌&&◌, cond, List, [], ◌∷◌, ◌++◌, length, get_or, map, Option, refl, sym, suc, ◌∙◌, arith, All, count_by, filter, fold, is_none, sum_by, list_any, option_map_or, option_to_list, bytes_eq, first_so, rules, common_steps, nat_tests}
 use Rattle.modules.proofs.Lemmas.{and_left, length-map, get_or-map, length-filter, sum_by-cons, list_any_none, count-and_false, count-or, count-or_apart, count_by-either, bytes_eq-one_name}
 use Rattle.modules.proofs.Definitions.{Accepted, accepted_of, after_module, names_of, none_yet, built_in_of, catalog_of, catalog_with, counts_of, entries_of, entry_for, ModuleEntry, AreDistinctNames, belongs, entry_of, is_built_in, is_kept, is_used, lies_in, symbols_that, fits, kernel_regions, region_fits, BoundNames, ListedModule, ListedRegion, ListedSymbol, PlacedModule, are_few, placed_line, lies_in_any}
 use Rattle.modules.proofs.AdmissionLemmas.{total, total-after_module}
@@ -71,8 +71,7 @@ abbrev pub without_owner : Option (List ℕ) → ℕ → PlacedModule → Bool
 without_owner owner addr m = option_map_or (λ name. bytes_eq name m.name) owner false && lies_in m addr
 
 unowned : (owner : Option (List ℕ)) (addr : ℕ) (ms : List PlacedModule) → is_none owner ≡ true → list_any (without_owner owner addr) ms ≡ false
-unowned None addr ms h = list_any_none (without_owner None addr) ms (λ k d lt. refl)
-unowned (Some name) addr ms h = absurd (cc)
+unowned owner addr ms h = grind (arith, list_any_none)
 
 -- each kept symbol is counted once
 pub kept_by_home : (built_in : List (ℕ × ℕ)) (a : Accepted) (symbols : List ListedSymbol) → a.built_in ≡ built_in → AreDistinctNames (names_of a.modules) → count_by (is_built_in built_in) symbols + sum_by (homes a.modules) symbols ≡ count_by (is_kept a) symbols

@@ -49,4 +49,4 @@ pub use Rattle.order_laws.specs.declared.refusals.Refusal.{Refusal}
 pub use Rattle.order_laws.specs.declared.refusals.Refusal.TheVariants.{OutOfMemory, UnknownModule}
 pub use Rattle.table_updates.specs.Updates.{erased, inserted, refusal_for, some_invalid, some_meet, some_overlap}
 pub use Rattle.table_updates.specs.declared.updates.Update.{Update}
-pub use Rattle.table_updates.specs.declared.updates.Update.TheVariants.{Batch, Erase, Insert}
+pub use Rattle.table_updates.specs.declared.updates.Update.TheVariants.{Batch}

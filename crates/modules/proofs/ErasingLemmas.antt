@@ -7,8 +7,7 @@ use Rattle.modules.proofs.LoadLemmas.{starts_more}
 -- ---- just one first address, or several
 
 pub none_of_length : (xs : List ℕ) → length xs ≡ 0 → xs ≡ []
-none_of_length [] h = refl
-none_of_length (x ∷ xs) h = absurd (omega arith)
+none_of_length xs h = grind (arith, common_steps, nat_tests)
 
 -- ---- first addresses compared with words
 

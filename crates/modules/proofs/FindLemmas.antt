@@ -1,12 +1,11 @@
 -- What is found for an address, by places.
-use Rattle.modules.proofs.Words.{◌≡◌, ℕ, ◌-◌, ◌<◌, Bool, true, false, ◌&&◌, ◌||◌, nat_lt, nat_le, List, get_or, Some, None, Option, refl, sym, ap, ◌∙◌, inl, All, MatchOption, find, unwrap_or, list_all, option_map, arith}
+use Rattle.modules.proofs.Words.{◌≡◌, ℕ, ◌-◌, ◌<◌, Bool, true, false, ◌&&◌, ◌||◌, nat_lt, nat_le, List, get_or, Some, None, Option, refl, sym, ap, ◌∙◌, All, MatchOption, find, unwrap_or, list_all, option_map, arith}
 use Rattle.modules.proofs.Lemmas.{false≢true, and_parts, leb-true, ltb-true, AllPass-from_list_all, Contains-slice_get, le_or_past_cases, least_above_cases, find-passes, find_place}
 use Rattle.modules.proofs.Definitions.{is_nearest, is_next, symbol_below, SymbolEntry, IsFound, ReachesUpTo, symbol_found_at, found_in}
 use Rattle.modules.proofs.AroundLemmas.{all_above, none_over}
 
 reach_of : (symbols : List SymbolEntry) (end : ℕ) (s : SymbolEntry) (o : Option SymbolEntry) → find (is_next symbols s.addr) symbols ≡ o → ReachesUpTo symbols end s (unwrap_or (option_map (λ (t : SymbolEntry). t.addr) o) end - s.addr)
-reach_of symbols end s None none = inl (none_over symbols s.addr none, refl)
-reach_of symbols end s (Some t) is = grind (arith, find_place, and_parts, find-passes, AllPass-from_list_all, Contains-slice_get, ltb-true, least_above_cases)
+reach_of symbols end s o none = grind (arith, none_over, find_place, and_parts, find-passes, AllPass-from_list_all, Contains-slice_get, ltb-true, least_above_cases)
 
 pub found_by_place : (symbols : List SymbolEntry) (end addr : ℕ) → MatchOption (found_in symbols end addr) (All (λ s. addr < s.addr) symbols) (IsFound symbols end addr)
 found_by_place symbols end addr =

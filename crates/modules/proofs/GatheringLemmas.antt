@@ -100,8 +100,7 @@ kept_within a o ss kept is = omega (arith, ap (λ (es : List SymbolEntry). lengt
 
 -- an owner has a list
 room_at : (a : Accepted) (name : List ℕ) (o : Option ℕ) (g : Gathered) → length g.modules.items ≡ length a.modules → position_from (bytes_eq name) 0 (names_of a.modules) ≡ o → HasRoom g (owner_at o)
-room_at a name None g lists at = tt
-room_at a name (Some k) g lists at = omega (arith, (place_within a.modules name k at).0, lists, g.modules.ok.0)
+room_at a name o g lists at = grind (arith, place_within)
 
 room_for : (a : Accepted) (n : Option (List ℕ)) (g : Gathered) → length g.modules.items ≡ length a.modules → HasRoom g (owner_for a n)
 room_for a None g lists = tt

@@ -14,16 +14,13 @@ one_first_line names lines = grind (arith, common_steps, nat_tests, ltb-true, li
 
 module _ (P : ℕ × ℕ → Type 0) where
   all_listed : (region : Option (ℕ × ℕ)) → IfSome region P → All P (option_to_list region)
-  all_listed None its = All-nil P
-  all_listed (Some r) its = All-cons P r [] its (All-nil P)
+  all_listed region its = grind (arith, All-nil, All-cons)
 
   all_with : (regions : List (ℕ × ℕ)) (region : Option (ℕ × ℕ)) → All P regions → IfSome region P → All P (with_apart regions region)
-  all_with regions None all its = all
-  all_with regions (Some r) all its = grind (arith, common_steps, All-push)
+  all_with regions region all its = grind (arith, common_steps, nat_tests, All-push)
 
   all_or : (region : Option (ℕ × ℕ)) (rest : List (ℕ × ℕ)) → IfSome region P → All P rest → All P (option_map_or (λ r. r ∷ []) region rest)
-  all_or None rest its all = all
-  all_or (Some r) rest its all = All-cons P r [] its (All-nil P)
+  all_or region rest its all = grind (arith, All-cons, All-nil)
 
 pub first_lines : (names : Option BoundNames) (lines : List ListedSymbol) → HaveFirstLines (kernel_regions names lines) lines
 first_lines None lines = search (rules, all_or, one_first_line, all_with, All-nil)
@@ -49,8 +46,7 @@ IsNumber-in names name some = grind (arith, numbered, number_names)
 
 module _ (kernel : List (ℕ × ℕ)) (names : List (List ℕ)) (lines : List ListedSymbol) (items : List Item) (has : HaveFirstLines kernel lines) (regions : AreRegions (marks_of kernel names lines) items) where
   at_look : (n addr : ℕ) (o : Option Item) → look half_open addr items ≡ o → option_map_or (λ (i : Item). nat_eq i.tag n) o false ≡ true → HoldsFor items n addr
-  at_look n addr None at h = absurd (cc)
-  at_look n addr (Some i) at h = grind (arith, look_is, eqb-true, begins, ends)
+  at_look n addr o at h = grind (arith, look_is, eqb-true, begins, ends)
 
   by_look : (n addr : ℕ) → HoldsFor items n addr → option_map_or (λ (i : Item). nat_eq i.tag n) (look half_open addr items) false ≡ true
   by_look n addr h =
@@ -88,8 +84,7 @@ module _ (kernel : List (ℕ × ℕ)) (names : List (List ℕ)) (lines : List Li
   one_kept : (l : ListedSymbol) (b : Bool) (ns : List ℕ) (os : List (List ℕ)) (ms : List Mark) (ls : List ListedSymbol) (name : List ℕ) → l.owner ≡ Some name → list_any (bytes_eq name) names ≡ true
       → map (name_of names) (kept_marks ms) ≡ kept_owners ls → is_kept_mark items (mark_of names l) ≡ b → is_kept_line (posts kernel lines) l ≡ b
       → map (name_of names) (kept_marks (mark_of names l ∷ ms)) ≡ kept_owners (l ∷ ls)
-  one_kept l true ns os ms ls name own some rest by_mark by_line = grind (arith, numbered, number_names)
-  one_kept l false ns os ms ls name own some rest by_mark by_line = rw (by_mark, by_line) rest
+  one_kept l b ns os ms ls name own some rest by_mark by_line = grind (arith, numbered, number_names)
 
   by_lines : (ls : List ListedSymbol) → AreNamed names ls → map (name_of names) (kept_marks (map (mark_of names) (filter (is_outside kernel) ls))) ≡ kept_owners (posts_in ls)
   by_lines [] all = refl

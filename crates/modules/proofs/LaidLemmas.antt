@@ -1,5 +1,5 @@
 -- The region that an address lies in, among regions that are laid.
-use Rattle.modules.proofs.Words.{◌≡◌, ℕ, ◌-◌, ◌<◌, ◌≤◌, true, false, nat_le, List, length, get_or, Option, Some, None, refl, ap, sym, ◌∙◌, ⊎_elim, arith, Contains, IsNonDecreasingBy, IsPartitionPoint, common_steps, nat_tests}
+use Rattle.modules.proofs.Words.{◌≡◌, ℕ, ◌-◌, ◌<◌, ◌≤◌, true, false, nat_le, List, length, get_or, Option, Some, None, ap, sym, ◌∙◌, ⊎_elim, arith, Contains, IsNonDecreasingBy, IsPartitionPoint, common_steps, nat_tests}
 use Rattle.modules.proofs.Lemmas.{cases_lt, leb-true, leb-false, get_or_default, begins, ends, equal_inside, look_is}
 use Rattle.modules.proofs.Definitions.{Item, half_open, IsLook, look, AreLaid}
 
@@ -25,8 +25,7 @@ module _ (items : List Item) (laid : AreLaid items) where
   found x addr there from below (Some y) h = ap Some (one_holds x y addr there from below h.0 (begins addr y h.1) (ends addr y h.1))
 
   none : (addr : ℕ) → ((y : Item) → Contains items y → y.a ≤ addr → addr < y.b → ⊥) → (r : Option Item) → IsLook half_open addr items r → None ≡ r
-  none addr not_in None h = refl
-  none addr not_in (Some y) h = absurd (not_in y h.0 (begins addr y h.1) (ends addr y h.1))
+  none addr not_in r h = grind (arith, begins, ends)
 
   module _ (addr split : ℕ) (bound : split ≤ length items) (point : IsPartitionPoint (λ i. nat_le i.a addr ≡ true) (λ i. nat_le i.a addr ≡ false) items split) where
     from_below : (k : ℕ) (d : Item) → k < split → (get_or items k d).a ≤ addr

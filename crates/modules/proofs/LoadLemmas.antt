@@ -1,7 +1,7 @@
 -- Which updates a load, an unload, and the end of a module's start give.
 use Rattle.modules.proofs.Words.{◌≡◌, ℕ, ◌+◌, ◌<◌, ◌≤◌, Bool, true, false, ◌&&◌, ◌||◌, nat_eq, cond, zero, suc, List, [], ◌∷◌, ◌++◌, length, get_or, map, take, drop, drop-cons, Some, Ok, Err, Option, Result, refl, sym, ap, subst, ◌∙◌, inr, ⊎_elim, arith, add-one, bytes_decides, list_any, option_map_or, rules, common_steps, nat_tests}
 use Rattle.modules.proofs.Lemmas.{and_parts, eqb-true, not-true, or_cases, or_left, or_right, eq-eqb, length-map, and_by_second, or_by_first, or_by_second, eqb-one_false, eqb-one_more}
-use Rattle.modules.proofs.Definitions.{Update, Insert, Erase, Batch, Item, Refusal, OutOfMemory, UnknownModule, ModuleEntry, GivesOrLacksMemory, GivesSome, TakesMemory, drop_init_update, is_erasing, is_inserting, item_of, load_update, has_no_items, is_item_of, same_items, unload_update, update_of, is_init, is_of, starts_of, Held, Part}
+use Rattle.modules.proofs.Definitions.{Update, Batch, Item, Refusal, OutOfMemory, UnknownModule, ModuleEntry, GivesOrLacksMemory, GivesSome, TakesMemory, drop_init_update, is_erasing, is_inserting, item_of, load_update, has_no_items, is_item_of, same_items, unload_update, update_of, is_init, is_of, starts_of, Held, Part}
 
 -- ---- the first addresses of the regions, one more at a time
 
@@ -59,36 +59,25 @@ other_length number (r ∷ rs) (i ∷ is) other =
 -- ---- the updates
 
 none_from : {A : Type 0} (xs : List A) → has_no_items xs ≡ true → xs ≡ []
-none_from [] h = refl
-none_from (x ∷ xs) h = absurd (cc)
+none_from xs h = grind arith
 
 insert_batch : (items : List Item) → nat_eq (length items) 1 ≡ false → update_of [] items ≡ Batch [] items
-insert_batch [] h = refl
-insert_batch (i ∷ []) h = absurd (cc)
-insert_batch (i ∷ j ∷ rest) h = refl
+insert_batch items h = grind arith
 
 pub erasing_from : (starts : List ℕ) (u : Update) → is_erasing starts u ≡ true → update_of starts [] ≡ u
-erasing_from starts (Insert i) h = absurd (cc)
-erasing_from starts (Erase a) h = ap (λ (s : List ℕ). update_of s []) ((bytes_decides starts (a ∷ [])).0 h)
-erasing_from starts (Batch erase insert) h = grind (arith, and_parts, not-true, bytes_decides, none_from)
+erasing_from starts u h = grind (arith, bytes_decides, and_parts, not-true, none_from)
 
 erasing_self : (starts : List ℕ) → is_erasing starts (update_of starts []) ≡ true
-erasing_self [] = refl
-erasing_self (a ∷ []) = (bytes_decides (a ∷ []) (a ∷ [])).1 refl
-erasing_self (a ∷ b ∷ rest) = rw (eqb-one_more (length rest), (bytes_decides (a ∷ b ∷ rest) (a ∷ b ∷ rest)).1 refl) refl
+erasing_self starts = grind (arith, bytes_decides, eqb-one_more)
 
 pub erasing_of : (starts : List ℕ) (u : Update) → update_of starts [] ≡ u → is_erasing starts u ≡ true
 erasing_of starts u h = subst (λ (v : Update). is_erasing starts v ≡ true) h (erasing_self starts)
 
 pub inserting_from : (number : ℕ) (rs : List (ℕ × ℕ)) (u : Update) → is_inserting number rs u ≡ true → update_of [] (map (item_of number) rs) ≡ u
-inserting_from number rs (Insert i) h = ap (update_of []) (items_from number rs (i ∷ []) h)
-inserting_from number rs (Erase a) h = absurd (cc)
-inserting_from number rs (Batch erase insert) h = grind (arith, and_parts, insert_batch, length-map, not-true, items_from, none_from)
+inserting_from number rs u h = grind (arith, items_from, and_parts, insert_batch, length-map, not-true, none_from)
 
 inserting_self : (number : ℕ) (rs : List (ℕ × ℕ)) → is_inserting number rs (update_of [] (map (item_of number) rs)) ≡ true
-inserting_self number [] = refl
-inserting_self number (r ∷ []) = items_same number (r ∷ [])
-inserting_self number (r ∷ s ∷ rest) = rw (eqb-one_more (length rest)) (items_same number (r ∷ s ∷ rest))
+inserting_self number rs = grind (arith, common_steps, nat_tests, items_same, eqb-one_more)
 
 pub inserting_of : (number : ℕ) (rs : List (ℕ × ℕ)) (u : Update) → update_of [] (map (item_of number) rs) ≡ u → is_inserting number rs u ≡ true
 inserting_of number rs u h = subst (λ (v : Update). is_inserting number rs v ≡ true) h (inserting_self number rs)
@@ -99,12 +88,10 @@ given : (a b : Update) → ◌≡◌ {A = Result Update Refusal} (Ok a) (Ok b) �
 given a b h = cc
 
 chosen : (b : Bool) (e : Refusal) (v u : Update) → cond b (Err e) (Ok v) ≡ Ok u → v ≡ u
-chosen true e v u h = absurd (cc)
-chosen false e v u h = given v u h
+chosen b e v u h = grind (arith, given)
 
 chosen_not : (b : Bool) (e : Refusal) (v u : Update) → cond b (Ok v) (Err e) ≡ Ok u → v ≡ u
-chosen_not true e v u h = given v u h
-chosen_not false e v u h = absurd (cc)
+chosen_not b e v u h = grind (arith, given)
 
 abbrev pub asked : (Held → ModuleEntry → Result Update Refusal) → Option ModuleEntry → Held → Result Update Refusal
 asked f o held = option_map_or (f held) o (Err UnknownModule)
@@ -123,8 +110,7 @@ unload_from m u h =
     (or_cases (is_erasing (starts_of true false m.regions m.parts) u) (is_erasing (starts_of true true m.regions m.parts) u) h)
 
 by_init : (m : ModuleEntry) (u : Update) (init : Bool) → is_erasing (starts_of true init m.regions m.parts) u ≡ true → (is_erasing (starts_of true false m.regions m.parts) u || is_erasing (starts_of true true m.regions m.parts) u) ≡ true
-by_init m u true h = or_right (is_erasing (starts_of true false m.regions m.parts) u) (is_erasing (starts_of true true m.regions m.parts) u) h
-by_init m u false h = or_left (is_erasing (starts_of true false m.regions m.parts) u) (is_erasing (starts_of true true m.regions m.parts) u) h
+by_init m u init h = grind (arith, or_right, or_left)
 
 pub unload_to : (m : ModuleEntry) (u : Update) → GivesSome (asked unload_update (Some m)) u → (is_erasing (starts_of true false m.regions m.parts) u || is_erasing (starts_of true true m.regions m.parts) u) ≡ true
 unload_to m u g = by_init m u g.0.init (erasing_of (starts_of true g.0.init m.regions m.parts) u (chosen_not g.0.core _ (update_of (starts_of true g.0.init m.regions m.parts) []) u g.1))

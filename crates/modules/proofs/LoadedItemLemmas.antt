@@ -1,6 +1,6 @@
 -- The items that a load inserts, and when the update that inserts them is accepted.
-use Rattle.modules.proofs.Words.{◌≡◌, ℕ, ◌+◌, ◌<◌, ◌≤◌, true, false, List, [], ◌∷◌, length, Some, None, refl, sym, ◌∙◌, ap, ⊎_elim, arith, zero, suc, Result, Ok, Err, Contains, nat_lt, rules, common_steps}
-use Rattle.modules.proofs.Lemmas.{nat_tests, without_none, all_are_valid, insert_accepted, no_test_holds, none_meet, length-map, All-contains, Contains-append_left, Contains-append_right, get_or_from_slice_get, slice_get_within}
+use Rattle.modules.proofs.Words.{◌≡◌, ℕ, ◌+◌, ◌<◌, ◌≤◌, true, false, List, [], ◌∷◌, length, Some, None, refl, sym, ◌∙◌, ap, ⊎_elim, arith, zero, suc, Result, Ok, Err, Contains, nat_lt, rules, common_steps, nat_tests}
+use Rattle.modules.proofs.Lemmas.{without_none, all_are_valid, insert_accepted, no_test_holds, none_meet, length-map, All-contains, Contains-append_left, Contains-append_right, get_or_from_slice_get, slice_get_within}
 use Rattle.modules.proofs.Definitions.{Item, half_open, without_all, Update, erased, inserted, refusal_for, some_invalid, some_meet, some_overlap, update_of, GivesOrLacksMemory, load_of, Refusal, OutOfMemory, IsSoundCatalog, entries_of, module_of, CatalogEntries, ModuleEntry, items_at, Held}
 
 -- the update that loads a module inserts its items, of which there is one at least
@@ -41,11 +41,7 @@ inserts_accepted n limit (i ∷ j ∷ rest) table seq some valid each apart room
 
 -- the update that inserts these items, and erases none
 pub inserts_these : (items : List Item) → inserted (update_of [] items) ≡ items
-inserts_these [] = refl
-inserts_these (i ∷ []) = refl
-inserts_these (i ∷ j ∷ rest) = refl
+inserts_these items = grind arith
 
 pub erases_none : (items : List Item) → erased (update_of [] items) ≡ []
-erases_none [] = refl
-erases_none (i ∷ []) = refl
-erases_none (i ∷ j ∷ rest) = refl
+erases_none items = grind arith

@@ -1,5 +1,5 @@
 -- Regions by the numbers of their modules.
-use Rattle.modules.proofs.Words.{◌≡◌, ℕ, ◌<◌, ◌≤◌, zero, suc, true, false, cond, nat_eq, List, [], ◌∷◌, length, get_or, map, refl, ap, sym, subst, ◌∙◌, ⊎_elim, arith, All, Contains, filter, AllPairs}
+use Rattle.modules.proofs.Words.{◌≡◌, ℕ, ◌<◌, ◌≤◌, suc, true, false, cond, nat_eq, List, [], ◌∷◌, length, get_or, map, refl, ap, sym, subst, ◌∙◌, ⊎_elim, arith, All, Contains, filter, AllPairs}
 use Rattle.modules.proofs.Lemmas.{cases_lt, or_cases, or_left, or_right, eqb-true, eq-eqb, All-head, All-tail, All-cons, All-nil, Contains-cons_cases, Contains-head, Contains-rest}
 use Rattle.modules.proofs.Definitions.{Item, ListedSymbol, holds, Follows, HoldsFor, AreRegions, Mark, ranges_of, numbered_module, StandsFor, HasItsRegions}
 use Rattle.modules.proofs.SpacedLemmas.{lies, inside, within, Range}
@@ -12,9 +12,7 @@ module _ {X : Type 0} (R : X → X → Type 0) (x : X) (xs : List X) where
   pairs_first pairs = λ k d lt. pairs 0 (suc k) d (omega arith) (omega arith)
 
   pub pairs_cons : All (R x) xs → AllPairs R xs → (i j : ℕ) (d : X) → i < j → j < length (x ∷ xs) → R (get_or (x ∷ xs) i d) (get_or (x ∷ xs) j d)
-  pairs_cons head tail i zero d less lt = absurd (omega arith)
-  pairs_cons head tail zero (suc j) d less lt = head j d (omega arith)
-  pairs_cons head tail (suc i) (suc j) d less lt = tail i j d (omega arith) (omega arith)
+  pairs_cons head tail i j d less lt = grind arith
 
 module _ (n : ℕ) where
   pub valid_ranges : (items : List Item) → All (λ i. i.a < i.b) items → All (λ (r : Range). r.0 < r.1) (ranges_of n items)

@@ -1,5 +1,5 @@
 -- The names of modules, their numbers, and one name more.
-use Rattle.modules.proofs.Words.{◌≡◌, ℕ, ◌≤◌, Bool, true, false, cond, suc, List, [], ◌∷◌, ◌++◌, length, get_or, Option, Some, None, refl, sym, ap, subst, ◌∙◌, arith, All, is_some, Bor, bytes_decides, list_any, position_from, option_copied, option_map, option_map_or, bytes_eq}
+use Rattle.modules.proofs.Words.{◌≡◌, ℕ, ◌≤◌, Bool, true, false, cond, suc, List, [], ◌∷◌, ◌++◌, length, get_or, Option, Some, None, refl, sym, ap, subst, ◌∙◌, arith, All, is_some, Bor, bytes_decides, list_any, position_from, option_copied, option_map, option_map_or, bytes_eq, common_steps, nat_tests}
 use Rattle.modules.proofs.Lemmas.{or_left, or_right, position_from-zero, map-append, All-append, list_any-append, position-Some, is_some-position_from, position_from-new}
 use Rattle.modules.proofs.Definitions.{with_name, AreNamed, number_for, with_owner, ListedSymbol, names_at, lines_of_all, lines_of_run, line_of, Run}
 use Rattle.modules.proofs.PostLemmas.{all_mapped}
@@ -8,16 +8,14 @@ use Rattle.modules.proofs.RunLemmas.{lines_of_all-last}
 -- ---- the map of numbers
 
 mapped_some : {X Y : Type 0} (f : X → Y) (o : Option X) → is_some (option_map f o) ≡ is_some o
-mapped_some f None = refl
-mapped_some f (Some x) = refl
+mapped_some f o = grind arith
 
 -- a name has a number where it is among the names
 pub has_number : (names : List (List ℕ)) (name : List ℕ) (o : Option ℕ) (r : Bool) → o ≡ option_map suc (position_from (bytes_eq name) 0 names) → r ≡ is_some o → list_any (bytes_eq name) names ≡ r
 has_number names name o r found answers = grind (arith, is_some-position_from, mapped_some)
 
 mapped_either : (b : Bool) (n : ℕ) (o : Option ℕ) → cond b (Some (suc n)) (option_map suc o) ≡ option_map suc (cond b (Some n) o)
-mapped_either true n o = refl
-mapped_either false n o = refl
+mapped_either b n o = grind arith
 
 -- the numbers once a name that was not there stands at the end
 pub numbers_more : (names : List (List ℕ)) (new name : List ℕ) (n : ℕ) (o : Option ℕ) → list_any (bytes_eq new) names ≡ false → n ≡ suc (length names) → o ≡ option_map suc (position_from (bytes_eq name) 0 names)
@@ -50,13 +48,10 @@ module _ (names : List (List ℕ)) where
   now_there new = grind (arith, list_any-append, or_right, or_left, bytes_decides)
 
   stays_owner : (owner o : Option (List ℕ)) → IsOwner names o → IsOwner (with_owner names owner) o
-  stays_owner owner None is = refl
-  stays_owner None (Some name) is = is
-  stays_owner (Some new) (Some name) is = still_there new name is
+  stays_owner owner o is = grind (arith, common_steps, nat_tests, still_there)
 
   is_owner : (owner : Option (List ℕ)) → IsOwner (with_owner names owner) owner
-  is_owner None = refl
-  is_owner (Some new) = now_there new
+  is_owner owner = grind (arith, now_there)
 
   -- the modules of the lines of one run more
   pub named_more : (runs : List Run) (run : Run) → AreNamed names (lines_of_all runs) → AreNamed (with_owner names (option_copied run.module)) (lines_of_all (runs ++ run ∷ []))

@@ -1,13 +1,12 @@
 -- What is kept by the regions is what is kept by the lines.
-use Rattle.modules.proofs.Words.{◌≡◌, ℕ, ◌-◌, ◌^◌, ◌<◌, true, false, List, Option, Some, None, refl, ap, sym, option_map_or, bytes_eq, bytes_decides, arith}
+use Rattle.modules.proofs.Words.{◌≡◌, ℕ, ◌-◌, ◌^◌, ◌<◌, true, false, List, Option, Some, refl, option_map_or, bytes_eq, bytes_decides, arith}
 use Rattle.modules.proofs.Definitions.{belongs, ListedSymbol, PlacedModule, HasItsRegions, is_kept_line}
 
 pub named : (name : List ℕ) → bytes_eq name name ≡ true
 named name = (bytes_decides name name).1 refl
 
 pub is_of : (name : List ℕ) (o : Option (List ℕ)) → option_map_or (bytes_eq name) o false ≡ true → o ≡ Some name
-is_of name None h = absurd (cc)
-is_of name (Some other) h = ap Some (sym ((bytes_decides name other).0 h))
+is_of name o h = grind (arith, bytes_decides)
 
 pub of_is : (name : List ℕ) (o : Option (List ℕ)) → o ≡ Some name → option_map_or (bytes_eq name) o false ≡ true
 of_is name o e = rw e (named name)

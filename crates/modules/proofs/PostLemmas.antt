@@ -38,8 +38,7 @@ find_mapped p f [] = refl
 find_mapped p f (x ∷ xs) = grind (arith, find_mapped p f xs)
 
 some_mapped : {X Y : Type 0} (f : X → Y) (o : Option X) (y : Y) → option_map f o ≡ Some y → (x : X) × (o ≡ Some x) × (f x ≡ y)
-some_mapped f None y h = absurd (cc)
-some_mapped f (Some x) y h = (x, refl, (let e : f x ≡ y = cc in e))
+some_mapped f o y h = grind arith
 
 pub listed_found : {X : Type 0} (p : X → Bool) (xs : List X) (x : X) → find p xs ≡ Some x → Contains xs x
 listed_found p xs x h = let (place, first) = find_place p xs x h in Contains-slice_get xs place x first.at
@@ -339,8 +338,7 @@ module _ (names : List (List ℕ)) (lines : List ListedSymbol) where
   -- ---- whose an address is
 
   owned : (ls : List ListedSymbol) (x : ℕ) (name : List ℕ) (o : Option ListedSymbol) → option_and_then (λ (l : ListedSymbol). cond (is_in_page l.addr x || goes_on ls x l) l.owner None) o ≡ Some name → (l : ListedSymbol) × (o ≡ Some l) × ((is_in_page l.addr x || goes_on ls x l) ≡ true) × (l.owner ≡ Some name)
-  owned ls x name None h = absurd (cc)
-  owned ls x name (Some l) h = grind arith
+  owned ls x name o h = grind arith
 
   to_lines : (kernel : List (ℕ × ℕ)) (n x : ℕ) (name : List ℕ) → n ≢ 0 → number_in names name ≡ n → Owns (marks_of kernel names lines) n x → module_of_address (posts kernel lines) x ≡ Some name
   to_lines kernel n x name some is o =

@@ -18,8 +18,7 @@ none_wins wins x [] = refl
 none_wins wins x (t ∷ ts) = elim (wins t x) as (λ b. (not b && is_unbeaten wins ts x) ≡ not (b || list_any (λ u. wins u x) ts)) [ true ↦ refl | false ↦ none_wins wins x ts ]
 
 not_true : (b : Bool) → not b ≡ true → b ≡ false
-not_true true h = absurd (cc)
-not_true false h = refl
+not_true b h = grind arith
 
 between_any : (wins : SymbolEntry → SymbolEntry → Bool) → IsOrder wins → (x u : SymbolEntry) (xs : List SymbolEntry) → list_any (λ t. wins t x) xs ≡ true → is_unbeaten wins xs u ≡ true → wins x u ≡ false
 between_any wins order x u [] some best = absurd (cc)
@@ -75,10 +74,7 @@ not_le : (a b : ℕ) → not (nat_le a b) ≡ nat_lt b a
 not_le a b = ⊎_elim (λ lt. let yes : nat_lt b a ≡ true = lt-ltb b a lt in let no : nat_le a b ≡ false = lt-leb a b lt in rw (yes, no) refl) (λ le. let no : nat_lt b a ≡ false = le-ltb b a le in let yes : nat_le a b ≡ true = le-leb a b le in rw (yes, no) refl) (cases_lt b a)
 
 or_turned : (a b : Bool) → (a || b) ≡ (b || a)
-or_turned true true = refl
-or_turned true false = refl
-or_turned false true = refl
-or_turned false false = refl
+or_turned a b = grind arith
 
 nearest_test : (t s q : ℕ) → (not (nat_le t q) || not (nat_lt s t)) ≡ (nat_le t s || nat_lt q t)
 nearest_test t s q = ap (λ b. b || not (nat_lt s t)) (not_le t q) ∙ ap (λ b. nat_lt q t || b) (not_lt s t) ∙ or_turned (nat_lt q t) (nat_le t s)

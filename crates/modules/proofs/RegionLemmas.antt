@@ -1,6 +1,6 @@
 -- Each module has 1 to 7 regions.
-use Rattle.modules.proofs.Words.{◌≡◌, ℕ, ◌+◌, ◌^◌, ◌<◌, ◌≤◌, true, false, ◌||◌, nat_le, cond, List, [], ◌∷◌, length, get_or, map, refl, sym, ap, ◌∙◌, ⊎_elim, arith, All, bytes_decides, list_any, bytes_eq}
-use Rattle.modules.proofs.Lemmas.{leb-true, nat_tests, length-map, All-nil, All-cons, All-map, All-filter, AllPass-from_list_all, some_passes}
+use Rattle.modules.proofs.Words.{◌≡◌, ℕ, ◌+◌, ◌^◌, ◌<◌, ◌≤◌, true, false, ◌||◌, nat_le, cond, List, [], ◌∷◌, length, get_or, map, refl, sym, ap, ◌∙◌, ⊎_elim, arith, All, bytes_decides, list_any, bytes_eq, nat_tests}
+use Rattle.modules.proofs.Lemmas.{leb-true, length-map, All-nil, All-cons, All-map, All-filter, AllPass-from_list_all, some_passes}
 use Rattle.modules.proofs.Definitions.{region_line_region, fits, is_region, region_fits, module_line_region, ListedModule, ListedRegion, is_core, IsPlaced, PlacedModule, are_few, has_core, lines_named, placed_line, placed_alone, placed_by}
 
 pub region_parts : (base size : ℕ) → is_region base size ≡ true → (base < base + size) × (base + size < 2 ^ 64)

@@ -38,12 +38,10 @@ first_address-front name (x ∷ xs) ys addr some =
 
 -- of a run
 pub first_of_some : (m : Option (Bor (List ℕ))) (name : List ℕ) (ss : List SymbolEntry) → is_some m ≡ true → None ≡ first_address name (map (line_of (option_copied m)) ss)
-first_of_some None name ss some = cc
-first_of_some (Some owner) name ss some = sym (first_of_module owner.now name ss)
+first_of_some m name ss some = grind (arith, first_of_module)
 
 pub first_of_none : (m : Option (Bor (List ℕ))) (name : List ℕ) (ss : List SymbolEntry) → is_some m ≡ false → option_map (λ (s : SymbolEntry). s.addr) (find (λ (s : SymbolEntry). bytes_eq s.name name) ss) ≡ first_address name (map (line_of (option_copied m)) ss)
-first_of_none None name ss none = sym (first_of_kernel name ss)
-first_of_none (Some owner) name ss none = cc
+first_of_none m name ss none = grind (arith, first_of_kernel)
 
 -- the run at a place stands between the runs before it and those after it
 pub lines_of_all-at : (runs : List Run) (i : ℕ) (d : Run) → i < length runs → lines_of_all runs ≡ lines_of_all (take i runs) ++ (lines_of_run (get_or runs i d) ++ lines_of_all (drop (suc i) runs))
@@ -60,8 +58,7 @@ pub first_in_last : (runs : List Run) (last : Run) (name : List ℕ) → first_a
 first_in_last runs last name none = ap (first_address name) (lines_of_all-last runs last) ∙ first_address-append name (lines_of_all runs) (lines_of_run last) none
 
 pub first_in_front : (runs : List Run) (last : Run) (name : List ℕ) (o : Option ℕ) → (o ≡ None → ⊥) → o ≡ first_address name (lines_of_all runs) → o ≡ first_address name (lines_of_all (runs ++ last ∷ []))
-first_in_front runs last name None some is = absurd (some refl)
-first_in_front runs last name (Some addr) some is = sym (ap (first_address name) (lines_of_all-last runs last) ∙ first_address-front name (lines_of_all runs) (lines_of_run last) addr (sym is))
+first_in_front runs last name o some is = grind (arith, lines_of_all-last, first_address-front)
 
 -- ---- lines of the kernel itself
 
@@ -75,10 +72,7 @@ kernel_in_lines None (s ∷ ss) = sym (ap not (ne_eqb (length (s ∷ ss)) 0 (λ 
 kernel_in_lines (Some name) (s ∷ ss) = kernel_in_lines (Some name) ss
 
 pub kernel_in_run : (owner : Option (Bor (List ℕ))) (ss : List SymbolEntry) (b : Bool) → is_some owner ≡ not b → list_any is_in_kernel (map (line_of (option_copied owner)) ss) ≡ (b && not (length ss == 0))
-kernel_in_run None ss true is = kernel_in_lines None ss
-kernel_in_run None ss false is = let differs : false ≡ true = is in absurd (cc)
-kernel_in_run (Some name) ss true is = let differs : true ≡ false = is in absurd (cc)
-kernel_in_run (Some name) ss false is = kernel_in_lines (Some name.now) ss
+kernel_in_run owner ss b is = grind (arith, kernel_in_lines)
 
 kernel_in_runs : (runs : List Run) → list_any (λ r. list_any is_in_kernel (lines_of_run r)) runs ≡ list_any is_in_kernel (lines_of_all runs)
 kernel_in_runs [] = refl

@@ -1,6 +1,6 @@
 -- The accepted modules have distinct names and regions that lie apart.
-use Rattle.modules.proofs.Words.{◌≡◌, ℕ, ◌+◌, ◌*◌, ◌<◌, ◌≤◌, true, false, ◌&&◌, nat_lt, cond, List, [], ◌∷◌, ◌++◌, length, map, Some, None, Option, refl, sym, ap, ◌∙◌, subst, arith, append_assoc, length-append, All, IfSome, fold, bytes_decides, flat_map, list_any, list_all, option_and_then, option_to_list, bytes_eq, rules, common_steps}
-use Rattle.modules.proofs.Lemmas.{nat_tests, append-nil, length-map, map-append, flat_map-append, All-nil, All-push, All-head, All-tail, All-cons, list_all-append, list_any_at, all_pairs_push, AllPass-from_list_all, and_from, and_parts, AllPairs-few}
+use Rattle.modules.proofs.Words.{◌≡◌, ℕ, ◌+◌, ◌*◌, ◌<◌, ◌≤◌, true, false, ◌&&◌, nat_lt, cond, List, [], ◌∷◌, ◌++◌, length, map, Some, None, Option, refl, sym, ap, ◌∙◌, subst, arith, append_assoc, length-append, All, IfSome, fold, bytes_decides, flat_map, list_any, list_all, option_and_then, option_to_list, bytes_eq, rules, common_steps, nat_tests}
+use Rattle.modules.proofs.Lemmas.{append-nil, length-map, map-append, flat_map-append, All-nil, All-push, All-head, All-tail, All-cons, list_all-append, list_any_at, all_pairs_push, AllPass-from_list_all, and_from, and_parts, AllPairs-few}
 use Rattle.modules.proofs.Definitions.{Accepted, accepted_of, after_module, names_of, none_yet, taken_regions, built_in_with, kernel_at, module_with, placed_module_of, IsSoundCatalog, built_in_of, catalog_of, catalog_with, entry_for, ModuleEntry, SymbolEntry, AreDistinctNames, is_built_in, symbols_that, fits, region_fits, first_address, built_in_region, kernel_regions, BoundNames, ListedModule, ListedRegion, ListedSymbol, names_in, IsPlaced, PlacedModule, are_few, placed_line, AreSoundModules, AreApart, are_beside, is_apart, lie_apart, Core}
 use Rattle.modules.proofs.RegionLemmas.{HasFew, IsPlaced-placed, few_placed}
 
@@ -68,9 +68,7 @@ picked start end = grind (arith, nat_tests)
 
 -- a region between two symbols has an address
 pub valid_built_in : (start end : Option ℕ) → IfSome {T = ℕ × ℕ} (option_and_then (λ s. option_and_then (λ e. cond (nat_lt s e) (Some (s, e)) None) end) start) (λ r. r.0 < r.1)
-valid_built_in None end = tt
-valid_built_in (Some s) None = tt
-valid_built_in (Some s) (Some e) = picked s e
+valid_built_in start end = grind (arith, picked)
 
 abbrev IsValid : Option (ℕ × ℕ) → Type 0
 IsValid region = IfSome region (λ r. r.0 < r.1)
@@ -85,8 +83,7 @@ apart_one : (r : ℕ × ℕ) → r.0 < r.1 → AreApart (r ∷ [])
 apart_one r valid = AreApart-push [] r apart_none valid refl
 
 apart_listed : (region : Option (ℕ × ℕ)) → IsValid region → AreApart (option_to_list region)
-apart_listed None valid = apart_none
-apart_listed (Some r) valid = apart_one r valid
+apart_listed region valid = grind (arith, apart_one)
 
 pub kernel_apart : (names : Option BoundNames) (lines : List ListedSymbol) → AreApart (kernel_regions names lines)
 kernel_apart None lines = search (rules, valid_region)
@@ -121,8 +118,7 @@ module_regions symbols [] = refl
 module_regions symbols (m ∷ ms) = ap (λ rs. m.regions ++ rs) (module_regions symbols ms)
 
 all_regions : (built_in : List (ℕ × ℕ)) (symbols : List ListedSymbol) (ms : List PlacedModule) → flat_map (λ (m : ModuleEntry). m.regions) (option_to_list (built_in_of built_in symbols) ++ map (entry_for symbols) ms) ≡ built_in ++ flat_map (λ (m : PlacedModule). m.regions) ms
-all_regions [] symbols ms = module_regions symbols ms
-all_regions (r ∷ rs) symbols ms = ap (λ xs. (r ∷ rs) ++ xs) (module_regions symbols ms)
+all_regions built_in symbols ms = grind (arith, module_regions)
 
 module_names : (symbols : List ListedSymbol) (ms : List PlacedModule) → names_in (map (entry_for symbols) ms) ≡ names_of ms
 module_names symbols [] = refl
@@ -157,8 +153,7 @@ IsSound-catalog_of names modules regions symbols fit regions_fit = search (rules
 
 -- how many regions the kernel itself and the modules have
 pub count_of_regions : (built_in : List (ℕ × ℕ)) (symbols : List SymbolEntry) (modules : List ModuleEntry) → length built_in + length (flat_map (λ m. m.regions) modules) ≡ length (flat_map (λ m. m.regions) (option_to_list (built_in_with built_in symbols) ++ modules))
-count_of_regions [] symbols modules = omega arith
-count_of_regions (r ∷ rs) symbols modules = sym (length-append (r ∷ rs) (flat_map (λ (x : ModuleEntry). x.regions) modules))
+count_of_regions built_in symbols modules = grind (arith, length-append)
 
 -- ---- how many regions
 

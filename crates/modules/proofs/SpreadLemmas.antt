@@ -1,6 +1,6 @@
 -- A region beside regions that are spread.
-use Rattle.modules.proofs.Words.{◌≡◌, ℕ, ◌<◌, ◌≤◌, true, false, nat_le, get_or, Some, None, refl, sym, ap, ◌∙◌, ⊎_elim, arith, Contains, IsSome, list_all, nat_cmp, BTreeMap, IsOrdered, Updates, get}
-use Rattle.modules.proofs.Lemmas.{cases_lt, cases_order, nat_tests, nat_cmp_total, Contains-get_or, All-contains, AllPass-from_list_all, list_all-from_AllPass, list_all_at, exact_unsigned, All-found, btree_map_get_iff, inserted_cases, list_all-insert_entry}
+use Rattle.modules.proofs.Words.{◌≡◌, ℕ, ◌<◌, ◌≤◌, true, false, nat_le, get_or, Some, None, refl, sym, ap, ◌∙◌, ⊎_elim, arith, Contains, IsSome, list_all, nat_cmp, BTreeMap, IsOrdered, Updates, get, nat_tests}
+use Rattle.modules.proofs.Lemmas.{cases_lt, cases_order, nat_cmp_total, Contains-get_or, All-contains, AllPass-from_list_all, list_all-from_AllPass, list_all_at, exact_unsigned, All-found, btree_map_get_iff, inserted_cases, list_all-insert_entry}
 use Rattle.modules.proofs.Definitions.{is_apart, IsSpread}
 
 pub apart_before : (r s : ℕ × ℕ) → s.1 ≤ r.0 → is_apart r s ≡ true

@@ -1,5 +1,5 @@
 -- The regions of numbers, of which some are taken.
-use Rattle.modules.proofs.Words.{◌≡◌, ◌≢◌, ℕ, zero, suc, zero-add, ◌+◌, ◌<◌, ◌≤◌, Bool, true, false, ◌||◌, nat_eq, cond, List, [], ◌∷◌, ◌++◌, length, get_or, map, take, Option, Some, None, refl, ap, ◌∙◌, ⊎_elim, arith, length-append, All, Contains, filter, fold, count_by, Vec, flat_map, list_any, option_map_or, rules, common_steps, nat_tests}
+use Rattle.modules.proofs.Words.{◌≡◌, ◌≢◌, ℕ, zero, suc, zero-add, ◌+◌, ◌<◌, ◌≤◌, Bool, true, false, ◌||◌, nat_eq, cond, List, [], ◌∷◌, ◌++◌, length, get_or, map, take, Option, refl, ap, ◌∙◌, ⊎_elim, arith, length-append, All, Contains, filter, fold, count_by, Vec, flat_map, list_any, option_map_or, rules, common_steps, nat_tests}
 use Rattle.modules.proofs.Lemmas.{set, length-set, cases_eq, eqb-true, eq-eqb, ne_eqb, or_parts, append-nil, get_or-set_other, get_or_default, map-append, take_more, All-contains, count_by-le-length, sum_by-append, sum_by-cons, get_or-set_at, look_is}
 use Rattle.modules.proofs.Definitions.{Item, half_open, look, AreLeft, is_kept_mark, kept_numbers, modules_numbered, name_of, with_number, numbered_module, ranges_of, AreLaid, AreRegions, HoldsFor, PlacedModule, AreRising, Mark}
 use Rattle.modules.proofs.MarkedModuleLemmas.{from_holds, spaced, valid_ranges}
@@ -25,8 +25,7 @@ left_taken count n items taken lists v within empty left = grind (arith, common_
 -- ---- the number of a kept mark
 
 kept_by : (items : List Item) (m : Mark) (o : Option Item) → look half_open m.addr items ≡ o → option_map_or (λ (i : Item). nat_eq i.tag m.owner) o false ≡ true → (i : Item) × Contains items i × (i.tag ≡ m.owner)
-kept_by items m None at h = absurd (cc)
-kept_by items m (Some i) at h = grind (arith, look_is, eqb-true)
+kept_by items m o at h = grind (arith, look_is, eqb-true)
 
 -- some item has it
 pub kept_item : (items : List Item) (m : Mark) → is_kept_mark items m ≡ true → (i : Item) × Contains items i × (i.tag ≡ m.owner)
@@ -56,8 +55,7 @@ pub kept_numbers_more : (items : List Item) (marks : List Mark) (k : ℕ) (d : M
 kept_numbers_more items marks k d lt = ap (kept_numbers items) (take_more marks k d lt) ∙ kept_numbers_push items [] (take k marks) (get_or marks k d)
 
 left_by : (b : Bool) (rs left : List (ℕ × ℕ)) → left ≡ cond b [] rs → left ≢ [] → (b ≡ false) × (left ≡ rs)
-left_by true rs left is some = absurd (some is)
-left_by false rs left is some = (refl, is)
+left_by b rs left is some = grind arith
 
 module _ (names : List (List ℕ)) (items : List Item) (taken : List ℕ) (m : Mark) (left : List (ℕ × ℕ)) (is : left ≡ cond (list_any (nat_eq m.owner) taken) [] (ranges_of m.owner items)) where
   -- where no regions are left its module was taken, or the mark is not kept
