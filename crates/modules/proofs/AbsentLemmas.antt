@@ -14,9 +14,7 @@ as_many_regions (m ∷ ms) all = grind (arith, All-head, All-tail, length-append
 no_more_modules : (built_in : Option ModuleEntry) (ms : List ModuleEntry) → All IsPlacedEntry (option_to_list built_in ++ ms)
     → length ms ≤ length (flat_map (λ m. m.regions) (option_to_list built_in ++ ms))
 no_more_modules None ms all = as_many_regions ms all
-no_more_modules (Some m) ms all =
-    let few = as_many_regions (m ∷ ms) all in
-    omega (arith, few)
+no_more_modules (Some m) ms all = grind (arith, common_steps, nat_tests, as_many_regions, as_many_regions (m ∷ ms) all)
 
 none_from : (c : CatalogEntries) (place : ℕ) → IsSoundCatalog c → length (regions_of c) ≤ place → module_of c (suc place) ≡ None
 none_from c place sound few = grind (arith, no_more_modules, slice_get_past)

@@ -1,5 +1,5 @@
 -- One more module.
-use Rattle.modules.proofs.Words.{◌≡◌, ℕ, ◌+◌, Bool, true, false, ◌&&◌, List, [], ◌∷◌, ◌++◌, length, refl, sym, ◌∙◌, arith, length-append, add-one, take, drop, drop-cons, get_or, ◌<◌, list_any, list_all, bytes_eq, common_steps, nat_tests}
+use Rattle.modules.proofs.Words.{◌≡◌, ℕ, ◌+◌, Bool, true, false, ◌&&◌, List, [], ◌∷◌, ◌++◌, length, refl, sym, arith, length-append, add-one, take, drop, drop-cons, get_or, ◌<◌, list_any, list_all, bytes_eq, common_steps, nat_tests}
 use Rattle.modules.proofs.Lemmas.{and_from, and_parts, list_all_more, and_rotate, list_all-each_agree}
 use Rattle.modules.proofs.Definitions.{Accepted, after_module, names_of, taken_regions, PlacedModule, are_beside, is_apart, lie_apart, admission_view, IsAdmission, Admission}
 use Rattle.modules.proofs.SoundnessLemmas.{turned}
@@ -36,9 +36,7 @@ beside_next now next r [] more apart beside = refl
 beside_next now next r (x ∷ xs) more apart beside =
     let aparts = and_parts (is_apart r x) (list_all (is_apart r) xs) apart in
     let besides = and_parts (list_all (is_apart x) now) (are_beside now xs) beside in
-    and_from (list_all (is_apart x) next) (are_beside next xs)
-    (more (is_apart x) ∙ and_from (is_apart x r) (list_all (is_apart x) now) (turned r x aparts.0) besides.0)
-    (beside_next now next r xs more aparts.1 besides.1)
+    grind (arith, common_steps, nat_tests, and_parts, and_from, turned, turned r x aparts.0, beside_next now next r xs more aparts.1 besides.1)
 
 pub record IsTaking (old now : List (ℕ × ℕ)) (i : ℕ) (rs : List (ℕ × ℕ)) : Type 0 where
   pub apart : lie_apart (drop i rs) ≡ true
@@ -46,11 +44,7 @@ pub record IsTaking (old now : List (ℕ × ℕ)) (i : ℕ) (rs : List (ℕ × �
   pub all : (p : ℕ × ℕ → Bool) → list_all p now ≡ (list_all p old && list_all p (take i rs))
 
 pub taking : (old now next : List (ℕ × ℕ)) (i : ℕ) (rs : List (ℕ × ℕ)) (d : ℕ × ℕ) → i < length rs → IsTaking old now i rs → ((p : ℕ × ℕ → Bool) → list_all p next ≡ (p (get_or rs i d) && list_all p now)) → IsTaking old next (i + 1) rs
-taking old now next i rs d lt before more =
-    let r : ℕ × ℕ = get_or rs i d in
-    let rest : List (ℕ × ℕ) = drop (i + 1) rs in
-    let opened : drop i rs ≡ r ∷ rest = rw (add-one) (drop-cons rs i d lt) in
-    grind (arith, common_steps, nat_tests, add-one, drop-cons, and_parts, beside_next, and_rotate, list_all_more)
+taking old now next i rs d lt before more = grind (arith, common_steps, nat_tests, add-one, drop-cons, and_parts, beside_next, and_rotate, list_all_more, drop-cons rs i d lt)
 
 -- what becomes of a line
 pub ruleset after_line = (after_double, after_overlap, after_accepted, free_in, IsTied-accepted)

@@ -1,5 +1,5 @@
 -- The items of a catalog have addresses, and two of them lie apart, so that one at most has an address.
-use Rattle.modules.proofs.Words.{◌≡◌, ℕ, ◌<◌, ◌≤◌, ◌⊎◌, inl, inr, ⊎_elim, true, length, map, get_or, Option, Some, None, sym, ap, subst, arith, Contains, All, AllPairs, common_steps, nat_tests}
+use Rattle.modules.proofs.Words.{◌≡◌, ℕ, ◌<◌, ◌≤◌, ◌⊎◌, inl, inr, ⊎_elim, true, length, map, get_or, Option, Some, None, sym, subst, arith, Contains, AllPairs, common_steps, nat_tests}
 use Rattle.modules.proofs.Lemmas.{cases_lt, get_or_default, length-map, All-contains, Contains-map, get_or-map_default, begins, ends, equal_inside}
 use Rattle.modules.proofs.Definitions.{Item, half_open, IsLook, IsSoundCatalog, CatalogEntries, items_of, is_apart}
 use Rattle.modules.proofs.ItemLemmas.{all_regions, region_of}
@@ -22,16 +22,11 @@ module _ (c : CatalogEntries) (sound : IsSoundCatalog c) where
   same_or_apart x y (i, lt, at) (j, less, there) = grind (arith, earlier, get_or_default, cases_lt)
 
   pub each_has_addresses : (x : Item) → Contains (items_of c) x → x.a < x.b
-  each_has_addresses x m =
-      All-contains (λ (r : ℕ × ℕ). r.0 < r.1) (map region_of (items_of c)) (region_of x)
-      (subst (All (λ (r : ℕ × ℕ). r.0 < r.1)) (sym (all_regions c)) sound.apart.valid) (Contains-map region_of (items_of c) x m)
+  each_has_addresses x m = grind (arith, common_steps, nat_tests, All-contains, all_regions, Contains-map, all_regions c, Contains-map region_of (items_of c) x m)
 
   pub some_found : (addr : ℕ) (i : Item) (r : Option Item) → Contains (items_of c) i → i.a ≤ addr → addr < i.b → IsLook half_open addr (items_of c) r → Some i ≡ r
   some_found addr i None m le lt h = absurd (h i m (equal_inside addr i le lt))
-  some_found addr i (Some y) m le lt h =
-      let b = begins addr y h.1 in
-      let e = ends addr y h.1 in
-      ap Some (⊎_elim (λ same. same) (λ apart. ⊎_elim (λ p. absurd (omega arith)) (λ p. absurd (omega arith)) apart) (same_or_apart i y m h.0))
+  some_found addr i (Some y) m le lt h = grind (arith, common_steps, nat_tests, begins, ends, same_or_apart, same_or_apart i y m h.0, begins addr y h.1, ends addr y h.1)
 
   pub none_found : (addr : ℕ) (r : Option Item) → ((y : Item) → Contains (items_of c) y → y.a ≤ addr → addr < y.b → ⊥) → IsLook half_open addr (items_of c) r → None ≡ r
   none_found addr r not_in h = grind (arith, begins, ends)

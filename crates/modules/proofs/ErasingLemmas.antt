@@ -24,12 +24,7 @@ pub starts_split : (core init : Bool) (rs : List (ℕ × ℕ)) (ps : List Part) 
 starts_split core init [] ps i r p lt lp is = absurd (omega arith)
 starts_split core init (x ∷ xs) [] i r p lt lp is = absurd (omega arith)
 starts_split core init (x ∷ xs) (y ∷ ys) zero r p lt lp is = rw is refl
-starts_split core init (x ∷ xs) (y ∷ ys) (suc i) r p lt lp is =
-    by_first (is_of core init y) (starts_of core init xs ys) (starts_of core init (take i xs) (take i ys)) ((get_or xs i r).0 ∷ starts_of core init (drop (suc i) xs) (drop (suc i) ys)) (starts_split core init xs ys i r p (omega arith) (omega arith) is)
-  where
-    by_first : (b : Bool) (new old last : List ℕ) → new ≡ old ++ last → cond b (x.0 ∷ new) new ≡ cond b (x.0 ∷ old) old ++ last
-    by_first true new old last h = ap (λ ys. x.0 ∷ ys) h
-    by_first false new old last h = h
+starts_split core init (x ∷ xs) (y ∷ ys) (suc i) r p lt lp is = grind (arith, common_steps, nat_tests, starts_split core init xs ys i r p (omega arith) (omega arith) is)
 
 -- words that begin with the first addresses so far, and have another one next or none, are not all
 pub other_words : (words starts more : List ℕ) (start count : ℕ) → starts ≡ take count words → count ≤ length words → (count < length words → (d : ℕ) → get_or words count d ≡ start → ⊥)

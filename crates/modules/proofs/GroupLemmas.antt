@@ -1,9 +1,7 @@
 -- The region lines of one name stand side by side.
-use Rattle.modules.proofs.Words.{◌≡◌, ℕ, ◌-◌, ◌≤◌, Bool, true, false, ◌||◌, List, [], ◌∷◌, length, get_or, take, drop, refl, sym, ap, subst, ◌∙◌, ⊎_elim, arith, All, filter, Bor, slice_cmp, list_any, IsNonDecreasingBy, IsPartitionPoint, IsPartitionedBy, IsSortedBy, IsStableBy, ties, is_le, is_lt, nat_cmp, ordering_index, Ordering, bytes_eq}
+use Rattle.modules.proofs.Words.{◌≡◌, ℕ, ◌-◌, ◌≤◌, Bool, true, false, ◌||◌, List, [], ◌∷◌, length, get_or, take, drop, refl, sym, ap, subst, ◌∙◌, ⊎_elim, arith, All, filter, Bor, slice_cmp, list_any, IsNonDecreasingBy, IsPartitionPoint, IsPartitionedBy, IsSortedBy, IsStableBy, ties, is_le, is_lt, nat_cmp, ordering_index, Ordering, bytes_eq, common_steps, nat_tests}
 use Rattle.modules.proofs.Lemmas.{cases_lt, nat_list_cmp_total, get_or-map, length-map, searchable_from_sorted, bytes_eq-neither, is_eq-between, is_le-index, is_lt-index, is_lt-is_le, is_lt-not_eq, not_le-not_eq, filter-middle, filter_agree, is_eq-slice_cmp}
 use Rattle.modules.proofs.Definitions.{IsCut, comes_first, lines_at, ListedRegion, is_core, has_core, lines_named, Core}
-
--- ---- names by their order
 
 -- ---- cuts
 
@@ -45,11 +43,7 @@ cuts_in_order index name start end first second =
 pub lines_between : (index : List (Bor ListedRegion)) (name : List ℕ) (start end : ℕ) → IsCut (λ l. is_lt (order_to name l)) index start → IsCut (λ l. is_le (order_to name l)) index end → lines_at (take (end - start) (drop start index)) ≡ lines_named name (lines_at index)
 lines_between index name start end first second =
     let is = λ (l : Bor ListedRegion). sym (is_eq-slice_cmp l.now.name name) in
-    let middle : filter (λ (l : Bor ListedRegion). bytes_eq l.now.name name) index ≡ take (end - start) (drop start index) = filter-middle (λ (l : Bor ListedRegion). bytes_eq l.now.name name) index start end (cuts_in_order index name start end first second)
-    (λ k d lt w. is (get_or index k d) ∙ is_lt-not_eq (order_to name (get_or index k d)) (first.below k d lt))
-    (λ k d le lt w. is (get_or index k d) ∙ is_eq-between (order_to name (get_or index k d)) (first.others k d le w) (second.below k d lt))
-    (λ k d le lt. is (get_or index k d) ∙ not_le-not_eq (order_to name (get_or index k d)) (second.others k d le lt)) in
-    sym (named_at name index ∙ ap lines_at middle)
+    grind (arith, common_steps, nat_tests, is_eq-slice_cmp, filter-middle, cuts_in_order, is_lt-not_eq, is_eq-between, not_le-not_eq, named_at, cuts_in_order index name start end first second)
 
 -- ---- a stable sort keeps the lines of a name in their order
 

@@ -1,5 +1,5 @@
 -- Where a symbol is kept.
-use Rattle.modules.proofs.Words.{◌≡◌, ℕ, ◌<◌, true, false, List, [], length, get_or, Some, None, sym, ap, ◌∙◌, is_some, bytes_decides, list_any, position_from, bytes_eq, arith, common_steps, nat_tests}
+use Rattle.modules.proofs.Words.{◌≡◌, ℕ, ◌<◌, true, false, List, [], length, get_or, Some, None, ◌∙◌, bytes_decides, position_from, bytes_eq, arith, common_steps, nat_tests}
 use Rattle.modules.proofs.Lemmas.{cases_order, false_from_ne_true, and_left, position_from-zero, get_or-map, length-map, list_any_at, position-Some, is_some-position_from}
 use Rattle.modules.proofs.Definitions.{Accepted, names_of, BelongsOnlyAt, AreDistinctNames, belongs, is_built_in, ListedSymbol, PlacedModule}
 
@@ -11,9 +11,7 @@ name_at lines j m lt = get_or-map (λ (l : PlacedModule). l.name) lines j m [] l
 
 -- a name that has no place is the name of no module
 pub no_home : (a : Accepted) (s : ListedSymbol) (name : List ℕ) → s.owner ≡ Some name → position_from (bytes_eq name) 0 (names_of a.modules) ≡ None → (j : ℕ) (m : PlacedModule) → j < length a.modules → belongs (get_or a.modules j m) s ≡ false
-no_home a s name owner absent j m lt =
-    let none : list_any (bytes_eq name) (names_of a.modules) ≡ false = sym (is_some-position_from (bytes_eq name) 0 (names_of a.modules)) ∙ ap is_some absent in
-    grind (arith, common_steps, nat_tests, is_some-position_from, false_from_ne_true, list_any_at, length-map, name_at, and_left)
+no_home a s name owner absent j m lt = grind (arith, common_steps, nat_tests, is_some-position_from, false_from_ne_true, list_any_at, length-map, name_at, and_left, is_some-position_from (bytes_eq name) 0 (names_of a.modules))
 
 -- the place of a name
 pub place_within : (lines : List PlacedModule) (name : List ℕ) (k : ℕ) → position_from (bytes_eq name) 0 (names_of lines) ≡ Some k → (k < length lines) × ((m : PlacedModule) → bytes_eq name (get_or lines k m).name ≡ true)

@@ -49,9 +49,7 @@ module _ (kernel : List (ℕ × ℕ)) (names : List (List ℕ)) (lines : List Li
   at_look n addr o at h = grind (arith, look_is, eqb-true, begins, ends)
 
   by_look : (n addr : ℕ) → HoldsFor items n addr → option_map_or (λ (i : Item). nat_eq i.tag n) (look half_open addr items) false ≡ true
-  by_look n addr h =
-      ap (λ (o : Option Item). option_map_or (λ (i : Item). nat_eq i.tag n) o false) (sym (found items regions.laid h.item addr h.there h.from h.below (look half_open addr items) (look_is half_open addr items)))
-      ∙ eq-eqb h.item.tag n h.its
+  by_look n addr h = grind (arith, common_steps, nat_tests, found, look_is, eq-eqb, look_is half_open addr items, found items regions.laid h.item addr h.there h.from h.below (look half_open addr items) (look_is half_open addr items))
 
   kept_same : (l : ListedSymbol) (name : List ℕ) → l.owner ≡ Some name → list_any (bytes_eq name) names ≡ true → l.addr < 2 ^ 64 - 1 → is_kept_mark items (mark_of names l) ≡ is_kept_line (posts kernel lines) l
   kept_same l name own some lt =

@@ -12,9 +12,7 @@ module _ (items : List Item) (laid : AreLaid items) where
 
   -- what holds an address at a place ends where all further items begin
   not_before : (x y : Item) (addr i j : ℕ) → i < j → j < length items → get_or items i x ≡ x → get_or items j y ≡ y → addr < x.b → y.a ≤ addr → ⊥
-  not_before x y addr i j less lt at there below from =
-      let e : (get_or items i x).b ≤ (get_or items j x).a = ends_before i j x less lt in
-      grind (arith, common_steps, nat_tests, ends_before, get_or_default)
+  not_before x y addr i j less lt at there below from = grind (arith, common_steps, nat_tests, ends_before, get_or_default, ends_before i j x less lt)
 
   -- one item at most holds an address
   pub one_holds : (x y : Item) (addr : ℕ) → Contains items x → x.a ≤ addr → addr < x.b → Contains items y → y.a ≤ addr → addr < y.b → x ≡ y

@@ -28,10 +28,7 @@ items_from number [] (i ∷ is) h = absurd (cc)
 items_from number (r ∷ rs) [] h = absurd (cc)
 items_from number (r ∷ rs) (i ∷ is) h =
     let rest = and_parts (nat_eq i.a r.0 && nat_eq i.b r.1 && nat_eq i.tag number) (same_items number rs is) h in
-    let tags = and_parts (nat_eq i.a r.0 && nat_eq i.b r.1) (nat_eq i.tag number) rest.0 in
-    let ends = and_parts (nat_eq i.a r.0) (nat_eq i.b r.1) tags.0 in
-    ap (λ x. x ∷ map (item_of number) rs) (item_is number r i (eqb-true i.a r.0 ends.0) (eqb-true i.b r.1 ends.1) (eqb-true i.tag number tags.1))
-    ∙ ap (λ xs. i ∷ xs) (items_from number rs is rest.1)
+    grind (arith, common_steps, nat_tests, and_parts, item_is, eqb-true, items_from number rs is rest.1, and_parts (nat_eq i.a r.0 && nat_eq i.b r.1) (nat_eq i.tag number) rest.0)
 
 pub items_same : (number : ℕ) (rs : List (ℕ × ℕ)) → same_items number rs (map (item_of number) rs) ≡ true
 items_same number [] = refl

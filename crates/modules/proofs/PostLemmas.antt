@@ -286,9 +286,7 @@ module _ (names : List (List ℕ)) (lines : List ListedSymbol) where
     first : find (is_line_at l.addr) (posts kernel lines) ≡ Some l
 
   line_of_first : (kernel : List (ℕ × ℕ)) (m : Mark) → m.owner ≢ 0 → IsFirstMark (marks_of kernel names lines) m → (l : ListedSymbol) × IsLineOf kernel m l
-  line_of_first kernel m some first =
-      let (l, at, made) = mark_found kernel m some (found_first (marks_of kernel names lines) m first) in
-      grind (arith, common_steps, nat_tests, mark_found, found_first, outside_not_inside, passes_outside, posts_at)
+  line_of_first kernel m some first = grind (arith, common_steps, nat_tests, mark_found, found_first, outside_not_inside, passes_outside, posts_at, found_first (marks_of kernel names lines) m first, mark_found kernel m some (found_first (marks_of kernel names lines) m first))
 
   owner_of_line : (kernel : List (ℕ × ℕ)) (m : Mark) (l : ListedSymbol) (n : ℕ) (name : List ℕ) → n ≢ 0 → number_in names name ≡ n → m.owner ≡ n → IsLineOf kernel m l → l.owner ≡ Some name
   owner_of_line kernel m l n name some is its line =

@@ -1,5 +1,5 @@
 -- What a search of the list by rising first address finds.
-use Rattle.modules.proofs.Words.{◌≡◌, ℕ, ◌-◌, ◌<◌, ◌≤◌, ⊎_elim, List, length, get_or, Some, None, ap, ◌∙◌, arith, Contains, IsNonDecreasingBy}
+use Rattle.modules.proofs.Words.{◌≡◌, ℕ, ◌-◌, ◌<◌, ◌≤◌, ⊎_elim, List, length, get_or, Some, None, ap, ◌∙◌, arith, Contains, IsNonDecreasingBy, common_steps, nat_tests}
 use Rattle.modules.proofs.Lemmas.{cases_lt, get_or_default, Contains-permutation, IsPermutation-sym, look_is}
 use Rattle.modules.proofs.Definitions.{Item, half_open, IsSoundCatalog, CatalogEntries, items_of, IsIndexOf, IsItemSplit, item_of_address}
 use Rattle.modules.proofs.ApartItemLemmas.{each_has_addresses, none_found, same_or_apart, some_found}
@@ -23,9 +23,7 @@ module _ (c : CatalogEntries) (sound : IsSoundCatalog c) where
 
     -- an item that holds the address stands below the place
     stands_below : (y : Item) → Contains (items_of c) y → y.a ≤ addr → (k : ℕ) × (k < split) × (k < length items) × (get_or items k y ≡ y)
-    stands_below y m le =
-        let (k, lt, at) = Contains-permutation (items_of c) items y index.same m in
-        (k, ⊎_elim (λ less. less) (λ ge. absurd (let above : addr < (get_or items k y).a = parts.above k y ge lt in let e : (get_or items k y).a ≡ y.a = ap (λ i. i.a) at in omega arith)) (cases_lt k split), lt, at)
+    stands_below y m le = grind (arith, common_steps, nat_tests, Contains-permutation, cases_lt, Contains-permutation (items_of c) items y index.same m)
 
     pub nothing_below : split ≡ 0 → None ≡ item_of_address c addr
     nothing_below e =

@@ -53,9 +53,7 @@ module _ (r : Range) (rs : List Range) (s : Range) (ss : List Range) (r_valid : 
       (cases_lt s.1 r.1)
 
   tail_sub : r.1 ≡ s.1 → (x : ℕ) → lies rs x ≡ true → lies ss x ≡ true
-  tail_sub same x h =
-      let over : r.1 < x = above rs r.1 x r_last h in
-      grind (arith, common_steps, nat_tests, above, inside, or_cases, or_right)
+  tail_sub same x h = grind (arith, common_steps, nat_tests, above, inside, or_cases, or_right, above rs r.1 x r_last h)
 
 pub same_regions : (rs ss : List Range) → All (λ r. r.0 < r.1) rs → AllPairs (λ r s. r.1 < s.0) rs → All (λ r. r.0 < r.1) ss → AllPairs (λ r s. r.1 < s.0) ss
     → ((x : ℕ) → lies rs x ≡ true → lies ss x ≡ true) → ((x : ℕ) → lies ss x ≡ true → lies rs x ≡ true) → rs ≡ ss

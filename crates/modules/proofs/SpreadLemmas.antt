@@ -1,6 +1,6 @@
 -- A region beside regions that are spread.
-use Rattle.modules.proofs.Words.{◌≡◌, ℕ, ◌<◌, ◌≤◌, true, false, nat_le, get_or, Some, None, refl, sym, ap, ◌∙◌, ⊎_elim, arith, Contains, IsSome, list_all, nat_cmp, BTreeMap, IsOrdered, Updates, get, nat_tests}
-use Rattle.modules.proofs.Lemmas.{cases_lt, cases_order, nat_cmp_total, Contains-get_or, All-contains, AllPass-from_list_all, list_all-from_AllPass, list_all_at, exact_unsigned, All-found, btree_map_get_iff, inserted_cases, list_all-insert_entry}
+use Rattle.modules.proofs.Words.{◌≡◌, ℕ, ◌<◌, ◌≤◌, true, false, nat_le, get_or, Some, None, refl, sym, ap, ◌∙◌, ⊎_elim, arith, Contains, IsSome, list_all, nat_cmp, BTreeMap, IsOrdered, Updates, get, nat_tests, common_steps}
+use Rattle.modules.proofs.Lemmas.{cases_lt, cases_order, nat_cmp_total, Contains-get_or, All-contains, AllPass-from_list_all, list_all-from_AllPass, exact_unsigned, All-found, btree_map_get_iff, inserted_cases, list_all-insert_entry}
 use Rattle.modules.proofs.Definitions.{is_apart, IsSpread}
 
 pub apart_before : (r s : ℕ × ℕ) → s.1 ≤ r.0 → is_apart r s ≡ true
@@ -52,9 +52,7 @@ apart_from_none m ordered a b none =
 
 -- a region that begins below b and ends above a is not apart from a .. b
 pub meets_from_found : (m : BTreeMap ℕ ℕ) → IsOrdered nat_cmp m → (a b s e : ℕ) → get nat_cmp m s ≡ Some e → s < b → a < e → list_all (is_apart (a, b)) m.entries ≡ false
-meets_from_found m ordered a b s e found below above =
-    let there : Contains m.entries (s, e) = (btree_map_get_iff nat_cmp_total exact_unsigned m ordered s e).0 found in
-    list_all_at (is_apart (a, b)) m.entries there.0 (s, e) there.1 (rw there.2 (not_apart (a, b) (s, e) below above))
+meets_from_found m ordered a b s e found below above = grind (arith, common_steps, btree_map_get_iff nat_cmp_total exact_unsigned m ordered s e, not_apart (a, b) (s, e) below above)
 
 -- a region that is apart from all of them begins where none does
 pub absent_from_apart : (m : BTreeMap ℕ ℕ) → IsOrdered nat_cmp m → IsSpread m.entries → (a b : ℕ) → a < b → list_all (is_apart (a, b)) m.entries ≡ true → get nat_cmp m a ≡ None

@@ -1,5 +1,5 @@
 -- What one step of the sweep adds.
-use Rattle.modules.proofs.Words.{◌≡◌, ℕ, ◌+◌, ◌-◌, ◌^◌, ◌<◌, ◌≤◌, true, List, length, get_or, ap, sym, subst, ◌∙◌, inl, inr, ⊎_elim, arith, ◌≢◌, ◌⊎◌, ◌↔◌, IsNonDecreasingBy, common_steps}
+use Rattle.modules.proofs.Words.{◌≡◌, ℕ, ◌+◌, ◌-◌, ◌^◌, ◌<◌, ◌≤◌, true, List, length, get_or, ap, sym, subst, ◌∙◌, inl, inr, ⊎_elim, arith, ◌≢◌, ◌⊎◌, ◌↔◌, IsNonDecreasingBy, common_steps, nat_tests}
 use Rattle.modules.proofs.Lemmas.{cases_lt, get_or_default}
 use Rattle.modules.proofs.Definitions.{Item, HoldsFor, GoesOn, IsFirstMark, IsNearestMark, IsNextMark, Owns, is_in_page, reach, Mark}
 
@@ -44,16 +44,7 @@ IsReached marks m x = (is_in_page m.addr x ≡ true) ⊎ GoesOn marks x m
 pub reached_before : (marks : List Mark) (done : ℕ) (from next : Mark) (end : ℕ) → IsFrom marks done from → AreAbove marks done next.addr → done < length marks → get_or marks done next ≡ next
     → ((x : ℕ) → from.addr ≤ x → x < next.addr → (x < end) ↔ ((is_in_page from.addr x ≡ true) ⊎ ((next.owner ≡ from.owner) × (next.addr < from.addr + reach))))
     → (x : ℕ) → from.addr ≤ x → x < next.addr → (x < end) ↔ IsReached marks from x
-reached_before marks done from next end is rest within at exact x le lt =
-    let here : IsNextMark marks x next = next_at marks done from next x is rest within at le lt in (
-      λ h. ⊎_elim (λ page. inl page) (λ (its, near). inr (record { mark = next; next = here; its = its; near = near })) ((exact x le lt).0 h),
-      λ h. (exact x le lt).1 (⊎_elim
-          (λ page. inl page)
-          (λ on.
-          let same : on.mark ≡ next = next_is_one marks x on.mark next on.next here in
-          inr (ap (λ (s : Mark). s.owner) (sym same) ∙ on.its, subst (λ (s : Mark). s.addr < from.addr + reach) same on.near))
-          h),
-    )
+reached_before marks done from next end is rest within at exact x le lt = grind (arith, common_steps, nat_tests, next_at, next_is_one, exact x le lt, next_at marks done from next x is rest within at le lt)
 
 -- no mark lies above the last
 pub reached_last : (marks : List Mark) (done : ℕ) (from : Mark) (end : ℕ) → IsFrom marks done from → length marks ≤ done
