@@ -1,11 +1,10 @@
 -- One more run of symbol lines.
-use Rattle.modules.proofs.Words.{◌≡◌, ℕ, ◌+◌, ◌<◌, ◌≤◌, Bool, false, cond, List, ◌++◌, length, get_or, map, not, Some, None, Ok, Err, Option, Result, refl, sym, ap, ◌∙◌, ⊎_elim, arith, length-append, filter, count_by, OnOk, Bor, Vec, position_from, option_copied, option_map_or, AllocError, bytes_eq, append_assoc}
-use Rattle.modules.proofs.Lemmas.{cases_eq, map-append, append-nil, length-map, filter-append, length-filter_both, sum_by-append, nil_from_length}
+use Rattle.modules.proofs.Words.{◌≡◌, ℕ, ◌+◌, ◌<◌, ◌≤◌, Bool, false, cond, List, ◌++◌, length, get_or, map, not, Some, None, Ok, Err, Option, Result, refl, sym, ap, ◌∙◌, ⊎_elim, arith, length-append, filter, count_by, OnOk, Bor, Vec, position_from, option_copied, option_map_or, AllocError, bytes_eq}
+use Rattle.modules.proofs.Lemmas.{cases_eq, map-append, append-nil, length-map, filter-append, length-filter_both, sum_by-append}
 use Rattle.modules.proofs.Definitions.{Accepted, names_of, SymbolEntry, CountsStay, Gathers, HasRoom, Keeps, KeepsRun, lies_for, owner_for, AreDistinctNames, belongs, is_built_in, is_kept, symbols_that, entry_of, ListedSymbol, PlacedModule, lines_of_run, line_of, Gathered, Owner, Run}
 use Rattle.modules.specs.declared.gathering.Owner.TheVariants as owner
 use Rattle.modules.proofs.HomeLemmas.{that_run, that_none, count_run, count_rest, kept_unnamed, kept_nowhere, kept_there, belongs_there}
 use Rattle.modules.proofs.KeptLemmas.{no_home, only_home, place_within}
-use Rattle.modules.proofs.RunLemmas.{lines_of_all-last}
 
 that-append : (p : ListedSymbol → Bool) (xs ys : List ListedSymbol) → symbols_that p (xs ++ ys) ≡ symbols_that p xs ++ symbols_that p ys
 that-append p xs ys = ap (map entry_of) (filter-append p xs ys) ∙ map-append entry_of (filter p xs) (filter p ys)
@@ -114,6 +113,3 @@ pub kept_or_fails : (a : Accepted) (r : Run) (g : Gathered) (kept rest : ℕ) (o
     → OnOk result (Keeps o symbols (record g { kept = g.kept + kept; stray = g.stray + rest }) h) → OnOk result (CountsStay (record g { kept = g.kept + kept; stray = g.stray + rest }) h) → OnOk result (KeepsRun a r g h)
 kept_or_fails a r g kept rest o symbols h (Err e) owner is few others lists counts = tt
 kept_or_fails a r g kept rest o symbols h (Ok v) owner is few others lists counts = grind arith
-
--- one run more
-pub ruleset one_run_more = (lines_of_all-last, append_assoc, append-nil, nil_from_length, Gathers-run, counts_run)

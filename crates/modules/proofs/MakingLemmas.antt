@@ -72,6 +72,3 @@ module _ {X Y : Type 0} (f : X → List Y) where
 
   pub flat_map_more : (xs : List X) (n : ℕ) (d : X) → n < length xs → length (flat_map f (take (n + 1) xs)) ≡ length (flat_map f (take n xs)) + length (f (get_or xs n d))
   flat_map_more xs n d lt = grind (arith, common_steps, take_more, flat_map-append, append-nil, length-append)
-
--- the regions of one module more
-pub ruleset one_module_more = (common_steps, flat_map_more, length-flat_map_take)

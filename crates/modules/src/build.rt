@@ -68,7 +68,6 @@ fn modules_from<'a>(
 }
 
 /// How many regions the modules have.
-#[tactic(auto, using(crate::proofs::MakingLemmas::one_module_more))]
 fn regions_in(modules: &[Module]) -> usize
     requires { length (flat_map (λ m. m.regions) modules.now) < 2 ^ 64 }
     ensures { result ≡ length (flat_map (λ m. m.regions) modules.now) }

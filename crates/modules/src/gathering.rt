@@ -152,7 +152,6 @@ fn without_strays<'a>(
 }
 
 /// Goes through the lines of runs in their order.
-#[tactic(auto, using(crate::proofs::GatheringLemmas::one_run_more))]
 fn gather_runs<'a>(
     alloc: Global,
     placed: &PlacedModules,

@@ -1,4 +1,4 @@
-use Rattle.modules.proofs.Words.{◌≡◌, ◌+◌, ◌<◌, List, Option, sym, ap, subst, ◌∙◌, length, map, arith, All, ◌++◌, option_to_list, flat_map, common_steps, nat_tests}
+use Rattle.modules.proofs.Words.{◌≡◌, ◌+◌, ◌<◌, List, Option, sym, ap, subst, ◌∙◌, length, map, arith, All, ◌++◌, option_to_list, flat_map, common_steps, nat_tests, length-append}
 use Rattle.modules.proofs.Definitions.{Accepted, AreModules, built_in_with, IsSoundCatalog, entry_for, ModuleEntry, Gathers, PlacedModule}
 use Rattle.modules.proofs.SoundnessLemmas.{count_of_regions, valid_kernel, IsSound-catalog_with}
 use Rattle.modules.proofs.MakingLemmas.{catalog_from, kept_from, modules_are, regions_made}
@@ -13,14 +13,7 @@ pub modules_from-requires : goal.modules_from-requires
 modules_from-requires c = grind (arith)
 
 pub regions_in-regions-requires : goal.regions_in-regions-requires
-regions_in-regions-requires c =
-    let a : Accepted = c.args.placed in
-    let symbols = c.args.symbols in
-    let g = c.in_ok-gathered.gathered in
-    let made : List ModuleEntry = c.in_ok-modules.modules.items in
-    let gathers : Gathers a symbols g = c.in_ok-gathered.ensures in
-    let others : made ≡ map (entry_for symbols) a.modules = modules_are a symbols g made gathers (subst (λ (x : Accepted). AreModules x.modules g.modules.items made) c.placed.view_is c.in_ok-modules.ensures) in
-    grind (arith, common_steps, nat_tests, modules_are, regions_made)
+regions_in-regions-requires c = grind (arith, common_steps, nat_tests, length-append, regions_made, modules_are c.args.placed c.args.symbols c.in_ok-gathered.gathered c.in_ok-modules.modules.items)
 
 pub overflow_add-catalog : goal.overflow_add-catalog
 overflow_add-catalog c =
