@@ -1,5 +1,5 @@
 -- Which first addresses an update takes out.
-use Rattle.modules.proofs.Words.{◌≡◌, ℕ, ◌+◌, ◌<◌, ◌≤◌, Bool, true, false, not, nat_eq, cond, zero, suc, List, [], ◌∷◌, ◌++◌, length, get_or, take, drop, refl, sym, ap, ◌∙◌, arith, length-append, bytes_decides, bytes_eq, common_steps, nat_tests}
+use Rattle.modules.proofs.Words.{◌≡◌, ℕ, ◌+◌, ◌<◌, ◌≤◌, Bool, true, false, nat_eq, cond, zero, suc, List, [], ◌∷◌, ◌++◌, length, get_or, take, drop, refl, sym, ap, ◌∙◌, arith, length-append, bytes_decides, bytes_eq, common_steps, nat_tests}
 use Rattle.modules.proofs.Lemmas.{cases_lt, eqb-true, eq-eqb, append-nil, length-take-le, get_or-append_seam, take-length}
 use Rattle.modules.proofs.Definitions.{is_of, starts_of, Part}
 use Rattle.modules.proofs.LoadLemmas.{starts_more}

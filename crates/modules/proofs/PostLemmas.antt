@@ -1,5 +1,5 @@
 -- Whose an address is by the marks of a listing is what its lines say.
-use Rattle.modules.proofs.Words.{◌≡◌, ◌≢◌, ℕ, ◌+◌, ◌-◌, ◌<◌, ◌≤◌, Bool, true, false, ◌&&◌, ◌||◌, not, nat_lt, nat_eq, cond, suc, List, [], ◌∷◌, ◌++◌, get_or, map, Option, Some, None, refl, sym, ap, subst, ◌∙◌, inl, inr, ⊎_elim, arith, ◌⊎◌, All, Contains, filter, find, is_none, first_so, second_so, position_from, option_and_then, option_map, option_map_or, bytes_eq, bytes_decides, rules, common_steps, nat_tests}
+use Rattle.modules.proofs.Words.{◌≡◌, ◌≢◌, ℕ, ◌+◌, ◌<◌, ◌≤◌, Bool, true, false, ◌&&◌, ◌||◌, nat_lt, nat_eq, cond, suc, List, [], ◌∷◌, ◌++◌, get_or, map, Option, Some, None, refl, sym, ap, subst, ◌∙◌, inl, inr, ⊎_elim, arith, ◌⊎◌, All, Contains, filter, find, is_none, first_so, second_so, position_from, option_and_then, option_map, option_map_or, bytes_eq, bytes_decides, rules, common_steps, nat_tests}
 use Rattle.modules.proofs.Lemmas.{and_from, and_parts, cases_lt, eq-eqb, eqb-true, le-leb, leb-true, lt-ltb, ltb-true, ne_eqb, or_cases, or_left, or_parts, or_right, position_from-zero, All-append, All-cons, All-contains, All-head, All-nil, All-tail, list_any_at, position-Some, AllPass-from_list_all, list_all-from_AllPass, Contains-slice_get, find-agree, find-filter, find-has, find-passes, find_place}
 use Rattle.modules.proofs.Definitions.{is_built_in, HaveFirstLines, kernel_marks, line_marks, mark_of, marks_of, name_of, number_for, number_in, ListedSymbol, StandsFor, GoesOn, IsFirstMark, IsNearestMark, IsNextMark, Owns, goes_on, is_in_page, is_nearest_line, is_next_line, is_of_one_module, is_outside, module_of_address, post_above, post_below, posts, reach, holds, lies_in_any, Mark}
 use Rattle.modules.proofs.KeptLemmas.{not_built_in}

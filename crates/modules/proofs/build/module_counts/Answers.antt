@@ -1,4 +1,4 @@
-use Rattle.modules.proofs.Words.{◌-◌, arith, common_steps}
+use Rattle.modules.proofs.Words.{arith, common_steps}
 use Rattle.facts.proofs.Tests.{count_by-either}
 use Rattle.modules.proofs.build.module_counts.Goals as goal
 

@@ -1,4 +1,4 @@
-use Rattle.modules.proofs.Words.{◌≡◌, ◌+◌, ℕ, suc, [], ◌∷◌, ◌++◌, length, sym, subst, ◌∙◌, arith, length-append, append_assoc, into_iter_items, common_steps, nat_tests}
+use Rattle.modules.proofs.Words.{◌≡◌, ℕ, suc, [], ◌∷◌, ◌++◌, length, sym, subst, ◌∙◌, arith, length-append, append_assoc, into_iter_items, common_steps, nat_tests}
 use Rattle.std.proofs.lemmas.List.{append-nil, nil_from_length}
 use Rattle.modules.proofs.Definitions.{IsPlaced}
 use Rattle.modules.proofs.MakingLemmas.{EachMade-push, drop_next}

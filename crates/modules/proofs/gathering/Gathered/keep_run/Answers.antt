@@ -1,4 +1,4 @@
-use Rattle.modules.proofs.Words.{◌≤◌, ◌-◌, length, arith, common_steps}
+use Rattle.modules.proofs.Words.{◌≤◌, length, arith, common_steps}
 use Rattle.modules.proofs.GatheringLemmas.{kept_or_fails, kept_within, room_of}
 use Rattle.modules.proofs.gathering.Gathered.keep_run.Goals as goal
 
