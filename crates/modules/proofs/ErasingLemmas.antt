@@ -6,9 +6,6 @@ use Rattle.modules.proofs.LoadLemmas.{starts_more}
 
 -- ---- just one first address, or several
 
-pub none_of_length : (xs : List ℕ) → length xs ≡ 0 → xs ≡ []
-none_of_length xs h = grind (arith, common_steps, nat_tests)
-
 -- ---- first addresses compared with words
 
 module _ (core init : Bool) (rs : List (ℕ × ℕ)) (ps : List Part) (i : ℕ) (r : ℕ × ℕ) (p : Part) (lt : i < length rs) (lp : i < length ps) where

@@ -1,6 +1,6 @@
 -- One more run of symbol lines.
-use Rattle.modules.proofs.Words.{◌≡◌, ℕ, ◌+◌, ◌<◌, ◌≤◌, Bool, false, cond, List, ◌++◌, length, get_or, map, not, Some, None, Ok, Err, Option, Result, refl, sym, ap, ◌∙◌, ⊎_elim, arith, length-append, filter, count_by, OnOk, Bor, Vec, position_from, option_copied, option_map_or, AllocError, bytes_eq}
-use Rattle.modules.proofs.Lemmas.{cases_eq, map-append, append-nil, length-map, filter-append, length-filter_both, sum_by-append}
+use Rattle.modules.proofs.Words.{◌≡◌, ℕ, ◌+◌, ◌<◌, ◌≤◌, Bool, false, cond, List, ◌++◌, length, get_or, map, not, Some, None, Ok, Err, Option, Result, refl, sym, ap, ◌∙◌, ⊎_elim, arith, filter, count_by, OnOk, Bor, Vec, position_from, option_copied, option_map_or, AllocError, bytes_eq}
+use Rattle.modules.proofs.Lemmas.{cases_eq, map-append, append-nil, filter-append, length-filter_both, sum_by-append}
 use Rattle.modules.proofs.Definitions.{Accepted, names_of, SymbolEntry, CountsStay, Gathers, HasRoom, Keeps, KeepsRun, lies_for, owner_for, AreDistinctNames, belongs, is_built_in, is_kept, symbols_that, entry_of, ListedSymbol, PlacedModule, lines_of_run, line_of, Gathered, Owner, Run}
 use Rattle.modules.specs.declared.gathering.Owner.TheVariants as owner
 use Rattle.modules.proofs.HomeLemmas.{that_run, that_none, count_run, count_rest, kept_unnamed, kept_nowhere, kept_there, belongs_there}
@@ -88,10 +88,6 @@ pub Gathers-run : (a : Accepted) (xs : List ListedSymbol) (r : Run) (g h : Gathe
 Gathers-run a xs r g h distinct before keeps =
     let n : Option (List ℕ) = option_copied r.module in
     Gathers-added a n (lies a (owner_for a n)) r.symbols.items xs g h before (run_adds a n r.symbols.items g h distinct keeps.lists keeps.kept keeps.stray)
-
--- so many more lines are counted
-pub counts_run : (a : Accepted) (r : Run) (g h : Gathered) (xs : List ListedSymbol) → KeepsRun a r g h → g.kept + g.stray ≡ length xs → h.kept + h.stray ≡ length (xs ++ lines_of_run r)
-counts_run a r g h xs keeps before = omega (arith, keeps.kept, keeps.stray, before, length-append xs (lines_of_run r), length-map r.symbols.items (line_of (option_copied r.module)))
 
 -- no more are kept than there are
 pub kept_within : (a : Accepted) (o : Owner) (ss kept : List SymbolEntry) → kept ≡ filter (lies a o) ss → length kept ≤ length ss

@@ -19,16 +19,13 @@ starts_more core init (x ∷ xs) (y ∷ ys) (suc i) r p lt lp =
 
 -- ---- the items of regions
 
-item_is : (number : ℕ) (r : ℕ × ℕ) (i : Item) → i.a ≡ r.0 → i.b ≡ r.1 → i.tag ≡ number → item_of number r ≡ i
-item_is number r i a b tag = grind arith
-
 pub items_from : (number : ℕ) (rs : List (ℕ × ℕ)) (is : List Item) → same_items number rs is ≡ true → map (item_of number) rs ≡ is
 items_from number [] [] h = refl
 items_from number [] (i ∷ is) h = absurd (cc)
 items_from number (r ∷ rs) [] h = absurd (cc)
 items_from number (r ∷ rs) (i ∷ is) h =
     let rest = and_parts (nat_eq i.a r.0 && nat_eq i.b r.1 && nat_eq i.tag number) (same_items number rs is) h in
-    grind (arith, common_steps, nat_tests, and_parts, item_is, eqb-true, items_from number rs is rest.1, and_parts (nat_eq i.a r.0 && nat_eq i.b r.1) (nat_eq i.tag number) rest.0)
+    grind (arith, common_steps, nat_tests, and_parts, eqb-true, items_from number rs is rest.1, and_parts (nat_eq i.a r.0 && nat_eq i.b r.1) (nat_eq i.tag number) rest.0)
 
 pub items_same : (number : ℕ) (rs : List (ℕ × ℕ)) → same_items number rs (map (item_of number) rs) ≡ true
 items_same number [] = refl

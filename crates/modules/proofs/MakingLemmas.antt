@@ -1,6 +1,6 @@
 -- The modules that are made of the accepted ones.
-use Rattle.modules.proofs.Words.{◌≡◌, ℕ, zero, suc, ◌<◌, ◌≤◌, List, [], ◌∷◌, ◌++◌, length, get_or, map, drop, not, Option, sym, ap, ◌∙◌, ⊎_elim, arith, length-append, take, ◌+◌, count_by, Vec, flat_map, common_steps}
-use Rattle.modules.proofs.Lemmas.{cases_lt, flat_map-append, append-nil, get_or-map, get_or_append_left, get_or_push, length-map, same_lists, take_more, slice_get_cases}
+use Rattle.modules.proofs.Words.{◌≡◌, ℕ, zero, suc, ◌<◌, ◌≤◌, List, [], ◌∷◌, ◌++◌, length, get_or, map, drop, not, Option, sym, ap, ◌∙◌, ⊎_elim, arith, length-append, take, ◌+◌, count_by, Vec, flat_map}
+use Rattle.modules.proofs.Lemmas.{cases_lt, get_or-map, get_or_append_left, get_or_push, length-map, same_lists, slice_get_cases}
 use Rattle.modules.proofs.Definitions.{Accepted, module_counts, AreModules, EachMade, module_with, built_in_with, catalog_with, entry_for, kept_counts, CatalogEntries, ModuleEntry, SymbolEntry, Gathers, is_kept, ListedRegion, ListedSymbol, PlacedModule, BuildCounts, KeptCounts, Gathered}
 use Rattle.modules.proofs.SoundnessLemmas.{module_regions}
 
@@ -69,6 +69,3 @@ module _ {X Y : Type 0} (f : X → List Y) where
   length-flat_map_take xs zero = omega arith
   length-flat_map_take [] (suc n) = omega arith
   length-flat_map_take (x ∷ xs) (suc n) = omega (arith, length-flat_map_take xs n, length-append (f x) (flat_map f (take n xs)), length-append (f x) (flat_map f xs))
-
-  pub flat_map_more : (xs : List X) (n : ℕ) (d : X) → n < length xs → length (flat_map f (take (n + 1) xs)) ≡ length (flat_map f (take n xs)) + length (f (get_or xs n d))
-  flat_map_more xs n d lt = grind (arith, common_steps, take_more, flat_map-append, append-nil, length-append)

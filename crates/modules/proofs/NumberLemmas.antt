@@ -1,7 +1,7 @@
 -- The names of modules, their numbers, and one name more.
 use Rattle.modules.proofs.Words.{◌≡◌, ℕ, ◌≤◌, Bool, true, false, cond, suc, List, [], ◌∷◌, ◌++◌, length, get_or, Option, Some, None, refl, sym, ap, subst, ◌∙◌, arith, All, is_some, Bor, bytes_decides, list_any, position_from, option_copied, option_map, option_map_or, bytes_eq, common_steps, nat_tests}
 use Rattle.modules.proofs.Lemmas.{or_left, or_right, position_from-zero, map-append, All-append, list_any-append, position-Some, is_some-position_from, position_from-new}
-use Rattle.modules.proofs.Definitions.{with_name, AreNamed, number_for, with_owner, ListedSymbol, names_at, lines_of_all, lines_of_run, line_of, Run}
+use Rattle.modules.proofs.Definitions.{AreNamed, number_for, with_owner, ListedSymbol, names_at, lines_of_all, lines_of_run, line_of, Run}
 use Rattle.modules.proofs.PostLemmas.{all_mapped}
 use Rattle.modules.proofs.RunLemmas.{lines_of_all-last}
 
@@ -41,17 +41,11 @@ module _ (names : List (List ℕ)) where
   abbrev IsOwner : List (List ℕ) → Option (List ℕ) → Type 0
   IsOwner ns o = option_map_or (λ name. list_any (bytes_eq name) ns) o true ≡ true
 
-  still_there : (new name : List ℕ) → list_any (bytes_eq name) names ≡ true → list_any (bytes_eq name) (with_name names new) ≡ true
-  still_there new name there = grind (arith, list_any-append, or_left)
-
-  now_there : (new : List ℕ) → list_any (bytes_eq new) (with_name names new) ≡ true
-  now_there new = grind (arith, list_any-append, or_right, or_left, bytes_decides)
-
   stays_owner : (owner o : Option (List ℕ)) → IsOwner names o → IsOwner (with_owner names owner) o
-  stays_owner owner o is = grind (arith, common_steps, nat_tests, still_there)
+  stays_owner owner o is = grind (arith, common_steps, nat_tests)
 
   is_owner : (owner : Option (List ℕ)) → IsOwner (with_owner names owner) owner
-  is_owner owner = grind (arith, now_there)
+  is_owner owner = grind (arith, common_steps, nat_tests, list_any-append, or_right, or_left, bytes_decides)
 
   -- the modules of the lines of one run more
   pub named_more : (runs : List Run) (run : Run) → AreNamed names (lines_of_all runs) → AreNamed (with_owner names (option_copied run.module)) (lines_of_all (runs ++ run ∷ []))

@@ -63,12 +63,9 @@ AreSoundModules-none built_in apart = grind (arith, All-nil, AllPairs-few, appen
 
 -- ---- the regions of the kernel itself
 
-picked : (start end : ℕ) → IfSome {T = ℕ × ℕ} (cond (nat_lt start end) (Some (start, end)) None) (λ r. r.0 < r.1)
-picked start end = grind (arith, nat_tests)
-
 -- a region between two symbols has an address
 pub valid_built_in : (start end : Option ℕ) → IfSome {T = ℕ × ℕ} (option_and_then (λ s. option_and_then (λ e. cond (nat_lt s e) (Some (s, e)) None) end) start) (λ r. r.0 < r.1)
-valid_built_in start end = grind (arith, picked)
+valid_built_in start end = grind arith
 
 abbrev IsValid : Option (ℕ × ℕ) → Type 0
 IsValid region = IfSome region (λ r. r.0 < r.1)
@@ -76,14 +73,8 @@ IsValid region = IfSome region (λ r. r.0 < r.1)
 valid_region : (names : BoundNames) (lines : List ListedSymbol) → IsValid (built_in_region names lines)
 valid_region names lines = valid_built_in (first_address names.start lines) (first_address names.end lines)
 
-apart_none : AreApart []
-apart_none = record { valid = All-nil (λ (x : ℕ × ℕ). x.0 < x.1); apart = AllPairs-few (λ (x y : ℕ × ℕ). is_apart x y ≡ true) [] (omega arith) }
-
-apart_one : (r : ℕ × ℕ) → r.0 < r.1 → AreApart (r ∷ [])
-apart_one r valid = AreApart-push [] r apart_none valid refl
-
 apart_listed : (region : Option (ℕ × ℕ)) → IsValid region → AreApart (option_to_list region)
-apart_listed region valid = grind (arith, apart_one)
+apart_listed region valid = grind arith
 
 pub kernel_apart : (names : Option BoundNames) (lines : List ListedSymbol) → AreApart (kernel_regions names lines)
 kernel_apart None lines = search (rules, valid_region)

@@ -27,9 +27,6 @@ address_at marks l p = ap (λ (s : Mark). s.addr) p.listed
 pub nearest_is_one : (marks : List Mark) (x : ℕ) (l n : Mark) → IsNearestMark marks x l → IsNearestMark marks x n → l ≡ n
 nearest_is_one marks x l n p q = grind (arith, common_steps)
 
-next_is_one : (marks : List Mark) (x : ℕ) (l n : Mark) → IsNextMark marks x l → IsNextMark marks x n → l ≡ n
-next_is_one marks x l n p q = grind (arith, common_steps)
-
 -- the mark at a place is the next of those that lie above the ones before it
 next_at : (marks : List Mark) (done : ℕ) (from next : Mark) (x : ℕ) → IsFrom marks done from → AreAbove marks done next.addr → done < length marks → get_or marks done next ≡ next → from.addr ≤ x → x < next.addr → IsNextMark marks x next
 next_at marks done from next x is rest within at le lt = grind (arith, cases_lt)
@@ -44,7 +41,7 @@ IsReached marks m x = (is_in_page m.addr x ≡ true) ⊎ GoesOn marks x m
 pub reached_before : (marks : List Mark) (done : ℕ) (from next : Mark) (end : ℕ) → IsFrom marks done from → AreAbove marks done next.addr → done < length marks → get_or marks done next ≡ next
     → ((x : ℕ) → from.addr ≤ x → x < next.addr → (x < end) ↔ ((is_in_page from.addr x ≡ true) ⊎ ((next.owner ≡ from.owner) × (next.addr < from.addr + reach))))
     → (x : ℕ) → from.addr ≤ x → x < next.addr → (x < end) ↔ IsReached marks from x
-reached_before marks done from next end is rest within at exact x le lt = grind (arith, common_steps, nat_tests, next_at, next_is_one, exact x le lt, next_at marks done from next x is rest within at le lt)
+reached_before marks done from next end is rest within at exact x le lt = grind (arith, common_steps, nat_tests, next_at, exact x le lt, next_at marks done from next x is rest within at le lt)
 
 -- no mark lies above the last
 pub reached_last : (marks : List Mark) (done : ℕ) (from : Mark) (end : ℕ) → IsFrom marks done from → length marks ≤ done

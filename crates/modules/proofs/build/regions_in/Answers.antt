@@ -1,9 +1,9 @@
 use Rattle.modules.proofs.Words.{arith, common_steps}
-use Rattle.modules.proofs.MakingLemmas.{flat_map_more, length-flat_map_take}
+use Rattle.modules.proofs.MakingLemmas.{length-flat_map_take}
 use Rattle.modules.proofs.build.regions_in.Goals as goal
 
 pub overflow_add-count : goal.overflow_add-count
-overflow_add-count c = grind (arith, common_steps, flat_map_more, length-flat_map_take)
+overflow_add-count c = grind (arith, common_steps, length-flat_map_take)
 
 pub loop-module-preserved : goal.loop-module-preserved
-loop-module-preserved c = grind (arith, common_steps, flat_map_more)
+loop-module-preserved c = grind (arith, common_steps)

@@ -1,7 +1,7 @@
 use Rattle.modules.proofs.Words.{ℕ, List, take, sym, ◌∙◌, arith, length-append, common_steps}
 use Rattle.std.proofs.lemmas.List.{get_or_default}
 use Rattle.modules.proofs.Definitions.{starts_of, Core}
-use Rattle.modules.proofs.ErasingLemmas.{none_of_length, other_more, wanted_more}
+use Rattle.modules.proofs.ErasingLemmas.{other_more, wanted_more}
 use Rattle.modules.proofs.loads.only_start.Goals as goal
 use Rattle.modules.proofs.loads.only_start.Goals.{then-is_of, else-is_of}
 
@@ -15,7 +15,7 @@ loop-place-preserved c =
     elim c.if-is_of.branch [
       | then-is_of w ↦
           let more = wanted_more c.args.core c.args.init regions parts place (0, 0) Core (omega (arith, c.requires)) (omega arith) (sym c.is_of.ensures ∙ w.if-is_of.true) in
-          rw (w.count-is, w.last-is) (grind (arith, common_steps, length-append, none_of_length, get_or_default))
+          rw (w.count-is, w.last-is) (grind (arith, common_steps, length-append, get_or_default))
       | else-is_of w ↦
           let same = other_more c.args.core c.args.init regions parts place (0, 0) Core (omega (arith, c.requires)) (omega arith) (sym c.is_of.ensures ∙ w.if-is_of.false) in
           rw (w.count-is, w.last-is) (grind (arith, common_steps))
