@@ -33,10 +33,7 @@ IsTied-accepted a m tied n shows regions = grind (arith, common_steps, nat_tests
 
 beside_next : (now next : List (ℕ × ℕ)) (r : ℕ × ℕ) (rs : List (ℕ × ℕ)) → ((p : ℕ × ℕ → Bool) → list_all p next ≡ (p r && list_all p now)) → list_all (is_apart r) rs ≡ true → are_beside now rs ≡ true → are_beside next rs ≡ true
 beside_next now next r [] more apart beside = refl
-beside_next now next r (x ∷ xs) more apart beside =
-    let aparts = and_parts (is_apart r x) (list_all (is_apart r) xs) apart in
-    let besides = and_parts (list_all (is_apart x) now) (are_beside now xs) beside in
-    grind (arith, common_steps, nat_tests, and_parts, and_from, turned, turned r x aparts.0, beside_next now next r xs more aparts.1 besides.1)
+beside_next now next r (x ∷ xs) more apart beside = grind (arith, common_steps, nat_tests, and_parts, and_from, turned, beside_next now next r xs more)
 
 pub record IsTaking (old now : List (ℕ × ℕ)) (i : ℕ) (rs : List (ℕ × ℕ)) : Type 0 where
   pub apart : lie_apart (drop i rs) ≡ true

@@ -1,5 +1,5 @@
 -- The symbol below an address and the address above it.
-use Rattle.modules.proofs.Words.{◌≢◌, ◌⊎◌, length, ◌≡◌, ℕ, ◌-◌, ◌<◌, ◌≤◌, true, ◌&&◌, ◌||◌, nat_lt, nat_le, List, get_or, Some, None, Option, refl, ap, ◌∙◌, false, arith, All, find, unwrap_or, list_all, option_map, first_so, second_so, inl, inr, ⊎_elim, list_any}
+use Rattle.modules.proofs.Words.{◌≢◌, ◌⊎◌, length, ◌≡◌, ℕ, ◌-◌, ◌<◌, ◌≤◌, true, ◌&&◌, ◌||◌, nat_lt, nat_le, List, get_or, Some, None, Option, refl, ap, ◌∙◌, false, arith, All, find, unwrap_or, list_all, option_map, first_so, second_so, inl, inr, ⊎_elim, list_any, common_steps, nat_tests}
 use Rattle.modules.proofs.Lemmas.{AllPass-from_list_all, leb-true, ltb-true, le-leb, lt-ltb, le_or_past_below, least_above_below, le_unless_past, least_above_past, find-agree, find-passes, list_all-agree, find-has, le_antisymm, cases_lt, and_from, All-contains, list_any_at, list_all-from_AllPass, or_from_cases, All-from_find, least_in, find-none, find-first, find-number, le-ltb, lt-leb, false_from_ne_true, le_or_past, least_above}
 use Rattle.modules.proofs.Definitions.{address_above, is_nearest, is_next, symbol_below, SymbolEntry}
 
@@ -41,13 +41,7 @@ one_nearest symbols addr s is = λ k d lt passes.
 
 -- and so have the next ones
 pub one_next : (symbols : List SymbolEntry) (addr : ℕ) (s : SymbolEntry) → find (is_next symbols addr) symbols ≡ Some s → All (λ x. is_next symbols addr x ≡ true → x.addr ≡ s.addr) symbols
-one_next symbols addr s is = λ k d lt passes.
-    let x = get_or symbols k d in
-    let mine = next_parts symbols addr s (find-passes (is_next symbols addr) symbols s is) in
-    let its = next_parts symbols addr x passes in
-    le_antisymm
-    (least_above_past x.addr s.addr addr (find-has (is_next symbols addr) symbols s is (λ t. (nat_le t.addr addr || nat_le x.addr t.addr) ≡ true) its.1) mine.0)
-    (least_above_past s.addr x.addr addr (mine.1 k d lt) its.0)
+one_next symbols addr s is = grind (arith, common_steps, nat_tests, next_parts, find-passes, le_antisymm, least_above_past, find-has, next_parts symbols addr s (find-passes (is_next symbols addr) symbols s is), find-passes (is_next symbols addr) symbols s is, next_parts symbols addr, find-has (is_next symbols addr) symbols s is)
 
 -- where nothing is found, all symbols lie above the address
 pub all_above : (symbols : List SymbolEntry) (addr : ℕ) → symbol_below symbols addr ≡ None → All (λ s. addr < s.addr) symbols

@@ -42,14 +42,7 @@ sum_agree f g (x ∷ xs) same = omega (arith, sum_agree f g xs same, same x, sum
 -- the symbols of all modules, counted by symbol
 pub symbols_by_home : (lines : List PlacedModule) (symbols : List ListedSymbol) → sum_by (λ m. count_by (belongs m) symbols) lines ≡ sum_by (homes lines) symbols
 symbols_by_home [] symbols = sym (zero_for_all symbols)
-symbols_by_home (m ∷ ms) symbols =
-    omega (
-      arith,
-      symbols_by_home ms symbols,
-      sum_of_both (belongs m) (homes ms) symbols,
-      sum_by-cons (λ n. count_by (belongs n) symbols) m ms,
-      sum_agree (homes (m ∷ ms)) (λ s. cond (belongs m s) 1 0 + homes ms s) symbols (λ s. sum_by-cons (λ n. cond (belongs n s) 1 0) m ms),
-    )
+symbols_by_home (m ∷ ms) symbols = grind (arith, common_steps, nat_tests, sum_of_both, sum_by-cons, sum_agree, symbols_by_home ms symbols, sum_of_both (belongs m) (homes ms) symbols)
 
 -- a symbol belongs to modules of one name alone
 other_name : (m n : PlacedModule) (s : ListedSymbol) → m.name ≢ n.name → belongs m s ≡ true → belongs n s ≡ false
@@ -76,10 +69,7 @@ unowned owner addr ms h = grind (arith, list_any_none)
 -- each kept symbol is counted once
 pub kept_by_home : (built_in : List (ℕ × ℕ)) (a : Accepted) (symbols : List ListedSymbol) → a.built_in ≡ built_in → AreDistinctNames (names_of a.modules) → count_by (is_built_in built_in) symbols + sum_by (homes a.modules) symbols ≡ count_by (is_kept a) symbols
 kept_by_home built_in a [] same distinct = omega arith
-kept_by_home built_in a (s ∷ symbols) same distinct =
-    let one : homes a.modules s ≡ cond (list_any (λ m. belongs m s) a.modules) 1 0 = one_home a.modules s distinct in
-    let apart : is_built_in a.built_in s ≡ true → list_any (λ m. belongs m s) a.modules ≡ false = λ h. unowned s.owner s.addr a.modules (first_so (is_none s.owner) (lies_in_any a.built_in s.addr) h) in
-    grind (arith, common_steps, nat_tests, one_home, unowned, first_so, count-or_apart, sum_by-cons, kept_by_home built_in a symbols same distinct)
+kept_by_home built_in a (s ∷ symbols) same distinct = grind (arith, common_steps, nat_tests, one_home, unowned, first_so, count-or_apart, sum_by-cons, kept_by_home built_in a symbols same distinct, one_home a.modules s distinct, unowned s.owner s.addr a.modules, first_so (is_none s.owner) (lies_in_any a.built_in s.addr))
 
 sum_of_modules : (symbols : List ListedSymbol) (lines : List PlacedModule) → sum_by (λ (m : ModuleEntry). length m.symbols) (map (entry_for symbols) lines) ≡ sum_by (λ m. count_by (belongs m) symbols) lines
 sum_of_modules symbols [] = refl

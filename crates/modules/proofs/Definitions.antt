@@ -43,10 +43,10 @@ pub use Rattle.modules.specs.declared.marks.Mark.{Mark}
 pub use Rattle.modules.specs.declared.symbol_lines.Run.{Run}
 pub use Rattle.modules.specs.declared.symbols.IndexEntry.{IndexEntry}
 pub use Rattle.order_laws.specs.Orders.{half_open, half_open_lawful}
-pub use Rattle.order_laws.specs.Tables.{IsLook, look, meets, without_all}
+pub use Rattle.order_laws.specs.Tables.{IsLook, look, meets}
 pub use Rattle.order_laws.specs.declared.items.Item.{Item}
 pub use Rattle.order_laws.specs.declared.refusals.Refusal.{Refusal}
 pub use Rattle.order_laws.specs.declared.refusals.Refusal.TheVariants.{OutOfMemory, UnknownModule}
-pub use Rattle.table_updates.specs.Updates.{erased, inserted, refusal_for, some_invalid, some_meet, some_overlap}
+pub use Rattle.table_updates.specs.Updates.{erased, inserted, refusal_for, some_overlap}
 pub use Rattle.table_updates.specs.declared.updates.Update.{Update}
 pub use Rattle.table_updates.specs.declared.updates.Update.TheVariants.{Batch}

@@ -1,5 +1,5 @@
 -- Which first addresses an update takes out.
-use Rattle.modules.proofs.Words.{◌≡◌, ℕ, ◌+◌, ◌<◌, ◌≤◌, Bool, true, false, nat_eq, cond, zero, suc, List, [], ◌∷◌, ◌++◌, length, get_or, take, drop, refl, sym, ap, ◌∙◌, arith, length-append, bytes_decides, bytes_eq, common_steps, nat_tests}
+use Rattle.modules.proofs.Words.{◌≡◌, ℕ, ◌+◌, ◌<◌, ◌≤◌, Bool, true, false, nat_eq, cond, zero, suc, List, [], ◌∷◌, ◌++◌, length, get_or, take, drop, refl, ap, ◌∙◌, arith, length-append, bytes_decides, bytes_eq, common_steps, nat_tests}
 use Rattle.modules.proofs.Lemmas.{cases_lt, eqb-true, eq-eqb, append-nil, length-take-le, get_or-append_seam, take-length}
 use Rattle.modules.proofs.Definitions.{is_of, starts_of, Part}
 use Rattle.modules.proofs.LoadLemmas.{starts_more}
@@ -26,17 +26,7 @@ starts_split core init (x ∷ xs) (y ∷ ys) (suc i) r p lt lp is = grind (arith
 -- words that begin with the first addresses so far, and have another one next or none, are not all
 pub other_words : (words starts more : List ℕ) (start count : ℕ) → starts ≡ take count words → count ≤ length words → (count < length words → (d : ℕ) → get_or words count d ≡ start → ⊥)
     → bytes_eq (starts ++ start ∷ more) words ≡ false
-other_words words starts more start count is bound other =
-    not_true (bytes_eq (starts ++ start ∷ more) words) (λ same.
-    let all : starts ++ start ∷ more ≡ words = (bytes_decides (starts ++ start ∷ more) words).0 same in
-    let length_is : length starts ≡ count = ap (λ (xs : List ℕ). length xs) is ∙ length-take-le count words bound in
-    let long : length starts + suc (length more) ≡ length words = sym (length-append starts (start ∷ more)) ∙ ap (λ (xs : List ℕ). length xs) all in
-    let within : count < length words = omega arith in
-    other within 0 (ap (λ (xs : List ℕ). get_or xs count 0) (sym all) ∙ ap (λ n. get_or (starts ++ start ∷ more) n 0) (sym length_is) ∙ get_or-append_seam starts start more 0))
-  where
-    not_true : (b : Bool) → (b ≡ true → ⊥) → b ≡ false
-    not_true true h = absurd (h refl)
-    not_true false h = refl
+other_words words starts more start count is bound other = grind (arith, common_steps, nat_tests, bytes_decides, length-take-le, length-append, get_or-append_seam, bytes_decides (starts ++ start ∷ more) words, length-take-le count words bound, length-append starts (start ∷ more), get_or-append_seam starts start more 0)
 
 pub all_words : (words starts : List ℕ) (count : ℕ) → starts ≡ take count words → count ≤ length words → nat_eq count (length words) ≡ bytes_eq starts words
 all_words words starts count is bound = grind (arith, common_steps, nat_tests, eqb-true, bytes_decides, length-take-le, take-length, eq-eqb, cases_lt)

@@ -1,5 +1,5 @@
 -- One more run of symbol lines.
-use Rattle.modules.proofs.Words.{◌≡◌, ℕ, ◌+◌, ◌<◌, ◌≤◌, Bool, false, cond, List, ◌++◌, length, get_or, map, not, Some, None, Ok, Err, Option, Result, refl, sym, ap, ◌∙◌, ⊎_elim, arith, filter, count_by, OnOk, Bor, Vec, position_from, option_copied, option_map_or, AllocError, bytes_eq}
+use Rattle.modules.proofs.Words.{◌≡◌, ℕ, ◌+◌, ◌<◌, ◌≤◌, Bool, false, cond, List, ◌++◌, length, get_or, map, not, Some, None, Ok, Err, Option, Result, refl, sym, ap, ◌∙◌, ⊎_elim, arith, filter, count_by, OnOk, Bor, Vec, position_from, option_copied, option_map_or, AllocError, bytes_eq, common_steps, nat_tests}
 use Rattle.modules.proofs.Lemmas.{cases_eq, map-append, append-nil, filter-append, length-filter_both, sum_by-append}
 use Rattle.modules.proofs.Definitions.{Accepted, names_of, SymbolEntry, CountsStay, Gathers, HasRoom, Keeps, KeepsRun, lies_for, owner_for, AreDistinctNames, belongs, is_built_in, is_kept, symbols_that, entry_of, ListedSymbol, PlacedModule, lines_of_run, line_of, Gathered, Owner, Run}
 use Rattle.modules.specs.declared.gathering.Owner.TheVariants as owner
@@ -43,14 +43,7 @@ abbrev lies : Accepted → Owner → SymbolEntry → Bool
 lies a o s = lies_for a o s.addr
 
 kernel_adds : (a : Accepted) (ss : List SymbolEntry) (g h : Gathered) → Keeps owner.BuiltIn (filter (lies a owner.BuiltIn) ss) g h → h.kept ≡ g.kept + length (filter (lies a owner.BuiltIn) ss) → h.stray + length (filter (lies a owner.BuiltIn) ss) ≡ g.stray + length ss → Adds a None (lies a owner.BuiltIn) ss g h
-kernel_adds a ss g h keeps kept stray = record {
-  built_in = grows (is_built_in a.built_in) (lies a owner.BuiltIn) None ss g.built_in.items h.built_in.items (λ s. refl) keeps.0;
-  lists = ap length keeps.1;
-  each = λ j d m lt. stays (belongs (get_or a.modules j m)) None ss (get_or g.modules.items j d).items (get_or h.modules.items j d).items (λ s. refl) (ap (λ (ls : List (Vec SymbolEntry)). (get_or ls j d).items) keeps.1);
-  is = kept_unnamed a;
-  kept = kept;
-  stray = stray;
-}
+kernel_adds a ss g h keeps kept stray = grind (arith, common_steps, nat_tests, grows, stays, kept_unnamed, grows (is_built_in a.built_in) (lies a owner.BuiltIn) None ss g.built_in.items h.built_in.items)
 
 abbrev owner_at : Option ℕ → Owner
 owner_at o = option_map_or (λ place. owner.Module place) o owner.Nobody

@@ -1,5 +1,5 @@
 -- The order of the index.
-use Rattle.modules.proofs.Words.{◌≡◌, ℕ, zero, suc, subst, ◌+◌, ◌-◌, ◌<◌, ◌≤◌, ◌⊎◌, true, false, nat_le, List, [], ◌∷◌, length, get_or, map, Some, None, sym, ap, ◌∙◌, ⊎_elim, arith, IsStrictWeakOrder, All, slice_get, enumerate_from, option_map, IsNonDecreasingBy, IsPartitionPoint}
+use Rattle.modules.proofs.Words.{◌≡◌, ℕ, zero, suc, subst, ◌+◌, ◌-◌, ◌<◌, ◌≤◌, ◌⊎◌, true, false, nat_le, List, [], ◌∷◌, length, get_or, map, Some, None, sym, ap, ◌∙◌, arith, IsStrictWeakOrder, All, slice_get, enumerate_from, option_map, IsNonDecreasingBy, IsPartitionPoint, common_steps, nat_tests}
 use Rattle.modules.proofs.Lemmas.{slice_get_cases, length-map, get_or_default, length-enumerate_from, All-permutation, IsPermutation-sym, sorted_far, cases_lt, leb-false, leb-true, pairs_chain, pairs_not_before, pairs_one_way}
 use Rattle.modules.proofs.Definitions.{symbol_below, address_above, SymbolEntry, comes_before, index_entries_of, IsIndex, IsSplit, IsSplitBy, IndexEntry}
 use Rattle.modules.proofs.AroundLemmas.{above_found, above_none, below_found, below_none}
@@ -80,8 +80,4 @@ pub none_above : (symbols : List SymbolEntry) (index : List IndexEntry) → IsIn
 none_above symbols index is addr split parts all = above_none symbols addr (all_symbols symbols index is (λ e. e.addr ≤ addr) (λ k d l. parts.below k d (omega arith)))
 
 pub above_at : (symbols : List SymbolEntry) (index : List IndexEntry) → IsIndex symbols index → (addr split : ℕ) → IsSplit index addr split → option_map (λ e. e.addr) (slice_get index split) ≡ address_above symbols addr
-above_at symbols index is addr split parts =
-    ⊎_elim
-    (λ (e, within, got, at). ap (option_map (λ (x : IndexEntry). x.addr)) got ∙ sym (first_above symbols index is addr split parts within e (sym at)))
-    (λ (past, got). ap (option_map (λ (x : IndexEntry). x.addr)) got ∙ sym (none_above symbols index is addr split parts past))
-    (slice_get_cases index split).1
+above_at symbols index is addr split parts = grind (arith, common_steps, nat_tests, first_above, none_above, slice_get_cases, first_above symbols index is addr split parts, none_above symbols index is addr split parts, slice_get_cases index split)

@@ -27,9 +27,7 @@ regions_from c (m ∷ ms) s h =
     let here = subst (λ k. module_of c k ≡ Some m) (let e : s + 0 ≡ s = omega arith in e) (h 0 m refl) in
     let there : (i : ℕ) (x : ModuleEntry) → slice_get ms i ≡ Some x → module_of c (s + 1 + i) ≡ Some x =
     λ i x e. subst (λ k. module_of c k ≡ Some x) (let q : s + suc i ≡ s + 1 + i = omega arith in q) (h (suc i) x e) in
-    map-append region_of (items_at c s) (flat_map (items_at c) (range_with_len (s + 1) (length ms)))
-    ∙ ap (λ l. l ++ map region_of (flat_map (items_at c) (range_with_len (s + 1) (length ms)))) (regions_at c s m here)
-    ∙ ap (λ l. m.regions ++ l) (regions_from c ms (s + 1) there)
+    grind (arith, common_steps, nat_tests, map-append, regions_at, regions_from c ms (s + 1))
 
 pub all_regions : (c : CatalogEntries) → map region_of (items_of c) ≡ regions_of c
 all_regions c = grind (arith, add-one, map-append, regions_from, flat_map-append, common_steps, nat_tests, regions_again, append-nil)

@@ -1,5 +1,5 @@
 -- The modules in the order of their first kept lines are those of the lines.
-use Rattle.modules.proofs.Words.{◌≡◌, ◌≢◌, ℕ, ◌-◌, ◌^◌, ◌<◌, Bool, true, false, ◌||◌, nat_lt, nat_eq, cond, suc, List, [], ◌∷◌, ◌++◌, get_or, map, Option, Some, None, refl, sym, ap, subst, ◌∙◌, arith, All, IfSome, filter, fold, is_some, flat_map, list_any, position_from, option_map_or, option_to_list, bytes_eq, bytes_decides, rules, common_steps, nat_tests}
+use Rattle.modules.proofs.Words.{◌≡◌, ◌≢◌, ℕ, ◌-◌, ◌^◌, ◌<◌, Bool, true, false, ◌||◌, nat_lt, nat_eq, cond, List, [], ◌∷◌, ◌++◌, get_or, map, Option, Some, None, refl, sym, ap, subst, ◌∙◌, arith, All, IfSome, filter, fold, flat_map, list_any, option_map_or, option_to_list, bytes_eq, bytes_decides, rules, common_steps, nat_tests}
 use Rattle.modules.proofs.Lemmas.{and_parts, eq-eqb, eqb-true, ltb-true, map-append, All-cons, All-filter, All-head, All-nil, All-push, All-tail, begins, ends, look_is, find-passes, is_some-position_from}
 use Rattle.modules.proofs.Definitions.{Item, half_open, look, HasItsRegions, IsFromSymbols, is_kept_line, with_name, is_built_in, accepted_with, AreNamed, HasFirstLine, HaveFirstLines, is_kept_mark, kept_numbers, kernel_marks, mark_of, marks_of, modules_numbered, name_of, number_for, number_in, with_number, built_in_region, kernel_regions, with_apart, BoundNames, ListedSymbol, numbered_module, AreRegions, HoldsFor, is_outside, posts, PlacedModule, Mark}
 use Rattle.modules.proofs.LaidLemmas.{found}
@@ -33,11 +33,7 @@ abbrev IsNumber : List (List ℕ) → ℕ → Type 0
 IsNumber names n = (n ≢ 0) × (number_in names (name_of names n) ≡ n)
 
 numbered : (names : List (List ℕ)) (name : List ℕ) → list_any (bytes_eq name) names ≡ true → number_in names name ≢ 0
-numbered names name some = by (position_from (bytes_eq name) 0 names) (is_some-position_from (bytes_eq name) 0 names ∙ some)
-  where
-    by : (o : Option ℕ) → is_some o ≡ true → option_map_or suc o 0 ≢ 0
-    by None h = absurd (cc)
-    by (Some k) h = λ e. absurd (omega arith)
+numbered names name some = grind (arith, common_steps, nat_tests, is_some-position_from, is_some-position_from (bytes_eq name) 0 names)
 
 IsNumber-in : (names : List (List ℕ)) (name : List ℕ) → list_any (bytes_eq name) names ≡ true → IsNumber names (number_in names name)
 IsNumber-in names name some = grind (arith, numbered, number_names)
@@ -153,10 +149,7 @@ module _ (names : List (List ℕ)) where
 
   fold_names : (ns acc : List ℕ) → All (IsNumber names) ns → All (IsNumber names) acc → map (name_of names) (fold with_number acc ns) ≡ fold with_name (map (name_of names) acc) (map (name_of names) ns)
   fold_names [] acc every all = refl
-  fold_names (n ∷ ns) acc every all =
-      let good = All-head (IsNumber names) n ns every in
-      fold_names ns (with_number acc n) (All-tail (IsNumber names) n ns every) (good_more acc n all good)
-      ∙ ap (λ (ws : List (List ℕ)). fold with_name ws (map (name_of names) ns)) (one_more acc n all good)
+  fold_names (n ∷ ns) acc every all = grind (arith, common_steps, nat_tests, All-head, All-tail, good_more, one_more, fold_names ns (with_number acc n) (All-tail (IsNumber names) n ns every), All-head (IsNumber names) n ns every, All-tail (IsNumber names) n ns every, good_more acc n all, one_more acc n all)
 
   fold_good : (ns acc : List ℕ) → All (IsNumber names) ns → All (IsNumber names) acc → All (IsNumber names) (fold with_number acc ns)
   fold_good [] acc every all = all

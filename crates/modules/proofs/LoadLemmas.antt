@@ -43,12 +43,7 @@ pub other_length : (number : ℕ) (rs : List (ℕ × ℕ)) (is : List Item) → 
 other_length number [] [] other = absurd (other refl)
 other_length number [] (i ∷ is) other = refl
 other_length number (r ∷ rs) [] other = refl
-other_length number (r ∷ rs) (i ∷ is) other =
-    ends (is_item_of number r i) ∙ ap (λ b. is_item_of number r i && b) (other_length number rs is (λ e. other (omega arith)))
-  where
-    ends : (b : Bool) → false ≡ (b && false)
-    ends true = refl
-    ends false = refl
+other_length number (r ∷ rs) (i ∷ is) other = grind (arith, common_steps, nat_tests, other_length number rs is)
 
 -- ---- the updates
 

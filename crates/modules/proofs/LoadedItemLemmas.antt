@@ -1,7 +1,7 @@
 -- The items that a load inserts, and when the update that inserts them is accepted.
-use Rattle.modules.proofs.Words.{◌≡◌, ℕ, ◌+◌, ◌<◌, ◌≤◌, true, false, List, [], ◌∷◌, length, Some, None, refl, sym, ◌∙◌, ap, ⊎_elim, arith, zero, suc, Result, Ok, Err, Contains, nat_lt, rules, common_steps, nat_tests}
+use Rattle.modules.proofs.Words.{◌≡◌, ℕ, ◌+◌, ◌<◌, ◌≤◌, true, false, List, [], ◌∷◌, length, Some, None, refl, sym, ◌∙◌, ⊎_elim, arith, zero, suc, Result, Ok, Err, Contains, rules, common_steps, nat_tests}
 use Rattle.modules.proofs.Lemmas.{without_none, all_are_valid, insert_accepted, no_test_holds, none_meet, length-map, All-contains, Contains-append_left, Contains-append_right, get_or_from_slice_get, slice_get_within}
-use Rattle.modules.proofs.Definitions.{Item, half_open, without_all, Update, erased, inserted, refusal_for, some_invalid, some_meet, some_overlap, update_of, GivesOrLacksMemory, load_of, Refusal, OutOfMemory, IsSoundCatalog, entries_of, module_of, CatalogEntries, ModuleEntry, items_at, Held}
+use Rattle.modules.proofs.Definitions.{Item, half_open, Update, erased, inserted, refusal_for, some_overlap, update_of, GivesOrLacksMemory, load_of, Refusal, OutOfMemory, IsSoundCatalog, entries_of, module_of, CatalogEntries, ModuleEntry, items_at, Held}
 
 -- the update that loads a module inserts its items, of which there is one at least
 pub record LoadsItems (c : CatalogEntries) (k : ℕ) (u : Update) : Type 0 where
@@ -34,10 +34,7 @@ inserts_accepted n limit (i ∷ []) table seq some valid each apart room left =
     insert_accepted n limit i table seq (valid i here) (λ x m. apart x i m here) (omega arith) left
 inserts_accepted n limit (i ∷ j ∷ rest) table seq some valid each apart room left =
     let items = i ∷ j ∷ rest in
-    let f : nat_lt n (length table + length items) ≡ false = grind (arith, nat_tests) in
-    let s : nat_lt limit (seq + 2) ≡ false = grind (arith, nat_tests) in
-    no_test_holds (some_invalid half_open items) (some_overlap half_open items) (some_meet half_open items (without_all [] table)) (nat_lt n (length table + length items)) (nat_lt limit (seq + 2))
-    (all_are_valid items valid) each (ap (some_meet half_open items) (without_none table) ∙ none_meet items table apart) f s
+    grind (arith, common_steps, nat_tests, no_test_holds, all_are_valid, without_none, none_meet, all_are_valid items valid, none_meet items table apart)
 
 -- the update that inserts these items, and erases none
 pub inserts_these : (items : List Item) → inserted (update_of [] items) ≡ items

@@ -1,5 +1,5 @@
 -- A stable sort by address leaves the nearest mark.
-use Rattle.modules.proofs.Words.{◌≡◌, ℕ, Bool, true, false, ◌&&◌, nat_eq, List, get_or, Some, refl, ap, sym, ◌∙◌, inl, inr, ⊎_elim, arith, All, filter, find, IsPermutation, IsStableByKey, ties, is_lt, nat_cmp, rules, nat_tests}
+use Rattle.modules.proofs.Words.{◌≡◌, ℕ, Bool, true, false, ◌&&◌, nat_eq, List, get_or, Some, refl, ap, sym, ◌∙◌, arith, All, filter, find, IsPermutation, IsStableByKey, ties, is_lt, nat_cmp, rules, nat_tests, common_steps}
 use Rattle.modules.proofs.Lemmas.{eq-eqb, eqb-false, ne_eqb, All-contains, filter_agree, Contains-permutation, IsPermutation-sym, get_or_default, get_or_from_slice_get, slice_get_within, find-first, find_place, find-filter, find-agree}
 use Rattle.modules.proofs.Definitions.{Item, AreRegions, GoesOn, IsFirstMark, IsNearestMark, Owns, Mark}
 
@@ -43,13 +43,7 @@ module _ (xs ys : List Mark) (moved : IsPermutation xs ys) (stable : IsStableByK
   goes_on_moved x l on = search (rules, first_moved, all_moved)
 
   owns_moved : (m x : ℕ) → Owns ys m x → Owns xs m x
-  owns_moved m x o = record {
-    mark = o.mark;
-    nearest = nearest_moved x o.mark o.nearest;
-    its = o.its;
-    reached = ⊎_elim (λ page. inl page) (λ on. inr (goes_on_moved x o.mark on)) o.reached;
-    some = o.some;
-  }
+  owns_moved m x o = grind (arith, common_steps, nat_tests, nearest_moved, goes_on_moved, nearest_moved x o.mark o.nearest, goes_on_moved x o.mark)
 
 -- a key sort the other way
 stable_back : (xs ys : List Mark) → IsStableByKey (λ (s : Mark). s.addr) nat_cmp xs ys → IsStableByKey (λ (s : Mark). s.addr) nat_cmp ys xs

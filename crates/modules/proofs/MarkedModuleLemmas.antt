@@ -1,5 +1,5 @@
 -- Regions by the numbers of their modules.
-use Rattle.modules.proofs.Words.{◌≡◌, ℕ, ◌<◌, ◌≤◌, suc, true, false, cond, nat_eq, List, [], ◌∷◌, length, get_or, map, refl, ap, sym, subst, ◌∙◌, ⊎_elim, arith, All, Contains, filter, AllPairs}
+use Rattle.modules.proofs.Words.{◌≡◌, ℕ, ◌<◌, ◌≤◌, suc, true, false, cond, nat_eq, List, [], ◌∷◌, length, get_or, map, refl, ⊎_elim, arith, All, Contains, filter, AllPairs, common_steps, nat_tests}
 use Rattle.modules.proofs.Lemmas.{cases_lt, or_cases, or_left, or_right, eqb-true, eq-eqb, All-head, All-tail, All-cons, All-nil, Contains-cons_cases, Contains-head, Contains-rest}
 use Rattle.modules.proofs.Definitions.{Item, ListedSymbol, holds, Follows, HoldsFor, AreRegions, Mark, ranges_of, numbered_module, StandsFor, HasItsRegions}
 use Rattle.modules.proofs.SpacedLemmas.{lies, inside, within, Range}
@@ -51,17 +51,7 @@ module _ (n : ℕ) where
 
   pub from_holds : (items : List Item) (x : ℕ) (i : Item) → Contains items i → i.tag ≡ n → i.a ≤ x → x < i.b → lies (ranges_of n items) x ≡ true
   from_holds [] x i there its from below = absurd (omega (arith, there.1))
-  from_holds (j ∷ js) x i there its from below =
-      elim (nat_eq j.tag n) as (λ b. nat_eq j.tag n ≡ b → lies (map (λ (y : Item). (y.a, y.b)) (cond b (j ∷ filter (λ y. nat_eq y.tag n) js) (filter (λ y. nat_eq y.tag n) js))) x ≡ true) [
-        | true ↦ λ e. ⊎_elim
-            (λ same. or_left (holds (j.a, j.b) x) (lies (ranges_of n js) x) (within (j.a, j.b) x (subst (λ (y : Item). y.a ≤ x) (sym same) from) (subst (λ (y : Item). x < y.b) (sym same) below)))
-            (λ rest. or_right (holds (j.a, j.b) x) (lies (ranges_of n js) x) (from_holds js x i rest its from below))
-            (Contains-cons_cases j i js there)
-        | false ↦ λ e. ⊎_elim
-            (λ same. let tag : nat_eq j.tag n ≡ true = eq-eqb j.tag n (ap (λ (y : Item). y.tag) same ∙ its) in absurd (cc))
-            (λ rest. from_holds js x i rest its from below)
-            (Contains-cons_cases j i js there)
-      ] refl
+  from_holds (j ∷ js) x i there its from below = grind (arith, common_steps, nat_tests, or_left, within, or_right, Contains-cons_cases, eq-eqb, from_holds js x i)
 
 pub its_regions : (marks : List Mark) (items : List Item) (lines : List ListedSymbol) (n : ℕ) (name : List ℕ) → AreRegions marks items → StandsFor marks lines n name → HasItsRegions lines (numbered_module n name items)
 its_regions marks items lines n name r stands = record {

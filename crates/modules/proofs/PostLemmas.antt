@@ -1,5 +1,5 @@
 -- Whose an address is by the marks of a listing is what its lines say.
-use Rattle.modules.proofs.Words.{◌≡◌, ◌≢◌, ℕ, ◌+◌, ◌<◌, ◌≤◌, Bool, true, false, ◌&&◌, ◌||◌, nat_lt, nat_eq, cond, suc, List, [], ◌∷◌, ◌++◌, get_or, map, Option, Some, None, refl, sym, ap, subst, ◌∙◌, inl, inr, ⊎_elim, arith, ◌⊎◌, All, Contains, filter, find, is_none, first_so, second_so, position_from, option_and_then, option_map, option_map_or, bytes_eq, bytes_decides, rules, common_steps, nat_tests}
+use Rattle.modules.proofs.Words.{◌≡◌, ◌≢◌, ℕ, ◌+◌, ◌<◌, ◌≤◌, Bool, true, false, ◌&&◌, ◌||◌, nat_lt, nat_eq, cond, suc, List, [], ◌∷◌, ◌++◌, get_or, map, Option, Some, None, refl, sym, ap, subst, ◌∙◌, ⊎_elim, arith, ◌⊎◌, All, Contains, filter, find, is_none, first_so, second_so, position_from, option_and_then, option_map, option_map_or, bytes_eq, bytes_decides, rules, common_steps, nat_tests}
 use Rattle.modules.proofs.Lemmas.{and_from, and_parts, cases_lt, eq-eqb, eqb-true, le-leb, leb-true, lt-ltb, ltb-true, ne_eqb, or_cases, or_left, or_parts, or_right, position_from-zero, All-append, All-cons, All-contains, All-head, All-nil, All-tail, list_any_at, position-Some, AllPass-from_list_all, list_all-from_AllPass, Contains-slice_get, find-agree, find-filter, find-has, find-passes, find_place}
 use Rattle.modules.proofs.Definitions.{is_built_in, HaveFirstLines, kernel_marks, line_marks, mark_of, marks_of, name_of, number_for, number_in, ListedSymbol, StandsFor, GoesOn, IsFirstMark, IsNearestMark, IsNextMark, Owns, goes_on, is_in_page, is_nearest_line, is_next_line, is_of_one_module, is_outside, module_of_address, post_above, post_below, posts, reach, holds, lies_in_any, Mark}
 use Rattle.modules.proofs.KeptLemmas.{not_built_in}
@@ -150,11 +150,7 @@ found_behind (r ∷ rs) ms a valid out =
 -- and none is a module's
 module_behind : (kernel : List (ℕ × ℕ)) (ms : List Mark) (m : Mark) → m.owner ≢ 0 → find (is_at m.addr) (kernel_marks kernel ++ ms) ≡ Some m → find (is_at m.addr) ms ≡ Some m
 module_behind [] ms m some h = h
-module_behind (r ∷ rs) ms m some h =
-    elim (nat_eq r.0 m.addr) as (λ b. cond b (Some (first_of r)) (find (is_at m.addr) (kernel_marks rs ++ ms)) ≡ Some m → find (is_at m.addr) ms ≡ Some m) [
-      | true ↦ λ e. let same : first_of r ≡ m = cc in absurd (some (sym (ap (λ (s : Mark). s.owner) same)))
-      | false ↦ λ e. module_behind rs ms m some e
-    ] h
+module_behind (r ∷ rs) ms m some h = grind (arith, common_steps, nat_tests, is_at, module_behind rs ms m some)
 
 all_behind : (Q : Mark → Type 0) (kernel : List (ℕ × ℕ)) (ms : List Mark) → All Q (kernel_marks kernel ++ ms) → All Q ms
 all_behind Q [] ms all = all
@@ -324,14 +320,7 @@ module _ (names : List (List ℕ)) (lines : List ListedSymbol) where
   from_goes_on kernel n x name l has is own h =
       let ps : List ListedSymbol = posts kernel lines in
       let (t, at, its, near) = next_near kernel x l name own h in
-      let next : IsNextOf ps x t.addr = next_line_is ps x t (find-passes (is_next_line ps x) ps t at) in
-      let found : find (is_line_at t.addr) ps ≡ Some t = sym (next_by_address ps x t (listed_found (is_next_line ps x) ps t at) next) ∙ at in
-      record {
-        mark = mark_of names t;
-        next = mark_next (marks_of kernel names lines) x (mark_of names t) (next_marks kernel x t.addr has next) (mark_of_first kernel t has (found_outside kernel (is_next_line ps x) t name at its) found);
-        its = ap (number_for names) (its ∙ sym own);
-        near = near;
-      }
+      grind (arith, common_steps, nat_tests, next_near, next_line_is, find-passes, next_by_address, listed_found, mark_next, next_marks, mark_of_first, found_outside, next_line_is ps x t (find-passes (is_next_line ps x) ps t at), find-passes (is_next_line ps x) ps t at, next_by_address ps x t (listed_found (is_next_line ps x) ps t at), listed_found (is_next_line ps x) ps t at, mark_next (marks_of kernel names lines) x (mark_of names t), next_marks kernel x t.addr has, mark_of_first kernel t has (found_outside kernel (is_next_line ps x) t name at its), found_outside kernel (is_next_line ps x) t name at its)
 
   -- ---- whose an address is
 
@@ -345,32 +334,14 @@ module _ (names : List (List ℕ)) (lines : List ListedSymbol) where
       let (l, line) = line_of_first kernel m (λ zero. some (sym o.its ∙ zero)) o.nearest.its in
       let addr : m.addr ≡ l.addr = sym (ap (λ (s : Mark). s.addr) line.made) in
       let near : IsNearestIn (marks_of kernel names lines) x l.addr = subst (λ a. IsNearestIn (marks_of kernel names lines) x a) addr (record { below = o.nearest.below; clear = o.nearest.clear }) in
-      let found : post_below ps x ≡ Some l = nearest_by_address ps x l (listed_found (is_line_at l.addr) ps l line.first) (near_posts kernel x l.addr line.out near) ∙ line.first in
-      let reached : (is_in_page l.addr x || goes_on ps x l) ≡ true = ⊎_elim
-      (λ page. or_left (is_in_page l.addr x) (goes_on ps x l) (subst (λ a. is_in_page a x ≡ true) addr page))
-      (λ on. or_right (is_in_page l.addr x) (goes_on ps x l) (to_goes_on kernel n x name m l some is o.its line near on))
-      o.reached in
-      ap (option_and_then (λ (t : ListedSymbol). cond (is_in_page t.addr x || goes_on ps x t) t.owner None)) found
-      ∙ ap (λ b. cond b l.owner None) reached
-      ∙ owner_of_line kernel m l n name some is o.its line
+      grind (arith, common_steps, nat_tests, line_of_first, nearest_by_address, listed_found, near_posts, or_left, or_right, to_goes_on, owner_of_line, nearest_by_address ps x l (listed_found (is_line_at l.addr) ps l line.first) (near_posts kernel x l.addr line.out near), listed_found (is_line_at l.addr) ps l line.first, near_posts kernel x l.addr line.out near, or_left (is_in_page l.addr x) (goes_on ps x l), or_right (is_in_page l.addr x) (goes_on ps x l), to_goes_on kernel n x name m l some is, owner_of_line kernel m l n name some is o.its)
 
   from_lines : (kernel : List (ℕ × ℕ)) (n x : ℕ) (name : List ℕ) → HaveFirstLines kernel lines → n ≢ 0 → number_in names name ≡ n → module_of_address (posts kernel lines) x ≡ Some name → Owns (marks_of kernel names lines) n x
   from_lines kernel n x name has some is h =
       let ps : List ListedSymbol = posts kernel lines in
       let (l, at, reached, own) = owned ps x name (post_below ps x) h in
       let near : IsNearestOf ps x l.addr = nearest_line_is ps x l (find-passes (is_nearest_line ps x) ps l at) in
-      let found : find (is_line_at l.addr) ps ≡ Some l = sym (nearest_by_address ps x l (listed_found (is_nearest_line ps x) ps l at) near) ∙ at in
-      let out : is_inside kernel l.addr ≡ false = found_outside kernel (is_nearest_line ps x) l name at own in
-      record {
-        mark = mark_of names l;
-        nearest = mark_nearest (marks_of kernel names lines) x (mark_of names l) (near_marks kernel x l.addr has near) (mark_of_first kernel l has out found);
-        its = ap (number_for names) own ∙ is;
-        reached = ⊎_elim
-            (λ page. inl page)
-            (λ on. inr (from_goes_on kernel n x name l has is own on))
-            (or_cases (is_in_page l.addr x) (goes_on ps x l) reached);
-        some = some;
-      }
+      grind (arith, common_steps, nat_tests, owned, nearest_line_is, find-passes, nearest_by_address, listed_found, found_outside, mark_nearest, near_marks, mark_of_first, from_goes_on, or_cases, nearest_by_address ps x l (listed_found (is_nearest_line ps x) ps l at) near, listed_found (is_nearest_line ps x) ps l at, found_outside kernel (is_nearest_line ps x) l name at own, mark_nearest (marks_of kernel names lines) x (mark_of names l) (near_marks kernel x l.addr has near), near_marks kernel x l.addr has near, mark_of_first kernel l has, from_goes_on kernel n x name l has is own, or_cases (is_in_page l.addr x) (goes_on ps x l) reached)
 
   -- the marks of a number stand for the posts of the module of its name
   pub marks_stand : (kernel : List (ℕ × ℕ)) (n : ℕ) (name : List ℕ) → HaveFirstLines kernel lines → n ≢ 0 → number_in names name ≡ n → StandsFor (marks_of kernel names lines) (posts kernel lines) n name

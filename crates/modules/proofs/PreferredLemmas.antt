@@ -1,7 +1,7 @@
 -- The preferred symbol of a list is the first that no other one wins against.
-use Rattle.modules.proofs.Words.{◌≡◌, ℕ, Bool, true, false, ◌&&◌, ◌||◌, not, nat_lt, nat_le, cond, List, [], ◌∷◌, get_or, Some, None, refl, sym, ap, ◌∙◌, ⊎_elim, arith, find, filter, fold, first_so, second_so, list_all, list_any, option_map}
+use Rattle.modules.proofs.Words.{◌≡◌, ℕ, Bool, true, false, ◌&&◌, ◌||◌, not, nat_lt, nat_le, cond, List, [], ◌∷◌, Some, None, refl, sym, ap, ◌∙◌, ⊎_elim, arith, find, filter, fold, first_so, second_so, list_all, list_any, option_map, common_steps, nat_tests}
 use Rattle.modules.proofs.Lemmas.{cases_lt, lt-ltb, le-ltb, lt-leb, le-leb, ltb-true, ltb-false, find-agree, find-filter, list_all-agree, list_all-filter}
-use Rattle.modules.proofs.Definitions.{address_above, is_nearest, is_next, symbol_below, SymbolEntry, preferred, is_above, is_below, highest_of, lowest_of}
+use Rattle.modules.proofs.Definitions.{address_above, symbol_below, SymbolEntry, preferred, is_above, is_below, highest_of, lowest_of}
 
 -- no symbol of the list wins against it
 abbrev pub is_unbeaten : (SymbolEntry → SymbolEntry → Bool) → List SymbolEntry → SymbolEntry → Bool
@@ -22,34 +22,18 @@ not_true b h = grind arith
 
 between_any : (wins : SymbolEntry → SymbolEntry → Bool) → IsOrder wins → (x u : SymbolEntry) (xs : List SymbolEntry) → list_any (λ t. wins t x) xs ≡ true → is_unbeaten wins xs u ≡ true → wins x u ≡ false
 between_any wins order x u [] some best = absurd (cc)
-between_any wins order x u (t ∷ ts) some best =
-    let here : wins t u ≡ false = not_true (wins t u) (first_so (not (wins t u)) (is_unbeaten wins ts u) best) in
-    let rest : is_unbeaten wins ts u ≡ true = second_so (not (wins t u)) (is_unbeaten wins ts u) best in
-    elim (wins t x) as (λ b. wins t x ≡ b → (b || list_any (λ s. wins s x) ts) ≡ true → wins x u ≡ false) [
-      | true ↦ λ yes _. order.between t x u yes here
-      | false ↦ λ _ more. between_any wins order x u ts more rest
-    ] refl some
+between_any wins order x u (t ∷ ts) some best = grind (arith, common_steps, nat_tests, not_true, first_so, second_so, between_any wins order x u ts)
 
 over_any : (wins : SymbolEntry → SymbolEntry → Bool) → IsOrder wins → (x a : SymbolEntry) (xs : List SymbolEntry) → wins x a ≡ false → list_any (λ t. wins t a) xs ≡ true → list_any (λ t. wins t x) xs ≡ true
 over_any wins order x a [] lost some = absurd (cc)
-over_any wins order x a (t ∷ ts) lost some =
-    elim (wins t a) as (λ b. wins t a ≡ b → (b || list_any (λ s. wins s a) ts) ≡ true → (wins t x || list_any (λ s. wins s x) ts) ≡ true) [
-      | true ↦ λ yes _. let is : wins t x ≡ true = order.over t x a lost yes in rw is refl
-      | false ↦ λ _ more. let is : list_any (λ s. wins s x) ts ≡ true = over_any wins order x a ts lost more in elim (wins t x) as (λ b. (b || list_any (λ s. wins s x) ts) ≡ true) [ true ↦ refl | false ↦ is ]
-    ] refl some
+over_any wins order x a (t ∷ ts) lost some = grind (arith, common_steps, nat_tests, over_any wins order x a ts lost)
 
 -- where the first symbol is beaten, it tells nothing apart
 beaten_first : (wins : SymbolEntry → SymbolEntry → Bool) → IsOrder wins → (x : SymbolEntry) (xs : List SymbolEntry) → list_any (λ t. wins t x) xs ≡ true → find (λ u. not (wins x u) && is_unbeaten wins xs u) xs ≡ find (is_unbeaten wins xs) xs
 beaten_first wins order x xs some = grind (arith, find-agree, between_any)
 
 first_unbeaten : (wins : SymbolEntry → SymbolEntry → Bool) → IsOrder wins → (x : SymbolEntry) (xs : List SymbolEntry) → find (is_unbeaten wins (x ∷ xs)) (x ∷ xs) ≡ cond (list_any (λ t. wins t x) xs) (find (is_unbeaten wins xs) xs) (Some x)
-first_unbeaten wins order x xs =
-    let self : wins x x ≡ false = order.irreflexive x in
-    let none : is_unbeaten wins xs x ≡ not (list_any (λ t. wins t x) xs) = none_wins wins x xs in
-    elim (list_any (λ t. wins t x) xs) as (λ b. list_any (λ t. wins t x) xs ≡ b → cond (not (wins x x) && is_unbeaten wins xs x) (Some x) (find (λ u. not (wins x u) && is_unbeaten wins xs u) xs) ≡ cond b (find (is_unbeaten wins xs) xs) (Some x)) [
-      | true ↦ λ some. let no : is_unbeaten wins xs x ≡ false = none ∙ ap not some in rw (self, no) (beaten_first wins order x xs some)
-      | false ↦ λ all. let yes : is_unbeaten wins xs x ≡ true = none ∙ ap not all in rw (self, yes) refl
-    ] refl
+first_unbeaten wins order x xs = grind (arith, common_steps, nat_tests, none_wins, beaten_first, none_wins wins x xs, beaten_first wins order x xs)
 
 folded : (wins : SymbolEntry → SymbolEntry → Bool) → IsOrder wins → (a : SymbolEntry) (xs : List SymbolEntry) → fold (preferred wins) (Some a) xs ≡ cond (list_any (λ t. wins t a) xs) (find (is_unbeaten wins xs) xs) (Some a)
 folded wins order a [] = refl
@@ -85,19 +69,7 @@ next_test t s q = ap (λ b. b || not (nat_lt t s)) (not_lt q t) ∙ ap (λ b. na
 -- ---- the symbols around an address
 
 pub below_is_highest : (symbols : List SymbolEntry) (addr : ℕ) → symbol_below symbols addr ≡ highest_of (filter (λ s. nat_le s.addr addr) symbols)
-below_is_highest symbols addr =
-    let under : SymbolEntry → Bool = λ s. nat_le s.addr addr in
-    sym (preferred_is_unbeaten is_above above_order (filter under symbols)
-    ∙ find-filter (is_unbeaten is_above (filter under symbols)) under symbols
-    ∙ find-agree (λ s. under s && is_unbeaten is_above (filter under symbols) s) (is_nearest symbols addr) symbols (λ k d lt.
-    let s = get_or symbols k d in
-    ap (λ b. nat_le s.addr addr && b) (list_all-filter (λ t. not (is_above t s)) under symbols ∙ list_all-agree (λ (t : SymbolEntry). not (under t) || not (is_above t s)) (λ (t : SymbolEntry). nat_le t.addr s.addr || nat_lt addr t.addr) symbols (λ j e l. nearest_test (get_or symbols j e).addr s.addr addr))))
+below_is_highest symbols addr = grind (arith, common_steps, nat_tests, preferred_is_unbeaten, find-filter, find-agree, list_all-filter, list_all-agree, nearest_test, preferred_is_unbeaten is_above above_order)
 
 pub above_is_lowest : (symbols : List SymbolEntry) (addr : ℕ) → address_above symbols addr ≡ option_map (λ s. s.addr) (lowest_of (filter (λ s. nat_lt addr s.addr) symbols))
-above_is_lowest symbols addr =
-    let over : SymbolEntry → Bool = λ s. nat_lt addr s.addr in
-    ap (option_map (λ (s : SymbolEntry). s.addr)) (sym (preferred_is_unbeaten is_below below_order (filter over symbols)
-    ∙ find-filter (is_unbeaten is_below (filter over symbols)) over symbols
-    ∙ find-agree (λ s. over s && is_unbeaten is_below (filter over symbols) s) (is_next symbols addr) symbols (λ k d lt.
-    let s = get_or symbols k d in
-    ap (λ b. nat_lt addr s.addr && b) (list_all-filter (λ t. not (is_below t s)) over symbols ∙ list_all-agree (λ (t : SymbolEntry). not (over t) || not (is_below t s)) (λ (t : SymbolEntry). nat_le t.addr addr || nat_le s.addr t.addr) symbols (λ j e l. next_test (get_or symbols j e).addr s.addr addr)))))
+above_is_lowest symbols addr = grind (arith, common_steps, nat_tests, preferred_is_unbeaten, find-filter, find-agree, list_all-filter, list_all-agree, next_test, preferred_is_unbeaten is_below below_order)

@@ -1,5 +1,5 @@
 -- Lines that have the name of their module by their run.
-use Rattle.modules.proofs.Words.{◌≡◌, ℕ, zero, suc, ◌<◌, Bool, true, false, not, ◌&&◌, ◌||◌, ◌==◌, cond, List, [], ◌∷◌, ◌++◌, length, map, take, drop, get_or, Some, None, Option, refl, sym, ap, ◌∙◌, arith, append_assoc, find, is_none, is_some, Bor, list_any, option_copied, option_map, bytes_eq}
+use Rattle.modules.proofs.Words.{◌≡◌, ℕ, zero, suc, ◌<◌, Bool, true, false, not, ◌&&◌, ◌||◌, ◌==◌, List, [], ◌∷◌, ◌++◌, length, map, take, drop, get_or, Some, None, Option, refl, sym, ap, ◌∙◌, arith, append_assoc, find, is_none, is_some, Bor, list_any, option_copied, option_map, bytes_eq, common_steps, nat_tests}
 use Rattle.modules.proofs.Lemmas.{map-append, append-nil, ne_eqb, list_any-append, flat_map-append}
 use Rattle.modules.proofs.Definitions.{SymbolEntry, first_address, ListedSymbol, line_of, lines_of_run, lines_of_all, Run}
 
@@ -23,18 +23,12 @@ first_of_kernel name (s ∷ ss) = grind (arith, first_of_kernel name ss)
 -- where the first lines have none of this name, the others decide
 pub first_address-append : (name : List ℕ) (xs ys : List ListedSymbol) → first_address name xs ≡ None → first_address name (xs ++ ys) ≡ first_address name ys
 first_address-append name [] ys none = refl
-first_address-append name (x ∷ xs) ys none =
-    elim (is_none x.owner && bytes_eq x.name name) as (λ b. option_map (λ (l : ListedSymbol). l.addr) (cond b (Some x) (find (λ (l : ListedSymbol). is_none l.owner && bytes_eq l.name name) xs)) ≡ None → option_map (λ (l : ListedSymbol). l.addr) (cond b (Some x) (find (λ (l : ListedSymbol). is_none l.owner && bytes_eq l.name name) (xs ++ ys))) ≡ first_address name ys)
-    [ true ↦ λ e. cc | false ↦ λ e. first_address-append name xs ys e ]
-    none
+first_address-append name (x ∷ xs) ys none = grind (arith, common_steps, nat_tests, first_address-append name xs ys)
 
 -- and where they have one, it is the first
 pub first_address-front : (name : List ℕ) (xs ys : List ListedSymbol) (addr : ℕ) → first_address name xs ≡ Some addr → first_address name (xs ++ ys) ≡ Some addr
 first_address-front name [] ys addr some = cc
-first_address-front name (x ∷ xs) ys addr some =
-    elim (is_none x.owner && bytes_eq x.name name) as (λ b. option_map (λ (l : ListedSymbol). l.addr) (cond b (Some x) (find (λ (l : ListedSymbol). is_none l.owner && bytes_eq l.name name) xs)) ≡ Some addr → option_map (λ (l : ListedSymbol). l.addr) (cond b (Some x) (find (λ (l : ListedSymbol). is_none l.owner && bytes_eq l.name name) (xs ++ ys))) ≡ Some addr)
-    [ true ↦ λ e. e | false ↦ λ e. first_address-front name xs ys addr e ]
-    some
+first_address-front name (x ∷ xs) ys addr some = grind (arith, common_steps, nat_tests, first_address-front name xs ys addr)
 
 -- of a run
 pub first_of_some : (m : Option (Bor (List ℕ))) (name : List ℕ) (ss : List SymbolEntry) → is_some m ≡ true → None ≡ first_address name (map (line_of (option_copied m)) ss)

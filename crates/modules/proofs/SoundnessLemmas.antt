@@ -16,11 +16,7 @@ AreDistinct-push names n distinct absent = grind (arith, common_steps, all_pairs
 -- regions that lie beside those taken still do once a region that is apart from them is taken too
 pub beside_more : (taken_regions : List (ℕ × ℕ)) (r : ℕ × ℕ) (rs : List (ℕ × ℕ)) → are_beside taken_regions rs ≡ true → list_all (is_apart r) rs ≡ true → are_beside (taken_regions ++ r ∷ []) rs ≡ true
 beside_more taken_regions r [] h k = refl
-beside_more taken_regions r (x ∷ xs) h k =
-    let old = and_parts (list_all (is_apart x) taken_regions) (are_beside taken_regions xs) h in
-    let new = and_parts (is_apart r x) (list_all (is_apart r) xs) k in
-    let first : list_all (is_apart x) (taken_regions ++ r ∷ []) ≡ true = list_all-append (is_apart x) taken_regions (r ∷ []) ∙ and_from (list_all (is_apart x) taken_regions) (is_apart x r && true) old.0 (and_from (is_apart x r) true (turned r x new.0) refl) in
-    and_from (list_all (is_apart x) (taken_regions ++ r ∷ [])) (are_beside (taken_regions ++ r ∷ []) xs) first (beside_more taken_regions r xs old.1 new.1)
+beside_more taken_regions r (x ∷ xs) h k = grind (arith, common_steps, nat_tests, and_parts, list_all-append, and_from, turned, beside_more taken_regions r xs)
 
 -- regions that lie apart, and beside those taken, are taken too
 pub AreApart-append : (taken_regions rs : List (ℕ × ℕ)) → AreApart taken_regions → All (λ r. r.0 < r.1) rs → lie_apart rs ≡ true → are_beside taken_regions rs ≡ true → AreApart (taken_regions ++ rs)

@@ -36,21 +36,10 @@ module _ (r : Range) (rs : List Range) (s : Range) (ss : List Range) (r_valid : 
   in_first x le lt = sub x (or_left (holds r x) (lies rs x) (within r x le lt))
 
   first_ge : s.0 ≤ r.0
-  first_ge =
-      ⊎_elim
-      (λ here. (inside s r.0 here).0)
-      (λ rest. let a : s.1 < r.0 = above ss s.1 r.0 s_last rest in omega arith)
-      (or_cases (holds s r.0) (lies ss r.0) (in_first r.0 (omega arith) r_valid))
+  first_ge = grind (arith, common_steps, nat_tests, inside, above, or_cases, in_first, inside s r.0, above ss s.1 r.0 s_last, or_cases (holds s r.0) (lies ss r.0) (in_first r.0 (omega arith) r_valid), in_first r.0 (omega arith) r_valid)
 
   end_le : r.0 ≡ s.0 → r.1 ≤ s.1
-  end_le same =
-      ⊎_elim
-      (λ past. absurd (⊎_elim
-      (λ here. let (le, lt) = inside s s.1 here in omega arith)
-      (λ rest. let a : s.1 < s.1 = above ss s.1 s.1 s_last rest in omega arith)
-      (or_cases (holds s s.1) (lies ss s.1) (in_first s.1 (omega arith) past))))
-      (λ le. le)
-      (cases_lt s.1 r.1)
+  end_le same = grind (arith, common_steps, nat_tests, inside, above, or_cases, in_first, cases_lt, inside s s.1, above ss s.1 s.1 s_last, or_cases (holds s s.1) (lies ss s.1), in_first s.1 (omega arith), cases_lt s.1 r.1)
 
   tail_sub : r.1 ≡ s.1 → (x : ℕ) → lies rs x ≡ true → lies ss x ≡ true
   tail_sub same x h = grind (arith, common_steps, nat_tests, above, inside, or_cases, or_right, above rs r.1 x r_last h)
@@ -89,11 +78,7 @@ pub same_modules : (lines : List ListedSymbol) (ms ns : List PlacedModule) → m
 same_modules lines [] [] e p q = refl
 same_modules lines [] (n ∷ ns) e p q = absurd (cc)
 same_modules lines (m ∷ ms) [] e p q = absurd (cc)
-same_modules lines (m ∷ ms) (n ∷ ns) e p q =
-    let name : m.name ≡ n.name = cc in
-    let rest : map (λ (x : PlacedModule). x.name) ms ≡ map (λ (x : PlacedModule). x.name) ns = cc in
-    ap (λ x. x ∷ ms) (one_module lines m n (All-head (HasItsRegions lines) m ms p) (All-head (HasItsRegions lines) n ns q) name)
-    ∙ ap (λ xs. n ∷ xs) (same_modules lines ms ns rest (All-tail (HasItsRegions lines) m ms p) (All-tail (HasItsRegions lines) n ns q))
+same_modules lines (m ∷ ms) (n ∷ ns) e p q = grind (arith, common_steps, nat_tests, one_module, All-head, All-tail, same_modules lines ms ns, one_module lines m n (All-head (HasItsRegions lines) m ms p) (All-head (HasItsRegions lines) n ns q), All-head (HasItsRegions lines) m ms p, All-head (HasItsRegions lines) n ns q, All-tail (HasItsRegions lines) m ms p, All-tail (HasItsRegions lines) n ns q)
 
 pub same_accepted : (names : Option BoundNames) (lines : List ListedSymbol) (a b : Accepted) → IsFromSymbols names lines a → IsFromSymbols names lines b → a ≡ b
 same_accepted names lines a b p q =

@@ -68,11 +68,7 @@ absent_from_apart m ordered spread a b some apart =
 
 -- the test by one neighbour
 pub tested_by_last : (m : BTreeMap ℕ ℕ) → IsOrdered nat_cmp m → IsSpread m.entries → (a b s e : ℕ) → get nat_cmp m s ≡ Some e → s < b → ((q : ℕ) → q < b → IsSome (get nat_cmp m q) → q ≤ s) → nat_le e a ≡ list_all (is_apart (a, b)) m.entries
-tested_by_last m ordered spread a b s e found below last =
-    ⊎_elim
-    (λ over. let is : list_all (is_apart (a, b)) m.entries ≡ false = meets_from_found m ordered a b s e found below over in rw is (grind (arith, nat_tests)))
-    (λ ends. let is : list_all (is_apart (a, b)) m.entries ≡ true = apart_from_last m ordered spread a b s e found last ends in rw is (grind (arith, nat_tests)))
-    (cases_lt a e)
+tested_by_last m ordered spread a b s e found below last = grind (arith, common_steps, nat_tests, meets_from_found, apart_from_last, cases_lt, meets_from_found m ordered a b s e found below, apart_from_last m ordered spread a b s e found, cases_lt a e)
 
 -- regions stay spread where one more that is apart from all is put in
 pub IsSpread-inserted : (m n : BTreeMap ℕ ℕ) → IsOrdered nat_cmp m → IsOrdered nat_cmp n → (a b : ℕ) → a < b → IsSpread m.entries → list_all (is_apart (a, b)) m.entries ≡ true → Updates nat_cmp m n a (Some b) → IsSpread n.entries

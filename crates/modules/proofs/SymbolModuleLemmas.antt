@@ -1,5 +1,5 @@
 -- The modules of a listing that is kept in runs.
-use Rattle.std.proofs.Common.{◌≡◌, ℕ, List, Option, ap, subst, ◌∙◌, arith}
+use Rattle.std.proofs.Common.{◌≡◌, ℕ, List, Option, arith}
 use Rattle.modules.proofs.Words.{common_steps, nat_tests}
 use Rattle.modules.proofs.Definitions.{Item, accepted_with, IsFromSymbols, AreNamed, kept_numbers, marks_of, modules_numbered, kernel_regions, BoundNames, ListedSymbol, AreRegions, PlacedModule, lines_of_all, Mark, Run}
 use Rattle.modules.proofs.KeptOrderLemmas.{from_symbols}
@@ -8,12 +8,4 @@ use Rattle.modules.proofs.KeptOrderLemmas.{from_symbols}
 pub found_modules : (bounds : Option BoundNames) (kernel : List (ℕ × ℕ)) (names : List (List ℕ)) (runs : List Run) (lines : List ListedSymbol) (marks : List Mark) (items : List Item) (modules : List PlacedModule)
     → lines_of_all runs ≡ lines → AreNamed names (lines_of_all runs) → marks ≡ marks_of kernel names (lines_of_all runs) → AreRegions marks items
     → modules ≡ modules_numbered names items (kept_numbers items marks) → kernel ≡ kernel_regions bounds lines → IsFromSymbols bounds lines (accepted_with kernel modules)
-found_modules bounds kernel names runs lines marks items modules shown named are regions is at =
-    let built_in : List (ℕ × ℕ) = kernel_regions bounds lines in
-    let same : marks ≡ marks_of built_in names lines =
-    are
-    ∙ ap (λ (ls : List ListedSymbol). marks_of kernel names ls) shown
-    ∙ ap (λ (k : List (ℕ × ℕ)). marks_of k names lines) at in
-    let all : AreNamed names lines = subst (λ (ls : List ListedSymbol). AreNamed names ls) shown named in
-    let found = from_symbols bounds lines names items all (subst (λ (ms : List Mark). AreRegions ms items) same regions) in
-    grind (arith, common_steps, nat_tests, from_symbols)
+found_modules bounds kernel names runs lines marks items modules shown named are regions is at = grind (arith, common_steps, nat_tests, from_symbols, from_symbols bounds lines names items)

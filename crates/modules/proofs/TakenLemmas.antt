@@ -3,7 +3,6 @@ use Rattle.modules.proofs.Words.{◌≡◌, ◌≢◌, ℕ, zero, suc, zero-add,
 use Rattle.modules.proofs.Lemmas.{set, length-set, cases_eq, eqb-true, eq-eqb, ne_eqb, or_parts, append-nil, get_or-set_other, get_or_default, map-append, take_more, All-contains, count_by-le-length, sum_by-append, sum_by-cons, get_or-set_at, look_is}
 use Rattle.modules.proofs.Definitions.{Item, half_open, look, AreLeft, is_kept_mark, kept_numbers, modules_numbered, name_of, with_number, numbered_module, ranges_of, AreLaid, AreRegions, HoldsFor, PlacedModule, AreRising, Mark}
 use Rattle.modules.proofs.MarkedModuleLemmas.{from_holds, spaced, valid_ranges}
-use Rattle.modules.proofs.SpacedLemmas.{lies}
 
 -- ---- the ranges of one item more
 
@@ -38,9 +37,7 @@ kept_number count items m numbered kept = grind (arith, kept_item, All-contains)
 kept_ranges : (items : List Item) (m : Mark) → All (λ i. i.a < i.b) items → is_kept_mark items m ≡ true → ranges_of m.owner items ≢ []
 kept_ranges items m valid kept none =
     let (i, there, its) = kept_item items m kept in
-    let some : i.a < i.b = All-contains (λ (x : Item). x.a < x.b) items i valid there in
-    let holds : lies (ranges_of m.owner items) i.a ≡ true = from_holds m.owner items i.a i there its (omega arith) some in
-    grind (arith, common_steps, nat_tests, kept_item, All-contains, lies, from_holds)
+    grind (arith, common_steps, nat_tests, kept_item, All-contains, from_holds, from_holds m.owner items i.a i there its (omega arith))
 
 -- ---- what a kept mark takes
 
