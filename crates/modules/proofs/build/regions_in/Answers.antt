@@ -4,6 +4,3 @@ use Rattle.modules.proofs.build.regions_in.Goals as goal
 
 pub overflow_add-count : goal.overflow_add-count
 overflow_add-count c = grind (arith, common_steps, length-flat_map_take)
-
-pub loop-module-preserved : goal.loop-module-preserved
-loop-module-preserved c = grind (arith, common_steps)
