@@ -15,6 +15,8 @@ pub mod BothLemmas
 pub mod ShallowLemmas
 pub mod LatchedLemmas
 pub mod WideningLemmas
+pub mod ReplacementLemmas
+pub mod ReplacedLemmas
 pub mod AttemptLemmas
 pub mod RestLemmas
 pub mod LoadingLemmas

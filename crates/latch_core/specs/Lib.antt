@@ -19,6 +19,8 @@ pub mod Changes
 pub mod Writers
 -- a writer's core at rest that goes on with more nodes
 pub mod Widening
+-- the items of a table replaced by others, as one update
+pub mod Replacements
 -- whole attempts
 pub mod Whole
 -- what a reader's core has still to do, and how the values that it takes lead it on

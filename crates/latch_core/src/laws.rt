@@ -1,8 +1,8 @@
 //! What holds of every attempt and of every step of a writer, as contracts of functions that do
 //! nothing.
 
-ghost use Rattle.std.specs.Prelude.{◌≡◌, ℕ, ◌+◌, ◌*◌, ◌^◌, ◌<◌, ◌≤◌, ◌⊎◌, false, List, [], ◌∷◌};
-ghost use Rattle.std.specs.Prelude.{◌++◌, length, Some, None};
+ghost use Rattle.std.specs.Prelude.{◌≡◌, ℕ, ◌+◌, ◌*◌, ◌^◌, ◌<◌, ◌≤◌, ◌⊎◌, true, false, List, []};
+ghost use Rattle.std.specs.Prelude.{◌∷◌, ◌++◌, length, Some, None};
 ghost use Rattle.order_laws.specs.declared.items.Item.{Item};
 ghost use Rattle.order_laws.specs.Tables.{IsTable, look};
 ghost use Rattle.word_layout.specs.declared.stores.Store.{Store};
@@ -11,7 +11,7 @@ ghost use Rattle.word_layout.specs.Stores.{words_after};
 ghost use Rattle.table_updates.specs.declared.updates.Update.{Update};
 ghost use Rattle.rb_trees.specs.Trees.{IsBalanced, depth};
 ghost use Rattle.latch_core.specs.Sequences.{generation_of, stable_copy_of};
-ghost use Rattle.table_updates.specs.Updates.{refusal_for};
+ghost use Rattle.table_updates.specs.Updates.{after, refusal_for};
 ghost use Rattle.latch_core.specs.Attempts.{Reading, Load, Outcome, Answer, attempt, rest_after};
 ghost use Rattle.latch_core.specs.Attempts.{IsAttempt, Stand};
 ghost use Rattle.latch_core.specs.Whole.{GoesOn};
@@ -19,6 +19,7 @@ ghost use Rattle.latch_core.specs.Latches.{Latch, PendingUpdate, IsWriterStep, l
 ghost use Rattle.latch_core.specs.Latches.{latch_with_update, opening_latch};
 ghost use Rattle.latch_core.specs.Invariants.{IsStanding, IsSound};
 ghost use Rattle.latch_core.specs.Widening.{widened_latch};
+ghost use Rattle.latch_core.specs.Replacements.{replacement, is_rising};
 
 use order_laws::TreeOrder;
 
@@ -109,4 +110,14 @@ pub fn latch_stays_sound<O: TreeOrder>()
     ensures widen { (n n' start : ℕ) (us : List Update) (l : Latch)
         → n ≤ n' → IsSound O.order n start us l
         → IsSound O.order n' start us (widened_latch n n' l) }
+{}
+
+/// A table whose items are replaced by a list that rises is that list, where nothing stands against
+/// the update. Replaced by itself, it is left alone: the update is the batch of no entries.
+pub fn a_replacement_leaves_its_items<O: TreeOrder>()
+    ensures table { (n limit seq : ℕ) (table items : List Item)
+        → IsTable O.order table → length table ≤ n → is_rising O.order items ≡ true
+        → refusal_for O.order n limit false table seq (replacement table items) ≡ None
+        → after O.order table (replacement table items) ≡ items }
+    ensures itself { (table : List Item) → replacement table table ≡ Update.Batch [] [] }
 {}

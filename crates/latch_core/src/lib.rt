@@ -49,10 +49,12 @@ pub mod plain;
 mod plans;
 mod progress;
 pub mod readers;
+pub mod replacements;
 pub mod sequences;
 pub mod writers;
 
 pub use attempts::{Attempted, Loads, attempt_from, attempt_in};
 pub use readers::{ReaderCore, Taken};
+pub use replacements::{Difference, rises};
 pub use table_updates::{Entries, Update};
 pub use writers::WriterCore;

@@ -2,7 +2,8 @@
 
 ghost use Rattle.std.specs.Prelude.{◌≡◌, false, ◌↔◌, ◌+◌, ◌*◌, ◌<◌, ◌≤◌, [], Some, None, ◌||◌};
 ghost use Rattle.std.specs.Prelude.{IsTrue, IsSome, IfSome, IfOk, IfErr, OnOk, OnErr, length};
-ghost use Rattle.std.specs.Prelude.{vec_len, vec_capacity, IfNone, OnSome, All};
+ghost use Rattle.std.specs.Prelude.{List, vec_len, vec_capacity, IfNone, OnSome, All};
+ghost use Rattle.order_laws.specs.declared.items.Item.{Item};
 ghost use Rattle.order_laws.specs.Tables.{has, without_all};
 ghost use Rattle.word_layout.specs.declared.stores.Store.{Store};
 ghost use Rattle.word_layout.specs.Layouts.{capacity_of, limit_of};
@@ -20,12 +21,14 @@ ghost use Rattle.latch_core.specs.Writers.{RepresentsLatch, MayBeNext, StoresNex
 ghost use Rattle.latch_core.specs.Writers.{opening_writer, writer_after_step};
 ghost use Rattle.latch_core.specs.Widening.{why_not_widened, widened_writer, RepresentsWidened};
 ghost use Rattle.latch_core.specs.Widening.{IsWideningRefused};
+ghost use Rattle.latch_core.specs.Replacements.{replacement, update_found};
 
 use crate::changes::{plan_erases, plan_inserts};
 use crate::clashes::{in_order, some_overlap, some_twice};
 use crate::nodes::{add_nodes, all_nodes};
 use crate::plain::some_invalid;
 use crate::plans::Plan;
+use crate::replacements::Difference;
 use crate::sequences::{generation, is_spent};
 use order_laws::{Item, Refusal, TreeOrder};
 use rb_words::{STORES, Shape};
@@ -535,6 +538,15 @@ impl<O: TreeOrder> WriterCore<O> {
         ensures { IsTrue result ↔ (self.now.table ≡ []) }
     {
         self.len() == 0
+    }
+
+    /// What the table differs in from other items, of which nothing was told yet: whoever keeps the
+    /// words tells it the items. Takes no memory.
+    pub fn difference(&self) -> Difference
+        ensures { (table items : List Item) → update_found result items table
+            ≡ replacement table items }
+    {
+        Difference::new(*self.free.allocator())
     }
 
     /// The number of nodes and the greatest sequence.
