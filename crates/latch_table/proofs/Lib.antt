@@ -8,3 +8,4 @@ pub mod LookupLemmas
 pub mod MemoryLemmas
 pub mod OpeningLemmas
 pub mod EnlargingLemmas
+pub mod ReplacingLemmas

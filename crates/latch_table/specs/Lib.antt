@@ -6,5 +6,6 @@ pub mod Readers
 pub mod Memory
 pub mod Enlarging
 pub mod Adding
+pub mod Replacing
 pub mod Lookups
 pub mod Walks

@@ -9,6 +9,7 @@ use std::marker::Model;
 use std::sync::Arc;
 
 mod lookups;
+mod replacements;
 mod steps;
 mod updates;
 mod words;

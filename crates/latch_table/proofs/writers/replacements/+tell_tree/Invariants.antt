@@ -1,0 +1,4 @@
+use Rattle.latch_table.proofs.writers.replacements.+tell_tree.Given as goal
+
+abbrev pub decreases-tell_tree : goal.decreases-tell_tree
+decreases-tell_tree g l = l.most
