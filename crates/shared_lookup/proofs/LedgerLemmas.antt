@@ -1,17 +1,23 @@
 -- A writer at rest, before an update and after it.
-use Rattle.std.proofs.Common.{◌≡◌, ℕ, ◌+◌, ◌*◌, List, [], ◌∷◌, ◌++◌, length, take, Option, None, sym, ◌∙◌, ap, subst, ⊎_elim, arith}
-use Rattle.std.specs.Prelude.{IfOk, OnErr, is_some, Result, Ok, Err}
+use Rattle.std.proofs.Common.{◌≡◌, ℕ, ◌+◌, ◌*◌, false, cond, List, [], ◌∷◌, ◌++◌, length, take, Option, Some, None, inl, inr, sym, ◌∙◌, ap, subst, ⊎_elim, arith}
+use Rattle.std.specs.Prelude.{IfOk, OnErr, is_some, not, Result, Ok, Err}
 use Rattle.std.proofs.lemmas.List.{take-append-le, take_all}
+use Rattle.order_laws.specs.declared.items.Item.{Item}
 use Rattle.order_laws.specs.declared.refusals.Refusal.{Refusal}
+use Rattle.order_laws.specs.declared.refusals.Refusal.TheVariants.{Overlap}
 use Rattle.order_laws.specs.Orders.{half_open}
 use Rattle.facts.proofs.Lists.{slice_get-push_cases}
 use Rattle.word_layout.specs.Words.{at}
 use Rattle.table_updates.specs.declared.updates.Update.{Update}
 use Rattle.table_updates.specs.Updates.{refusal_for}
+use Rattle.latch_core.specs.Replacements.{replacement, replacing_refusal}
+use Rattle.latch_core.proofs.StepLemmas.{replay_push}
 use Rattle.latch_core.specs.Latches.{PendingUpdate}
 use Rattle.latch_core.specs.Invariants.{IsSound, IsPendingOf}
 use Rattle.latch_table.specs.Writers.{WriterState, writer_refusal}
-use Rattle.shared_lookup.specs.Ledgers.{LedgerState, AreAccepted, CarriesOut, HasNothingPending, ledger_of, ledger_sequence, refusal_at, with_entry}
+use Rattle.latch_table.specs.Replacing.{RefusesReplacing}
+use Rattle.shared_lookup.specs.Replacing.{IsReplacementOf, Replaces, RefusesReplacement}
+use Rattle.shared_lookup.specs.Ledgers.{LedgerState, Applies, AreAccepted, CarriesOut, HasNothingPending, RefusesEntry, ledger_of, ledger_sequence, ledger_table, refusal_at, with_entry}
 
 -- a log stays accepted with an update that nothing stands against
 pub accepted_entry : (l : LedgerState) (u : Update) → AreAccepted l → refusal_at l u ≡ None → AreAccepted (with_entry u l)
@@ -38,6 +44,16 @@ module _ (w : WriterState) (resting : HasNothingPending w) (sound : IsSound half
   same_why u = λ i.
       refusal_for half_open w.capacity w.limit (is_some (resting.rests i)) (sound.table_is i) (sequence_is i) u
 
+  -- and against a table of other items
+  pub same_why_replacing : (list : List Item)
+      → replacing_refusal half_open w.capacity w.limit (is_some w.latch.pending) w.latch.newest_table (at w.latch.words 0) list
+      ≡ replacing_refusal half_open w.capacity w.limit false (ledger_table (ledger_of w)) (ledger_sequence (ledger_of w)) list
+  same_why_replacing list = λ i.
+      replacing_refusal half_open w.capacity w.limit (is_some (resting.rests i)) (sound.table_is i) (sequence_is i) list
+
+  pub refuses_replacing : (list : List Item) (e : Refusal) → RefusesReplacing half_open w list e → RefusesReplacement list (ledger_of w) e
+  refuses_replacing list e why = ⊎_elim (λ r. inl (sym (same_why_replacing list) ∙ r)) (λ m. inr m) why
+
   -- a writer at rest that makes an update rests again
   pub rests_after : (w' : WriterState) (u : Update) (r : Result ℕ Refusal) → IfOk r (CarriesOut w u w') → OnErr r (w' ≡ w) → HasNothingPending w'
   rests_after w' u (Ok g) ok err =
@@ -47,3 +63,21 @@ module _ (w : WriterState) (resting : HasNothingPending w) (sound : IsSound half
         accepted = subst AreAccepted (sym (ap ledger_of ok.1)) (accepted_entry (ledger_of w) u resting.accepted (sym (same_why u) ∙ ok.0));
       }
   rests_after w' u (Err e) ok err = subst HasNothingPending (sym err) resting
+
+-- ---- a ledger whose table is replaced
+
+module _ (l : LedgerState) (list : List Item) (u : Update) (is : IsReplacementOf list l u) where
+  pub replaces : (l' : LedgerState) (g : ℕ) → Applies u l l' g → Replaces list l l' g
+  replaces l' g applied = (
+    is.0,
+    subst (λ v. Applies v l l' g) is.1 applied,
+    ap ledger_table applied.1 ∙ replay_push half_open [] l.log u ∙ is.2 applied.0,
+  )
+
+  why_is : replacing_refusal half_open l.capacity l.limit false (ledger_table l) (ledger_sequence l) list ≡ refusal_at l u
+  why_is =
+      ap (λ b. cond (not b) (Some Overlap) (refusal_for half_open l.capacity l.limit false (ledger_table l) (ledger_sequence l) (replacement (ledger_table l) list))) is.0
+      ∙ ap (refusal_at l) (sym is.1)
+
+  pub refuses_replacement : (e : Refusal) → RefusesEntry u l e → RefusesReplacement list l e
+  refuses_replacement e why = ⊎_elim (λ r. inl (why_is ∙ r)) (λ m. inr m) why

@@ -5,6 +5,8 @@ pub mod Ledgers
 pub mod Logs
 -- a ledger that goes on with more nodes
 pub mod Enlarging
+-- a ledger whose table is replaced by other items
+pub mod Replacing
 -- what a load, an unload and the end of a module's start do to it
 pub mod Changes
 -- how many entries of a list a property holds of

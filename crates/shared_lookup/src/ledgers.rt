@@ -23,6 +23,7 @@ use table_updates::Update;
 use word_layout::Layout;
 
 mod enlarging;
+mod replacing;
 
 /// The one writer of a table, with no pending update between its calls, and every update that it
 /// accepted, in order.

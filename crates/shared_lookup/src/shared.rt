@@ -4,13 +4,14 @@ ghost use Rattle.std.specs.Prelude.{◌≡◌, None, Some};
 ghost use Rattle.shared_lookup.specs.Changes.{IsOutcomeOf};
 ghost use Rattle.shared_lookup.specs.Followings.{IsMadeBeside, IsOpenedAs};
 ghost use Rattle.shared_lookup.specs.Ledgers.{IsNamed};
+ghost use Rattle.shared_lookup.specs.Replacing.{IsOutcomeOfReplacing};
 
 use crate::changes::Change;
 use crate::gates::Gate;
 use crate::ledgers::Ledger;
 use latch_table::Reader;
 use modules::Catalog;
-use order_laws::{HalfOpen, Refusal};
+use order_laws::{HalfOpen, Item, Refusal};
 use std::marker::{Brand, Model, PhantomData};
 use std::sync::{Mutex, Wait};
 
@@ -95,6 +96,16 @@ impl<K: NamesTable> NamedLedger<K> {
         self.ledger = Some(ledger);
         (outcome, seat)
     }
+
+    /// One [`Ledger::replace`].
+    fn replace<G: Gate>(&mut self, g: &G, who: u32, list: &[Item]) -> Result<u64, Refusal>
+        ensures { IsOutcomeOfReplacing list.now result }
+    {
+        let Some(ledger) = &mut self.ledger else {
+            unreachable!()
+        };
+        ledger.replace(g, who, list)
+    }
 }
 
 /// A ledger that several threads change, one whole change at a time.
@@ -149,6 +160,20 @@ impl<K: NamesTable> SharedWriter<K> {
             result.1.knowledge.known result.0 }
     {
         self.ledger.lock(rt).change_beside(g, who, seat, c, ch)
+    }
+
+    /// One [`Ledger::replace`] in one taking of the lock: what it returns, the replacement returns
+    /// at some ledger.
+    pub fn replace<R: Wait, G: Gate>(
+        &self,
+        rt: &R,
+        g: &G,
+        who: u32,
+        list: &[Item],
+    ) -> Result<u64, Refusal>
+        ensures { IsOutcomeOfReplacing list.now result }
+    {
+        self.ledger.lock(rt).replace(g, who, list)
     }
 
     /// The ledger, where nobody else shares it.
