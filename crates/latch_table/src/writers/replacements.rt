@@ -2,8 +2,7 @@
 //!
 //! With no pending update the writer's seat reads the table from the words of copy 0, item by item
 //! from left to right, and tells each to a difference, which finds what is to be erased and what to
-//! be inserted. So an item that is in the table and in the list keeps its node, and memory is taken
-//! for what differs alone.
+//! be inserted. Memory is taken for what differs alone.
 
 ghost use Rattle.std.specs.Prelude.{◌≡◌, ◌<◌, [], true, IfOk, IfErr, OnOk};
 ghost use Rattle.std.specs.Borrow.{sem, RestsIfErr};
@@ -123,7 +122,7 @@ impl<O: TreeOrder> Writer<O> {
     }
 
     /// Begins the update that makes these items of the table ([`Writer::replacement`]): the table
-    /// after it is these items, and an item that it had already stays in its node.
+    /// after it is these items. An item that it had already is neither erased nor inserted.
     ///
     /// The items have to be valid and apart, and to rise, each less than the next. A table that has
     /// them already gets the batch of no entries, which counts as any update does. Refused by
