@@ -19,6 +19,8 @@ mod orders;
 #[cfg(test)]
 mod readers;
 #[cfg(test)]
+mod replacements;
+#[cfg(test)]
 mod runs;
 
 #[cfg(test)]
