@@ -5,7 +5,7 @@ use crate::symbol_lists::small_catalog;
 use listing::{Callers, LogFault, LogNames, LogRule, annotate};
 use modules::IndexedCatalog;
 use std::test::Fail;
-use texts::{BLOCK, Counted, FailAt};
+use texts::{BLOCK, Counted, FailAt, Output};
 
 const RULE: LogRule = LogRule {
     callers: Callers::ByPlace,
@@ -47,7 +47,7 @@ fn blocks_of_each_length(rt: HostRuntime) -> Result<(), Fail> {
     let index = IndexedCatalog::new(rt.alloc(), small_catalog(&rt, rt.alloc())?)?;
     for most in 1..=LOG.len() {
         let mut reader = Counted::new(Portions { rest: LOG, most });
-        let mut writer = Counted::new(Vec::new(rt.alloc()));
+        let mut writer = Output::new(Vec::new(rt.alloc()));
         let answer = annotate(rt.alloc(), &index, RULE, false, &mut reader, &mut writer);
         assert_eq!(rt; answer, Ok(NAMES), "in blocks of {most}");
         let written = writer.into_inner();
@@ -69,10 +69,10 @@ fn each_failing_read(rt: HostRuntime) -> Result<(), Fail> {
         (3, 2 * BLOCK, b"-[<ffffffff81000108>"),
     ] {
         let mut reader = Counted::new(FailAt::new(log.as_slice(), call));
-        let mut writer = Counted::new(Vec::new(rt.alloc()));
+        let mut writer = Output::new(Vec::new(rt.alloc()));
         let answer = annotate(rt.alloc(), &index, RULE, false, &mut reader, &mut writer);
         assert_eq!(rt; answer, Err(LogFault::Read), "at call {call}");
-        assert_eq!(rt; (reader.failures(), writer.failures()), (1, 0));
+        assert_eq!(rt; (reader.failures(), writer.has_failed()), (1, false));
         let written = writer.into_inner();
         assert_eq!(rt; written.len(), length, "at call {call}");
         assert!(rt; written.ends_with(end), "at call {call}");
@@ -92,10 +92,10 @@ fn each_failing_write(rt: HostRuntime) -> Result<(), Fail> {
         (5, Ok(NAMES)),
     ] {
         let mut reader = Counted::new(LOG);
-        let mut writer = Counted::new(FailAt::new(Vec::new(rt.alloc()), call));
+        let mut writer = Output::new(FailAt::new(Vec::new(rt.alloc()), call));
         let answer = annotate(rt.alloc(), &index, RULE, false, &mut reader, &mut writer);
         assert_eq!(rt; answer, expected, "at call {call}");
-        assert_eq!(rt; writer.failures(), u64::from(expected.is_err()));
+        assert_eq!(rt; writer.has_failed(), expected.is_err());
     }
     Ok(())
 }

@@ -11,7 +11,7 @@ use std::alloc::{AllocError, Global};
 use std::sync::Wait;
 use std::test::Fail;
 use std::thread::Threads;
-use texts::{Counted, FailAt};
+use texts::{Counted, FailAt, Output};
 
 #[derive(Clone, Copy)]
 enum Command {
@@ -84,7 +84,7 @@ fn do_command<T: Threads + Wait + Sync>(
     trace: &[u8],
     failing: Failing,
 ) -> Done {
-    let mut writer = Counted::new(FailAt::new(Vec::new(alloc), failing.write));
+    let mut writer = Output::new(FailAt::new(Vec::new(alloc), failing.write));
     let to = &mut writer;
     let status = match command {
         Command::Trace => succeeded(trace_engine(alloc, &mut file(trace, 0, failing), to)),
@@ -104,7 +104,7 @@ const FORM: AnswerForm = AnswerForm {
     counts: true,
 };
 
-type Writer = Counted<FailAt<Vec<u8>>>;
+type Writer = Output<FailAt<Vec<u8>>>;
 
 fn looked_up(alloc: Global, failing: Failing, writer: &mut Writer) -> Result<u8, Fault> {
     let mut readers = LookupReaders {

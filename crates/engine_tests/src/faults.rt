@@ -3,7 +3,7 @@ use engines::{Fault, RunReaders, run_engine};
 use modules::KernelBounds;
 use order_laws::Refusal;
 use std::test::Fail;
-use texts::Counted;
+use texts::{Counted, Output};
 
 /// A fault names no file; its text is that of the line that the program writes.
 #[test]
@@ -47,7 +47,7 @@ fn a_table_has_one_to_sixty_four_readers(rt: HostRuntime) {
             regions: None::<Counted<&[u8]>>,
             script: Counted::new(b"".as_slice()),
         };
-        let mut writer = Counted::new(Vec::new(rt.alloc()));
+        let mut writer = Output::new(Vec::new(rt.alloc()));
         let kernel = KernelBounds::usual();
         let answer = run_engine(&rt, rt.alloc(), &mut readers, &kernel, count, &mut writer);
         let status = match answer {

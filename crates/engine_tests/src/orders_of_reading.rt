@@ -4,7 +4,7 @@ use listing::AddressRule;
 use modules::KernelBounds;
 use std::alloc::Global;
 use std::test::Fail;
-use texts::{Counted, FailAt};
+use texts::{Counted, FailAt, Output};
 
 /// Why a lookup fails whose listing of symbols fails at this call.
 fn fault_of(
@@ -29,7 +29,7 @@ fn fault_of(
         json: false,
         counts: true,
     };
-    let mut writer = Counted::new(Vec::new(alloc));
+    let mut writer = Output::new(Vec::new(alloc));
     let answer = lookup_engine(alloc, &mut readers, &options, &[], form, &mut writer);
     answer.err()
 }

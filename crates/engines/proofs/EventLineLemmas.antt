@@ -1,14 +1,18 @@
 -- Lines of events from their parts.
-use Rattle.std.proofs.Common.{◌≡◌, ◌∙◌, ℕ, List, [], ◌++◌, Option, Some, codes, append_assoc, append-nil, ap, sym, arith}
+use Rattle.std.proofs.Common.{◌≡◌, ◌∙◌, ℕ, ◌-◌, ◌≤◌, List, [], ◌∷◌, ◌++◌, length, take, drop, get_or, flat_map, Option, Some, codes, append_assoc, append-nil, ap, sym, arith}
+use Rattle.std.proofs.lemmas.List.{take_rest}
+use Rattle.order_laws.specs.declared.refusals.Refusal.{Refusal}
+use Rattle.table_updates.specs.declared.updates.Update.{Update}
 use Rattle.std.proofs.lemmas.Grind.{common_steps}
 use Rattle.latch_steps.specs.declared.events.Event.{Event}
 use Rattle.latch_steps.specs.declared.replies.NextLoad.{NextLoad}
 use Rattle.latch_steps.specs.declared.replies.Reply.{Reply}
+use Rattle.latch_steps.specs.declared.replies.Reply.TheVariants.{Refused}
 use Rattle.engines.specs.EventLines.{IsInFront, event_line, line_end, load_middle}
 use Rattle.engines.specs.Json.{json_number}
 use Rattle.engines.specs.JsonTexts.{json_count}
 use Rattle.engines.specs.LineRooms.{IsPutBefore}
-use Rattle.engines.specs.StepTexts.{done_members, event_text, plain_load_members}
+use Rattle.engines.specs.StepTexts.{begun_members, done_members, event_text, json_list, plain_load_members, refused_member, update_members}
 
 pub front_one : {old new : List ℕ} (text : List ℕ) → new ≡ text ++ old → IsInFront old new
 front_one text p = (text, p)
@@ -64,3 +68,20 @@ unfolding plain_load_members
 load_told number line sequence r load end ends =
     parts (json_count (codes "{\"event\":") number) (json_count (codes ",\"line\":") line) (codes ",\"kind\":") (json_count (codes "\"load\",\"reader\":") r) (codes ",\"word\":") (json_number load.word) (json_count (codes ",\"value\":") load.value) end
     ∙ ap (λ t. json_count (codes "{\"event\":") number ++ json_count (codes ",\"line\":") line ++ codes ",\"kind\":" ++ plain_load_members r (Some load) ++ t) ends
+
+-- a list is its first item and those behind it
+pub list_told : {T : Type 0} (value : T → List ℕ) (xs : List T) (d : T) → 1 ≤ length xs
+    → codes "[" ++ value (get_or xs 0 d) ++ flat_map (λ y. codes "," ++ value y) (take (length xs - 1) (drop 1 xs)) ++ codes "]" ≡ json_list value xs
+list_told value [] d some = absurd (omega (arith, some))
+list_told value (x ∷ xs) d some = ap (λ l. codes "[" ++ value x ++ flat_map (λ y. codes "," ++ value y) l ++ codes "]") (take_rest (x ∷ xs) 1)
+
+-- an update that was refused, put together from the end
+pub refused_begun : (start : List ℕ) (u : Update) (reply : Reply ℕ) (why : Refusal) {end behind : List ℕ} {most : ℕ} → reply ≡ Refused why → IsPutBefore end behind most (refused_member why)
+    → start ++ codes "\"refusal\",\"of\":\"begin\"" ++ update_members u ++ behind ≡ start ++ begun_members u reply ++ end
+refused_begun start u reply why {end} {behind} is put =
+    let kind = codes "\"refusal\",\"of\":\"begin\"" in
+    ap (λ l. start ++ kind ++ update_members u ++ l) put.line
+    ∙ sym (append_assoc (start ++ kind ++ update_members u) (refused_member why) end)
+    ∙ ap (λ l. (l ++ refused_member why) ++ end) (append_assoc start kind (update_members u))
+    ∙ ap (λ l. l ++ end) (append_assoc start (kind ++ update_members u) (refused_member why))
+    ∙ ap (λ r. start ++ begun_members u r ++ end) (sym is)

@@ -1,7 +1,6 @@
 -- The text of a trace whose commands are run one after another.
 use Rattle.std.proofs.Common.{◌≡◌, ℕ, List, [], ◌∷◌, ◌++◌, Option, Some, None, Result, Ok, Err, refl, sym, ◌∙◌, ap, subst, flat_map, append_assoc, append-nil}
 use Rattle.std.specs.Prelude.{IfSome}
-use Rattle.std.specs.Io.KnownBytes.{Appends}
 use Rattle.std.proofs.lemmas.Grind.{flat_map-append}
 use Rattle.order_laws.specs.Orders.{Order}
 use Rattle.order_laws.specs.declared.refusals.Refusal.{Refusal}
@@ -23,11 +22,13 @@ use Rattle.latch_steps.specs.Traces.{notes_of}
 use Rattle.texts.specs.declared.counted.Counted.{Counted}
 use Rattle.run_files.specs.declared.header.Header.{Header}
 use Rattle.run_files.specs.CommandLines.{IsUnderstood, LinesLeft}
-use Rattle.texts.specs.Counted.{NoneFailed, Rose, device_of, failures_of}
+use Rattle.texts.specs.Counted.{NoneFailed, device_of}
+use Rattle.texts.specs.declared.output.Output.{Output}
+use Rattle.texts.specs.Output.{WroteAll, WrotePart}
 use Rattle.texts.proofs.ReadLemmas.{of_read}
 use Rattle.texts.specs.Said.{entries_after}
 use Rattle.texts.proofs.SaidLemmas.{all_said, bad_said, none_before, one_more}
-use Rattle.run_files.specs.Trace.{trace_of, with_header}
+use Rattle.run_files.specs.Trace.{Contents, trace_of, with_header}
 use Rattle.engines.specs.GatheredTraces.{GathersCommand, GathersLines, HasGathered, IsLinesFault, IsNext, IsNotOpened}
 use Rattle.engines.specs.TraceTexts.{end_text, note_text}
 use Rattle.engines.specs.Traces.{AnswersReadBy, AnswersSaid, HeaderMayNotOpen, HeaderMayOpen, IsRunText, IsTraceText, IsTraceWith, Stays, greatest_of, order_by}
@@ -120,7 +121,7 @@ run_text o h layout commands notes last text capacity limit a gathered = record 
 }
 
 -- what an engine answered that ran the lines behind a header
-module _ {W : Type 0} (contents : W → Option (List ℕ)) (h : Header) (said : Result (List (Command ℕ)) ℕ) (w w' : Counted W) where
+module _ {W : Type 0} (contents : W → Option (List ℕ)) (h : Header) (said : Result (List (Command ℕ)) ℕ) (w w' : Output W) where
   pub not_opened : (why : Refusal) → IsNotOpened h why → IsUnderstood said → AnswersSaid contents (with_header h said) w w (Err (Refused why))
   not_opened refusal.OutOfMemory closed known = refl
   not_opened refusal.BadCapacity closed known =
@@ -136,43 +137,33 @@ module _ {W : Type 0} (contents : W → Option (List ℕ)) (h : Header) (said : 
     says : with_header h said ≡ Ok (record { header = h; commands = gathers.0 })
     says = ap (with_header h) gathers.1
 
-    pub answered : (left : Notes O ℕ) → LeavesNotes o d left → left.notes.items ≡ notes_in d → NoneFailed w w'
-        → Appends (contents (device_of w)) (contents (device_of w')) (text ++ end_text left.sequence)
-        → AnswersSaid contents (with_header h said) w w' (Ok tt)
-    answered left leaves rest none appends =
+    pub answered : (left : Notes O ℕ) → LeavesNotes o d left → left.notes.items ≡ notes_in d → (IsPut : List ℕ → Type 0) → IsPut (text ++ end_text left.sequence)
+        → (c : Contents) × (with_header h said ≡ Ok c) × HeaderMayOpen c.header × ((t : List ℕ) × IsRunText (order_by c.header.closed) c t × IsPut t)
+    answered left leaves rest IsPut put =
         let t = all_gathered in
         let noted : t.notes ++ left.notes.items ≡ t.notes = ap (λ ns. t.notes ++ ns) (rest ∙ t.none) ∙ append-nil t.notes in
         let notes = subst (λ ns. AreNotesOfCommands o t.layout h.start gathers.0 ns left.sequence) noted
         (leaves t.layout h.start gathers.0 t.notes t.driven) in
         let runs = run_text o h t.layout gathers.0 t.notes left.sequence text t.capacity t.limit notes t.gathered in (
-          none,
-          (
-            record { header = h; commands = gathers.0 },
-            says,
-            t.opens,
-            (text ++ end_text left.sequence, subst (λ p. IsRunText p (record { header = h; commands = gathers.0 }) (text ++ end_text left.sequence)) same runs, appends),
-          ),
+          record { header = h; commands = gathers.0 },
+          says,
+          t.opens,
+          (text ++ end_text left.sequence, subst (λ p. IsRunText p (record { header = h; commands = gathers.0 }) (text ++ end_text left.sequence)) same runs, put),
         )
 
-    pub unwritten : Rose (failures_of w) (failures_of w') → AnswersSaid contents (with_header h said) w w' (Err Write)
-    unwritten rose = (rose, (record { header = h; commands = gathers.0 }, says, all_gathered.opens))
-
 -- what an engine answered that was given the bytes, where these are those that a reader had
-module _ {R W : Type 0} (remaining : R → Option (List ℕ)) (contents : W → Option (List ℕ)) (r r' : Counted R) (w w' : Counted W)
+module _ {R W : Type 0} (remaining : R → Option (List ℕ)) (contents : W → Option (List ℕ)) (r r' : Counted R) (w w' : Output W)
     (bytes : List ℕ) (whole : IfSome (remaining (device_of r)) (λ l. bytes ≡ l)) (none : NoneFailed r r') where
   held : (P : List ℕ → Type 0) → P bytes → IfSome (remaining (device_of r)) P
   held P holds = of_read (remaining (device_of r)) bytes P whole holds
 
   pub answers_read : (result : Result (Unit {0}) Fault) → AnswersSaid contents (trace_of bytes) w w' result
-      → AnswersReadBy IsTraceText Stays remaining contents r r' w w' result
+      → AnswersReadBy IsTraceText IsTraceText Stays remaining contents r r' w w' result
   answers_read (Ok v) a =
-      let (none_written, known) = a in
-      let (c, reads, opens, ran) = known in
-      let (text, runs, appends) = ran in (
+      let (c, reads, opens, (text, runs, wrote)) = a in (
         none,
-        none_written,
-        held (λ read. (t : List ℕ) × IsTraceText read t × Appends (contents (device_of w)) (contents (device_of w')) t)
-            (text, record { said = c; reads = reads; opens = opens; runs = runs }, appends),
+        wrote.1,
+        held (λ read. (t : List ℕ) × IsTraceText read t × WroteAll contents w w' t) (text, record { said = c; reads = reads; opens = opens; runs = runs }, wrote),
       )
   answers_read (Err (Refused refusal.OutOfMemory)) a = (none, a)
   answers_read (Err (Refused refusal.BadCapacity)) a =
@@ -183,7 +174,9 @@ module _ {R W : Type 0} (remaining : R → Option (List ℕ)) (contents : W → 
       let (stays, first, reads) = a in
       (none, stays, first, held (λ read. trace_of read ≡ Err n) reads)
   answers_read (Err Write) a =
-      let (rose, known) = a in
-      let (c, reads, opens) = known in
-      (none, rose, held (IsTraceWith HeaderMayOpen) (record { said = c; reads = reads; header = opens }))
+      let (c, reads, opens, (text, runs, wrote)) = a in (
+        none,
+        wrote.0,
+        held (λ read. (t : List ℕ) × IsTraceText read t × WrotePart contents w w' t) (text, record { said = c; reads = reads; opens = opens; runs = runs }, wrote),
+      )
   answers_read (Err _) a = absurd a

@@ -1,8 +1,8 @@
 -- The same answer, where more is known of what was read.
 use Rattle.std.proofs.Common.{◌≡◌, ℕ, zero, suc, [], ◌∷◌, Option, Result, Ok, Err, ⊎_elim, arith}
 use Rattle.std.specs.Prelude.{IfSome}
-use Rattle.texts.specs.declared.counted.Counted.{Counted}
 use Rattle.texts.specs.Counted.{Rose}
+use Rattle.texts.specs.declared.output.Output.{Output}
 use Rattle.order_laws.specs.declared.refusals.Refusal.TheVariants as refusal
 use Rattle.engines.specs.declared.fault.Fault.{Fault}
 use Rattle.engines.specs.declared.fault.Fault.TheVariants.{Refused, BadLine, Read, Write}
@@ -12,7 +12,7 @@ no_rise : Rose 0 0 → ⊥
 no_rise rose = ⊎_elim (λ less. omega (arith, less)) (λ most. omega (arith, most)) rose
 
 -- the same answer, where more is known of the inputs and of which reader failed
-module _ {I V W : Type 0} (Says : I → Result V Fault → Type 0) (inner known : Option (Result I (ℕ × ℕ))) (all : (P : Result I (ℕ × ℕ) → Type 0) → IfSome inner P → IfSome known P) (had counts : Failures) (none : NoReaderFailed had → NoReaderFailed counts) (only : (place : ℕ) → OnlyFailed place had → OnlyFailed place counts) (w w' : Counted W) where
+module _ {I V W : Type 0} (Says : I → Result V Fault → Type 0) (inner known : Option (Result I (ℕ × ℕ))) (all : (P : Result I (ℕ × ℕ) → Type 0) → IfSome inner P → IfSome known P) (had counts : Failures) (none : NoReaderFailed had → NoReaderFailed counts) (only : (place : ℕ) → OnlyFailed place had → OnlyFailed place counts) (w w' : Output W) where
   pub still_answered : (result : Result V Fault) → AnswersInputs Says inner had w w' result → AnswersInputs Says known counts w w' result
   still_answered (Ok v) h = (none h.0, h.1, all (HoldsOf (λ i. Says i (Ok v))) h.2)
   still_answered (Err (Refused refusal.OutOfMemory)) h = (none h.0, h.1)
@@ -24,7 +24,7 @@ module _ {I V W : Type 0} (Says : I → Result V Fault → Type 0) (inner known 
   still_answered (Err _) h = absurd h
 
 -- what was returned after three readers that did not fail
-module _ {I V W : Type 0} (Says : I → Result V Fault → Type 0) (inner known : Option (Result I (ℕ × ℕ))) (all : (P : Result I (ℕ × ℕ) → Type 0) → IfSome inner P → IfSome known P) (m k r : ℕ × ℕ) (m_same : m.1 ≡ m.0) (k_same : k.1 ≡ k.0) (r_same : r.1 ≡ r.0) (before after : ℕ) (w w' : Counted W) where
+module _ {I V W : Type 0} (Says : I → Result V Fault → Type 0) (inner known : Option (Result I (ℕ × ℕ))) (all : (P : Result I (ℕ × ℕ) → Type 0) → IfSome inner P → IfSome known P) (m k r : ℕ × ℕ) (m_same : m.1 ≡ m.0) (k_same : k.1 ≡ k.0) (r_same : r.1 ≡ r.0) (before after : ℕ) (w w' : Output W) where
   abbrev counts : Failures
   counts = m ∷ k ∷ r ∷ (before, after) ∷ []
 

@@ -1,8 +1,9 @@
 -- From the files that a lookup reads to what it returns.
 use Rattle.std.proofs.Common.{◌≡◌, ◌∙◌, ℕ, List, Option, Some, None, Result, Ok, Err, IfSome, inl, inr, refl, sym, ap, subst}
 use Rattle.std.specs.Prelude.{option_and_then}
-use Rattle.texts.specs.declared.counted.Counted.{Counted}
 use Rattle.texts.specs.Counted.{Rose}
+use Rattle.texts.specs.declared.output.Output.{Output}
+use Rattle.texts.specs.Output.{WroteAll, WrotePart}
 use Rattle.listing.specs.declared.listing_notes.ListingNotes.{ListingNotes}
 use Rattle.order_laws.specs.declared.refusals.Refusal.TheVariants as refusal
 use Rattle.modules.specs.Listed.{ListedRegion}
@@ -11,7 +12,7 @@ use Rattle.engines.specs.declared.fault.Fault.TheVariants.{Refused, BadLine, Rea
 use Rattle.engines.specs.declared.forms.AnswerForm.{AnswerForm}
 use Rattle.engines.specs.declared.lookup.LookupOptions.{LookupOptions}
 use Rattle.engines.specs.LookupInputs.{Inputs, Texts, all_addresses, inputs_after, inputs_of, inputs_with, notes_of, region_lines, texts_of}
-use Rattle.engines.specs.Lookups.{AnswersLookup, AnswersWith, FitsTable, GivesAddresses, GivesLines, HasTooManyOfOne, HasTooManyRegions, IsWritten}
+use Rattle.engines.specs.Lookups.{AnswersLookup, AnswersWith, GivesAddresses, GivesLines, HasTooManyOfOne, HasTooManyRegions, IsWritten}
 use Rattle.engines.specs.Readings.{Failures, HoldsOf, NoReaderFailed, OnlyFailed}
 
 -- What is known of the texts of the listings of modules, of symbols and of regions, and of that of
@@ -45,7 +46,7 @@ module _ (options : LookupOptions) (given : List ℕ) (known_modules known_kalls
     bad_region place n is bad = of_texts (λ i. i ≡ Err (place, n)) (λ kallsyms _.
         subst (λ lines. IfSome (inputs_after options given (texts kallsyms) lines file) (λ i. i ≡ Err (place, n))) (sym bad) (ap (λ p. Err (p, n)) (sym is)))
 
-    pub no_lines : {W : Type 0} (contents : W → Option (List ℕ)) (form : AnswerForm) (counts : Failures) (w : Counted W) → NoReaderFailed counts
+    pub no_lines : {W : Type 0} (contents : W → Option (List ℕ)) (form : AnswerForm) (counts : Failures) (w : Output W) → NoReaderFailed counts
         → (f : Fault) → GivesLines regions (Err f) → AnswersLookup contents form known counts w w (Err f)
     no_lines contents form counts w none (Refused refusal.OutOfMemory) gives = (none, refl)
     no_lines contents form counts w none (BadLine place n) gives = (none, refl, inl gives.0, bad_region place n gives.0 gives.1)
@@ -70,7 +71,7 @@ module _ (options : LookupOptions) (given : List ℕ) (known_modules known_kalls
       bad_address kallsyms place n None is bad = tt
       bad_address kallsyms place n (Some x) is bad = ap (inputs_with options (texts kallsyms) lines) bad ∙ ap (λ p. Err (p, n)) (sym is)
 
-      pub no_addresses : {W : Type 0} (contents : W → Option (List ℕ)) (form : AnswerForm) (counts : Failures) (w : Counted W) (before after : ℕ)
+      pub no_addresses : {W : Type 0} (contents : W → Option (List ℕ)) (form : AnswerForm) (counts : Failures) (w : Output W) (before after : ℕ)
           → (after ≡ before → NoReaderFailed counts) → (Rose before after → OnlyFailed 3 counts)
           → (f : Fault) → GivesAddresses given file before after (Err f) → AnswersLookup contents form known counts w w (Err f)
       no_addresses contents form counts w before after none only (Refused refusal.OutOfMemory) gives = (none gives, refl)
@@ -108,11 +109,11 @@ module _ (options : LookupOptions) (given : List ℕ) (known_modules known_kalls
             (subst (λ l. IfSome (inputs_after options given (texts kallsyms) l file) (HoldsOf P)) (sym listed)
             (with_text (HoldsOf P) kallsyms file (with_inputs P file addresses_read p)))
 
-        pub answered : {W : Type 0} (contents : W → Option (List ℕ)) (form : AnswerForm) (counts : Failures) (w w' : Counted W) → NoReaderFailed counts
+        pub answered : {W : Type 0} (contents : W → Option (List ℕ)) (form : AnswerForm) (counts : Failures) (w w' : Output W) → NoReaderFailed counts
             → (result : Result ListingNotes Fault) → AnswersWith contents form inputs w w' result → AnswersLookup contents form known counts w w' result
-        answered contents form counts w w' none (Ok notes) h = (none, h.0, all_known (λ i. IsWritten contents form w w' i × (notes ≡ notes_of i)) (h.1, h.2))
+        answered contents form counts w w' none (Ok notes) h = (none, h.0.1.1, all_known (λ i. IsWritten (WroteAll contents w w') form i × (notes ≡ notes_of i)) h)
         answered contents form counts w w' none (Err (Refused refusal.OutOfMemory)) h = (none, h)
         answered contents form counts w w' none (Err (Refused refusal.BadCapacity)) h = (none, h.0, all_known HasTooManyRegions h.1)
         answered contents form counts w w' none (Err (Refused refusal.TooManyRegions)) h = (none, h.0, all_known HasTooManyOfOne h.1)
-        answered contents form counts w w' none (Err Write) h = (none, h.0, all_known FitsTable h.1)
+        answered contents form counts w w' none (Err Write) h = (none, h.1.0, all_known (IsWritten (WrotePart contents w w') form) h)
         answered contents form counts w w' none (Err _) h = absurd h

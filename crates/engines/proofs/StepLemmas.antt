@@ -1,11 +1,12 @@
 -- What is done and written of a trace whose steps are told, one event and one command after another.
-use Rattle.std.proofs.Common.{◌≡◌, ℕ, ◌+◌, ◌<◌, Bool, true, false, true≢false, List, [], ◌∷◌, ◌++◌, length, take, get_or, Option, Some, None, Ok, refl, sym, ◌∙◌, ap, subst, arith, append_assoc, append-nil, length-append, length-take-le, inl, inr, Err}
-use Rattle.std.proofs.KnownBytes.{Appends-nil, Appends-trans}
-use Rattle.std.specs.Prelude.{Result, OnOk}
-use Rattle.std.specs.Io.KnownBytes.{Appends, Keeps}
+use Rattle.std.proofs.Common.{◌≡◌, ℕ, ◌+◌, ◌<◌, Bool, true, false, true≢false, List, [], ◌∷◌, ◌++◌, length, take, get_or, Option, None, Ok, refl, sym, ◌∙◌, ap, subst, arith, append_assoc, append-nil, length-append, length-take-le, inl, inr, Err}
+use Rattle.std.specs.Prelude.{Result, OnOk, IfSome, slice_get}
 use Rattle.facts.proofs.Lists.{take_push}
-use Rattle.texts.specs.declared.counted.Counted.{Counted}
-use Rattle.texts.specs.Counted.{NoneFailed, Rose, device_of, failures_of}
+use Rattle.std.proofs.Math.Seq.{take-length}
+use Rattle.std.proofs.lemmas.Option.{slice_get_read}
+use Rattle.texts.specs.declared.output.Output.{Output}
+use Rattle.texts.specs.Output.{Says, has_failed}
+use Rattle.texts.proofs.OutputLemmas.{all_written, nothing_said, part_written, same_text, then}
 use Rattle.run_files.specs.Trace.{Contents}
 use Rattle.order_laws.specs.Orders.{Order}
 use Rattle.word_layout.specs.Words.{at}
@@ -24,18 +25,12 @@ use Rattle.latch_steps.specs.Steps.{Run, machine, machine_of}
 use Rattle.latch_steps.specs.WorldSteps.{Does, IsWorldStep, is_refused_for_memory}
 use Rattle.latch_steps.specs.Worlds.{HasEvents, HasSequence, RepresentsMoment, layout_in}
 use Rattle.latch_steps.proofs.RecorderLemmas.{IsUnended, does, expand_push, last_append, repeats_ended, repeats_full, run_append, unended_push}
-use Rattle.engines.specs.StepRuns.{AreCommandsTold, IsLoadBy, IsTellFault, IsTold, StopsTelling, Tells, TellsCommand, TellsCommands, TellsEvent, takes_memory}
+use Rattle.engines.specs.StepRuns.{AreCommandsTold, AreSomeTold, IsLoadBy, IsMemoryFault, IsTold, StopsTelling, Tells, TellsCommand, TellsCommands, TellsEvent, takes_memory}
 use Rattle.engines.specs.StepTexts.{event_text, load_by, opening_text, step_text, steps_text}
 use Rattle.engines.specs.StepTraces.{AnswersStepsIn, AreTold, IsStepsText}
 use Rattle.engines.specs.Traces.{HeaderMayOpen, greatest_of}
 use Rattle.engines.specs.declared.fault.Fault.{Fault}
-
--- a text that a flush keeps
-appended_kept : (x y z : Option (List ℕ)) (text : List ℕ) → Appends x y text → Keeps y z → Appends x z text
-appended_kept None y z text p q = tt
-appended_kept (Some xs) None z text p q = absurd p
-appended_kept (Some xs) (Some ys) None text p q = absurd q
-appended_kept (Some xs) (Some ys) (Some zs) text p q = q ∙ p
+use Rattle.engines.specs.declared.fault.Fault.TheVariants.{Write as WriteFault}
 
 -- what an answer says that it gives where another holds
 pub on_ok : {A E P Q : Type 0} (r : Result A E) → (P → Q) → OnOk r P → OnOk r Q
@@ -70,59 +65,59 @@ steps_append o n line w [] next = refl
 steps_append o n line w (d ∷ run) next = ap (λ t. step_text o n line w d ++ t) (steps_append o n line d.after run next) ∙ sym (append_assoc (step_text o n line w d) (steps_text o n line d.after run) (steps_text o n line (last_of d.after run) next))
 
 module _ {O W : Type 0} (o : Order ℕ) (contents : W → Option (List ℕ)) (line : ℕ) where
-  pub line_told : (new : World O ℕ) (a b : Counted W) (e : Event ℕ) (r : Reply ℕ) (load : Option (NextLoad ℕ)) (number sequence : ℕ)
-      → HasEvents o new number → HasSequence o new sequence → Appends (contents (device_of a)) (contents (device_of b)) (event_text number line load e r sequence)
+  pub line_told : (new : World O ℕ) (a b : Output W) (e : Event ℕ) (r : Reply ℕ) (load : Option (NextLoad ℕ)) (number sequence : ℕ)
+      → HasEvents o new number → HasSequence o new sequence → Says contents a b (event_text number line load e r sequence)
       → IsTold o contents line load e r new a b
   line_told new a b e r load number sequence events reads wrote next s =
       let same : event_text number line load e r sequence ≡ event_text next.events line load e r (at next.latch.words 0) = (λ i. event_text (events next s i) line load e r (reads next s i)) in
-      subst (Appends (contents (device_of a)) (contents (device_of b))) same wrote
+      same_text same wrote
 
-  pub event_told : (old new : World O ℕ) (a b : Counted W) (e : Event ℕ) (r : Reply ℕ) (load : Option (NextLoad ℕ))
+  pub event_told : (old new : World O ℕ) (a b : Output W) (e : Event ℕ) (r : Reply ℕ) (load : Option (NextLoad ℕ))
       → Does o old e r new → layout_in new ≡ layout_in old → IsLoadBy o old e load → IsTold o contents line load e r new a b → TellsEvent o contents line e old new a b r
   event_told old new a b e r load does lay loads told w s =
       let d = does w s in
       let n = capacity_of (layout_in old) in
       let same : event_text d.0.events line load e r (at d.0.latch.words 0) ≡ event_text d.0.events line (load_by o n w e) e r (at d.0.latch.words 0) = (λ i. event_text d.0.events line (loads w s i) e r (at d.0.latch.words 0)) in
-      let written = subst (Appends (contents (device_of a)) (contents (device_of b))) (same ∙ sym (append-nil _)) (told d.0 d.2) in
-      (d.0, record { layout = lay; steps = (d.1, tt); shows = d.2; written = written })
+      let said = same_text (same ∙ sym (append-nil _)) (told d.0 d.2) in
+      (d.0, record { layout = lay; steps = (d.1, tt); shows = d.2; said = said })
 
   -- an event that its command does once
-  pub command_told : (c : Command ℕ) (old new : World O ℕ) (a b : Counted W) (e : Event ℕ) (r : Reply ℕ)
+  pub command_told : (c : Command ℕ) (old new : World O ℕ) (a b : Output W) (e : Event ℕ) (r : Reply ℕ)
       → IsWorldStep o old e r new → is_refused_for_memory r ≡ false → layout_in new ≡ layout_in old → e ≡ event_of c → takes_memory e ≡ true
       → IsTold o contents line None e r new a b → TellsCommand o contents line c old new a b
   command_told c old new a b e r steps stays lay same takes told w s =
       let d = event_told old new a b e r None (λ v t. does o false old new e r steps stays v t) lay (loads_none o old e takes) told w s in
-      (step_done e r d.0 ∷ [], d.1, once c e r w d.0 same takes)
+      (step_done e r d.0 ∷ [], d.1, most_of w c, once c e r w d.0 same takes, λ sound. refl)
 
-  tells_none : (c : World O ℕ) (a : Counted W) (w : Moment ℕ) → RepresentsMoment o c w → Tells o contents line c c a a w []
-  tells_none c a w s = record { layout = refl; steps = tt; shows = s; written = Appends-nil (contents (device_of a)) }
+  tells_none : (c : World O ℕ) (a : Output W) (w : Moment ℕ) → RepresentsMoment o c w → Tells o contents line c c a a w []
+  tells_none c a w s = record { layout = refl; steps = tt; shows = s; said = nothing_said a }
 
-  tells_append : (old mid new : World O ℕ) (a b c : Counted W) (w : Moment ℕ) (run next : List (Done ℕ)) → Tells o contents line old mid a b w run → Tells o contents line mid new b c (last_of w run) next → Tells o contents line old new a c w (run ++ next)
+  tells_append : (old mid new : World O ℕ) (a b c : Output W) (w : Moment ℕ) (run next : List (Done ℕ)) → Tells o contents line old mid a b w run → Tells o contents line mid new b c (last_of w run) next → Tells o contents line old new a c w (run ++ next)
   tells_append old mid new a b c w run next x y =
       let n = capacity_of (layout_in old) in
-      let there = subst (λ l. Appends (contents (device_of b)) (contents (device_of c)) (steps_text o (capacity_of l) line (last_of w run) next)) x.layout y.written in
+      let there = same_text (ap (λ l. steps_text o (capacity_of l) line (last_of w run) next) x.layout) y.said in
       record {
         layout = y.layout ∙ x.layout;
         steps = run_append o n (limit_of (layout_in old)) w run next x.steps (subst (λ l. Run (machine_of o l) (last_of w run) next) x.layout y.steps);
         shows = subst (RepresentsMoment o new) (sym (last_append w run next)) y.shows;
-        written = subst (Appends (contents (device_of a)) (contents (device_of c))) (sym (steps_append o n line w run next)) (Appends-trans _ _ _ _ _ x.written there);
+        said = same_text (sym (steps_append o n line w run next)) (then x.said there);
       }
 
   -- a command's event so many times, none of which ends it
-  pub record Telling (c : Command ℕ) (old now : World O ℕ) (a b : Counted W) (turn : ℕ) (w : Moment ℕ) : Type 0 where
+  pub record Telling (c : Command ℕ) (old now : World O ℕ) (a b : Output W) (turn : ℕ) (w : Moment ℕ) : Type 0 where
     pub run : List (Done ℕ)
     pub tells : Tells o contents line old now a b w run
     pub unended : IsUnended c run
     pub turns : length run ≡ turn
 
-  module _ (c : Command ℕ) (old : World O ℕ) (a : Counted W) where
+  module _ (c : Command ℕ) (old : World O ℕ) (a : Output W) where
     pub telling_none : (w : Moment ℕ) → RepresentsMoment o old w → Telling c old old a a 0 w
     telling_none w s = record { run = []; tells = tells_none old a w s; unended = tt; turns = refl }
 
-    pub telling_all : (now : World O ℕ) (b : Counted W) (turn most : ℕ) (w : Moment ℕ) → Telling c old now a b turn w → turn ≡ most → (run : List (Done ℕ)) × Tells o contents line old now a b w run × Repeats c most run
+    pub telling_all : (now : World O ℕ) (b : Output W) (turn most : ℕ) (w : Moment ℕ) → Telling c old now a b turn w → turn ≡ most → (run : List (Done ℕ)) × Tells o contents line old now a b w run × Repeats c most run
     telling_all now b turn most w h e = (h.run, h.tells, repeats_full c h.run most h.unended (h.turns ∙ e))
 
-    module _ (now new : World O ℕ) (b b' : Counted W) (e : Event ℕ) (r : Reply ℕ) (whether : Bool) (turn : ℕ) (w : Moment ℕ) (h : Telling c old now a b turn w)
+    module _ (now new : World O ℕ) (b b' : Output W) (e : Event ℕ) (r : Reply ℕ) (whether : Bool) (turn : ℕ) (w : Moment ℕ) (h : Telling c old now a b turn w)
         (told : TellsEvent o contents line e now new b b' r) (same : e ≡ event_of c) (tests : (v : Moment ℕ) → RepresentsMoment o new v → whether ≡ ends c r v) where
       one : (next : Moment ℕ) × Tells o contents line old new a b' w (h.run ++ step_done e r next ∷ [])
       one =
@@ -177,24 +172,25 @@ module _ (o : Order ℕ) (n : ℕ) (lines : List ℕ) where
         goes_on = told_push (place + 1) end (last_of w h.part) cs c h.rest next h.rest_text (omega arith) h.goes_on (subst (λ v. Repeats c (most_of v c) next) there again);
       }
 
-module _ {O W : Type 0} (o : Order ℕ) (contents : W → Option (List ℕ)) (lines : List ℕ) (old : World O ℕ) (a : Counted W) (w : Moment ℕ) where
+module _ {O W : Type 0} (o : Order ℕ) (contents : W → Option (List ℕ)) (lines : List ℕ) (old : World O ℕ) (a : Output W) (w : Moment ℕ) where
   pub commands_none : RepresentsMoment o old w → AreCommandsTold o contents lines [] old old a a w
-  commands_none s = record { run = []; text = []; layout = refl; steps = tt; shows = s; expands = refl; told = (refl, refl); written = Appends-nil (contents (device_of a)) }
+  commands_none s = record { run = []; text = []; layout = refl; steps = tt; shows = s; expands = refl; told = (refl, refl); said = nothing_said a }
 
   -- one command more of a list
-  pub commands_more : (now new : World O ℕ) (b b' : Counted W) (cs : List (Command ℕ)) (i line : ℕ) (c : Command ℕ)
+  pub commands_more : (now new : World O ℕ) (b b' : Output W) (cs : List (Command ℕ)) (i line : ℕ) (c : Command ℕ)
       → i < length cs → c ≡ get_or cs i c → line ≡ at lines i → AreCommandsTold o contents lines (take i cs) old now a b w
-      → TellsCommand o contents line c now new b b' → AreCommandsTold o contents lines (take (i + 1) cs) old new a b' w
-  commands_more now new b b' cs i line c there is on h tells =
+      → TellsCommand o contents line c now new b b' → has_failed b' ≡ false → AreCommandsTold o contents lines (take (i + 1) cs) old new a b' w
+  commands_more now new b b' cs i line c there is on h tells sound =
       let d = tells (last_of w h.run) h.shows in
       let n = capacity_of (layout_in old) in
       let l = layout_in old in
       let some : length (take i cs) ≡ i = length-take-le {A = Command ℕ} i cs (omega arith) in
       let many : i ≡ 0 + length (take i cs) = omega arith in
-      let more = expand_push w (take i cs) c h.run d.0 h.expands d.2 in
-      let told = told_push o n lines 0 i w (take i cs) c h.run d.0 h.text many h.told d.2 in
-      let wrote = subst (λ k. Appends (contents (device_of b)) (contents (device_of b')) (steps_text o (capacity_of k) line (last_of w h.run) d.0)) h.layout d.1.written in
-      let wrote_on = subst (λ at_line. Appends (contents (device_of b)) (contents (device_of b')) (steps_text o n at_line (last_of w h.run) d.0)) on wrote in
+      let whole = subst (λ turns. Repeats c turns d.0) (d.4 sound) d.3 in
+      let more = expand_push w (take i cs) c h.run d.0 h.expands whole in
+      let told = told_push o n lines 0 i w (take i cs) c h.run d.0 h.text many h.told whole in
+      let said = same_text (ap (λ k. steps_text o (capacity_of k) line (last_of w h.run) d.0) h.layout) d.1.said in
+      let said_on = same_text (ap (λ at_line. steps_text o n at_line (last_of w h.run) d.0) on) said in
       let all = take_push cs i c there is in
       record {
         run = h.run ++ d.0;
@@ -204,54 +200,159 @@ module _ {O W : Type 0} (o : Order ℕ) (contents : W → Option (List ℕ)) (li
         shows = subst (RepresentsMoment o new) (sym (last_append w h.run d.0)) d.1.shows;
         expands = subst (λ xs. Expand w xs (h.run ++ d.0)) all more;
         told = subst (λ xs. AreTold o n lines 0 w xs (h.run ++ d.0) (h.text ++ steps_text o n (at lines i) (last_of w h.run) d.0)) all told;
-        written = Appends-trans _ _ _ _ _ h.written wrote_on;
+        said = then h.said said_on;
       }
 
--- memory ran out at a command of a list, or a call of the writer failed
-pub stops_at : {O W : Type 0} (o : Order ℕ) (contents : W → Option (List ℕ)) (lines : List ℕ) (cs : List (Command ℕ)) (old now : World O ℕ) (a b c : Counted W) (place : ℕ) (f : Fault)
-    → place < length cs → TellsCommands o contents lines (take place cs) old now a b → NoneFailed a b → IsTellFault b c f → StopsTelling o contents lines cs old a c f
-stops_at o contents lines cs old now a b c place f within told none (inl h) =
-    inl (h.0, subst (λ d. NoneFailed a d) (sym h.1) none, (place, within, (now, subst (λ d. TellsCommands o contents lines (take place cs) old now a d) (sym h.1) told)))
-stops_at o contents lines cs old now a b c place f within told none (inr h) = inr (h.0, subst (λ n. Rose n (failures_of c)) none h.1)
+  -- some turns of a command more
+  pub commands_cut : (now new : World O ℕ) (b b' : Output W) (cs : List (Command ℕ)) (i line : ℕ) (c : Command ℕ)
+      → i < length cs → c ≡ get_or cs i c → line ≡ at lines i → AreCommandsTold o contents lines (take i cs) old now a b w
+      → TellsCommand o contents line c now new b b' → AreSomeTold o contents lines cs i old a b' w
+  commands_cut now new b b' cs i line c there is on h tells =
+      let d = tells (last_of w h.run) h.shows in
+      record {
+        now = now;
+        new = new;
+        between = b;
+        told = h;
+        part = d.0;
+        tells = subst (λ at_line. Tells o contents at_line now new b b' (last_of w h.run) d.0) on d.1;
+        turns = d.2;
+        repeats = subst (λ at_place. IfSome at_place (λ x. Repeats x d.2 d.0)) (sym (slice_get_read cs (length cs) i c refl there is)) d.3;
+      }
+
+-- memory ran out at a command of a list
+pub stops_at : {O W : Type 0} (o : Order ℕ) (contents : W → Option (List ℕ)) (lines : List ℕ) (cs : List (Command ℕ)) (old now : World O ℕ) (a b c : Output W) (place : ℕ) (f : Fault)
+    → place < length cs → TellsCommands o contents lines (take place cs) old now a b → has_failed b ≡ false → IsMemoryFault b c f → StopsTelling o contents lines cs old a c f
+stops_at o contents lines cs old now a b c place f within told sound h =
+    inl (h.0, ap has_failed h.1 ∙ sound, (place, within, (now, subst (λ d. TellsCommands o contents lines (take place cs) old now a d) (sym h.1) told)))
+
+past_the_last : (cs : List (Command ℕ)) → IfSome (slice_get cs (length cs)) (λ c. Repeats c 0 [])
+past_the_last [] = tt
+past_the_last (c ∷ cs) = past_the_last cs
+
+none_of_it : (cs : List (Command ℕ)) → IfSome (slice_get cs 0) (λ c. Repeats c 0 [])
+none_of_it [] = tt
+none_of_it (c ∷ cs) = refl
 
 -- from the opening to the last byte
-module _ {O W : Type 0} (o : Order ℕ) (contents : W → Option (List ℕ)) (said : Contents) (lines : List ℕ) (l : Layout) (world : World O ℕ) (a b c : Counted W)
+module _ {O W : Type 0} (o : Order ℕ) (contents : W → Option (List ℕ)) (said : Contents) (lines : List ℕ) (l : Layout) (world : World O ℕ) (a b c : Output W)
     (lay : layout_in world ≡ l) (cap : capacity_of l ≡ said.header.capacity) (lim : limit_of l ≡ greatest_of said.header.version) (opens : HeaderMayOpen said.header)
     (shows : RepresentsMoment o world (opening (capacity_of l) said.header.start))
-    (first : Appends (contents (device_of a)) (contents (device_of b)) (opening_text said.header)) (none_first : NoneFailed a b) where
+    (first : Says contents a b (opening_text said.header)) where
+  cap' : capacity_of (layout_in world) ≡ said.header.capacity
+  cap' = ap capacity_of lay ∙ cap
+
+  lim' : limit_of (layout_in world) ≡ greatest_of said.header.version
+  lim' = ap limit_of lay ∙ lim
+
+  begins : RepresentsMoment o world (opening said.header.capacity said.header.start)
+  begins = subst (λ n. RepresentsMoment o world (opening n said.header.start)) cap shows
+
+  run_here : (w : Moment ℕ) (run : List (Done ℕ)) → Run (machine_of o (layout_in world)) w run → Run (machine o said.header.capacity (greatest_of said.header.version)) w run
+  run_here w run steps =
+      subst (λ m. Run (machine o said.header.capacity m) w run) lim' (subst (λ n. Run (machine o n (limit_of (layout_in world))) w run) cap' steps)
+
   -- the steps of commands, behind the opening
-  steps_written : (cs : List (Command ℕ)) (last : World O ℕ) → TellsCommands o contents lines cs world last b c
-      → (text : List ℕ) × IsStepsText o (record said { commands = cs }) lines text × Appends (contents (device_of a)) (contents (device_of c)) text
-  steps_written cs last tells =
+  steps_said : (cs : List (Command ℕ)) (last : World O ℕ) (d : Output W) → AreCommandsTold o contents lines cs world last b d (opening said.header.capacity said.header.start)
+      → (text : List ℕ) × IsStepsText o (record said { commands = cs }) lines text × Says contents a d text
+  steps_said cs last d told =
       let h = said.header in
-      let w = opening h.capacity h.start in
-      let told = tells w (subst (λ n. RepresentsMoment o world (opening n h.start)) cap shows) in
-      let cap' : capacity_of (layout_in world) ≡ h.capacity = ap capacity_of lay ∙ cap in
-      let lim' : limit_of (layout_in world) ≡ greatest_of h.version = ap limit_of lay ∙ lim in
-      let run_of = subst (λ n. Run (machine o n (limit_of (layout_in world))) w told.run) cap' told.steps in (
+      let w = opening h.capacity h.start in (
         opening_text h ++ told.text,
         record {
           run = told.run;
-          steps = subst (λ m. Run (machine o h.capacity m) w told.run) lim' run_of;
+          steps = run_here w told.run told.steps;
           expands = told.expands;
           text = told.text;
           told = subst (λ n. AreTold o n lines 0 w cs told.run told.text) cap' told.told;
           whole = refl;
         },
-        Appends-trans _ _ _ _ _ first told.written,
+        then first told.said,
       )
 
-  pub steps_answered : (last : World O ℕ) (d : Counted W) → TellsCommands o contents lines said.commands world last b c → NoneFailed b c
-      → Keeps (contents (device_of c)) (contents (device_of d)) → NoneFailed c d → AnswersStepsIn o contents said lines a d (Ok tt)
-  steps_answered last d told none_told kept none_kept =
-      let wrote = steps_written said.commands last told in
-      (none_kept ∙ none_told ∙ none_first, opens, (wrote.0, wrote.1, appended_kept _ _ _ wrote.0 wrote.2 kept))
+  pub steps_answered : (last : World O ℕ) (d : Output W) → TellsCommands o contents lines said.commands world last b c → Says contents c d [] → has_failed d ≡ false → AnswersStepsIn o contents said lines a d (Ok tt)
+  steps_answered last d told flushed sound =
+      let whole = steps_said said.commands last c (told _ begins) in
+      (opens, (whole.0, whole.1, all_written (same_text (append-nil whole.0) (then whole.2 flushed)) sound))
+
+  -- the flush failed, or what stood before it
+  pub steps_unflushed : (last : World O ℕ) (d : Output W) → TellsCommands o contents lines said.commands world last b c → Says contents c d [] → has_failed d ≡ true → AnswersStepsIn o contents said lines a d (Err WriteFault)
+  steps_unflushed last d told flushed failed =
+      let whole = steps_said said.commands last c (told _ begins) in
+      let all : said.commands ≡ take (length said.commands) said.commands = sym (take-length said.commands) in (
+        opens,
+        (
+          whole.0,
+          record {
+            opens = opens;
+            place = length said.commands;
+            before = whole.0;
+            begun = subst (λ cs. IsStepsText o (record said { commands = cs }) lines whole.0) all whole.1;
+            part = [];
+            turns = 0;
+            repeats = past_the_last said.commands;
+            steps = tt;
+            whole = sym (append-nil whole.0);
+          },
+          part_written (same_text (append-nil whole.0) (then whole.2 flushed)) failed,
+        ),
+      )
+
+  -- the opening failed
+  pub steps_unopened : has_failed b ≡ true → AnswersStepsIn o contents said lines a b (Err WriteFault)
+  steps_unopened failed =
+      let begun = steps_said [] world b (commands_none o contents lines world b _ begins) in (
+        opens,
+        (
+          begun.0,
+          record {
+            opens = opens;
+            place = 0;
+            before = begun.0;
+            begun = begun.1;
+            part = [];
+            turns = 0;
+            repeats = none_of_it said.commands;
+            steps = tt;
+            whole = sym (append-nil begun.0);
+          },
+          part_written begun.2 failed,
+        ),
+      )
+
+  -- a call of the writer failed at a command
+  steps_cut : (place : ℕ) → AreSomeTold o contents lines said.commands place world b c (opening said.header.capacity said.header.start) → has_failed c ≡ true → AnswersStepsIn o contents said lines a c (Err WriteFault)
+  unfolding steps_said
+  steps_cut place some failed =
+      let h = said.header in
+      let w = opening h.capacity h.start in
+      let before = steps_said (take place said.commands) some.now some.between some.told in
+      let v = last_of w some.told.run in
+      let there = same_text (ap (λ n. steps_text o n (at lines place) v some.part) (ap capacity_of some.told.layout ∙ cap')) some.tells.said in (
+        opens,
+        (
+          before.0 ++ steps_text o h.capacity (at lines place) v some.part,
+          record {
+            opens = opens;
+            place = place;
+            before = before.0;
+            begun = before.1;
+            part = some.part;
+            turns = some.turns;
+            repeats = some.repeats;
+            steps = run_here v some.part (subst (λ k. Run (machine_of o k) v some.part) some.told.layout some.tells.steps);
+            whole = refl;
+          },
+          part_written (then before.2 there) failed,
+        ),
+      )
 
   pub steps_stopped : (f : Fault) → StopsTelling o contents lines said.commands world b c f → AnswersStepsIn o contents said lines a c (Err f)
   steps_stopped f (inl h) =
-      let (is, none, (place, within, (last, told))) = h in
-      let wrote = steps_written (take place said.commands) last told in
+      let (is, sound, (place, within, (last, told))) = h in
+      let begun = steps_said (take place said.commands) last c (told _ begins) in
       subst (λ (g : Fault). AnswersStepsIn o contents said lines a c (Err g)) (sym is)
-      (inr (none ∙ none_first, (wrote.0, record { opens = opens; place = place; within = within; begun = wrote.1 }, wrote.2)))
+      (inr (begun.0, record { opens = opens; place = place; within = within; begun = begun.1 }, all_written begun.2 sound))
   steps_stopped f (inr h) =
-      subst (λ (g : Fault). AnswersStepsIn o contents said lines a c (Err g)) (sym h.0) (subst (λ n. Rose n (failures_of c)) none_first h.1, opens)
+      let (is, failed, (place, some)) = h in
+      subst (λ (g : Fault). AnswersStepsIn o contents said lines a c (Err g)) (sym is) (steps_cut place (some _ begins) failed)

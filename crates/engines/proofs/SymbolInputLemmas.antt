@@ -3,12 +3,14 @@ use Rattle.std.proofs.Common.{◌≡◌, ℕ, List, ◌++◌, length, map, Optio
 use Rattle.std.specs.Prelude.{IfSome, flat_map, option_and_then}
 use Rattle.std.proofs.lemmas.List.{length-map}
 use Rattle.texts.specs.declared.counted.Counted.{Counted}
+use Rattle.texts.specs.declared.output.Output.{Output}
+use Rattle.texts.specs.Output.{WroteAll, WrotePart}
 use Rattle.modules.specs.Catalogs.{catalog_with, entry_for}
 use Rattle.modules.specs.Entries.{CatalogEntries}
 use Rattle.modules.specs.Listed.{BoundNames}
 use Rattle.modules.specs.declared.catalog.KeptCounts.{KeptCounts}
 use Rattle.order_laws.specs.declared.refusals.Refusal.TheVariants as refusal
-use Rattle.engines.specs.CatalogTables.{HasFewRegions, HasManyRegions, answer_at}
+use Rattle.engines.specs.CatalogTables.{HasManyRegions, answer_at}
 use Rattle.engines.specs.LookupInputs.{all_addresses}
 use Rattle.engines.specs.AnswerForms.{line_by}
 use Rattle.engines.specs.Lookups.{GivesAddresses}
@@ -56,7 +58,7 @@ where_text_known P said text None is p = tt
 where_text_known P said text (Some x) is p = subst (λ s. IfSome (said s) P) is p
 
 -- the text of the listing is there, and a reader of the file of addresses
-module _ {W A : Type 0} (contents : W → Option (List ℕ)) (form : AnswerForm) (options : SymbolLookupOptions) (given text : List ℕ) (file : Option (Option (List ℕ))) (old new : Option (Counted A)) (w : Counted W) where
+module _ {W A : Type 0} (contents : W → Option (List ℕ)) (form : AnswerForm) (options : SymbolLookupOptions) (given text : List ℕ) (file : Option (Option (List ℕ))) (old new : Option (Counted A)) (w : Output W) where
   abbrev counts_of_last : Failures
   counts_of_last = last_failures (failures_in old) (failures_in new)
 
@@ -78,7 +80,7 @@ module _ {W A : Type 0} (contents : W → Option (List ℕ)) (form : AnswerForm)
   no_addresses _ g = absurd g
 
   -- the inputs are there
-  module _ (addresses : List ℕ) (all : IfSome file (λ x. all_addresses given x ≡ Ok addresses)) (w' : Counted W) where
+  module _ (addresses : List ℕ) (all : IfSome file (λ x. all_addresses given x ≡ Ok addresses)) (w' : Output W) where
     abbrev inputs : SymbolInputs
     inputs = record { kernel = options.kernel; rule = options.rule; kallsyms = text; addresses = addresses }
 
@@ -89,8 +91,8 @@ module _ {W A : Type 0} (contents : W → Option (List ℕ)) (form : AnswerForm)
 
     pub answered_by_symbols : failures_in new ≡ failures_in old → (result : Result ListingNotes Fault) → AnswersBySymbols contents form inputs w w' result
         → AnswersSymbolLookup contents form known counts_of_last w w' result
-    answered_by_symbols same (Ok notes) h = (none_failed same, h.0, with_inputs (λ i. IsWrittenBySymbols contents form w w' i notes) file all h.1)
+    answered_by_symbols same (Ok notes) h = (none_failed same, h.3.1, with_inputs (λ i. IsWrittenBySymbols (WroteAll contents w w') form i notes) file all h)
     answered_by_symbols same (Err (Refused refusal.OutOfMemory)) h = (none_failed same, h)
     answered_by_symbols same (Err (Refused refusal.BadCapacity)) h = (none_failed same, h.0, with_inputs (HoldsOfCatalog HasManyRegions) file all h.1)
-    answered_by_symbols same (Err Write) h = (none_failed same, h.0, with_inputs (HoldsOfCatalog HasFewRegions) file all h.1)
+    answered_by_symbols same (Err Write) h = (none_failed same, h.1.3.0, with_inputs (λ i. (notes : ListingNotes) × IsWrittenBySymbols (WrotePart contents w w') form i notes) file all h)
     answered_by_symbols same (Err _) h = absurd h

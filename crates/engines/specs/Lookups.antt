@@ -3,11 +3,11 @@ use Rattle.std.specs.Prelude.{◌≡◌, ℕ, List, [], ◌∷◌, ◌++◌, map
 use Rattle.std.specs.Prelude.{if◌then◌else◌, is_some, Option, Result, Ok, Err, IfSome}
 use Rattle.std.specs.Global.{Vec}
 use Rattle.std.specs.Option.{option_map}
-use Rattle.std.specs.Io.KnownBytes.{Appends}
-use Rattle.texts.specs.declared.counted.Counted.{Counted}
-use Rattle.texts.specs.Counted.{NoneFailed, Rose, device_of, failures_of}
+use Rattle.texts.specs.Counted.{Rose, failures_of}
 use Rattle.order_laws.specs.declared.refusals.Refusal.TheVariants as refusal
 use Rattle.texts.specs.Lines.{lines_of}
+use Rattle.texts.specs.declared.output.Output.{Output}
+use Rattle.texts.specs.Output.{WroteAll, WrotePart}
 use Rattle.listing.specs.Looks.{are_modules_hidden, are_symbols_hidden}
 use Rattle.listing.specs.ModuleListing.{module_counts}
 use Rattle.listing.specs.SymbolListing.{symbol_counts}
@@ -87,22 +87,20 @@ abbrev pub json_counts_text : Listings → List ℕ
 json_counts_text l =
     json_counts l.skipped_modules.by_place l.skipped_symbols.by_place l.has_regions l.built
 
--- the writer has taken the lines of these inputs
-abbrev pub IsWritten : {W : Type 0} → (W → Option (List ℕ)) → AnswerForm → Counted W → Counted W
-    → Inputs → Type 0
-IsWritten contents form w w' i =
-    FitsTable i × Appends (contents (device_of w)) (contents (device_of w')) (lookup_text form i)
+-- the lines of these inputs were written, as far as this says
+abbrev pub IsWritten : (List ℕ → Type 0) → AnswerForm → Inputs → Type 0
+IsWritten Wrote form i = FitsTable i × Wrote (lookup_text form i)
 
 -- What is returned for these inputs, from one state of the writer to another. Every fault but a
 -- failed write leaves the writer as it was, and a call of it failed then alone.
 abbrev pub AnswersWith : {W : Type 0} → (W → Option (List ℕ)) → AnswerForm → Inputs
-    → Counted W → Counted W → Result ListingNotes Fault → Type 0
+    → Output W → Output W → Result ListingNotes Fault → Type 0
 AnswersWith contents form i w w' (Ok notes) =
-    NoneFailed w w' × IsWritten contents form w w' i × (notes ≡ notes_of i)
+    IsWritten (WroteAll contents w w') form i × (notes ≡ notes_of i)
 AnswersWith contents form i w w' (Err (Refused refusal.OutOfMemory)) = w' ≡ w
 AnswersWith contents form i w w' (Err (Refused refusal.BadCapacity)) = (w' ≡ w) × HasTooManyRegions i
 AnswersWith contents form i w w' (Err (Refused refusal.TooManyRegions)) = (w' ≡ w) × HasTooManyOfOne i
-AnswersWith contents form i w w' (Err Write) = Rose (failures_of w) (failures_of w') × FitsTable i
+AnswersWith contents form i w w' (Err Write) = IsWritten (WrotePart contents w w') form i
 AnswersWith contents form i w w' (Err _) = ⊥
 
 -- the region lines, or why they are not there
@@ -124,18 +122,18 @@ GivesAddresses given known before after (Err (Read place)) = (place ≡ 3) × Ro
 GivesAddresses given known before after (Err _) = ⊥
 
 -- what is said of the inputs where this is returned
-abbrev pub IsLookupOf : {W : Type 0} → (W → Option (List ℕ)) → AnswerForm → Counted W → Counted W
+abbrev pub IsLookupOf : {W : Type 0} → (W → Option (List ℕ)) → AnswerForm → Output W → Output W
     → Inputs → Result ListingNotes Fault → Type 0
 IsLookupOf contents form w w' i (Ok notes) =
-    IsWritten contents form w w' i × (notes ≡ notes_of i)
+    IsWritten (WroteAll contents w w') form i × (notes ≡ notes_of i)
 IsLookupOf contents form w w' i (Err (Refused refusal.BadCapacity)) = HasTooManyRegions i
 IsLookupOf contents form w w' i (Err (Refused refusal.TooManyRegions)) = HasTooManyOfOne i
-IsLookupOf contents form w w' i (Err Write) = FitsTable i
+IsLookupOf contents form w w' i (Err Write) = IsWritten (WrotePart contents w w') form i
 IsLookupOf contents form w w' i (Err _) = Unit {0}
 
 -- what the engine returns that also read the inputs, where these are known
 abbrev pub AnswersLookup : {W : Type 0} → (W → Option (List ℕ)) → AnswerForm
-    → Option (Result Inputs (ℕ × ℕ)) → Failures → Counted W → Counted W → Result ListingNotes Fault → Type 0
+    → Option (Result Inputs (ℕ × ℕ)) → Failures → Output W → Output W → Result ListingNotes Fault → Type 0
 AnswersLookup contents form known counts w w' result =
     AnswersInputs (IsLookupOf contents form w w') known counts w w' result
 

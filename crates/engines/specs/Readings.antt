@@ -1,9 +1,11 @@
 -- What an engine returns that reads files one after the other, and which of its readers failed.
 use Rattle.std.specs.Prelude.{◌≡◌, ◌⊎◌, ℕ, zero, suc, List, [], ◌∷◌, Option, Result, Ok, Err}
-use Rattle.std.specs.Prelude.{IfSome}
+use Rattle.std.specs.Prelude.{IfSome, true, false}
 use Rattle.std.specs.Option.{option_map_or}
 use Rattle.texts.specs.declared.counted.Counted.{Counted}
-use Rattle.texts.specs.Counted.{NoneFailed, Rose, failures_of}
+use Rattle.texts.specs.Counted.{Rose, failures_of}
+use Rattle.texts.specs.declared.output.Output.{Output}
+use Rattle.texts.specs.Output.{has_failed}
 use Rattle.order_laws.specs.declared.refusals.Refusal.TheVariants as refusal
 use Rattle.engines.specs.declared.fault.Fault.{Fault}
 use Rattle.engines.specs.declared.fault.Fault.TheVariants.{Refused, BadLine, Read, Write}
@@ -51,9 +53,9 @@ IsLinesPlace place = (place ≡ 2) ⊎ (place ≡ 3)
 -- but a failed write leaves the writer as it was.
 abbrev pub AnswersInputs : {I V W : Type 0} → (I → Result V Fault → Type 0)
     → Option (Result I (ℕ × ℕ)) → Failures
-    → Counted W → Counted W → Result V Fault → Type 0
+    → Output W → Output W → Result V Fault → Type 0
 AnswersInputs Says known counts w w' (Ok v) =
-    NoReaderFailed counts × NoneFailed w w' × IfSome known (HoldsOf (λ i. Says i (Ok v)))
+    NoReaderFailed counts × (has_failed w' ≡ false) × IfSome known (HoldsOf (λ i. Says i (Ok v)))
 AnswersInputs Says known counts w w' (Err (Refused refusal.OutOfMemory)) =
     NoReaderFailed counts × (w' ≡ w)
 AnswersInputs Says known counts w w' (Err (Refused refusal.BadCapacity)) =
@@ -66,6 +68,6 @@ AnswersInputs Says known counts w w' (Err (BadLine place n)) =
     NoReaderFailed counts × (w' ≡ w) × IsLinesPlace place × IfSome known (λ i. i ≡ Err (place, n))
 AnswersInputs Says known counts w w' (Err (Read place)) = (w' ≡ w) × OnlyFailed place counts
 AnswersInputs Says known counts w w' (Err Write) =
-    NoReaderFailed counts × Rose (failures_of w) (failures_of w')
+    NoReaderFailed counts × (has_failed w' ≡ true)
     × IfSome known (HoldsOf (λ i. Says i (Err Write)))
 AnswersInputs Says known counts w w' (Err _) = ⊥

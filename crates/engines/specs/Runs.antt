@@ -1,11 +1,11 @@
 -- What is written for a script and the listings that it is run over.
 use Rattle.std.specs.Prelude.{◌≡◌, ℕ, ◌<◌, ◌≤◌, ◌==◌, true, false, if◌then◌else◌, List, [], ◌∷◌}
 use Rattle.std.specs.Prelude.{Option, Result, Ok, Err}
-use Rattle.std.specs.Io.KnownBytes.{Appends}
 use Rattle.std.specs.Global.{Vec}
 use Rattle.std.specs.List.{list_any}
-use Rattle.texts.specs.declared.counted.Counted.{Counted}
-use Rattle.texts.specs.Counted.{NoneFailed, Rose, device_of, failures_of}
+use Rattle.texts.specs.Counted.{failures_of}
+use Rattle.texts.specs.declared.output.Output.{Output}
+use Rattle.texts.specs.Output.{WroteAll, WrotePart}
 use Rattle.latch_table.specs.Limits.{most_readers}
 use Rattle.run_files.specs.declared.scripts.ScriptLine.{ScriptLine}
 use Rattle.modules.specs.Entries.{CatalogEntries}
@@ -51,36 +51,36 @@ status_of wrong = if wrong == 0 then 0 else 1
 -- What is returned for what came back, where the changes are of modules of these names.
 abbrev pub TellsServed : {W : Type 0} → (W → Option (List ℕ)) → CatalogEntries
     → List (Vec (List ℕ)) → Served
-    → Counted W → Counted W → Result ℕ Fault → Type 0
+    → Output W → Output W → Result ℕ Fault → Type 0
 TellsServed contents c names s w w' (Ok status) =
-    NoneFailed w w' × (list_any (λ e. e) s.ended.items ≡ false) × (status ≡ status_of s.wrong)
-    × Appends (contents (device_of w)) (contents (device_of w')) (run_text c names s)
+    (list_any (λ e. e) s.ended.items ≡ false) × (status ≡ status_of s.wrong)
+    × WroteAll contents w w' (run_text c names s)
 TellsServed contents c names s w w' (Err (Refused refusal.OutOfMemory)) =
     (w' ≡ w) × (list_any (λ e. e) s.ended.items ≡ true)
-TellsServed contents c names s w w' (Err Write) = Rose (failures_of w) (failures_of w')
+TellsServed contents c names s w w' (Err Write) =
+    (list_any (λ e. e) s.ended.items ≡ false) × WrotePart contents w w' (run_text c names s)
 TellsServed contents c names s w w' (Err _) = ⊥
 
--- The writer has taken the text of what came back for these lines, and the status says whether
--- something is wrong.
-abbrev pub IsRun : {W : Type 0} → (W → Option (List ℕ)) → CatalogEntries → ℕ → List ScriptLine
-    → Counted W → Counted W → ℕ → Type 0
-IsRun contents c readers lines w w' status =
+-- The text of what came back for these lines was written as far as this says, and the status says
+-- whether something is wrong.
+abbrev pub IsRun : (List ℕ → Type 0) → CatalogEntries → ℕ → List ScriptLine → ℕ → Type 0
+IsRun Wrote c readers lines status =
     (a : Assignments) × IsAssigned c readers lines a
     × ((s : Served) × IsServed c a s × (status ≡ status_of s.wrong)
-    × Appends (contents (device_of w)) (contents (device_of w')) (run_text c a.names.items s))
+    × Wrote (run_text c a.names.items s))
 
 -- What is returned for these lines. Every fault but a failed write leaves the writer as it was, and
 -- a call of it failed then alone.
 abbrev pub AnswersLines : {W : Type 0} → (W → Option (List ℕ)) → CatalogEntries → ℕ
     → List ScriptLine
-    → Counted W → Counted W → Result ℕ Fault → Type 0
+    → Output W → Output W → Result ℕ Fault → Type 0
 AnswersLines contents c readers lines w w' (Ok status) =
-    NoneFailed w w' × MayRun c readers × IsRun contents c readers lines w w' status
+    MayRun c readers × IsRun (WroteAll contents w w') c readers lines status
 AnswersLines contents c readers lines w w' (Err (Refused refusal.OutOfMemory)) = w' ≡ w
 AnswersLines contents c readers lines w w' (Err (Refused refusal.BadCapacity)) =
     (w' ≡ w) × (MayRun c readers → ⊥)
 AnswersLines contents c readers lines w w' (Err Write) =
-    Rose (failures_of w) (failures_of w') × MayRun c readers
+    MayRun c readers × ((status : ℕ) × IsRun (WrotePart contents w w') c readers lines status)
 AnswersLines contents c readers lines w w' (Err _) = ⊥
 
 -- no module has too many region lines, and a table can have all regions and so many readers
@@ -95,20 +95,23 @@ FitsNoRun readers i =
     × (MayRun (catalog_in i.listings) readers → ⊥)
 
 -- what is said of the inputs where this is returned
-abbrev pub IsRunOf : {W : Type 0} → (W → Option (List ℕ)) → ℕ → Counted W → Counted W
+abbrev pub IsRunOf : {W : Type 0} → (W → Option (List ℕ)) → ℕ → Output W → Output W
     → RunInputs → Result Finished Fault → Type 0
 IsRunOf contents readers w w' i (Ok finished) =
     FitsRun readers i
-    × IsRun contents (catalog_in i.listings) readers i.lines w w' finished.status
+    × IsRun (WroteAll contents w w') (catalog_in i.listings) readers i.lines finished.status
     × (finished.notes ≡ notes_of i.listings)
 IsRunOf contents readers w w' i (Err (Refused refusal.BadCapacity)) = FitsNoRun readers i
 IsRunOf contents readers w w' i (Err (Refused refusal.TooManyRegions)) = HasTooManyOfOne i.listings
-IsRunOf contents readers w w' i (Err Write) = FitsRun readers i
+IsRunOf contents readers w w' i (Err Write) =
+    FitsRun readers i
+    × ((status : ℕ)
+    × IsRun (WrotePart contents w w') (catalog_in i.listings) readers i.lines status)
 IsRunOf contents readers w w' i (Err _) = Unit {0}
 
 -- what the engine returns that also read the inputs, where these are known
 abbrev pub AnswersRun : {W : Type 0} → (W → Option (List ℕ)) → ℕ
-    → Option (Result RunInputs (ℕ × ℕ)) → Failures → Counted W → Counted W
+    → Option (Result RunInputs (ℕ × ℕ)) → Failures → Output W → Output W
     → Result Finished Fault → Type 0
 AnswersRun contents readers known counts w w' result =
     AnswersInputs (IsRunOf contents readers w w') known counts w w' result

@@ -1,9 +1,6 @@
 -- What one event and one command of a trace do that is run while its steps are written.
 use Rattle.std.specs.Prelude.{◌≡◌, ◌⊎◌, ℕ, ◌<◌, Bool, true, false, List, [], ◌∷◌, length, take}
-use Rattle.std.specs.Prelude.{Option}
-use Rattle.std.specs.Io.KnownBytes.{Appends}
-use Rattle.texts.specs.declared.counted.Counted.{Counted}
-use Rattle.texts.specs.Counted.{NoneFailed, Rose, device_of, failures_of}
+use Rattle.std.specs.Prelude.{Option, IfSome, slice_get}
 use Rattle.order_laws.specs.Orders.{Order}
 use Rattle.order_laws.specs.declared.refusals.Refusal.TheVariants as refusal
 use Rattle.word_layout.specs.Layouts.{capacity_of}
@@ -22,41 +19,42 @@ use Rattle.engines.specs.StepTexts.{event_text, load_by, steps_text}
 use Rattle.engines.specs.StepTraces.{AreTold}
 use Rattle.engines.specs.declared.fault.Fault.{Fault}
 use Rattle.engines.specs.declared.fault.Fault.TheVariants.{Refused, Write as WriteFault}
+use Rattle.texts.specs.declared.output.Output.{Output}
+use Rattle.texts.specs.Output.{Says, has_failed}
 
 -- from a moment that its world shows this run was done, and its lines were written
 pub record Tells {O W : Type 0} (o : Order ℕ) (contents : W → Option (List ℕ)) (line : ℕ)
-    (old new : World O ℕ) (a b : Counted W) (w : Moment ℕ) (run : List (Done ℕ)) : Type 0 where
+    (old new : World O ℕ) (a b : Output W) (w : Moment ℕ) (run : List (Done ℕ)) : Type 0 where
   pub layout : layout_in new ≡ layout_in old
   pub steps : Run (machine_in o old) w run
   pub shows : RepresentsMoment o new (last_of w run)
-  pub written : Appends (contents (device_of a)) (contents (device_of b))
-      (steps_text o (capacity_of (layout_in old)) line w run)
+  pub said : Says contents a b (steps_text o (capacity_of (layout_in old)) line w run)
 
 -- the line of an event was written, after which the world shows what is told of it
 abbrev pub IsTold : {O W : Type 0} → Order ℕ → (W → Option (List ℕ)) → ℕ → Option (NextLoad ℕ)
-    → Event ℕ → Reply ℕ → World O ℕ → Counted W → Counted W → Type 0
+    → Event ℕ → Reply ℕ → World O ℕ → Output W → Output W → Type 0
 IsTold o contents line load e reply new a b =
     (next : Moment ℕ) → RepresentsMoment o new next
-    → Appends (contents (device_of a)) (contents (device_of b))
-    (event_text next.events line load e reply (at next.latch.words 0))
+    → Says contents a b (event_text next.events line load e reply (at next.latch.words 0))
 
 -- one event, from each moment that the world shows
 abbrev pub TellsEvent : {O W : Type 0} → Order ℕ → (W → Option (List ℕ)) → ℕ → Event ℕ
-    → World O ℕ → World O ℕ → Counted W → Counted W → Reply ℕ → Type 0
+    → World O ℕ → World O ℕ → Output W → Output W → Reply ℕ → Type 0
 TellsEvent o contents line e old new a b reply =
     (w : Moment ℕ) → RepresentsMoment o old w
     → (next : Moment ℕ) × Tells o contents line old new a b w (step_done e reply next ∷ [])
 
--- the event of a command, as often as the command says
+-- the event of a command as often as the command says, or not so often where the writer failed
 abbrev pub TellsCommand : {O W : Type 0} → Order ℕ → (W → Option (List ℕ)) → ℕ → Command ℕ
-    → World O ℕ → World O ℕ → Counted W → Counted W → Type 0
+    → World O ℕ → World O ℕ → Output W → Output W → Type 0
 TellsCommand o contents line c old new a b =
     (w : Moment ℕ) → RepresentsMoment o old w
-    → (run : List (Done ℕ)) × Tells o contents line old new a b w run × Repeats c (most_of w c) run
+    → (run : List (Done ℕ)) × Tells o contents line old new a b w run
+    × (turns : ℕ) × Repeats c turns run × (has_failed b ≡ false → turns ≡ most_of w c)
 
 -- commands one after another, on lines of these numbers
 pub record AreCommandsTold {O W : Type 0} (o : Order ℕ) (contents : W → Option (List ℕ))
-    (lines : List ℕ) (cs : List (Command ℕ)) (old new : World O ℕ) (a b : Counted W)
+    (lines : List ℕ) (cs : List (Command ℕ)) (old new : World O ℕ) (a b : Output W)
     (w : Moment ℕ) : Type 0 where
   pub run : List (Done ℕ)
   pub text : List ℕ
@@ -65,10 +63,10 @@ pub record AreCommandsTold {O W : Type 0} (o : Order ℕ) (contents : W → Opti
   pub shows : RepresentsMoment o new (last_of w run)
   pub expands : Expand w cs run
   pub told : AreTold o (capacity_of (layout_in old)) lines 0 w cs run text
-  pub written : Appends (contents (device_of a)) (contents (device_of b)) text
+  pub said : Says contents a b text
 
 abbrev pub TellsCommands : {O W : Type 0} → Order ℕ → (W → Option (List ℕ)) → List ℕ
-    → List (Command ℕ) → World O ℕ → World O ℕ → Counted W → Counted W → Type 0
+    → List (Command ℕ) → World O ℕ → World O ℕ → Output W → Output W → Type 0
 TellsCommands o contents lines cs old new a b =
     (w : Moment ℕ) → RepresentsMoment o old w → AreCommandsTold o contents lines cs old new a b w
 
@@ -78,24 +76,34 @@ takes_memory (Begin u) = true
 takes_memory (Start r k) = true
 takes_memory _ = false
 
--- a call of the writer failed
-abbrev pub IsWriteFault : {W : Type 0} → Counted W → Counted W → Fault → Type 0
-IsWriteFault a b fault = (fault ≡ WriteFault) × Rose (failures_of a) (failures_of b)
+-- memory ran out and nothing was written
+abbrev pub IsMemoryFault : {W : Type 0} → Output W → Output W → Fault → Type 0
+IsMemoryFault a b fault = (fault ≡ Refused refusal.OutOfMemory) × (b ≡ a)
 
--- memory ran out and nothing was written, or a call of the writer failed
-abbrev pub IsTellFault : {W : Type 0} → Counted W → Counted W → Fault → Type 0
-IsTellFault a b fault =
-    ((fault ≡ Refused refusal.OutOfMemory) × (b ≡ a)) ⊎ IsWriteFault a b fault
+-- commands were told, and then some turns of the one at this place
+pub record AreSomeTold {O W : Type 0} (o : Order ℕ) (contents : W → Option (List ℕ))
+    (lines : List ℕ) (cs : List (Command ℕ)) (place : ℕ) (old : World O ℕ) (a b : Output W)
+    (w : Moment ℕ) : Type 0 where
+  pub now : World O ℕ
+  pub new : World O ℕ
+  pub between : Output W
+  pub told : AreCommandsTold o contents lines (take place cs) old now a between w
+  pub part : List (Done ℕ)
+  pub tells : Tells o contents (at lines place) now new between b (last_of w told.run) part
+  pub turns : ℕ
+  pub repeats : IfSome (slice_get cs place) (λ c. Repeats c turns part)
 
--- memory ran out at one of these commands, and those before it were told, or a call of the writer
--- failed
+-- Memory ran out at one of these commands, and those before it were told; or the writer failed,
+-- those before it were told, and some of its turns.
 abbrev pub StopsTelling : {O W : Type 0} → Order ℕ → (W → Option (List ℕ)) → List ℕ
-    → List (Command ℕ) → World O ℕ → Counted W → Counted W → Fault → Type 0
+    → List (Command ℕ) → World O ℕ → Output W → Output W → Fault → Type 0
 StopsTelling {O} o contents lines cs old a b fault =
-    ((fault ≡ Refused refusal.OutOfMemory) × NoneFailed a b
+    ((fault ≡ Refused refusal.OutOfMemory) × (has_failed b ≡ false)
     × ((place : ℕ) × (place < length cs)
     × ((new : World O ℕ) × TellsCommands o contents lines (take place cs) old new a b)))
-    ⊎ IsWriteFault a b fault
+    ⊎ ((fault ≡ WriteFault) × (has_failed b ≡ true)
+    × ((place : ℕ) × ((w : Moment ℕ) → RepresentsMoment o old w
+    → AreSomeTold o contents lines cs place old a b w)))
 
 -- of whatever moment a world shows: what an event loads, how often a command repeats its event at
 -- most, and whether a reply ends it

@@ -1,9 +1,10 @@
 -- What is written for a trace whose steps are asked for.
 use Rattle.std.specs.Prelude.{◌≡◌, ◌⊎◌, ℕ, ◌+◌, ◌<◌, List, [], ◌∷◌, ◌++◌, length, take, Option}
-use Rattle.std.specs.Prelude.{Result, Ok, IfSome}
-use Rattle.std.specs.Io.KnownBytes.{Appends}
+use Rattle.std.specs.Prelude.{Result, Ok, IfSome, slice_get}
 use Rattle.texts.specs.declared.counted.Counted.{Counted}
-use Rattle.texts.specs.Counted.{NoneFailed, device_of}
+use Rattle.texts.specs.Counted.{device_of}
+use Rattle.texts.specs.declared.output.Output.{Output}
+use Rattle.texts.specs.Output.{WroteAll}
 use Rattle.run_files.specs.Trace.{Contents, command_lines, trace_of}
 use Rattle.order_laws.specs.Orders.{Order}
 use Rattle.word_layout.specs.Words.{at}
@@ -65,7 +66,28 @@ pub record IsBegunText (o : Order ℕ) (said : Contents) (lines written : List �
   pub within : place < length said.commands
   pub begun : IsStepsText o (record said { commands = take place said.commands }) lines written
 
--- the bytes that are read and those that are written then
+-- What is said of it until a call of the writer fails: the opening, the steps of the commands
+-- before one, and those of some of its turns, or all.
+pub record IsCutText (o : Order ℕ) (said : Contents) (lines written : List ℕ) : Type 0 where
+  pub opens : HeaderMayOpen said.header
+  pub place : ℕ
+  pub before : List ℕ
+  pub begun : IsStepsText o (record said { commands = take place said.commands }) lines before
+  pub part : List (Done ℕ)
+  pub turns : ℕ
+  pub repeats : IfSome (slice_get said.commands place) (λ c. Repeats c turns part)
+  pub steps : Run (machine o said.header.capacity (greatest_of said.header.version))
+      (last_of (opening said.header.capacity said.header.start) begun.run) part
+  pub whole : written ≡ before ++ steps_text o said.header.capacity (at lines place)
+      (last_of (opening said.header.capacity said.header.start) begun.run) part
+
+-- the bytes that are read and those that are said then
+pub record IsCutTraceText (read written : List ℕ) : Type 0 where
+  pub said : Contents
+  pub reads : trace_of read ≡ Ok said
+  pub cut : IsCutText (order_by said.header.closed) said (command_lines read) written
+
+-- the bytes that are read and those that are written where memory ran out
 pub record IsBegunTraceText (read written : List ℕ) : Type 0 where
   pub said : Contents
   pub reads : trace_of read ≡ Ok said
@@ -73,25 +95,24 @@ pub record IsBegunTraceText (read written : List ℕ) : Type 0 where
 
 -- memory ran out before the first byte was written, or after a text that such a run writes
 abbrev pub StopsAfter : {W : Type 0} → (List ℕ → Type 0) → (W → Option (List ℕ))
-    → Counted W → Counted W → Type 0
+    → Output W → Output W → Type 0
 StopsAfter IsText contents w w' =
     (w' ≡ w)
-    ⊎ (NoneFailed w w'
-    × ((text : List ℕ) × IsText text
-    × Appends (contents (device_of w)) (contents (device_of w')) text))
+    ⊎ ((text : List ℕ) × IsText text × WroteAll contents w w' text)
 
 -- an engine that ran a trace of these contents, and wrote each step as it was done
 abbrev pub AnswersStepsIn : {W : Type 0} → Order ℕ → (W → Option (List ℕ)) → Contents → List ℕ
-    → Counted W → Counted W → Result (Unit {0}) Fault → Type 0
+    → Output W → Output W → Result (Unit {0}) Fault → Type 0
 AnswersStepsIn o contents said lines =
-    AnswersBy (IsStepsText o said lines) (StopsAfter (IsBegunText o said lines) contents)
+    AnswersBy (IsStepsText o said lines) (IsCutText o said lines)
+    (StopsAfter (IsBegunText o said lines) contents)
     contents said.header
 
 -- and also read it
 abbrev pub AnswersSteps : {R W : Type 0} → (R → Option (List ℕ)) → (W → Option (List ℕ))
-    → Counted R → Counted R → Counted W → Counted W → Result (Unit {0}) Fault → Type 0
+    → Counted R → Counted R → Output W → Output W → Result (Unit {0}) Fault → Type 0
 AnswersSteps remaining contents r =
-    AnswersReadBy IsStepTraceText
+    AnswersReadBy IsStepTraceText IsCutTraceText
     (StopsAfter (λ text. IfSome (remaining (device_of r)) (λ read. IsBegunTraceText read text))
     contents)
     remaining contents r

@@ -2,11 +2,11 @@
 use Rattle.std.specs.Prelude.{◌≡◌, ℕ, List, [], ◌∷◌, ◌++◌, map, flat_map, Option}
 use Rattle.std.specs.Prelude.{Result, Ok, Err, option_and_then}
 use Rattle.std.specs.Option.{option_map}
-use Rattle.std.specs.Io.KnownBytes.{Appends}
 use Rattle.listing.specs.declared.address_rules.AddressRule.{AddressRule}
-use Rattle.texts.specs.declared.counted.Counted.{Counted}
-use Rattle.texts.specs.Counted.{NoneFailed, Rose, device_of, failures_of}
+use Rattle.texts.specs.Counted.{device_of, failures_of}
 use Rattle.texts.specs.Lines.{lines_of}
+use Rattle.texts.specs.declared.output.Output.{Output}
+use Rattle.texts.specs.Output.{WroteAll, WrotePart}
 use Rattle.listing.specs.Opening.{SaysOfModules, kept_in_text, listed, notes_with, symbol_note}
 use Rattle.listing.specs.SymbolListing.{symbol_counts}
 use Rattle.modules.specs.declared.catalog.KeptCounts.{KeptCounts}
@@ -100,43 +100,45 @@ HoldsOfCatalog P i =
     (a : Accepted) × SaysOfModules i.kernel i.kallsyms a
     × P (catalog_with a (listed i.kallsyms))
 
--- the writer has taken the lines of these inputs, whose table has few regions, and this is noted
-abbrev pub IsWrittenBySymbols : {W : Type 0} → (W → Option (List ℕ)) → AnswerForm → Counted W
-    → Counted W → SymbolInputs → ListingNotes → Type 0
-IsWrittenBySymbols contents form w w' i notes =
+-- the lines of these inputs, whose table has few regions, were written as far as this says, and
+-- this is noted
+abbrev pub IsWrittenBySymbols : (List ℕ → Type 0) → AnswerForm → SymbolInputs → ListingNotes
+    → Type 0
+IsWrittenBySymbols Wrote form i notes =
     (a : Accepted) × SaysOfModules i.kernel i.kallsyms a
     × HasFewRegions (catalog_with a (listed i.kallsyms))
-    × Appends (contents (device_of w)) (contents (device_of w')) (symbol_lookup_text form i a)
+    × Wrote (symbol_lookup_text form i a)
     × (notes
     ≡ notes_with (symbol_note i.kernel i.kallsyms (kept_in_text i.kallsyms a).symbols))
 
 -- What is returned for these inputs, from one state of the writer to another. Every fault but a
 -- failed write leaves the writer as it was, and a call of it failed then alone.
 abbrev pub AnswersBySymbols : {W : Type 0} → (W → Option (List ℕ)) → AnswerForm → SymbolInputs
-    → Counted W → Counted W → Result ListingNotes Fault → Type 0
+    → Output W → Output W → Result ListingNotes Fault → Type 0
 AnswersBySymbols contents form i w w' (Ok notes) =
-    NoneFailed w w' × IsWrittenBySymbols contents form w w' i notes
+    IsWrittenBySymbols (WroteAll contents w w') form i notes
 AnswersBySymbols contents form i w w' (Err (Refused refusal.OutOfMemory)) = w' ≡ w
 AnswersBySymbols contents form i w w' (Err (Refused refusal.BadCapacity)) =
     (w' ≡ w) × HoldsOfCatalog HasManyRegions i
 AnswersBySymbols contents form i w w' (Err Write) =
-    Rose (failures_of w) (failures_of w') × HoldsOfCatalog HasFewRegions i
+    (notes : ListingNotes) × IsWrittenBySymbols (WrotePart contents w w') form i notes
 AnswersBySymbols contents form i w w' (Err _) = ⊥
 
 -- what is said of the inputs where this is returned
-abbrev pub IsSymbolLookupOf : {W : Type 0} → (W → Option (List ℕ)) → AnswerForm → Counted W
-    → Counted W → SymbolInputs → Result ListingNotes Fault → Type 0
+abbrev pub IsSymbolLookupOf : {W : Type 0} → (W → Option (List ℕ)) → AnswerForm → Output W
+    → Output W → SymbolInputs → Result ListingNotes Fault → Type 0
 IsSymbolLookupOf contents form w w' i (Ok notes) =
-    IsWrittenBySymbols contents form w w' i notes
+    IsWrittenBySymbols (WroteAll contents w w') form i notes
 IsSymbolLookupOf contents form w w' i (Err (Refused refusal.BadCapacity)) =
     HoldsOfCatalog HasManyRegions i
 IsSymbolLookupOf contents form w w' i (Err (Refused refusal.TooManyRegions)) = ⊥
-IsSymbolLookupOf contents form w w' i (Err Write) = HoldsOfCatalog HasFewRegions i
+IsSymbolLookupOf contents form w w' i (Err Write) =
+    (notes : ListingNotes) × IsWrittenBySymbols (WrotePart contents w w') form i notes
 IsSymbolLookupOf contents form w w' i (Err _) = Unit {0}
 
 -- what the engine returns that also read the inputs, where these are known
 abbrev pub AnswersSymbolLookup : {W : Type 0} → (W → Option (List ℕ)) → AnswerForm
-    → Option (Result SymbolInputs (ℕ × ℕ)) → Failures → Counted W → Counted W
+    → Option (Result SymbolInputs (ℕ × ℕ)) → Failures → Output W → Output W
     → Result ListingNotes Fault → Type 0
 AnswersSymbolLookup contents form known counts w w' result =
     AnswersInputs (IsSymbolLookupOf contents form w w') known counts w w' result

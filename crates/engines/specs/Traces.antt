@@ -1,9 +1,10 @@
 -- What is written for a trace that is read.
 use Rattle.std.specs.Prelude.{◌≡◌, ℕ, ◌%◌, ◌<◌, ◌≤◌, List, ◌++◌, Bool, true, false, Option, Result}
 use Rattle.std.specs.Prelude.{Ok, Err, IfSome, flat_map, if◌then◌else◌}
-use Rattle.std.specs.Io.KnownBytes.{Appends}
 use Rattle.texts.specs.declared.counted.Counted.{Counted}
 use Rattle.texts.specs.Counted.{NoneFailed, Rose, device_of, failures_of}
+use Rattle.texts.specs.declared.output.Output.{Output}
+use Rattle.texts.specs.Output.{WroteAll, WrotePart, has_failed}
 use Rattle.order_laws.specs.Orders.{Order, closed, half_open}
 use Rattle.order_laws.specs.declared.refusals.Refusal.TheVariants as refusal
 use Rattle.word_layout.specs.Limits.{most_nodes, greatest_sequence, greatest_wide_sequence}
@@ -75,67 +76,69 @@ pub record IsTraceWith (P : Header → Type 0) (read : List ℕ) : Type 0 where
   pub header : P said.header
 
 -- What an engine returns that ran a trace of this header from one state of the writer to another,
--- where `IsText` says what a run writes, and `IsRefused` what became of the writer where memory ran
--- out. A call of it failed where the answer says so, and else none.
-abbrev pub AnswersBy : {W : Type 0} → (List ℕ → Type 0) → (Counted W → Counted W → Type 0)
-    → (W → Option (List ℕ)) → Header → Counted W → Counted W → Result (Unit {0}) Fault → Type 0
-AnswersBy IsText IsRefused contents header w w' (Ok _) =
-    NoneFailed w w' × HeaderMayOpen header
-    × ((text : List ℕ) × IsText text
-    × Appends (contents (device_of w)) (contents (device_of w')) text)
-AnswersBy IsText IsRefused contents header w w' (Err (Refused refusal.OutOfMemory)) = IsRefused w w'
-AnswersBy IsText IsRefused contents header w w' (Err (Refused refusal.BadCapacity)) =
+-- where `IsText` says what a run writes, `IsBegun` what it writes until a call fails, and `IsRefused`
+-- what became of the writer where memory ran out. A call of it failed where the answer says so, and
+-- else none.
+abbrev pub AnswersBy : {W : Type 0} → (List ℕ → Type 0) → (List ℕ → Type 0) → (Output W → Output W → Type 0)
+    → (W → Option (List ℕ)) → Header → Output W → Output W → Result (Unit {0}) Fault → Type 0
+AnswersBy IsText IsBegun IsRefused contents header w w' (Ok _) =
+    HeaderMayOpen header × ((text : List ℕ) × IsText text × WroteAll contents w w' text)
+AnswersBy IsText IsBegun IsRefused contents header w w' (Err (Refused refusal.OutOfMemory)) = IsRefused w w'
+AnswersBy IsText IsBegun IsRefused contents header w w' (Err (Refused refusal.BadCapacity)) =
     (w' ≡ w) × HeaderMayNotOpen header
-AnswersBy IsText IsRefused contents header w w' (Err Write) =
-    Rose (failures_of w) (failures_of w') × HeaderMayOpen header
-AnswersBy IsText IsRefused contents header w w' (Err _) = ⊥
+AnswersBy IsText IsBegun IsRefused contents header w w' (Err Write) =
+    HeaderMayOpen header × ((text : List ℕ) × IsBegun text × WrotePart contents w w' text)
+AnswersBy IsText IsBegun IsRefused contents header w w' (Err _) = ⊥
 
 -- The same of an engine that also read the trace, where the bytes of the reader are known: `IsText`
--- takes them and those that are written. A bad line leaves the writer as it was.
-abbrev pub AnswersReadBy : {R W : Type 0} → (List ℕ → List ℕ → Type 0)
-    → (Counted W → Counted W → Type 0) → (R → Option (List ℕ)) → (W → Option (List ℕ))
-    → Counted R → Counted R → Counted W → Counted W → Result (Unit {0}) Fault → Type 0
-AnswersReadBy IsText IsRefused remaining contents r r' w w' (Ok _) =
-    NoneFailed r r' × NoneFailed w w'
+-- and `IsBegun` take them and those that are written. A bad line leaves the writer as it was.
+abbrev pub AnswersReadBy : {R W : Type 0} → (List ℕ → List ℕ → Type 0) → (List ℕ → List ℕ → Type 0)
+    → (Output W → Output W → Type 0) → (R → Option (List ℕ)) → (W → Option (List ℕ))
+    → Counted R → Counted R → Output W → Output W → Result (Unit {0}) Fault → Type 0
+AnswersReadBy IsText IsBegun IsRefused remaining contents r r' w w' (Ok _) =
+    NoneFailed r r' × (has_failed w' ≡ false)
     × IfSome (remaining (device_of r)) (λ read. (text : List ℕ) × IsText read text
-    × Appends (contents (device_of w)) (contents (device_of w')) text)
-AnswersReadBy IsText IsRefused remaining contents r r' w w' (Err (Refused refusal.OutOfMemory)) =
+    × WroteAll contents w w' text)
+AnswersReadBy IsText IsBegun IsRefused remaining contents r r' w w' (Err (Refused refusal.OutOfMemory)) =
     NoneFailed r r' × IsRefused w w'
-AnswersReadBy IsText IsRefused remaining contents r r' w w' (Err (Refused refusal.BadCapacity)) =
+AnswersReadBy IsText IsBegun IsRefused remaining contents r r' w w' (Err (Refused refusal.BadCapacity)) =
     NoneFailed r r' × (w' ≡ w) × IfSome (remaining (device_of r)) (IsTraceWith HeaderMayNotOpen)
-AnswersReadBy IsText IsRefused remaining contents r r' w w' (Err (Refused _)) = ⊥
-AnswersReadBy IsText IsRefused remaining contents r r' w w' (Err (BadLine place n)) =
+AnswersReadBy IsText IsBegun IsRefused remaining contents r r' w w' (Err (Refused _)) = ⊥
+AnswersReadBy IsText IsBegun IsRefused remaining contents r r' w w' (Err (BadLine place n)) =
     NoneFailed r r' × (w' ≡ w) × (place ≡ 0)
     × IfSome (remaining (device_of r)) (λ read. trace_of read ≡ Err n)
-AnswersReadBy IsText IsRefused remaining contents r r' w w' (Err (Read place)) =
+AnswersReadBy IsText IsBegun IsRefused remaining contents r r' w w' (Err (Read place)) =
     (w' ≡ w) × (place ≡ 0) × Rose (failures_of r) (failures_of r')
-AnswersReadBy IsText IsRefused remaining contents r r' w w' (Err Write) =
-    NoneFailed r r' × Rose (failures_of w) (failures_of w')
-    × IfSome (remaining (device_of r)) (IsTraceWith HeaderMayOpen)
-AnswersReadBy IsText IsRefused remaining contents r r' w w' (Err _) = ⊥
+AnswersReadBy IsText IsBegun IsRefused remaining contents r r' w w' (Err Write) =
+    NoneFailed r r' × (has_failed w' ≡ true)
+    × IfSome (remaining (device_of r)) (λ read. (text : List ℕ) × IsBegun read text
+    × WrotePart contents w w' text)
+AnswersReadBy IsText IsBegun IsRefused remaining contents r r' w w' (Err _) = ⊥
 
 -- every fault but a failed write leaves the writer as it was
-abbrev pub Stays : {W : Type 0} → Counted W → Counted W → Type 0
+abbrev pub Stays : {W : Type 0} → Output W → Output W → Type 0
 Stays w w' = w' ≡ w
 
 -- What an engine returns that ran a trace of which the lines say this, and wrote its notes at the
 -- end.
 abbrev pub AnswersSaid : {W : Type 0} → (W → Option (List ℕ)) → Result Contents ℕ
-    → Counted W → Counted W → Result (Unit {0}) Fault → Type 0
+    → Output W → Output W → Result (Unit {0}) Fault → Type 0
 AnswersSaid contents said w w' (Ok _) =
-    NoneFailed w w' × ((c : Contents) × (said ≡ Ok c) × HeaderMayOpen c.header
+    (c : Contents) × (said ≡ Ok c) × HeaderMayOpen c.header
     × ((text : List ℕ) × IsRunText (order_by c.header.closed) c text
-    × Appends (contents (device_of w)) (contents (device_of w')) text))
+    × WroteAll contents w w' text)
 AnswersSaid contents said w w' (Err (Refused refusal.OutOfMemory)) = w' ≡ w
 AnswersSaid contents said w w' (Err (Refused refusal.BadCapacity)) =
     (w' ≡ w) × ((c : Contents) × (said ≡ Ok c) × HeaderMayNotOpen c.header)
 AnswersSaid contents said w w' (Err (BadLine place n)) = (w' ≡ w) × (place ≡ 0) × (said ≡ Err n)
 AnswersSaid contents said w w' (Err Write) =
-    Rose (failures_of w) (failures_of w')
-    × ((c : Contents) × (said ≡ Ok c) × HeaderMayOpen c.header)
+    (c : Contents) × (said ≡ Ok c) × HeaderMayOpen c.header
+    × ((text : List ℕ) × IsRunText (order_by c.header.closed) c text
+    × WrotePart contents w w' text)
 AnswersSaid contents said w w' (Err _) = ⊥
 
 -- and also read it
 abbrev pub AnswersTrace : {R W : Type 0} → (R → Option (List ℕ)) → (W → Option (List ℕ))
-    → Counted R → Counted R → Counted W → Counted W → Result (Unit {0}) Fault → Type 0
-AnswersTrace remaining contents = AnswersReadBy IsTraceText Stays remaining contents
+    → Counted R → Counted R → Output W → Output W → Result (Unit {0}) Fault → Type 0
+AnswersTrace remaining contents =
+    AnswersReadBy IsTraceText IsTraceText Stays remaining contents

@@ -41,4 +41,4 @@ pub use symbol_lookup::{
     SymbolLookupOptions, SymbolLookupReaders, put_found_counts, symbol_lookup_engine,
 };
 pub use trace::trace_engine;
-pub use trace_texts::{put_decimal, put_refused};
+pub use trace_texts::put_refused;

@@ -3,7 +3,7 @@ ghost use Rattle.std.specs.Prelude.{◌≡◌, ◌++◌, ◌∷◌, [], Err, All
 ghost use Rattle.std.specs.Prelude.{true, IfOk, IfErr, IfSome};
 ghost use Rattle.std.specs.Option.{option_copied};
 ghost use Rattle.texts.specs.Counted.{device_of, failures_of};
-ghost use Rattle.texts.specs.Exact.{Wrote};
+ghost use Rattle.texts.specs.Output.{Says};
 ghost use Rattle.modules.specs.Catalogs.{IsBuildRefusal};
 ghost use Rattle.modules.specs.Lines.{region_fits};
 ghost use Rattle.engines.specs.LookupInputs.{inputs_in, known_inputs, known_text};
@@ -23,9 +23,8 @@ use listing::{AddressRule, ListingNotes, Listings, open_listings, read_addresses
 use modules::{Asked, KernelBounds, RegionLine};
 use order_laws::Refusal;
 use std::alloc::{AllocError, Global};
-use std::io;
 use std::io::{Read, Write};
-use texts::{Counted, ReadFault, read_whole};
+use texts::{Counted, Output, ReadFault, read_whole};
 
 /// The readers of the files of a lookup, in the order in which they are read.
 #[derive(Drop)]
@@ -96,7 +95,7 @@ pub fn lookup_engine<M: Read, K: Read, R: Read, A: Read, W: Write>(
     options: &LookupOptions<'_>,
     addresses: &[u64],
     form: AnswerForm,
-    writer: &mut Counted<W>,
+    writer: &mut Output<W>,
 ) -> Result<ListingNotes, Fault>
     ensures { AnswersLookup W.contents form
         (known_inputs M.remaining K.remaining R.remaining A.remaining
@@ -192,7 +191,7 @@ fn answer_with<W: Write>(
     alloc: Global,
     inputs: &LookupInputs<'_, '_>,
     form: AnswerForm,
-    writer: &mut Counted<W>,
+    writer: &mut Output<W>,
 ) -> Result<ListingNotes, Fault>
     requires { All (λ r. region_fits r ≡ true) (region_lines_of_inputs (inputs_in inputs.now)) }
     ensures { AnswersWith W.contents form (inputs_in inputs.now) writer.old writer.new result }
@@ -207,10 +206,11 @@ fn answer_with<W: Write>(
         rule,
         &inputs.addresses,
     )?;
-    match put_lookup(writer, &listings, rule, form, &answers) {
-        Ok(()) => Ok(listings.notes),
-        Err(_) => Err(Fault::Write),
+    put_lookup(writer, &listings, rule, form, &answers);
+    if writer.has_failed() {
+        return Err(Fault::Write);
     }
+    Ok(listings.notes)
 }
 
 /// The addresses that are looked up for these, for who builds a catalog.
@@ -262,29 +262,25 @@ fn region_lines_of<'i, 'a>(inputs: &'i LookupInputs<'_, 'a>) -> Option<&'i [Regi
 
 /// Writes the line of each answer and the counts, and lets the writer keep nothing back.
 fn put_lookup<W: Write>(
-    writer: &mut Counted<W>,
+    writer: &mut Output<W>,
     listings: &Listings,
     rule: AddressRule,
     form: AnswerForm,
     answers: &[AddressAnswer],
-) -> io::Result<()>
-    ensures { Wrote W.contents writer.old writer.new result
+)
+    ensures { Says W.contents writer.old writer.new
         (flat_map (line_by form listings.now.catalog rule) answers.now
         ++ counts_by form (counts_text listings.now) (json_counts_text listings.now)) }
 {
-    put_answers(writer, &listings.catalog, rule, form, answers)?;
-    put_counts_by(writer, listings, form)?;
-    writer.flush()
+    put_answers(writer, &listings.catalog, rule, form, answers);
+    put_counts_by(writer, listings, form);
+    writer.flush();
 }
 
 /// Writes the counts of the listings, where the form has them.
 #[tactic(auto, unfolding(crate::specs::AnswerForms::counts_by))]
-fn put_counts_by<W: Write>(
-    writer: &mut Counted<W>,
-    listings: &Listings,
-    form: AnswerForm,
-) -> io::Result<()>
-    ensures { Wrote W.contents writer.old writer.new result
+fn put_counts_by<W: Write>(writer: &mut Output<W>, listings: &Listings, form: AnswerForm)
+    ensures { Says W.contents writer.old writer.new
         (counts_by form (counts_text listings.now) (json_counts_text listings.now)) }
 {
     if form.counts {
@@ -293,33 +289,29 @@ fn put_counts_by<W: Write>(
         } else {
             put_counts(writer, listings)
         }
-    } else {
-        Ok(())
     }
 }
 
 /// Writes the counts of the listings.
-pub fn put_counts<W: Write>(writer: &mut Counted<W>, listings: &Listings) -> io::Result<()>
-    ensures { Wrote W.contents writer.old writer.new result (counts_text listings.now) }
+pub fn put_counts<W: Write>(writer: &mut Output<W>, listings: &Listings)
+    ensures { Says W.contents writer.old writer.new (counts_text listings.now) }
 {
-    put_module_counts(writer, &listings.skipped_modules, &listings.built)?;
+    put_module_counts(writer, &listings.skipped_modules, &listings.built);
     put_symbol_counts(
         writer,
         &listings.skipped_symbols,
         listings.built.symbols,
         listings.built.stray,
-    )?;
-    put_counts_of_regions(writer, listings)
+    );
+    put_counts_of_regions(writer, listings);
 }
 
 /// Writes the counts of the listing of regions, where there is one.
-fn put_counts_of_regions<W: Write>(writer: &mut Counted<W>, listings: &Listings) -> io::Result<()>
-    ensures { Wrote W.contents writer.old writer.new result
+fn put_counts_of_regions<W: Write>(writer: &mut Output<W>, listings: &Listings)
+    ensures { Says W.contents writer.old writer.new
         (regions_line_of listings.now.has_regions listings.now.built) }
 {
     if listings.has_regions {
         put_region_counts(writer, &listings.built)
-    } else {
-        Ok(())
     }
 }

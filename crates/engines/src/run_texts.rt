@@ -5,7 +5,8 @@
 ghost use Rattle.std.specs.Prelude.{◌++◌, ◌+◌, ◌≡◌, IfOk, codes, decimal, flat_map, min};
 ghost use Rattle.std.specs.Prelude.{sum_by, vec_len};
 ghost use Rattle.std.specs.List.{zip};
-ghost use Rattle.texts.specs.Exact.{Wrote, hexadecimal};
+ghost use Rattle.texts.specs.Exact.{hexadecimal};
+ghost use Rattle.texts.specs.Output.{Says};
 ghost use Rattle.engines.specs.LookupTexts.{count_text};
 ghost use Rattle.engines.specs.RunTexts.{answered_text, answers_text, change_text};
 ghost use Rattle.engines.specs.RunTexts.{count_of_answers, refusals_text, run_text, totals_text};
@@ -18,10 +19,9 @@ use modules::Catalog;
 use order_laws::Refusal;
 use run_files::ModuleName;
 use shared_lookup::{Answer, Served};
-use std::alloc::Global;
-use std::io;
+use std::alloc::{AllocError, Global};
 use std::io::Write;
-use texts::{BLOCK, Counted, put};
+use texts::{BLOCK, Output};
 
 /// How many answers are gathered at once. Mostly their lines fit in a block.
 const GATHERED: usize = 1024;
@@ -29,166 +29,156 @@ const GATHERED: usize = 1024;
 /// Writes what came back from the writers, whose changes are of modules of these names, and from
 /// the readers; and lets the writer keep nothing back.
 pub fn put_run<W: Write>(
-    writer: &mut Counted<W>,
+    writer: &mut Output<W>,
     alloc: Global,
     catalog: &Catalog<'_>,
     names: &[Vec<ModuleName<'_>>],
     served: &Served,
-) -> io::Result<()>
-    ensures { Wrote W.contents writer.old writer.new result
+)
+    ensures { Says W.contents writer.old writer.new
         (run_text catalog.now names.now served.now) }
 {
-    put_refusals(writer, names, &served.changes)?;
-    put_found(writer, alloc, catalog, &served.answers)?;
+    put_refusals(writer, names, &served.changes);
+    put_found(writer, alloc, catalog, &served.answers);
     let checked = checked_in(&served.answers);
-    put_totals(writer, checked, served.wrong, served.log.len() as u64)?;
-    writer.flush()
+    put_totals(writer, checked, served.wrong, served.log.len() as u64);
+    writer.flush();
 }
 
 /// Writes the refused changes of each writer, the first of which is number 1.
 fn put_refusals<W: Write>(
-    writer: &mut Counted<W>,
+    writer: &mut Output<W>,
     names: &[Vec<ModuleName<'_>>],
     outcomes: &[Vec<Result<u64, Refusal>>],
-) -> io::Result<()>
-    ensures { Wrote W.contents writer.old writer.new result (refusals_text names.now outcomes.now) }
+)
+    ensures { Says W.contents writer.old writer.new (refusals_text names.now outcomes.now) }
 {
     for place in 0..names.len().min(outcomes.len()) {
-        put_writer(writer, place as u64 + 1, &names[place], &outcomes[place])?;
+        put_writer(writer, place as u64 + 1, &names[place], &outcomes[place]);
     }
-    Ok(())
 }
 
 /// Writes the refused changes of the writer with this number.
 fn put_writer<W: Write>(
-    writer: &mut Counted<W>,
+    writer: &mut Output<W>,
     number: u64,
     names: &[ModuleName<'_>],
     outcomes: &[Result<u64, Refusal>],
-) -> io::Result<()>
-    ensures { Wrote W.contents writer.old writer.new result
+)
+    ensures { Says W.contents writer.old writer.new
         (writer_text number names.now outcomes.now) }
 {
     for place in 0..names.len().min(outcomes.len()) {
-        put_change(writer, number, &names[place], &outcomes[place])?;
+        put_change(writer, number, &names[place], &outcomes[place]);
     }
-    Ok(())
 }
 
 /// Writes `refused W N NAME` and a line's end for a change that was refused.
 #[tactic(auto, unfolding(crate::specs::RunTexts::change_text))]
 fn put_change<W: Write>(
-    writer: &mut Counted<W>,
+    writer: &mut Output<W>,
     number: u64,
     name: &ModuleName<'_>,
     outcome: &Result<u64, Refusal>,
-) -> io::Result<()>
-    ensures { Wrote W.contents writer.old writer.new result
+)
+    ensures { Says W.contents writer.old writer.new
         (change_text number (name.now, outcome.now)) }
 {
     let Err(refusal) = outcome else {
-        return Ok(());
+        return;
     };
-    put_count(writer, b"refused ", number)?;
-    put_count(writer, b" ", u64::from(refusal.number()))?;
-    put(writer, b" ")?;
-    put(writer, name.bytes)?;
-    put(writer, b"\n")
+    put_count(writer, b"refused ", number);
+    put_count(writer, b" ", u64::from(refusal.number()));
+    writer.put(b" ");
+    writer.put(name.bytes);
+    writer.put(b"\n");
 }
 
 /// Writes the answers of each reader.
 fn put_found<W: Write>(
-    writer: &mut Counted<W>,
+    writer: &mut Output<W>,
     alloc: Global,
     catalog: &Catalog<'_>,
     answers: &[Vec<Answer>],
-) -> io::Result<()>
-    ensures { Wrote W.contents writer.old writer.new result
+)
+    ensures { Says W.contents writer.old writer.new
         (flat_map (answers_text catalog.now) answers.now) }
 {
     for list in answers {
-        put_list(writer, alloc, catalog, list)?;
+        put_list(writer, alloc, catalog, list);
     }
-    Ok(())
 }
 
 /// Writes the answers of a reader.
 fn put_list<W: Write>(
-    writer: &mut Counted<W>,
+    writer: &mut Output<W>,
     alloc: Global,
     catalog: &Catalog<'_>,
     answers: &[Answer],
-) -> io::Result<()>
-    ensures { Wrote W.contents writer.old writer.new result
+)
+    ensures { Says W.contents writer.old writer.new
         (flat_map (answered_text catalog.now) answers.now) }
 {
     let mut rest = answers;
     while !rest.is_empty() {
         let (next, after) = rest.split_at(rest.len().min(GATHERED));
-        put_gathered(writer, alloc, catalog, next)?;
+        put_gathered(writer, alloc, catalog, next);
         rest = after;
     }
-    Ok(())
 }
 
 /// Writes answers at once, or piece by piece where there is no memory to gather them.
 fn put_gathered<W: Write>(
-    writer: &mut Counted<W>,
+    writer: &mut Output<W>,
     alloc: Global,
     catalog: &Catalog<'_>,
     answers: &[Answer],
-) -> io::Result<()>
-    ensures { Wrote W.contents writer.old writer.new result
+)
+    ensures { Says W.contents writer.old writer.new
         (flat_map (answered_text catalog.now) answers.now) }
 {
     match gathered(alloc, catalog, answers) {
-        Ok(text) => put(writer, &text),
+        Ok(text) => writer.put(&text),
         Err(_) => put_pieces(writer, catalog, answers),
     }
 }
 
 /// The text of answers. An error means that memory ran out.
-fn gathered(alloc: Global, catalog: &Catalog<'_>, answers: &[Answer]) -> io::Result<Vec<u8>>
+fn gathered(alloc: Global, catalog: &Catalog<'_>, answers: &[Answer]) -> Result<Vec<u8>, AllocError>
     ensures { IfOk result (λ text.
         text.items ≡ flat_map (answered_text catalog.now) answers.now) }
 {
-    let mut text = Counted::new(Vec::with_capacity(alloc, BLOCK)?);
-    put_pieces(&mut text, catalog, answers)?;
+    let mut text = Output::new(Vec::with_capacity(alloc, BLOCK)?);
+    put_pieces(&mut text, catalog, answers);
+    if text.has_failed() {
+        return Err(AllocError);
+    }
     Ok(text.into_inner())
 }
 
 /// Writes the pieces of answers.
-fn put_pieces<W: Write>(
-    writer: &mut Counted<W>,
-    catalog: &Catalog<'_>,
-    answers: &[Answer],
-) -> io::Result<()>
-    ensures { Wrote W.contents writer.old writer.new result
+fn put_pieces<W: Write>(writer: &mut Output<W>, catalog: &Catalog<'_>, answers: &[Answer])
+    ensures { Says W.contents writer.old writer.new
         (flat_map (answered_text catalog.now) answers.now) }
 {
     for answer in answers {
-        put_answered(writer, catalog, answer)?;
+        put_answered(writer, catalog, answer);
     }
-    Ok(())
 }
 
 /// Writes `R ADDR -> TEXT gen J` and a line's end.
 #[tactic(auto, unfolding(crate::specs::RunTexts::answered_text))]
-fn put_answered<W: Write>(
-    writer: &mut Counted<W>,
-    catalog: &Catalog<'_>,
-    answer: &Answer,
-) -> io::Result<()>
-    ensures { Wrote W.contents writer.old writer.new result (answered_text catalog.now answer.now) }
+fn put_answered<W: Write>(writer: &mut Output<W>, catalog: &Catalog<'_>, answer: &Answer)
+    ensures { Says W.contents writer.old writer.new (answered_text catalog.now answer.now) }
 {
-    put_asked(writer, answer.reader, answer.key)?;
-    write_answer(writer, catalog, answer.item, answer.key)?;
-    put_generation(writer, answer.generation)
+    put_asked(writer, answer.reader, answer.key);
+    write_answer(writer, catalog, answer.item, answer.key);
+    put_generation(writer, answer.generation);
 }
 
 /// Writes `R ADDR -> ` for the reader at this place, at once.
-fn put_asked<W: Write>(writer: &mut Counted<W>, reader: u32, key: u64) -> io::Result<()>
-    ensures { Wrote W.contents writer.old writer.new result
+fn put_asked<W: Write>(writer: &mut Output<W>, reader: u32, key: u64)
+    ensures { Says W.contents writer.old writer.new
         (decimal (reader + 1) ++ codes " " ++ hexadecimal key ++ codes " -> ") }
 {
     let mut line = LineRoom::new();
@@ -196,19 +186,19 @@ fn put_asked<W: Write>(writer: &mut Counted<W>, reader: u32, key: u64) -> io::Re
     line.before_hexadecimal(key);
     line.before(b" ");
     line.before_decimal(u64::from(reader) + 1);
-    put(writer, line.line())
+    writer.put(line.line());
 }
 
 /// Writes ` gen J` and a line's end, at once.
-fn put_generation<W: Write>(writer: &mut Counted<W>, generation: u64) -> io::Result<()>
-    ensures { Wrote W.contents writer.old writer.new result
+fn put_generation<W: Write>(writer: &mut Output<W>, generation: u64)
+    ensures { Says W.contents writer.old writer.new
         (count_text (codes " gen ") generation ++ codes "\n") }
 {
     let mut line = LineRoom::new();
     line.before(b"\n");
     line.before_decimal(generation);
     line.before(b" gen ");
-    put(writer, line.line())
+    writer.put(line.line());
 }
 
 /// How many answers there are in all lists; it stays at the greatest number.
@@ -224,17 +214,12 @@ fn checked_in(answers: &[Vec<Answer>]) -> u64
 
 /// Writes `checked C wrong D seq K gen J` and a line's end. A table begins at sequence 0.
 #[tactic(auto, unfolding(crate::specs::RunTexts::totals_text))]
-fn put_totals<W: Write>(
-    writer: &mut Counted<W>,
-    checked: u64,
-    wrong: u64,
-    updates: u64,
-) -> io::Result<()>
-    ensures { Wrote W.contents writer.old writer.new result (totals_text checked wrong updates) }
+fn put_totals<W: Write>(writer: &mut Output<W>, checked: u64, wrong: u64, updates: u64)
+    ensures { Says W.contents writer.old writer.new (totals_text checked wrong updates) }
 {
-    put_count(writer, b"checked ", checked)?;
-    put_count(writer, b" wrong ", wrong)?;
-    put_count(writer, b" seq ", updates.saturating_mul(2))?;
-    put_count(writer, b" gen ", updates)?;
-    put(writer, b"\n")
+    put_count(writer, b"checked ", checked);
+    put_count(writer, b" wrong ", wrong);
+    put_count(writer, b" seq ", updates.saturating_mul(2));
+    put_count(writer, b" gen ", updates);
+    writer.put(b"\n");
 }

@@ -30,7 +30,7 @@ use std::alloc::Global;
 use std::io::{Read, Write};
 use std::sync::Wait;
 use std::thread::Threads;
-use texts::Counted;
+use texts::{Counted, Output};
 
 /// The readers of the files of a run, in the order in which they are read.
 #[derive(Drop)]
@@ -63,7 +63,7 @@ pub fn run_engine<T: Threads + Wait + Sync, M: Read, K: Read, R: Read, S: Read, 
     readers: &mut RunReaders<M, K, R, S>,
     kernel: &KernelBounds<'_>,
     count: u32,
-    writer: &mut Counted<W>,
+    writer: &mut Output<W>,
 ) -> Result<Finished, Fault>
     ensures { AnswersRun W.contents count
         (known_run_inputs M.remaining K.remaining R.remaining S.remaining
@@ -90,7 +90,7 @@ fn run_from<T: Threads + Wait + Sync, S: Read, W: Write>(
     script: &mut Counted<S>,
     kernel: &KernelBounds<'_>,
     readers: u32,
-    writer: &mut Counted<W>,
+    writer: &mut Output<W>,
 ) -> Result<Finished, Fault>
     ensures { AnswersRun W.contents readers
         (run_inputs_of kernel.now readers (S.remaining (device_of script.old)) (texts_in texts.now))
@@ -124,7 +124,7 @@ fn run_with<T: Threads + Wait + Sync, W: Write>(
     inputs: &LookupInputs<'_, '_>,
     script: &[u8],
     readers: u32,
-    writer: &mut Counted<W>,
+    writer: &mut Output<W>,
 ) -> Result<Finished, Fault>
     requires { All (λ r. region_fits r ≡ true) (region_lines_of_inputs (inputs_in inputs.now)) }
     ensures { AnswersRun W.contents readers
@@ -149,7 +149,7 @@ fn run_lines<T: Threads + Wait + Sync, W: Write>(
     catalog: &Catalog<'_>,
     lines: Vec<ScriptLine<'_>>,
     readers: u32,
-    writer: &mut Counted<W>,
+    writer: &mut Output<W>,
 ) -> Result<u8, Fault>
     requires { All (λ l. has_actor readers l ≡ true) lines.items }
     ensures { AnswersLines W.contents catalog.now readers lines.entry.items writer.old writer.new result }
@@ -178,7 +178,7 @@ fn give_back(lines: Vec<ScriptLine<'_>>) {
 /// from readers, and returns the program's status, 1 where something is wrong. Refused as out of
 /// memory where some list of addresses ended early.
 fn tell<W: Write>(
-    writer: &mut Counted<W>,
+    writer: &mut Output<W>,
     alloc: Global,
     catalog: &Catalog<'_>,
     names: &[Vec<ModuleName<'_>>],
@@ -190,10 +190,11 @@ fn tell<W: Write>(
     if has_ended(&served.ended) {
         return Err(Fault::Refused(Refusal::OutOfMemory));
     }
-    match put_run(writer, alloc, catalog, names, served) {
-        Ok(()) => Ok(status_of(served.wrong)),
-        Err(_) => Err(Fault::Write),
+    put_run(writer, alloc, catalog, names, served);
+    if writer.has_failed() {
+        return Err(Fault::Write);
     }
+    Ok(status_of(served.wrong))
 }
 
 /// Whether some list of addresses ended out of memory.

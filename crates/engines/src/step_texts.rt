@@ -2,7 +2,7 @@
 //! taken.
 ghost use Rattle.std.specs.Prelude.{◌≡◌, ◌+◌, ◌≤◌, ◌==◌, [], ◌++◌, if◌then◌else◌, codes, flat_map};
 ghost use Rattle.std.specs.Prelude.{length};
-ghost use Rattle.texts.specs.Exact.{Wrote};
+ghost use Rattle.texts.specs.Output.{Says};
 ghost use Rattle.engines.specs.EventLines.{IsInFront, event_line, line_end, load_middle};
 ghost use Rattle.engines.specs.Json.{json_number};
 ghost use Rattle.engines.specs.JsonTexts.{json_count};
@@ -25,7 +25,7 @@ use std::io;
 use std::io::Write;
 use std::marker::Model;
 use table_updates::Update;
-use texts::{Counted, put};
+use texts::Output;
 use word_layout::Store;
 
 /// Which event was done: its number, the line of the trace that asked for it, and the sequence
@@ -39,17 +39,17 @@ pub struct EventPlace {
 
 /// Writes the line of the opening.
 #[tactic(auto, unfolding(crate::specs::StepTexts::opening_text))]
-pub fn put_opening<W: Write>(writer: &mut Counted<W>, header: &Header) -> io::Result<()>
-    ensures { Wrote W.contents writer.old writer.new result (opening_text header.now) }
+pub fn put_opening<W: Write>(writer: &mut Output<W>, header: &Header)
+    ensures { Says W.contents writer.old writer.new (opening_text header.now) }
 {
     let version = version_number(header.version);
     let before = b"{\"event\":0,\"line\":1,\"kind\":\"open\",\"version\":";
-    put_json_count(writer, before, version)?;
-    put(writer, b",\"order\":")?;
-    put(writer, order_text(header.closed))?;
-    put_json_count(writer, b",\"capacity\":", u64::from(header.capacity))?;
-    put_json_count(writer, b",\"sequence\":", header.start)?;
-    put(writer, b"}\n")
+    put_json_count(writer, before, version);
+    writer.put(b",\"order\":");
+    writer.put(order_text(header.closed));
+    put_json_count(writer, b",\"capacity\":", u64::from(header.capacity));
+    put_json_count(writer, b",\"sequence\":", header.start);
+    writer.put(b"}\n");
 }
 
 fn version_number(version: Version) -> u64
@@ -77,16 +77,6 @@ const LONGEST_DONE: usize = 290;
 
 /// No event has such a reply.
 const NO_REPLY: &[u8] = b"null";
-
-/// The writer failed.
-#[derive(Debug, Drop)]
-pub struct WriteFailed;
-
-impl From<io::Error> for WriteFailed {
-    fn from(_: io::Error) -> WriteFailed {
-        WriteFailed
-    }
-}
 
 /// What stands between the numbers of event and word where a line of the trace asks for a reader's
 /// load. A contract sees this text.
@@ -257,13 +247,13 @@ fn put_end(line: &mut LineRoom, sequence: u64)
 #[inline(always)]
 pub fn put_event<W: Write>(
     line: &mut EventLine,
-    writer: &mut Counted<W>,
+    writer: &mut Output<W>,
     place: EventPlace,
     load: Option<NextLoad<u64>>,
     event: &Event<u64>,
     reply: &Reply<u64>,
-) -> Result<(), WriteFailed>
-    ensures { Wrote W.contents writer.old writer.new result
+)
+    ensures { Says W.contents writer.old writer.new
         (event_text place.number place.line load event.now reply.now place.sequence) }
 {
     match event {
@@ -286,20 +276,20 @@ pub fn put_event<W: Write>(
 #[inline(always)]
 fn put_read<W: Write>(
     line: &mut EventLine,
-    writer: &mut Counted<W>,
+    writer: &mut Output<W>,
     place: EventPlace,
     reader: u32,
     load: Option<NextLoad<u64>>,
     reply: &Reply<u64>,
-) -> Result<(), WriteFailed>
-    ensures { Wrote W.contents writer.old writer.new result
+)
+    ensures { Says W.contents writer.old writer.new
         (event_line place.number place.line place.sequence (read_members reader load reply.now)) }
 {
     line.end_with(place.sequence);
     match (reply, load) {
         (Reply::Loaded, Some(load)) => {
             line.before_load(place, reader, load);
-            put_line(writer, line.room.line())
+            writer.put(line.room.line())
         }
         _ => {
             before_read(&mut line.room, reader, load, reply);
@@ -308,27 +298,10 @@ fn put_read<W: Write>(
     }
 }
 
-/// Writes a line, or a part of one.
-///
-/// The error has no bytes, for it is moved at each event.
-#[inline(always)]
-fn put_line<W: Write>(writer: &mut Counted<W>, line: &[u8]) -> Result<(), WriteFailed>
-    ensures { Wrote W.contents writer.old writer.new result line.now }
-{
-    match put(writer, line) {
-        Ok(()) => Ok(()),
-        Err(_) => Err(WriteFailed),
-    }
-}
-
 /// Writes the start of a line, and behind it what stands in the room.
-fn put_behind_start<W: Write>(
-    writer: &mut Counted<W>,
-    place: EventPlace,
-    line: &mut LineRoom,
-) -> Result<(), WriteFailed>
+fn put_behind_start<W: Write>(writer: &mut Output<W>, place: EventPlace, line: &mut LineRoom)
     requires { length line.old + 70 ≤ ROOM }
-    ensures wrote { Wrote W.contents writer.old writer.new result
+    ensures wrote { Says W.contents writer.old writer.new
         (json_count (codes "{\"event\":") place.number ++ json_count (codes ",\"line\":") place.line
         ++ codes ",\"kind\":" ++ line.old) }
     ensures kept { IsInFront line.old line.new }
@@ -336,37 +309,37 @@ fn put_behind_start<W: Write>(
     line.before(b",\"kind\":");
     line.before_count(b",\"line\":", place.line);
     line.before_count(b"{\"event\":", place.number);
-    put_line(writer, line.line())
+    writer.put(line.line());
 }
 
 /// Writes a line of what the writer began. It has a room of its own, made here alone: to make one
 /// costs as much as a line of a load.
 #[inline(never)]
 fn put_beginning<W: Write>(
-    writer: &mut Counted<W>,
+    writer: &mut Output<W>,
     place: EventPlace,
     update: &Update,
     reply: &Reply<u64>,
-) -> Result<(), WriteFailed>
-    ensures { Wrote W.contents writer.old writer.new result
+)
+    ensures { Says W.contents writer.old writer.new
         (event_line place.number place.line place.sequence
         (begun_members update.now reply.now)) }
 {
     let mut end = LineRoom::new();
     put_end(&mut end, place.sequence);
-    put_begun(writer, place, update, reply, &mut end)
+    put_begun(writer, place, update, reply, &mut end);
 }
 
 /// Writes a line of what the writer began, whose end is in the room.
 fn put_begun<W: Write>(
-    writer: &mut Counted<W>,
+    writer: &mut Output<W>,
     place: EventPlace,
     update: &Update,
     reply: &Reply<u64>,
     end: &mut LineRoom,
-) -> Result<(), WriteFailed>
+)
     requires { length end.old + 110 ≤ ROOM }
-    ensures { Wrote W.contents writer.old writer.new result
+    ensures { Says W.contents writer.old writer.new
         (json_count (codes "{\"event\":") place.number ++ json_count (codes ",\"line\":") place.line
         ++ codes ",\"kind\":" ++ begun_members update.now reply.now ++ end.old) }
 {
@@ -388,28 +361,28 @@ fn put_begun<W: Write>(
 
 /// Writes a line of this kind with an update in it, whose end is in the room.
 fn put_updating<W: Write>(
-    writer: &mut Counted<W>,
+    writer: &mut Output<W>,
     place: EventPlace,
     kind: &[u8],
     update: &Update,
     end: &LineRoom,
-) -> Result<(), WriteFailed>
+)
     requires { length kind.now ≤ 30 }
-    ensures { Wrote W.contents writer.old writer.new result
+    ensures { Says W.contents writer.old writer.new
         (json_count (codes "{\"event\":") place.number ++ json_count (codes ",\"line\":") place.line
         ++ codes ",\"kind\":" ++ kind.now ++ update_members update.now ++ end.now) }
 {
     let mut start = LineRoom::new();
     start.before(kind);
-    put_behind_start(writer, place, &mut start)?;
-    put_update(writer, update)?;
-    put_line(writer, end.line())
+    put_behind_start(writer, place, &mut start);
+    put_update(writer, update);
+    writer.put(end.line());
 }
 
 /// Writes what an update erases, and what it inserts.
 #[tactic(auto, unfolding(crate::specs::StepTexts::update_members))]
-fn put_update<W: Write>(writer: &mut Counted<W>, update: &Update) -> io::Result<()>
-    ensures { Wrote W.contents writer.old writer.new result (update_members update.now) }
+fn put_update<W: Write>(writer: &mut Output<W>, update: &Update)
+    ensures { Says W.contents writer.old writer.new (update_members update.now) }
 {
     match update {
         Update::Insert(item) => put_lists(writer, &[], &[*item]),
@@ -419,72 +392,70 @@ fn put_update<W: Write>(writer: &mut Counted<W>, update: &Update) -> io::Result<
 }
 
 /// Writes these first words as erased, and these items as inserted.
-fn put_lists<W: Write>(writer: &mut Counted<W>, erased: &[u64], inserted: &[Item]) -> io::Result<()>
-    ensures { Wrote W.contents writer.old writer.new result
+fn put_lists<W: Write>(writer: &mut Output<W>, erased: &[u64], inserted: &[Item])
+    ensures { Says W.contents writer.old writer.new
         (codes ",\"erase\":" ++ json_list json_number erased.now
         ++ codes ",\"insert\":" ++ json_list json_item inserted.now) }
 {
-    put(writer, b",\"erase\":")?;
-    put_numbers(writer, erased)?;
-    put(writer, b",\"insert\":")?;
-    put_items(writer, inserted)
+    writer.put(b",\"erase\":");
+    put_numbers(writer, erased);
+    writer.put(b",\"insert\":");
+    put_items(writer, inserted);
 }
 
 /// Writes numbers as a list.
-fn put_numbers<W: Write>(writer: &mut Counted<W>, numbers: &[u64]) -> io::Result<()>
-    ensures { Wrote W.contents writer.old writer.new result (json_list json_number numbers.now) }
+fn put_numbers<W: Write>(writer: &mut Output<W>, numbers: &[u64])
+    ensures { Says W.contents writer.old writer.new (json_list json_number numbers.now) }
 {
     let [first, rest @ ..] = numbers else {
-        return put(writer, b"[]");
+        return writer.put(b"[]");
     };
-    put(writer, b"[")?;
-    put_json_number(writer, *first)?;
-    put_further_numbers(writer, rest)?;
-    put(writer, b"]")
+    writer.put(b"[");
+    put_json_number(writer, *first);
+    put_further_numbers(writer, rest);
+    writer.put(b"]");
 }
 
-fn put_further_numbers<W: Write>(writer: &mut Counted<W>, numbers: &[u64]) -> io::Result<()>
-    ensures { Wrote W.contents writer.old writer.new result
+fn put_further_numbers<W: Write>(writer: &mut Output<W>, numbers: &[u64])
+    ensures { Says W.contents writer.old writer.new
         (flat_map (λ n. codes "," ++ json_number n) numbers.now) }
 {
     for number in numbers {
-        put_json_count(writer, b",", *number)?;
+        put_json_count(writer, b",", *number);
     }
-    Ok(())
 }
 
 /// Writes items as a list.
-fn put_items<W: Write>(writer: &mut Counted<W>, items: &[Item]) -> io::Result<()>
-    ensures { Wrote W.contents writer.old writer.new result (json_list json_item items.now) }
+fn put_items<W: Write>(writer: &mut Output<W>, items: &[Item])
+    ensures { Says W.contents writer.old writer.new (json_list json_item items.now) }
 {
     let [first, rest @ ..] = items else {
-        return put(writer, b"[]");
+        return writer.put(b"[]");
     };
-    put(writer, b"[")?;
-    put_item(writer, *first)?;
-    put_further_items(writer, rest)?;
-    put(writer, b"]")
+    writer.put(b"[");
+    put_item(writer, *first);
+    put_further_items(writer, rest);
+    writer.put(b"]");
 }
 
-fn put_further_items<W: Write>(writer: &mut Counted<W>, items: &[Item]) -> io::Result<()>
-    ensures { Wrote W.contents writer.old writer.new result
+fn put_further_items<W: Write>(writer: &mut Output<W>, items: &[Item])
+    ensures { Says W.contents writer.old writer.new
         (flat_map (λ item. codes "," ++ json_item item) items.now) }
 {
     for item in items {
-        put(writer, b",")?;
-        put_item(writer, *item)?;
+        writer.put(b",");
+        put_item(writer, *item);
     }
-    Ok(())
 }
 
 #[tactic(auto, unfolding(crate::specs::StepTexts::json_item))]
-fn put_item<W: Write>(writer: &mut Counted<W>, item: Item) -> io::Result<()>
-    ensures { Wrote W.contents writer.old writer.new result (json_item item) }
+fn put_item<W: Write>(writer: &mut Output<W>, item: Item)
+    ensures { Says W.contents writer.old writer.new (json_item item) }
 {
-    put_json_count(writer, b"{\"a\":", item.a)?;
-    put_json_count(writer, b",\"b\":", item.b)?;
-    put_json_count(writer, b",\"tag\":", item.tag)?;
-    put(writer, b"}")
+    put_json_count(writer, b"{\"a\":", item.a);
+    put_json_count(writer, b",\"b\":", item.b);
+    put_json_count(writer, b",\"tag\":", item.tag);
+    writer.put(b"}");
 }
 
 /// Puts what the writer stored in front.

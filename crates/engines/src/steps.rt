@@ -5,14 +5,14 @@
 //! of it is kept. How a command stands for events is in `Expands` of latch_steps, whose `event_of`,
 //! `most_of` and `ends` are the functions of these names here.
 ghost use Rattle.std.specs.Prelude.{◌≡◌, ◌≤◌, true, false, IfErr, IfOk, OnOk};
-ghost use Rattle.texts.specs.Counted.{NoneFailed};
 ghost use Rattle.run_files.specs.Trace.{contents_of};
+ghost use Rattle.texts.specs.Output.{has_failed};
 ghost use Rattle.word_layout.specs.Words.{at};
 ghost use Rattle.latch_steps.specs.Expands.{event_of};
 ghost use Rattle.latch_steps.specs.Quiet.{is_flip};
 ghost use Rattle.latch_steps.specs.WorldSteps.{is_refused_for_memory};
-ghost use Rattle.engines.specs.StepRuns.{EndsCommand, IsLoadBy, IsMostOf, IsTellFault, IsTold};
-ghost use Rattle.engines.specs.StepRuns.{IsWriteFault, StopsTelling, TellsCommand};
+ghost use Rattle.engines.specs.StepRuns.{EndsCommand, IsLoadBy, IsMemoryFault, IsMostOf, IsTold};
+ghost use Rattle.engines.specs.StepRuns.{StopsTelling, TellsCommand};
 ghost use Rattle.engines.specs.StepRuns.{TellsCommands, takes_memory};
 ghost use Rattle.engines.specs.StepTraces.{AnswersSteps, AnswersStepsIn};
 
@@ -24,7 +24,7 @@ use order_laws::{Closed, HalfOpen, Refusal, TreeOrder};
 use run_files::{NumberedTrace, read_numbered_trace};
 use std::alloc::Global;
 use std::io::{Read, Write};
-use texts::Counted;
+use texts::{Counted, Output};
 
 /// Runs a trace, and writes a line for its opening and for each event that is done.
 ///
@@ -32,7 +32,7 @@ use texts::Counted;
 pub fn steps_engine<R: Read, W: Write>(
     alloc: Global,
     reader: &mut Counted<R>,
-    writer: &mut Counted<W>,
+    writer: &mut Output<W>,
 ) -> Result<(), Fault>
     ensures { AnswersSteps R.remaining W.contents reader.old reader.new
         writer.old writer.new result }
@@ -49,7 +49,7 @@ pub fn steps_engine<R: Read, W: Write>(
 fn run_steps<O: TreeOrder<Key = u64>, W: Write>(
     alloc: Global,
     numbered: &NumberedTrace,
-    writer: &mut Counted<W>,
+    writer: &mut Output<W>,
 ) -> Result<(), Fault>
     ensures { AnswersStepsIn O.order W.contents (contents_of numbered.now.trace)
         numbered.now.lines.items writer.old writer.new result }
@@ -58,36 +58,39 @@ fn run_steps<O: TreeOrder<Key = u64>, W: Write>(
     let header = &trace.header;
     let layout = layout_for(header.version, header.capacity)?;
     let mut world = World::<O>::open(alloc, layout, header.start)?;
-    put_opening(writer, header).map_err(|_| Fault::Write)?;
-    tell_commands(&mut world, writer, &trace.commands, &numbered.lines)?;
-    match writer.flush() {
-        Ok(()) => Ok(()),
-        Err(_) => Err(Fault::Write),
+    put_opening(writer, header);
+    if writer.has_failed() {
+        return Err(Fault::Write);
     }
+    tell_commands(&mut world, writer, &trace.commands, &numbered.lines)?;
+    writer.flush();
+    if writer.has_failed() {
+        return Err(Fault::Write);
+    }
+    Ok(())
 }
 
-/// Does these commands, and writes what each event did; the commands stand on these lines.
+/// Does these commands, and writes what each event did; the commands stand on these lines. Where
+/// the writer failed it goes on with none.
 fn tell_commands<O: TreeOrder<Key = u64>, W: Write>(
     world: &mut World<O>,
-    writer: &mut Counted<W>,
+    writer: &mut Output<W>,
     commands: &[Command<u64>],
     lines: &[u64],
 ) -> Result<(), Fault>
+    requires { has_failed writer.old ≡ false }
     ensures told { OnOk result (TellsCommands O.order W.contents lines.now commands.now
         world.old world.new writer.old writer.new) }
-    ensures none_failed { OnOk result (NoneFailed writer.old writer.new) }
     ensures fault { IfErr result (StopsTelling O.order W.contents lines.now commands.now
         world.old writer.old writer.new) }
 {
     let mut event_line = EventLine::new();
     for (place, command) in commands.iter().enumerate() {
-        tell_command(
-            world,
-            &mut event_line,
-            writer,
-            line_at(lines, place),
-            command,
-        )?;
+        let line = line_at(lines, place);
+        tell_command(world, &mut event_line, writer, line, command)?;
+        if writer.has_failed() {
+            return Err(Fault::Write);
+        }
     }
     Ok(())
 }
@@ -99,18 +102,18 @@ fn line_at(lines: &[u64], place: usize) -> u64
     if place < lines.len() { lines[place] } else { 0 }
 }
 
-/// Does the event of a command as often as the command says, and writes what each time did.
+/// Does the event of a command as often as the command says, and writes what each time did. It ends
+/// before, where the writer failed.
 fn tell_command<O: TreeOrder<Key = u64>, W: Write>(
     world: &mut World<O>,
     event_line: &mut EventLine,
-    writer: &mut Counted<W>,
+    writer: &mut Output<W>,
     line: u64,
     command: &Command<u64>,
 ) -> Result<(), Fault>
     ensures told { OnOk result (TellsCommand O.order W.contents line command.now
         world.old world.new writer.old writer.new) }
-    ensures none_failed { OnOk result (NoneFailed writer.old writer.new) }
-    ensures fault { IfErr result (IsTellFault writer.old writer.new) }
+    ensures fault { IfErr result (IsMemoryFault writer.old writer.new) }
 {
     let event = event_of(command)?;
     match command {
@@ -118,7 +121,8 @@ fn tell_command<O: TreeOrder<Key = u64>, W: Write>(
             tell_once(world, event_line, writer, line, command, &event)
         }
         Command::Write(_) | Command::WriteFlip | Command::WriteEnd | Command::Read(_, _) => {
-            tell_repeated(world, event_line, writer, line, command, &event)
+            tell_repeated(world, event_line, writer, line, command, &event);
+            Ok(())
         }
     }
 }
@@ -127,7 +131,7 @@ fn tell_command<O: TreeOrder<Key = u64>, W: Write>(
 fn tell_once<O: TreeOrder<Key = u64>, W: Write>(
     world: &mut World<O>,
     event_line: &mut EventLine,
-    writer: &mut Counted<W>,
+    writer: &mut Output<W>,
     line: u64,
     command: &Command<u64>,
     event: &Event<u64>,
@@ -136,42 +140,42 @@ fn tell_once<O: TreeOrder<Key = u64>, W: Write>(
     requires memory { takes_memory event.now ≡ true }
     ensures told { OnOk result (TellsCommand O.order W.contents line command.now
         world.old world.new writer.old writer.new) }
-    ensures none_failed { OnOk result (NoneFailed writer.old writer.new) }
-    ensures fault { IfErr result (IsTellFault writer.old writer.new) }
+    ensures fault { IfErr result (IsMemoryFault writer.old writer.new) }
 {
     let reply = world.step_from(event);
     if is_refused_for_memory(&reply) {
         return Err(Fault::Refused(Refusal::OutOfMemory));
     }
-    tell(world, event_line, writer, line, None, event, &reply)
+    tell(world, event_line, writer, line, None, event, &reply);
+    Ok(())
 }
 
 /// Does an event that takes no memory as often as its command says, and writes what each time did.
 fn tell_repeated<O: TreeOrder<Key = u64>, W: Write>(
     world: &mut World<O>,
     event_line: &mut EventLine,
-    writer: &mut Counted<W>,
+    writer: &mut Output<W>,
     line: u64,
     command: &Command<u64>,
     event: &Event<u64>,
-) -> Result<(), Fault>
+)
     requires same { event.now ≡ event_of command.now }
     requires memory { takes_memory event.now ≡ false }
-    ensures told { OnOk result (TellsCommand O.order W.contents line command.now
-        world.old world.new writer.old writer.new) }
-    ensures none_failed { OnOk result (NoneFailed writer.old writer.new) }
-    ensures fault { IfErr result (IsWriteFault writer.old writer.new) }
+    ensures { TellsCommand O.order W.contents line command.now
+        world.old world.new writer.old writer.new }
 {
     let most = most_of(world, command);
     for _turn in 0..most {
         let load = load_by(world, event);
         let reply = world.step_from(event);
-        tell(world, event_line, writer, line, load, event, &reply)?;
+        tell(world, event_line, writer, line, load, event, &reply);
         if ends(world, command, &reply) {
-            break;
+            return;
+        }
+        if writer.has_failed() {
+            return;
         }
     }
-    Ok(())
 }
 
 /// Writes what an event did that led to this world.
@@ -179,24 +183,21 @@ fn tell_repeated<O: TreeOrder<Key = u64>, W: Write>(
 fn tell<O: TreeOrder<Key = u64>, W: Write>(
     world: &World<O>,
     event_line: &mut EventLine,
-    writer: &mut Counted<W>,
+    writer: &mut Output<W>,
     line: u64,
     load: Option<NextLoad<u64>>,
     event: &Event<u64>,
     reply: &Reply<u64>,
-) -> Result<(), Fault>
-    ensures told { OnOk result (IsTold O.order W.contents line load event.now reply.now
-        world.now writer.old writer.new) }
-    ensures none_failed { OnOk result (NoneFailed writer.old writer.new) }
-    ensures fault { IfErr result (IsWriteFault writer.old writer.new) }
+)
+    ensures { IsTold O.order W.contents line load event.now reply.now
+        world.now writer.old writer.new }
 {
     let place = EventPlace {
         number: world.events(),
         line,
         sequence: world.sequence(),
     };
-    put_event(event_line, writer, place, load, event, reply).map_err(|_| Fault::Write)?;
-    Ok(())
+    put_event(event_line, writer, place, load, event, reply);
 }
 
 /// What an event loads, where it is a load.

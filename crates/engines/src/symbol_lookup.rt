@@ -1,7 +1,7 @@
 //! A lookup whose modules, and where they lie, come from the listing of symbols alone.
 ghost use Rattle.std.specs.Prelude.{◌++◌, flat_map};
 ghost use Rattle.texts.specs.Counted.{device_of, failures_of};
-ghost use Rattle.texts.specs.Exact.{Wrote};
+ghost use Rattle.texts.specs.Output.{Says};
 ghost use Rattle.engines.specs.LookupInputs.{known_text};
 ghost use Rattle.engines.specs.AnswerForms.{line_by};
 ghost use Rattle.engines.specs.Readings.{failures_in, last_failures};
@@ -20,9 +20,8 @@ use crate::table::{AddressAnswer, answers_of};
 use listing::{AddressRule, ListingNotes, SymbolListing, open_symbols};
 use modules::{Asked, KernelBounds};
 use std::alloc::Global;
-use std::io;
 use std::io::{Read, Write};
-use texts::Counted;
+use texts::{Counted, Output};
 
 /// The readers of the files of such a lookup, in the order in which they are read.
 #[derive(Drop)]
@@ -65,7 +64,7 @@ pub fn symbol_lookup_engine<K: Read, A: Read, W: Write>(
     options: &SymbolLookupOptions<'_>,
     addresses: &[u64],
     form: AnswerForm,
-    writer: &mut Counted<W>,
+    writer: &mut Output<W>,
 ) -> Result<ListingNotes, Fault>
     ensures { AnswersSymbolLookup W.contents form
         (known_symbol_inputs K.remaining A.remaining readers.old options.now addresses.now)
@@ -85,7 +84,7 @@ fn answer_from_symbols<A: Read, W: Write>(
     kallsyms: &[u8],
     file: &mut Option<Counted<A>>,
     form: AnswerForm,
-    writer: &mut Counted<W>,
+    writer: &mut Output<W>,
 ) -> Result<ListingNotes, Fault>
     ensures { AnswersSymbolLookup W.contents form
         (symbol_inputs_of options.now given.now (known_text A.remaining file.old) kallsyms.now)
@@ -105,7 +104,7 @@ fn answer_by_symbols<W: Write>(
     alloc: Global,
     inputs: &SymbolLookupInputs<'_>,
     form: AnswerForm,
-    writer: &mut Counted<W>,
+    writer: &mut Output<W>,
 ) -> Result<ListingNotes, Fault>
     ensures { AnswersBySymbols W.contents form (symbol_inputs_in inputs.now)
         writer.old writer.new result }
@@ -121,37 +120,34 @@ fn answer_by_symbols<W: Write>(
         rule,
         &inputs.addresses,
     )?;
-    match put_symbol_lookup(writer, &listing, rule, form, &answers) {
-        Ok(()) => Ok(listing.notes()),
-        Err(_) => Err(Fault::Write),
+    put_symbol_lookup(writer, &listing, rule, form, &answers);
+    if writer.has_failed() {
+        return Err(Fault::Write);
     }
+    Ok(listing.notes())
 }
 
 /// Writes the line of each answer and the counts, and lets the writer keep nothing back.
 fn put_symbol_lookup<W: Write>(
-    writer: &mut Counted<W>,
+    writer: &mut Output<W>,
     listing: &SymbolListing,
     rule: AddressRule,
     form: AnswerForm,
     answers: &[AddressAnswer],
-) -> io::Result<()>
-    ensures { Wrote W.contents writer.old writer.new result
+)
+    ensures { Says W.contents writer.old writer.new
         (flat_map (line_by form listing.now.catalog rule) answers.now
         ++ found_counts_by form listing.now.kept listing.now.skipped.by_place) }
 {
-    put_answers(writer, &listing.catalog, rule, form, answers)?;
-    put_found_counts_by(writer, listing, form)?;
-    writer.flush()
+    put_answers(writer, &listing.catalog, rule, form, answers);
+    put_found_counts_by(writer, listing, form);
+    writer.flush();
 }
 
 /// Writes the counts of the listing, where the form has them.
 #[tactic(auto, unfolding(crate::specs::AnswerForms::counts_by))]
-fn put_found_counts_by<W: Write>(
-    writer: &mut Counted<W>,
-    listing: &SymbolListing,
-    form: AnswerForm,
-) -> io::Result<()>
-    ensures { Wrote W.contents writer.old writer.new result
+fn put_found_counts_by<W: Write>(writer: &mut Output<W>, listing: &SymbolListing, form: AnswerForm)
+    ensures { Says W.contents writer.old writer.new
         (found_counts_by form listing.now.kept listing.now.skipped.by_place) }
 {
     if form.counts {
@@ -160,23 +156,18 @@ fn put_found_counts_by<W: Write>(
         } else {
             put_found_counts(writer, listing)
         }
-    } else {
-        Ok(())
     }
 }
 
 /// Writes how many modules and regions were found, and the counts of the listing.
-pub fn put_found_counts<W: Write>(
-    writer: &mut Counted<W>,
-    listing: &SymbolListing,
-) -> io::Result<()>
-    ensures { Wrote W.contents writer.old writer.new result (found_counts_text listing.now) }
+pub fn put_found_counts<W: Write>(writer: &mut Output<W>, listing: &SymbolListing)
+    ensures { Says W.contents writer.old writer.new (found_counts_text listing.now) }
 {
-    put_found_modules(writer, &listing.kept)?;
+    put_found_modules(writer, &listing.kept);
     put_symbol_counts(
         writer,
         &listing.skipped,
         listing.kept.symbols,
         listing.kept.stray,
-    )
+    );
 }

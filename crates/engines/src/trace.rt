@@ -6,7 +6,7 @@
 ghost use Rattle.std.specs.Prelude.{◌≡◌, ◌<◌, ◌++◌, ◌↔◌, ◌⊎◌, [], IfErr, IfOk, IsErr, OnOk};
 ghost use Rattle.std.specs.Prelude.{flat_map};
 ghost use Rattle.run_files.specs.CommandLines.{IsUnderstood};
-ghost use Rattle.texts.specs.Exact.{Wrote};
+ghost use Rattle.texts.specs.Output.{Says};
 ghost use Rattle.run_files.specs.Trace.{trace_of, with_header};
 ghost use Rattle.word_layout.specs.Layouts.{capacity_of, limit_of};
 ghost use Rattle.word_layout.specs.Limits.{most_nodes};
@@ -21,9 +21,8 @@ use latch_steps::{Command, Driver, Note};
 use order_laws::{Closed, HalfOpen, Refusal, TreeOrder};
 use run_files::{CommandLines, Header, Version, open_trace};
 use std::alloc::{AllocError, Global};
-use std::io;
 use std::io::{Read, Write};
-use texts::{Counted, put};
+use texts::{Counted, Output};
 use word_layout::Layout;
 
 /// Runs a trace, and writes a line for each lookup that returned and for each refusal, and the line
@@ -34,7 +33,7 @@ use word_layout::Layout;
 pub fn trace_engine<R: Read, W: Write>(
     alloc: Global,
     reader: &mut Counted<R>,
-    writer: &mut Counted<W>,
+    writer: &mut Output<W>,
 ) -> Result<(), Fault>
     ensures { AnswersTrace R.remaining W.contents reader.old reader.new
         writer.old writer.new result }
@@ -44,7 +43,7 @@ pub fn trace_engine<R: Read, W: Write>(
 }
 
 /// Runs the trace that bytes are.
-fn run_text<W: Write>(alloc: Global, bytes: &[u8], writer: &mut Counted<W>) -> Result<(), Fault>
+fn run_text<W: Write>(alloc: Global, bytes: &[u8], writer: &mut Output<W>) -> Result<(), Fault>
     ensures { AnswersSaid W.contents (trace_of bytes.now) writer.old writer.new result }
 {
     let Some((header, mut lines)) = open_trace(alloc, bytes) else {
@@ -62,7 +61,7 @@ fn run_lines<O: TreeOrder<Key = u64>, W: Write>(
     alloc: Global,
     header: Header,
     lines: &mut CommandLines<'_>,
-    writer: &mut Counted<W>,
+    writer: &mut Output<W>,
 ) -> Result<(), Fault>
     requires { O.order ≡ order_by header.closed }
     ensures { AnswersSaid W.contents (with_header header lines.old.said)
@@ -80,10 +79,11 @@ fn run_lines<O: TreeOrder<Key = u64>, W: Write>(
     let left = driver.finish()?;
     text.reserve(LONGEST_LINE)?;
     append_end(&mut text, left.sequence);
-    match put_text(writer, &text) {
-        Ok(()) => Ok(()),
-        Err(_) => Err(Fault::Write),
+    put_text(writer, &text);
+    if writer.has_failed() {
+        return Err(Fault::Write);
     }
+    Ok(())
 }
 
 /// An empty table as a header asks for it.
@@ -172,9 +172,9 @@ fn gather_notes(notes: &[Note<u64>], text: &mut Vec<u8>) -> Result<(), AllocErro
 }
 
 /// Writes the text, and lets the writer keep nothing back.
-fn put_text<W: Write>(writer: &mut Counted<W>, text: &[u8]) -> io::Result<()>
-    ensures { Wrote W.contents writer.old writer.new result text.now }
+fn put_text<W: Write>(writer: &mut Output<W>, text: &[u8])
+    ensures { Says W.contents writer.old writer.new text.now }
 {
-    put(writer, text)?;
-    writer.flush()
+    writer.put(text);
+    writer.flush();
 }

@@ -1,7 +1,7 @@
 //! The lines that a trace writes, byte for byte, in room that the caller has made.
 ghost use Rattle.std.specs.Prelude.{◌+◌, ◌≤◌, decimal, vec_len};
 ghost use Rattle.std.specs.Prelude.{vec_capacity};
-ghost use Rattle.texts.specs.Exact.{Wrote};
+ghost use Rattle.texts.specs.Output.{Says};
 ghost use Rattle.order_laws.specs.Refusals.{refusal_number};
 ghost use Rattle.engines.specs.TraceTexts.{load_counts_text, end_text, found_text, note_text};
 ghost use Rattle.engines.specs.TraceTexts.{refused_text, returned_text, tag_text};
@@ -10,9 +10,8 @@ ghost use Rattle.engines.specs.Blocks.{IsAppended};
 use itoa::Buffer;
 use latch_steps::{Note, Returned};
 use order_laws::{Item, Refusal};
-use std::io;
 use std::io::Write;
-use texts::{Counted, append, append_hexadecimal, put};
+use texts::{Output, append, append_hexadecimal};
 
 /// The most bytes that a number takes in decimal.
 const LONGEST_DECIMAL: usize = 20;
@@ -107,19 +106,11 @@ fn append_decimal(line: &mut Vec<u8>, n: u64)
 }
 
 /// Writes `refused N` and a line's end.
-pub fn put_refused<W: Write>(writer: &mut Counted<W>, refusal: Refusal) -> io::Result<()>
-    ensures { Wrote W.contents writer.old writer.new result
+pub fn put_refused<W: Write>(writer: &mut Output<W>, refusal: Refusal)
+    ensures { Says W.contents writer.old writer.new
         (refused_text (refusal_number refusal)) }
 {
-    put(writer, b"refused ")?;
-    put_decimal(writer, u64::from(refusal.number()))?;
-    put(writer, b"\n")
-}
-
-/// Writes a number in decimal, without leading zeros.
-pub fn put_decimal<W: Write>(writer: &mut Counted<W>, n: u64) -> io::Result<()>
-    ensures { Wrote W.contents writer.old writer.new result (decimal n) }
-{
-    let mut buffer = Buffer::new();
-    put(writer, buffer.format(n).as_bytes())
+    writer.put(b"refused ");
+    writer.put_decimal(u64::from(refusal.number()));
+    writer.put(b"\n");
 }

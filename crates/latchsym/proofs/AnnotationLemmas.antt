@@ -3,6 +3,7 @@ use Rattle.std.proofs.Common.{◌≡◌, ℕ, List, [], Option, Some, None, Resu
 use Rattle.std.specs.Prelude.{IfSome, IsErrAnd, is_some, true}
 use Rattle.clap.specs.Words.{Text}
 use Rattle.texts.specs.declared.counted.Counted.{Counted}
+use Rattle.texts.specs.declared.output.Output.{Output}
 use Rattle.listing.specs.AnnotatedLogs.{answered_by}
 use Rattle.order_laws.specs.declared.refusals.Refusal.TheVariants as refusal
 use Rattle.latchsym.specs.Annotations.{AnnotatesBy, AnnotatesLog, IsTold}
@@ -18,13 +19,13 @@ use Rattle.texts.specs.Lines.{lines_of}
 
 module _ {L W E : Type 0} (remaining : L → Option (List ℕ)) (contents : W → Option (List ℕ)) (errors : E → Option (List ℕ)) (o : AnnotateOptions) (files : ListingFiles) (log : Text) where
   -- a fault on the way
-  pub ended : (known : Option Given) (counts : Failures) (l l' : Counted L) (w w' : Counted W) (e e' : Counted E) (result : Result ℕ Fault) (fault : Fault) → IsErrAnd result (λ f. f ≡ fault)
+  pub ended : (known : Option Given) (counts : Failures) (l l' : Counted L) (w w' : Output W) (e e' : Output E) (result : Result ℕ Fault) (fault : Fault) → IsErrAnd result (λ f. f ≡ fault)
       → AnnotatesLog remaining contents errors o files log known counts l l' w w' e e' (Err fault) → AnnotatesLog remaining contents errors o files log known counts l l' w w' e e' result
   ended known counts l l' w w' e e' (Ok done) fault is h = absurd is
   ended known counts l l' w w' e e' (Err f) fault is h = subst (λ x. AnnotatesLog remaining contents errors o files log known counts l l' w w' e e' (Err x)) (sym is) h
 
   -- the catalog could not be opened
-  pub not_opened : (g : Given) (l : Counted L) (w : Counted W) (e : Counted E) (f : Fault) → OpensCatalog o.kernel g (Err f)
+  pub not_opened : (g : Given) (l : Counted L) (w : Output W) (e : Output E) (f : Fault) → OpensCatalog o.kernel g (Err f)
       → AnnotatesLog remaining contents errors o files log (Some g) [] l l w w e e (Err f)
   not_opened g l w e (Refused refusal.OutOfMemory) h = (tt, inl (refl, refl, refl))
   not_opened g l w e (Refused refusal.TooManyRegions) h = (tt, (refl, refl, refl), h)
@@ -32,13 +33,13 @@ module _ {L W E : Type 0} (remaining : L → Option (List ℕ)) (contents : W �
   not_opened g l w e _ h = absurd h
 
   -- the listings could not be read
-  pub not_read : (known : Option Given) (counts : Failures) (l : Counted L) (w : Counted W) (e : Counted E) (f : Fault) → AreReadAs {A = GivenTexts} counts (Err f)
+  pub not_read : (known : Option Given) (counts : Failures) (l : Counted L) (w : Output W) (e : Output E) (f : Fault) → AreReadAs {A = GivenTexts} counts (Err f)
       → AnnotatesLog remaining contents errors o files log known counts l l w w e e (Err f)
   not_read known counts l w e (Refused refusal.OutOfMemory) h = (h, inl (refl, refl, refl))
   not_read known counts l w e (Read place) h = inl (h, (refl, refl, refl))
   not_read known counts l w e _ h = absurd h
 
-  module _ (l l' : Counted L) (w w' : Counted W) (e e' : Counted E) where
+  module _ (l l' : Counted L) (w w' : Output W) (e e' : Output E) where
     abbrev Told : Option Given → Result ℕ Fault → Type 0
     Told known r = IsTold errors o.kernel files known e (λ c narrow noted. AnnotatesBy remaining contents errors log (answered_by c o.rule narrow) l l' w w' noted e' r)
 

@@ -1,18 +1,16 @@
 -- The kept symbols of the names that words ask for, symbol by symbol.
-use Rattle.std.proofs.Common.{◌≡◌, ◌∙◌, ℕ, List, [], ◌∷◌, ◌++◌, Bool, true, false, cond, ◌||◌, ◌+◌, ◌<◌, length, take, get_or, Option, Some, None, Result, Ok, option_map, refl, sym, ap, subst}
+use Rattle.std.proofs.Common.{◌≡◌, ◌∙◌, ℕ, List, [], ◌∷◌, ◌++◌, Bool, true, false, cond, ◌||◌, ◌+◌, ◌<◌, length, take, get_or, Option, Some, None, option_map, refl, sym, ap, subst}
 use Rattle.std.specs.Prelude.{option_and_then, unwrap_or}
 use Rattle.std.specs.BTreeMap.{BTreeMap, UpdatesBy, get_by, is_at}
 use Rattle.std.specs.Borrow.{Bor}
 use Rattle.std.specs.Cmp.Lexicographic.{slice_cmp}
 use Rattle.std.specs.Global.{Vec}
-use Rattle.std.specs.Io.KnownBytes.{Appends}
 use Rattle.std.specs.List.{cons_option}
 use Rattle.std.specs.Option.{option_to_list}
 use Rattle.std.specs.Map.{lookup}
 use Rattle.std.specs.Ordering.{nat_cmp}
 use Rattle.std.specs.Result.{result_ok}
 use Rattle.std.specs.Str.{bytes_eq}
-use Rattle.std.proofs.KnownBytes.{Appends-trans}
 use Rattle.std.proofs.lemmas.Bool.{false≢true}
 use Rattle.std.proofs.lemmas.Grind.{flat_map-append}
 use Rattle.std.proofs.lemmas.List.{append-nil}
@@ -24,9 +22,9 @@ use Rattle.modules.specs.Entries.{CatalogEntries}
 use Rattle.modules.specs.Found.{Found, symbol_at}
 use Rattle.modules.specs.Items.{item_of_address}
 use Rattle.modules.specs.Listed.{ListedSymbol}
-use Rattle.texts.specs.declared.counted.Counted.{Counted}
-use Rattle.texts.specs.Counted.{NoneFailed, device_of}
-use Rattle.texts.specs.Exact.{Wrote}
+use Rattle.texts.specs.declared.output.Output.{Output}
+use Rattle.texts.specs.Output.{Says}
+use Rattle.texts.proofs.OutputLemmas.{same_text, then}
 use Rattle.texts.specs.Lines.{lines_of}
 use Rattle.listing.specs.SymbolListing.{is_mapping, symbol_of, symbols_in}
 use Rattle.latchsym.specs.declared.address_texts.AddressForm.{AddressForm}
@@ -260,15 +258,12 @@ text_by_map form words kept m holds = from [] words refl
 pub whole_text : (done : List (List ℕ)) (rest text : List ℕ) → done ++ lines_of rest ≡ lines_of text → rest ≡ [] → done ≡ lines_of text
 whole_text done rest text joined none = sym (ap (λ r. done ++ lines_of r) none ∙ append-nil done) ∙ joined
 
--- the text of one word more was written
-pub word_written : {W E : Type 0} (contents : W → Option (List ℕ)) (form : AddressForm) (found : List ℕ → List Kept) (words : List (Bor (List ℕ))) (i : ℕ) (d : Bor (List ℕ)) → i < length words → (old mid new : Counted W)
-    → Appends (contents (device_of old)) (contents (device_of mid)) (words_text form found (texts (take i words))) → NoneFailed old mid
-    → (r : Result (Unit {0}) E) (u : Unit {0}) → r ≡ Ok u → Wrote contents mid new r (word_text form found (get_or words i d).now)
-    → Appends (contents (device_of old)) (contents (device_of new)) (words_text form found (texts (take (i + 1) words))) × NoneFailed old new
-word_written contents form found words i d below old mid new before none r u ok wrote =
+-- the text of one word more was said
+pub word_said : {W : Type 0} {contents : W → Option (List ℕ)} (form : AddressForm) (found : List ℕ → List Kept) (words : List (Bor (List ℕ))) (i : ℕ) (d : Bor (List ℕ)) {old mid new : Output W} → i < length words
+    → Says contents old mid (words_text form found (texts (take i words))) → Says contents mid new (word_text form found (get_or words i d).now) → Says contents old new (words_text form found (texts (take (i + 1) words)))
+word_said form found words i d below before said =
     let w = (get_or words i d).now in
-    let done = subst (λ s. Wrote contents mid new s (word_text form found w)) ok wrote in
     let longer : words_text form found (texts (take (i + 1) words)) ≡ words_text form found (texts (take i words)) ++ word_text form found w =
     ap (words_text form found) (text_more words i d below) ∙ flat_map-append (word_text form found) (texts (take i words)) (w ∷ [])
     ∙ ap (λ t. words_text form found (texts (take i words)) ++ t) (append-nil (word_text form found w)) in
-    (subst (λ t. Appends (contents (device_of old)) (contents (device_of new)) t) (sym longer) (Appends-trans (contents (device_of old)) (contents (device_of mid)) (contents (device_of new)) _ _ before done.ok), done.none_failed ∙ none)
+    same_text (sym longer) (then before said)

@@ -2,6 +2,7 @@
 use Rattle.std.specs.Prelude.{◌≡◌, ◌⊎◌, ℕ, Bool, List, Option, Result, Ok, Err, IfSome, is_some, true}
 use Rattle.listing.specs.declared.annotation.LogFault.TheVariants as log_fault
 use Rattle.texts.specs.declared.counted.Counted.{Counted}
+use Rattle.texts.specs.declared.output.Output.{Output}
 use Rattle.listing.specs.AnnotatedLogs.{Answering, answered_by}
 use Rattle.listing.specs.Annotation.{Annotates}
 use Rattle.modules.specs.Entries.{CatalogEntries}
@@ -26,8 +27,8 @@ use Rattle.latchsym.specs.declared.annotations.AnnotateOptions.{AnnotateOptions}
 -- the log was annotated to its end, and where its own names tell that it is of another boot than the
 -- listing, this is noted behind it
 abbrev pub IsAnnotatedLog : {L W E : Type 0} → (L → Option (List ℕ)) → (W → Option (List ℕ))
-    → (E → Option (List ℕ)) → Text → Answering → Counted L → Counted L → Counted W → Counted W
-    → Counted E → Counted E → Type 0
+    → (E → Option (List ℕ)) → Text → Answering → Counted L → Counted L → Output W → Output W
+    → Output E → Output E → Type 0
 IsAnnotatedLog remaining contents errors log answer l l' w w' e e' =
     (names : LogNames) × Annotates remaining contents answer l l' w w' (Ok names)
     × IsNoted errors e e' (is_of_another_boot names) (other_boot_line log names)
@@ -35,8 +36,8 @@ IsAnnotatedLog remaining contents errors log answer l l' w w' e e' =
 -- How the end of the log in this file is told. A status of 1 stands for a reader of the output that
 -- is gone, of which nothing is said. The log is the file at place 3.
 abbrev pub AnnotatesBy : {L W E : Type 0} → (L → Option (List ℕ)) → (W → Option (List ℕ))
-    → (E → Option (List ℕ)) → Text → Answering → Counted L → Counted L → Counted W → Counted W
-    → Counted E → Counted E → Result ℕ Fault → Type 0
+    → (E → Option (List ℕ)) → Text → Answering → Counted L → Counted L → Output W → Output W
+    → Output E → Output E → Result ℕ Fault → Type 0
 AnnotatesBy remaining contents errors log answer l l' w w' e e' (Ok status) =
     ((status ≡ 0) × IsAnnotatedLog remaining contents errors log answer l l' w w' e e')
     ⊎ ((status ≡ 1) × Annotates remaining contents answer l l' w w' (Err log_fault.Closed)
@@ -55,21 +56,21 @@ AnnotatesBy remaining contents errors log answer l l' w w' e e' (Err _) = ⊥
 -- this holds of the catalog, of whether the listing of symbols is that of a 32-bit kernel, and of
 -- what was told to behind the notes.
 pub record IsTold {E : Type 0} (contents : E → Option (List ℕ)) (kernel : Option BoundNames)
-    (files : ListingFiles) (known : Option Given) (e : Counted E)
-    (P : CatalogEntries → Bool → Counted E → Type 0)
+    (files : ListingFiles) (known : Option Given) (e : Output E)
+    (P : CatalogEntries → Bool → Output E → Type 0)
     : Type 0 where
   pub catalog : CatalogEntries
   pub narrow : Bool
   pub notes : ListingNotes
-  pub noted : Counted E
+  pub noted : Output E
   pub said : IfSome known (λ g. IsCatalogOf kernel g catalog notes)
   pub sized : IfSome known (λ g. narrow ≡ is_narrow (symbols_in (lines_of g.kallsyms)))
   pub told : IsNoted contents e noted (is_some_noted notes) (note_lines kernel files notes)
   pub holds : P catalog narrow noted
 
 -- neither the log nor the writers were touched
-abbrev pub IsUntouched : {L W E : Type 0} → Counted L → Counted L → Counted W → Counted W
-    → Counted E → Counted E → Type 0
+abbrev pub IsUntouched : {L W E : Type 0} → Counted L → Counted L → Output W → Output W
+    → Output E → Output E → Type 0
 IsUntouched l l' w w' e e' = (l' ≡ l) × (w' ≡ w) × (e' ≡ e)
 
 -- What is returned after listings were read, whose texts may be known: before anything else was
@@ -98,7 +99,7 @@ AnnotatesAfter known counts Untouched Told (Err _) = ⊥
 -- annotated by the answers of their catalog.
 abbrev pub AnnotatesLog : {L W E : Type 0} → (L → Option (List ℕ)) → (W → Option (List ℕ))
     → (E → Option (List ℕ)) → AnnotateOptions → ListingFiles → Text → Option Given → Failures
-    → Counted L → Counted L → Counted W → Counted W → Counted E → Counted E
+    → Counted L → Counted L → Output W → Output W → Output E → Output E
     → Result ℕ Fault → Type 0
 AnnotatesLog remaining contents errors o files log known counts l l' w w' e e' result =
     AnnotatesAfter known counts (IsUntouched l l' w w' e e')

@@ -1,11 +1,10 @@
 -- What is written of listings that are checked.
 use Rattle.std.specs.Prelude.{◌≡◌, ℕ, nat_eq, if◌then◌else◌, List, [], ◌++◌, Option, Some, None}
-use Rattle.std.specs.Prelude.{Result, Ok, Err, IfSome, unwrap_or, true}
+use Rattle.std.specs.Prelude.{Result, Ok, Err, IfSome, unwrap_or, true, false}
 use Rattle.std.specs.Option.{option_map}
-use Rattle.std.specs.Io.KnownBytes.{Appends}
 use Rattle.clap.specs.Words.{Text}
-use Rattle.texts.specs.declared.counted.Counted.{Counted}
-use Rattle.texts.specs.Counted.{NoneFailed, Rose, device_of, failures_of}
+use Rattle.texts.specs.declared.output.Output.{Output}
+use Rattle.texts.specs.Output.{WroteAll, WrotePart, has_failed}
 use Rattle.texts.specs.Lines.{lines_of}
 use Rattle.listing.specs.SymbolListing.{symbol_counts}
 use Rattle.modules.specs.Accepted.{Accepted}
@@ -97,46 +96,40 @@ regions_beside (Some modules) regions = regions
 abbrev pub status_of_kept : ℕ → ℕ
 status_of_kept kept = if nat_eq kept 0 then 1 else 0
 
--- the writer has taken a text of which this holds, and the status is that of its kept symbols
-abbrev pub IsChecked : {W : Type 0} → (W → Option (List ℕ)) → Counted W → Counted W
-    → (List ℕ → ℕ → Type 0) → ℕ → Type 0
-IsChecked contents w w' Is status =
-    (text : List ℕ) × (kept : ℕ) × Is text kept
-    × Appends (contents (device_of w)) (contents (device_of w')) text
-    × (status ≡ status_of_kept kept)
-
--- there is something to be written
-abbrev pub HasReport : (List ℕ → ℕ → Type 0) → Type 0
-HasReport Is = (text : List ℕ) × (kept : ℕ) × Is text kept
+-- a text of which this holds was written as far as this says, and the status is that of its kept
+-- symbols
+abbrev pub IsChecked : (List ℕ → Type 0) → (List ℕ → ℕ → Type 0) → ℕ → Type 0
+IsChecked Wrote Is status =
+    (text : List ℕ) × (kept : ℕ) × Is text kept × Wrote text × (status ≡ status_of_kept kept)
 
 -- What is returned for texts that were read, from one state of the writer to another. Every fault
 -- but a failed write leaves the writer as it was, and a call of it failed then alone.
 abbrev pub ChecksTexts : {W : Type 0} → (W → Option (List ℕ)) → (List ℕ → ℕ → Type 0)
-    → Option (List ℕ) → Counted W → Counted W → Result ℕ Fault → Type 0
+    → Option (List ℕ) → Output W → Output W → Result ℕ Fault → Type 0
 ChecksTexts contents Is regions w w' (Ok status) =
-    NoneFailed w w' × IsChecked contents w w' Is status
+    IsChecked (WroteAll contents w w') Is status
 ChecksTexts contents Is regions w w' (Err (Refused refusal.OutOfMemory)) = w' ≡ w
 ChecksTexts contents Is regions w w' (Err (Refused refusal.TooManyRegions)) =
     (w' ≡ w) × HasCrowdedRegions regions
 ChecksTexts contents Is regions w w' (Err (BadLine place n)) =
     (w' ≡ w) × (place ≡ 2) × HasBadRegion n regions
 ChecksTexts contents Is regions w w' (Err Write) =
-    Rose (failures_of w) (failures_of w') × HasReport Is
+    (status : ℕ) × IsChecked (WrotePart contents w w') Is status
 ChecksTexts contents Is regions w w' (Err _) = ⊥
 
 -- the same of the listings that are given
 abbrev pub ChecksGiven : {W : Type 0} → (W → Option (List ℕ)) → Option BoundNames → ListingFiles
-    → Given → Counted W → Counted W → Result ℕ Fault → Type 0
+    → Given → Output W → Output W → Result ℕ Fault → Type 0
 ChecksGiven contents kernel files g w w' result =
     ChecksTexts contents (IsReport kernel files g) (regions_beside g.modules g.regions) w w' result
 
 -- What the engine returns that also read the listings, where these are known. A call of a reader or
 -- of the writer failed where the answer says so, and else none.
 abbrev pub ChecksListings : {W : Type 0} → (W → Option (List ℕ)) → Option BoundNames
-    → ListingFiles → Option Given → Failures → Counted W → Counted W → Result ℕ Fault → Type 0
+    → ListingFiles → Option Given → Failures → Output W → Output W → Result ℕ Fault → Type 0
 ChecksListings contents kernel files known counts w w' (Ok status) =
-    NoReaderFailed counts × NoneFailed w w'
-    × IfSome known (λ g. IsChecked contents w w' (IsReport kernel files g) status)
+    NoReaderFailed counts × (has_failed w' ≡ false)
+    × IfSome known (λ g. IsChecked (WroteAll contents w w') (IsReport kernel files g) status)
 ChecksListings contents kernel files known counts w w' (Err (Refused refusal.OutOfMemory)) =
     NoReaderFailed counts × (w' ≡ w)
 ChecksListings contents kernel files known counts w w' (Err (Refused refusal.TooManyRegions)) =
@@ -148,6 +141,7 @@ ChecksListings contents kernel files known counts w w' (Err (BadLine place n)) =
 ChecksListings contents kernel files known counts w w' (Err (Read place)) =
     (w' ≡ w) × OnlyFailed place counts
 ChecksListings contents kernel files known counts w w' (Err Write) =
-    NoReaderFailed counts × Rose (failures_of w) (failures_of w')
-    × IfSome known (λ g. HasReport (IsReport kernel files g))
+    NoReaderFailed counts × (has_failed w' ≡ true)
+    × IfSome known (λ g. (status : ℕ)
+    × IsChecked (WrotePart contents w w') (IsReport kernel files g) status)
 ChecksListings contents kernel files known counts w w' (Err _) = ⊥

@@ -5,9 +5,10 @@ use Rattle.texts.specs.Numbers.{numeral}
 use Rattle.clap.specs.Words.{Text, kind_of}
 use Rattle.clap.specs.declared.error.Error.{Error}
 use Rattle.clap.specs.declared.error.kind.ErrorKind.TheVariants as kind
-use Rattle.texts.specs.declared.counted.Counted.{Counted}
+use Rattle.texts.specs.declared.output.Output.{Output}
+use Rattle.texts.specs.Output.{Says}
 use Rattle.order_laws.specs.declared.refusals.Refusal.TheVariants as refusal
-use Rattle.latchsym.specs.Reports.{IsReported, fault_text}
+use Rattle.latchsym.specs.Reports.{fault_text}
 use Rattle.latchsym.specs.declared.command_line.JobFault.{JobFault}
 use Rattle.latchsym.specs.declared.command_line.JobFault.TheVariants.{OutOfMemory, CommandLine}
 use Rattle.latchsym.specs.declared.command_line.JobFault.TheVariants.{BadAddress, NoAddress}
@@ -28,34 +29,34 @@ offset_message word =
     else codes "bad offset "
 
 -- the writer has taken what is wrong, or a call of it failed, and the status is that of a misuse
-abbrev pub IsMisused : {D : Type 0} → (D → Option (List ℕ)) → Counted D → Counted D
+abbrev pub IsMisused : {D : Type 0} → (D → Option (List ℕ)) → Output D → Output D
     → List ℕ → Text → ℕ → Type 0
 IsMisused contents old new message word status =
-    (status ≡ 2) × IsReported contents old new (misuse_text message word)
+    (status ≡ 2) × Says contents old new (misuse_text message word)
 
 -- the parser found a fault, and did not stop for help that was asked for
 abbrev pub IsParseFault : Error → Type 0
 IsParseFault e = (kind_of e ≢ kind.DisplayHelp) × (kind_of e ≢ kind.DisplayVersion)
 
 -- help that was asked for was printed, or the writer was told that it could not be
-abbrev pub IsHelped : {D : Type 0} → (D → Option (List ℕ)) → Counted D → Counted D → ℕ → Type 0
+abbrev pub IsHelped : {D : Type 0} → (D → Option (List ℕ)) → Output D → Output D → ℕ → Type 0
 IsHelped contents old new status =
     ((status ≡ 0) × (new ≡ old))
-    ⊎ ((status ≡ 1) × IsReported contents old new (fault_text [] None Write))
+    ⊎ ((status ≡ 1) × Says contents old new (fault_text [] None Write))
 
 -- The status after the parser's own text, which goes to devices of its own: the writer is as it was
 -- but where help could not be printed.
-abbrev pub IsExplained : {D : Type 0} → (D → Option (List ℕ)) → Counted D → Counted D → Error
+abbrev pub IsExplained : {D : Type 0} → (D → Option (List ℕ)) → Output D → Output D → Error
     → ℕ → Type 0
 IsExplained contents old new e status =
     (IsParseFault e × (status ≡ 2) × (new ≡ old))
     ⊎ ((IsParseFault e → ⊥) × IsHelped contents old new status)
 
 -- What is said of a command line that gives no job, and the status.
-abbrev pub IsNoJob : {D : Type 0} → (D → Option (List ℕ)) → Counted D → Counted D → JobFault
+abbrev pub IsNoJob : {D : Type 0} → (D → Option (List ℕ)) → Output D → Output D → JobFault
     → ℕ → Type 0
 IsNoJob contents old new OutOfMemory status =
-    (status ≡ 1) × IsReported contents old new (fault_text [] None (Refused refusal.OutOfMemory))
+    (status ≡ 1) × Says contents old new (fault_text [] None (Refused refusal.OutOfMemory))
 IsNoJob contents old new (CommandLine e) status = IsExplained contents old new e status
 IsNoJob contents old new (BadAddress word) status =
     IsMisused contents old new (codes "bad address ") word.now status

@@ -1,6 +1,7 @@
 -- What comes of a job: that of its engine over the job's own readers.
 use Rattle.std.specs.Prelude.{◌≡◌, ℕ, List, map, Option, Result}
 use Rattle.texts.specs.declared.counted.Counted.{Counted}
+use Rattle.texts.specs.declared.output.Output.{Output}
 use Rattle.latchsym.specs.Addresses.{AnswersNames}
 use Rattle.latchsym.specs.Annotations.{AnnotatesLog}
 use Rattle.latchsym.specs.Checks.{ChecksListings}
@@ -35,14 +36,14 @@ use Rattle.latchsym.specs.declared.jobs.OpenedJob.TheVariants.{Address, Annotate
 
 -- what the trace engine returned, whose success is status 0
 abbrev pub IsTraced : {R W : Type 0} → (R → Option (List ℕ)) → (W → Option (List ℕ))
-    → Counted R → Counted R → Counted W → Counted W → Result Finished Fault → Type 0
+    → Counted R → Counted R → Output W → Output W → Result Finished Fault → Type 0
 IsTraced remaining contents r r' w w' outcome =
     (result : Result (Unit {0}) Fault) × AnswersTrace remaining contents r r' w w' result
     × (outcome ≡ with_status (without_notes result))
 
 -- what the engine of steps returned
 abbrev pub AreStepsTold : {R W : Type 0} → (R → Option (List ℕ)) → (W → Option (List ℕ))
-    → Counted R → Counted R → Counted W → Counted W → Result Finished Fault → Type 0
+    → Counted R → Counted R → Output W → Output W → Result Finished Fault → Type 0
 AreStepsTold remaining contents r r' w w' outcome =
     (result : Result (Unit {0}) Fault) × AnswersSteps remaining contents r r' w w' result
     × (outcome ≡ with_status (without_notes result))
@@ -50,7 +51,7 @@ AreStepsTold remaining contents r r' w w' outcome =
 -- what the engine of lookups returned for the job's own options and addresses, whose success is
 -- status 0
 abbrev pub IsLookedUp : {R W : Type 0} → (R → Option (List ℕ)) → (W → Option (List ℕ))
-    → LookupJob → LookupReaders R R R R → LookupReaders R R R R → Counted W → Counted W
+    → LookupJob → LookupReaders R R R R → LookupReaders R R R R → Output W → Output W
     → Result Finished Fault → Type 0
 IsLookedUp remaining contents job r r' w w' outcome =
     (result : Result ListingNotes Fault) × AnswersLookup contents job.form
@@ -60,7 +61,7 @@ IsLookedUp remaining contents job r r' w w' outcome =
 
 -- the same of the engine of lookups by symbols alone
 abbrev pub IsLookedUpBySymbols : {R W : Type 0} → (R → Option (List ℕ)) → (W → Option (List ℕ))
-    → SymbolLookupJob → SymbolLookupReaders R R → SymbolLookupReaders R R → Counted W → Counted W
+    → SymbolLookupJob → SymbolLookupReaders R R → SymbolLookupReaders R R → Output W → Output W
     → Result Finished Fault → Type 0
 IsLookedUpBySymbols remaining contents job r r' w w' outcome =
     (result : Result ListingNotes Fault) × AnswersSymbolLookup contents job.form
@@ -70,7 +71,7 @@ IsLookedUpBySymbols remaining contents job r r' w w' outcome =
 
 -- what the engine of scripts returned for the job's own bounds and number of readers
 abbrev pub IsScriptRun : {R W : Type 0} → (R → Option (List ℕ)) → (W → Option (List ℕ)) → RunJob
-    → RunReaders R R R R → RunReaders R R R R → Counted W → Counted W → Result Finished Fault
+    → RunReaders R R R R → RunReaders R R R R → Output W → Output W → Result Finished Fault
     → Type 0
 IsScriptRun remaining contents job r r' w w' outcome =
     AnswersRun contents job.readers
@@ -80,7 +81,7 @@ IsScriptRun remaining contents job r r' w w' outcome =
 -- what the engine of annotations returned for the job's own options; nothing is left to be noted
 abbrev pub IsAnnotated : {R W E : Type 0} → (R → Option (List ℕ)) → (W → Option (List ℕ))
     → (E → Option (List ℕ)) → AnnotateJob → AnnotateReaders R R R R → AnnotateReaders R R R R
-    → Counted W → Counted W → Counted E → Counted E → Result Finished Fault → Type 0
+    → Output W → Output W → Output E → Output E → Result Finished Fault → Type 0
 IsAnnotated remaining contents errors job r r' w w' e e' outcome =
     (result : Result ℕ Fault) × AnnotatesLog remaining contents errors job.options job.listings
     job.log.now (known_given remaining remaining remaining r.listings)
@@ -89,7 +90,7 @@ IsAnnotated remaining contents errors job r r' w w' e e' outcome =
 
 -- what the engine of checks returned for the job's own bounds, and nothing is left to be noted
 abbrev pub IsListingsChecked : {R W : Type 0} → (R → Option (List ℕ)) → (W → Option (List ℕ))
-    → CheckJob → ListingReaders R R R → ListingReaders R R R → Counted W → Counted W
+    → CheckJob → ListingReaders R R R → ListingReaders R R R → Output W → Output W
     → Result Finished Fault → Type 0
 IsListingsChecked remaining contents job r r' w w' outcome =
     (result : Result ℕ Fault) × ChecksListings contents job.kernel job.listings
@@ -98,7 +99,7 @@ IsListingsChecked remaining contents job r r' w w' outcome =
 
 -- what the engine of names returned for the job's own bounds, names and form
 abbrev pub AreNamesFound : {R W : Type 0} → (R → Option (List ℕ)) → (W → Option (List ℕ))
-    → AddressJob → ListingReaders R R R → ListingReaders R R R → Counted W → Counted W
+    → AddressJob → ListingReaders R R R → ListingReaders R R R → Output W → Output W
     → Result Finished Fault → Type 0
 AreNamesFound remaining contents job r r' w w' outcome =
     (result : Result ListingNotes Fault) × AnswersNames contents job.form job.kernel
@@ -109,8 +110,8 @@ AreNamesFound remaining contents job r r' w w' outcome =
 -- The status or the fault of a job, over what its readers had. Only an annotation says something
 -- while it is done.
 abbrev pub IsOutcome : {R W E : Type 0} → (R → Option (List ℕ)) → (W → Option (List ℕ))
-    → (E → Option (List ℕ)) → OpenedJob R → OpenedJob R → Counted W → Counted W → Counted E
-    → Counted E → Result Finished Fault → Type 0
+    → (E → Option (List ℕ)) → OpenedJob R → OpenedJob R → Output W → Output W → Output E
+    → Output E → Result Finished Fault → Type 0
 IsOutcome remaining contents errors (Trace r) (Trace r') w w' e e' outcome =
     IsTraced remaining contents r r' w w' outcome × (e' ≡ e)
 IsOutcome remaining contents errors (Steps r) (Steps r') w w' e e' outcome =

@@ -1,11 +1,10 @@
 -- What is said at the end of a run: what is noted of its listings, or why it failed.
-use Rattle.std.specs.Prelude.{◌≡◌, ℕ, List, [], ◌++◌, ◌≤◌, ◌⊎◌, Option, Result, Ok, Err}
+use Rattle.std.specs.Prelude.{◌≡◌, ℕ, List, [], ◌++◌, Option, Result, Ok, Err}
 use Rattle.std.specs.Prelude.{Bool, true, false, codes, decimal, is_some, option_and_then, unwrap_or}
-use Rattle.std.specs.Io.KnownBytes.{Appends}
 use Rattle.std.specs.declared.io.Error.{Error}
 use Rattle.clap.specs.Words.{Text}
-use Rattle.texts.specs.declared.counted.Counted.{Counted}
-use Rattle.texts.specs.Counted.{Rose, device_of, failures_of}
+use Rattle.texts.specs.declared.output.Output.{Output}
+use Rattle.texts.specs.Output.{Says}
 use Rattle.order_laws.specs.Refusals.{refusal_number}
 use Rattle.latchsym.specs.Jobs.{file_at}
 use Rattle.latchsym.specs.Reasons.{reason_text}
@@ -44,32 +43,23 @@ fault_text file words fault = codes "latchsym: " ++ message_text file words faul
 abbrev pub file_of : Job → Fault → Text
 file_of job fault = unwrap_or (option_and_then (file_at job) (fault_place fault)) []
 
--- the writer has taken this line and nothing else, or a call of it failed
-pub record IsReported {D : Type 0} (contents : D → Option (List ℕ)) (old new : Counted D)
-    (line : List ℕ) : Type 0 where
-  pub outcome : Appends (contents (device_of old)) (contents (device_of new)) line
-      ⊎ Rose (failures_of old) (failures_of new)
-  pub never_falls : failures_of old ≤ failures_of new
-
--- the writer has taken the line of a fault, with what the system says of the error behind it, where
--- there is one
-abbrev pub IsFaultTold : {D : Type 0} → (D → Option (List ℕ)) → Counted D → Counted D → Text
+-- the line of a fault was said, with what the system says of the error behind it, where there is one
+abbrev pub IsFaultTold : {D : Type 0} → (D → Option (List ℕ)) → Output D → Output D → Text
     → Option Error → Fault → Type 0
 IsFaultTold contents old new file error fault =
     (words : Option (List ℕ)) × (is_some words ≡ is_some error)
-    × IsReported contents old new (fault_text file words fault)
+    × Says contents old new (fault_text file words fault)
 
--- where something is noted the writer has taken these lines, or a call of it failed, and else it
--- was not called
-abbrev pub IsNoted : {D : Type 0} → (D → Option (List ℕ)) → Counted D → Counted D → Bool
+-- where something is noted these lines were said, and else nothing was
+abbrev pub IsNoted : {D : Type 0} → (D → Option (List ℕ)) → Output D → Output D → Bool
     → List ℕ → Type 0
-IsNoted contents old new true lines = IsReported contents old new lines
+IsNoted contents old new true lines = Says contents old new lines
 IsNoted contents old new false lines = new ≡ old
 
 -- The program's status after a job with this outcome, and what it has said of it: of a status that
 -- the job itself came to, what is noted of its listings, and else the fault and the error behind it.
-abbrev pub IsConcluded : {D : Type 0} → (D → Option (List ℕ)) → Job → Option Error → Counted D
-    → Counted D → Result Finished Fault → ℕ → Type 0
+abbrev pub IsConcluded : {D : Type 0} → (D → Option (List ℕ)) → Job → Option Error → Output D
+    → Output D → Result Finished Fault → ℕ → Type 0
 IsConcluded contents job error old new (Ok own) status =
     (status ≡ own.status)
     × IsNoted contents old new (is_some_noted own.notes) (notes_text job own.notes)

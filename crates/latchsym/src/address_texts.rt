@@ -3,7 +3,7 @@
 ghost use Rattle.std.specs.Prelude.{◌≡◌, ◌+◌, ◌^◌, true, nat_lt, [], map, unwrap_or};
 ghost use Rattle.std.specs.List.{list_any};
 ghost use Rattle.std.specs.Option.{option_copied};
-ghost use Rattle.texts.specs.Exact.{Wrote};
+ghost use Rattle.texts.specs.Output.{Says};
 ghost use Rattle.latchsym.specs.AddressTexts.{address_line, address_object, asked_member};
 ghost use Rattle.latchsym.specs.AddressTexts.{asked_object, is_of, is_told, no_address};
 ghost use Rattle.latchsym.specs.AddressTexts.{is_within, owner_member, owner_text, symbols_text, told_address};
@@ -15,9 +15,8 @@ ghost use Rattle.latchsym.specs.NoteTexts.{line_where};
 use crate::asked_names::{AskedName, Distance, asked_name};
 use crate::kept_symbols::{KeptSymbol, SoughtSymbols};
 use engines::{put_address_member, put_named_module, put_offset_members, put_symbol_members};
-use std::io;
 use std::io::Write;
-use texts::{Counted, put, put_hexadecimal};
+use texts::Output;
 
 /// How the addresses of names are told.
 #[derive(Clone, Copy, Debug, Drop)]
@@ -30,28 +29,27 @@ pub struct AddressForm {
 
 /// Writes the lines of each word, in order, as objects of JSON or as text.
 pub fn put_words<W: Write>(
-    writer: &mut Counted<W>,
+    writer: &mut Output<W>,
     form: AddressForm,
     sought: &SoughtSymbols<'_, '_>,
     words: &[&str],
-) -> io::Result<()>
-    ensures { Wrote W.contents writer.old writer.new result (words_text form
+)
+    ensures { Says W.contents writer.old writer.new (words_text form
         (λ name. unwrap_or (found_by sought.now name) []) (map (λ w. w.now) words.now)) }
 {
     for word in words {
-        put_word(writer, form, sought, word.as_bytes())?;
+        put_word(writer, form, sought, word.as_bytes());
     }
-    Ok(())
 }
 
 /// Writes the lines of a word.
 fn put_word<W: Write>(
-    writer: &mut Counted<W>,
+    writer: &mut Output<W>,
     form: AddressForm,
     sought: &SoughtSymbols<'_, '_>,
     word: &[u8],
-) -> io::Result<()>
-    ensures { Wrote W.contents writer.old writer.new result
+)
+    ensures { Says W.contents writer.old writer.new
         (word_text form (λ name. unwrap_or (found_by sought.now name) []) word.now) }
 {
     let asked = asked_name(word);
@@ -63,13 +61,13 @@ fn put_word<W: Write>(
 
 /// Writes the lines of a word, the symbols of whose name are these.
 fn put_symbols<W: Write>(
-    writer: &mut Counted<W>,
+    writer: &mut Output<W>,
     form: AddressForm,
     word: &[u8],
     asked: &AskedName<'_>,
     symbols: &[KeptSymbol],
-) -> io::Result<()>
-    ensures { Wrote W.contents writer.old writer.new result
+)
+    ensures { Says W.contents writer.old writer.new
         (symbols_text form word.now asked.now symbols.now) }
 {
     if is_any_told(form, asked, symbols) {
@@ -89,12 +87,12 @@ fn is_any_told(form: AddressForm, asked: &AskedName<'_>, symbols: &[KeptSymbol])
 /// Writes the line of a word for which no symbol is told.
 #[tactic(auto, unfolding(crate::specs::AddressTexts::untold_line))]
 fn put_untold<W: Write>(
-    writer: &mut Counted<W>,
+    writer: &mut Output<W>,
     form: AddressForm,
     word: &[u8],
     asked: &AskedName<'_>,
-) -> io::Result<()>
-    ensures { Wrote W.contents writer.old writer.new result
+)
+    ensures { Says W.contents writer.old writer.new
         (untold_line form word.now asked.now) }
 {
     if form.json {
@@ -105,81 +103,78 @@ fn put_untold<W: Write>(
 }
 
 /// Writes `NAME -`.
-fn put_no_address<W: Write>(writer: &mut Counted<W>, word: &[u8]) -> io::Result<()>
-    ensures { Wrote W.contents writer.old writer.new result (no_address word.now) }
+fn put_no_address<W: Write>(writer: &mut Output<W>, word: &[u8])
+    ensures { Says W.contents writer.old writer.new (no_address word.now) }
 {
-    put(writer, word)?;
-    put(writer, b" -\n")
+    writer.put(word);
+    writer.put(b" -\n");
 }
 
 /// Writes the object of what is asked for, without an address.
 #[tactic(auto, unfolding(crate::specs::AddressTexts::asked_object))]
-fn put_asked_object<W: Write>(writer: &mut Counted<W>, asked: &AskedName<'_>) -> io::Result<()>
-    ensures { Wrote W.contents writer.old writer.new result (asked_object asked.now) }
+fn put_asked_object<W: Write>(writer: &mut Output<W>, asked: &AskedName<'_>)
+    ensures { Says W.contents writer.old writer.new (asked_object asked.now) }
 {
-    put(writer, b"{")?;
-    put_offset_members(writer, asked.symbol, asked.above.offset)?;
-    put_asked_member(writer, asked.owner)?;
-    put(writer, b"}\n")
+    writer.put(b"{");
+    put_offset_members(writer, asked.symbol, asked.above.offset);
+    put_asked_member(writer, asked.owner);
+    writer.put(b"}\n");
 }
 
 /// Writes the module that is asked for, or nothing for the kernel itself or where none is named.
-fn put_asked_member<W: Write>(writer: &mut Counted<W>, asked: Option<&[u8]>) -> io::Result<()>
-    ensures { Wrote W.contents writer.old writer.new result
+fn put_asked_member<W: Write>(writer: &mut Output<W>, asked: Option<&[u8]>)
+    ensures { Says W.contents writer.old writer.new
         (asked_member (option_copied asked.entry)) }
 {
     match asked {
         Some(name) if name != b"-".as_slice() => put_named_module(writer, name),
-        _ => Ok(()),
+        _ => {}
     }
 }
 
 /// Writes a line for each of these symbols that is told.
 fn put_all_told<W: Write>(
-    writer: &mut Counted<W>,
+    writer: &mut Output<W>,
     form: AddressForm,
     word: &[u8],
     asked: &AskedName<'_>,
     symbols: &[KeptSymbol],
-) -> io::Result<()>
-    ensures { Wrote W.contents writer.old writer.new result
+)
+    ensures { Says W.contents writer.old writer.new
         (told_lines form word.now asked.now symbols.now) }
 {
     for symbol in symbols {
-        put_if_told(writer, form, word, asked, symbol)?;
+        put_if_told(writer, form, word, asked, symbol);
     }
-    Ok(())
 }
 
 fn put_if_told<W: Write>(
-    writer: &mut Counted<W>,
+    writer: &mut Output<W>,
     form: AddressForm,
     word: &[u8],
     asked: &AskedName<'_>,
     symbol: &KeptSymbol,
-) -> io::Result<()>
-    ensures { Wrote W.contents writer.old writer.new result
+)
+    ensures { Says W.contents writer.old writer.new
         (line_where (is_told form asked.now symbol.now)
         (told_line form word.now asked.now symbol.now)) }
 {
     if is_told(form, asked, symbol) {
         put_told(writer, form, word, asked, symbol)
-    } else {
-        Ok(())
     }
 }
 
 /// Writes the line of a symbol that is told.
 #[tactic(auto, unfolding(crate::specs::AddressTexts::told_line))]
 fn put_told<W: Write>(
-    writer: &mut Counted<W>,
+    writer: &mut Output<W>,
     form: AddressForm,
     word: &[u8],
     asked: &AskedName<'_>,
     symbol: &KeptSymbol,
-) -> io::Result<()>
+)
     requires { is_told form asked.now symbol.now ≡ true }
-    ensures { Wrote W.contents writer.old writer.new result
+    ensures { Says W.contents writer.old writer.new
         (told_line form word.now asked.now symbol.now) }
 {
     if form.json {
@@ -191,65 +186,65 @@ fn put_told<W: Write>(
 
 /// Writes the object of the address that lies above the symbol as it is asked for.
 fn put_address_object<W: Write>(
-    writer: &mut Counted<W>,
+    writer: &mut Output<W>,
     form: AddressForm,
     asked: &AskedName<'_>,
     symbol: &KeptSymbol,
-) -> io::Result<()>
+)
     requires { is_told form asked.now symbol.now ≡ true }
-    ensures { Wrote W.contents writer.old writer.new result
+    ensures { Says W.contents writer.old writer.new
         (address_object form asked.now symbol.now) }
 {
-    put_address_member(writer, told_address(form, asked, symbol))?;
-    put_symbol_members(writer, symbol.name, asked.above.offset, symbol.size())?;
-    put_owner_member(writer, symbol.owner)?;
-    put(writer, b"}\n")
+    put_address_member(writer, told_address(form, asked, symbol));
+    put_symbol_members(writer, symbol.name, asked.above.offset, symbol.size());
+    put_owner_member(writer, symbol.owner);
+    writer.put(b"}\n");
 }
 
 /// Writes the module of a symbol, or nothing for the kernel itself.
-fn put_owner_member<W: Write>(writer: &mut Counted<W>, owner: Option<&[u8]>) -> io::Result<()>
-    ensures { Wrote W.contents writer.old writer.new result
+fn put_owner_member<W: Write>(writer: &mut Output<W>, owner: Option<&[u8]>)
+    ensures { Says W.contents writer.old writer.new
         (owner_member (option_copied owner.entry)) }
 {
     match owner {
         Some(name) => put_named_module(writer, name),
-        None => Ok(()),
+        None => {}
     }
 }
 
 /// Writes `NAME 0xADDRESS 0xSIZE [MODULE]`.
 fn put_address<W: Write>(
-    writer: &mut Counted<W>,
+    writer: &mut Output<W>,
     form: AddressForm,
     word: &[u8],
     asked: &AskedName<'_>,
     symbol: &KeptSymbol,
-) -> io::Result<()>
+)
     requires { is_told form asked.now symbol.now ≡ true }
-    ensures { Wrote W.contents writer.old writer.new result
+    ensures { Says W.contents writer.old writer.new
         (address_line form word.now asked.now symbol.now) }
 {
     let addr = told_address(form, asked, symbol);
-    put(writer, word)?;
-    put(writer, b" ")?;
-    put_hexadecimal(writer, addr)?;
-    put(writer, b" ")?;
-    put_hexadecimal(writer, symbol.size())?;
-    put_owner(writer, symbol.owner)?;
-    put(writer, b"\n")
+    writer.put(word);
+    writer.put(b" ");
+    writer.put_hexadecimal(addr);
+    writer.put(b" ");
+    writer.put_hexadecimal(symbol.size());
+    put_owner(writer, symbol.owner);
+    writer.put(b"\n");
 }
 
 /// Writes ` [MODULE]`, or nothing for the kernel itself.
-fn put_owner<W: Write>(writer: &mut Counted<W>, owner: Option<&[u8]>) -> io::Result<()>
-    ensures { Wrote W.contents writer.old writer.new result
+fn put_owner<W: Write>(writer: &mut Output<W>, owner: Option<&[u8]>)
+    ensures { Says W.contents writer.old writer.new
         (owner_text (option_copied owner.entry)) }
 {
     let Some(name) = owner else {
-        return Ok(());
+        return;
     };
-    put(writer, b" [")?;
-    put(writer, name)?;
-    put(writer, b"]")
+    writer.put(b" [");
+    writer.put(name);
+    writer.put(b"]");
 }
 
 /// The address that is told of a symbol.

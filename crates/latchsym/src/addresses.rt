@@ -1,7 +1,7 @@
 //! From the bytes of listings and from names to the lines that say where the symbols are.
 ghost use Rattle.std.specs.Prelude.{◌≡◌, [], map, unwrap_or, Some};
 ghost use Rattle.std.specs.Option.{option_copied};
-ghost use Rattle.texts.specs.Exact.{Wrote};
+ghost use Rattle.texts.specs.Output.{Says};
 ghost use Rattle.latchsym.specs.Addresses.{AnswersGiven, AnswersNames};
 ghost use Rattle.latchsym.specs.AddressTexts.{words_text};
 ghost use Rattle.latchsym.specs.KeptSymbols.{found_by};
@@ -13,9 +13,8 @@ use engines::{Fault, GivenTexts, ListingReaders, open_catalog, read_given};
 use listing::ListingNotes;
 use modules::{IndexedCatalog, KernelBounds};
 use std::alloc::Global;
-use std::io;
 use std::io::{Read, Write};
-use texts::Counted;
+use texts::Output;
 
 /// Writes where the kept symbols of each name are, in the order listed, as objects of JSON or as
 /// lines of text, and returns what is noted of the listings. A name may have the module in front of
@@ -29,7 +28,7 @@ pub fn address_engine<M: Read, K: Read, R: Read, W: Write>(
     form: AddressForm,
     kernel: Option<&KernelBounds>,
     words: &[&str],
-    writer: &mut Counted<W>,
+    writer: &mut Output<W>,
 ) -> Result<ListingNotes, Fault>
     ensures { AnswersNames W.contents form (option_copied kernel.entry) (map (λ w. w.now) words.now)
         (known_given M.remaining K.remaining R.remaining readers.old)
@@ -46,7 +45,7 @@ fn answer_names<W: Write>(
     form: AddressForm,
     kernel: Option<&KernelBounds>,
     words: &[&str],
-    writer: &mut Counted<W>,
+    writer: &mut Output<W>,
 ) -> Result<ListingNotes, Fault>
     ensures { AnswersGiven W.contents form (option_copied kernel.entry) (map (λ w. w.now) words.now)
         (given_in texts.now) writer.old writer.new result }
@@ -55,22 +54,23 @@ fn answer_names<W: Write>(
     let notes = opened.notes;
     let index = IndexedCatalog::new(alloc, opened.catalog)?;
     let sought = symbols_sought(alloc, &index, &texts.kallsyms, words)?;
-    match put_all(writer, form, &sought, words) {
-        Ok(()) => Ok(notes),
-        Err(_) => Err(Fault::Write),
+    put_all(writer, form, &sought, words);
+    if writer.has_failed() {
+        return Err(Fault::Write);
     }
+    Ok(notes)
 }
 
 /// Writes the lines of all words, and lets the writer keep nothing back.
 fn put_all<W: Write>(
-    writer: &mut Counted<W>,
+    writer: &mut Output<W>,
     form: AddressForm,
     sought: &SoughtSymbols<'_, '_>,
     words: &[&str],
-) -> io::Result<()>
-    ensures { Wrote W.contents writer.old writer.new result (words_text form
+)
+    ensures { Says W.contents writer.old writer.new (words_text form
         (λ name. unwrap_or (found_by sought.now name) []) (map (λ w. w.now) words.now)) }
 {
-    put_words(writer, form, sought, words)?;
-    writer.flush()
+    put_words(writer, form, sought, words);
+    writer.flush();
 }

@@ -16,7 +16,7 @@ use modules::{IndexedCatalog, KernelBounds};
 use order_laws::Refusal;
 use std::alloc::Global;
 use std::io::{Read, Write};
-use texts::Counted;
+use texts::{Counted, Output};
 
 /// The readers of the files of an annotation, in the order in which they are read.
 #[derive(Drop)]
@@ -57,8 +57,8 @@ pub fn annotate_engine<M: Read, K: Read, R: Read, L: Read, E: Write, W: Write>(
     options: &AnnotateOptions<'_>,
     files: &ListingFiles<'_>,
     name: &str,
-    errors: &mut Counted<E>,
-    writer: &mut Counted<W>,
+    errors: &mut Output<E>,
+    writer: &mut Output<W>,
 ) -> Result<u8, Fault>
     ensures { AnnotatesLog L.remaining W.contents E.contents options.now files.now name.now
         (known_given M.remaining K.remaining R.remaining readers.old.listings)
@@ -78,9 +78,9 @@ fn annotate_over<L: Read, E: Write, W: Write>(
     options: &AnnotateOptions<'_>,
     files: &ListingFiles<'_>,
     name: &str,
-    errors: &mut Counted<E>,
+    errors: &mut Output<E>,
     log: &mut Counted<L>,
-    writer: &mut Counted<W>,
+    writer: &mut Output<W>,
 ) -> Result<u8, Fault>
     ensures { AnnotatesLog L.remaining W.contents E.contents options.now files.now name.now
         (Some (given_in texts.now)) [] log.old log.new writer.old writer.new
@@ -110,9 +110,9 @@ fn annotate_by<L: Read, E: Write, W: Write>(
     rule: LogRule,
     is_narrow: bool,
     name: &str,
-    errors: &mut Counted<E>,
+    errors: &mut Output<E>,
     log: &mut Counted<L>,
-    writer: &mut Counted<W>,
+    writer: &mut Output<W>,
 ) -> Result<u8, Fault>
     ensures { AnnotatesBy L.remaining W.contents E.contents name.now
         (answered_by index.now rule is_narrow)

@@ -4,7 +4,7 @@
 //! they are its answer it writes them.
 ghost use Rattle.std.specs.Prelude.{◌≡◌, None};
 ghost use Rattle.std.specs.Option.{option_copied, option_map};
-ghost use Rattle.texts.specs.Exact.{Wrote};
+ghost use Rattle.texts.specs.Output.{Says};
 ghost use Rattle.texts.specs.Lines.{lines_of};
 ghost use Rattle.listing.specs.Looks.{are_modules_hidden, are_symbols_hidden};
 ghost use Rattle.latchsym.specs.Checks.{ChecksGiven, ChecksListings, ChecksTexts, IsModulesReport};
@@ -27,9 +27,8 @@ use listing::{
 };
 use modules::{Asked, Catalog, KernelBounds};
 use std::alloc::Global;
-use std::io;
 use std::io::{Read, Write};
-use texts::Counted;
+use texts::Output;
 
 /// Writes a line for each note that applies to the listings in these files, and then the counts
 /// that a lookup over the same listings has. Returns the program's status: 1 where no symbol is
@@ -42,7 +41,7 @@ pub fn check_engine<M: Read, K: Read, R: Read, W: Write>(
     readers: &mut ListingReaders<M, K, R>,
     kernel: Option<&KernelBounds>,
     files: &ListingFiles<'_>,
-    writer: &mut Counted<W>,
+    writer: &mut Output<W>,
 ) -> Result<u8, Fault>
     ensures { ChecksListings W.contents (option_copied kernel.entry) files.now
         (known_given M.remaining K.remaining R.remaining readers.old)
@@ -58,7 +57,7 @@ fn check_given<W: Write>(
     texts: &GivenTexts,
     kernel: Option<&KernelBounds>,
     files: &ListingFiles<'_>,
-    writer: &mut Counted<W>,
+    writer: &mut Output<W>,
 ) -> Result<u8, Fault>
     ensures { ChecksGiven W.contents (option_copied kernel.entry) files.now (given_in texts.now)
         writer.old writer.new result }
@@ -76,7 +75,7 @@ fn check_modules<W: Write>(
     modules: &[u8],
     kernel: Option<&KernelBounds>,
     files: &ListingFiles<'_>,
-    writer: &mut Counted<W>,
+    writer: &mut Output<W>,
 ) -> Result<u8, Fault>
     ensures { ChecksTexts W.contents
         (IsModulesReport (option_copied kernel.entry) files.now modules.now texts.now.kallsyms.items
@@ -96,10 +95,11 @@ fn check_modules<W: Write>(
         addresses: Vec::new(alloc),
     };
     let listings = listings_in(alloc, &inputs, Asked::These(&[]))?;
-    match put_listings(writer, files, &inputs, &listings) {
-        Ok(()) => Ok(status_of_kept(listings.built.symbols)),
-        Err(_) => Err(Fault::Write),
+    put_listings(writer, files, &inputs, &listings);
+    if writer.has_failed() {
+        return Err(Fault::Write);
     }
+    Ok(status_of_kept(listings.built.symbols))
 }
 
 /// The same of a listing of symbols alone.
@@ -108,7 +108,7 @@ fn check_symbols<W: Write>(
     kallsyms: &[u8],
     kernel: Option<&KernelBounds>,
     file: &str,
-    writer: &mut Counted<W>,
+    writer: &mut Output<W>,
 ) -> Result<u8, Fault>
     ensures { ChecksTexts W.contents
         (IsSymbolsReport (option_copied kernel.entry) file.now kallsyms.now) None
@@ -116,10 +116,11 @@ fn check_symbols<W: Write>(
 {
     let listing = open_symbols(alloc, kernel, kallsyms, Asked::These(&[]))?;
     let names = kernel.unwrap_or(&listing.usual);
-    match put_symbol_listing(writer, names, file, kallsyms, &listing) {
-        Ok(()) => Ok(status_of_kept(listing.kept.symbols)),
-        Err(_) => Err(Fault::Write),
+    put_symbol_listing(writer, names, file, kallsyms, &listing);
+    if writer.has_failed() {
+        return Err(Fault::Write);
     }
+    Ok(status_of_kept(listing.kept.symbols))
 }
 
 /// The program's status, by how many symbols are kept.
@@ -132,33 +133,33 @@ fn status_of_kept(kept: u64) -> u8
 /// Writes what applies to listings of modules and of symbols, and their counts, and lets the writer
 /// keep nothing back.
 fn put_listings<W: Write>(
-    writer: &mut Counted<W>,
+    writer: &mut Output<W>,
     files: &ListingFiles<'_>,
     inputs: &LookupInputs<'_, '_>,
     listings: &Listings,
-) -> io::Result<()>
+)
     requires modules { listings.now.modules_hidden
         ≡ are_modules_hidden (lines_of inputs.now.modules.now) }
     requires symbols { listings.now.symbols_hidden
         ≡ are_symbols_hidden (lines_of inputs.now.kallsyms.now) }
-    ensures { Wrote W.contents writer.old writer.new result
+    ensures { Says W.contents writer.old writer.new
         (listings_report files.now (inputs_in inputs.now) listings.now) }
 {
-    put_listings_report(writer, files, inputs, listings)?;
-    writer.flush()
+    put_listings_report(writer, files, inputs, listings);
+    writer.flush();
 }
 
 fn put_listings_report<W: Write>(
-    writer: &mut Counted<W>,
+    writer: &mut Output<W>,
     files: &ListingFiles<'_>,
     inputs: &LookupInputs<'_, '_>,
     listings: &Listings,
-) -> io::Result<()>
+)
     requires modules { listings.now.modules_hidden
         ≡ are_modules_hidden (lines_of inputs.now.modules.now) }
     requires symbols { listings.now.symbols_hidden
         ≡ are_symbols_hidden (lines_of inputs.now.kallsyms.now) }
-    ensures { Wrote W.contents writer.old writer.new result
+    ensures { Says W.contents writer.old writer.new
         (listings_report files.now (inputs_in inputs.now) listings.now) }
 {
     let names = &inputs.options.kernel;
@@ -171,7 +172,7 @@ fn put_listings_report<W: Write>(
         inputs.kallsyms,
         listings.modules_hidden,
         &listings.catalog,
-    )?;
+    );
     put_symbol_notes(
         writer,
         names,
@@ -179,8 +180,8 @@ fn put_listings_report<W: Write>(
         inputs.kallsyms,
         listings.symbols_hidden,
         listings.built.symbols,
-    )?;
-    put_counts(writer, listings)
+    );
+    put_counts(writer, listings);
 }
 
 /// The name of the file of modules, which is empty where there is none.
@@ -192,29 +193,29 @@ fn modules_name<'a>(files: &ListingFiles<'a>) -> &'a str
 
 /// The same of a listing of symbols alone, where these names bound the kernel.
 fn put_symbol_listing<W: Write>(
-    writer: &mut Counted<W>,
+    writer: &mut Output<W>,
     names: &KernelBounds,
     file: &str,
     kallsyms: &[u8],
     listing: &SymbolListing,
-) -> io::Result<()>
+)
     requires { listing.now.hidden ≡ are_symbols_hidden (lines_of kallsyms.now) }
-    ensures { Wrote W.contents writer.old writer.new result
+    ensures { Says W.contents writer.old writer.new
         (symbol_listing_report names.now file.now kallsyms.now listing.now) }
 {
-    put_symbols_report(writer, names, file, kallsyms, listing)?;
-    writer.flush()
+    put_symbols_report(writer, names, file, kallsyms, listing);
+    writer.flush();
 }
 
 fn put_symbols_report<W: Write>(
-    writer: &mut Counted<W>,
+    writer: &mut Output<W>,
     names: &KernelBounds,
     file: &str,
     kallsyms: &[u8],
     listing: &SymbolListing,
-) -> io::Result<()>
+)
     requires { listing.now.hidden ≡ are_symbols_hidden (lines_of kallsyms.now) }
-    ensures { Wrote W.contents writer.old writer.new result
+    ensures { Says W.contents writer.old writer.new
         (symbol_listing_report names.now file.now kallsyms.now listing.now) }
 {
     put_symbol_notes(
@@ -224,44 +225,43 @@ fn put_symbols_report<W: Write>(
         kallsyms,
         listing.hidden,
         listing.kept.symbols,
-    )?;
-    put_found_counts(writer, listing)
+    );
+    put_found_counts(writer, listing);
 }
 
 /// Writes the line of each note that applies to a listing of modules with this text beside one of
 /// symbols, where this catalog is built of both, and all its well-formed lines are hidden or not.
 fn put_module_notes<W: Write>(
-    writer: &mut Counted<W>,
+    writer: &mut Output<W>,
     names: &KernelBounds,
     file: &[u8],
     text: &[u8],
     kallsyms: &[u8],
     hidden: bool,
     catalog: &Catalog,
-) -> io::Result<()>
+)
     requires { hidden ≡ are_modules_hidden (lines_of text.now) }
-    ensures { Wrote W.contents writer.old writer.new result
+    ensures { Says W.contents writer.old writer.new
         (applying_lines names.now file.now (is_of_modules text.now kallsyms.now catalog.now)) }
 {
     let notes = ListingNote::all();
     for note in notes {
         let applies = applies_to_modules(*note, text, kallsyms, hidden, catalog);
-        put_note_where(writer, names, file, *note, applies)?;
+        put_note_where(writer, names, file, *note, applies);
     }
-    Ok(())
 }
 
 /// The same of a listing of symbols, of which so many lines are kept.
 fn put_symbol_notes<W: Write>(
-    writer: &mut Counted<W>,
+    writer: &mut Output<W>,
     names: &KernelBounds,
     file: &[u8],
     text: &[u8],
     hidden: bool,
     kept: u64,
-) -> io::Result<()>
+)
     requires { hidden ≡ are_symbols_hidden (lines_of text.now) }
-    ensures { Wrote W.contents writer.old writer.new result
+    ensures { Says W.contents writer.old writer.new
         (applying_lines names.now file.now (is_of_kallsyms names.now text.now kept)) }
 {
     let facts = SymbolFacts {
@@ -272,7 +272,6 @@ fn put_symbol_notes<W: Write>(
     let notes = ListingNote::all();
     for note in notes {
         let applies = applies_to_kallsyms(*note, text, names, facts);
-        put_note_where(writer, names, file, *note, applies)?;
+        put_note_where(writer, names, file, *note, applies);
     }
-    Ok(())
 }

@@ -1,7 +1,8 @@
 //! A job from the names of its files to its status: its files are opened, and then its engine
 //! answers over their readers.
 ghost use Rattle.std.specs.Prelude.{◌≡◌, IfOk, IfErr, List, ℕ, Option};
-ghost use Rattle.texts.specs.Counted.{device_of, error_of};
+ghost use Rattle.texts.specs.Counted.{device_of};
+ghost use Rattle.texts.specs.Output.{error_in};
 ghost use Rattle.latchsym.specs.Files.{AreAnnotateFiles, AreListingFiles, AreLookupFiles};
 ghost use Rattle.latchsym.specs.Files.{AreRunFiles, AreSymbolLookupFiles};
 ghost use Rattle.latchsym.specs.Files.{IsOpened, IsOpenedFor, IsOpenedIfGiven, or_standard};
@@ -28,7 +29,7 @@ use std::io;
 use std::io::{Read, Write};
 use std::sync::Wait;
 use std::thread::Threads;
-use texts::Counted;
+use texts::{Counted, Output};
 
 /// Where the files of a job are found. A file that cannot be opened is one whose reader fails, so
 /// that of several files the first in the order of reading is the one whose fault is told.
@@ -95,8 +96,8 @@ pub fn do_job<T: Threads + Wait + Sync, R: Read, W: Write, E: Write>(
     threads: &T,
     alloc: Global,
     job: &mut OpenedJob<'_, '_, R>,
-    writer: &mut Counted<W>,
-    errors: &mut Counted<E>,
+    writer: &mut Output<W>,
+    errors: &mut Output<E>,
 ) -> Result<Finished, Fault>
     ensures { IsOutcome R.remaining W.contents E.contents job.old job.new
         writer.old writer.new errors.old errors.new result }
@@ -124,7 +125,7 @@ fn do_lookup<R: Read, W: Write>(
     alloc: Global,
     job: &LookupJob<'_>,
     readers: &mut LookupReaders<R, R, R, R>,
-    writer: &mut Counted<W>,
+    writer: &mut Output<W>,
 ) -> Result<Finished, Fault>
     ensures { IsLookedUp R.remaining W.contents job.now readers.old readers.new
         writer.old writer.new result }
@@ -139,7 +140,7 @@ fn do_symbol_lookup<R: Read, W: Write>(
     alloc: Global,
     job: &SymbolLookupJob<'_>,
     readers: &mut SymbolLookupReaders<R, R>,
-    writer: &mut Counted<W>,
+    writer: &mut Output<W>,
 ) -> Result<Finished, Fault>
     ensures { IsLookedUpBySymbols R.remaining W.contents job.now readers.old readers.new
         writer.old writer.new result }
@@ -154,8 +155,8 @@ fn do_annotate<R: Read, W: Write, E: Write>(
     alloc: Global,
     job: &AnnotateJob<'_>,
     readers: &mut AnnotateReaders<R, R, R, R>,
-    writer: &mut Counted<W>,
-    errors: &mut Counted<E>,
+    writer: &mut Output<W>,
+    errors: &mut Output<E>,
 ) -> Result<Finished, Fault>
     ensures { IsAnnotated R.remaining W.contents E.contents job.now readers.old readers.new
         writer.old writer.new errors.old errors.new result }
@@ -178,7 +179,7 @@ fn do_check<R: Read, W: Write>(
     alloc: Global,
     job: &CheckJob<'_>,
     readers: &mut ListingReaders<R, R, R>,
-    writer: &mut Counted<W>,
+    writer: &mut Output<W>,
 ) -> Result<Finished, Fault>
     ensures { IsListingsChecked R.remaining W.contents job.now readers.old readers.new
         writer.old writer.new result }
@@ -193,7 +194,7 @@ fn do_address<R: Read, W: Write>(
     alloc: Global,
     job: &AddressJob<'_>,
     readers: &mut ListingReaders<R, R, R>,
-    writer: &mut Counted<W>,
+    writer: &mut Output<W>,
 ) -> Result<Finished, Fault>
     ensures { AreNamesFound R.remaining W.contents job.now readers.old readers.new
         writer.old writer.new result }
@@ -208,8 +209,8 @@ impl<R> OpenedJob<'_, '_, R> {
 
     /// The error behind a fault of a job that tells it: the one that the reader gave last which
     /// failed, or the writer.
-    pub fn error_behind<W>(&self, fault: &Fault, writer: &Counted<W>) -> Option<io::Error>
-        ensures { result ≡ error_behind self.now (error_of writer.now) fault.now }
+    pub fn error_behind<W>(&self, fault: &Fault, writer: &Output<W>) -> Option<io::Error>
+        ensures { result ≡ error_behind self.now (error_in writer.now) fault.now }
     {
         match fault {
             Fault::Read { place } => self.error_at(*place),

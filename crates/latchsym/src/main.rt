@@ -42,13 +42,13 @@ use std::io::{BufWriter, ErrorKind, Stderr, Write};
 use std::process::ExitCode;
 use std::sync::Wait;
 use std::thread::Threads;
-use texts::{BLOCK, Counted};
+use texts::{BLOCK, Output};
 
 /// Memory ran out before there was a job to do.
 const NO_MEMORY: Fault = Fault::Refused(Refusal::OutOfMemory);
 
 fn main(rt: HostRuntime) -> ExitCode {
-    let mut errors = Counted::new(rt.stderr());
+    let mut errors = Output::new(rt.stderr());
     let status = match words_of(&rt) {
         Ok(words) => answer(&rt, &rt, words.as_slice(), &mut errors),
         Err(ErrorKind::OutOfMemory) => refuse(&rt, JobFault::OutOfMemory, &mut errors),
@@ -70,7 +70,7 @@ fn answer<T: Threads + Wait + Sync>(
     rt: &HostRuntime,
     threads: &T,
     words: &[String],
-    errors: &mut Counted<Stderr>,
+    errors: &mut Output<Stderr>,
 ) -> u8 {
     let Ok(words) = with_operands(rt.alloc(), words) else {
         return refuse(rt, JobFault::OutOfMemory, errors);
@@ -87,11 +87,11 @@ fn run<T: Threads + Wait + Sync>(
     rt: &HostRuntime,
     threads: &T,
     job: &Job<'_>,
-    errors: &mut Counted<Stderr>,
+    errors: &mut Output<Stderr>,
 ) -> u8 {
     match job {
         Job::Trace { .. } | Job::Annotate(_) => {
-            let mut writer = Counted::new(rt.stdout());
+            let mut writer = Output::new(rt.stdout());
             run_to(rt, threads, job, &mut writer, errors)
         }
         Job::Steps { .. }
@@ -102,7 +102,7 @@ fn run<T: Threads + Wait + Sync>(
         | Job::Address(_) => {
             match BufWriter::with_capacity(rt.alloc(), BLOCK, rt.stdout()) {
                 Ok(buffer) => {
-                    let mut writer = Counted::new(buffer);
+                    let mut writer = Output::new(buffer);
                     run_to(rt, threads, job, &mut writer, errors)
                 }
                 Err(_) => report_before_job(&NO_MEMORY, errors),
@@ -117,8 +117,8 @@ fn run_to<T: Threads + Wait + Sync, W: Write>(
     rt: &HostRuntime,
     threads: &T,
     job: &Job<'_>,
-    writer: &mut Counted<W>,
-    errors: &mut Counted<Stderr>,
+    writer: &mut Output<W>,
+    errors: &mut Output<Stderr>,
 ) -> u8 {
     let files = FileSystem { rt };
     let Ok(mut opened) = open_job(&files, job) else {

@@ -1,6 +1,6 @@
 //! What is said of a command line that gives no job, and the program's status.
 ghost use Rattle.std.specs.Prelude.{◌≡◌};
-ghost use Rattle.texts.specs.Exact.{Wrote};
+ghost use Rattle.texts.specs.Output.{Says};
 ghost use Rattle.latchsym.specs.Misuses.{IsExplained, IsMisused, IsNoJob, misuse_text};
 ghost use Rattle.latchsym.specs.Misuses.{offset_message};
 
@@ -9,9 +9,8 @@ use crate::reports::report_before_job;
 use clap::Error;
 use engines::{Fault, SUCCEEDED};
 use order_laws::Refusal;
-use std::io;
 use std::io::Write;
-use texts::{Counted, hexadecimal, put};
+use texts::{Output, hexadecimal};
 
 /// The program's status where the command line is at fault.
 const MISUSED: u8 = 2;
@@ -20,7 +19,7 @@ const MISUSED: u8 = 2;
 pub fn refuse<P: Print + Eprint, E: Write>(
     rt: &P,
     fault: JobFault<'_>,
-    errors: &mut Counted<E>,
+    errors: &mut Output<E>,
 ) -> u8
     ensures { IsNoJob E.contents errors.old errors.new fault.entry result }
 {
@@ -66,7 +65,7 @@ fn offset_message(word: &str) -> &'static [u8]
 
 /// Prints what the parser of the command line has to say: help on the standard output, a fault on
 /// the standard error.
-fn explain<P: Print + Eprint, E: Write>(rt: &P, error: &Error, errors: &mut Counted<E>) -> u8
+fn explain<P: Print + Eprint, E: Write>(rt: &P, error: &Error, errors: &mut Output<E>) -> u8
     ensures { IsExplained E.contents errors.old errors.new error.now result }
 {
     let printed = error.print(rt);
@@ -81,18 +80,18 @@ fn explain<P: Print + Eprint, E: Write>(rt: &P, error: &Error, errors: &mut Coun
 
 /// Says what is wrong with the command line, and with which word. Where the writer fails, the
 /// status is all that there is to tell.
-pub fn misused<E: Write>(message: &[u8], word: &str, errors: &mut Counted<E>) -> u8
+pub fn misused<E: Write>(message: &[u8], word: &str, errors: &mut Output<E>) -> u8
     ensures { IsMisused E.contents errors.old errors.new message.now word.now result }
 {
-    let _ = put_misuse(message, word, errors);
+    put_misuse(message, word, errors);
     MISUSED
 }
 
-fn put_misuse<E: Write>(message: &[u8], word: &str, writer: &mut Counted<E>) -> io::Result<()>
-    ensures { Wrote E.contents writer.old writer.new result (misuse_text message.now word.now) }
+fn put_misuse<E: Write>(message: &[u8], word: &str, writer: &mut Output<E>)
+    ensures { Says E.contents writer.old writer.new (misuse_text message.now word.now) }
 {
-    put(writer, b"latchsym: ")?;
-    put(writer, message)?;
-    put(writer, word.as_bytes())?;
-    put(writer, b"\n")
+    writer.put(b"latchsym: ");
+    writer.put(message);
+    writer.put(word.as_bytes());
+    writer.put(b"\n");
 }

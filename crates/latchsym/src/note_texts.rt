@@ -1,29 +1,23 @@
 //! The lines that say what is noted of listings, byte for byte, with no memory taken.
 ghost use Rattle.std.specs.Prelude.{◌≡◌};
 ghost use Rattle.std.specs.Option.{option_copied};
-ghost use Rattle.texts.specs.Exact.{Wrote};
+ghost use Rattle.texts.specs.Output.{Says};
 ghost use Rattle.latchsym.specs.NoteTexts.{line_if_noted, line_where, lines_for, message_of};
 ghost use Rattle.latchsym.specs.NoteTexts.{missing_text, note_line, note_lines, noted_bounds};
 ghost use Rattle.latchsym.specs.NoteTexts.{notes_text, other_boot_line, remedy_text};
 
 use crate::command_line::{Job, ListingFiles};
-use engines::put_decimal;
 use listing::{ListingNote, ListingNotes, LogNames};
 use modules::KernelBounds;
-use std::io;
 use std::io::Write;
-use texts::{Counted, put};
+use texts::Output;
 
 /// Writes the lines of what is noted of the listings of a job, by the names of its files.
-pub fn put_job_notes<W: Write>(
-    writer: &mut Counted<W>,
-    job: &Job<'_>,
-    notes: &ListingNotes,
-) -> io::Result<()>
-    ensures { Wrote W.contents writer.old writer.new result (notes_text job.now notes.now) }
+pub fn put_job_notes<W: Write>(writer: &mut Output<W>, job: &Job<'_>, notes: &ListingNotes)
+    ensures { Says W.contents writer.old writer.new (notes_text job.now notes.now) }
 {
     match job {
-        Job::Trace { .. } | Job::Steps { .. } | Job::Check(_) => Ok(()),
+        Job::Trace { .. } | Job::Steps { .. } | Job::Check(_) => {}
         Job::Lookup(job) => {
             let names = &job.options.kernel;
             put_listing_notes(writer, names, job.modules, job.kallsyms, notes)
@@ -42,12 +36,12 @@ pub fn put_job_notes<W: Write>(
 /// Writes what is noted of the listings in these files, where these names are given for the kernel's
 /// bounds.
 pub fn put_notes_of<W: Write>(
-    writer: &mut Counted<W>,
+    writer: &mut Output<W>,
     kernel: Option<&KernelBounds>,
     files: &ListingFiles<'_>,
     notes: &ListingNotes,
-) -> io::Result<()>
-    ensures { Wrote W.contents writer.old writer.new result
+)
+    ensures { Says W.contents writer.old writer.new
         (note_lines (option_copied kernel.entry) files.now notes.now) }
 {
     let usual = KernelBounds::usual();
@@ -62,28 +56,28 @@ pub fn put_notes_of<W: Write>(
 
 /// Writes what is noted of the listings in these files, where these names bound the kernel.
 fn put_listing_notes<W: Write>(
-    writer: &mut Counted<W>,
+    writer: &mut Output<W>,
     names: &KernelBounds,
     modules: &str,
     kallsyms: &str,
     notes: &ListingNotes,
-) -> io::Result<()>
-    ensures { Wrote W.contents writer.old writer.new result
+)
+    ensures { Says W.contents writer.old writer.new
         (lines_for names.now modules.now kallsyms.now notes.now) }
 {
-    put_if_noted(writer, names, modules.as_bytes(), notes.modules)?;
-    put_if_noted(writer, names, kallsyms.as_bytes(), notes.kallsyms)
+    put_if_noted(writer, names, modules.as_bytes(), notes.modules);
+    put_if_noted(writer, names, kallsyms.as_bytes(), notes.kallsyms);
 }
 
 /// Writes what is noted of the listing of symbols in this file, where these names are given for the
 /// kernel's bounds.
 fn put_symbol_note<W: Write>(
-    writer: &mut Counted<W>,
+    writer: &mut Output<W>,
     kernel: Option<&KernelBounds>,
     kallsyms: &str,
     notes: &ListingNotes,
-) -> io::Result<()>
-    ensures { Wrote W.contents writer.old writer.new result
+)
+    ensures { Says W.contents writer.old writer.new
         (line_if_noted (noted_bounds (option_copied kernel.entry)) kallsyms.now
         notes.now.kallsyms) }
 {
@@ -93,115 +87,97 @@ fn put_symbol_note<W: Write>(
         end: b"_etext",
     };
     let names = kernel.unwrap_or(&missed);
-    put_if_noted(writer, names, kallsyms.as_bytes(), notes.kallsyms)
+    put_if_noted(writer, names, kallsyms.as_bytes(), notes.kallsyms);
 }
 
 /// Writes what is noted of the listing in this file, if something is.
 fn put_if_noted<W: Write>(
-    writer: &mut Counted<W>,
+    writer: &mut Output<W>,
     names: &KernelBounds,
     file: &[u8],
     note: Option<ListingNote>,
-) -> io::Result<()>
-    ensures { Wrote W.contents writer.old writer.new result
+)
+    ensures { Says W.contents writer.old writer.new
         (line_if_noted names.now file.now note) }
 {
     match note {
         Some(note) => put_note(writer, names, file, note),
-        None => Ok(()),
+        None => {}
     }
 }
 
 /// Writes the line of a note on the listing in this file, where it applies.
 pub(crate) fn put_note_where<W: Write>(
-    writer: &mut Counted<W>,
+    writer: &mut Output<W>,
     names: &KernelBounds,
     file: &[u8],
     note: ListingNote,
     applies: bool,
-) -> io::Result<()>
-    ensures { Wrote W.contents writer.old writer.new result
+)
+    ensures { Says W.contents writer.old writer.new
         (line_where applies (note_line names.now file.now note)) }
 {
     if applies {
         put_note(writer, names, file, note)
-    } else {
-        Ok(())
     }
 }
 
 /// Writes `latchsym: note: FILE: TEXT` and a line's end.
-fn put_note<W: Write>(
-    writer: &mut Counted<W>,
-    names: &KernelBounds,
-    file: &[u8],
-    note: ListingNote,
-) -> io::Result<()>
-    ensures { Wrote W.contents writer.old writer.new result (note_line names.now file.now note) }
+fn put_note<W: Write>(writer: &mut Output<W>, names: &KernelBounds, file: &[u8], note: ListingNote)
+    ensures { Says W.contents writer.old writer.new (note_line names.now file.now note) }
 {
-    put(writer, b"latchsym: note: ")?;
-    put(writer, file)?;
-    put(writer, b": ")?;
-    put_message(writer, names, note)?;
-    put(writer, b"\n")
+    writer.put(b"latchsym: note: ");
+    writer.put(file);
+    writer.put(b": ");
+    put_message(writer, names, note);
+    writer.put(b"\n");
 }
 
 /// Writes that the names which the log in this file has itself are not those of the listing.
-pub fn put_other_boot<W: Write>(
-    writer: &mut Counted<W>,
-    log: &str,
-    names: LogNames,
-) -> io::Result<()>
-    ensures { Wrote W.contents writer.old writer.new result (other_boot_line log.now names) }
+pub fn put_other_boot<W: Write>(writer: &mut Output<W>, log: &str, names: LogNames)
+    ensures { Says W.contents writer.old writer.new (other_boot_line log.now names) }
 {
-    put(writer, b"latchsym: note: ")?;
-    put(writer, log.as_bytes())?;
-    put(writer, b": its own names disagree with the listing (")?;
-    put_decimal(writer, names.disagreeing)?;
-    put(writer, b" of ")?;
-    put_decimal(writer, names.agreeing.saturating_add(names.disagreeing))?;
-    put(writer, b"); is the listing of this boot?\n")
+    writer.put(b"latchsym: note: ");
+    writer.put(log.as_bytes());
+    writer.put(b": its own names disagree with the listing (");
+    writer.put_decimal(names.disagreeing);
+    writer.put(b" of ");
+    writer.put_decimal(names.agreeing.saturating_add(names.disagreeing));
+    writer.put(b"); is the listing of this boot?\n");
 }
 
 /// Writes what a note says.
-fn put_message<W: Write>(
-    writer: &mut Counted<W>,
-    names: &KernelBounds,
-    note: ListingNote,
-) -> io::Result<()>
-    ensures { Wrote W.contents writer.old writer.new result (message_of names.now note) }
+fn put_message<W: Write>(writer: &mut Output<W>, names: &KernelBounds, note: ListingNote)
+    ensures { Says W.contents writer.old writer.new (message_of names.now note) }
 {
     match note {
-        ListingNote::Gzip => put(writer, b"is compressed by gzip; unpack it first"),
-        ListingNote::AllHidden => put(
-            writer,
+        ListingNote::Gzip => writer.put(b"is compressed by gzip; unpack it first"),
+        ListingNote::AllHidden => writer.put(
             b"every address is 0; read it as root (kernel.kptr_restrict)",
         ),
-        ListingNote::LooksLikeSymbols => put(writer, b"looks like a listing of symbols"),
-        ListingNote::LooksLikeModules => put(writer, b"looks like a listing of modules"),
-        ListingNote::LinesEndInCrLf => put(writer, b"lines end in CR LF"),
+        ListingNote::LooksLikeSymbols => writer.put(b"looks like a listing of symbols"),
+        ListingNote::LooksLikeModules => writer.put(b"looks like a listing of modules"),
+        ListingNote::LinesEndInCrLf => writer.put(b"lines end in CR LF"),
         ListingNote::NoStart => put_missing(writer, names.start),
         ListingNote::NoEnd => put_missing(writer, names.end),
-        ListingNote::OtherBoot => put(
-            writer,
+        ListingNote::OtherBoot => writer.put(
             b"no symbol lies in a listed module; are both listings of one boot?",
         ),
-        ListingNote::ModulesOverlap => put(
-            writer,
+        ListingNote::ModulesOverlap => writer.put(
             b"modules overlap, as sizes do from Linux 6.4 on; leave --modules out",
         ),
-        ListingNote::NoModuleLine => put(writer, b"no line is of the form of /proc/modules"),
-        ListingNote::NoSymbolLine => put(writer, b"no line is of the form of /proc/kallsyms"),
+        ListingNote::NoModuleLine => writer.put(b"no line is of the form of /proc/modules"),
+        ListingNote::NoSymbolLine => writer.put(b"no line is of the form of /proc/kallsyms"),
     }
 }
 
 /// Writes that a symbol of this name is missing, and what to try.
-fn put_missing<W: Write>(writer: &mut Counted<W>, name: &[u8]) -> io::Result<()>
-    ensures { Wrote W.contents writer.old writer.new result (missing_text name.now) }
+fn put_missing<W: Write>(writer: &mut Output<W>, name: &[u8])
+    ensures { Says W.contents writer.old writer.new (missing_text name.now) }
 {
-    put(writer, b"has no symbol ")?;
-    put(writer, name)?;
-    put(writer, remedy(name))
+    writer.put(b"has no symbol ");
+    writer.put(name);
+    writer.put(remedy(name));
 }
 
 /// What to try where a symbol of this name is missing.

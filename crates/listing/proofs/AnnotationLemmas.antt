@@ -6,10 +6,12 @@ use Rattle.std.specs.Io.KnownBytes.{Appends, Consumes, IsAtEnd, Keeps}
 use Rattle.std.proofs.KnownBytes.{Appends-nil, Appends-trans, Consumes-kept, Consumes-nil, Consumes-trans, Keeps-refl}
 use Rattle.texts.specs.declared.counted.Counted.{Counted}
 use Rattle.texts.specs.Counted.{NoneFailed, Rose, device_of, failures_of}
+use Rattle.texts.specs.declared.output.Output.{Output}
+use Rattle.texts.specs.Output.{WrotePart, has_failed, writer_of}
 use Rattle.listing.specs.AnnotatedLogs.{Answering, annotated, context_behind}
 use Rattle.listing.specs.LogContexts.{annotated_from, context_over, first_context, kept_in}
 use Rattle.listing.specs.Insertions.{IsWaiting}
-use Rattle.listing.specs.Annotation.{Annotates, IsFollowing, IsUnderWay, PutsMore, PutsRest, owed, owed_count, owed_names}
+use Rattle.listing.specs.Annotation.{Annotates, IsCutOff, IsFollowing, IsUnderWay, PutsMore, PutsRest, owed, owed_count, owed_names}
 use Rattle.listing.specs.LogNames.{counted, names_of_log, no_names}
 use Rattle.listing.specs.LogTallies.{count_in, names_from, open_names}
 use Rattle.listing.proofs.LogNameLemmas.{names_are, names_with}
@@ -21,14 +23,14 @@ use Rattle.listing.proofs.LogContextLemmas.{from_begin, from_behind, kept_behind
 
 -- What was written, and what is still owed, are the annotated log; what is held back is nothing, or
 -- waits for more. Each turn read a byte at least.
-pub record IsOn {R W : Type 0} (remaining : R → Option (List ℕ)) (contents : W → Option (List ℕ)) (answer : Answering) (r r' : Counted R) (w w' : Counted W) (a : Annotator) (turns : ℕ) : Type 0 where
+pub record IsOn {R W : Type 0} (remaining : R → Option (List ℕ)) (contents : W → Option (List ℕ)) (answer : Answering) (r r' : Counted R) (w w' : Output W) (a : Annotator) (turns : ℕ) : Type 0 where
   pub read_all : NoneFailed r r'
-  pub written_all : NoneFailed w w'
+  pub written_all : has_failed w' ≡ has_failed w
   pub read : List ℕ
   pub many : turns ≤ length read
   pub written : List ℕ
   pub consumed : Consumes (remaining (device_of r)) (remaining (device_of r')) read
-  pub appended : Appends (contents (device_of w)) (contents (device_of w')) written
+  pub appended : Appends (contents (writer_of w)) (contents (writer_of w')) written
   pub passed : List ℕ
   pub parts : read ≡ passed ++ a.held.items
   pub context : kept_in a.context ≡ kept_behind answer.is_narrow (reverse passed)
@@ -40,7 +42,7 @@ nothing_found : (wanted : Bool) (others : ℕ) → counted (count_in wanted no_n
 nothing_found true others = let same : 0 + (0 + others) ≡ others = omega arith in ap counted same
 nothing_found false others = let same : 0 + (0 + others) ≡ others = omega arith in ap counted same
 
-module _ {R W : Type 0} (remaining : R → Option (List ℕ)) (contents : W → Option (List ℕ)) (answer : Answering) (r : Counted R) (w : Counted W) where
+module _ {R W : Type 0} (remaining : R → Option (List ℕ)) (contents : W → Option (List ℕ)) (answer : Answering) (r : Counted R) (w : Output W) where
   -- the counts of what was read
   all_counted : (a : Annotator) (read : List ℕ) → ((wanted : Bool) → owed_count wanted answer a [] ≡ counted (names_from wanted answer (first_context answer.is_narrow) (read ++ [])))
       → owed_names answer a ≡ names_of_log answer (read ++ [])
@@ -50,7 +52,7 @@ module _ {R W : Type 0} (remaining : R → Option (List ℕ)) (contents : W → 
       ∙ names_are answer (read ++ [])
 
   -- what was written is a beginning of the annotated log, however much more was read
-  pub under_way : (r' r'' : Counted R) (w' : Counted W) (a : Annotator) (n : ℕ) (more : List ℕ) → IsOn remaining contents answer r r' w w' a n → Consumes (remaining (device_of r')) (remaining (device_of r'')) more
+  pub under_way : (r' r'' : Counted R) (w' : Output W) (a : Annotator) (n : ℕ) (more : List ℕ) → IsOn remaining contents answer r r' w w' a n → Consumes (remaining (device_of r')) (remaining (device_of r'')) more
       → IsUnderWay remaining contents answer r r'' w w'
   under_way r' r'' w' a n more on took = (
     on.read ++ more,
@@ -90,7 +92,7 @@ module _ {R W : Type 0} (remaining : R → Option (List ℕ)) (contents : W → 
   waits_behind a passed is (inr waits) = inr (waiting_behind answer (reverse passed) a.held.items (subst (λ k. IsWaiting answer k a.held.items) is waits))
 
   -- what was written is up to date, where the reader kept what it has
-  pub following : (r' r'' : Counted R) (w' : Counted W) (a : Annotator) (n : ℕ) → IsOn remaining contents answer r r' w w' a n → Keeps (remaining (device_of r')) (remaining (device_of r''))
+  pub following : (r' r'' : Counted R) (w' : Output W) (a : Annotator) (n : ℕ) → IsOn remaining contents answer r r' w w' a n → Keeps (remaining (device_of r')) (remaining (device_of r''))
       → IsFollowing remaining contents answer r r'' w w'
   following r' r'' w' a n on keeps = (
     on.read,
@@ -109,28 +111,28 @@ module _ {R W : Type 0} (remaining : R → Option (List ℕ)) (contents : W → 
   )
 
   -- a read failed
-  pub not_read : (r' r'' : Counted R) (w' : Counted W) (a : Annotator) (n : ℕ) → IsOn remaining contents answer r r' w w' a n → Rose (failures_of r') (failures_of r'') → Keeps (remaining (device_of r')) (remaining (device_of r''))
+  pub not_read : (r' r'' : Counted R) (w' : Output W) (a : Annotator) (n : ℕ) → IsOn remaining contents answer r r' w w' a n → Rose (failures_of r') (failures_of r'') → Keeps (remaining (device_of r')) (remaining (device_of r''))
       → Annotates remaining contents answer r r'' w w' (Err fault.Read)
   not_read r' r'' w' a n on rose keeps = (subst (λ n. Rose n (failures_of r'')) on.read_all rose, on.written_all, following r' r'' w' a n on keeps)
 
   -- no block is left to be read
-  pub too_long : (r' : Counted R) (w' : Counted W) (a : Annotator) (n : ℕ) → IsOn remaining contents answer r r' w w' a n → 2 ^ 64 - 1 ≤ n → Annotates remaining contents answer r r' w w' (Err fault.TooLong)
+  pub too_long : (r' : Counted R) (w' : Output W) (a : Annotator) (n : ℕ) → IsOn remaining contents answer r r' w w' a n → 2 ^ 64 - 1 ≤ n → Annotates remaining contents answer r r' w w' (Err fault.TooLong)
   unfolding following
   too_long r' w' a n on last =
       let f = following r' r' w' a n on (Keeps-refl _) in
       (on.read_all, on.written_all, (f.0, f.1, f.2, f.3, f.4, omega (arith, on.many, last)))
 
   -- a block more
-  pub one_more : (r' r'' : Counted R) (w' w'' : Counted W) (a a' : Annotator) (n : ℕ) (bytes : List ℕ) (u : Unit {0}) → 0 < length bytes → IsOn remaining contents answer r r' w w' a n → NoneFailed r' r'' → Consumes (remaining (device_of r')) (remaining (device_of r'')) bytes
+  pub one_more : (r' r'' : Counted R) (w' w'' : Output W) (a a' : Annotator) (n : ℕ) (bytes : List ℕ) (u : Unit {0}) → 0 < length bytes → IsOn remaining contents answer r r' w w' a n → NoneFailed r' r'' → Consumes (remaining (device_of r')) (remaining (device_of r'')) bytes
       → PutsMore contents answer a a' bytes w' w'' (Ok u) → IsOn remaining contents answer r r'' w w'' a' (n + 1)
-  one_more r' r'' w' w'' a a' n bytes u some on all took (none, text, put, decides) = record {
+  one_more r' r'' w' w'' a a' n bytes u some on all took (text, put, decides) = record {
     read_all = all ∙ on.read_all;
-    written_all = none ∙ on.written_all;
+    written_all = put.1 ∙ sym put.0 ∙ on.written_all;
     read = on.read ++ bytes;
     many = omega (arith, on.many, some, length-append on.read bytes);
     written = on.written ++ text;
     consumed = Consumes-trans _ _ _ on.read bytes on.consumed took;
-    appended = Appends-trans _ _ _ on.written text on.appended put;
+    appended = Appends-trans _ _ _ on.written text on.appended put.2;
     passed = on.passed ++ decides.passed;
     parts =
         ap (λ l. l ++ bytes) on.parts ∙ append_assoc on.passed a.held.items bytes
@@ -144,38 +146,76 @@ module _ {R W : Type 0} (remaining : R → Option (List ℕ)) (contents : W → 
     is_owed = λ more. append_assoc on.written text (owed answer a' more) ∙ ap (λ t. on.written ++ t) (decides.same more) ∙ on.is_owed (bytes ++ more) ∙ ap (annotated_from answer (first_context answer.is_narrow)) (sym (append_assoc on.read bytes more));
   }
 
+  -- a beginning of the block was put out
+  stopped : (r' r'' : Counted R) (w' w'' : Output W) (a a' : Annotator) (n : ℕ) (bytes text : List ℕ) → IsOn remaining contents answer r r' w w' a n → NoneFailed r' r'' → Consumes (remaining (device_of r')) (remaining (device_of r'')) bytes
+      → WrotePart contents w' w'' text → ((more : List ℕ) → text ++ owed answer a' more ≡ owed answer a (bytes ++ more)) → IsCutOff remaining contents answer r r'' w w''
+  stopped r' r'' w' w'' a a' n bytes text on all took (failed, part, lost, parts, put) goes_on = (
+    all ∙ on.read_all,
+    failed,
+    inl (
+      on.read ++ bytes,
+      on.written ++ part,
+      Consumes-trans _ _ _ on.read bytes on.consumed took,
+      Appends-trans _ _ _ on.written part on.appended put,
+      λ more.
+          let rest = owed answer a' more in (
+            lost ++ rest,
+            append_assoc on.written part (lost ++ rest)
+                ∙ ap (λ l. on.written ++ l) (sym (append_assoc part lost rest) ∙ ap (λ l. l ++ rest) (sym parts) ∙ goes_on more)
+                ∙ on.is_owed (bytes ++ more) ∙ from_begin answer (on.read ++ (bytes ++ more)) ∙ ap (annotated answer) (sym (append_assoc on.read bytes more)),
+          ),
+    ),
+  )
+
   -- the block could not be put out
-  pub not_put : (r' r'' : Counted R) (w' w'' : Counted W) (a a' : Annotator) (n : ℕ) (bytes : List ℕ) (e : LogFault) → IsOn remaining contents answer r r' w w' a n → NoneFailed r' r'' → Consumes (remaining (device_of r')) (remaining (device_of r'')) bytes
+  pub not_put : (r' r'' : Counted R) (w' w'' : Output W) (a a' : Annotator) (n : ℕ) (bytes : List ℕ) (e : LogFault) → IsOn remaining contents answer r r' w w' a n → NoneFailed r' r'' → Consumes (remaining (device_of r')) (remaining (device_of r'')) bytes
       → PutsMore contents answer a a' bytes w' w'' (Err e) → Annotates remaining contents answer r r'' w w'' (Err e)
   not_put r' r'' w' w'' a a' n bytes fault.OutOfMemory on all took puts =
       subst (λ x. Annotates remaining contents answer r r'' w x (Err fault.OutOfMemory)) (sym puts) (all ∙ on.read_all, on.written_all, under_way r' r'' w' a n bytes on took)
-  not_put r' r'' w' w'' a a' n bytes fault.Write on all took puts = (all ∙ on.read_all, subst (λ n. Rose n (failures_of w'')) on.written_all puts)
-  not_put r' r'' w' w'' a a' n bytes fault.Closed on all took puts = (all ∙ on.read_all, subst (λ n. Rose n (failures_of w'')) on.written_all puts)
+  not_put r' r'' w' w'' a a' n bytes fault.Write on all took (text, put, decides) = stopped r' r'' w' w'' a a' n bytes text on all took put decides.same
+  not_put r' r'' w' w'' a a' n bytes fault.Closed on all took (text, put, decides) = stopped r' r'' w' w'' a a' n bytes text on all took put decides.same
   not_put r' r'' w' w'' a a' n bytes fault.Read on all took puts = absurd puts
   not_put r' r'' w' w'' a a' n bytes fault.TooLong on all took puts = absurd puts
 
   -- a fault is told as it came
-  pub passed_on : (r' : Counted R) (w' : Counted W) (result : Result LogNames LogFault) (e : LogFault) → IsErrAnd result (λ f. f ≡ e) → Annotates remaining contents answer r r' w w' (Err e) → Annotates remaining contents answer r r' w w' result
+  pub passed_on : (r' : Counted R) (w' : Output W) (result : Result LogNames LogFault) (e : LogFault) → IsErrAnd result (λ f. f ≡ e) → Annotates remaining contents answer r r' w w' (Err e) → Annotates remaining contents answer r r' w w' result
   passed_on r' w' (Ok u) e is told = absurd is
   passed_on r' w' (Err f) e is told = subst (λ x. Annotates remaining contents answer r r' w w' (Err x)) (sym is) told
 
-  -- the log is at its end
-  pub ended : (r' r'' : Counted R) (w' w'' : Counted W) (a : Annotator) (n : ℕ) (result : Result LogNames LogFault) → IsOn remaining contents answer r r' w w' a n → NoneFailed r' r'' → Consumes (remaining (device_of r')) (remaining (device_of r'')) []
-      → IsAtEnd (remaining (device_of r'')) → PutsRest contents (owed answer a []) (owed_names answer a) w' w'' result → Annotates remaining contents answer r r'' w w'' result
-  ended r' r'' w' w'' a n (Ok names) on all took at_end (none, put, told) = (
+  -- the log is at its end, and a beginning of the rest was put out
+  cut_off : (r' r'' : Counted R) (w' w'' : Output W) (a : Annotator) (n : ℕ) → IsOn remaining contents answer r r' w w' a n → NoneFailed r' r'' → Consumes (remaining (device_of r')) (remaining (device_of r'')) [] → IsAtEnd (remaining (device_of r''))
+      → WrotePart contents w' w'' (owed answer a []) → IsCutOff remaining contents answer r r'' w w''
+  cut_off r' r'' w' w'' a n on all took at_end (failed, part, lost, parts, put) = (
     all ∙ on.read_all,
-    none ∙ on.written_all,
+    failed,
+    inr (
+      on.read ++ [],
+      on.written ++ part,
+      lost,
+      Consumes-trans _ _ _ on.read [] on.consumed took,
+      at_end,
+      Appends-trans _ _ _ on.written part on.appended put,
+      sym (on.is_owed [] ∙ from_begin answer (on.read ++ [])) ∙ ap (λ l. on.written ++ l) parts ∙ sym (append_assoc on.written part lost),
+    ),
+  )
+
+  -- the log is at its end
+  pub ended : (r' r'' : Counted R) (w' w'' : Output W) (a : Annotator) (n : ℕ) (result : Result LogNames LogFault) → IsOn remaining contents answer r r' w w' a n → NoneFailed r' r'' → Consumes (remaining (device_of r')) (remaining (device_of r'')) []
+      → IsAtEnd (remaining (device_of r'')) → PutsRest contents (owed answer a []) (owed_names answer a) w' w'' result → Annotates remaining contents answer r r'' w w'' result
+  ended r' r'' w' w'' a n (Ok names) on all took at_end (put, told) = (
+    all ∙ on.read_all,
+    put.1,
     (
       on.read ++ [],
       Consumes-trans _ _ _ on.read [] on.consumed took,
       at_end,
-      subst (Appends (contents (device_of w)) (contents (device_of w''))) (on.is_owed [] ∙ from_begin answer (on.read ++ [])) (Appends-trans _ _ _ on.written (owed answer a []) on.appended put),
+      subst (Appends (contents (writer_of w)) (contents (writer_of w''))) (on.is_owed [] ∙ from_begin answer (on.read ++ [])) (Appends-trans _ _ _ on.written (owed answer a []) on.appended put.2),
       told ∙ all_counted a on.read (λ wanted. on.counts wanted []),
     ),
   )
   ended r' r'' w' w'' a n (Err fault.OutOfMemory) on all took at_end puts =
       subst (λ x. Annotates remaining contents answer r r'' w x (Err fault.OutOfMemory)) (sym puts) (all ∙ on.read_all, on.written_all, under_way r' r'' w' a n [] on took)
-  ended r' r'' w' w'' a n (Err fault.Write) on all took at_end puts = (all ∙ on.read_all, subst (λ n. Rose n (failures_of w'')) on.written_all puts)
-  ended r' r'' w' w'' a n (Err fault.Closed) on all took at_end puts = (all ∙ on.read_all, subst (λ n. Rose n (failures_of w'')) on.written_all puts)
+  ended r' r'' w' w'' a n (Err fault.Write) on all took at_end puts = cut_off r' r'' w' w'' a n on all took at_end puts
+  ended r' r'' w' w'' a n (Err fault.Closed) on all took at_end puts = cut_off r' r'' w' w'' a n on all took at_end puts
   ended r' r'' w' w'' a n (Err fault.Read) on all took at_end puts = absurd puts
   ended r' r'' w' w'' a n (Err fault.TooLong) on all took at_end puts = absurd puts

@@ -5,6 +5,8 @@ use Rattle.std.specs.Prelude.{Option, Result, Ok, Err}
 use Rattle.std.specs.Io.KnownBytes.{Appends, Consumes, IsAtEnd}
 use Rattle.texts.specs.declared.counted.Counted.{Counted}
 use Rattle.texts.specs.Counted.{NoneFailed, Rose, device_of, failures_of}
+use Rattle.texts.specs.declared.output.Output.{Output}
+use Rattle.texts.specs.Output.{WroteAll, WrotePart, has_failed, writer_of}
 use Rattle.listing.specs.AnnotatedLogs.{Answering, annotated, annotated_behind, context_behind}
 use Rattle.listing.specs.LogContexts.{annotated_from, context_over, kept_in}
 use Rattle.listing.specs.Insertions.{IsWaiting}
@@ -47,28 +49,26 @@ pub record Decides (answer : Answering) (a a' : Annotator) (bytes text : List �
 abbrev pub IsWriteFault : LogFault → Type 0
 IsWriteFault f = (f ≡ fault.Write) ⊎ (f ≡ fault.Closed)
 
--- the text was written and these are the names, or no call failed and nothing was, or a call failed
-abbrev pub PutsRest : {W : Type 0} → (W → Option (List ℕ)) → List ℕ → LogNames → Counted W
-    → Counted W → Result LogNames LogFault → Type 0
-PutsRest contents text names w w' (Ok told) =
-    NoneFailed w w' × Appends (contents (device_of w)) (contents (device_of w')) text
-    × (told ≡ names)
+-- the text was written and these are the names, or nothing was done, or a call failed and a
+-- beginning of the text was written
+abbrev pub PutsRest : {W : Type 0} → (W → Option (List ℕ)) → List ℕ → LogNames → Output W
+    → Output W → Result LogNames LogFault → Type 0
+PutsRest contents text names w w' (Ok told) = WroteAll contents w w' text × (told ≡ names)
 PutsRest contents text names w w' (Err fault.OutOfMemory) = w' ≡ w
-PutsRest contents text names w w' (Err fault.Write) = Rose (failures_of w) (failures_of w')
-PutsRest contents text names w w' (Err fault.Closed) = Rose (failures_of w) (failures_of w')
+PutsRest contents text names w w' (Err fault.Write) = WrotePart contents w w' text
+PutsRest contents text names w w' (Err fault.Closed) = WrotePart contents w w' text
 PutsRest contents text names w w' (Err _) = ⊥
 
 -- the same of a text that is decided by these bytes, where more may come
 abbrev pub PutsMore : {W : Type 0} → (W → Option (List ℕ)) → Answering → Annotator → Annotator
-    → List ℕ → Counted W → Counted W → Result (Unit {0}) LogFault → Type 0
+    → List ℕ → Output W → Output W → Result (Unit {0}) LogFault → Type 0
 PutsMore contents answer a a' bytes w w' (Ok _) =
-    NoneFailed w w' × (text : List ℕ)
-    × Appends (contents (device_of w)) (contents (device_of w')) text
-    × Decides answer a a' bytes text
+    (text : List ℕ) × WroteAll contents w w' text × Decides answer a a' bytes text
 PutsMore contents answer a a' bytes w w' (Err fault.OutOfMemory) = w' ≡ w
-PutsMore contents answer a a' bytes w w' (Err fault.Write) = Rose (failures_of w) (failures_of w')
+PutsMore contents answer a a' bytes w w' (Err fault.Write) =
+    (text : List ℕ) × WrotePart contents w w' text × Decides answer a a' bytes text
 PutsMore contents answer a a' bytes w w' (Err fault.Closed) =
-    Rose (failures_of w) (failures_of w')
+    (text : List ℕ) × WrotePart contents w w' text × Decides answer a a' bytes text
 PutsMore contents answer a a' bytes w w' (Err _) = ⊥
 
 -- the annotated log begins with what was written, whatever comes behind what was read
@@ -89,54 +89,75 @@ pub record IsUpToDate (answer : Answering) (written read : List ℕ) : Type 0 wh
 
 -- The reader gave some bytes, and what was written is up to date.
 abbrev pub IsFollowing : {R W : Type 0} → (R → Option (List ℕ)) → (W → Option (List ℕ)) → Answering
-    → Counted R → Counted R → Counted W → Counted W → Type 0
+    → Counted R → Counted R → Output W → Output W → Type 0
 IsFollowing remaining contents answer r r' w w' =
     (read : List ℕ) × (written : List ℕ)
     × Consumes (remaining (device_of r)) (remaining (device_of r')) read
-    × Appends (contents (device_of w)) (contents (device_of w')) written
+    × Appends (contents (writer_of w)) (contents (writer_of w')) written
     × IsUpToDate answer written read
 
 -- The same of more bytes than a number of 64 bits counts.
 abbrev pub IsTooLong : {R W : Type 0} → (R → Option (List ℕ)) → (W → Option (List ℕ)) → Answering
-    → Counted R → Counted R → Counted W → Counted W → Type 0
+    → Counted R → Counted R → Output W → Output W → Type 0
 IsTooLong remaining contents answer r r' w w' =
     (read : List ℕ) × (written : List ℕ)
     × Consumes (remaining (device_of r)) (remaining (device_of r')) read
-    × Appends (contents (device_of w)) (contents (device_of w')) written
+    × Appends (contents (writer_of w)) (contents (writer_of w')) written
     × IsUpToDate answer written read × (2 ^ 64 - 1 ≤ length read)
 
 -- The reader gave some bytes, and what was written is a beginning of the annotated log.
 abbrev pub IsUnderWay : {R W : Type 0} → (R → Option (List ℕ)) → (W → Option (List ℕ)) → Answering
-    → Counted R → Counted R → Counted W → Counted W → Type 0
+    → Counted R → Counted R → Output W → Output W → Type 0
 IsUnderWay remaining contents answer r r' w w' =
     (read : List ℕ) × (written : List ℕ)
     × Consumes (remaining (device_of r)) (remaining (device_of r')) read
-    × Appends (contents (device_of w)) (contents (device_of w')) written
+    × Appends (contents (writer_of w)) (contents (writer_of w')) written
     × Begins answer written read
+
+-- The reader gave a log and has no more, and what was written is a beginning of the annotated log.
+abbrev pub IsEnding : {R W : Type 0} → (R → Option (List ℕ)) → (W → Option (List ℕ)) → Answering
+    → Counted R → Counted R → Output W → Output W → Type 0
+IsEnding remaining contents answer r r' w w' =
+    (log : List ℕ) × (written : List ℕ) × (rest : List ℕ)
+    × Consumes (remaining (device_of r)) (remaining (device_of r')) log
+    × IsAtEnd (remaining (device_of r'))
+    × Appends (contents (writer_of w)) (contents (writer_of w')) written
+    × (annotated answer log ≡ written ++ rest)
+
+-- A call of the writer failed, and what was written until then is a beginning of the annotated log.
+abbrev pub IsCutOff : {R W : Type 0} → (R → Option (List ℕ)) → (W → Option (List ℕ)) → Answering
+    → Counted R → Counted R → Output W → Output W → Type 0
+IsCutOff remaining contents answer r r' w w' =
+    NoneFailed r r' × (has_failed w' ≡ true)
+    × (IsUnderWay remaining contents answer r r' w w'
+    ⊎ IsEnding remaining contents answer r r' w w')
 
 -- The reader gave a log and has no more, the annotated log was written, and these are its names.
 abbrev pub IsWhole : {R W : Type 0} → (R → Option (List ℕ)) → (W → Option (List ℕ)) → Answering
-    → Counted R → Counted R → Counted W → Counted W → LogNames → Type 0
+    → Counted R → Counted R → Output W → Output W → LogNames → Type 0
 IsWhole remaining contents answer r r' w w' names =
     (log : List ℕ)
     × Consumes (remaining (device_of r)) (remaining (device_of r')) log
     × IsAtEnd (remaining (device_of r'))
-    × Appends (contents (device_of w)) (contents (device_of w')) (annotated answer log)
+    × Appends (contents (writer_of w)) (contents (writer_of w')) (annotated answer log)
     × (names ≡ names_of_log answer log)
 
 -- what is returned
 abbrev pub Annotates : {R W : Type 0} → (R → Option (List ℕ)) → (W → Option (List ℕ)) → Answering
-    → Counted R → Counted R → Counted W → Counted W → Result LogNames LogFault → Type 0
+    → Counted R → Counted R → Output W → Output W → Result LogNames LogFault → Type 0
 Annotates remaining contents answer r r' w w' (Ok names) =
-    NoneFailed r r' × NoneFailed w w' × IsWhole remaining contents answer r r' w w' names
+    NoneFailed r r' × (has_failed w' ≡ false)
+    × IsWhole remaining contents answer r r' w w' names
 Annotates remaining contents answer r r' w w' (Err fault.OutOfMemory) =
-    NoneFailed r r' × NoneFailed w w' × IsUnderWay remaining contents answer r r' w w'
+    NoneFailed r r' × (has_failed w' ≡ has_failed w)
+    × IsUnderWay remaining contents answer r r' w w'
 Annotates remaining contents answer r r' w w' (Err fault.TooLong) =
-    NoneFailed r r' × NoneFailed w w' × IsTooLong remaining contents answer r r' w w'
+    NoneFailed r r' × (has_failed w' ≡ has_failed w)
+    × IsTooLong remaining contents answer r r' w w'
 Annotates remaining contents answer r r' w w' (Err fault.Read) =
-    Rose (failures_of r) (failures_of r') × NoneFailed w w'
+    Rose (failures_of r) (failures_of r') × (has_failed w' ≡ has_failed w)
     × IsFollowing remaining contents answer r r' w w'
 Annotates remaining contents answer r r' w w' (Err fault.Write) =
-    NoneFailed r r' × Rose (failures_of w) (failures_of w')
+    IsCutOff remaining contents answer r r' w w'
 Annotates remaining contents answer r r' w w' (Err fault.Closed) =
-    NoneFailed r r' × Rose (failures_of w) (failures_of w')
+    IsCutOff remaining contents answer r r' w w'

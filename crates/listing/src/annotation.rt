@@ -9,8 +9,8 @@
 //!     written   [<ffffffff81000108>]          |                the text stands there already
 //!     held                          ^^^^^^^^^^
 //! ```
-ghost use Rattle.std.specs.Prelude.{◌≡◌, [], IfOk};
-ghost use Rattle.texts.specs.Exact.{Wrote};
+ghost use Rattle.std.specs.Prelude.{◌≡◌, [], IfErr, IfOk, OnErr};
+ghost use Rattle.texts.specs.Output.{WroteAll, WrotePart};
 ghost use Rattle.listing.specs.AnnotatedLogs.{answered_by};
 ghost use Rattle.listing.specs.LogContexts.{first_context, kept_in};
 ghost use Rattle.listing.specs.Insertions.{answering_of};
@@ -28,7 +28,7 @@ use modules::IndexedCatalog;
 use std::alloc::{AllocError, Global};
 use std::io;
 use std::io::{Read, Write};
-use texts::{BLOCK, Counted, put};
+use texts::{BLOCK, Counted, Output};
 
 /// Why a log was not annotated to its end.
 #[derive(Clone, Copy, Debug, PartialEq, Eq)]
@@ -118,22 +118,28 @@ impl Annotator {
     }
 }
 
-/// The fault that a failed write is.
-fn fault_of(error: &io::Error) -> LogFault
-    ensures { IsWriteFault result }
+/// Writes the bytes, and lets the writer keep nothing back.
+fn put_now<W: Write>(writer: &mut Output<W>, bytes: &[u8]) -> Result<(), LogFault>
+    ensures written { IfOk result (λ _. WroteAll W.contents writer.old writer.new bytes.now) }
+    ensures fault { IfErr result IsWriteFault }
+    ensures begun { OnErr result (WrotePart W.contents writer.old writer.new bytes.now) }
 {
-    match error.kind() {
-        io::ErrorKind::BrokenPipe => LogFault::Closed,
-        _ => LogFault::Write,
+    writer.put(bytes);
+    writer.flush();
+    if writer.has_failed() {
+        return Err(fault_of(writer.error()));
     }
+    Ok(())
 }
 
-/// Writes the bytes, and lets the writer keep nothing back.
-fn put_now<W: Write>(writer: &mut Counted<W>, bytes: &[u8]) -> io::Result<()>
-    ensures { Wrote W.contents writer.old writer.new result bytes.now }
+/// The fault that a failed write is.
+fn fault_of(error: Option<io::Error>) -> LogFault
+    ensures { IsWriteFault result }
 {
-    put(writer, bytes)?;
-    writer.flush()
+    match error {
+        Some(error) if error.kind() == io::ErrorKind::BrokenPipe => LogFault::Closed,
+        _ => LogFault::Write,
+    }
 }
 
 /// Writes a log again, with a blank and the text of the answer behind each address word and the
@@ -155,7 +161,7 @@ pub fn annotate<R: Read, W: Write>(
     rule: LogRule,
     is_narrow: bool,
     reader: &mut Counted<R>,
-    writer: &mut Counted<W>,
+    writer: &mut Output<W>,
 ) -> Result<LogNames, LogFault>
     ensures { Annotates R.remaining W.contents (answered_by index.now rule is_narrow)
         reader.old reader.new writer.old writer.new result }
@@ -187,30 +193,25 @@ fn put_more<W: Write>(
     answers: &LogAnswers,
     annotator: &mut Annotator,
     bytes: &[u8],
-    writer: &mut Counted<W>,
+    writer: &mut Output<W>,
 ) -> Result<(), LogFault>
     ensures { PutsMore W.contents (answering_of answers.now) annotator.old annotator.new bytes.now
         writer.old writer.new result }
 {
     let out = annotator.pass_on(answers, bytes)?;
-    match put_now(writer, &out) {
-        Ok(()) => Ok(()),
-        Err(error) => Err(fault_of(&error)),
-    }
+    put_now(writer, &out)
 }
 
 /// Writes the rest, where no more bytes come.
 fn put_rest<W: Write>(
     answers: &LogAnswers,
     annotator: &mut Annotator,
-    writer: &mut Counted<W>,
+    writer: &mut Output<W>,
 ) -> Result<LogNames, LogFault>
     ensures { PutsRest W.contents (owed (answering_of answers.now) annotator.old [])
         (owed_names (answering_of answers.now) annotator.old) writer.old writer.new result }
 {
     let out = annotator.rest(answers)?;
-    match put_now(writer, &out) {
-        Ok(()) => Ok(annotator.tally.names),
-        Err(error) => Err(fault_of(&error)),
-    }
+    put_now(writer, &out)?;
+    Ok(annotator.tally.names)
 }

@@ -4,7 +4,7 @@ ghost use Rattle.std.specs.Prelude.{option_and_then, option_map};
 ghost use Rattle.modules.specs.Items.{item_of_address};
 ghost use Rattle.listing.specs.AddressRules.{place_of};
 ghost use Rattle.listing.specs.Answers.{answer_text_by};
-ghost use Rattle.texts.specs.Exact.{Wrote};
+ghost use Rattle.texts.specs.Output.{Says};
 ghost use Rattle.listing.specs.AnnotatedLogs.{goes_on, says_caller, text_behind};
 ghost use Rattle.listing.specs.LogContexts.{kept_in};
 ghost use Rattle.listing.specs.Insertions.{IsInsertionAt, IsPlaceOf, answering_of};
@@ -16,9 +16,8 @@ use crate::log_words::{address_of_word, has_prefix, is_closer, is_word_byte};
 use crate::{AddressRule, LogRule, write_answer_by};
 use order_laws::Item;
 use std::alloc::{AllocError, Global};
-use std::io;
 use std::io::Write;
-use texts::{Counted, put};
+use texts::Output;
 
 /// What the addresses of a log are answered by.
 #[derive(Drop)]
@@ -99,16 +98,25 @@ impl<'i, 'c> LogAnswers<'i, 'c> {
         let Some(item) = self.item_of(rule, addr) else {
             return Ok(None);
         };
-        let mut text = Counted::new(Vec::with_capacity(self.alloc, ROOM)?);
-        if self.put_text(&mut text, rule, item, addr).is_err() {
-            return Err(AllocError);
-        }
-        let text = text.into_inner();
+        let text = self.written(rule, item, addr)?;
         Ok(if text.as_slice() == b" -".as_slice() {
             None
         } else {
             Some(text)
         })
+    }
+
+    /// A blank and the text of the answer.
+    fn written(&self, rule: AddressRule, item: Item, addr: u64) -> Result<Vec<u8>, AllocError>
+        ensures { IfOk result (λ text. text.items
+            ≡ codes " " ++ answer_text_by self.now.index rule (Some item) addr) }
+    {
+        let mut text = Output::new(Vec::with_capacity(self.alloc, ROOM)?);
+        self.put_text(&mut text, rule, item, addr);
+        if text.has_failed() {
+            return Err(AllocError);
+        }
+        Ok(text.into_inner())
     }
 
     /// The region that holds the address that the rule looks up.
@@ -120,18 +128,12 @@ impl<'i, 'c> LogAnswers<'i, 'c> {
     }
 
     /// Writes a blank and the text of the answer.
-    fn put_text<W: Write>(
-        &self,
-        writer: &mut Counted<W>,
-        rule: AddressRule,
-        item: Item,
-        addr: u64,
-    ) -> io::Result<()>
-        ensures { Wrote W.contents writer.old writer.new result
+    fn put_text<W: Write>(&self, writer: &mut Output<W>, rule: AddressRule, item: Item, addr: u64)
+        ensures { Says W.contents writer.old writer.new
             (codes " " ++ answer_text_by self.now.index rule (Some item) addr) }
     {
-        put(writer, b" ")?;
-        write_answer_by(writer, self.index.catalog(), rule, Some(item), addr)
+        writer.put(b" ");
+        write_answer_by(writer, self.index.catalog(), rule, Some(item), addr);
     }
 }
 

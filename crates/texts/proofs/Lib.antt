@@ -1,7 +1,7 @@
 -- the digits of an address
 pub mod HexadecimalLemmas
--- texts that are written one after the other
-pub mod WriteLemmas
+-- texts that are said one after the other
+pub mod OutputLemmas
 -- what the first place of a byte says of lines and of words
 pub mod LineCutLemmas
 -- what the digits that are left say of a numeral

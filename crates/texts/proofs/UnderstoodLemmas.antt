@@ -1,5 +1,5 @@
 -- What the entries of lines say of each of them.
-use Rattle.std.proofs.Common.{◌≡◌, ◌≢◌, ℕ, zero, suc, ◌+◌, ◌<◌, List, [], ◌∷◌, ◌++◌, get_or, Option, Some, None, Result, Ok, Err, MatchResult, refl, sym, ap, ◌∙◌, subst, arith, All, inl, inr}
+use Rattle.std.proofs.Common.{◌≡◌, ◌≢◌, ℕ, zero, suc, ◌+◌, ◌<◌, List, [], ◌∷◌, ◌++◌, get_or, Option, Some, None, Result, Ok, Err, MatchResult, refl, sym, ap, ◌∙◌, subst, arith, All}
 use Rattle.std.specs.List.{filter_map, cons_option}
 use Rattle.texts.specs.declared.said.Said.{Said}
 use Rattle.texts.specs.declared.said.Said.TheVariants.{Nothing, One, Bad}

@@ -1,10 +1,10 @@
--- What a clause reads of a counted device, and how its count moves.
-use Rattle.std.specs.Prelude.{◌≡◌, ℕ, ◌+◌, ◌-◌, ◌^◌, ◌<◌, ◌⊎◌, ◌&&◌, min, nat_eq, nat_lt}
-use Rattle.std.specs.Prelude.{if◌then◌else◌, length, List, Option, Result, Ok, Err}
+-- What a clause reads of a counted reader, and how its count moves.
+use Rattle.std.specs.Prelude.{◌≡◌, ℕ, ◌+◌, ◌-◌, ◌^◌, ◌<◌, ◌⊎◌, min}
+use Rattle.std.specs.Prelude.{Option, Result, Ok, Err}
 use Rattle.std.specs.declared.io.Error.{Error}
 use Rattle.texts.specs.declared.counted.Counted.{Counted}
 
--- the reader or writer inside
+-- the reader inside
 abbrev pub device_of : {D : Type 0} → Counted D → D
 device_of c = c.device
 
@@ -24,13 +24,6 @@ one_failure_more n = min (n + 1) (2 ^ 64 - 1)
 abbrev pub after_call : {A E : Type 0} → ℕ → Result A E → ℕ
 after_call n (Ok _) = n
 after_call n (Err _) = one_failure_more n
-
--- the count after a write: an error is a failure, and so is a write of at least one byte that takes
--- none
-abbrev pub after_write : {E : Type 0} → ℕ → Result ℕ E → List ℕ → ℕ
-after_write n (Ok taken) bytes =
-    if nat_eq taken 0 && nat_lt 0 (length bytes) then one_failure_more n else n
-after_write n (Err _) bytes = one_failure_more n
 
 -- no call failed between the two
 abbrev pub NoneFailed : {D : Type 0} → Counted D → Counted D → Type 0

@@ -1,10 +1,12 @@
 -- The definitions of this crate, in the order in which to read them.
--- what a clause reads of a counted device, and how its count moves
+-- what a clause reads of a counted reader, and how its count moves
 pub mod Counted
--- what a call that writes an exact text does, and the text of an address
+-- the text of an address
 pub mod Exact
 -- what a clause reads of a device that fails at one call
 pub mod FailAt
+-- what is said to an output, and what its device takes of it
+pub mod Output
 -- the lines of a text and the words of a line
 pub mod Lines
 -- the numbers that words are

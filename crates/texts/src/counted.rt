@@ -1,19 +1,18 @@
-//! A device, the number of its failed calls, and the error of the last one.
+//! A reader, the number of its failed calls, and the error of the last one.
 ghost use Rattle.std.specs.Prelude.{◌≡◌, ◌≤◌, ◌<◌, length, IfOk, IfErr, OnErr, None, Some};
-ghost use Rattle.std.specs.Io.{ReadsAtMost, WritesAtMost};
-ghost use Rattle.std.specs.Io.KnownBytes.{ReadConsumes, WriteAppends, Keeps};
+ghost use Rattle.std.specs.Io.{ReadsAtMost};
+ghost use Rattle.std.specs.Io.KnownBytes.{ReadConsumes};
 
 use std::io;
-use std::io::{Read, Write};
+use std::io::Read;
 
 /// How many bytes are asked of a reader, or gathered for a writer, at once.
 pub const BLOCK: usize = 65536;
 
-/// A reader or a writer, how many of its calls failed, and the error that it gave last.
+/// A reader, how many of its calls failed, and the error that it gave last.
 ///
-/// A failed call is an error of any kind, or a write of at least one byte that takes none. The
-/// count stays at the greatest `u64` once it is there. What the device has left to be read, or
-/// holds of what was written, is that of the device inside.
+/// A failed call is an error of any kind. The count stays at the greatest `u64` once it is there.
+/// What is left to be read is that of the reader inside.
 #[derive(Drop)]
 pub struct Counted<D> {
     device: D,
@@ -24,7 +23,7 @@ pub struct Counted<D> {
 impl<D> Counted<D> {
     ghost use Rattle.texts.specs.Counted.{device_of, error_of, failures_of, one_failure_more};
 
-    /// The device, with no call made.
+    /// The reader, with no call made.
     pub fn new(device: D) -> Counted<D>
         ensures device { device_of result ≡ device }
         ensures none { failures_of result ≡ 0 }
@@ -51,7 +50,7 @@ impl<D> Counted<D> {
         self.error
     }
 
-    /// The device alone.
+    /// The reader alone.
     pub fn into_inner(self) -> D
         ensures { result ≡ device_of self }
     {
@@ -88,55 +87,6 @@ impl<R: Read> Read for Counted<R> {
         ensures no_error { IfOk result (λ _. error_of self.new ≡ error_of self.old) }
     {
         let result = self.device.read(buf);
-        if let Err(error) = &result {
-            self.note(*error);
-        }
-        result
-    }
-}
-
-impl<W: Write> Write for Counted<W> {
-    ghost use Rattle.texts.specs.Counted.{device_of, error_of, failures_of};
-    ghost use Rattle.texts.specs.Counted.{after_call, after_write, Rose};
-
-    ghost contents = { λ c. W.contents (device_of c) };
-
-    #[inline(always)]
-    fn write(&mut self, buf: &[u8]) -> io::Result<usize>
-        ensures bound { WritesAtMost result buf.now }
-        ensures bytes { WriteAppends (W.contents (device_of self.old))
-            (W.contents (device_of self.new)) result buf.now }
-
-        ensures counted { failures_of self.new ≡ after_write (failures_of self.old) result buf.now }
-        ensures failed { OnErr result (Rose (failures_of self.old) (failures_of self.new)) }
-        ensures none_taken { IfOk result (λ n. n ≡ 0 → 0 < length buf.now →
-            Rose (failures_of self.old) (failures_of self.new)) }
-        ensures never_falls { failures_of self.old ≤ failures_of self.new }
-        ensures error { IfErr result (λ e. error_of self.new ≡ Some e) }
-        ensures no_error { IfOk result (λ _. error_of self.new ≡ error_of self.old) }
-    {
-        let result = self.device.write(buf);
-        match &result {
-            Ok(taken) => {
-                if *taken == 0 && buf.len() > 0 {
-                    self.failures = self.failures.saturating_add(1);
-                }
-            }
-            Err(error) => self.note(*error),
-        }
-        result
-    }
-
-    fn flush(&mut self) -> io::Result<()>
-        ensures bytes { Keeps (W.contents (device_of self.old)) (W.contents (device_of self.new)) }
-
-        ensures counted { failures_of self.new ≡ after_call (failures_of self.old) result }
-        ensures failed { OnErr result (Rose (failures_of self.old) (failures_of self.new)) }
-        ensures never_falls { failures_of self.old ≤ failures_of self.new }
-        ensures error { IfErr result (λ e. error_of self.new ≡ Some e) }
-        ensures no_error { IfOk result (λ _. error_of self.new ≡ error_of self.old) }
-    {
-        let result = self.device.flush();
         if let Err(error) = &result {
             self.note(*error);
         }

@@ -1,11 +1,11 @@
-//! Texts that are read and written: lines and words, numbers, what lines say, and devices whose
-//! failed calls are counted.
+//! Texts that are read and written: lines and words, numbers, what lines say, readers whose failed
+//! calls are counted, and outputs that a failed call ends.
 //!
 //! A text is read whole, then cut into lines, and a line into words, in time linear in its length.
 //!
-//! A fault of input or output may be reported only where a call of the device failed. So the calls
-//! of a device are made through [`Counted`], and each contract that speaks of a fault speaks of
-//! its count.
+//! A fault of input or output may be reported only where a call of the device failed. So a reader is
+//! called through [`Counted`] and a writer through [`Output`], and each contract that speaks of a
+//! fault speaks of what these count or keep.
 #![tactic(auto)]
 
 mod counted;
@@ -16,10 +16,10 @@ mod gathered;
 mod input;
 mod lines;
 mod numbers;
+mod output;
 mod said;
 
 pub use counted::{BLOCK, Counted};
-pub use exact::{put, put_hexadecimal};
 pub use fail_at::FailAt;
 pub use faults::{LineFault, ReadFault};
 pub use gathered::{LONGEST_HEXADECIMAL, append, append_hexadecimal};
@@ -28,4 +28,5 @@ pub use lines::{LONGEST_LINE, cut_line, cut_word, words_in};
 pub use numbers::{
     count, decimal, digit_of, hexadecimal, number, number_up_to, short_number, sixteen_digits,
 };
+pub use output::Output;
 pub use said::{Form, NextEntry, entries_in, is_too_long, next_entry_in, said_lines_in};

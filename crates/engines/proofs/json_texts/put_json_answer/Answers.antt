@@ -1,8 +1,8 @@
-use Rattle.texts.proofs.WriteLemmas.{then}
+use Rattle.texts.proofs.OutputLemmas.{then}
 use Rattle.engines.specs.JsonTexts.{json_line}
 use Rattle.engines.proofs.json_texts.put_json_answer.Goals as goal
 
 pub returns : goal.returns
 unfolding json_line
 returns g c =
-    then c.in_ok-put_members.was (then c.in_ok-put_address_member.was c.put_address_member.ensures c.put_members.ensures) c.put.ensures
+    then (then c.put_address_member.ensures c.put_members.ensures) c.put.ensures

@@ -1,7 +1,7 @@
 use Rattle.std.proofs.Common.{◌∙◌, ap, drop, take}
 use Rattle.listing.specs.ModuleListing.{module_place}
 use Rattle.listing.specs.declared.module_listing.SkippedModule.TheVariants.{Long}
-use Rattle.texts.proofs.WriteLemmas.{same_text, then}
+use Rattle.texts.proofs.OutputLemmas.{same_text, then}
 use Rattle.engines.specs.JsonTexts.{json_module_causes, modules_object}
 use Rattle.engines.proofs.json_texts.put_modules_object.Goals as goal
 
@@ -14,4 +14,4 @@ returns g c =
     let high = c.split_at.ensures.back ∙ ap (λ k. drop k all) c.place.ensures.place ∙ ap (drop (module_place Long)) c.all.ensures in
     let before = same_text (ap text low) c.put_json_causes.ensures in
     let after = same_text (ap text high) c.put_json_causes-2.ensures in
-    then c.in_ok-put_json_count-3.was (then c.in_ok-put_json_count-2.was (then c.in_ok-put_json_causes.was (then c.in_ok-put_json_count.was c.put_json_count.ensures before) c.put_json_count-2.ensures) c.put_json_count-3.ensures) after
+    then (then (then (then c.put_json_count.ensures before) c.put_json_count-2.ensures) c.put_json_count-3.ensures) after

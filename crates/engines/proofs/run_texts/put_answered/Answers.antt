@@ -3,7 +3,7 @@ use Rattle.listing.specs.Answers.{answer_text}
 use Rattle.texts.specs.Exact.{hexadecimal}
 use Rattle.engines.specs.LookupTexts.{count_text}
 use Rattle.engines.specs.RunTexts.{answered_text}
-use Rattle.texts.proofs.WriteLemmas.{same_text, then}
+use Rattle.texts.proofs.OutputLemmas.{same_text, then}
 use Rattle.engines.proofs.run_texts.put_answered.Goals as goal
 
 pub returns : goal.returns
@@ -12,4 +12,4 @@ returns g c =
     let a = c.args.answer.now in
     let found = decimal (a.reader + 1) ++ codes " " ++ hexadecimal a.key ++ codes " -> " ++ answer_text c.args.catalog.now a.item a.key in
     same_text (sym (append_assoc found (count_text (codes " gen ") a.generation) (codes "\n")))
-    (then c.in_ok-write_answer.was (then c.in_ok-put_asked.was c.put_asked.ensures c.write_answer.ensures) c.put_generation.ensures)
+    (then (then c.put_asked.ensures c.write_answer.ensures) c.put_generation.ensures)

@@ -1,13 +1,9 @@
 use Rattle.std.proofs.Common.{flat_map, length, take}
-use Rattle.std.specs.Io.KnownBytes.{Appends}
 use Rattle.std.specs.List.{range_with_len, zip}
-use Rattle.texts.specs.Counted.{NoneFailed, device_of}
+use Rattle.texts.specs.Output.{Says}
 use Rattle.engines.specs.RunTexts.{numbered_text}
 use Rattle.engines.proofs.run_texts.put_refusals.Given as goal
 
 -- the lines of the writers so far were written
 abbrev pub invariant-loop-place : goal.invariant-loop-place
-invariant-loop-place g l = record {
-  written : Appends (g.W.Write.contents (device_of l.fn.writer)) (g.W.Write.contents (device_of l.writer)) (flat_map numbered_text (take l.place (zip (range_with_len 1 (length l.names)) (zip l.names l.outcomes))));
-  none_failed : NoneFailed l.fn.writer l.writer;
-}
+invariant-loop-place g l = Says g.W.Write.contents l.fn.writer l.writer (flat_map numbered_text (take l.place (zip (range_with_len 1 (length l.names)) (zip l.names l.outcomes))))

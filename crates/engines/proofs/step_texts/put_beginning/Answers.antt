@@ -1,4 +1,4 @@
-use Rattle.texts.proofs.WriteLemmas.{same_text}
+use Rattle.texts.proofs.OutputLemmas.{same_text}
 use Rattle.engines.specs.StepTexts.{begun_members}
 use Rattle.engines.proofs.EventLineLemmas.{with_end}
 use Rattle.engines.proofs.step_texts.put_beginning.Goals as goal

@@ -1,5 +1,5 @@
 use Rattle.std.proofs.Common.{◌∙◌, refl}
-use Rattle.texts.proofs.WriteLemmas.{same_text}
+use Rattle.texts.proofs.OutputLemmas.{same_text}
 use Rattle.engines.proofs.EventLineLemmas.{as_event_text, front_all, front_put, whole_line}
 use Rattle.engines.proofs.step_texts.put_event.Goals as goal
 

@@ -1,5 +1,5 @@
 use Rattle.std.proofs.Common.{ap, codes}
-use Rattle.texts.proofs.WriteLemmas.{same_text, then}
+use Rattle.texts.proofs.OutputLemmas.{same_text, then}
 use Rattle.engines.specs.JsonTexts.{json_count}
 use Rattle.engines.specs.StepTexts.{opening_text}
 use Rattle.engines.proofs.step_texts.put_opening.Goals as goal
@@ -10,4 +10,4 @@ returns g c =
     let version = same_text (ap (json_count (codes "{\"event\":0,\"line\":1,\"kind\":\"open\",\"version\":")) c.version_number-version.ensures) c.put_json_count.ensures in
     let order = same_text c.order_text.ensures c.put-2.ensures in
     let capacity = same_text (ap (json_count (codes ",\"capacity\":")) c.from.ensures) c.put_json_count-2.ensures in
-    then c.in_ok-put_json_count-3.was (then c.in_ok-put_json_count-2.was (then c.in_ok-put-2.was (then c.in_ok-put.was (then c.in_ok-put_json_count.was version c.put.ensures) order) capacity) c.put_json_count-3.ensures) c.put-3.ensures
+    then (then (then (then (then version c.put.ensures) order) capacity) c.put_json_count-3.ensures) c.put-3.ensures

@@ -1,6 +1,6 @@
 use Rattle.std.proofs.Common.{◌≡◌, ◌∙◌, Some, sym, ap}
 use Rattle.latch_steps.specs.declared.replies.Reply.TheVariants.{Loaded}
-use Rattle.texts.proofs.WriteLemmas.{same_text}
+use Rattle.texts.proofs.OutputLemmas.{same_text}
 use Rattle.engines.specs.EventLines.{event_line}
 use Rattle.engines.specs.StepTexts.{read_members}
 use Rattle.engines.proofs.EventLineLemmas.{front_all, front_put, load_told, whole_line}
@@ -24,7 +24,7 @@ returns-in-Loaded-Some g c =
     same_text
     (c.line-in-Loaded-Some.ensures ∙ c.line.view_is ∙ c.before_load.ensures ∙ load_told number line sequence c.args.reader load _ c.end_with.ensures.end
     ∙ ap (λ done. event_line number line sequence done) same)
-    c.put_line.ensures
+    c.put.ensures
 
 pub returns-in_default : goal.returns-in_default
 returns-in_default g c =

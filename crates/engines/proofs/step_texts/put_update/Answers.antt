@@ -1,9 +1,8 @@
-use Rattle.std.proofs.Common.{subst, sym}
-use Rattle.texts.specs.Exact.{Wrote}
+use Rattle.std.proofs.Common.{ap, sym}
+use Rattle.texts.proofs.OutputLemmas.{same_text}
 use Rattle.engines.specs.StepTexts.{update_members}
 use Rattle.engines.proofs.step_texts.put_update.Goals as goal
 
 pub returns-in-Insert : goal.returns-in-Insert
 unfolding update_members
-returns-in-Insert g c =
-    subst (λ u. Wrote g.W.Write.contents c.args.writer.now c.put_lists.new.writer c.put_lists.result (update_members u)) (sym c.in-Insert.is) c.put_lists.ensures
+returns-in-Insert g c = same_text (ap update_members (sym c.in-Insert.is)) c.put_lists.ensures

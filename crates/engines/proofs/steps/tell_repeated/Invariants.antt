@@ -1,5 +1,4 @@
 use Rattle.std.proofs.Common.{ℕ}
-use Rattle.texts.specs.Counted.{NoneFailed}
 use Rattle.latch_steps.specs.Runs.{Moment}
 use Rattle.latch_steps.specs.Worlds.{RepresentsMoment}
 use Rattle.engines.proofs.StepLemmas.{Telling}
@@ -7,7 +6,5 @@ use Rattle.engines.proofs.steps.tell_repeated.Given as goal
 
 -- the event was done as often as the loop has turned, and none of these times was the last
 abbrev pub invariant-loop-turn : goal.invariant-loop-turn
-invariant-loop-turn g l = record {
-  telling : (w : Moment ℕ) → RepresentsMoment g.O.TreeOrder.order l.fn.world w → Telling g.O.TreeOrder.order g.W.Write.contents l.fn.line l.command l.fn.world l.world l.fn.writer l.writer l._turn w;
-  none_failed : NoneFailed l.fn.writer l.writer;
-}
+invariant-loop-turn g l =
+    (w : Moment ℕ) → RepresentsMoment g.O.TreeOrder.order l.fn.world w → Telling g.O.TreeOrder.order g.W.Write.contents l.fn.line l.command l.fn.world l.world l.fn.writer l.writer l._turn w

@@ -1,5 +1,5 @@
 use Rattle.std.proofs.Common.{◌∙◌, ap}
-use Rattle.texts.proofs.WriteLemmas.{same_text, then}
+use Rattle.texts.proofs.OutputLemmas.{same_text, then}
 use Rattle.latchsym.specs.AddressTexts.{address_object, owner_member}
 use Rattle.latchsym.specs.AskedNames.{AskedSymbols}
 use Rattle.engines.specs.JsonTexts.{address_member, symbol_members}
@@ -16,6 +16,6 @@ returns g c =
     ∙ ap (λ (a : AskedSymbols). symbol_members k.name a.above.offset c.size.result) c.asked.view_is
     ∙ ap (symbol_members k.name c.args.asked.now.above.offset) c.size.ensures in
     let at = same_text (ap address_member addr) c.put_address_member.ensures in
-    let symbol = then c.in_ok-put_address_member.was at (same_text members c.put_symbol_members.ensures) in
-    let owner = then c.in_ok-put_symbol_members.was symbol (same_text (ap (λ (x : Kept). owner_member x.owner) c.symbol.view_is) c.put_owner_member.ensures) in
-    then c.in_ok-put_owner_member.was owner c.put.ensures
+    let symbol = then at (same_text members c.put_symbol_members.ensures) in
+    let owner = then symbol (same_text (ap (λ (x : Kept). owner_member x.owner) c.symbol.view_is) c.put_owner_member.ensures) in
+    then owner c.put.ensures

@@ -1,7 +1,7 @@
 use Rattle.std.proofs.Common.{◌≡◌, ◌∙◌, [], Some, None, ap, option_map}
 use Rattle.std.specs.Prelude.{unwrap_or}
 use Rattle.std.specs.Global.{Vec}
-use Rattle.texts.proofs.WriteLemmas.{same_text}
+use Rattle.texts.proofs.OutputLemmas.{same_text}
 use Rattle.latchsym.specs.AddressTexts.{symbols_text}
 use Rattle.latchsym.specs.AskedNames.{AskedSymbols, asked_of}
 use Rattle.latchsym.specs.KeptSymbols.{Kept, found_by}

@@ -1,14 +1,10 @@
 use Rattle.std.proofs.Common.{[], map, take}
 use Rattle.std.specs.Prelude.{unwrap_or}
-use Rattle.std.specs.Io.KnownBytes.{Appends}
-use Rattle.texts.specs.Counted.{NoneFailed, device_of}
+use Rattle.texts.specs.Output.{Says}
 use Rattle.latchsym.specs.AddressTexts.{words_text}
 use Rattle.latchsym.specs.KeptSymbols.{found_by}
 use Rattle.latchsym.proofs.address_texts.put_words.Given as goal
 
 -- the lines of the words so far were written
 abbrev pub invariant-loop-word : goal.invariant-loop-word
-invariant-loop-word g l = record {
-  written : Appends (g.W.Write.contents (device_of l.fn.writer)) (g.W.Write.contents (device_of l.writer)) (words_text l.form (λ name. unwrap_or (found_by l.sought name) []) (map (λ w. w.now) (take l.word-index l.words)));
-  none_failed : NoneFailed l.fn.writer l.writer;
-}
+invariant-loop-word g l = Says g.W.Write.contents l.fn.writer l.writer (words_text l.form (λ name. unwrap_or (found_by l.sought name) []) (map (λ w. w.now) (take l.word-index l.words)))

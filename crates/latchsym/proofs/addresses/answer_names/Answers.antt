@@ -1,4 +1,4 @@
-use Rattle.std.proofs.Common.{[], map, subst, sym}
+use Rattle.std.proofs.Common.{[], ◌∙◌, map, subst, sym}
 use Rattle.std.specs.Prelude.{unwrap_or}
 use Rattle.std.specs.Option.{option_copied}
 use Rattle.latchsym.specs.AddressTexts.{words_text}
@@ -21,22 +21,6 @@ returns-in_err-opened g c =
     ended contents a.form kernel words given a.writer.now a.writer.now c.from_residual.result fault c.from_residual.ensures.1
     (not_opened contents a.form kernel words given a.writer.now fault c.in_err-opened.ensures)
 
-pub returns-in-Ok : goal.returns-in-Ok
-returns-in-Ok g c =
-    let a = c.args in
-    let kernel = option_copied a.kernel in
-    let words = map (λ w. w.now) a.words.now in
-    let given = given_in a.texts.now in
-    let index = c.in_ok-index.index in
-    let notes = c.in_ok-opened.opened.notes in
-    let m = c.in_ok-sought.sought in
-    let kept = kept_symbols index (symbols_in (lines_of given.kallsyms)) in
-    let says = subst (λ x. IsCatalogOf kernel given x notes) (sym c.in_ok-index.ensures) c.in_ok-opened.ensures in
-    let has = subst (λ text. IsSought words (kept_symbols index (symbols_in (lines_of text))) m) c.deref.ensures.value c.in_ok-sought.ensures in
-    was_written g.W.Write.contents a.form kernel words given a.writer.now c.put_all.new.writer index notes says
-    (words_text a.form (λ name. unwrap_or (found_by m name) []) words) (text_by_map a.form words kept m has)
-    c.put_all.result c.put_all.ensures c.in-Ok.field-0 c.in-Ok.is
-
 pub returns : goal.returns
 returns g c =
     let a = c.args in
@@ -49,6 +33,22 @@ returns g c =
     let kept = kept_symbols index (symbols_in (lines_of given.kallsyms)) in
     let says = subst (λ x. IsCatalogOf kernel given x notes) (sym c.in_ok-index.ensures) c.in_ok-opened.ensures in
     let has = subst (λ text. IsSought words (kept_symbols index (symbols_in (lines_of text))) m) c.deref.ensures.value c.in_ok-sought.ensures in
+    was_written g.W.Write.contents a.form kernel words given a.writer.now c.put_all.new.writer index notes says
+    (words_text a.form (λ name. unwrap_or (found_by m name) []) words) (text_by_map a.form words kept m has)
+    c.put_all.ensures (sym c.has_failed.ensures ∙ c.if-has_failed.false)
+
+pub returns-then-has_failed : goal.returns-then-has_failed
+returns-then-has_failed g c =
+    let a = c.args in
+    let kernel = option_copied a.kernel in
+    let words = map (λ w. w.now) a.words.now in
+    let given = given_in a.texts.now in
+    let index = c.in_ok-index.index in
+    let notes = c.in_ok-opened.opened.notes in
+    let m = c.in_ok-sought.sought in
+    let kept = kept_symbols index (symbols_in (lines_of given.kallsyms)) in
+    let says = subst (λ x. IsCatalogOf kernel given x notes) (sym c.in_ok-index.ensures) c.in_ok-opened.ensures in
+    let has = subst (λ text. IsSought words (kept_symbols index (symbols_in (lines_of text))) m) c.deref.ensures.value c.in_ok-sought.ensures in
     was_not_written g.W.Write.contents a.form kernel words given a.writer.now c.put_all.new.writer index notes says
     (words_text a.form (λ name. unwrap_or (found_by m name) []) words) (text_by_map a.form words kept m has)
-    c.put_all.result c.put_all.ensures c.in-Err.field-0 c.in-Err.is
+    c.put_all.ensures (sym c.has_failed.ensures ∙ c.if-has_failed.true)

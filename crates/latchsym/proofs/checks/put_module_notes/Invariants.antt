@@ -1,14 +1,9 @@
 use Rattle.std.proofs.Common.{flat_map, take}
-use Rattle.std.specs.Io.KnownBytes.{Appends}
-use Rattle.texts.specs.Counted.{NoneFailed, device_of}
+use Rattle.texts.specs.Output.{Says}
 use Rattle.listing.specs.ListingNotes.{is_of_modules}
 use Rattle.latchsym.specs.NoteTexts.{line_where, note_line}
 use Rattle.latchsym.proofs.checks.put_module_notes.Given as goal
 
 -- the lines of the notes so far were written
 abbrev pub invariant-loop-note : goal.invariant-loop-note
-invariant-loop-note g l = record {
-  written : Appends (g.W.Write.contents (device_of l.fn.writer)) (g.W.Write.contents (device_of l.writer))
-      (flat_map (λ note. line_where (is_of_modules l.text l.kallsyms l.catalog note) (note_line l.names l.file note)) (take l.note-index l.notes));
-  none_failed : NoneFailed l.fn.writer l.writer;
-}
+invariant-loop-note g l = Says g.W.Write.contents l.fn.writer l.writer (flat_map (λ note. line_where (is_of_modules l.text l.kallsyms l.catalog note) (note_line l.names l.file note)) (take l.note-index l.notes))

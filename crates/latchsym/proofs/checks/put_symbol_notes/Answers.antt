@@ -1,11 +1,15 @@
+use Rattle.std.proofs.Common.{rules, ap, get_or}
+use Rattle.texts.proofs.OutputLemmas.{piece_said, same_text}
 use Rattle.listing.specs.ListingNotes.{is_of_kallsyms}
-use Rattle.latchsym.proofs.CheckLemmas.{note_more}
+use Rattle.listing.specs.declared.listing_notes.ListingNote.TheVariants as note
+use Rattle.latchsym.specs.NoteTexts.{line_where, note_line}
 use Rattle.latchsym.proofs.checks.put_symbol_notes.Goals as goal
 
 pub loop-note-preserved : goal.loop-note-preserved
 loop-note-preserved g c =
     let a = c.args in
-    let more = note_more g.W.Write.contents (is_of_kallsyms a.names.now a.text.now a.kept) a.names.now a.file.now c.all-notes.result.now c.loop-note.note-index a.writer.now c.loop-note.writer c.put_note_where.new.writer _ c.loop-note-test.true
-    c.loop-note.invariant.written c.loop-note.invariant.none_failed c.applies_to_kallsyms-applies.result c.applies_to_kallsyms-applies.ensures
-    c.put_note_where.result c.in_ok-put_note_where.field-0 c.in_ok-put_note_where.was c.put_note_where.ensures in
-    record { written = more.0; none_failed = more.1 }
+    let notes = c.all-notes.result.now in
+    let i = c.loop-note.note-index in
+    let x = get_or notes i note.Gzip in
+    let said = same_text (ap (λ applies. line_where applies (note_line a.names.now a.file.now x)) c.applies_to_kallsyms-applies.ensures) c.put_note_where.ensures in
+    piece_said (λ y. line_where (is_of_kallsyms a.names.now a.text.now a.kept y) (note_line a.names.now a.file.now y)) notes i x c.loop-note-test.true (search rules) c.loop-note.invariant said

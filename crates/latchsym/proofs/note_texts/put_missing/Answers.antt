@@ -1,5 +1,5 @@
-use Rattle.texts.proofs.WriteLemmas.{same_text, then}
+use Rattle.texts.proofs.OutputLemmas.{same_text, then}
 use Rattle.latchsym.proofs.note_texts.put_missing.Goals as goal
 
 pub returns : goal.returns
-returns g c = then c.in_ok-put-2.was (then c.in_ok-put.was c.put.ensures c.put-2.ensures) (same_text c.remedy.ensures c.put-3.ensures)
+returns g c = then (then c.put.ensures c.put-2.ensures) (same_text c.remedy.ensures c.put-3.ensures)

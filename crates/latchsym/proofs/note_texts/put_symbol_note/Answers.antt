@@ -1,6 +1,6 @@
 use Rattle.std.proofs.Common.{◌∙◌, ap}
 use Rattle.std.specs.Option.{option_copied}
-use Rattle.texts.proofs.WriteLemmas.{same_text}
+use Rattle.texts.proofs.OutputLemmas.{same_text}
 use Rattle.latchsym.specs.NoteTexts.{line_if_noted, noted_bounds}
 use Rattle.listing.proofs.ListingNoteLemmas.{given_or}
 use Rattle.latchsym.proofs.note_texts.put_symbol_note.Goals as goal

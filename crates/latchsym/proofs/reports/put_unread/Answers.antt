@@ -1,5 +1,5 @@
-use Rattle.texts.proofs.WriteLemmas.{then}
+use Rattle.texts.proofs.OutputLemmas.{then}
 use Rattle.latchsym.proofs.reports.put_unread.Goals as goal
 
 pub returns : goal.returns
-returns g c = then c.in_ok-put_reason.was (then c.in_ok-put-2.was (then c.in_ok-put.was c.put.ensures c.put-2.ensures) c.put_reason.ensures) c.put-3.ensures
+returns g c = then (then (then c.put.ensures c.put-2.ensures) c.put_reason.ensures) c.put-3.ensures

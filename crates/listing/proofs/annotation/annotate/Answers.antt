@@ -1,8 +1,9 @@
-use Rattle.std.proofs.Common.{ℕ, take, subst, arith}
+use Rattle.std.proofs.Common.{ℕ, take, subst, arith, Err}
 use Rattle.std.specs.Io.KnownBytes.{Consumes}
 use Rattle.std.proofs.lemmas.List.{length-take}
 use Rattle.texts.specs.Counted.{device_of}
 use Rattle.listing.specs.AnnotatedLogs.{answered_by}
+use Rattle.listing.specs.Annotation.{PutsMore}
 use Rattle.listing.proofs.AnnotationLemmas.{ended, not_put, not_read, one_more, passed_on, too_long}
 use Rattle.listing.proofs.annotation.annotate.Goals as goal
 
@@ -22,10 +23,11 @@ returns-then-count-eq0 g c =
 pub returns-in_err-put_more : goal.returns-in_err-put_more
 returns-in_err-put_more g c =
     let fault = c.in_err-put_more.field-0.0 in
+    let puts = subst (λ index. PutsMore g.W.Write.contents (answered_by index c.args.rule c.args.is_narrow) c.loop-turn.annotator c.put_more.new.annotator (take c.in-Ok.count c.read.new.buf) c.loop-turn.writer c.put_more.new.writer (Err fault)) c.new.ensures c.in_err-put_more.ensures in
     passed_on g.R.Read.remaining g.W.Write.contents (answered_by c.args.index.now c.args.rule c.args.is_narrow) c.args.reader.now c.args.writer.now c.read.new.self c.put_more.new.writer c.from_residual-in_err-put_more.result fault
     c.from_residual-in_err-put_more.ensures.1
     (not_put g.R.Read.remaining g.W.Write.contents (answered_by c.args.index.now c.args.rule c.args.is_narrow) c.args.reader.now c.args.writer.now c.loop-turn.reader c.read.new.self c.loop-turn.writer c.put_more.new.writer c.loop-turn.annotator c.put_more.new.annotator c.loop-turn.turn
-    _ fault c.loop-turn.invariant c.in-Ok.ensures.counted c.in-Ok.ensures.bytes.0 c.in_err-put_more.ensures)
+    _ fault c.loop-turn.invariant c.in-Ok.ensures.counted c.in-Ok.ensures.bytes.0 puts)
 
 pub loop-turn-preserved : goal.loop-turn-preserved
 loop-turn-preserved g c =

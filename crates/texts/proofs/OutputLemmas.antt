@@ -1,0 +1,129 @@
+-- Texts that are said one after the other.
+use Rattle.std.proofs.Common.{◌≡◌, ◌∙◌, ℕ, List, [], ◌∷◌, ◌++◌, Option, Bool, true, false, refl, sym, ap, subst, append_assoc, append-nil, take, drop, length, ◌+◌, ◌-◌, ◌<◌, ◌≤◌, ◌⊎◌, flat_map, get_or, None, Some, take-append-drop, arith}
+use Rattle.std.proofs.lemmas.Grind.{flat_map-append}
+use Rattle.std.proofs.lemmas.List.{take_all, take_more, take_rest}
+use Rattle.std.specs.List.{zip}
+use Rattle.facts.proofs.Pairs.{flat_map-zip_more, zip-past}
+use Rattle.std.specs.Io.KnownBytes.{Appends, Keeps}
+use Rattle.std.proofs.KnownBytes.{Appends-nil, Appends-trans}
+use Rattle.texts.specs.declared.output.Output.{Output}
+use Rattle.texts.specs.Output.{Awaits, Says, WroteAll, WrotePart, has_failed, writer_of}
+
+-- where nothing failed, what the writer took was said
+pub taken_is_said : {W : Type 0} {contents : W → Option (List ℕ)} {old new : Output W} {text : List ℕ} → has_failed old ≡ false
+    → Appends (contents (writer_of old)) (contents (writer_of new)) text → Says contents old new text
+taken_is_said {W} {contents} {old} {new} {text} sound took = record {
+  next = λ opened whole rest h. record {
+    taken = h.taken ++ text;
+    lost = [];
+    parts = h.parts ∙ ap (λ l. (h.taken ++ l) ++ (text ++ rest)) (h.none_lost sound) ∙ ap (λ l. l ++ (text ++ rest)) (append-nil h.taken)
+        ∙ sym (append_assoc h.taken text rest) ∙ ap (λ l. l ++ rest) (sym (append-nil (h.taken ++ text)));
+    holds = Appends-trans _ _ _ _ _ h.holds took;
+    none_lost = λ _. refl;
+  };
+  stays = λ failed. grind (arith, sound, failed);
+}
+
+-- where a call failed, whatever comes is said
+pub lost_is_said : {W : Type 0} {contents : W → Option (List ℕ)} {old new : Output W} {part : List ℕ} → (more : List ℕ) → has_failed new ≡ true → Says contents old new part
+    → Says contents old new (part ++ more)
+lost_is_said {W} {contents} {old} {new} {part} more failed said = record {
+  next = λ opened whole rest h.
+      let mid = said.next opened whole (more ++ rest) (subst (λ l. Awaits contents opened whole l old) (append_assoc part more rest) h) in
+      record {
+        taken = mid.taken;
+        lost = mid.lost ++ more;
+        parts = mid.parts ∙ sym (append_assoc (mid.taken ++ mid.lost) more rest) ∙ ap (λ l. l ++ rest) (append_assoc mid.taken mid.lost more);
+        holds = mid.holds;
+        none_lost = λ sound. absurd (grind (arith, sound, failed));
+      };
+  stays = said.stays;
+}
+
+pub nothing_said : {W : Type 0} {contents : W → Option (List ℕ)} (o : Output W) → Says contents o o []
+nothing_said o = record { next = λ opened whole rest h. h; stays = λ failed. failed }
+
+-- a text after one that was said
+pub then : {W : Type 0} {contents : W → Option (List ℕ)} {old mid new : Output W} {t more : List ℕ} → Says contents old mid t → Says contents mid new more
+    → Says contents old new (t ++ more)
+then {W} {contents} {old} {mid} {new} {t} {more} first second = record {
+  next = λ opened whole rest h. second.next opened whole rest (first.next opened whole (more ++ rest) (subst (λ l. Awaits contents opened whole l old) (append_assoc t more rest) h));
+  stays = λ failed. second.stays (first.stays failed);
+}
+
+-- the same text, said otherwise
+pub same_text : {W : Type 0} {contents : W → Option (List ℕ)} {old new : Output W} {t text : List ℕ} → t ≡ text → Says contents old new t → Says contents old new text
+same_text {W} {contents} {old} {new} = subst (λ text. Says contents old new text)
+
+-- the texts of the first items of a list, and then that of the next one
+pub piece_said : {W X : Type 0} {contents : W → Option (List ℕ)} {old mid new : Output W} (f : X → List ℕ) (xs : List X) (i : ℕ) (x : X) → i < length xs → x ≡ get_or xs i x
+    → Says contents old mid (flat_map f (take i xs)) → Says contents mid new (f x) → Says contents old new (flat_map f (take (i + 1) xs))
+piece_said {W} {X} {contents} {old} {mid} {new} f xs i x within is first second =
+    let split : take (i + 1) xs ≡ take i xs ++ x ∷ [] = take_more xs i x within ∙ ap (λ y. take i xs ++ y ∷ []) (sym is) in
+    same_text (sym (ap (flat_map f) split ∙ flat_map-append f (take i xs) (x ∷ []) ∙ ap (λ l. flat_map f (take i xs) ++ l) (append-nil (f x)))) (then first second)
+
+awaited : {W : Type 0} {contents : W → Option (List ℕ)} {old new : Output W} {text : List ℕ} → Says contents old new text → Awaits contents (contents (writer_of old)) text [] new
+awaited {W} {contents} {old} {new} {text} said = said.next (contents (writer_of old)) text [] (record {
+  taken = [];
+  lost = [];
+  parts = sym (append-nil text);
+  holds = Appends-nil (contents (writer_of old));
+  none_lost = λ _. refl;
+})
+
+was_sound : (before after : Bool) → (before ≡ true → after ≡ true) → after ≡ false → before ≡ false
+was_sound false after stays sound = refl
+was_sound true after stays sound = absurd (grind (arith, stays refl, sound))
+
+-- the texts of the first pairs of two lists, and then that of the next pair
+pub pair_said : {W X Y : Type 0} {contents : W → Option (List ℕ)} {old mid new : Output W} (f : X × Y → List ℕ) (xs : List X) (ys : List Y) (i : ℕ) (x : X) (y : Y) → i < length xs → i < length ys
+    → Says contents old mid (flat_map f (take i (zip xs ys))) → Says contents mid new (f (get_or xs i x, get_or ys i y)) → Says contents old new (flat_map f (take (i + 1) (zip xs ys)))
+pair_said f xs ys i x y below_x below_y first second = same_text (sym (flat_map-zip_more f xs ys i x y below_x below_y)) (then first second)
+
+-- those of all pairs
+pub pairs_said : {W X Y : Type 0} {contents : W → Option (List ℕ)} {old new : Output W} (f : X × Y → List ℕ) (xs : List X) (ys : List Y) (i : ℕ) → (length xs ≤ i) ⊎ (length ys ≤ i)
+    → Says contents old new (flat_map f (take i (zip xs ys))) → Says contents old new (flat_map f (zip xs ys))
+pairs_said f xs ys i few said = same_text (ap (flat_map f) (take_all i (zip xs ys) (zip-past xs ys i few))) said
+
+-- what was said is written, where no call failed
+pub all_written : {W : Type 0} {contents : W → Option (List ℕ)} {old new : Output W} {text : List ℕ} → Says contents old new text → has_failed new ≡ false → WroteAll contents old new text
+all_written {W} {contents} {old} {new} {text} said sound =
+    let a = awaited said in
+    let whole : a.taken ≡ text = sym (a.parts ∙ append-nil (a.taken ++ a.lost) ∙ ap (λ l. a.taken ++ l) (a.none_lost sound) ∙ append-nil a.taken) in
+    (was_sound (has_failed old) (has_failed new) said.stays sound, sound, subst (λ l. Appends (contents (writer_of old)) (contents (writer_of new)) l) whole a.holds)
+
+-- and else a beginning of it is
+pub part_written : {W : Type 0} {contents : W → Option (List ℕ)} {old new : Output W} {text : List ℕ} → Says contents old new text → has_failed new ≡ true → WrotePart contents old new text
+part_written {W} {contents} {old} {new} {text} said failed =
+    let a = awaited said in
+    (failed, a.taken, a.lost, a.parts ∙ append-nil (a.taken ++ a.lost), a.holds)
+
+appends_nothing : (a b : Option (List ℕ)) → Keeps a b → Appends a b []
+appends_nothing None b kept = tt
+appends_nothing (Some x) None kept = absurd kept
+appends_nothing (Some x) (Some y) kept = kept ∙ sym (append-nil x)
+
+-- what a call that failed does not take is said, and lost
+pub failed_is_said : {W : Type 0} {contents : W → Option (List ℕ)} {old new : Output W} {text : List ℕ} → has_failed old ≡ false → has_failed new ≡ true
+    → Keeps (contents (writer_of old)) (contents (writer_of new)) → Says contents old new text
+failed_is_said {W} {contents} {old} {new} {text} sound failed kept = lost_is_said text failed (taken_is_said sound (appends_nothing _ _ kept))
+
+appends_kept : (a b : Option (List ℕ)) → Appends a b [] → Keeps a b
+appends_kept None b took = tt
+appends_kept (Some x) None took = absurd took
+appends_kept (Some x) (Some y) took = took ∙ append-nil x
+
+-- the same where the call took nothing
+pub untaken_is_said : {W : Type 0} {contents : W → Option (List ℕ)} {old new : Output W} {text : List ℕ} → has_failed old ≡ false → has_failed new ≡ true → (n : ℕ) (bytes : List ℕ) → n ≡ 0
+    → Appends (contents (writer_of old)) (contents (writer_of new)) (take n bytes) → Says contents old new text
+untaken_is_said {W} {contents} {old} {new} sound failed n bytes none took =
+    failed_is_said sound failed (appends_kept _ _ (subst (λ k. Appends (contents (writer_of old)) (contents (writer_of new)) (take k bytes)) none took))
+
+pub empty_text : (text : List ℕ) → length text ≡ 0 → [] ≡ text
+empty_text [] none = refl
+empty_text (byte ∷ text) none = absurd (omega (arith, none))
+
+-- the bytes that were taken move to those that are said
+pub moved_front : (all done rest : List ℕ) (n : ℕ) → all ≡ done ++ rest → all ≡ (done ++ take n rest) ++ take (length rest - n) (drop n rest)
+moved_front all done rest n e =
+    e ∙ ap (λ l. done ++ l) (sym (take-append-drop n rest)) ∙ sym (append_assoc done (take n rest) (drop n rest)) ∙ ap (λ l. (done ++ take n rest) ++ l) (sym (take_rest rest n))
