@@ -1,5 +1,6 @@
 #!/usr/bin/env bash
-# Fails each read and each write of a run of the program in turn, until a run meets no failure. A
+# Fails each read and each write of a run of the program in turn, and all writes from each one on, until
+# a run meets no failure. A
 # read that fails is told as that of its file, with status 1 and nothing on standard output, where a
 # beginning of an annotated log may stand; a write that fails is told, and a beginning was written.
 # Then reads logs and listings a few bytes at a time.
@@ -62,6 +63,9 @@ tried() {
     [ "$1" != annotate ] || [ $before -gt 0 ] || fail "latchsym $*: nothing was written before the last read"
     calls=$((calls + call - 1))
     for ((call = 1; ; call++)); do
+        once FAILED_WRITES=$call "$@"
+        [ $status = 1 ] && [ "$(cat err)" = "latchsym: cannot write$reason" ] && is_begun ||
+            [ ! -e mark ] || fail "latchsym $*: writes from $call on fail: status $status, $(cat err)"
         once FAILED_WRITE=$call "$@"
         [ -e mark ] || break
         [ $status = 1 ] && [ "$(cat err)" = "latchsym: cannot write$reason" ] && is_begun ||

@@ -1,8 +1,9 @@
-/* Stands in front of the C library's read and write, and fails one call of a program that is linked
- * to the C library dynamically.
+/* Stands in front of the C library's read and write, and fails one call, or all writes from one on, of
+ * a program that is linked to the C library dynamically.
  *
  *   FAILED_READ    the number of the read that fails, from 1 on; 0 or nothing fails none
  *   FAILED_WRITE   the number of the write to standard output that fails
+ *   FAILED_WRITES  the number of the write to standard output from which on each fails
  *   FAILURE_MARK   a file that is made where the call came, with the path of what was read or written
  *   LONGEST_READ   the most bytes that a read gives
  *
@@ -14,7 +15,7 @@
 #include <sys/syscall.h>
 #include <unistd.h>
 
-static long failed_read, failed_write, longest_read, reads, writes;
+static long failed_read, failed_write, failed_writes, longest_read, reads, writes;
 
 static long number(const char *name) {
     const char *text = getenv(name);
@@ -39,12 +40,15 @@ ssize_t read(int file, void *bytes, size_t count) {
 }
 
 ssize_t write(int file, const void *bytes, size_t count) {
-    if (file == 1 && __atomic_add_fetch(&writes, 1, __ATOMIC_SEQ_CST) == failed_write) return fail(file);
+    if (file != 1) return syscall(SYS_write, file, bytes, count);
+    long call = __atomic_add_fetch(&writes, 1, __ATOMIC_SEQ_CST);
+    if (call == failed_write || (failed_writes > 0 && call >= failed_writes)) return fail(file);
     return syscall(SYS_write, file, bytes, count);
 }
 
 __attribute__((constructor)) static void begin(void) {
     failed_read = number("FAILED_READ");
     failed_write = number("FAILED_WRITE");
+    failed_writes = number("FAILED_WRITES");
     longest_read = number("LONGEST_READ");
 }
