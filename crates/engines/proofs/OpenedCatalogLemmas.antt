@@ -40,9 +40,3 @@ opened_by_modules kernel g modules is (Err (Refused refusal.OutOfMemory)) h = tt
 opened_by_modules kernel g modules is (Err (Refused refusal.TooManyRegions)) h = (ap is_some is, h)
 opened_by_modules kernel g modules is (Err (BadLine place n)) h = (ap is_some is, h.0, h.1)
 opened_by_modules kernel g modules is (Err _) h = absurd h
-
-pub opened_by_symbols : (kernel : Option BoundNames) (g : Given) → g.modules ≡ None → (result : Result OpenedCatalog Fault)
-    → OpensBySymbols kernel g.kallsyms result → OpensCatalog kernel g result
-opened_by_symbols kernel g is (Ok o) h = subst (λ m. IsCatalogBy kernel g m o.catalog o.notes) (sym is) h
-opened_by_symbols kernel g is (Err (Refused refusal.OutOfMemory)) h = tt
-opened_by_symbols kernel g is (Err _) h = absurd h

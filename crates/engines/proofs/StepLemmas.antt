@@ -32,11 +32,6 @@ use Rattle.engines.specs.Traces.{HeaderMayOpen, greatest_of}
 use Rattle.engines.specs.declared.fault.Fault.{Fault}
 use Rattle.engines.specs.declared.fault.Fault.TheVariants.{Write as WriteFault}
 
--- what an answer says that it gives where another holds
-pub on_ok : {A E P Q : Type 0} (r : Result A E) → (P → Q) → OnOk r P → OnOk r Q
-on_ok (Ok x) f p = f p
-on_ok (Err e) f p = tt
-
 -- only a beginning and a start may be refused because memory ran out, and these load nothing
 pub steady : {O : Type 0} (o : Order ℕ) (old new : World O ℕ) (e : Event ℕ) (r : Reply ℕ) → IsWorldStep o old e r new → takes_memory e ≡ false → Does o old e r new
 steady o old new (Begin u) r steps free = absurd (true≢false free)

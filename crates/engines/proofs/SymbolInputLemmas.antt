@@ -32,10 +32,6 @@ pub all_found_counted : (kernel : Option BoundNames) (text : List ℕ) (l : Symb
 all_found_counted kernel text l is =
     ap (λ k. k.modules) is.kept ∙ sym (length-map is.modules.modules (entry_for (listed text))) ∙ sym (ap (λ c. length c.modules) is.catalog)
 
--- what holds of the catalog that was built holds of the one that the listing says
-pub holds_of_catalog : (P : CatalogEntries → Type 0) (i : SymbolInputs) (l : SymbolListing) → IsSymbolListing i.kernel i.kallsyms l → P l.catalog → HoldsOfCatalog P i
-holds_of_catalog P i l is p = (is.modules, is.said, subst P is.catalog p)
-
 -- the lines that were written are those of the inputs
 pub text_is : (form : AnswerForm) (i : SymbolInputs) (l : SymbolListing) (is : IsSymbolListing i.kernel i.kallsyms l) (answers : List AddressAnswer) → answers ≡ map (answer_at l.catalog i.rule) i.addresses
     → flat_map (line_by form l.catalog i.rule) answers ++ found_counts_by form l.kept l.skipped.by_place ≡ symbol_lookup_text form i is.modules
