@@ -92,6 +92,24 @@ rising_starts symbols rows addresses are =
     (subst (λ (e : IndexEntry). (get_or (map entry_of_row rows) i (entry_of_row x)).addr ≤ e.addr) (get_or-map entry_of_row rows j x (entry_of_row x) within)
     (rising symbols (map entry_of_row rows) are.indexed i j (entry_of_row x) le (omega (arith, entries, within)))))))
 
+-- ---- what grows by so much with each number
+
+fewer_below : (f g : ℕ → ℕ) → ((k : ℕ) → f (k + 1) ≡ f k + g k) → (k m : ℕ) → f k ≤ f (k + m)
+fewer_below f g next k zero = let e : k + 0 ≡ k = omega arith in subst (λ n. f k ≤ f n) (sym e) (omega arith)
+fewer_below f g next k (suc m) =
+    let before = fewer_below f g next k m in
+    let more = next (k + m) in
+    let e : k + suc m ≡ k + m + 1 = omega arith in
+    subst (λ n. f k ≤ f n) (sym e) (omega (arith, before, more))
+
+most_below : (f g : ℕ → ℕ) → ((k : ℕ) → f (k + 1) ≡ f k + g k) → (k n : ℕ) → k ≤ n → f k + g k ≤ f (n + 1)
+most_below f g next k n le =
+    let m : ℕ = n - k in
+    let e : k + 1 + m ≡ n + 1 = omega (arith, le) in
+    let all = subst (λ i. f (k + 1) ≤ f i) e (fewer_below f g next (k + 1) m) in
+    let more = next k in
+    omega (arith, all, more)
+
 -- ---- the symbols of one module after the other
 
 pub one_symbols_more : (c : CatalogEntries) (k : ℕ) → symbols_below c (k + 1) ≡ symbols_below c k ++ symbols_at c k
@@ -103,22 +121,10 @@ one_symbols_more c k =
 pub more_symbols : (c : CatalogEntries) (k : ℕ) → length (symbols_below c (k + 1)) ≡ length (symbols_below c k) + length (symbols_at c k)
 more_symbols c k = ap length (one_symbols_more c k) ∙ length-append (symbols_below c k) (symbols_at c k)
 
-fewer_symbols : (c : CatalogEntries) (k m : ℕ) → length (symbols_below c k) ≤ length (symbols_below c (k + m))
-fewer_symbols c k zero = let e : k + 0 ≡ k = omega arith in subst (λ n. length (symbols_below c k) ≤ length (symbols_below c n)) (sym e) (omega arith)
-fewer_symbols c k (suc m) =
-    let before = fewer_symbols c k m in
-    let next = more_symbols c (k + m) in
-    let e : k + suc m ≡ k + m + 1 = omega arith in
-    subst (λ n. length (symbols_below c k) ≤ length (symbols_below c n)) (sym e) (omega (arith, before, next))
-
 -- the symbols up to a module are no more than those of all
 pub symbols_most : (c : CatalogEntries) (k : ℕ) → k ≤ length c.modules → length (symbols_below c k) + length (symbols_at c k) ≤ length (symbols_of c)
 symbols_most c k le =
-    let m : ℕ = length c.modules - k in
-    let e : k + 1 + m ≡ length c.modules + 1 = omega (arith, le) in
-    let all = subst (λ n. length (symbols_below c (k + 1)) ≤ length (symbols_below c n)) e (fewer_symbols c (k + 1) m) in
-    let next = more_symbols c k in
-    omega (arith, all, next)
+    most_below (λ n. length (symbols_below c n)) (λ n. length (symbols_at c n)) (more_symbols c) k (length c.modules) le
 
 pub more_items : (c : CatalogEntries) (k : ℕ) → length (items_below c (k + 1)) ≡ length (items_below c k) + length (items_at c k)
 more_items c k = ap length (one_number_more c k) ∙ length-append (items_below c k) (items_at c k)
@@ -134,22 +140,10 @@ pub items_of_module : (c : CatalogEntries) (k : ℕ) (m : ModuleEntry) → modul
 items_of_module c k m there =
     ap (λ o. length (option_map_or (λ m. map (item_of k) m.regions) o [])) there ∙ length-map m.regions (item_of k)
 
-fewer_items : (c : CatalogEntries) (k m : ℕ) → length (items_below c k) ≤ length (items_below c (k + m))
-fewer_items c k zero = let e : k + 0 ≡ k = omega arith in subst (λ n. length (items_below c k) ≤ length (items_below c n)) (sym e) (omega arith)
-fewer_items c k (suc m) =
-    let before = fewer_items c k m in
-    let next = more_items c (k + m) in
-    let e : k + suc m ≡ k + m + 1 = omega arith in
-    subst (λ n. length (items_below c k) ≤ length (items_below c n)) (sym e) (omega (arith, before, next))
-
 -- and so are the items
 pub items_most : (c : CatalogEntries) (k : ℕ) → k ≤ length c.modules → length (items_below c k) + length (items_at c k) ≤ length (items_of c)
 items_most c k le =
-    let m : ℕ = length c.modules - k in
-    let e : k + 1 + m ≡ length c.modules + 1 = omega (arith, le) in
-    let all = subst (λ n. length (items_below c (k + 1)) ≤ length (items_below c n)) e (fewer_items c (k + 1) m) in
-    let next = more_items c k in
-    omega (arith, all, next)
+    most_below (λ n. length (items_below c n)) (λ n. length (items_at c n)) (more_items c) k (length c.modules) le
 
 -- ---- rows of regions
 

@@ -1,34 +1,8 @@
 -- The machine values of a ContentPointer. Assumes `Logic`.
-use mathlib.Core.Path.{◌≡◌, refl, subst}
-use Prim.Native.Nat.{ℕ}
-use mathlib.Core.List.{List, [], ◌∷◌, ◌++◌}
-use mathlib.Core.Bool.{true, ◌&&◌}
-use lib.Dec.{T}
-use seplogic.Ra.Ura.{Ura}
-use mir.Syntax.{impl, tnil, dnil}
+use Rattle.latchsym_ffi.proofs.Walking.{Al, Goal, Good, IsSome, Item, Laws, List, Logic, None, Option, Ptr, RattleType, RawPtr, Seq, Slot, Some, Step, T, Ura, Val, Valss, WT, [], and_tt, block_ptr, box_owns, dict, dnil, drop, feq_i, feq_l, fjoin, fpack, fpick, fsplit, fst∗, ghosts, handle_tells, has_ty, impl, in_a_block, layout, lone, move, never, nothing, null_ptr, of_list, plain, ptr_val, refl, rewrite, sem, shape, step, subst, tnil, to, true, vnull, vptr, vstruct, within, ‵, ℕ, ◌$◌, ◌&&◌, ◌++◌, ◌∷◌, ◌≡◌}
 use mir.Raw.{raw as bare}
-use mir.Val.{Val, vptr, vnull, vstruct, of_list, has_ty, WT}
-use base.Logic.{never, fst∗}
-use types.Logic.{Logic, sem}
-use types.Kit.{Item, Goal, Seq, Step, step, ‵, ◌$◌, move, drop, fsplit, fjoin, fpick, fpack, rewrite, feq_i, feq_l}
-use denote.RattleType.{RattleType, Valss}
-use denote.Builtin.{RawPtr}
-use denote.Memory.{lone}
-use denote.RawPtr.{Ptr, block_ptr, null_ptr, ptr_val, in_a_block}
-use denote.Signature.{Slot, plain}
-use denote.Steps.{nothing}
-use denote.Param.{layout}
-use denote.Param.Laws.{Laws}
-use denote.Struct.Struct.{within}
-use denote.Struct.Owning.{shape, to}
-use Rattle.core.proofs.alloc.Calls.{Al, handle_tells}
-use Rattle.core.proofs.cell.Inside.{Good}
-use Rattle.std.specs.Prelude.{Option, Some, None, IsSome}
-use Rattle.std_alloc.specs.Box.Ownership.{box_owns}
-use Rattle.std_alloc.proofs.ResultValues.{and_tt}
 use Rattle.latchsym_ffi.specs.Owning.{owns_content}
 use Rattle.std_heap.specs.contracts.Global as Heap
-use Rattle.std_heap.specs.contracts.GlobalAllocator.TheImpl.{ghosts, dict}
 use Rattle.std_heap.proofs.Global.TheLaws as heap
 use Rattle.latchsym_ffi.proofs.LooseValues.{both}
 use Rattle.latchsym_ffi.specs.contracts.loose.Loose as Loose

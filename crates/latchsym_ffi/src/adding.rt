@@ -10,7 +10,7 @@ ghost use Rattle.latchsym_ffi.specs.Handles.{HoldsWriter, WriterGoes};
 ghost use Rattle.latchsym_ffi.specs.Kinds.{writer_kind};
 
 use crate::answers::{BAD_HANDLE, DONE};
-use crate::contents::{CLOSED, Content, WRITER};
+use crate::contents::{CLOSED, Content};
 use crate::handles::Handle;
 use latch_table::Writer;
 use order_laws::{HalfOpen, Refusal};
@@ -36,6 +36,22 @@ fn add(alloc: Global, writer: &mut Writer<HalfOpen>) -> Result<Box<Content, Glob
     }
 }
 
+/// Opens a closed handle with one more reader of the writer's table.
+fn add_in(alloc: Global, writer: &mut Writer<HalfOpen>, out: &mut Handle) -> u32
+    ensures added { result ≡ 0 → AddsHandle out.new writer.old writer.new }
+    ensures unchanged { result ≢ 0 → (writer.new ≡ writer.old) × (out.new ≡ out.old) }
+    ensures why { result ≢ 0
+        → (e : Why) × (result ≡ refusal_number e) × RefusesReader writer.old e }
+{
+    match add(alloc, writer) {
+        Ok(reader) => {
+            out.put(reader);
+            DONE
+        }
+        Err(refusal) => refusal.number(),
+    }
+}
+
 /// Opens a handle with one more reader of the writer's table, also amid an update.
 #[unsafe(no_mangle)]
 pub extern "C" fn latchsym_writer_add_reader(
@@ -54,20 +70,8 @@ pub extern "C" fn latchsym_writer_add_reader(
     ensures other { writer.old.kind ≢ writer_kind
         → (result ≡ 101) × (writer.new ≡ writer.old) }
 {
-    if writer.kind != WRITER || out.kind != CLOSED {
+    if out.kind != CLOSED {
         return BAD_HANDLE;
     }
-    let mut content = writer.take();
-    let added = match &mut *content {
-        Content::Writer(inner) => add(alloc, inner),
-        _ => Err(Refusal::OutOfMemory),
-    };
-    writer.put(content);
-    match added {
-        Ok(reader) => {
-            out.put(reader);
-            DONE
-        }
-        Err(refusal) => refusal.number(),
-    }
+    writer.with_writer(&mut |inner| add_in(alloc, inner, out))
 }

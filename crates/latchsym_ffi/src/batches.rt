@@ -1,10 +1,11 @@
 //! What is known of several addresses, in one call.
 
-ghost use Rattle.std.specs.Prelude.{◌≡◌, length, map};
+ghost use Rattle.std.specs.Prelude.{◌≡◌, ◌≢◌, length, map};
 ghost use Rattle.std.specs.Option.{option_map};
 ghost use Rattle.latchsym_ffi.specs.Batches.{told_at, told_of};
 ghost use Rattle.latchsym_ffi.specs.Finding.{shown_seen};
 
+use crate::answers::{BAD_LENGTH, DONE};
 use crate::finding::{CatalogAnswer, Seen, description_of, seek_next};
 use modules::{Catalog, Finder, IndexedCatalog, MOST_EXPECTED};
 
@@ -28,8 +29,26 @@ fn told(catalog: &Catalog<'static>, seen: Option<Seen<'_>>) -> CatalogTold
     }
 }
 
+/// Tells of each address, in the room of its place, where there is just as much room.
+pub(crate) fn tell_in_order(
+    catalog: &IndexedCatalog<'static>,
+    addrs: &[u64],
+    out: &mut [CatalogTold],
+) -> u32
+    ensures told { result ≡ 0 → out.new ≡ map (told_at catalog.now) addrs.now }
+    ensures done { length out.old ≡ length addrs.now → result ≡ 0 }
+    ensures room { length out.old ≢ length addrs.now → result ≡ 102 }
+    ensures refused { result ≢ 0 → out.new ≡ out.old }
+{
+    if out.len() != addrs.len() {
+        return BAD_LENGTH;
+    }
+    tell_all(catalog, addrs, out);
+    DONE
+}
+
 /// Tells of each address, in the room of its place.
-pub(crate) fn tell_all(catalog: &IndexedCatalog<'static>, addrs: &[u64], out: &mut [CatalogTold])
+fn tell_all(catalog: &IndexedCatalog<'static>, addrs: &[u64], out: &mut [CatalogTold])
     requires { length out.old ≡ length addrs.now }
     ensures { out.new ≡ map (told_at catalog.now) addrs.now }
 {

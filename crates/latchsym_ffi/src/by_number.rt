@@ -12,7 +12,6 @@ ghost use Rattle.latchsym_ffi.specs.Handles.{HoldsCatalog, Stays};
 ghost use Rattle.latchsym_ffi.specs.Kinds.{catalog_kind};
 
 use crate::answers::{BAD_HANDLE, DONE, NOTHING};
-use crate::contents::{CATALOG, Content};
 use crate::handles::Handle;
 use modules::{Catalog, Part, Symbol};
 
@@ -153,14 +152,11 @@ pub extern "C" fn latchsym_catalog_modules(catalog: &mut Handle, out: &mut u64) 
     ensures other { catalog.old.kind ≢ catalog_kind → (result ≡ 101) × (catalog.new ≡ catalog.old)
         × (out.new ≡ out.old) }
 {
-    if catalog.kind != CATALOG {
+    let Some(taken) = catalog.take_catalog() else {
         return BAD_HANDLE;
-    }
-    let content = catalog.take();
-    if let Content::Catalog(shared) = &*content {
-        *out = shared.indexed().catalog().len();
-    }
-    catalog.put(content);
+    };
+    *out = taken.indexed().catalog().len();
+    catalog.put_catalog(taken);
     DONE
 }
 
@@ -177,15 +173,11 @@ pub extern "C" fn latchsym_catalog_module(
     ensures other { catalog.old.kind ≢ catalog_kind → (result ≡ 101) × (catalog.new ≡ catalog.old)
         × (out.new ≡ out.old) }
 {
-    if catalog.kind != CATALOG {
+    let Some(taken) = catalog.take_catalog() else {
         return BAD_HANDLE;
-    }
-    let content = catalog.take();
-    let result = match &*content {
-        Content::Catalog(shared) => tell_module(shared.indexed().catalog(), number, out),
-        _ => BAD_HANDLE,
     };
-    catalog.put(content);
+    let result = tell_module(taken.indexed().catalog(), number, out);
+    catalog.put_catalog(taken);
     result
 }
 
@@ -204,15 +196,11 @@ pub extern "C" fn latchsym_catalog_region(
     ensures other { catalog.old.kind ≢ catalog_kind → (result ≡ 101) × (catalog.new ≡ catalog.old)
         × (out.new ≡ out.old) }
 {
-    if catalog.kind != CATALOG {
+    let Some(taken) = catalog.take_catalog() else {
         return BAD_HANDLE;
-    }
-    let content = catalog.take();
-    let result = match &*content {
-        Content::Catalog(shared) => tell_region(shared.indexed().catalog(), number, place, out),
-        _ => BAD_HANDLE,
     };
-    catalog.put(content);
+    let result = tell_region(taken.indexed().catalog(), number, place, out);
+    catalog.put_catalog(taken);
     result
 }
 
@@ -230,15 +218,11 @@ pub extern "C" fn latchsym_catalog_symbol(
     ensures other { catalog.old.kind ≢ catalog_kind → (result ≡ 101) × (catalog.new ≡ catalog.old)
         × (out.new ≡ out.old) }
 {
-    if catalog.kind != CATALOG {
+    let Some(taken) = catalog.take_catalog() else {
         return BAD_HANDLE;
-    }
-    let content = catalog.take();
-    let result = match &*content {
-        Content::Catalog(shared) => tell_symbol(shared.indexed().catalog(), number, place, out),
-        _ => BAD_HANDLE,
     };
-    catalog.put(content);
+    let result = tell_symbol(taken.indexed().catalog(), number, place, out);
+    catalog.put_catalog(taken);
     result
 }
 
@@ -257,14 +241,10 @@ pub extern "C" fn latchsym_catalog_place_of_name_nonnull(
     ensures other { catalog.old.kind ≢ catalog_kind → (result ≡ 101) × (catalog.new ≡ catalog.old)
         × (out.new ≡ out.old) }
 {
-    if catalog.kind != CATALOG {
+    let Some(taken) = catalog.take_catalog() else {
         return BAD_HANDLE;
-    }
-    let content = catalog.take();
-    let result = match &*content {
-        Content::Catalog(shared) => tell_named(shared.indexed().catalog(), number, name, from, out),
-        _ => BAD_HANDLE,
     };
-    catalog.put(content);
+    let result = tell_named(taken.indexed().catalog(), number, name, from, out);
+    catalog.put_catalog(taken);
     result
 }

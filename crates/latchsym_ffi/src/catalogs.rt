@@ -2,6 +2,7 @@
 
 ghost use Rattle.std.specs.Prelude.{◌≡◌, ◌≢◌, true, false, IfOk, length, map};
 ghost use Rattle.modules.specs.Entries.{CatalogEntries};
+ghost use Rattle.latchsym_ffi.specs.declared.contents.Content.TheVariants as content;
 ghost use Rattle.latchsym_ffi.specs.Batches.{told_at};
 ghost use Rattle.latchsym_ffi.specs.Catalogs.{OpensCatalog, RefusesCatalog};
 ghost use Rattle.latchsym_ffi.specs.Finding.{answer_of, copied, known_at, known_code, owner_named};
@@ -12,12 +13,13 @@ ghost use Rattle.latchsym_ffi.specs.Listings.{is_understood, texts_in};
 ghost use Rattle.latchsym_ffi.specs.Named.{IsNamed};
 ghost use Rattle.latchsym_ffi.specs.Opening.{RefusesTexts, shown_texts};
 
-use crate::answers::{BAD_HANDLE, BAD_LENGTH, BAD_LINE, BAD_LISTINGS, DONE};
-use crate::batches::{CatalogTold, tell_all};
-use crate::contents::{CATALOG, CLOSED, Content};
-use crate::finding::{CatalogAnswer, CatalogSymbol, find, find_caller, find_copied};
+use crate::answers::{BAD_HANDLE, BAD_LINE, BAD_LISTINGS, DONE};
+use crate::batches::{CatalogTold, tell_in_order};
+use crate::contents::{CLOSED, Content};
+use crate::finding::{CatalogAnswer, CatalogSymbol, copy_names, name_places, seek, seek_call};
 use crate::handles::Handle;
 use crate::listings::CatalogListings;
+use crate::open_catalogs::OpenCatalog;
 use crate::opening::{CatalogCounts, CatalogFault, CatalogTexts, open_catalog};
 use order_laws::Refusal;
 use std::alloc::{AllocError, Global};
@@ -104,15 +106,11 @@ pub extern "C" fn latchsym_catalog_find(
     ensures other { catalog.old.kind ≢ catalog_kind → (result ≡ 101) × (catalog.new ≡ catalog.old)
         × (out.new ≡ out.old) }
 {
-    if catalog.kind != CATALOG {
+    let Some(taken) = catalog.take_catalog() else {
         return BAD_HANDLE;
-    }
-    let content = catalog.take();
-    let result = match &*content {
-        Content::Catalog(shared) => find(shared.indexed(), addr, out),
-        _ => BAD_HANDLE,
     };
-    catalog.put(content);
+    let result = name_places(taken.indexed().catalog(), seek(taken.indexed(), addr), out);
+    catalog.put_catalog(taken);
     result
 }
 
@@ -131,15 +129,15 @@ pub extern "C" fn latchsym_catalog_find_caller(
     ensures other { catalog.old.kind ≢ catalog_kind → (result ≡ 101) × (catalog.new ≡ catalog.old)
         × (out.new ≡ out.old) }
 {
-    if catalog.kind != CATALOG {
+    let Some(taken) = catalog.take_catalog() else {
         return BAD_HANDLE;
-    }
-    let content = catalog.take();
-    let result = match &*content {
-        Content::Catalog(shared) => find_caller(shared.indexed(), addr, out),
-        _ => BAD_HANDLE,
     };
-    catalog.put(content);
+    let result = name_places(
+        taken.indexed().catalog(),
+        seek_call(taken.indexed(), addr),
+        out,
+    );
+    catalog.put_catalog(taken);
     result
 }
 
@@ -161,21 +159,11 @@ pub extern "C" fn latchsym_catalog_find_many_nonnull(
     ensures other { catalog.old.kind ≢ catalog_kind
         → (result ≡ 101) × (catalog.new ≡ catalog.old) }
 {
-    if catalog.kind != CATALOG {
+    let Some(taken) = catalog.take_catalog() else {
         return BAD_HANDLE;
-    }
-    if out.len() != addrs.len() {
-        return BAD_LENGTH;
-    }
-    let content = catalog.take();
-    let result = match &*content {
-        Content::Catalog(shared) => {
-            tell_all(shared.indexed(), addrs, out);
-            DONE
-        }
-        _ => BAD_HANDLE,
     };
-    catalog.put(content);
+    let result = tell_in_order(taken.indexed(), addrs, out);
+    catalog.put_catalog(taken);
     result
 }
 
@@ -200,26 +188,25 @@ pub extern "C" fn latchsym_catalog_name_nonnull(
     ensures other { catalog.old.kind ≢ catalog_kind → (result ≡ 101) × (catalog.new ≡ catalog.old)
         × (out.new ≡ out.old) × (name.new ≡ name.old) × (owner.new ≡ owner.old) }
 {
-    if catalog.kind != CATALOG {
+    let Some(taken) = catalog.take_catalog() else {
         return BAD_HANDLE;
-    }
-    let content = catalog.take();
-    let result = match &*content {
-        Content::Catalog(shared) => find_copied(shared.indexed(), addr, out, name, owner),
-        _ => BAD_HANDLE,
     };
-    catalog.put(content);
+    let result = copy_names(
+        taken.indexed().catalog(),
+        seek(taken.indexed(), addr),
+        out,
+        name,
+        owner,
+    );
+    catalog.put_catalog(taken);
     result
 }
 
 /// The same catalog once more, in a box.
-fn shared_in(alloc: Global, content: &Content) -> Result<Box<Content, Global>, AllocError>
-    ensures { IfOk result (λ shared. shared.value ≡ content.now) }
+fn shared_in(alloc: Global, catalog: &OpenCatalog) -> Result<Box<Content, Global>, AllocError>
+    ensures { IfOk result (λ shared. shared.value ≡ content.Catalog catalog.now) }
 {
-    match content {
-        Content::Catalog(catalog) => Ok(Box::new(alloc, Content::Catalog(catalog.share()?))?),
-        _ => Err(AllocError),
-    }
+    Ok(Box::new(alloc, Content::Catalog(catalog.share()?))?)
 }
 
 /// Opens another handle of the same catalog, for another thread.
@@ -238,12 +225,14 @@ pub extern "C" fn latchsym_catalog_share(
     ensures not_so { out.old.kind ≢ 0 → (result ≡ 101) × (catalog.new ≡ catalog.old) }
     ensures why { catalog.old.kind ≡ catalog_kind → out.old.kind ≡ 0 → result ≢ 0 → result ≡ 7 }
 {
-    if catalog.kind != CATALOG || out.kind != CLOSED {
+    if out.kind != CLOSED {
         return BAD_HANDLE;
     }
-    let content = catalog.take();
-    let shared = shared_in(alloc, &content);
-    catalog.put(content);
+    let Some(taken) = catalog.take_catalog() else {
+        return BAD_HANDLE;
+    };
+    let shared = shared_in(alloc, taken.open());
+    catalog.put_catalog(taken);
     match shared {
         Ok(shared) => {
             out.put(shared);

@@ -12,7 +12,7 @@ ghost use Rattle.latchsym_ffi.specs.Handles.{HoldsReader, HoldsWriter, WriterGoe
 ghost use Rattle.latchsym_ffi.specs.Kinds.{reader_kind, writer_kind};
 
 use crate::answers::{BAD_HANDLE, DONE};
-use crate::contents::{Content, READER, WRITER};
+use crate::contents::{Content, READER};
 use crate::handles::Handle;
 use latch_table::{Reader, Writer};
 use order_laws::{HalfOpen, Refusal};
@@ -112,14 +112,5 @@ pub extern "C" fn latchsym_table_enlarge_nonnull(
     ensures other { writer.old.kind ≢ writer_kind
         → (result ≡ 101) × (writer.new ≡ writer.old) × (readers.new ≡ readers.old) }
 {
-    if writer.kind != WRITER {
-        return BAD_HANDLE;
-    }
-    let mut content = writer.take();
-    let result = match &mut *content {
-        Content::Writer(inner) => enlarge(alloc, nodes, inner, readers),
-        _ => BAD_HANDLE,
-    };
-    writer.put(content);
-    result
+    writer.with_writer(&mut |inner| enlarge(alloc, nodes, inner, readers))
 }

@@ -177,72 +177,34 @@ pub(crate) fn name_places(
     told.code
 }
 
-/// The same of an address.
-pub(crate) fn find(catalog: &IndexedCatalog<'static>, addr: u64, out: &mut CatalogSymbol) -> u32
-    ensures code { result ≡ known_code (known_at catalog.now addr) }
-    ensures symbol { IsNamed catalog.now (known_at catalog.now addr) out.new }
-{
-    name_places(catalog.catalog(), seek(catalog, addr), out)
-}
-
-/// The same of a return address.
-pub(crate) fn find_caller(
-    catalog: &IndexedCatalog<'static>,
-    addr: u64,
-    out: &mut CatalogSymbol,
-) -> u32
-    ensures code { result ≡ known_code (known_call catalog.now addr) }
-    ensures symbol { IsNamed catalog.now (known_call catalog.now addr) out.new }
-{
-    name_places(catalog.catalog(), seek_call(catalog, addr), out)
-}
-
-/// Tells of an address, with as much of the names as there is room for.
-pub(crate) fn find_copied(
-    catalog: &IndexedCatalog<'static>,
-    addr: u64,
+/// Tells of what was seen, with as much of the names as there is room for.
+pub(crate) fn copy_names(
+    catalog: &Catalog<'static>,
+    seen: Option<Seen<'_>>,
     out: &mut CatalogAnswer,
     name: &mut [u8],
     owner: &mut [u8],
 ) -> u32
-    ensures code { result ≡ known_code (known_at catalog.now addr) }
-    ensures answer { out.new ≡ answer_of catalog.now (known_at catalog.now addr) }
-    ensures name { name.new ≡ copied (symbol_named (known_at catalog.now addr)) name.old }
+    ensures code { result ≡ known_code (option_map shown_seen seen.entry) }
+    ensures answer { out.new ≡ answer_of catalog.now (option_map shown_seen seen.entry) }
+    ensures name { name.new
+        ≡ copied (symbol_named (option_map shown_seen seen.entry)) name.old }
     ensures owner { owner.new
-        ≡ copied (owner_named catalog.now (known_at catalog.now addr)) owner.old }
+        ≡ copied (owner_named catalog.now (option_map shown_seen seen.entry)) owner.old }
 {
-    let told = description_of(catalog.catalog(), seek(catalog, addr));
+    let told = description_of(catalog, seen);
     *out = told.answer;
     copy_name(name, told.symbol);
     copy_name(owner, told.owner);
     told.code
 }
 
-/// The same of an address in an item that a table has for it, if any.
-pub(crate) fn find_in(
-    catalog: &IndexedCatalog<'static>,
+/// The symbol in an item that a table has for an address, if there is an item.
+pub(crate) fn seen_in<'c>(
+    catalog: &'c Catalog<'static>,
     item: Option<Item>,
     addr: u64,
-    out: &mut CatalogAnswer,
-    name: &mut [u8],
-    owner: &mut [u8],
-) -> u32
-    requires { IfSome item (λ i. (i.a ≤ addr) × (addr < i.b)) }
-    ensures code { result ≡ known_code (known_in catalog.now addr item) }
-    ensures answer { out.new ≡ answer_of catalog.now (known_in catalog.now addr item) }
-    ensures name { name.new ≡ copied (symbol_named (known_in catalog.now addr item)) name.old }
-    ensures owner { owner.new
-        ≡ copied (owner_named catalog.now (known_in catalog.now addr item)) owner.old }
-{
-    let told = description_of(catalog.catalog(), seen_in(catalog.catalog(), item, addr));
-    *out = told.answer;
-    copy_name(name, told.symbol);
-    copy_name(owner, told.owner);
-    told.code
-}
-
-/// The symbol in an item, if there is an item.
-fn seen_in<'c>(catalog: &'c Catalog<'static>, item: Option<Item>, addr: u64) -> Option<Seen<'c>>
+) -> Option<Seen<'c>>
     requires { IfSome item (λ i. (i.a ≤ addr) × (addr < i.b)) }
     ensures { option_map shown_seen result ≡ known_in catalog.now addr item }
 {

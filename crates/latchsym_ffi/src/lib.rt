@@ -21,6 +21,7 @@ mod adding;
 mod answers;
 mod batches;
 mod by_number;
+mod calls;
 mod catalogs;
 mod contents;
 mod enlarging;

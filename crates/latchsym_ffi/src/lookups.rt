@@ -15,8 +15,8 @@ ghost use Rattle.latchsym_ffi.specs.Lookups.{Copies, LooksUp, Names, Shows, answ
 ghost use Rattle.latchsym_ffi.specs.Lookups.{found_code, name_code, try_code};
 
 use crate::answers::{BAD_HANDLE, DONE, NOTHING, RETRY};
-use crate::contents::{CATALOG, Content, READER, WRITER};
-use crate::finding::{CatalogAnswer, find_in};
+use crate::contents::{CATALOG, READER};
+use crate::finding::{CatalogAnswer, copy_names, seen_in};
 use crate::handles::Handle;
 use latch_table::{Try, Writer};
 use order_laws::{HalfOpen, Item};
@@ -80,16 +80,7 @@ pub extern "C" fn latchsym_writer_find(writer: &mut Handle, addr: u64, out: &mut
     ensures other { writer.old.kind ≢ writer_kind
         → (result ≡ 101) × (writer.new ≡ writer.old) × (out.new ≡ out.old) }
 {
-    if writer.kind != WRITER {
-        return BAD_HANDLE;
-    }
-    let mut content = writer.take();
-    let result = match &mut *content {
-        Content::Writer(inner) => find(inner, addr, out),
-        _ => BAD_HANDLE,
-    };
-    writer.put(content);
-    result
+    writer.with_writer(&mut |inner| find(inner, addr, out))
 }
 
 /// What the reader that a handle holds remembers of an address, or else one attempt with it.
@@ -97,12 +88,11 @@ fn try_find(reader: &mut Handle, addr: u64) -> Try
     requires { reader.old.kind ≡ reader_kind }
     ensures { ReaderGoes (λ r r'. LooksUp addr r r' result) reader.old reader.new }
 {
-    let mut content = reader.take();
-    let tried = match &mut *content {
-        Content::Reader(inner) => inner.look(addr),
-        _ => Try::Retry,
-    };
-    reader.put(content);
+    let mut tried = Try::Retry;
+    reader.with_reader(&mut |inner| {
+        tried = inner.look(addr);
+        DONE
+    });
     tried
 }
 
@@ -148,12 +138,17 @@ fn name_in(
         × (name.new ≡ copied (symbol_named (known_in c addr item)) name.old)
         × (owner.new ≡ copied (owner_named c (known_in c addr item)) owner.old) }
 {
-    let content = catalog.take();
-    let result = match &*content {
-        Content::Catalog(shared) => find_in(shared.indexed(), item, addr, out, name, owner),
-        _ => BAD_HANDLE,
+    let Some(taken) = catalog.take_catalog() else {
+        return BAD_HANDLE;
     };
-    catalog.put(content);
+    let result = copy_names(
+        taken.indexed().catalog(),
+        seen_in(taken.indexed().catalog(), item, addr),
+        out,
+        name,
+        owner,
+    );
+    catalog.put_catalog(taken);
     result
 }
 

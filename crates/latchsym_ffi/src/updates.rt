@@ -9,8 +9,7 @@ ghost use Rattle.latchsym_ffi.specs.Updates.{RefusesAs, did_code, item_from};
 ghost use Rattle.latchsym_ffi.specs.Handles.{HoldsWriter, WriterGoes};
 ghost use Rattle.latchsym_ffi.specs.Kinds.{writer_kind};
 
-use crate::answers::{BAD_HANDLE, DONE, FLIP, STORE};
-use crate::contents::{Content, WRITER};
+use crate::answers::{DONE, FLIP, STORE};
 use crate::handles::Handle;
 use latch_table::{Did, Writer};
 use order_laws::{HalfOpen, Item, Refusal};
@@ -41,29 +40,6 @@ fn begin(writer: &mut Writer<HalfOpen>, update: Update) -> u32
     }
 }
 
-/// The same with the writer that a handle holds.
-fn begin_in(writer: &mut Handle, update: Update) -> u32
-    ensures begun { result ≡ 0
-        → WriterGoes (λ w w'. Begins half_open w update w') writer.old writer.new }
-    ensures unchanged { (w : WriterState) → HoldsWriter w writer.old → result ≢ 0
-        → HoldsWriter w writer.new }
-    ensures refused { (w : WriterState) → HoldsWriter w writer.old → result ≢ 0
-        → RefusesAs w update result }
-    ensures other { writer.old.kind ≢ writer_kind
-        → (result ≡ 101) × (writer.new ≡ writer.old) }
-{
-    if writer.kind != WRITER {
-        return BAD_HANDLE;
-    }
-    let mut content = writer.take();
-    let result = match &mut *content {
-        Content::Writer(inner) => begin(inner, update),
-        _ => BAD_HANDLE,
-    };
-    writer.put(content);
-    result
-}
-
 /// Begins to insert an item.
 #[unsafe(no_mangle)]
 pub extern "C" fn latchsym_writer_begin_insert(
@@ -85,7 +61,7 @@ pub extern "C" fn latchsym_writer_begin_insert(
         b: item.b,
         tag: item.tag,
     };
-    begin_in(writer, Update::Insert(item))
+    writer.with_writer(&mut |inner| begin(inner, Update::Insert(item)))
 }
 
 /// Begins to take out the item that begins at an address.
@@ -100,7 +76,7 @@ pub extern "C" fn latchsym_writer_begin_erase(_alloc: Global, writer: &mut Handl
     ensures other { writer.old.kind ≢ writer_kind
         → (result ≡ 101) × (writer.new ≡ writer.old) }
 {
-    begin_in(writer, Update::Erase(a))
+    writer.with_writer(&mut |inner| begin(inner, Update::Erase(a)))
 }
 
 /// The items as the table has them.
@@ -127,6 +103,25 @@ fn batch_of(alloc: Global, erase: &[u64], insert: &[TableItem]) -> Result<Update
     })
 }
 
+/// Begins the batch, and leaves it there.
+fn begin_batch(
+    alloc: Global,
+    writer: &mut Writer<HalfOpen>,
+    erase: &[u64],
+    insert: &[TableItem],
+) -> u32
+    ensures begun { result ≡ 0 → Begins half_open writer.old
+        (Batch erase.now (map item_from insert.now)) writer.new }
+    ensures unchanged { result ≢ 0 → writer.new ≡ writer.old }
+    ensures refused { result ≢ 0 → result ≢ 7
+        → RefusesAs writer.old (Batch erase.now (map item_from insert.now)) result }
+{
+    match batch_of(alloc, erase, insert) {
+        Ok(update) => begin(writer, update),
+        Err(_) => Refusal::OutOfMemory.number(),
+    }
+}
+
 /// Begins to take out the items of these first addresses and to put in these items, in one update.
 #[unsafe(no_mangle)]
 pub extern "C" fn latchsym_writer_begin_batch_nonnull(
@@ -144,13 +139,7 @@ pub extern "C" fn latchsym_writer_begin_batch_nonnull(
     ensures other { writer.old.kind ≢ writer_kind
         → (result ≡ 101) × (writer.new ≡ writer.old) }
 {
-    if writer.kind != WRITER {
-        return BAD_HANDLE;
-    }
-    let Ok(update) = batch_of(alloc, erase, insert) else {
-        return Refusal::OutOfMemory.number();
-    };
-    begin_in(writer, update)
+    writer.with_writer(&mut |inner| begin_batch(alloc, inner, erase, insert))
 }
 
 /// Makes one step, and tells which by its number.
@@ -173,16 +162,7 @@ pub extern "C" fn latchsym_writer_step(writer: &mut Handle) -> u32
     ensures other { writer.old.kind ≢ writer_kind
         → (result ≡ 101) × (writer.new ≡ writer.old) }
 {
-    if writer.kind != WRITER {
-        return BAD_HANDLE;
-    }
-    let mut content = writer.take();
-    let result = match &mut *content {
-        Content::Writer(inner) => step(inner),
-        _ => BAD_HANDLE,
-    };
-    writer.put(content);
-    result
+    writer.with_writer(&mut |inner| step(inner))
 }
 
 /// Makes the steps that are left of the pending update, if there is one, and tells the new
@@ -194,15 +174,10 @@ pub extern "C" fn latchsym_writer_finish(writer: &mut Handle, generation: &mut u
     ensures other { writer.old.kind ≢ writer_kind → (result ≡ 101) × (writer.new ≡ writer.old)
         × (generation.new ≡ generation.old) }
 {
-    if writer.kind != WRITER {
-        return BAD_HANDLE;
-    }
-    let mut content = writer.take();
-    if let Content::Writer(inner) = &mut *content {
+    writer.with_writer(&mut |inner| {
         *generation = inner.finish();
-    }
-    writer.put(content);
-    DONE
+        DONE
+    })
 }
 
 /// Closes a writer. Readers that are open go on with the table as it is.

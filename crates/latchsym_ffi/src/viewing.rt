@@ -10,7 +10,6 @@ ghost use Rattle.latchsym_ffi.specs.Viewing.{AreRooms, TellsSizes};
 ghost use Rattle.latchsym_ffi.specs.Views.{IsViewOf};
 
 use crate::answers::{BAD_HANDLE, BAD_LENGTH, DONE};
-use crate::contents::{CATALOG, Content};
 use crate::finding::CatalogSymbol;
 use crate::flattening::{flatten, symbols_in};
 use crate::handles::Handle;
@@ -91,15 +90,11 @@ pub extern "C" fn latchsym_catalog_sizes(catalog: &mut Handle, out: &mut ViewSiz
     ensures other { catalog.old.kind ≢ catalog_kind → (result ≡ 101) × (catalog.new ≡ catalog.old)
         × (out.new ≡ out.old) }
 {
-    if catalog.kind != CATALOG {
+    let Some(taken) = catalog.take_catalog() else {
         return BAD_HANDLE;
-    }
-    let content = catalog.take();
-    let result = match &*content {
-        Content::Catalog(shared) => tell_sizes(shared.indexed().catalog(), out),
-        _ => BAD_HANDLE,
     };
-    catalog.put(content);
+    let result = tell_sizes(taken.indexed().catalog(), out);
+    catalog.put_catalog(taken);
     result
 }
 
@@ -123,17 +118,11 @@ pub extern "C" fn latchsym_catalog_flatten_nonnull<'c, 's>(
     ensures other { catalog.old.kind ≢ catalog_kind
         → (result ≡ 101) × (catalog.new ≡ catalog.old) }
 {
-    if catalog.kind != CATALOG {
+    let Some(taken) = catalog.take_catalog() else {
         return BAD_HANDLE;
-    }
-    let content = catalog.take();
-    let result = match &*content {
-        Content::Catalog(shared) => {
-            flatten_into(shared.indexed().catalog(), regions, symbols, addresses, out)
-        }
-        _ => BAD_HANDLE,
     };
-    catalog.put(content);
+    let result = flatten_into(taken.indexed().catalog(), regions, symbols, addresses, out);
+    catalog.put_catalog(taken);
     result
 }
 

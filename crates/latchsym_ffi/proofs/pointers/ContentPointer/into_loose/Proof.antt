@@ -1,30 +1,6 @@
-use mathlib.Core.Path.{refl, sym, subst}
-use mathlib.Core.List.{List, [], ◌∷◌, ◌++◌}
-use Rattle.std.specs.Prelude.{IsSome}
-use seplogic.Ra.Ura.{Ura}
-use mir.Val.{Val, vptr}
-use base.Logic.{SProp, ent, id⊢}
-use base.Fml.{ftrue, fsep}
-use prog.Memory.{Memory}
-use prog.Routine.{Routine}
-use prog.Wp.{WpFn, Tables}
-use types.Logic.{Logic}
-use contract.Monad.{Fun, fact}
-use contract.Running.{tables, tables_of}
-use sound.WpLaws.{WpFn-mono}
-use types.Kit.{Item, ‵, raw, ◌⊛◌, ◌$◌, ◌∵◌, !, qed, by, move, drop, use1, join, split, fsplit, fjoin, suffices, done, rewrite}
-use types.Part.{whole, sub, agg}
-use types.Run.{stop, fld, no_more, and_then, of_opd, returns, enter}
-use types.ByLocal.{alloc_all, pass_all, free_all, look_at, get, get_in, sets}
-use denote.Exit.{yes}
-use denote.RawPtr.{Ptr, block_ptr}
-use denote.Signature.{type_at}
-use denote.Steps.{nothing, heard}
-use denote.Triple.Spec.{triple_of}
-use denote.Triple.Table.{entered}
-use denote.Triple.Walked.{says, Stays, stay_dropped, walk_of, ends_at, Goes-dropped, walk_Meets}
+use contract.Running.{tables_of}
+use Rattle.latchsym_ffi.proofs.Walking.{ !, Fun, Goes-dropped, IsSome, Item, List, Logic, Memory, Ptr, Routine, SProp, Stays, Tables, Ura, Val, WpFn, WpFn-mono, [], agg, alloc_all, and_then, block_ptr, by, done, drop, ends_at, ent, enter, entered, fact, fjoin, fld, free_all, fsep, fsplit, ftrue, get, get_in, ghosts, heard, id⊢, join, look_at, move, no_more, nothing, of_opd, pass_all, qed, raw, refl, returns, rewrite, says, sets, split, stay_dropped, stop, sub, subst, suffices, sym, tables, triple_of, type_at, use1, vptr, walk_Meets, walk_of, whole, yes, ‵, ◌$◌, ◌++◌, ◌∵◌, ◌∷◌, ◌⊛◌}
 use Rattle.latchsym_ffi.proofs.LooseValues.{both, loose_good, loose_in}
-use Rattle.std_heap.specs.contracts.GlobalAllocator.TheImpl.{ghosts}
 use Rattle.latchsym_ffi.proofs.PointerValues.{R, Z, LZ, P, content_of, good, pointer_out, FromPointer as From}
 use Rattle.latchsym_ffi.specs.contracts.pointers.ContentPointer.into_loose as F
 use Rattle.latchsym_ffi.specs.contracts.pointers.ContentPointer.into_loose.Key.{name as #self}

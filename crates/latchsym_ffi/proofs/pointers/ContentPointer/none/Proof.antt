@@ -1,28 +1,5 @@
-use mathlib.Core.Path.{refl, sym, subst}
-use mathlib.Core.List.{List, [], ◌∷◌, ◌++◌}
-use lib.Dec.{lit<}
-use seplogic.Ra.Ura.{Ura}
-use mir.Val.{Val, vnull}
-use base.Logic.{SProp, ent, emp}
-use base.Fml.{ftrue, fsep}
-use prog.Memory.{Memory}
-use prog.Routine.{Routine}
-use prog.Wp.{WpFn, Tables}
-use types.Logic.{Logic}
-use contract.Monad.{Fun}
-use contract.Running.{tables, tables_of}
-use sound.WpLaws.{WpFn-mono}
-use types.Kit.{Item, ‵, raw, ◌⊛◌, ◌$◌, ◌∵◌, !, qed, by, move, drop, use1, join, split, fsplit, fjoin, suffices, done, rewrite}
-use types.Part.{agg}
-use types.Run.{no_more, and_then, returns, enter, lit}
-use types.ByLocal.{alloc_all, pass_all, free_all, look_at, get, sets}
-use denote.Exit.{yes}
-use Rattle.core.proofs.alloc.Calls.{handle_tells}
-use denote.Signature.{type_at}
-use denote.Steps.{nothing}
-use denote.Triple.Spec.{triple_of}
-use denote.Triple.Table.{entered}
-use denote.Triple.Walked.{says, Stays, stay_dropped, walk_of, ends_at, Goes-dropped, walk_Meets}
+use contract.Running.{tables_of}
+use Rattle.latchsym_ffi.proofs.Walking.{!, Fun, Goes-dropped, Item, List, Logic, Memory, Routine, SProp, Stays, Tables, Ura, Val, WpFn, WpFn-mono, [], agg, alloc_all, and_then, by, done, drop, emp, ends_at, ent, enter, entered, fjoin, free_all, fsep, fsplit, ftrue, get, handle_tells, join, lit, lit<, look_at, move, no_more, nothing, pass_all, qed, raw, refl, returns, says, sets, split, stay_dropped, subst, suffices, sym, tables, triple_of, type_at, vnull, walk_Meets, walk_of, yes, ‵, ◌$◌, ◌++◌, ◌∵◌, ◌∷◌, ◌⊛◌}
 use Rattle.latchsym_ffi.proofs.PointerValues.{Z, al, empty, empty_in, good, FromGlobal as From}
 use Rattle.latchsym_ffi.proofs.LooseValues.{both}
 use Rattle.latchsym_ffi.specs.contracts.pointers.ContentPointer.none as F

@@ -1,30 +1,6 @@
-use mathlib.Core.Path.{refl, sym, subst}
-use mathlib.Core.List.{List, [], ◌∷◌, ◌++◌}
-use seplogic.Ra.Ura.{Ura}
-use mir.Val.{Val, vptr}
-use base.Logic.{SProp, ent, emp}
-use base.Fml.{ftrue, fsep}
-use prog.Memory.{Memory}
-use prog.Routine.{Routine}
-use prog.Wp.{WpFn, Tables}
-use types.Logic.{Logic}
-use contract.Monad.{Fun}
-use contract.Running.{tables, tables_of}
-use sound.WpLaws.{WpFn-mono}
-use types.Kit.{Item, ‵, raw, ◌⊛◌, ◌$◌, ◌∵◌, !, qed, by, move, drop, use1, join, split, fsplit, fjoin, suffices, done, rewrite}
-use types.Part.{whole, sub, agg}
-use types.Run.{stop, fld, no_more, and_then, of_opd, returns, enter}
-use types.ByLocal.{alloc_all, pass_all, free_all, look_at, get, get_in, sets}
-use denote.Exit.{no}
-use denote.RawPtr.{Ptr}
-use denote.Signature.{type_at}
-use denote.Steps.{nothing}
-use denote.Triple.Spec.{triple_of}
-use denote.Triple.Table.{entered}
-use denote.Triple.Walked.{says, Stays, stay_dropped, walk_of, ends_at, Goes-dropped, walk_Meets}
+use contract.Running.{tables_of}
+use Rattle.latchsym_ffi.proofs.Walking.{!, Fun, Goes-dropped, Item, List, Logic, Memory, Ptr, Routine, SProp, Some, Stays, Tables, Ura, Val, WpFn, WpFn-mono, [], agg, alloc_all, and_then, by, done, drop, emp, ends_at, ent, enter, entered, fjoin, fld, free_all, fsep, fsplit, ftrue, get, get_in, ghosts, join, look_at, move, no, no_more, nothing, of_opd, pass_all, qed, raw, refl, returns, rewrite, says, sets, split, stay_dropped, stop, sub, subst, suffices, sym, tables, triple_of, type_at, vptr, walk_Meets, walk_of, whole, ‵, ◌$◌, ◌++◌, ◌∵◌, ◌∷◌, ◌⊛◌}
 use Rattle.latchsym_ffi.proofs.LooseValues.{both, loose_good, loose_out}
-use Rattle.std.specs.Prelude.{Some}
-use Rattle.std_heap.specs.contracts.GlobalAllocator.TheImpl.{ghosts}
 use Rattle.latchsym_ffi.proofs.PointerValues.{R, Z, LZ, P, good, pointer_in, FromLoose as From}
 use Rattle.latchsym_ffi.specs.contracts.pointers.ContentPointer.of as F
 use Rattle.latchsym_ffi.specs.contracts.pointers.ContentPointer.of.Key.{name as #self}

@@ -1,0 +1,121 @@
+//! What a call does with the content of a handle.
+//!
+//! The content is taken out of the handle, the call is made with it, and it is put back: the kit
+//! lends no borrow through the handle's raw pointer. What is to be done with a writer or a reader
+//! comes as a closure; no closure takes a catalog, which has names of lifetime `'static`.
+
+ghost use Rattle.std.specs.Prelude.{◌≡◌, ◌≢◌, IfNone, IfSome, Some};
+ghost use Rattle.std.specs.Fn.{CalledAtMut};
+ghost use Rattle.latchsym_ffi.specs.declared.contents.Content.TheVariants as content;
+ghost use Rattle.latchsym_ffi.specs.Handles.{ReaderGoes, WriterGoes};
+ghost use Rattle.latchsym_ffi.specs.Kinds.{catalog_kind, kind_of, reader_kind, writer_kind};
+
+use crate::answers::BAD_HANDLE;
+use crate::contents::{CATALOG, Content, READER, WRITER};
+use crate::handles::Handle;
+use crate::open_catalogs::OpenCatalog;
+use latch_table::{Reader, Writer};
+use modules::IndexedCatalog;
+use order_laws::HalfOpen;
+use std::alloc::Global;
+
+/// A catalog out of its handle, in the box in which it is put back.
+#[derive(Drop)]
+pub(crate) struct TakenCatalog {
+    content: Box<Content, Global>,
+    ghost is_catalog: { kind_of content.value ≡ catalog_kind },
+}
+
+impl TakenCatalog {
+    /// The catalog that handles share.
+    #[inline(always)]
+    pub(crate) fn open(&self) -> &OpenCatalog
+        ensures { self.now.content.value ≡ content.Catalog result.now }
+    {
+        match &*self.content {
+            Content::Catalog(catalog) => catalog,
+            _ => unreachable!(),
+        }
+    }
+
+    /// The catalog with its index.
+    #[inline(always)]
+    pub(crate) fn indexed(&self) -> &IndexedCatalog<'static>
+        ensures { self.now.content.value ≡ content.Catalog result.now }
+    {
+        self.open().indexed()
+    }
+}
+
+impl Handle {
+    /// Takes the catalog out, if the handle holds one, and leaves the handle closed.
+    #[inline(always)]
+    pub(crate) fn take_catalog(&mut self) -> Option<TakenCatalog>
+        ensures taken { IfSome result (λ t. (self.old.kind ≡ catalog_kind)
+            × (self.old.pointer.content ≡ Some t.content.value)) }
+        ensures other { IfNone result ((self.old.kind ≢ catalog_kind) × (self.new ≡ self.old)) }
+    {
+        if self.kind != CATALOG {
+            return None;
+        }
+        Some(TakenCatalog {
+            content: self.take(),
+        })
+    }
+
+    /// Puts a catalog back that was taken out.
+    #[inline(always)]
+    pub(crate) fn put_catalog(&mut self, catalog: TakenCatalog)
+        ensures { self.new.pointer.content ≡ Some catalog.content.value }
+    {
+        self.put(catalog.content);
+    }
+
+    /// Calls with the writer that the handle holds; a handle with none is a bad one.
+    #[inline(always)]
+    pub(crate) fn with_writer<F: FnMut(&mut Writer<HalfOpen>) -> u32>(
+        &mut self,
+        call: &mut F,
+    ) -> u32
+        requires { F.IsAlwaysCallable call.old }
+        ensures called { WriterGoes (λ w w'. CalledAtMut F.FnMut call.old w result call.new w')
+            self.old self.new }
+        ensures other { self.old.kind ≢ writer_kind
+            → (result ≡ 101) × (self.new ≡ self.old) × (call.new ≡ call.old) }
+    {
+        if self.kind != WRITER {
+            return BAD_HANDLE;
+        }
+        let mut content = self.take();
+        let result = match &mut *content {
+            Content::Writer(writer) => call(writer),
+            _ => BAD_HANDLE,
+        };
+        self.put(content);
+        result
+    }
+
+    /// Calls with the reader that the handle holds; a handle with none is a bad one.
+    #[inline(always)]
+    pub(crate) fn with_reader<F: FnMut(&mut Reader<HalfOpen>) -> u32>(
+        &mut self,
+        call: &mut F,
+    ) -> u32
+        requires { F.IsAlwaysCallable call.old }
+        ensures called { ReaderGoes (λ r r'. CalledAtMut F.FnMut call.old r result call.new r')
+            self.old self.new }
+        ensures other { self.old.kind ≢ reader_kind
+            → (result ≡ 101) × (self.new ≡ self.old) × (call.new ≡ call.old) }
+    {
+        if self.kind != READER {
+            return BAD_HANDLE;
+        }
+        let mut content = self.take();
+        let result = match &mut *content {
+            Content::Reader(reader) => call(reader),
+            _ => BAD_HANDLE,
+        };
+        self.put(content);
+        result
+    }
+}
