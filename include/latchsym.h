@@ -419,6 +419,31 @@ static inline uint32_t latchsym_writer_begin_batch(struct latchsym_writer *write
                                                insert_len ? insert : &no_item, insert_len);
 }
 
+/* Begins the update after which the table has just these items: it takes the others out and puts the
+ * new ones in, at once, and leaves those alone that the table has already. Each is to lie below the
+ * next, else LATCHSYM_OVERLAP. Takes memory for what differs. 0, one of the refusals 1, 2 and 4 to 7,
+ * or LATCHSYM_BAD_HANDLE. */
+uint32_t latchsym_writer_begin_replace_nonnull(struct latchsym_writer *,
+                                               const struct latchsym_item *items, size_t items_len);
+static inline uint32_t latchsym_writer_begin_replace(struct latchsym_writer *writer,
+                                                     const struct latchsym_item *items,
+                                                     size_t items_len) {
+    const struct latchsym_item no_item = { 0, 0, 0 };
+    return latchsym_writer_begin_replace_nonnull(writer, items_len ? items : &no_item, items_len);
+}
+
+/* Writes an item for each region of the catalog, each below the next, with the number of its module
+ * as the tag: what latchsym_writer_begin_replace takes. There are to be as many rooms as
+ * latchsym_catalog_sizes tells regions. 0, LATCHSYM_BAD_LENGTH or LATCHSYM_BAD_HANDLE; each but 0
+ * writes nothing. Takes no memory. */
+uint32_t latchsym_catalog_items_nonnull(struct latchsym_catalog *, struct latchsym_item *out,
+                                        size_t out_len);
+static inline uint32_t latchsym_catalog_items(struct latchsym_catalog *catalog,
+                                              struct latchsym_item *out, size_t out_len) {
+    struct latchsym_item no_item = { 0, 0, 0 };
+    return latchsym_catalog_items_nonnull(catalog, out_len ? out : &no_item, out_len);
+}
+
 /* One step of the pending update: LATCHSYM_FLIP or LATCHSYM_STORE; 0 where no update is pending, or
  * it is at its end; or LATCHSYM_BAD_HANDLE. Handler, where no other call on the writer runs. */
 uint32_t latchsym_writer_step(struct latchsym_writer *);

@@ -206,6 +206,15 @@ public:
         return count;
     }
 
+    /* An item for each region, each below the next, with the number of its module as the tag. */
+    std::vector<latchsym_item> items() {
+        latchsym_sizes sizes{};
+        detail::check(latchsym_catalog_sizes(get(), &sizes));
+        std::vector<latchsym_item> out(sizes.regions);
+        detail::check(latchsym_catalog_items(get(), out.data(), out.size()));
+        return out;
+    }
+
     std::optional<latchsym::module> module(std::uint64_t number) {
         latchsym_module out = LATCHSYM_MODULE_INIT;
         if (!detail::is_there(latchsym_catalog_module(get(), number, &out))) return std::nullopt;
@@ -423,6 +432,12 @@ public:
         return finish();
     }
 
+    /* Gives the table just these items, each below the next; those that it has stay as they are. */
+    std::uint64_t replace(const std::vector<item> &items) {
+        begin_replace(items);
+        return finish();
+    }
+
     /* The same, with the steps left to step() and finish(). Readers see an update from its second
      * flip on, whole. */
     void begin_insert(const item &added) {
@@ -432,6 +447,10 @@ public:
     void begin_batch(const std::vector<std::uint64_t> &erase, const std::vector<item> &insert) {
         detail::check(latchsym_writer_begin_batch(get(), erase.data(), erase.size(), insert.data(),
                                                   insert.size()));
+    }
+
+    void begin_replace(const std::vector<item> &items) {
+        detail::check(latchsym_writer_begin_replace(get(), items.data(), items.size()));
     }
 
     latchsym::step step() {

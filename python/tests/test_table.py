@@ -30,6 +30,15 @@ class Updates(unittest.TestCase):
         self.assertEqual(self.reader.find(0x1800).item.tag, 2)
         self.assertEqual(self.writer.batch(), 3)
 
+    def test_a_replacement_is_one_update(self):
+        self.writer.insert(*ITEM)
+        items = [Item(0x800, 0x900, 3), ITEM, Item(0x3000, 0x4000, 5)]
+        self.assertEqual(self.writer.replace(items), 2)
+        self.assertEqual([self.reader.find(item.a).item for item in items], items)
+        self.assertEqual(self.writer.replace([]), 3)
+        self.assertIsNone(self.reader.find(0x1000).item)
+        self.assertRaises(latchsym.Overlap, self.writer.replace, [ITEM, ITEM])
+
     def test_step_by_step(self):
         self.assertEqual(self.writer.step(), Step.END)
         self.writer.begin_insert(*ITEM)

@@ -68,6 +68,10 @@ static void tables(void) {
     CHECK(found.a == 0x1000 && answer.offset == 8 && answer.name_len == 1);
     CHECK(!latchsym_writer_begin_batch(&writer, &start, 1, NULL, 0) && !latchsym_writer_finish(&writer, &generation));
     CHECK(latchsym_reader_try_find(&reader, 0x1018, &found) == LATCHSYM_NOTHING && found.generation == 2);
+    CHECK(!latchsym_writer_begin_replace(&writer, &item, 1) && !latchsym_writer_finish(&writer, &generation));
+    CHECK(!latchsym_writer_begin_replace(&writer, NULL, 0) && !latchsym_writer_finish(&writer, &generation));
+    CHECK(latchsym_reader_try_find(&reader, 0x1018, &found) == LATCHSYM_NOTHING && found.generation == 4);
+    CHECK(latchsym_catalog_items(&catalog, NULL, 0) == LATCHSYM_BAD_LENGTH);
     latchsym_writer_begin_batch(&writer, NULL, 0, NULL, 0);
     latchsym_writer_close(&writer);
     latchsym_reader_close(&reader);

@@ -64,6 +64,7 @@ static uint32_t open_table(void) { return latchsym_table_open(4, &writer, reader
 static uint32_t enlarge(void) { return latchsym_table_enlarge(8, &writer, readers, 3); }
 static uint32_t add(void) { return latchsym_writer_add_reader(&writer, &added); }
 static uint32_t insert(void) { return latchsym_writer_begin_insert(&writer, &items[0]); }
+static uint32_t replace(void) { return latchsym_writer_begin_replace(&writer, items, 2); }
 static uint32_t batch(void) { return latchsym_writer_begin_batch(&writer, starts, 1, items, 2); }
 
 /* All handles, as they lie in memory. */
@@ -98,6 +99,13 @@ static void batch_back(void) {
     refused_request = 0;
     finish();
     CHECK(!latchsym_writer_begin_batch(&writer, both, 2, items, 1));
+    finish();
+}
+
+static void replace_back(void) {
+    refused_request = 0;
+    finish();
+    CHECK(!latchsym_writer_begin_replace(&writer, items + 1, 1));
     finish();
 }
 
@@ -144,6 +152,10 @@ int main(void) {
     each_request("begin_batch", batch, batch_back);
     finish();
     CHECK(!latchsym_reader_try_find(&readers[2], 0x2800, &found) && found.a == 0x2000);
+    CHECK(!latchsym_writer_begin_replace(&writer, items + 1, 1));
+    finish();
+    each_request("begin_replace", replace, replace_back);
+    finish();
     each_request("table_enlarge", enlarge, leave);
     CHECK(!latchsym_reader_try_find(&readers[2], 0x2800, &found) && found.a == 0x2000);
     each_request("add_reader", add, close_added);

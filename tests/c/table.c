@@ -39,6 +39,7 @@ static void closed_handles(void) {
     CHECK(latchsym_writer_begin_insert(&writer, &first) == LATCHSYM_BAD_HANDLE);
     CHECK(latchsym_writer_begin_erase(&writer, 1) == LATCHSYM_BAD_HANDLE);
     CHECK(latchsym_writer_begin_batch(&writer, &generation, 0, &first, 1) == LATCHSYM_BAD_HANDLE);
+    CHECK(latchsym_writer_begin_replace(&writer, &first, 1) == LATCHSYM_BAD_HANDLE);
     CHECK(latchsym_writer_find(&writer, 1, &found) == LATCHSYM_BAD_HANDLE && found.a == 1);
     CHECK(latchsym_reader_try_find(&none, 1, &found) == LATCHSYM_BAD_HANDLE && found.generation == 4);
     latchsym_reader_close(&none);
@@ -61,6 +62,7 @@ static void handles_of_other_kinds(void) {
     CHECK(latchsym_writer_begin_insert(no_writer, &first) == LATCHSYM_BAD_HANDLE);
     CHECK(latchsym_writer_begin_erase(no_writer, 1) == LATCHSYM_BAD_HANDLE);
     CHECK(latchsym_writer_begin_batch(no_writer, &generation, 0, &first, 1) == LATCHSYM_BAD_HANDLE);
+    CHECK(latchsym_writer_begin_replace(no_writer, &first, 1) == LATCHSYM_BAD_HANDLE);
     CHECK(latchsym_writer_find(no_writer, 1, &found) == LATCHSYM_BAD_HANDLE && found.a == 1);
     CHECK(latchsym_reader_try_find(no_reader, 1, &found) == LATCHSYM_BAD_HANDLE && found.a == 1);
     CHECK(latchsym_table_enlarge(8, no_writer, no_reader, 1) == LATCHSYM_BAD_HANDLE);

@@ -1,5 +1,5 @@
 // SPDX-License-Identifier: MIT OR Apache-2.0
-use crate::{sys, Error, View};
+use crate::{sys, Error, Item, View};
 use std::{cell::UnsafeCell, fmt, marker::PhantomData, mem::size_of, slice};
 
 /// The listings that a catalog is opened of.
@@ -293,6 +293,19 @@ impl<'l> Catalog<'l> {
         // SAFETY: the handle is open and in no other call.
         Error::check(unsafe { sys::latchsym_catalog_modules(self.handle(), &mut count) })?;
         Ok((0..=count).filter_map(move |number| self.module(number)))
+    }
+
+    /// An item for each region, each below the next, with the number of its module as the tag.
+    pub fn items(&self) -> Result<Vec<Item>, Error> {
+        let mut sizes = sys::Sizes { regions: 0, symbols: 0 };
+        // SAFETY: the handle is open and in no other call.
+        Error::check(unsafe { sys::latchsym_catalog_sizes(self.handle(), &mut sizes) })?;
+        let mut items = vec![Item::default(); sizes.regions];
+        // SAFETY: pointer and length are those of a slice.
+        Error::check(unsafe {
+            sys::latchsym_catalog_items(self.handle(), items.as_mut_ptr(), items.len())
+        })?;
+        Ok(items)
     }
 
     /// The module of a number.

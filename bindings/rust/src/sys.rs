@@ -240,6 +240,14 @@ extern "C" {
         insert: *const Item,
         insert_len: usize,
     ) -> u32;
+    #[link_name = "latchsym_writer_begin_replace_nonnull"]
+    pub fn latchsym_writer_begin_replace(
+        writer: *mut Handle,
+        items: *const Item,
+        items_len: usize,
+    ) -> u32;
+    #[link_name = "latchsym_catalog_items_nonnull"]
+    pub fn latchsym_catalog_items(catalog: *mut Handle, out: *mut Item, out_len: usize) -> u32;
     pub fn latchsym_writer_step(writer: *mut Handle) -> u32;
     pub fn latchsym_writer_finish(writer: *mut Handle, generation: *mut u64) -> u32;
     #[link_name = "latchsym_table_enlarge_nonnull"]

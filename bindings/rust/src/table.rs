@@ -4,7 +4,7 @@ use std::{cell::UnsafeCell, fmt, marker::PhantomData};
 
 /// Addresses from `a` up to `b`, which is excluded, and a number of the caller's.
 #[repr(C)]
-#[derive(Clone, Copy, Debug, PartialEq, Eq)]
+#[derive(Clone, Copy, Debug, Default, PartialEq, Eq)]
 #[allow(missing_docs)]
 pub struct Item {
     pub a: u64,
@@ -124,6 +124,21 @@ impl Writer {
                 insert.as_ptr(),
                 insert.len(),
             )
+        })
+    }
+
+    /// Gives the table just these items, each of which is to lie below the next, all at once. Those
+    /// that it has already are left alone.
+    pub fn replace(&mut self, items: &[Item]) -> Result<u64, Error> {
+        self.begin_replace(items)?;
+        self.finish()
+    }
+
+    /// Begins to give the table just these items.
+    pub fn begin_replace(&mut self, items: &[Item]) -> Result<(), Error> {
+        // SAFETY: pointer and length are those of a slice.
+        Error::check(unsafe {
+            sys::latchsym_writer_begin_replace(self.handle(), items.as_ptr(), items.len())
         })
     }
 

@@ -29,6 +29,8 @@ pub mod Flattening
 pub mod Catalogs
 -- the numbers that calls on a writer return
 pub mod Updates
+-- the items of a table replaced by others
+pub mod Replacing
 -- what lookups return
 pub mod Lookups
 -- what the opening of a table gives

@@ -36,6 +36,7 @@ mod open_catalogs;
 mod opening;
 mod opening_tables;
 mod pointers;
+mod replacing;
 mod threads;
 mod updates;
 mod view_rows;

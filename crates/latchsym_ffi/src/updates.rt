@@ -80,7 +80,7 @@ pub extern "C" fn latchsym_writer_begin_erase(_alloc: Global, writer: &mut Handl
 }
 
 /// The items as the table has them.
-fn items_from(alloc: Global, items: &[TableItem]) -> Result<Vec<Item>, AllocError>
+pub(crate) fn items_from(alloc: Global, items: &[TableItem]) -> Result<Vec<Item>, AllocError>
     ensures { IfOk result (λ v. v.items ≡ map item_from items.now) }
 {
     items

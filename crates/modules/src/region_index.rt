@@ -13,7 +13,7 @@ ghost use Rattle.order_laws.specs.declared.items.Item.{Item};
 ghost use Rattle.std.specs.List.Sorted.{IsNonDecreasingBy};
 ghost use Rattle.modules.specs.Items.{items_at, items_below, items_of};
 ghost use Rattle.modules.specs.Loads.{item_of};
-ghost use Rattle.modules.specs.RegionIndexes.{IsItemSplit};
+ghost use Rattle.modules.specs.RegionIndexes.{IsIndexOf, IsItemSplit};
 ghost use Rattle.modules.specs.Items.{item_of_address};
 
 use crate::buckets::{Addressed, Buckets};
@@ -140,6 +140,13 @@ impl<'a> IndexedCatalog<'a> {
         ensures { result.now ≡ self.now }
     {
         &self.catalog
+    }
+
+    /// An item for each region, by rising first address, with the number of its module as the tag.
+    pub fn items(&self) -> &[Item]
+        ensures { IsIndexOf self.now result.now }
+    {
+        &self.items
     }
 
     /// The region that an address lies in, with the number of its module as the tag. The first is

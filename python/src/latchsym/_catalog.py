@@ -78,6 +78,14 @@ class Entry(NamedTuple):
     name: str
 
 
+class Item(NamedTuple):
+    """Addresses from `a` up to `b`, which is excluded, and a number of the caller's."""
+
+    a: int
+    b: int
+    tag: int
+
+
 class Counts(NamedTuple):
     """How many lines of each listing went where, as `latchsym lookup` prints them."""
 
@@ -470,6 +478,16 @@ class Catalog:
             module = it.Module(it.no_place(), 0, 0)
             if self._is_there(lib.latchsym_catalog_module, number, module):
                 yield Module(number, module.name.text(), module.regions, module.symbols)
+
+    def items(self) -> list[Item]:
+        """An item for each region, each below the next, with the number of its module as the tag."""
+        sizes = it.Sizes()
+        with self._lock:
+            check(lib.latchsym_catalog_sizes(self._handle, byref(sizes)))
+            # (an array of no length may have no place, and no pointer may be null)
+            rooms = (it.Item * (sizes.regions + 1))()
+            check(lib.latchsym_catalog_items(self._handle, rooms, sizes.regions))
+        return [Item(room.a, room.b, room.tag) for room in rooms[: sizes.regions]]
 
     def regions(self, number: int) -> Iterator[Region]:
         """The regions of the module of a number, in the order of their listing."""

@@ -168,6 +168,8 @@ CALLS = {
         [_HANDLE, POINTER(c_uint64), c_size_t, POINTER(Item), c_size_t],
         True,
     ),
+    "latchsym_writer_begin_replace": ([_HANDLE, POINTER(Item), c_size_t], True),
+    "latchsym_catalog_items": ([_HANDLE, POINTER(Item), c_size_t], True),
     "latchsym_writer_step": ([_HANDLE], True),
     "latchsym_writer_finish": ([_HANDLE, POINTER(c_uint64)], True),
     "latchsym_table_enlarge": ([c_uint32, _HANDLE, _HANDLE, c_size_t], True),
@@ -184,6 +186,7 @@ NONNULL = {
     "latchsym_catalog_close",
     "latchsym_catalog_find_many",
     "latchsym_catalog_flatten",
+    "latchsym_catalog_items",
     "latchsym_catalog_name",
     "latchsym_catalog_open",
     "latchsym_catalog_place_of_name",
@@ -192,6 +195,7 @@ NONNULL = {
     "latchsym_table_enlarge",
     "latchsym_table_open",
     "latchsym_writer_begin_batch",
+    "latchsym_writer_begin_replace",
     "latchsym_writer_close",
 }
 

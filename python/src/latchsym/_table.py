@@ -13,17 +13,9 @@ from types import TracebackType
 from typing import Callable, Iterable, NamedTuple, Type
 
 from . import _library as it
-from ._catalog import Catalog, Symbol
+from ._catalog import Catalog, Item, Symbol
 from ._errors import Retry
 from ._library import check, lib, word
-
-
-class Item(NamedTuple):
-    """Addresses from `a` up to `b`, which is excluded, and a number of the caller's."""
-
-    a: int
-    b: int
-    tag: int
 
 
 class Found(NamedTuple):
@@ -118,6 +110,19 @@ class Writer(_Part):
                     self._handle, starts, len(erased), items, len(inserted)
                 )
             )
+
+    def replace(self, items: Iterable[Iterable[int]]) -> int:
+        """Gives the table just these items, each below the next, all at once."""
+        with self._lock:
+            self.begin_replace(items)
+            return self.finish()
+
+    def begin_replace(self, items: Iterable[Iterable[int]]) -> None:
+        listed = [_word_item(item) for item in items]
+        # (an array of no length may have no place, and no pointer may be null)
+        array = (it.Item * (len(listed) + 1))(*listed)
+        with self._lock:
+            check(lib.latchsym_writer_begin_replace(self._handle, array, len(listed)))
 
     def step(self) -> Step:
         """Takes one step of the pending update."""

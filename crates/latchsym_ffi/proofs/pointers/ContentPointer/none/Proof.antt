@@ -1,5 +1,5 @@
 use contract.Running.{tables_of}
-use Rattle.latchsym_ffi.proofs.Walking.{!, Fun, Goes-dropped, Item, List, Logic, Memory, Routine, SProp, Stays, Tables, Ura, Val, WpFn, WpFn-mono, [], agg, alloc_all, and_then, by, done, drop, emp, ends_at, ent, enter, entered, fjoin, free_all, fsep, fsplit, ftrue, get, handle_tells, join, lit, lit<, look_at, move, no_more, nothing, pass_all, qed, raw, refl, returns, says, sets, split, stay_dropped, subst, suffices, sym, tables, triple_of, type_at, vnull, walk_Meets, walk_of, yes, ‵, ◌$◌, ◌++◌, ◌∵◌, ◌∷◌, ◌⊛◌}
+use Rattle.latchsym_ffi.proofs.Walking.{ !, Fun, Goes-dropped, Item, List, Logic, Memory, Routine, SProp, Stays, Tables, Ura, Val, WpFn, WpFn-mono, [], agg, alloc_all, and_then, by, done, drop, emp, ends_at, ent, enter, entered, fjoin, free_all, fsep, fsplit, ftrue, get, handle_tells, join, lit, lit<, look_at, move, no_more, nothing, pass_all, qed, raw, refl, returns, says, sets, split, stay_dropped, subst, suffices, sym, tables, triple_of, type_at, vnull, walk_Meets, walk_of, yes, ‵, ◌$◌, ◌++◌, ◌∵◌, ◌∷◌, ◌⊛◌}
 use Rattle.latchsym_ffi.proofs.PointerValues.{Z, al, empty, empty_in, good, FromGlobal as From}
 use Rattle.latchsym_ffi.proofs.LooseValues.{both}
 use Rattle.latchsym_ffi.specs.contracts.pointers.ContentPointer.none as F

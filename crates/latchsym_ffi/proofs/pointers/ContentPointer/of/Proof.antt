@@ -1,5 +1,5 @@
 use contract.Running.{tables_of}
-use Rattle.latchsym_ffi.proofs.Walking.{!, Fun, Goes-dropped, Item, List, Logic, Memory, Ptr, Routine, SProp, Some, Stays, Tables, Ura, Val, WpFn, WpFn-mono, [], agg, alloc_all, and_then, by, done, drop, emp, ends_at, ent, enter, entered, fjoin, fld, free_all, fsep, fsplit, ftrue, get, get_in, ghosts, join, look_at, move, no, no_more, nothing, of_opd, pass_all, qed, raw, refl, returns, rewrite, says, sets, split, stay_dropped, stop, sub, subst, suffices, sym, tables, triple_of, type_at, vptr, walk_Meets, walk_of, whole, ‵, ◌$◌, ◌++◌, ◌∵◌, ◌∷◌, ◌⊛◌}
+use Rattle.latchsym_ffi.proofs.Walking.{ !, Fun, Goes-dropped, Item, List, Logic, Memory, Ptr, Routine, SProp, Some, Stays, Tables, Ura, Val, WpFn, WpFn-mono, [], agg, alloc_all, and_then, by, done, drop, emp, ends_at, ent, enter, entered, fjoin, fld, free_all, fsep, fsplit, ftrue, get, get_in, ghosts, join, look_at, move, no, no_more, nothing, of_opd, pass_all, qed, raw, refl, returns, rewrite, says, sets, split, stay_dropped, stop, sub, subst, suffices, sym, tables, triple_of, type_at, vptr, walk_Meets, walk_of, whole, ‵, ◌$◌, ◌++◌, ◌∵◌, ◌∷◌, ◌⊛◌}
 use Rattle.latchsym_ffi.proofs.LooseValues.{both, loose_good, loose_out}
 use Rattle.latchsym_ffi.proofs.PointerValues.{R, Z, LZ, P, good, pointer_in, FromLoose as From}
 use Rattle.latchsym_ffi.specs.contracts.pointers.ContentPointer.of as F
