@@ -5,8 +5,9 @@
 #
 #     benches/gate.sh [--page] [CRATE..]
 #
-# With --page the table takes the place of the one in CONTRIBUTING.md. With names of crates it is of
-# these and of those below them. Needs python3.
+# With --page the table takes the place of the one in CONTRIBUTING.md, which has the crates that took
+# 600 processor seconds or more. With names of crates it is of these and of those below them. Needs
+# python3.
 set -euo pipefail
 top=$(cd "$(dirname "$0")/.." && pwd)
 page=
@@ -28,7 +29,16 @@ if [ "$status" -ne 0 ]; then
 fi
 if [ -n "$page" ]; then
     awk -v table="$work/table" '
-        /<!-- gate -->/ { print; print ""; while ((getline line < table) > 0) print "    " line; print ""; skipped = 1 }
+        function took(line, parts, i, sum) {
+            sum = 0
+            for (i = split(line, parts, " "); i > 1; i--) if (parts[i] ~ /\//) sum += substr(parts[i], index(parts[i], "/") + 1)
+            return sum
+        }
+        /<!-- gate -->/ {
+            print; print ""
+            while ((getline line < table) > 0) if (line ~ /^(crate|in all) / || took(line) >= 600) print "    " line
+            print ""; skipped = 1
+        }
         /<!-- end of the gate -->/ { skipped = 0 }
         !skipped' "$page" >"$work/page"
     cp "$work/page" "$page"

@@ -2,7 +2,8 @@
 # Builds the library for C, and runs the programs of tests/c and examples/c with it: the text of each
 # number, null pointers, what is found of addresses, views on several threads, the table on threads,
 # beside signals and at each stop of its writer, readers that are added, each request for memory
-# refused, code that is sampled while it comes and goes, the listings of examples/ as
+# refused, items replaced, code that is sampled while it comes and goes, a listing that is followed
+# while it changes, the listings of examples/ as
 # `latchsym lookup` answers, and its logs as `latchsym annotate` writes them; under valgrind and
 # sanitizers where these are there, and names of 700 bytes under gcc's own for addresses. Looks at
 # the object code that a call for signal handlers takes no memory. Needs gcc.
@@ -16,7 +17,7 @@ compile() {
     gcc -std=gnu11 -Wall -Wextra -Werror -O2 -I"$top/include" "$top/tests/c/$1.c" "$library" -lpthread -o "$work/$1" "${@:2}"
 }
 
-for name in numbers nulls find view table adding stops refused; do
+for name in numbers nulls find view table adding stops replace refused; do
     compile $name
     "$work/$name"
 done
@@ -87,6 +88,21 @@ for sanitizer in address thread; do
         "$work/profiler"
     fi
 done
+
+# a listing that is rewritten 1,000 times while it is followed; fewer times under two sanitizers
+follower() {
+    gcc -std=gnu11 -Wall -Wextra -Werror -O2 -g -I"$top/include" "$top/examples/c/follow.c" "$library" -lpthread -o "$1" "${@:2}"
+}
+if command -v python3 >/dev/null; then
+    build latchsym
+    follower "$work/follow"
+    python3 "$top/tests/c/follow.py" "$work/follow" "$program" 1000
+    for sanitizer in address thread; do
+        if follower "$work/follow_sanitize" -fsanitize=$sanitizer 2>/dev/null; then
+            python3 "$top/tests/c/follow.py" "$work/follow_sanitize" "$program" 100
+        fi
+    done
+fi
 
 # names of 700 bytes: those of a module and of a symbol
 long=$(printf '%0700d' 0)

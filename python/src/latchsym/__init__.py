@@ -3,11 +3,23 @@
 
 `Catalog` says which symbol and which module of a Linux kernel hold an address, from listings in the
 form of /proc/kallsyms and /proc/modules. `Table` is a table of address ranges whose readers never
-wait for its writer. Both are those of the library for C, `liblatchsym.so.1`, which is looked for
-where the environment's LATCHSYM_LIBRARY says and else where the system looks for libraries.
+wait for its writer, and `Follower` one that has the regions of a listing as it changes. They are
+those of the library for C, `liblatchsym.so.1`, which is looked for where the environment's LATCHSYM_LIBRARY says and else where the system looks for libraries.
 """
 
-from ._catalog import Answer, Answers, Catalog, Counts, Entry, Factors, Module, Region, Symbol, View
+from ._catalog import (
+    Answer,
+    Answers,
+    Catalog,
+    Counts,
+    Entry,
+    Factors,
+    Item,
+    Module,
+    Region,
+    Symbol,
+    View,
+)
 from ._errors import (
     BadCapacity,
     BadItem,
@@ -23,8 +35,9 @@ from ._errors import (
     SequenceSpent,
     UpdateInHand,
 )
+from ._follow import Follower, Sample
 from ._library import lib as _lib
-from ._table import Found, Item, Reader, Step, Table, Writer
+from ._table import Found, Reader, Step, Table, Writer
 
 __version__ = "1.1.0"
 
@@ -52,6 +65,7 @@ __all__ = [
     "Entry",
     "Error",
     "Factors",
+    "Follower",
     "Found",
     "Full",
     "Item",
@@ -62,6 +76,7 @@ __all__ = [
     "Reader",
     "Region",
     "Retry",
+    "Sample",
     "SequenceSpent",
     "Step",
     "Symbol",

@@ -1,0 +1,281 @@
+/* SPDX-License-Identifier: MIT OR Apache-2.0 */
+/* A profiler that follows a listing as it changes. One thread reads the listing again when its file has changed, or
+ * when it is told to by a line, and gives the table the regions that it has then, all at once. SIGPROF samples other
+ * threads, which look the address up in the handler and keep it with the generation of the answer. The main thread
+ * names each sample by the catalog that stood at its generation, and closes the catalogs that no sample can need any
+ * more.
+ *
+ *     follow KALLSYMS MODULES    an empty name of MODULES: modules come from the symbols
+ *
+ * This sampler has no kernel below it, so a handler draws an address in place of the one that it would be given.
+ * cc follow.c $(pkg-config --cflags --libs latchsym) -lpthread -o follow */
+#define _GNU_SOURCE
+#include <latchsym.h>
+#include <poll.h>
+#include <pthread.h>
+#include <signal.h>
+#include <stdatomic.h>
+#include <stdio.h>
+#include <stdlib.h>
+#include <string.h>
+#include <sys/stat.h>
+#include <sys/time.h>
+#include <unistd.h>
+
+enum { THREADS = 3, NODES = 4096, ROOM = 4096, MOST_TRIES = 1000, SECOND = 1000 };
+
+/* A listing and its catalog, from the generation on that shows its regions. */
+struct listing {
+    uint64_t generation;
+    struct latchsym_catalog catalog;
+    uint8_t *symbols, *modules;
+    size_t len; /* of the symbols */
+    struct listing *newer;
+};
+
+struct sample { uint64_t addr, generation; };
+
+/* Each thread has a reader, which only its handler uses, and a ring: the handler puts samples in at `put`, the main
+ * thread takes them out at `taken`. */
+struct thread {
+    pthread_t id;
+    struct latchsym_reader *reader;
+    uint64_t drawn;
+    struct sample ring[ROOM];
+    atomic_size_t put, taken;
+    atomic_long given_up, dropped;
+    uint64_t passed; /* the generation of the sample that was taken out last */
+};
+
+static const char *symbols_name, *modules_name;
+static struct thread threads[THREADS];
+static struct latchsym_writer writer;
+static struct listing *oldest, *newest;
+static pthread_mutex_t listings = PTHREAD_MUTEX_INITIALIZER;
+static atomic_ullong first_addr, span;
+static atomic_int ended;
+static _Thread_local struct thread *self;
+
+static void must(uint32_t answer) {
+    if (answer == LATCHSYM_DONE) return;
+    fprintf(stderr, "follow: %s\n", latchsym_text(answer));
+    exit(1);
+}
+
+/* ---- samples ---- */
+
+/* An address in place of the one that the kernel would hand over. */
+static uint64_t draw(struct thread *thread) {
+    thread->drawn ^= thread->drawn << 13, thread->drawn ^= thread->drawn >> 7, thread->drawn ^= thread->drawn << 17;
+    return atomic_load(&first_addr) + thread->drawn % atomic_load(&span);
+}
+
+/* The handler: no lock, no memory. A reader asks again only where the writer flipped meanwhile. */
+static void sample(int number) {
+    struct latchsym_found found;
+    uint64_t addr = draw(self);
+    size_t put = atomic_load(&self->put);
+    uint32_t answer = LATCHSYM_RETRY;
+    (void)number;
+    for (int tries = 0; answer == LATCHSYM_RETRY && tries < MOST_TRIES; tries++)
+        answer = latchsym_reader_try_find(self->reader, addr, &found);
+    if (answer == LATCHSYM_RETRY) {
+        atomic_fetch_add(&self->given_up, 1);
+    } else if (put - atomic_load(&self->taken) == ROOM) {
+        atomic_fetch_add(&self->dropped, 1);
+    } else {
+        self->ring[put % ROOM] = (struct sample){addr, found.generation};
+        atomic_store(&self->put, put + 1);
+    }
+}
+
+static void *work(void *thread) {
+    sigset_t prof;
+    volatile unsigned x = 1;
+    self = thread;
+    sigemptyset(&prof);
+    sigaddset(&prof, SIGPROF);
+    pthread_sigmask(SIG_UNBLOCK, &prof, NULL); /* the other threads have it blocked */
+    while (!atomic_load(&ended)) x = x * 1664525 + 1013904223;
+    pthread_sigmask(SIG_BLOCK, &prof, NULL);
+    return NULL;
+}
+
+/* ---- the listing ---- */
+
+/* The bytes of a file, with a place of their own also where there are none. */
+static uint8_t *read_file(const char *name, size_t *len) {
+    FILE *file = fopen(name, "rb");
+    size_t room = 1 << 16;
+    uint8_t *bytes = malloc(room);
+    if (!file || !bytes) perror(name), exit(1);
+    for (*len = 0; (room - *len) || (bytes = realloc(bytes, room *= 2));) {
+        size_t got = fread(bytes + *len, 1, room - *len, file);
+        if (!got) break;
+        *len += got;
+    }
+    fclose(file);
+    return bytes;
+}
+
+/* Shows the regions of the catalog to all readers, in one update. */
+static void show(struct listing *new) {
+    struct latchsym_sizes sizes;
+    struct latchsym_item *items;
+    uint64_t shown;
+    must(latchsym_catalog_sizes(&new->catalog, &sizes));
+    items = calloc(sizes.regions + 1, sizeof *items);
+    if (!items) must(LATCHSYM_OUT_OF_MEMORY);
+    must(latchsym_catalog_items(&new->catalog, items, sizes.regions));
+    must(latchsym_writer_begin_replace(&writer, items, sizes.regions));
+    /* It is in the list before a reader can find it: the next generation shows it. */
+    pthread_mutex_lock(&listings);
+    new->generation = newest ? newest->generation + 1 : 1;
+    newest = newest ? (newest->newer = new) : (oldest = new);
+    pthread_mutex_unlock(&listings);
+    must(latchsym_writer_finish(&writer, &shown));
+    if (sizes.regions) {
+        atomic_store(&first_addr, items[0].a);
+        atomic_store(&span, items[sizes.regions - 1].b - items[0].a);
+    }
+    printf("listing %llu: %zu regions of %zu bytes\n", (unsigned long long)shown, sizes.regions, new->len);
+    fflush(stdout);
+    free(items);
+}
+
+static void read_listing(void) {
+    struct listing *new = calloc(1, sizeof *new);
+    struct latchsym_listings given = LATCHSYM_LISTINGS_INIT;
+    struct latchsym_counts counts;
+    uint64_t line;
+    if (!new) must(LATCHSYM_OUT_OF_MEMORY);
+    new->symbols = read_file(symbols_name, &new->len);
+    given.kallsyms = (struct latchsym_place){new->symbols, new->len};
+    if (*modules_name) {
+        new->modules = read_file(modules_name, &given.modules.len);
+        given.modules.at = new->modules;
+        given.has_modules = 1;
+    }
+    must(latchsym_catalog_open(&given, &new->catalog, &counts, &line));
+    show(new);
+}
+
+static int has_changed(struct timespec *seen) {
+    struct stat file;
+    if (stat(symbols_name, &file)) return 0;
+    if (file.st_mtim.tv_sec == seen->tv_sec && file.st_mtim.tv_nsec == seen->tv_nsec) return 0;
+    *seen = file.st_mtim;
+    return 1;
+}
+
+/* Reads the listing again each time that a line says so, and each second in which it has changed. */
+static void *watch(void *unused) {
+    struct pollfd told = {STDIN_FILENO, POLLIN, 0};
+    struct timespec seen = {0, 0};
+    char bytes[256];
+    has_changed(&seen);
+    for (;;) {
+        ssize_t got = 0;
+        int ready = poll(&told, 1, SECOND);
+        if (ready > 0 && (got = read(STDIN_FILENO, bytes, sizeof bytes)) <= 0) break;
+        if (has_changed(&seen) || ready > 0) read_listing();
+    }
+    atomic_store(&ended, 1);
+    return unused;
+}
+
+/* ---- names ---- */
+
+/* The listing that stood at a generation: the last that was shown at it or before. */
+static struct listing *listing_of(uint64_t generation) {
+    struct listing *found;
+    pthread_mutex_lock(&listings);
+    for (found = oldest; found->newer && found->newer->generation <= generation;) found = found->newer;
+    pthread_mutex_unlock(&listings);
+    return found;
+}
+
+static void name_sample(const struct sample *it) {
+    struct latchsym_symbol symbol = LATCHSYM_SYMBOL_INIT;
+    uint32_t answer = latchsym_catalog_find(&listing_of(it->generation)->catalog, it->addr, &symbol);
+    printf("%llu 0x%llx ", (unsigned long long)it->generation, (unsigned long long)it->addr);
+    if (answer == LATCHSYM_NOTHING) puts("-");
+    else if (answer == LATCHSYM_NO_SYMBOL) printf("? [%.*s]\n", (int)symbol.module.len, (const char *)symbol.module.at);
+    else
+        printf("%.*s+0x%llx [%.*s]\n", (int)symbol.name.len, (const char *)symbol.name.at,
+               (unsigned long long)symbol.offset, (int)symbol.module.len, (const char *)symbol.module.at);
+}
+
+/* The samples of a thread that are there. Its reader's generations never fall, so none before that of the last one
+ * comes any more. */
+static long name_samples(struct thread *thread) {
+    size_t put = atomic_load(&thread->put), taken = atomic_load(&thread->taken);
+    long named = (long)(put - taken);
+    for (; taken != put; taken++) {
+        name_sample(&thread->ring[taken % ROOM]);
+        thread->passed = thread->ring[taken % ROOM].generation;
+    }
+    atomic_store(&thread->taken, taken);
+    return named;
+}
+
+static void close_listing(struct listing *old) {
+    latchsym_catalog_close(&old->catalog);
+    free(old->symbols), free(old->modules), free(old);
+}
+
+/* Closes each listing whose successor every thread has passed. */
+static void forget_what_all_passed(void) {
+    uint64_t passed = UINT64_MAX;
+    for (int i = 0; i < THREADS; i++)
+        if (threads[i].passed < passed) passed = threads[i].passed;
+    for (;;) {
+        struct listing *old = NULL;
+        pthread_mutex_lock(&listings);
+        if (oldest->newer && oldest->newer->generation <= passed) old = oldest, oldest = old->newer;
+        pthread_mutex_unlock(&listings);
+        if (!old) return;
+        close_listing(old);
+    }
+}
+
+int main(int count, char **words) {
+    static struct latchsym_reader readers[THREADS];
+    struct sigaction action = {.sa_handler = sample, .sa_flags = SA_RESTART};
+    struct itimerval each_ms = {{0, 1000}, {0, 1000}}, never = {{0, 0}, {0, 0}};
+    long named = 0, given_up = 0, dropped = 0;
+    pthread_t watcher;
+    sigset_t prof;
+    if (count != 3) return fprintf(stderr, "usage: follow KALLSYMS MODULES\n"), 2;
+    symbols_name = words[1], modules_name = words[2];
+    atomic_store(&span, 1);
+    sigemptyset(&prof);
+    sigaddset(&prof, SIGPROF);
+    pthread_sigmask(SIG_BLOCK, &prof, NULL);
+    must(latchsym_table_open(NODES, &writer, readers, THREADS));
+    read_listing();
+    sigaction(SIGPROF, &action, NULL);
+    for (int i = 0; i < THREADS; i++) {
+        threads[i].reader = &readers[i], threads[i].drawn = 88172645463325252u + (uint64_t)i, threads[i].passed = 1;
+        if (pthread_create(&threads[i].id, NULL, work, &threads[i])) return 1;
+    }
+    if (pthread_create(&watcher, NULL, watch, NULL)) return 1;
+    setitimer(ITIMER_PROF, &each_ms, NULL);
+    while (!atomic_load(&ended)) {
+        usleep(20000);
+        forget_what_all_passed();
+        for (int i = 0; i < THREADS; i++) named += name_samples(&threads[i]);
+    }
+    setitimer(ITIMER_PROF, &never, NULL);
+    pthread_join(watcher, NULL);
+    for (int i = 0; i < THREADS; i++) {
+        pthread_join(threads[i].id, NULL);
+        named += name_samples(&threads[i]);
+        given_up += threads[i].given_up, dropped += threads[i].dropped;
+        latchsym_reader_close(&readers[i]);
+    }
+    for (struct listing *next; oldest; oldest = next) next = oldest->newer, close_listing(oldest);
+    latchsym_writer_close(&writer);
+    fprintf(stderr, "follow: %ld samples named, %ld given up, %ld without room\n", named, given_up, dropped);
+    return 0;
+}
