@@ -199,11 +199,12 @@ static void name_sample(const struct sample *it) {
     struct latchsym_symbol symbol = LATCHSYM_SYMBOL_INIT;
     uint32_t answer = latchsym_catalog_find(&listing_of(it->generation)->catalog, it->addr, &symbol);
     printf("%llu 0x%llx ", (unsigned long long)it->generation, (unsigned long long)it->addr);
-    if (answer == LATCHSYM_NOTHING) puts("-");
-    else if (answer == LATCHSYM_NO_SYMBOL) printf("? [%.*s]\n", (int)symbol.module.len, (const char *)symbol.module.at);
+    if (answer == LATCHSYM_DONE)
+        printf("%.*s+0x%llx", (int)symbol.name.len, (const char *)symbol.name.at, (unsigned long long)symbol.offset);
     else
-        printf("%.*s+0x%llx [%.*s]\n", (int)symbol.name.len, (const char *)symbol.name.at,
-               (unsigned long long)symbol.offset, (int)symbol.module.len, (const char *)symbol.module.at);
+        putchar(symbol.module_number ? '?' : '-');
+    if (symbol.module_number) printf(" [%.*s]", (int)symbol.module.len, (const char *)symbol.module.at);
+    putchar('\n');
 }
 
 /* The samples of a thread that are there. Its reader's generations never fall, so none before that of the last one
