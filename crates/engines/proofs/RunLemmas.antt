@@ -1,23 +1,21 @@
 -- From the lines of a script, and from its text, to what its run returns.
-use Rattle.std.proofs.Common.{◌≡◌, ◌<◌, ◌≤◌, ℕ, List, [], Option, Some, None, Result, Ok, Err, true, false, refl, sym, subst}
-use Rattle.std.specs.Prelude.{IfSome, option_and_then}
+use Rattle.std.proofs.Common.{◌≡◌, ◌<◌, ◌≤◌, ℕ, List, [], Option, Some, Result, Ok, Err, true, refl, sym, subst}
+use Rattle.std.specs.Prelude.{IfSome}
 use Rattle.texts.specs.declared.output.Output.{Output}
 use Rattle.texts.specs.Output.{WroteAll, WrotePart}
 use Rattle.latch_table.specs.Limits.{most_readers}
 use Rattle.run_files.specs.declared.scripts.ScriptLine.{ScriptLine}
 use Rattle.run_files.specs.Scripts.{script_of}
 use Rattle.modules.specs.Entries.{CatalogEntries}
-use Rattle.modules.specs.Listed.{BoundNames, ListedRegion}
 use Rattle.modules.specs.Placed.{are_few}
 use Rattle.order_laws.specs.declared.refusals.Refusal.TheVariants as refusal
 use Rattle.engines.specs.declared.fault.Fault.{Fault}
 use Rattle.engines.specs.declared.fault.Fault.TheVariants.{Refused, Write}
-use Rattle.engines.specs.declared.lookup.ListingTexts.{ListingTexts}
-use Rattle.engines.specs.LookupInputs.{Inputs, catalog_in, inputs_after, notes_of, region_lines, region_lines_of_inputs, texts_in}
+use Rattle.engines.specs.LookupInputs.{Inputs, catalog_in, notes_of, region_lines_of_inputs}
 use Rattle.listing.specs.declared.listing_notes.ListingNotes.{ListingNotes}
 use Rattle.engines.specs.Faults.{with_notes}
 use Rattle.engines.specs.Readings.{HoldsOf}
-use Rattle.engines.specs.RunInputs.{RunInputs, run_inputs_after, run_inputs_of, run_inputs_with, run_options}
+use Rattle.engines.specs.RunInputs.{RunInputs, run_inputs_with}
 use Rattle.engines.specs.Runs.{AnswersLines, AnswersRun, FitsRun, IsRun, IsRunOf, IsServed, MayRun, TellsServed, status_of}
 use Rattle.engines.specs.Assignments.{IsAssigned}
 use Rattle.engines.specs.declared.assignments.Assignments.{Assignments}
@@ -50,9 +48,6 @@ module _ {W : Type 0} (contents : W → Option (List ℕ)) (i : Inputs) (readers
   holds : (P : RunInputs → Type 0) → P (record { listings = i; lines = lines }) → IfSome known (HoldsOf P)
   holds P p = subst (λ r. HoldsOf P (run_inputs_with i r)) (sym said) p
 
-  pub too_many_of_one : are_few (region_lines_of_inputs i) ≡ false → AnswersRun contents readers known [] w w (Err (Refused refusal.TooManyRegions))
-  too_many_of_one many = (tt, refl, holds _ many)
-
   pub script_answered : (c : CatalogEntries) (notes : ListingNotes) → are_few (region_lines_of_inputs i) ≡ true → c ≡ catalog_in i
       → notes ≡ notes_of i
       → (r : Result ℕ Fault) → AnswersLines contents c readers lines w w' r → AnswersRun contents readers known [] w w' (with_notes notes r)
@@ -65,27 +60,3 @@ module _ {W : Type 0} (contents : W → Option (List ℕ)) (i : Inputs) (readers
       let (may, (status, run)) = h in
       (tt, run.2.3.0, holds (λ j. IsRunOf contents readers w w' j (Err Write)) ((few, subst (λ c. MayRun c readers) is may), (status, subst (λ c. IsRun (WrotePart contents w w') c readers lines status) is run)))
   script_answered c notes few is noted (Err _) h = absurd h
-
--- the inputs that the texts of listings are, with these region lines
-abbrev pub listings_with : BoundNames → ListingTexts → Option (List ListedRegion) → Inputs
-listings_with names t lines =
-    record { options = run_options names; modules = t.modules.items; kallsyms = t.kallsyms.items; regions = lines; addresses = [] }
-
--- what holds of the inputs that were read holds of those that are known
-module _ (P : Result RunInputs (ℕ × ℕ) → Type 0) (names : BoundNames) (readers : ℕ) (t : ListingTexts) where
-  abbrev Behind : Option (List ℕ) → Result (Option (List ListedRegion)) ℕ → Type 0
-  Behind file lines = IfSome (option_and_then (run_inputs_after readers file) (inputs_after (run_options names) [] (texts_in t) lines (Some None))) P
-
-  with_script : (i : Inputs) (file : Option (List ℕ)) (text : List ℕ) → IfSome file (λ x. text ≡ x)
-      → P (run_inputs_with i (script_of readers text)) → IfSome (run_inputs_after readers file (Ok i)) P
-  with_script i None text is p = tt
-  with_script i (Some x) text is p = subst (λ s. P (run_inputs_with i (script_of readers s))) is p
-
-  pub run_known : (lines : Option (List ListedRegion)) (file : Option (List ℕ)) (text : List ℕ) → region_lines (texts_in t).regions ≡ Ok lines
-      → IfSome file (λ x. text ≡ x) → P (run_inputs_with (listings_with names t lines) (script_of readers text))
-      → IfSome (run_inputs_of names readers file (texts_in t)) P
-  run_known lines file text read is p = subst (Behind file) (sym read) (with_script (listings_with names t lines) file text is p)
-
-  pub bad_region : (n : ℕ) (file : Option (List ℕ)) → region_lines (texts_in t).regions ≡ Err n → P (Err (2, n))
-      → IfSome (run_inputs_of names readers file (texts_in t)) P
-  bad_region n file bad p = subst (Behind file) (sym bad) p

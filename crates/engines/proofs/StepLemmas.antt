@@ -1,6 +1,6 @@
 -- What is done and written of a trace whose steps are told, one event and one command after another.
 use Rattle.std.proofs.Common.{◌≡◌, ℕ, ◌+◌, ◌<◌, Bool, true, false, true≢false, List, [], ◌∷◌, ◌++◌, length, take, get_or, Option, None, Ok, refl, sym, ◌∙◌, ap, subst, arith, append_assoc, append-nil, length-append, length-take-le, inl, inr, Err}
-use Rattle.std.specs.Prelude.{Result, OnOk, IfSome, slice_get}
+use Rattle.std.specs.Prelude.{IfSome, slice_get}
 use Rattle.facts.proofs.Lists.{take_push}
 use Rattle.std.proofs.Math.Seq.{take-length}
 use Rattle.std.proofs.lemmas.Option.{slice_get_read}
@@ -31,11 +31,6 @@ use Rattle.engines.specs.StepTraces.{AnswersStepsIn, AreTold, IsStepsText}
 use Rattle.engines.specs.Traces.{HeaderMayOpen, greatest_of}
 use Rattle.engines.specs.declared.fault.Fault.{Fault}
 use Rattle.engines.specs.declared.fault.Fault.TheVariants.{Write as WriteFault}
-
--- what an answer says that it gives where another holds
-pub on_ok : {A E P Q : Type 0} (r : Result A E) → (P → Q) → OnOk r P → OnOk r Q
-on_ok (Ok x) f p = f p
-on_ok (Err e) f p = tt
 
 -- only a beginning and a start may be refused because memory ran out, and these load nothing
 pub steady : {O : Type 0} (o : Order ℕ) (old new : World O ℕ) (e : Event ℕ) (r : Reply ℕ) → IsWorldStep o old e r new → takes_memory e ≡ false → Does o old e r new

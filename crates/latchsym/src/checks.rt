@@ -19,11 +19,11 @@ use crate::command_line::ListingFiles;
 use crate::note_texts::put_note_where;
 use engines::{
     FAILED, Fault, GivenTexts, ListingReaders, LookupInputs, LookupOptions, SUCCEEDED,
-    bounds_or_usual, listings_in, put_counts, put_found_counts, read_given, region_lines_in,
+    bounds_or_usual, listings_in, read_given, region_lines_in,
 };
 use listing::{
     AddressRule, ListingNote, Listings, SymbolFacts, SymbolListing, applies_to_kallsyms,
-    applies_to_modules, open_symbols,
+    applies_to_modules, open_symbols, put_counts,
 };
 use modules::{Asked, Catalog, KernelBounds};
 use std::alloc::Global;
@@ -181,7 +181,7 @@ fn put_listings_report<W: Write>(
         listings.symbols_hidden,
         listings.built.symbols,
     );
-    put_counts(writer, listings);
+    put_counts(writer, &listings.tallies());
 }
 
 /// The name of the file of modules, which is empty where there is none.
@@ -226,7 +226,7 @@ fn put_symbols_report<W: Write>(
         listing.hidden,
         listing.kept.symbols,
     );
-    put_found_counts(writer, listing);
+    put_counts(writer, &listing.tallies());
 }
 
 /// Writes the line of each note that applies to a listing of modules with this text beside one of

@@ -24,11 +24,12 @@ mod opening;
 mod overlaps;
 mod region_listing;
 mod symbol_listing;
+mod tallies;
 
 pub use address_rules::{AddressRule, Callers, LogRule};
 pub use addresses::read_addresses;
 pub use annotation::{LogFault, annotate};
-pub use answers::{farther, sought, write_answer, write_answer_by};
+pub use answers::{Answer, answer_of, farther, put_answer, sought};
 pub use causes::{Cause, Counts, each_line_is_counted_once};
 pub use laws::{
     addresses_by_their_lines, each_listed_line_is_counted_once, left_out_modules_overlap,
@@ -50,3 +51,4 @@ pub use symbol_listing::{
     ListedSymbols, SkippedSymbol, SymbolCounts, cut, cut_tabbed_line, is_mapping, is_narrow,
     read_kallsyms, symbol_of_line,
 };
+pub use tallies::{LineTallies, LineTally, Row, put_counts};
