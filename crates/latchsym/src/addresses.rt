@@ -1,14 +1,11 @@
 //! From the bytes of listings and from names to the lines that say where the symbols are.
-ghost use Rattle.std.specs.Prelude.{◌≡◌, [], map, unwrap_or, Some};
+ghost use Rattle.std.specs.Prelude.{◌≡◌, [], map, Some};
 ghost use Rattle.std.specs.Option.{option_copied};
-ghost use Rattle.texts.specs.Output.{Says};
 ghost use Rattle.latchsym.specs.Addresses.{AnswersGiven, AnswersNames};
-ghost use Rattle.latchsym.specs.AddressTexts.{words_text};
-ghost use Rattle.latchsym.specs.KeptSymbols.{found_by};
 ghost use Rattle.engines.specs.OpenedCatalogs.{given_in, known_given, listing_failures};
 
 use crate::address_texts::{AddressForm, put_words};
-use crate::kept_symbols::{SoughtSymbols, symbols_sought};
+use crate::kept_symbols::symbols_sought;
 use engines::{Fault, GivenTexts, ListingReaders, open_catalog, read_given};
 use listing::ListingNotes;
 use modules::{IndexedCatalog, KernelBounds};
@@ -54,23 +51,10 @@ fn answer_names<W: Write>(
     let notes = opened.notes;
     let index = IndexedCatalog::new(alloc, opened.catalog)?;
     let sought = symbols_sought(alloc, &index, &texts.kallsyms, words)?;
-    put_all(writer, form, &sought, words);
+    put_words(writer, form, &sought, words);
+    writer.flush();
     if writer.has_failed() {
         return Err(Fault::Write);
     }
     Ok(notes)
-}
-
-/// Writes the lines of all words, and lets the writer keep nothing back.
-fn put_all<W: Write>(
-    writer: &mut Output<W>,
-    form: AddressForm,
-    sought: &SoughtSymbols<'_, '_>,
-    words: &[&str],
-)
-    ensures { Says W.contents writer.old writer.new (words_text form
-        (λ name. unwrap_or (found_by sought.now name) []) (map (λ w. w.now) words.now)) }
-{
-    put_words(writer, form, sought, words);
-    writer.flush();
 }

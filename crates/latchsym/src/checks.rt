@@ -145,23 +145,6 @@ fn put_listings<W: Write>(
     ensures { Says W.contents writer.old writer.new
         (listings_report files.now (inputs_in inputs.now) listings.now) }
 {
-    put_listings_report(writer, files, inputs, listings);
-    writer.flush();
-}
-
-fn put_listings_report<W: Write>(
-    writer: &mut Output<W>,
-    files: &ListingFiles<'_>,
-    inputs: &LookupInputs<'_, '_>,
-    listings: &Listings,
-)
-    requires modules { listings.now.modules_hidden
-        ≡ are_modules_hidden (lines_of inputs.now.modules.now) }
-    requires symbols { listings.now.symbols_hidden
-        ≡ are_symbols_hidden (lines_of inputs.now.kallsyms.now) }
-    ensures { Says W.contents writer.old writer.new
-        (listings_report files.now (inputs_in inputs.now) listings.now) }
-{
     let names = &inputs.options.kernel;
     let modules = modules_name(files).as_bytes();
     put_module_notes(
@@ -182,6 +165,7 @@ fn put_listings_report<W: Write>(
         listings.built.symbols,
     );
     put_counts(writer, &listings.tallies());
+    writer.flush();
 }
 
 /// The name of the file of modules, which is empty where there is none.
@@ -203,21 +187,6 @@ fn put_symbol_listing<W: Write>(
     ensures { Says W.contents writer.old writer.new
         (symbol_listing_report names.now file.now kallsyms.now listing.now) }
 {
-    put_symbols_report(writer, names, file, kallsyms, listing);
-    writer.flush();
-}
-
-fn put_symbols_report<W: Write>(
-    writer: &mut Output<W>,
-    names: &KernelBounds,
-    file: &str,
-    kallsyms: &[u8],
-    listing: &SymbolListing,
-)
-    requires { listing.now.hidden ≡ are_symbols_hidden (lines_of kallsyms.now) }
-    ensures { Says W.contents writer.old writer.new
-        (symbol_listing_report names.now file.now kallsyms.now listing.now) }
-{
     put_symbol_notes(
         writer,
         names,
@@ -227,6 +196,7 @@ fn put_symbols_report<W: Write>(
         listing.kept.symbols,
     );
     put_counts(writer, &listing.tallies());
+    writer.flush();
 }
 
 /// Writes the line of each note that applies to a listing of modules with this text beside one of

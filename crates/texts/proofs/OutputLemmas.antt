@@ -108,20 +108,11 @@ pub failed_is_said : {W : Type 0} {contents : W → Option (List ℕ)} {old new 
     → Keeps (contents (writer_of old)) (contents (writer_of new)) → Says contents old new text
 failed_is_said {W} {contents} {old} {new} {text} sound failed kept = lost_is_said text failed (taken_is_said sound (appends_nothing _ _ kept))
 
-appends_kept : (a b : Option (List ℕ)) → Appends a b [] → Keeps a b
-appends_kept None b took = tt
-appends_kept (Some x) None took = absurd took
-appends_kept (Some x) (Some y) took = took ∙ append-nil x
-
 -- the same where the call took nothing
 pub untaken_is_said : {W : Type 0} {contents : W → Option (List ℕ)} {old new : Output W} {text : List ℕ} → has_failed old ≡ false → has_failed new ≡ true → (n : ℕ) (bytes : List ℕ) → n ≡ 0
     → Appends (contents (writer_of old)) (contents (writer_of new)) (take n bytes) → Says contents old new text
 untaken_is_said {W} {contents} {old} {new} sound failed n bytes none took =
-    failed_is_said sound failed (appends_kept _ _ (subst (λ k. Appends (contents (writer_of old)) (contents (writer_of new)) (take k bytes)) none took))
-
-pub empty_text : (text : List ℕ) → length text ≡ 0 → [] ≡ text
-empty_text [] none = refl
-empty_text (byte ∷ text) none = absurd (omega (arith, none))
+    lost_is_said _ failed (taken_is_said sound (subst (λ k. Appends (contents (writer_of old)) (contents (writer_of new)) (take k bytes)) none took))
 
 -- the bytes that were taken move to those that are said
 pub moved_front : (all done rest : List ℕ) (n : ℕ) → all ≡ done ++ rest → all ≡ (done ++ take n rest) ++ take (length rest - n) (drop n rest)

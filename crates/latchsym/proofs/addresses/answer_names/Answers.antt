@@ -1,6 +1,7 @@
-use Rattle.std.proofs.Common.{[], ◌∙◌, map, subst, sym}
+use Rattle.std.proofs.Common.{[], append-nil, ◌∙◌, map, subst, sym}
 use Rattle.std.specs.Prelude.{unwrap_or}
 use Rattle.std.specs.Option.{option_copied}
+use Rattle.texts.proofs.OutputLemmas.{same_text, then}
 use Rattle.latchsym.specs.AddressTexts.{words_text}
 use Rattle.latchsym.specs.KeptSymbols.{IsSought, found_by, kept_symbols}
 use Rattle.engines.specs.OpenedCatalogs.{IsCatalogOf, given_in}
@@ -33,9 +34,9 @@ returns g c =
     let kept = kept_symbols index (symbols_in (lines_of given.kallsyms)) in
     let says = subst (λ x. IsCatalogOf kernel given x notes) (sym c.in_ok-index.ensures) c.in_ok-opened.ensures in
     let has = subst (λ text. IsSought words (kept_symbols index (symbols_in (lines_of text))) m) c.deref.ensures.value c.in_ok-sought.ensures in
-    was_written g.W.Write.contents a.form kernel words given a.writer.now c.put_all.new.writer index notes says
+    was_written g.W.Write.contents a.form kernel words given a.writer.now c.flush.new.self index notes says
     (words_text a.form (λ name. unwrap_or (found_by m name) []) words) (text_by_map a.form words kept m has)
-    c.put_all.ensures (sym c.has_failed.ensures ∙ c.if-has_failed.false)
+    (same_text (append-nil _) (then c.put_words.ensures c.flush.ensures)) (sym c.has_failed.ensures ∙ c.if-has_failed.false)
 
 pub returns-then-has_failed : goal.returns-then-has_failed
 returns-then-has_failed g c =
@@ -49,6 +50,6 @@ returns-then-has_failed g c =
     let kept = kept_symbols index (symbols_in (lines_of given.kallsyms)) in
     let says = subst (λ x. IsCatalogOf kernel given x notes) (sym c.in_ok-index.ensures) c.in_ok-opened.ensures in
     let has = subst (λ text. IsSought words (kept_symbols index (symbols_in (lines_of text))) m) c.deref.ensures.value c.in_ok-sought.ensures in
-    was_not_written g.W.Write.contents a.form kernel words given a.writer.now c.put_all.new.writer index notes says
+    was_not_written g.W.Write.contents a.form kernel words given a.writer.now c.flush.new.self index notes says
     (words_text a.form (λ name. unwrap_or (found_by m name) []) words) (text_by_map a.form words kept m has)
-    c.put_all.ensures (sym c.has_failed.ensures ∙ c.if-has_failed.true)
+    (same_text (append-nil _) (then c.put_words.ensures c.flush.ensures)) (sym c.has_failed.ensures ∙ c.if-has_failed.true)

@@ -1,8 +1,9 @@
-use Rattle.std.proofs.Common.{◌∙◌, ap}
+use Rattle.std.proofs.Common.{append-nil, ◌∙◌, ap}
 use Rattle.texts.proofs.OutputLemmas.{same_text, then}
 use Rattle.listing.specs.ListingNotes.{is_of_kallsyms, is_of_modules}
+use Rattle.listing.specs.Tallies.{counts_text}
 use Rattle.latchsym.specs.NoteTexts.{applying_lines}
-use Rattle.latchsym.proofs.checks.put_listings_report.Goals as goal
+use Rattle.latchsym.proofs.checks.put_listings.Goals as goal
 
 pub returns : goal.returns
 returns g c =
@@ -11,5 +12,5 @@ returns g c =
     let names = i.options.now.kernel in
     let of_modules = ap (λ file. applying_lines names file (is_of_modules i.modules.now i.kallsyms.now l.catalog)) (c.as_bytes-modules.ensures.value ∙ c.modules_name.ensures) in
     let of_symbols = ap (λ file. applying_lines names file (is_of_kallsyms names i.kallsyms.now l.built.symbols)) c.as_bytes.ensures.value in
-    then (then (same_text of_modules c.put_module_notes.ensures) (same_text of_symbols c.put_symbol_notes.ensures))
-    c.put_counts.ensures
+    same_text (append-nil _) (then (then (then (same_text of_modules c.put_module_notes.ensures) (same_text of_symbols c.put_symbol_notes.ensures))
+    (same_text (ap counts_text c.tallies.ensures) c.put_counts.ensures)) c.flush.ensures)
