@@ -6,6 +6,8 @@ mod WorldOpeningLemmas
 mod CatalogLoadLemmas
 -- the same answer, where more is known of what was read
 mod InputLemmas
+-- what is returned where all that was said is written, or a beginning of it
+mod WrittenLemmas
 -- one line more of a script
 mod AssignmentLemmas
 -- from the lines of a script to its text

@@ -35,7 +35,7 @@ pub fn answers_of(
 {
     let mut world = open_for(alloc, catalog)?;
     load_all(&mut world, catalog)?;
-    let mut answers = Vec::new(alloc);
+    let mut answers = Vec::with_capacity(alloc, addresses.len())?;
     for addr in addresses {
         let answer = look_up(&mut world, rule, *addr)?;
         answers.push(answer)?;
