@@ -96,11 +96,6 @@ module _ {O : Type 0} (o : Order ℕ) where
         way.gathers,
       )
 
-      pub way_faulted : (fault : Fault) → IsLinesFault left fault → IsLinesFault said fault
-      way_faulted (Refused refusal.OutOfMemory) is = is
-      way_faulted (BadLine place n) is = (is.0, bad_said way.front left said way.whole n is.1)
-      way_faulted _ is = absurd is
-
 -- the text of all commands is that of a run
 pub run_text : (o : Order ℕ) (h : Header) (layout : Layout) (commands : List (Command ℕ)) (notes : List (Note ℕ)) (last : ℕ) (text : List ℕ)
     → capacity_of layout ≡ h.capacity → limit_of layout ≡ greatest_of h.version

@@ -6,16 +6,12 @@ mod WorldOpeningLemmas
 mod CatalogLoadLemmas
 -- the same answer, where more is known of what was read
 mod InputLemmas
--- from the files that a lookup reads to what it returns
-mod LookupReadingLemmas
+-- what is returned where all that was said is written, or a beginning of it
+mod WrittenLemmas
 -- one line more of a script
 mod AssignmentLemmas
 -- from the lines of a script to its text
 mod RunLemmas
--- from the text of a listing of symbols alone to the readers that it was read from
-mod SymbolInputLemmas
--- from what was read of listings to the catalog that they say
-mod OpenedCatalogLemmas
 -- the text that bytes are, from one byte that is no part of it to the next
 mod JsonLemmas
 -- digits in front of what stands in a room for a line

@@ -1,23 +1,21 @@
 -- From the lines of a script, and from its text, to what its run returns.
-use Rattle.std.proofs.Common.{◌≡◌, ◌<◌, ◌≤◌, ℕ, List, [], Option, Some, None, Result, Ok, Err, true, false, refl, sym, subst}
-use Rattle.std.specs.Prelude.{IfSome, option_and_then}
+use Rattle.std.proofs.Common.{◌≡◌, ◌<◌, ◌≤◌, ℕ, List, [], Option, Some, Result, Ok, Err, true, refl, sym, subst}
+use Rattle.std.specs.Prelude.{IfSome}
 use Rattle.texts.specs.declared.output.Output.{Output}
 use Rattle.texts.specs.Output.{WroteAll, WrotePart}
 use Rattle.latch_table.specs.Limits.{most_readers}
 use Rattle.run_files.specs.declared.scripts.ScriptLine.{ScriptLine}
 use Rattle.run_files.specs.Scripts.{script_of}
 use Rattle.modules.specs.Entries.{CatalogEntries}
-use Rattle.modules.specs.Listed.{BoundNames, ListedRegion}
 use Rattle.modules.specs.Placed.{are_few}
 use Rattle.order_laws.specs.declared.refusals.Refusal.TheVariants as refusal
 use Rattle.engines.specs.declared.fault.Fault.{Fault}
 use Rattle.engines.specs.declared.fault.Fault.TheVariants.{Refused, Write}
-use Rattle.engines.specs.declared.lookup.ListingTexts.{ListingTexts}
-use Rattle.engines.specs.LookupInputs.{Inputs, catalog_in, inputs_after, notes_of, region_lines, region_lines_of_inputs, texts_in}
+use Rattle.engines.specs.LookupInputs.{Inputs, catalog_in, notes_of, region_lines_of_inputs}
 use Rattle.listing.specs.declared.listing_notes.ListingNotes.{ListingNotes}
 use Rattle.engines.specs.Faults.{with_notes}
 use Rattle.engines.specs.Readings.{HoldsOf}
-use Rattle.engines.specs.RunInputs.{RunInputs, run_inputs_after, run_inputs_of, run_inputs_with, run_options}
+use Rattle.engines.specs.RunInputs.{RunInputs, run_inputs_with}
 use Rattle.engines.specs.Runs.{AnswersLines, AnswersRun, FitsRun, IsRun, IsRunOf, IsServed, MayRun, TellsServed, status_of}
 use Rattle.engines.specs.Assignments.{IsAssigned}
 use Rattle.engines.specs.declared.assignments.Assignments.{Assignments}

@@ -48,7 +48,11 @@ abbrev pub with_status : Result ListingNotes Fault → Result Finished Fault
 with_status (Ok notes) = with_notes notes (Ok 0)
 with_status (Err fault) = Err fault
 
+-- the notes of a job that came to this
+abbrev pub noted : ListingNotes → Result (Unit {0}) Fault → Result ListingNotes Fault
+noted notes (Ok _) = Ok notes
+noted notes (Err fault) = Err fault
+
 -- a job without listings has no notes
 abbrev pub without_notes : Result (Unit {0}) Fault → Result ListingNotes Fault
-without_notes (Ok _) = Ok no_notes
-without_notes (Err fault) = Err fault
+without_notes = noted no_notes

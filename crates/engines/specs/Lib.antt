@@ -15,10 +15,10 @@ pub mod CatalogTables
 pub mod LoadedWorlds
 -- values of JSON (RFC 8259)
 pub mod Json
+-- the lines that are written as JSON
+pub mod JsonTexts
 -- the lines that a lookup of addresses writes
 pub mod LookupTexts
--- the same lines as JSON
-pub mod JsonTexts
 -- the lines that the steps of a trace write
 pub mod StepTexts
 -- what is put into a room for such a line
@@ -29,8 +29,6 @@ pub mod EventLines
 pub mod StepTraces
 -- what one event and one command of it do, while it is run
 pub mod StepRuns
--- in which form answers are written
-pub mod AnswerForms
 -- what an engine returns that reads files one after the other
 pub mod Readings
 -- what a lookup of addresses reads, and what that says

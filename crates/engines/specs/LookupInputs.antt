@@ -1,20 +1,16 @@
 -- What a lookup of addresses reads, and what that says.
-use Rattle.std.specs.Prelude.{ℕ, length, List, [], Option, Some, None, Result, Ok, Err}
-use Rattle.std.specs.Prelude.{find, option_and_then, unwrap_or}
+use Rattle.std.specs.Prelude.{ℕ, List, [], Option, Some, None, Result, Ok, Err}
+use Rattle.std.specs.Prelude.{option_and_then, unwrap_or}
 use Rattle.std.specs.Option.{option_map}
 use Rattle.texts.specs.declared.counted.Counted.{Counted}
 use Rattle.texts.specs.Counted.{device_of}
 use Rattle.listing.specs.Addresses.{addresses_of}
-use Rattle.texts.specs.Lines.{lines_of}
-use Rattle.listing.specs.ListingNotes.{all_notes, is_of_kallsyms, is_of_modules}
+use Rattle.listing.specs.Opening.{catalog_of_texts, counts_of_texts, notes_of_texts}
 use Rattle.listing.specs.declared.listing_notes.ListingNotes.{ListingNotes}
-use Rattle.listing.specs.ModuleListing.{modules_in}
 use Rattle.texts.specs.Said.{entries_after}
-use Rattle.listing.specs.SymbolListing.{symbols_in, symbols_with}
 use Rattle.modules.specs.declared.catalog.BuildCounts.{BuildCounts}
-use Rattle.modules.specs.Catalogs.{build_of_listed, catalog_of, counts_of}
 use Rattle.modules.specs.Entries.{CatalogEntries}
-use Rattle.modules.specs.Listed.{ListedRegion, ListedSymbol}
+use Rattle.modules.specs.Listed.{ListedRegion}
 use Rattle.engines.specs.declared.lookup.ListingTexts.{ListingTexts}
 use Rattle.engines.specs.declared.lookup.LookupInputs.{LookupInputs}
 use Rattle.engines.specs.declared.lookup.LookupOptions.{LookupOptions}
@@ -101,24 +97,16 @@ inputs_in i = record {
 abbrev pub region_lines_of_inputs : Inputs → List ListedRegion
 region_lines_of_inputs i = unwrap_or i.regions []
 
--- the symbols that are listed, and those of them that the catalog may keep
-abbrev pub all_symbols : Inputs → List ListedSymbol
-all_symbols i = symbols_in (lines_of i.kallsyms)
-
-abbrev pub symbols_of_inputs : Inputs → List ListedSymbol
-symbols_of_inputs i = symbols_with i.options.with_mapping (all_symbols i)
-
 -- the catalog that the listings say, and how many of their entries went where
-unfoldable pub catalog_in : Inputs → CatalogEntries
+abbrev pub catalog_in : Inputs → CatalogEntries
 catalog_in i =
-    catalog_of (Some i.options.kernel) (modules_in (lines_of i.modules)) (region_lines_of_inputs i)
-    (symbols_of_inputs i)
+    catalog_of_texts (Some i.options.kernel) i.options.with_mapping i.modules i.kallsyms
+    (region_lines_of_inputs i)
 
-unfoldable pub counts_in : Inputs → BuildCounts
+abbrev pub counts_in : Inputs → BuildCounts
 counts_in i =
-    build_of_listed (length (all_symbols i))
-    (counts_of (Some i.options.kernel) (modules_in (lines_of i.modules)) (region_lines_of_inputs i)
-    (symbols_of_inputs i))
+    counts_of_texts (Some i.options.kernel) i.options.with_mapping i.modules i.kallsyms
+    (region_lines_of_inputs i)
 
 -- what a reader gives that may be there, where that is known
 abbrev pub known_text : {A : Type 0} → (A → Option (List ℕ)) → Option (Counted A)
@@ -143,7 +131,6 @@ known_inputs modules kallsyms regions addresses readers options given =
 
 -- of each listing the first note that applies to it
 abbrev pub notes_of : Inputs → ListingNotes
-notes_of i = record {
-  modules = find (is_of_modules i.modules i.kallsyms (catalog_in i)) all_notes;
-  kallsyms = find (is_of_kallsyms i.options.kernel i.kallsyms (counts_in i).symbols) all_notes;
-}
+notes_of i =
+    notes_of_texts (Some i.options.kernel) i.options.with_mapping i.modules i.kallsyms
+    (region_lines_of_inputs i)

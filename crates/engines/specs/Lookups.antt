@@ -1,57 +1,42 @@
 -- What is written for the listings and the addresses that are asked for.
-use Rattle.std.specs.Prelude.{◌≡◌, ℕ, List, [], ◌∷◌, ◌++◌, map, flat_map, Bool, true, false}
-use Rattle.std.specs.Prelude.{if◌then◌else◌, is_some, Option, Result, Ok, Err, IfSome}
+use Rattle.std.specs.Prelude.{◌≡◌, ℕ, List, [], ◌∷◌, true, false, is_some}
+use Rattle.std.specs.Prelude.{Option, Some, Result, Ok, Err, IfSome}
 use Rattle.std.specs.Global.{Vec}
 use Rattle.std.specs.Option.{option_map}
 use Rattle.texts.specs.Counted.{Rose, failures_of}
-use Rattle.order_laws.specs.declared.refusals.Refusal.TheVariants as refusal
 use Rattle.texts.specs.Lines.{lines_of}
 use Rattle.texts.specs.declared.output.Output.{Output}
 use Rattle.texts.specs.Output.{WroteAll, WrotePart}
-use Rattle.listing.specs.Looks.{are_modules_hidden, are_symbols_hidden}
-use Rattle.listing.specs.ModuleListing.{module_counts}
-use Rattle.listing.specs.SymbolListing.{symbol_counts}
-use Rattle.modules.specs.declared.catalog.BuildCounts.{BuildCounts}
+use Rattle.order_laws.specs.declared.refusals.Refusal.TheVariants as refusal
+use Rattle.modules.specs.Entries.{CatalogEntries}
 use Rattle.modules.specs.Listed.{ListedRegion}
 use Rattle.modules.specs.Placed.{are_few}
-use Rattle.engines.specs.CatalogTables.{HasFewRegions, HasManyRegions, answer_at}
+use Rattle.listing.specs.ModuleListing.{module_counts}
+use Rattle.listing.specs.Opening.{AreOpened}
+use Rattle.listing.specs.SymbolListing.{symbol_counts}
+use Rattle.listing.specs.Tallies.{Tallies, tallies_by}
+use Rattle.listing.specs.declared.listing_notes.ListingNotes.{ListingNotes}
+use Rattle.listing.specs.declared.opening.Listings.{Listings}
+use Rattle.engines.specs.CatalogTables.{HasFewRegions, HasManyRegions}
 use Rattle.engines.specs.LookupInputs.{Inputs, all_addresses, catalog_in, counts_in}
 use Rattle.engines.specs.LookupInputs.{notes_of, region_lines, region_lines_of_inputs}
-use Rattle.engines.specs.AnswerForms.{counts_by, line_by}
-use Rattle.engines.specs.JsonTexts.{json_counts}
-use Rattle.engines.specs.LookupTexts.{modules_line, regions_line, symbols_line}
+use Rattle.engines.specs.LookupTexts.{lookup_lines}
 use Rattle.engines.specs.Readings.{AnswersInputs, Failures, failures_in}
 use Rattle.engines.specs.declared.fault.Fault.{Fault}
 use Rattle.engines.specs.declared.fault.Fault.TheVariants.{Refused, BadLine, Read, Write}
 use Rattle.engines.specs.declared.forms.AnswerForm.{AnswerForm}
-use Rattle.listing.specs.declared.listing_notes.ListingNotes.{ListingNotes}
-use Rattle.listing.specs.declared.opening.Listings.{Listings}
 use Rattle.engines.specs.declared.lookup.LookupReaders.{LookupReaders}
 
--- the line of counts of a listing of regions, where there is one
-abbrev pub regions_line_of : Bool → BuildCounts → List ℕ
-regions_line_of given built = if given then regions_line built else []
-
--- the lines of counts
-abbrev pub count_lines : Inputs → List ℕ
-count_lines i =
-    modules_line (module_counts (lines_of i.modules)) (counts_in i)
-    ++ symbols_line (symbol_counts (lines_of i.kallsyms)) (counts_in i).symbols (counts_in i).stray
-    ++ regions_line_of (is_some i.regions) (counts_in i)
-
--- the same counts as JSON
-abbrev pub json_count_line : Inputs → List ℕ
-json_count_line i =
-    json_counts (module_counts (lines_of i.modules)) (symbol_counts (lines_of i.kallsyms))
+-- where the lines of the listings went
+abbrev pub tallies_in : Inputs → Tallies
+tallies_in i =
+    tallies_by (module_counts (lines_of i.modules)) (symbol_counts (lines_of i.kallsyms))
     (is_some i.regions) (counts_in i)
 
 -- a line for each address, and then the counts, in this form
 abbrev pub lookup_text : AnswerForm → Inputs → List ℕ
 lookup_text form i =
-    let c = catalog_in i in
-    let rule = i.options.rule in
-    flat_map (line_by form c rule) (map (answer_at c rule) i.addresses)
-    ++ counts_by form (count_lines i) (json_count_line i)
+    lookup_lines form (catalog_in i) i.options.rule i.addresses (tallies_in i)
 
 -- no module has too many region lines, and a table of all regions has so many nodes at most
 abbrev pub FitsTable : Inputs → Type 0
@@ -64,44 +49,25 @@ HasTooManyRegions i = (are_few (region_lines_of_inputs i) ≡ true) × HasManyRe
 abbrev pub HasTooManyOfOne : Inputs → Type 0
 HasTooManyOfOne i = are_few (region_lines_of_inputs i) ≡ false
 
--- the catalog and the counts are those of these inputs
-pub record AreListingsOf (i : Inputs) (l : Listings) : Type 0 where
-  pub few : are_few (region_lines_of_inputs i) ≡ true
-  pub catalog : l.catalog ≡ catalog_in i
-  pub built : l.built ≡ counts_in i
-  pub skipped_modules : l.skipped_modules.by_place ≡ module_counts (lines_of i.modules)
-  pub skipped_symbols : l.skipped_symbols.by_place ≡ symbol_counts (lines_of i.kallsyms)
-  pub has_regions : l.has_regions ≡ is_some i.regions
-  pub modules_hidden : l.modules_hidden ≡ are_modules_hidden (lines_of i.modules)
-  pub symbols_hidden : l.symbols_hidden ≡ are_symbols_hidden (lines_of i.kallsyms)
-  pub notes : l.notes ≡ notes_of i
+-- the catalog, the counts and the notes are those of these inputs
+abbrev pub AreListingsOf : Inputs → Listings → Type 0
+AreListingsOf i =
+    AreOpened (Some i.options.kernel) i.options.with_mapping i.modules i.kallsyms i.regions
 
--- the lines of counts of these listings
-abbrev pub counts_text : Listings → List ℕ
-counts_text l =
-    modules_line l.skipped_modules.by_place l.built
-    ++ symbols_line l.skipped_symbols.by_place l.built.symbols l.built.stray
-    ++ regions_line_of l.has_regions l.built
-
-abbrev pub json_counts_text : Listings → List ℕ
-json_counts_text l =
-    json_counts l.skipped_modules.by_place l.skipped_symbols.by_place l.has_regions l.built
+-- What is returned that looks addresses up in this catalog, and writes this text. Every fault but a
+-- failed write leaves the writer as it was, and a call of it failed then alone.
+abbrev pub WritesLookup : {W : Type 0} → (W → Option (List ℕ)) → CatalogEntries → List ℕ
+    → Output W → Output W → Result (Unit {0}) Fault → Type 0
+WritesLookup contents c text w w' (Ok _) = HasFewRegions c × WroteAll contents w w' text
+WritesLookup contents c text w w' (Err (Refused refusal.OutOfMemory)) = w' ≡ w
+WritesLookup contents c text w w' (Err (Refused refusal.BadCapacity)) =
+    (w' ≡ w) × HasManyRegions c
+WritesLookup contents c text w w' (Err Write) = HasFewRegions c × WrotePart contents w w' text
+WritesLookup contents c text w w' (Err _) = ⊥
 
 -- the lines of these inputs were written, as far as this says
 abbrev pub IsWritten : (List ℕ → Type 0) → AnswerForm → Inputs → Type 0
 IsWritten Wrote form i = FitsTable i × Wrote (lookup_text form i)
-
--- What is returned for these inputs, from one state of the writer to another. Every fault but a
--- failed write leaves the writer as it was, and a call of it failed then alone.
-abbrev pub AnswersWith : {W : Type 0} → (W → Option (List ℕ)) → AnswerForm → Inputs
-    → Output W → Output W → Result ListingNotes Fault → Type 0
-AnswersWith contents form i w w' (Ok notes) =
-    IsWritten (WroteAll contents w w') form i × (notes ≡ notes_of i)
-AnswersWith contents form i w w' (Err (Refused refusal.OutOfMemory)) = w' ≡ w
-AnswersWith contents form i w w' (Err (Refused refusal.BadCapacity)) = (w' ≡ w) × HasTooManyRegions i
-AnswersWith contents form i w w' (Err (Refused refusal.TooManyRegions)) = (w' ≡ w) × HasTooManyOfOne i
-AnswersWith contents form i w w' (Err Write) = IsWritten (WrotePart contents w w') form i
-AnswersWith contents form i w w' (Err _) = ⊥
 
 -- the region lines, or why they are not there
 abbrev pub GivesLines : Option (List ℕ) → Result (Option (Vec ListedRegion)) Fault → Type 0

@@ -9,7 +9,8 @@ use Rattle.order_laws.specs.Refusals.{refusal_number}
 use Rattle.shared_lookup.specs.Servings.{ChangeOutcome}
 use Rattle.shared_lookup.specs.declared.served.Answer.{Answer}
 use Rattle.shared_lookup.specs.declared.served.Served.{Served}
-use Rattle.listing.specs.Answers.{answer_text}
+use Rattle.listing.specs.AddressRules.{as_given}
+use Rattle.listing.specs.Answers.{answer_text_by}
 use Rattle.engines.specs.LookupTexts.{count_text}
 
 -- `refused W N NAME` for a change that was refused, nothing for one that was accepted
@@ -36,7 +37,7 @@ refusals_text names outcomes =
 unfoldable pub answered_text : CatalogEntries → Answer → List ℕ
 answered_text c a =
     decimal (a.reader + 1) ++ codes " " ++ hexadecimal a.key ++ codes " -> "
-    ++ answer_text c a.item a.key ++ count_text (codes " gen ") a.generation ++ codes "\n"
+    ++ answer_text_by c as_given a.item a.key ++ count_text (codes " gen ") a.generation ++ codes "\n"
 
 -- the answers of a reader
 abbrev pub answers_text : CatalogEntries → Vec Answer → List ℕ

@@ -1,5 +1,5 @@
 -- What a lookup writes whose modules come from a listing of symbols alone.
-use Rattle.std.specs.Prelude.{◌≡◌, ℕ, List, [], ◌∷◌, ◌++◌, map, flat_map, Option}
+use Rattle.std.specs.Prelude.{◌≡◌, ℕ, List, [], ◌∷◌, Option}
 use Rattle.std.specs.Prelude.{Result, Ok, Err, option_and_then}
 use Rattle.std.specs.Option.{option_map}
 use Rattle.listing.specs.declared.address_rules.AddressRule.{AddressRule}
@@ -9,23 +9,20 @@ use Rattle.texts.specs.declared.output.Output.{Output}
 use Rattle.texts.specs.Output.{WroteAll, WrotePart}
 use Rattle.listing.specs.Opening.{SaysOfModules, kept_in_text, listed, notes_with, symbol_note}
 use Rattle.listing.specs.SymbolListing.{symbol_counts}
-use Rattle.modules.specs.declared.catalog.KeptCounts.{KeptCounts}
+use Rattle.listing.specs.Tallies.{Tallies, symbol_tallies_by}
 use Rattle.modules.specs.Accepted.{Accepted}
 use Rattle.modules.specs.Catalogs.{catalog_with}
 use Rattle.modules.specs.Entries.{CatalogEntries}
 use Rattle.modules.specs.Listed.{BoundNames}
 use Rattle.order_laws.specs.declared.refusals.Refusal.TheVariants as refusal
-use Rattle.engines.specs.CatalogTables.{HasFewRegions, HasManyRegions, answer_at}
+use Rattle.engines.specs.CatalogTables.{HasFewRegions, HasManyRegions}
 use Rattle.engines.specs.LookupInputs.{all_addresses, known_text}
-use Rattle.engines.specs.AnswerForms.{counts_by, line_by}
-use Rattle.engines.specs.JsonTexts.{json_found_counts}
-use Rattle.engines.specs.LookupTexts.{found_modules_line, symbols_line}
+use Rattle.engines.specs.LookupTexts.{lookup_lines}
 use Rattle.engines.specs.Readings.{AnswersInputs, Failures, failures_in}
 use Rattle.engines.specs.declared.fault.Fault.{Fault}
 use Rattle.engines.specs.declared.fault.Fault.TheVariants.{Refused, Write}
 use Rattle.engines.specs.declared.forms.AnswerForm.{AnswerForm}
 use Rattle.listing.specs.declared.listing_notes.ListingNotes.{ListingNotes}
-use Rattle.listing.specs.declared.opening.SymbolListing.{SymbolListing}
 use Rattle.engines.specs.declared.symbol_lookup.SymbolLookupInputs.{SymbolLookupInputs}
 use Rattle.engines.specs.declared.symbol_lookup.SymbolLookupOptions.{SymbolLookupOptions}
 use Rattle.engines.specs.declared.symbol_lookup.SymbolLookupReaders.{SymbolLookupReaders}
@@ -73,26 +70,16 @@ known_symbol_inputs kallsyms addresses readers options given =
     option_and_then (symbol_inputs_of options given (known_text addresses readers.addresses))
     (kallsyms (device_of readers.kallsyms))
 
--- how many modules and regions were found, and where the lines went
-abbrev pub counts_text_of : KeptCounts → List ℕ → List ℕ
-counts_text_of kept skipped =
-    found_modules_line kept ++ symbols_line skipped kept.symbols kept.stray
+-- how many modules and regions were found, and where the lines went, where the listing says this of
+-- the modules
+abbrev pub tallies_found : List ℕ → Accepted → Tallies
+tallies_found text a = symbol_tallies_by (kept_in_text text a) (symbol_counts (lines_of text))
 
-abbrev pub found_counts_text : SymbolListing → List ℕ
-found_counts_text l = counts_text_of l.kept l.skipped.by_place
-
--- the counts in this form
-abbrev pub found_counts_by : AnswerForm → KeptCounts → List ℕ → List ℕ
-found_counts_by form kept skipped =
-    counts_by form (counts_text_of kept skipped) (json_found_counts kept skipped)
-
--- a line for each address, and then the counts, where the listing says this of the modules
+-- a line for each address, and then the counts
 abbrev pub symbol_lookup_text : AnswerForm → SymbolInputs → Accepted → List ℕ
 symbol_lookup_text form i a =
-    let symbols = listed i.kallsyms in
-    let c = catalog_with a symbols in
-    flat_map (line_by form c i.rule) (map (answer_at c i.rule) i.addresses)
-    ++ found_counts_by form (kept_in_text i.kallsyms a) (symbol_counts (lines_of i.kallsyms))
+    lookup_lines form (catalog_with a (listed i.kallsyms)) i.rule i.addresses
+    (tallies_found i.kallsyms a)
 
 -- this holds of the catalog that the listing says
 abbrev pub HoldsOfCatalog : (CatalogEntries → Type 0) → SymbolInputs → Type 0
@@ -110,19 +97,6 @@ IsWrittenBySymbols Wrote form i notes =
     × Wrote (symbol_lookup_text form i a)
     × (notes
     ≡ notes_with (symbol_note i.kernel i.kallsyms (kept_in_text i.kallsyms a).symbols))
-
--- What is returned for these inputs, from one state of the writer to another. Every fault but a
--- failed write leaves the writer as it was, and a call of it failed then alone.
-abbrev pub AnswersBySymbols : {W : Type 0} → (W → Option (List ℕ)) → AnswerForm → SymbolInputs
-    → Output W → Output W → Result ListingNotes Fault → Type 0
-AnswersBySymbols contents form i w w' (Ok notes) =
-    IsWrittenBySymbols (WroteAll contents w w') form i notes
-AnswersBySymbols contents form i w w' (Err (Refused refusal.OutOfMemory)) = w' ≡ w
-AnswersBySymbols contents form i w w' (Err (Refused refusal.BadCapacity)) =
-    (w' ≡ w) × HoldsOfCatalog HasManyRegions i
-AnswersBySymbols contents form i w w' (Err Write) =
-    (notes : ListingNotes) × IsWrittenBySymbols (WrotePart contents w w') form i notes
-AnswersBySymbols contents form i w w' (Err _) = ⊥
 
 -- what is said of the inputs where this is returned
 abbrev pub IsSymbolLookupOf : {W : Type 0} → (W → Option (List ℕ)) → AnswerForm → Output W

@@ -1,12 +1,13 @@
 //! Why a command fails, and what one comes to that does not.
-ghost use Rattle.std.specs.Prelude.{◌≡◌};
-ghost use Rattle.engines.specs.Faults.{IsLineFault, line_of, fault_number, fault_place, with_notes};
-ghost use Rattle.engines.specs.Faults.{with_status, without_notes};
+ghost use Rattle.std.specs.Prelude.{◌≡◌, false, true, IfErr, OnErr, OnOk};
+ghost use Rattle.texts.specs.Output.{has_failed};
+ghost use Rattle.engines.specs.Faults.{IsLineFault, line_of, fault_number, fault_place};
+ghost use Rattle.engines.specs.Faults.{noted, with_notes, with_status, without_notes};
 
 use listing::ListingNotes;
 use order_laws::Refusal;
 use std::alloc::AllocError;
-use texts::LineFault;
+use texts::{LineFault, Output};
 use thiserror::Error;
 
 /// The program's status where it did what it was asked.
@@ -110,6 +111,19 @@ impl From<AllocError> for Fault {
     }
 }
 
+/// Whether all that was said to an output was written.
+pub fn all_written<W>(writer: &Output<W>) -> Result<(), Fault>
+    ensures written { OnOk result (has_failed writer.now ≡ false) }
+    ensures failed { OnErr result (has_failed writer.now ≡ true) }
+    ensures fault { IfErr result (λ f. f ≡ Fault.Write) }
+{
+    if writer.has_failed() {
+        Err(Fault::Write)
+    } else {
+        Ok(())
+    }
+}
+
 /// What a job came to that did not fail.
 #[derive(Clone, Copy, Debug, PartialEq, Eq, Drop)]
 pub struct Finished {
@@ -139,12 +153,17 @@ pub fn with_notes(status: Result<u8, Fault>, notes: ListingNotes) -> Result<Fini
     }
 }
 
+/// The notes of a job that came to this.
+pub(crate) fn noted(done: Result<(), Fault>, notes: ListingNotes) -> Result<ListingNotes, Fault>
+    ensures { result ≡ noted notes done }
+{
+    done?;
+    Ok(notes)
+}
+
 /// The notes of a job without listings.
 pub fn without_notes(done: Result<(), Fault>) -> Result<ListingNotes, Fault>
     ensures { result ≡ without_notes done }
 {
-    match done {
-        Ok(()) => Ok(ListingNotes::none()),
-        Err(fault) => Err(fault),
-    }
+    noted(done, ListingNotes::none())
 }

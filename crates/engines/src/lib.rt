@@ -25,20 +25,19 @@ mod table;
 mod trace;
 mod trace_texts;
 
-pub use fault::{FAILED, Fault, Finished, SUCCEEDED, with_notes, with_status, without_notes};
+pub use fault::{
+    FAILED, Fault, Finished, SUCCEEDED, all_written, with_notes, with_status, without_notes,
+};
 pub use forms::AnswerForm;
 pub use json_texts::{
     put_address_member, put_named_module, put_offset_members, put_symbol_members,
 };
 pub use lookup::{
-    LookupInputs, LookupOptions, LookupReaders, listings_in, lookup_engine, put_counts,
-    region_lines_in,
+    LookupInputs, LookupOptions, LookupReaders, listings_in, lookup_engine, region_lines_in,
 };
 pub use opened_catalogs::{GivenTexts, ListingReaders, bounds_or_usual, open_catalog, read_given};
 pub use runs::{RunReaders, run_engine};
 pub use steps::steps_engine;
-pub use symbol_lookup::{
-    SymbolLookupOptions, SymbolLookupReaders, put_found_counts, symbol_lookup_engine,
-};
+pub use symbol_lookup::{SymbolLookupOptions, SymbolLookupReaders, symbol_lookup_engine};
 pub use trace::trace_engine;
 pub use trace_texts::put_refused;

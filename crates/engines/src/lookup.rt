@@ -1,26 +1,25 @@
 //! From the bytes of the listings to the lines that a lookup of addresses writes.
-ghost use Rattle.std.specs.Prelude.{◌≡◌, ◌++◌, ◌∷◌, [], Err, All, flat_map, is_some, option_map};
-ghost use Rattle.std.specs.Prelude.{true, IfOk, IfErr, IfSome};
+ghost use Rattle.std.specs.Prelude.{◌≡◌, [], Err, Ok, All, option_map, Some, true};
+ghost use Rattle.std.specs.Prelude.{IfOk, IfErr, IfSome};
 ghost use Rattle.std.specs.Option.{option_copied};
 ghost use Rattle.texts.specs.Counted.{device_of, failures_of};
-ghost use Rattle.texts.specs.Output.{Says};
 ghost use Rattle.modules.specs.Catalogs.{IsBuildRefusal};
 ghost use Rattle.modules.specs.Lines.{region_fits};
 ghost use Rattle.engines.specs.LookupInputs.{inputs_in, known_inputs, known_text};
 ghost use Rattle.engines.specs.LookupInputs.{region_lines_of_inputs};
-ghost use Rattle.engines.specs.AnswerForms.{counts_by, line_by};
-ghost use Rattle.engines.specs.Lookups.{AnswersLookup, AnswersWith, AreListingsOf, GivesAddresses};
-ghost use Rattle.engines.specs.Lookups.{GivesLines, counts_text, failures_between};
-ghost use Rattle.engines.specs.Lookups.{json_counts_text, regions_line_of};
+ghost use Rattle.engines.specs.LookupTexts.{lookup_lines};
+ghost use Rattle.engines.specs.Lookups.{AnswersLookup, AreListingsOf, GivesAddresses, GivesLines};
+ghost use Rattle.engines.specs.Lookups.{WritesLookup, failures_between};
 ghost use Rattle.engines.specs.Readings.{IsReadAs, failures_in};
 
-use crate::fault::Fault;
+use crate::fault::{Fault, all_written, noted};
 use crate::forms::AnswerForm;
-use crate::json_texts::put_json_counts;
-use crate::lookup_texts::{put_answers, put_module_counts, put_region_counts, put_symbol_counts};
-use crate::table::{AddressAnswer, answers_of};
-use listing::{AddressRule, ListingNotes, Listings, open_listings, read_addresses, read_regions};
-use modules::{Asked, KernelBounds, RegionLine};
+use crate::lookup_texts::put_lookup;
+use crate::table::answers_of;
+use listing::{
+    AddressRule, LineTallies, ListingNotes, Listings, open_listings, read_addresses, read_regions,
+};
+use modules::{Asked, Catalog, KernelBounds, RegionLine};
 use order_laws::Refusal;
 use std::alloc::{AllocError, Global};
 use std::io::{Read, Write};
@@ -194,23 +193,44 @@ fn answer_with<W: Write>(
     writer: &mut Output<W>,
 ) -> Result<ListingNotes, Fault>
     requires { All (λ r. region_fits r ≡ true) (region_lines_of_inputs (inputs_in inputs.now)) }
-    ensures { AnswersWith W.contents form (inputs_in inputs.now) writer.old writer.new result }
+    ensures { AnswersLookup W.contents form (Some (Ok (inputs_in inputs.now))) []
+        writer.old writer.new result }
 {
     let rule = inputs.options.rule;
-    let places = places_of(alloc, rule, &inputs.addresses)?;
+    let addresses = &inputs.addresses;
+    let places = places_of(alloc, rule, addresses)?;
     let listings = listings_in(alloc, inputs, Asked::These(&places))?;
-    let answers = answers_of(
+    let tallies = listings.tallies();
+    let done = write_lookup(
         alloc,
         &listings.catalog,
-        listings.catalog.len(),
         rule,
-        &inputs.addresses,
-    )?;
-    put_lookup(writer, &listings, rule, form, &answers);
-    if writer.has_failed() {
-        return Err(Fault::Write);
-    }
-    Ok(listings.notes)
+        addresses,
+        form,
+        &tallies,
+        writer,
+    );
+    noted(done, listings.notes)
+}
+
+/// Looks the addresses up in a catalog, as the rule takes them, and writes what is found, and these
+/// counts.
+pub(crate) fn write_lookup<W: Write>(
+    alloc: Global,
+    catalog: &Catalog,
+    rule: AddressRule,
+    addresses: &[u64],
+    form: AnswerForm,
+    tallies: &LineTallies,
+    writer: &mut Output<W>,
+) -> Result<(), Fault>
+    ensures { WritesLookup W.contents catalog.now
+        (lookup_lines form catalog.now rule addresses.now tallies.now)
+        writer.old writer.new result }
+{
+    let answers = answers_of(alloc, catalog, rule, addresses)?;
+    put_lookup(writer, catalog, rule, form, &answers, tallies);
+    all_written(writer)
 }
 
 /// The addresses that are looked up for these, for who builds a catalog.
@@ -257,61 +277,5 @@ fn region_lines_of<'i, 'a>(inputs: &'i LookupInputs<'_, 'a>) -> Option<&'i [Regi
     match &inputs.regions {
         Some(lines) => Some(lines),
         None => None,
-    }
-}
-
-/// Writes the line of each answer and the counts, and lets the writer keep nothing back.
-fn put_lookup<W: Write>(
-    writer: &mut Output<W>,
-    listings: &Listings,
-    rule: AddressRule,
-    form: AnswerForm,
-    answers: &[AddressAnswer],
-)
-    ensures { Says W.contents writer.old writer.new
-        (flat_map (line_by form listings.now.catalog rule) answers.now
-        ++ counts_by form (counts_text listings.now) (json_counts_text listings.now)) }
-{
-    put_answers(writer, &listings.catalog, rule, form, answers);
-    put_counts_by(writer, listings, form);
-    writer.flush();
-}
-
-/// Writes the counts of the listings, where the form has them.
-#[tactic(auto, unfolding(crate::specs::AnswerForms::counts_by))]
-fn put_counts_by<W: Write>(writer: &mut Output<W>, listings: &Listings, form: AnswerForm)
-    ensures { Says W.contents writer.old writer.new
-        (counts_by form (counts_text listings.now) (json_counts_text listings.now)) }
-{
-    if form.counts {
-        if form.json {
-            put_json_counts(writer, listings)
-        } else {
-            put_counts(writer, listings)
-        }
-    }
-}
-
-/// Writes the counts of the listings.
-pub fn put_counts<W: Write>(writer: &mut Output<W>, listings: &Listings)
-    ensures { Says W.contents writer.old writer.new (counts_text listings.now) }
-{
-    put_module_counts(writer, &listings.skipped_modules, &listings.built);
-    put_symbol_counts(
-        writer,
-        &listings.skipped_symbols,
-        listings.built.symbols,
-        listings.built.stray,
-    );
-    put_counts_of_regions(writer, listings);
-}
-
-/// Writes the counts of the listing of regions, where there is one.
-fn put_counts_of_regions<W: Write>(writer: &mut Output<W>, listings: &Listings)
-    ensures { Says W.contents writer.old writer.new
-        (regions_line_of listings.now.has_regions listings.now.built) }
-{
-    if listings.has_regions {
-        put_region_counts(writer, &listings.built)
     }
 }

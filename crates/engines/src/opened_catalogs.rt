@@ -10,10 +10,9 @@ ghost use Rattle.engines.specs.OpenedCatalogs.{listing_failures};
 
 use crate::fault::Fault;
 use crate::lookup::{
-    KALLSYMS_PLACE, LookupInputs, LookupOptions, MODULES_PLACE, REGIONS_PLACE, listings_in,
-    read_at, read_if_given, region_lines_in,
+    KALLSYMS_PLACE, MODULES_PLACE, REGIONS_PLACE, read_at, read_if_given, region_lines_in,
 };
-use listing::{AddressRule, ListingNotes, open_symbols};
+use listing::{ListingNotes, open_listings, open_symbols};
 use modules::{Asked, Catalog, KernelBounds};
 use std::alloc::Global;
 use std::io::Read;
@@ -94,19 +93,18 @@ fn open_by_modules<'a>(
     ensures { OpensByModules (option_copied kernel.entry) modules.now kallsyms.now
         (option_map (λ text. text.items) regions.now) result }
 {
-    let options = LookupOptions {
-        kernel: bounds_or_usual(kernel),
-        rule: AddressRule::AS_GIVEN,
-        with_mapping: false,
-    };
-    let inputs = LookupInputs {
-        options: &options,
+    let bounds = bounds_or_usual(kernel);
+    let lines = region_lines_in(alloc, regions)?;
+    let lines = lines.as_deref();
+    let listings = open_listings(
+        alloc,
+        Some(&bounds),
+        false,
         modules,
         kallsyms,
-        regions: region_lines_in(alloc, regions)?,
-        addresses: Vec::new(alloc),
-    };
-    let listings = listings_in(alloc, &inputs, Asked::Any)?;
+        lines,
+        Asked::Any,
+    )?;
     Ok(OpenedCatalog {
         catalog: listings.catalog,
         notes: listings.notes,

@@ -14,7 +14,7 @@ ghost use Rattle.engines.specs.RunTexts.{writer_text};
 
 use crate::line_rooms::LineRoom;
 use crate::lookup_texts::put_count;
-use listing::write_answer;
+use listing::{AddressRule, answer_of, put_answer};
 use modules::Catalog;
 use order_laws::Refusal;
 use run_files::ModuleName;
@@ -172,7 +172,8 @@ fn put_answered<W: Write>(writer: &mut Output<W>, catalog: &Catalog<'_>, answer:
     ensures { Says W.contents writer.old writer.new (answered_text catalog.now answer.now) }
 {
     put_asked(writer, answer.reader, answer.key);
-    write_answer(writer, catalog, answer.item, answer.key);
+    let known = answer_of(catalog, AddressRule::AS_GIVEN, answer.item, answer.key);
+    put_answer(writer, &known);
     put_generation(writer, answer.generation);
 }
 

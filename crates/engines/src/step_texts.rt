@@ -398,53 +398,61 @@ fn put_lists<W: Write>(writer: &mut Output<W>, erased: &[u64], inserted: &[Item]
         ++ codes ",\"insert\":" ++ json_list json_item inserted.now) }
 {
     writer.put(b",\"erase\":");
-    put_numbers(writer, erased);
+    put_list(writer, erased);
     writer.put(b",\"insert\":");
-    put_items(writer, inserted);
+    put_list(writer, inserted);
 }
 
-/// Writes numbers as a list.
-fn put_numbers<W: Write>(writer: &mut Output<W>, numbers: &[u64])
-    ensures { Says W.contents writer.old writer.new (json_list json_number numbers.now) }
-{
-    let [first, rest @ ..] = numbers else {
-        return writer.put(b"[]");
-    };
-    writer.put(b"[");
-    put_json_number(writer, *first);
-    put_further_numbers(writer, rest);
-    writer.put(b"]");
+/// What has a value of JSON.
+trait Json {
+    ghost use Rattle.std.specs.Prelude.{ℕ, List};
+    ghost use Rattle.texts.specs.Output.{Says};
+
+    /// The value as text.
+    ghost json_of: { Self → List ℕ };
+
+    /// Writes the value.
+    fn put<W: Write>(&self, writer: &mut Output<W>)
+        ensures { Says W.contents writer.old writer.new (json_of self.now) };
 }
 
-fn put_further_numbers<W: Write>(writer: &mut Output<W>, numbers: &[u64])
-    ensures { Says W.contents writer.old writer.new
-        (flat_map (λ n. codes "," ++ json_number n) numbers.now) }
-{
-    for number in numbers {
-        put_json_count(writer, b",", *number);
+impl Json for u64 {
+    ghost json_of = { json_number };
+
+    fn put<W: Write>(&self, writer: &mut Output<W>) {
+        put_json_number(writer, *self);
     }
 }
 
-/// Writes items as a list.
-fn put_items<W: Write>(writer: &mut Output<W>, items: &[Item])
-    ensures { Says W.contents writer.old writer.new (json_list json_item items.now) }
+impl Json for Item {
+    ghost json_of = { json_item };
+
+    fn put<W: Write>(&self, writer: &mut Output<W>) {
+        put_item(writer, *self);
+    }
+}
+
+/// Writes values as a list.
+fn put_list<T: Json, W: Write>(writer: &mut Output<W>, values: &[T])
+    ensures { Says W.contents writer.old writer.new (json_list T.json_of values.now) }
 {
-    let [first, rest @ ..] = items else {
+    let [first, rest @ ..] = values else {
         return writer.put(b"[]");
     };
     writer.put(b"[");
-    put_item(writer, *first);
-    put_further_items(writer, rest);
+    first.put(writer);
+    put_further(writer, rest);
     writer.put(b"]");
 }
 
-fn put_further_items<W: Write>(writer: &mut Output<W>, items: &[Item])
+/// Writes each of the values behind a comma.
+fn put_further<T: Json, W: Write>(writer: &mut Output<W>, values: &[T])
     ensures { Says W.contents writer.old writer.new
-        (flat_map (λ item. codes "," ++ json_item item) items.now) }
+        (flat_map (λ x. codes "," ++ T.json_of x) values.now) }
 {
-    for item in items {
+    for value in values {
         writer.put(b",");
-        put_item(writer, *item);
+        value.put(writer);
     }
 }
 

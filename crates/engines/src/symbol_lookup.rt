@@ -1,23 +1,16 @@
 //! A lookup whose modules, and where they lie, come from the listing of symbols alone.
-ghost use Rattle.std.specs.Prelude.{◌++◌, flat_map};
+ghost use Rattle.std.specs.Prelude.{[], Ok, Some};
 ghost use Rattle.texts.specs.Counted.{device_of, failures_of};
-ghost use Rattle.texts.specs.Output.{Says};
 ghost use Rattle.engines.specs.LookupInputs.{known_text};
-ghost use Rattle.engines.specs.AnswerForms.{line_by};
 ghost use Rattle.engines.specs.Readings.{failures_in, last_failures};
-ghost use Rattle.engines.specs.SymbolLookups.{AnswersBySymbols, AnswersSymbolLookup};
-ghost use Rattle.engines.specs.SymbolLookups.{failures_of_symbols};
-ghost use Rattle.engines.specs.SymbolLookups.{found_counts_by, found_counts_text};
+ghost use Rattle.engines.specs.SymbolLookups.{AnswersSymbolLookup, failures_of_symbols};
 ghost use Rattle.engines.specs.SymbolLookups.{known_symbol_inputs};
 ghost use Rattle.engines.specs.SymbolLookups.{symbol_inputs_in, symbol_inputs_of};
 
-use crate::fault::Fault;
+use crate::fault::{Fault, noted};
 use crate::forms::AnswerForm;
-use crate::json_texts::put_json_found_counts;
-use crate::lookup::{KALLSYMS_PLACE, all_addresses, places_of, read_at};
-use crate::lookup_texts::{put_answers, put_found_modules, put_symbol_counts};
-use crate::table::{AddressAnswer, answers_of};
-use listing::{AddressRule, ListingNotes, SymbolListing, open_symbols};
+use crate::lookup::{KALLSYMS_PLACE, all_addresses, places_of, read_at, write_lookup};
+use listing::{AddressRule, ListingNotes, open_symbols};
 use modules::{Asked, KernelBounds};
 use std::alloc::Global;
 use std::io::{Read, Write};
@@ -106,68 +99,23 @@ fn answer_by_symbols<W: Write>(
     form: AnswerForm,
     writer: &mut Output<W>,
 ) -> Result<ListingNotes, Fault>
-    ensures { AnswersBySymbols W.contents form (symbol_inputs_in inputs.now)
+    ensures { AnswersSymbolLookup W.contents form (Some (Ok (symbol_inputs_in inputs.now))) []
         writer.old writer.new result }
 {
     let rule = inputs.options.rule;
-    let places = places_of(alloc, rule, &inputs.addresses)?;
+    let addresses = &inputs.addresses;
+    let places = places_of(alloc, rule, addresses)?;
     let kernel = inputs.options.kernel.as_ref();
     let listing = open_symbols(alloc, kernel, inputs.kallsyms, Asked::These(&places))?;
-    let answers = answers_of(
+    let tallies = listing.tallies();
+    let done = write_lookup(
         alloc,
         &listing.catalog,
-        listing.kept.modules,
         rule,
-        &inputs.addresses,
-    )?;
-    put_symbol_lookup(writer, &listing, rule, form, &answers);
-    if writer.has_failed() {
-        return Err(Fault::Write);
-    }
-    Ok(listing.notes())
-}
-
-/// Writes the line of each answer and the counts, and lets the writer keep nothing back.
-fn put_symbol_lookup<W: Write>(
-    writer: &mut Output<W>,
-    listing: &SymbolListing,
-    rule: AddressRule,
-    form: AnswerForm,
-    answers: &[AddressAnswer],
-)
-    ensures { Says W.contents writer.old writer.new
-        (flat_map (line_by form listing.now.catalog rule) answers.now
-        ++ found_counts_by form listing.now.kept listing.now.skipped.by_place) }
-{
-    put_answers(writer, &listing.catalog, rule, form, answers);
-    put_found_counts_by(writer, listing, form);
-    writer.flush();
-}
-
-/// Writes the counts of the listing, where the form has them.
-#[tactic(auto, unfolding(crate::specs::AnswerForms::counts_by))]
-fn put_found_counts_by<W: Write>(writer: &mut Output<W>, listing: &SymbolListing, form: AnswerForm)
-    ensures { Says W.contents writer.old writer.new
-        (found_counts_by form listing.now.kept listing.now.skipped.by_place) }
-{
-    if form.counts {
-        if form.json {
-            put_json_found_counts(writer, listing)
-        } else {
-            put_found_counts(writer, listing)
-        }
-    }
-}
-
-/// Writes how many modules and regions were found, and the counts of the listing.
-pub fn put_found_counts<W: Write>(writer: &mut Output<W>, listing: &SymbolListing)
-    ensures { Says W.contents writer.old writer.new (found_counts_text listing.now) }
-{
-    put_found_modules(writer, &listing.kept);
-    put_symbol_counts(
+        addresses,
+        form,
+        &tallies,
         writer,
-        &listing.skipped,
-        listing.kept.symbols,
-        listing.kept.stray,
     );
+    noted(done, listing.notes())
 }

@@ -19,26 +19,23 @@ pub struct AddressAnswer {
     pub item: Option<Item>,
 }
 
-/// Looks each address up, as the rule takes it, in the table of all regions of a catalog of so many
-/// modules.
+/// Looks each address up, as the rule takes it, in the table of all regions of a catalog.
 ///
 /// Refused by [`Refusal::BadCapacity`] where there are more regions than a table has nodes, and by
 /// [`Refusal::OutOfMemory`].
 pub fn answers_of(
     alloc: Global,
     catalog: &Catalog,
-    modules: u64,
     rule: AddressRule,
     addresses: &[u64],
 ) -> Result<Vec<AddressAnswer>, Refusal>
-    requires { modules ≡ length catalog.now.modules }
     ensures answers { IfOk result (λ v. v.items ≡ map (answer_at catalog.now rule) addresses.now) }
     ensures fits { IfOk result (λ _. HasFewRegions catalog.now) }
     ensures refusal { IfErr result (IsRefusedFor catalog.now) }
 {
     let mut world = open_for(alloc, catalog)?;
-    load_all(&mut world, catalog, modules)?;
-    let mut answers = Vec::new(alloc);
+    load_all(&mut world, catalog)?;
+    let mut answers = Vec::with_capacity(alloc, addresses.len())?;
     for addr in addresses {
         let answer = look_up(&mut world, rule, *addr)?;
         answers.push(answer)?;
@@ -60,13 +57,12 @@ fn open_for(alloc: Global, catalog: &Catalog) -> Result<World<HalfOpen>, Refusal
 }
 
 /// Loads the kernel itself, and then the modules by their numbers.
-fn load_all(world: &mut World<HalfOpen>, catalog: &Catalog, modules: u64) -> Result<(), Refusal>
-    requires modules { modules ≡ length catalog.now.modules }
-    requires holds { HoldsBelow catalog.now 0 world.old }
+fn load_all(world: &mut World<HalfOpen>, catalog: &Catalog) -> Result<(), Refusal>
+    requires { HoldsBelow catalog.now 0 world.old }
     ensures holds { IfOk result (λ _. HasTable (items_of catalog.now) world.new) }
     ensures refusal { IfErr result (λ e. e ≡ Refusal.OutOfMemory) }
 {
-    for number in 0..=modules {
+    for number in 0..=catalog.len() {
         load(world, catalog, number)?;
     }
     Ok(())

@@ -14,7 +14,7 @@ ghost use Rattle.engines.specs.TraceTexts.{note_text};
 ghost use Rattle.engines.specs.GatheredTraces.{IsLinesFault, IsNext, IsNotOpened, HasGathered, GathersCommand, GathersLines};
 ghost use Rattle.engines.specs.Traces.{AnswersSaid, AnswersTrace, greatest_of, order_by};
 
-use crate::fault::Fault;
+use crate::fault::{Fault, all_written};
 use crate::lookup::read_at;
 use crate::trace_texts::{LONGEST_LINE, append_end, append_note};
 use latch_steps::{Command, Driver, Note};
@@ -80,10 +80,7 @@ fn run_lines<O: TreeOrder<Key = u64>, W: Write>(
     text.reserve(LONGEST_LINE)?;
     append_end(&mut text, left.sequence);
     put_text(writer, &text);
-    if writer.has_failed() {
-        return Err(Fault::Write);
-    }
-    Ok(())
+    all_written(writer)
 }
 
 /// An empty table as a header asks for it.

@@ -17,14 +17,13 @@ use Rattle.modules.specs.Listed.{BoundNames, ListedRegion}
 use Rattle.order_laws.specs.declared.refusals.Refusal.TheVariants as refusal
 use Rattle.latchsym.specs.Checks.{ChecksGiven, ChecksListings, ChecksTexts, IsChecked, IsModulesReport, IsReport, IsSymbolsReport, listings_report, modules_name, regions_beside, status_of_kept, symbol_listing_report}
 use Rattle.listing.specs.ListingNotes.{is_of_kallsyms, is_of_modules}
-use Rattle.engines.specs.LookupInputs.{Inputs, catalog_in, counts_in, region_lines}
-use Rattle.engines.specs.LookupTexts.{modules_line, symbols_line}
-use Rattle.engines.specs.Lookups.{AreListingsOf, regions_line_of}
+use Rattle.engines.specs.LookupInputs.{Inputs, region_lines}
+use Rattle.engines.specs.Lookups.{AreListingsOf}
+use Rattle.listing.specs.Tallies.{Tallies, counts_text, symbol_tallies_by, tallies_by, tallies_of}
 use Rattle.latchsym.specs.NoteTexts.{applying_lines}
 use Rattle.engines.specs.OpenedCatalogs.{Given, HasBadRegion, HasCrowdedRegions, opening_options}
 use Rattle.engines.specs.Readings.{Failures, NoReaderFailed}
-use Rattle.engines.specs.SymbolLookups.{counts_text_of}
-use Rattle.listing.specs.Opening.{IsSymbolListing, kept_in_text, listed}
+use Rattle.listing.specs.Opening.{IsSymbolListing, catalog_of_texts, counts_of_texts, kept_in_text, listed}
 use Rattle.latchsym.specs.declared.command_line.ListingFiles.{ListingFiles}
 use Rattle.engines.specs.declared.fault.Fault.{Fault}
 use Rattle.engines.specs.declared.fault.Fault.TheVariants.{Refused, BadLine, Write}
@@ -37,31 +36,30 @@ module _ (kernel : Option BoundNames) (files : ListingFiles) (bounds : BoundName
   abbrev inputs : Inputs
   inputs = record { options = opening_options bounds; modules = modules; kallsyms = kallsyms; regions = lines; addresses = addresses }
 
-  -- the text by the names of the bounds, the catalog and the counts
-  abbrev text_by : BoundNames → CatalogEntries → BuildCounts → List ℕ → List ℕ → List ℕ → List ℕ
-  text_by names c built of_modules of_symbols of_regions =
+  -- the text by the names of the bounds, the catalog, the kept symbols and the counts
+  abbrev text_by : BoundNames → CatalogEntries → ℕ → Tallies → List ℕ
+  text_by names c kept t =
       applying_lines names (modules_name files) (is_of_modules modules kallsyms c)
-      ++ applying_lines names files.kallsyms.now (is_of_kallsyms names kallsyms built.symbols)
-      ++ (modules_line of_modules built ++ symbols_line of_symbols built.symbols built.stray ++ of_regions)
+      ++ applying_lines names files.kallsyms.now (is_of_kallsyms names kallsyms kept)
+      ++ counts_text t
 
   pub modules_reported : (l : Listings) → bounds ≡ unwrap_or kernel usual_bounds → region_lines text ≡ Ok lines → AreListingsOf inputs l
       → IsModulesReport kernel files modules kallsyms text (listings_report files inputs l) l.built.symbols
-  unfolding catalog_in counts_in
   modules_reported l named read said =
       let of_modules = module_counts (lines_of modules) in
       let of_symbols = symbol_counts (lines_of kallsyms) in
-      let built : BoundNames → BuildCounts = λ names. build_of_listed (length (symbols_in (lines_of kallsyms))) (counts_of (Some names) (modules_in (lines_of modules)) (unwrap_or lines []) (symbols_with false (symbols_in (lines_of kallsyms)))) in
-      let c : BoundNames → CatalogEntries = λ names. catalog_of (Some names) (modules_in (lines_of modules)) (unwrap_or lines []) (symbols_with false (symbols_in (lines_of kallsyms))) in
+      let built : BoundNames → BuildCounts = λ names. counts_of_texts (Some names) false modules kallsyms (unwrap_or lines []) in
+      let c : BoundNames → CatalogEntries = λ names. catalog_of_texts (Some names) false modules kallsyms (unwrap_or lines []) in
       let n = bounds in (
         lines,
         read,
         said.few,
-        ap (λ k. text_by n k l.built l.skipped_modules.by_place l.skipped_symbols.by_place (regions_line_of l.has_regions l.built)) said.catalog
-            ∙ ap (λ b. text_by n (c n) b l.skipped_modules.by_place l.skipped_symbols.by_place (regions_line_of l.has_regions b)) said.built
-            ∙ ap (λ s. text_by n (c n) (built n) s l.skipped_symbols.by_place (regions_line_of l.has_regions (built n))) said.skipped_modules
-            ∙ ap (λ s. text_by n (c n) (built n) of_modules s (regions_line_of l.has_regions (built n))) said.skipped_symbols
-            ∙ ap (λ r. text_by n (c n) (built n) of_modules of_symbols (regions_line_of r (built n))) said.has_regions
-            ∙ ap (λ names. text_by names (c names) (built names) of_modules of_symbols (regions_line_of (is_some lines) (built names))) named,
+        ap (λ k. text_by n k l.built.symbols (tallies_of l)) said.catalog
+            ∙ ap (λ b. text_by n (c n) b.symbols (tallies_by l.skipped_modules.by_place l.skipped_symbols.by_place l.has_regions b)) said.built
+            ∙ ap (λ s. text_by n (c n) (built n).symbols (tallies_by s l.skipped_symbols.by_place l.has_regions (built n))) said.skipped_modules
+            ∙ ap (λ s. text_by n (c n) (built n).symbols (tallies_by of_modules s l.has_regions (built n))) said.skipped_symbols
+            ∙ ap (λ r. text_by n (c n) (built n).symbols (tallies_by of_modules of_symbols r (built n))) said.has_regions
+            ∙ ap (λ names. text_by names (c names) (built names).symbols (tallies_by of_modules of_symbols (is_some lines) (built names))) named,
         ap (λ b. b.symbols) said.built ∙ ap (λ names. (built names).symbols) named,
       )
 
@@ -75,8 +73,8 @@ symbols_reported kernel file text l names is named =
       is.modules,
       is.said,
       ap (λ m. symbol_listing_report m file text l) named
-          ∙ ap (λ k. applying_lines n file (is_of_kallsyms n text k.symbols) ++ counts_text_of k l.skipped.by_place) is.kept
-          ∙ ap (λ s. applying_lines n file (is_of_kallsyms n text kept.symbols) ++ counts_text_of kept s) is.skipped,
+          ∙ ap (λ k. applying_lines n file (is_of_kallsyms n text k.symbols) ++ counts_text (symbol_tallies_by k l.skipped.by_place)) is.kept
+          ∙ ap (λ s. applying_lines n file (is_of_kallsyms n text kept.symbols) ++ counts_text (symbol_tallies_by kept s)) is.skipped,
       ap (λ k. k.symbols) is.kept,
     )
 

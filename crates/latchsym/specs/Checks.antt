@@ -6,7 +6,6 @@ use Rattle.clap.specs.Words.{Text}
 use Rattle.texts.specs.declared.output.Output.{Output}
 use Rattle.texts.specs.Output.{WroteAll, WrotePart, has_failed}
 use Rattle.texts.specs.Lines.{lines_of}
-use Rattle.listing.specs.SymbolListing.{symbol_counts}
 use Rattle.modules.specs.Accepted.{Accepted}
 use Rattle.modules.specs.Lines.{bounds_for}
 use Rattle.modules.specs.Listed.{BoundNames, ListedRegion}
@@ -14,11 +13,12 @@ use Rattle.modules.specs.Placed.{are_few}
 use Rattle.order_laws.specs.declared.refusals.Refusal.TheVariants as refusal
 use Rattle.listing.specs.ListingNotes.{is_of_kallsyms, is_of_modules}
 use Rattle.engines.specs.LookupInputs.{Inputs, catalog_in, counts_in, region_lines}
-use Rattle.engines.specs.Lookups.{count_lines, counts_text}
+use Rattle.engines.specs.Lookups.{tallies_in}
 use Rattle.latchsym.specs.NoteTexts.{applying_lines}
 use Rattle.engines.specs.OpenedCatalogs.{Given, HasBadRegion, HasCrowdedRegions, inputs_by}
 use Rattle.engines.specs.Readings.{Failures, NoReaderFailed, OnlyFailed}
-use Rattle.engines.specs.SymbolLookups.{counts_text_of, found_counts_text}
+use Rattle.engines.specs.SymbolLookups.{tallies_found}
+use Rattle.listing.specs.Tallies.{counts_text, symbol_tallies_of, tallies_of}
 use Rattle.listing.specs.Opening.{SaysOfModules, kept_in_text, listed}
 use Rattle.latchsym.specs.declared.command_line.ListingFiles.{ListingFiles}
 use Rattle.engines.specs.declared.fault.Fault.{Fault}
@@ -37,7 +37,7 @@ modules_report files i =
     applying_lines i.options.kernel (modules_name files) (is_of_modules i.modules i.kallsyms (catalog_in i))
     ++ applying_lines i.options.kernel files.kallsyms.now
     (is_of_kallsyms i.options.kernel i.kallsyms (counts_in i).symbols)
-    ++ count_lines i
+    ++ counts_text (tallies_in i)
 
 -- the same of listings that were read
 abbrev pub listings_report : ListingFiles → Inputs → Listings → List ℕ
@@ -45,7 +45,7 @@ listings_report files i l =
     applying_lines i.options.kernel (modules_name files) (is_of_modules i.modules i.kallsyms l.catalog)
     ++ applying_lines i.options.kernel files.kallsyms.now
     (is_of_kallsyms i.options.kernel i.kallsyms l.built.symbols)
-    ++ counts_text l
+    ++ counts_text (tallies_of l)
 
 -- the same of a listing of symbols alone, which says this of the modules
 abbrev pub symbols_report : Option BoundNames → Text → List ℕ → Accepted → List ℕ
@@ -53,12 +53,13 @@ symbols_report kernel file text a =
     let names = bounds_for kernel (listed text) in
     let kept = kept_in_text text a in
     applying_lines names file (is_of_kallsyms names text kept.symbols)
-    ++ counts_text_of kept (symbol_counts (lines_of text))
+    ++ counts_text (tallies_found text a)
 
 -- the same of a listing of symbols that was read, where these names bound the kernel
 abbrev pub symbol_listing_report : BoundNames → Text → List ℕ → SymbolListing → List ℕ
 symbol_listing_report names file text l =
-    applying_lines names file (is_of_kallsyms names text l.kept.symbols) ++ found_counts_text l
+    applying_lines names file (is_of_kallsyms names text l.kept.symbols)
+    ++ counts_text (symbol_tallies_of l)
 
 -- what is to be written where modules are listed, and how many symbols are kept
 abbrev pub IsModulesReport : Option BoundNames → ListingFiles → List ℕ → List ℕ

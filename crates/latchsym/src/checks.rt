@@ -19,11 +19,11 @@ use crate::command_line::ListingFiles;
 use crate::note_texts::put_note_where;
 use engines::{
     FAILED, Fault, GivenTexts, ListingReaders, LookupInputs, LookupOptions, SUCCEEDED,
-    bounds_or_usual, listings_in, put_counts, put_found_counts, read_given, region_lines_in,
+    bounds_or_usual, listings_in, read_given, region_lines_in,
 };
 use listing::{
     AddressRule, ListingNote, Listings, SymbolFacts, SymbolListing, applies_to_kallsyms,
-    applies_to_modules, open_symbols,
+    applies_to_modules, open_symbols, put_counts,
 };
 use modules::{Asked, Catalog, KernelBounds};
 use std::alloc::Global;
@@ -164,7 +164,7 @@ fn put_listings<W: Write>(
         listings.symbols_hidden,
         listings.built.symbols,
     );
-    put_counts(writer, listings);
+    put_counts(writer, &listings.tallies());
     writer.flush();
 }
 
@@ -195,7 +195,7 @@ fn put_symbol_listing<W: Write>(
         listing.hidden,
         listing.kept.symbols,
     );
-    put_found_counts(writer, listing);
+    put_counts(writer, &listing.tallies());
     writer.flush();
 }
 

@@ -3,16 +3,14 @@ use Rattle.std.proofs.Common.{◌≡◌, ◌<◌, ℕ, zero, suc, ◌+◌, Bool,
 use Rattle.std.specs.Borrow.{Bor}
 use Rattle.std.specs.Prelude.{find, is_none, is_some, nat_eq, slice_get, unwrap_or}
 use Rattle.std.specs.List.{list_any}
-use Rattle.std.specs.Option.{option_and_then, option_copied, option_map, option_to_list}
+use Rattle.std.specs.Option.{option_and_then, option_copied, option_map}
 use Rattle.std.specs.Str.{bytes_eq}
 use Rattle.std.proofs.lemmas.Bool.{lt-ltb, ne_eqb, or_cases, or_left, or_parts, or_right}
 use Rattle.std.proofs.lemmas.List.{take_all}
 use Rattle.listing.specs.Looks.{is_kernel_symbol, is_of_kernel}
 use Rattle.modules.specs.Entries.{CatalogEntries, ModuleEntry}
-use Rattle.modules.specs.Catalogs.{built_in_of, catalog_of}
-use Rattle.modules.specs.Lines.{bounds_for, built_in_region, first_address, kernel_regions, usual_bounds_of}
-use Rattle.modules.specs.Listed.{BoundNames, ListedModule, ListedRegion, ListedSymbol}
-use Rattle.modules.proofs.SoundnessLemmas.{built_in_of_accepted}
+use Rattle.modules.specs.Lines.{bounds_for, built_in_region, first_address, usual_bounds_of}
+use Rattle.modules.specs.Listed.{BoundNames, ListedSymbol}
 use Rattle.listing.specs.declared.listing_notes.ListingNote.{ListingNote}
 use Rattle.listing.specs.SymbolListing.{is_mapping, symbols_with}
 use Rattle.listing.specs.ListingNotes.{HasBounds, has_symbols, lacks_symbol, lacks_symbols}
@@ -76,17 +74,6 @@ pub bounds_are : (o : Option (Bor BoundNames)) (usual names : Bor BoundNames) (s
     → names.now ≡ bounds_for (option_copied o) symbols
 bounds_are None usual names symbols is own = ap (λ n. n.now) is ∙ own
 bounds_are (Some n) usual names symbols is own = ap (λ n. n.now) is
-
--- the kernel itself is in a catalog where it has a region
-has_its_region : (region : Option (ℕ × ℕ)) (symbols : List ListedSymbol) → is_some (built_in_of (option_to_list region) symbols) ≡ is_some region
-has_its_region None symbols = refl
-has_its_region (Some r) symbols = refl
-
-pub kernel_of_listings : (names : BoundNames) (modules : List ListedModule) (regions : List ListedRegion) (symbols : List ListedSymbol)
-    → is_some (catalog_of (Some names) modules regions symbols).built_in ≡ is_some (built_in_region names symbols)
-kernel_of_listings names modules regions symbols =
-    ap (λ rs. is_some (built_in_of rs symbols)) (built_in_of_accepted (kernel_regions (Some names) symbols) regions modules)
-    ∙ has_its_region (built_in_region names symbols) symbols
 
 -- ---- the modules of a catalog
 

@@ -218,10 +218,6 @@ from_behind answer back (b ∷ rest) =
 pub from_begin : (answer : Answering) (log : List ℕ) → annotated_from answer (first_context answer.is_narrow) log ≡ annotated answer log
 from_begin answer log = from_behind answer [] log
 
--- a line that begins leaves nothing of what stands before it
-pub line_begins : (kept : LogContext) → next_context kept 10 ≡ first_context kept.is_narrow
-line_begins kept = refl
-
 pub same_narrow : (kept : LogContext) (bytes : List ℕ) → (context_over kept bytes).is_narrow ≡ kept.is_narrow
 same_narrow kept [] = refl
 same_narrow kept (b ∷ bytes) = same_narrow (next_context kept b) bytes

@@ -10,7 +10,7 @@ use Rattle.texts.specs.Lines.{longest_line}
 use Rattle.listing.specs.AnnotatedLogs.{Answering, context_behind, goes_on, says_caller, text_behind}
 use Rattle.listing.specs.LogContexts.{first_context, next_context}
 use Rattle.listing.specs.LogNames.{agrees, counted, has_alias, line_of, name_behind, name_in_line, names_behind, names_of_log, one_of, verdict_at, verdict_behind}
-use Rattle.listing.specs.LogTallies.{HasItsLine, HasNoName, names_from}
+use Rattle.listing.specs.LogTallies.{HasItsLine, names_from}
 use Rattle.listing.specs.LogWords.{address_of_word}
 use Rattle.listing.specs.declared.log_names.LogNames.{LogNames}
 use Rattle.listing.proofs.LogContextLemmas.{capped_says, capped_text, capped_word, kept_behind, next_kept}
@@ -45,20 +45,6 @@ its_line_ends k rest below low is more = ap name_in_line (line_more longest_line
 
 pub its_line_is_long : (rest : List ℕ) → longest_line ≤ length rest → HasItsLine rest
 its_line_is_long rest long more = ap (λ l. name_in_line (line_of l)) (take-append-le longest_line rest more long)
-
-no_blank : (n b : ℕ) (rest : List ℕ) → (b == 32) ≡ false → name_in_line (line_of (take n (b ∷ rest))) ≡ None
-no_blank zero b rest other = refl
-no_blank (suc n) b rest other = by (b == 10)
-  where
-    by : (t : Bool) → name_in_line (cond t [] (b ∷ line_of (take n rest))) ≡ None
-    by true = refl
-    by false = ap (λ t. cond t (name_in_line_of (line_of (take n rest))) None) other
-      where
-        name_in_line_of : List ℕ → Option (List ℕ)
-        name_in_line_of text = name_in_line (32 ∷ text)
-
-pub begins_otherwise : (b : ℕ) (rest : List ℕ) → (b == 32) ≡ false → HasNoName (b ∷ rest)
-begins_otherwise b rest other more = no_blank longest_line b (rest ++ more) other
 
 -- ---- the beginning of an answer's text
 

@@ -1,5 +1,5 @@
 -- Bytes of a log that are passed together.
-use Rattle.std.proofs.Common.{◌≡◌, ◌∙◌, ℕ, zero, suc, ◌+◌, ◌-◌, ◌<◌, ◌≤◌, inl, inr, Bool, true, false, true≢false, List, [], ◌∷◌, ◌++◌, length, get_or, take, drop, refl, sym, ap, subst, arith, append-nil, append_assoc, length-take, length-drop, drop-drop}
+use Rattle.std.proofs.Common.{◌≡◌, ◌∙◌, ℕ, zero, suc, ◌+◌, ◌-◌, ◌<◌, ◌≤◌, inl, inr, Bool, true, false, true≢false, List, [], ◌∷◌, ◌++◌, length, get_or, take, drop, refl, sym, ap, subst, arith, append_assoc, length-take, length-drop, drop-drop}
 use Rattle.std.specs.Prelude.{◌&&◌, ◌==◌}
 use Rattle.std.proofs.lemmas.Bool.{and_parts, eqb-true}
 use Rattle.std.specs.Global.{Vec}
@@ -92,14 +92,6 @@ pub record HasPut (answer : Answering) (first kept : LogContext) (bytes : List �
   pub among : at ≤ length bytes
   pub keeps : KeepsPromise answer first kept bytes is_last before (out ++ drop put (take at bytes)) at
   pub context : kept ≡ context_over first (take at bytes)
-
-pub put_none : (answer : Answering) (first : LogContext) (bytes : List ℕ) (is_last : Bool) (before : List ℕ) → HasPut answer first first bytes is_last before before 0 0
-put_none answer first bytes is_last before = record {
-  put_below = omega arith;
-  among = omega arith;
-  keeps = λ more may. ap (λ (o : List ℕ). o ++ annotated_from answer first (bytes ++ more)) (append-nil before);
-  context = refl;
-}
 
 pub put_more : (answer : Answering) (first kept kept' : LogContext) (bytes : List ℕ) (is_last : Bool) (before out out' : List ℕ) (put put' at n : ℕ) (text : List ℕ)
     → HasPut answer first kept bytes is_last before out put at → 0 < n → ArePlain kept (drop at bytes) n → kept' ≡ context_over kept (take n (drop at bytes)) → IsInserted answer kept (drop at bytes) is_last text

@@ -8,7 +8,7 @@ use Rattle.listing.specs.AnnotatedLogs.{Answering, LogContext, goes_on, text_beh
 use Rattle.listing.specs.Insertions.{IsPlaceOf, MayCome}
 use Rattle.listing.specs.LogContexts.{ArePlain, IsPlain, context_over, kept_in, next_context}
 use Rattle.listing.specs.LogNames.{agrees, counted, name_behind, one_of, verdict_at, verdict_behind, with_name}
-use Rattle.listing.specs.LogTallies.{GoesOn, HasItsLine, HasNoName, KeepsNames, SeesPlace, comes_to, count_in, names_from, open_name, open_names}
+use Rattle.listing.specs.LogTallies.{HasItsLine, KeepsNames, SeesPlace, comes_to, count_in, names_from, open_name, open_names}
 use Rattle.listing.specs.declared.insertions.Insertion.{Insertion}
 use Rattle.listing.specs.declared.insertions.Insertion.TheVariants.{Again, Nothing, Text}
 use Rattle.listing.specs.declared.log_names.LogNames.{LogNames}
@@ -48,13 +48,6 @@ and_none n = omega arith
 
 -- ---- a place that is seen
 
-pub no_verdict : (answer : Answering) (kept : LogContext) (rest : List ℕ) → name_behind rest ≡ None → verdict_behind answer kept rest ≡ None
-no_verdict answer kept rest none = by (text_behind answer kept)
-  where
-    by : (o : Option (List ℕ)) → option_and_then (λ text. option_map (agrees answer kept text) (name_behind rest)) o ≡ None
-    by None = refl
-    by (Some text) = ap (option_map (agrees answer kept text)) none
-
 same_verdict : (answer : Answering) (kept : LogContext) (rest rest' : List ℕ) → name_behind rest' ≡ name_behind rest → verdict_behind answer kept rest' ≡ verdict_behind answer kept rest
 same_verdict answer kept rest rest' same = ap (λ n. option_and_then (λ text. option_map (agrees answer kept text) n) (text_behind answer kept)) same
 
@@ -62,10 +55,6 @@ none_more : (wanted : Bool) (answer : Answering) (t : Tally) (more : List ℕ) (
     → comes_to wanted answer t more others ≡ comes_to wanted answer t more (one_of wanted o + others)
 none_more wanted answer t more others o none =
     sym (ap (λ v. comes_to wanted answer t more (one_of wanted v + others)) none ∙ ap (comes_to wanted answer t more) (none_and others))
-
-pub sees_none : (answer : Answering) (kept : LogContext) (rest : List ℕ) (is_last : Bool) (t : Tally) → HasNoName rest → SeesPlace answer kept rest is_last t t
-sees_none answer kept rest is_last t none wanted more others may =
-    none_more wanted answer t more others _ (no_verdict answer kept (rest ++ more) (none more))
 
 -- what is known of the place once its line is there
 pub settled : (answer : Answering) (kept : LogContext) (rest more : List ℕ) (is_last : Bool) → (is_last ≡ true) ⊎ HasItsLine rest → MayCome is_last more
@@ -90,10 +79,6 @@ sees_one answer kept rest is_last agreed t t' known one named placed wanted more
     ∙ one_more wanted agreed t.names (places + others)
     ∙ ap (λ k. counted (count_in wanted t.names + k)) shift
     ∙ ap (λ v. comes_to wanted answer t more (one_of wanted v + others)) (sym (settled answer kept rest more is_last known may ∙ one))
-
-pub sees_nothing : (answer : Answering) (kept : LogContext) (rest : List ℕ) (is_last : Bool) (t : Tally) → (is_last ≡ true) ⊎ HasItsLine rest
-    → verdict_behind answer kept rest ≡ None → SeesPlace answer kept rest is_last t t
-sees_nothing answer kept rest is_last t known none wanted more others may = none_more wanted answer t more others _ (settled answer kept rest more is_last known may ∙ none)
 
 -- ---- places whose line goes on
 
@@ -144,11 +129,6 @@ resumed answer bytes is_last t t' t'' before places place but is sees wanted mor
     ∙ ap (λ n. comes_to wanted answer t' more (n + others)) (sym (open_more wanted answer (bytes ++ more) places place))
     ∙ ap (λ l. comes_to wanted answer t' more (open_names wanted answer (bytes ++ more) l + others)) (sym is)
     ∙ but wanted more others may
-
-pub all_resumed : (answer : Answering) (bytes : List ℕ) (is_last : Bool) (t t' : Tally) (places : List OpenPlace) → GoesOnBut answer bytes is_last t t' places → places ≡ [] → GoesOn answer bytes is_last t t'
-all_resumed answer bytes is_last t t' places but is wanted more others may =
-    ap (comes_to wanted answer t' more) (sym (none_and others))
-    ∙ ap (λ l. comes_to wanted answer t' more (open_names wanted answer (bytes ++ more) l + others)) (sym is) ∙ but wanted more others may
 
 -- ---- bytes that are passed
 
@@ -210,9 +190,6 @@ some_passed wanted answer kept (b ∷ bytes) (suc n) more some plain =
     subst (λ (l : List ℕ). IsPlain (context_over (next_context kept b) l) (drop k (take n bytes) ++ (drop n bytes ++ more))) (sym (take-take k n bytes (omega (arith, less))))
     (subst (IsPlain (context_over (next_context kept b) (take k bytes))) (ap (λ (l : List ℕ). l ++ more) parts ∙ append_assoc (drop k (take n bytes)) (drop n bytes) more)
     (plain_more (context_over (next_context kept b) (take k bytes)) (drop k bytes) more (plain.1 (suc k) (omega arith) (omega (arith, less)))))))
-
-pub keeps_none : (answer : Answering) (kept : LogContext) (bytes : List ℕ) (is_last : Bool) (t : Tally) → KeepsNames answer kept kept bytes is_last t t 0
-keeps_none answer kept bytes is_last t wanted more may = refl
 
 pub keeps_more : (answer : Answering) (first kept kept' : LogContext) (bytes : List ℕ) (is_last : Bool) (t t' t'' : Tally) (at n : ℕ) → KeepsNames answer first kept bytes is_last t t' at
     → CountsPlace answer kept (drop at bytes) is_last t' t'' → 0 < n → ArePlain kept (drop at bytes) n → kept' ≡ context_over kept (take n (drop at bytes)) → KeepsNames answer first kept' bytes is_last t t'' (at + n)

@@ -14,7 +14,7 @@ use Rattle.modules.specs.Found.{found_in, symbols_from}
 use Rattle.modules.specs.Items.{item_of_address}
 use Rattle.order_laws.specs.declared.items.Item.{Item}
 use Rattle.listing.specs.AddressRules.{place_of, rule_at}
-use Rattle.listing.specs.Answers.{answer_text_by, sought}
+use Rattle.listing.specs.Answers.{Known, answer_of, is_nothing, sought, text_of}
 use Rattle.listing.specs.LogPlaces.{first_place, next_place}
 use Rattle.listing.specs.LogWords.{address_of_word, has_prefix, is_closer, is_word_byte}
 use Rattle.listing.specs.declared.address_rules.AddressRule.{AddressRule}
@@ -31,19 +31,19 @@ pub record Answering : Type 0 where
   pub text : Bool → ℕ → Option (List ℕ)
   pub is_alias : Bool → ℕ → List ℕ → Bool
 
--- the text of the answer for an address
-abbrev pub text_of_address : CatalogEntries → AddressRule → ℕ → List ℕ
-text_of_address c rule addr =
-    answer_text_by c rule (option_and_then (item_of_address c) (place_of rule addr)) addr
+-- what is known of an address
+abbrev pub answer_at : CatalogEntries → AddressRule → ℕ → Known
+answer_at c rule addr =
+    answer_of c rule (option_and_then (item_of_address c) (place_of rule addr)) addr
 
--- a blank and the text, unless this is `-`
-abbrev pub behind_blank : List ℕ → Option (List ℕ)
-behind_blank text = if bytes_eq text (codes "-") then None else Some (codes " " ++ text)
+-- a blank and the text, unless nothing is known
+abbrev pub behind_blank : Known → Option (List ℕ)
+behind_blank k = if is_nothing k then None else Some (codes " " ++ text_of k)
 
 -- a blank and the text of the answer by this rule, for an address whose place says that it is a
 -- caller's, or does not
 abbrev pub text_by : CatalogEntries → LogRule → Bool → ℕ → Option (List ℕ)
-text_by c rule says_so addr = behind_blank (text_of_address c (rule_at rule says_so) addr)
+text_by c rule says_so addr = behind_blank (answer_at c (rule_at rule says_so) addr)
 
 -- one of the symbols has the address and the name
 abbrev pub lists_symbol : List SymbolEntry → ℕ → List ℕ → Bool

@@ -1,7 +1,7 @@
--- The text of an answer.
-use Rattle.std.specs.Prelude.{ℕ, ◌+◌, ◌&&◌, nat_eq, nat_le, nat_lt, if◌then◌else◌, List, [], ◌++◌, codes}
-use Rattle.std.specs.Prelude.{Option, Some, None, option_and_then}
-use Rattle.std.specs.Option.{option_map_or}
+-- What is known of an address, and its text.
+use Rattle.std.specs.Prelude.{ℕ, Bool, ◌+◌, ◌&&◌, nat_eq, nat_le, nat_lt, if◌then◌else◌, List, [], ◌++◌, codes}
+use Rattle.std.specs.Prelude.{Option, Some, None, is_none, option_and_then}
+use Rattle.std.specs.Option.{option_map, option_map_or}
 use Rattle.listing.specs.declared.address_rules.AddressRule.{AddressRule}
 use Rattle.listing.specs.AddressRules.{before_of, place_of}
 use Rattle.texts.specs.Exact.{hexadecimal}
@@ -10,36 +10,36 @@ use Rattle.modules.specs.Catalogs.{module_of}
 use Rattle.modules.specs.Entries.{CatalogEntries, ModuleEntry}
 use Rattle.modules.specs.Found.{Found, found_in, symbols_from}
 
--- `NAME+0xOFFSET/0xSIZE`
-unfoldable pub symbol_text : Found → List ℕ
-symbol_text f =
-    f.symbol.name ++ codes "+" ++ hexadecimal f.offset ++ codes "/" ++ hexadecimal f.size
+-- ---- what is known
 
--- ` [MODULE]`, and nothing for the kernel itself
-unfoldable pub module_text : ℕ → List ℕ → List ℕ
-module_text number name = if nat_eq number 0 then [] else codes " [" ++ name ++ codes "]"
+-- the symbol that an address belongs to, as it is told of it, and the name of its module, where
+-- that is not the kernel itself
+pub record Known : Type 0 where
+  pub found : Option Found
+  pub owner : Option (List ℕ)
 
--- what is known of an address where no symbol is at or below it
-abbrev pub unknown_text : ℕ → List ℕ → List ℕ
-unknown_text number name =
-    if nat_eq number 0 then codes "-" else codes "?" ++ module_text number name
+abbrev pub nothing : Known
+nothing = record { found = None; owner = None }
+
+abbrev pub is_nothing : Known → Bool
+is_nothing k = is_none k.found && is_none k.owner
 
 -- the symbol, as it is told of an address so many bytes farther on
 abbrev pub farther : ℕ → Found → Found
 farther bytes f = record f { offset = f.offset + bytes }
 
 -- of an address in a region of the module, told of one that lies `before` bytes farther on
-abbrev pub text_in : ModuleEntry → Item → ℕ → ℕ → List ℕ
-text_in m item before addr =
-    option_map_or
-    (λ f. symbol_text (farther before f) ++ module_text item.tag m.name)
-    (found_in (symbols_from m.symbols item.a item.b) item.b addr)
-    (unknown_text item.tag m.name)
+abbrev pub answer_in : ModuleEntry → Item → ℕ → ℕ → Known
+answer_in m item before addr = record {
+  found =
+      option_map (farther before) (found_in (symbols_from m.symbols item.a item.b) item.b addr);
+  owner = if nat_eq item.tag 0 then None else Some m.name;
+}
 
 -- of an address that the item holds
-abbrev pub held_text : CatalogEntries → Item → ℕ → ℕ → List ℕ
-held_text c item before addr =
-    option_map_or (λ m. text_in m item before addr) (module_of c item.tag) (codes "-")
+abbrev pub held_answer : CatalogEntries → Item → ℕ → ℕ → Known
+held_answer c item before addr =
+    option_map_or (λ m. answer_in m item before addr) (module_of c item.tag) nothing
 
 -- the item and the address, where the item holds it
 abbrev pub held_at : Option Item → ℕ → Option (Item × ℕ)
@@ -51,12 +51,29 @@ held_at (Some item) addr =
 abbrev pub sought : AddressRule → Option Item → ℕ → Option (Item × ℕ)
 sought rule item addr = option_and_then (held_at item) (place_of rule addr)
 
--- of an address that is looked up as it is, and the item that was found for it
-abbrev pub answer_text : CatalogEntries → Option Item → ℕ → List ℕ
-answer_text c item addr =
-    option_map_or (λ s. held_text c s.0 0 s.1) (held_at item addr) (codes "-")
+-- of an address that is taken by a rule, and the item that was found for the one looked up
+abbrev pub answer_of : CatalogEntries → AddressRule → Option Item → ℕ → Known
+answer_of c rule item addr =
+    option_map_or (λ s. held_answer c s.0 (before_of rule) s.1) (sought rule item addr) nothing
+
+-- ---- its text
+
+-- `NAME+0xOFFSET/0xSIZE`
+unfoldable pub symbol_text : Found → List ℕ
+symbol_text f =
+    f.symbol.name ++ codes "+" ++ hexadecimal f.offset ++ codes "/" ++ hexadecimal f.size
+
+-- ` [MODULE]`, and nothing for the kernel itself
+unfoldable pub owner_text : Option (List ℕ) → List ℕ
+owner_text None = []
+owner_text (Some name) = codes " [" ++ name ++ codes "]"
+
+-- a symbol, `?` where the module alone is known, and `-` where nothing is
+abbrev pub text_of : Known → List ℕ
+text_of k =
+    option_map_or symbol_text k.found (if is_nothing k then codes "-" else codes "?")
+    ++ owner_text k.owner
 
 -- of an address that is taken by a rule, and the item that was found for the one looked up
 abbrev pub answer_text_by : CatalogEntries → AddressRule → Option Item → ℕ → List ℕ
-answer_text_by c rule item addr =
-    option_map_or (λ s. held_text c s.0 (before_of rule) s.1) (sought rule item addr) (codes "-")
+answer_text_by c rule item addr = text_of (answer_of c rule item addr)

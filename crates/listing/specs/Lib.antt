@@ -1,7 +1,7 @@
 -- The definitions of this crate, in the order in which to read them.
 -- how an address is taken that a user gives
 pub mod AddressRules
--- the text of an answer
+-- what is known of an address, and its text
 pub mod Answers
 -- lines that are taken, or skipped for a cause
 pub mod Skipping
@@ -19,6 +19,8 @@ pub mod ListingNotes
 pub mod RegionListing
 -- what listings say: a catalog, how many of their lines went where, and what is noted of them
 pub mod Opening
+-- where the lines of listings went
+pub mod Tallies
 -- the words of a log, and the addresses that words are
 pub mod LogWords
 -- what a file of addresses says

@@ -34,13 +34,13 @@ symbols_of mapping text = symbols_with mapping (symbols_in (lines_of text))
 
 -- The catalog that two listings and these region lines say. The names of the kernel's bounds may be
 -- given.
-abbrev pub catalog_of_texts : Option BoundNames → Bool → List ℕ → List ℕ → List ListedRegion
+unfoldable pub catalog_of_texts : Option BoundNames → Bool → List ℕ → List ℕ → List ListedRegion
     → CatalogEntries
 catalog_of_texts kernel mapping modules kallsyms lines =
     catalog_of kernel (modules_in (lines_of modules)) lines (symbols_of mapping kallsyms)
 
 -- how many of their entries went where
-abbrev pub counts_of_texts : Option BoundNames → Bool → List ℕ → List ℕ → List ListedRegion
+unfoldable pub counts_of_texts : Option BoundNames → Bool → List ℕ → List ℕ → List ListedRegion
     → BuildCounts
 counts_of_texts kernel mapping modules kallsyms lines =
     build_of_listed (length (symbols_in (lines_of kallsyms)))

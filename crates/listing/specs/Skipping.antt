@@ -1,7 +1,7 @@
 -- Lines that are taken, or skipped for a cause.
 use Rattle.std.specs.Prelude.{ℕ, ◌+◌, Bool, false, ◌==◌, List, map, Result, Ok, Err, count_by}
 use Rattle.std.specs.Prelude.{slice_index, slice_set}
-use Rattle.std.specs.List.{filter_map, zip}
+use Rattle.std.specs.List.{filter_map}
 use Rattle.std.specs.Result.{result_ok}
 
 -- what the lines are that are taken, in their order
@@ -25,7 +25,3 @@ counts_by place causes said lines = map (skipped_for place said lines) causes
 -- the counts with one more line that is skipped for the cause at a place
 abbrev pub one_more_at : ℕ → List ℕ → List ℕ
 one_more_at k counts = slice_set counts k (slice_index counts k + 1)
-
--- the sums of two lists of counts, place by place
-abbrev pub sums_of : List ℕ → List ℕ → List ℕ
-sums_of counts more = map (λ p. p.0 + p.1) (zip counts more)

@@ -1,43 +1,62 @@
-//! The text of an answer.
+//! What is known of an address, and its text.
 
 ghost use Rattle.std.specs.Prelude.{◌≡◌, ◌+◌, ◌^◌, ◌≤◌, ◌<◌, IfSome};
+ghost use Rattle.std.specs.Option.{option_copied};
 ghost use Rattle.texts.specs.Output.{Says};
-ghost use Rattle.listing.specs.Answers.{answer_text, answer_text_by, farther, held_at};
-ghost use Rattle.listing.specs.Answers.{held_text, module_text, sought, symbol_text};
+ghost use Rattle.listing.specs.Answers.{answer_of, farther, held_answer, held_at, is_nothing, owner_text};
+ghost use Rattle.listing.specs.Answers.{nothing, sought, symbol_text, text_of};
 
 use crate::AddressRule;
-use modules::{Catalog, FoundSymbol, symbol_of};
+use modules::{Catalog, FoundSymbol, Module, symbol_in};
 use order_laws::Item;
 use std::io::Write;
+use std::marker::Model;
 use texts::Output;
 
-/// Writes `NAME+0xOFFSET/0xSIZE`.
-#[tactic(auto, unfolding(crate::specs::Answers::symbol_text))]
-fn write_symbol<W: Write>(writer: &mut Output<W>, found: &FoundSymbol)
-    ensures { Says W.contents writer.old writer.new (symbol_text found.now) }
-{
-    let symbol = found.symbol;
-    writer.put(symbol.name);
-    writer.put(b"+");
-    writer.put_hexadecimal(found.offset);
-    writer.put(b"/");
-    writer.put_hexadecimal(found.size);
+/// What is known of an address: nothing, its module alone, or its symbol. A contract sees names
+/// without their places in memory.
+#[derive(Drop)]
+pub struct Answer<'c, 'a> {
+    /// The symbol that the address belongs to, with the offset that is told.
+    pub found: Option<FoundSymbol<'c, 'a>>,
+    /// The name of its module, where that is not the kernel itself.
+    pub owner: Option<&'a [u8]>,
 }
 
-/// Writes ` [MODULE]`, or nothing for number 0.
-#[tactic(auto, unfolding(crate::specs::Answers::module_text))]
-fn write_module<W: Write>(writer: &mut Output<W>, number: u64, name: &[u8])
-    ensures { Says W.contents writer.old writer.new (module_text number name.now) }
-{
-    if number == 0 {
-        return;
+impl<'c, 'a> Model for Answer<'c, 'a> {
+    ghost use Rattle.std.specs.Option.{option_copied};
+    ghost use Rattle.listing.specs.Answers.{Known};
+
+    ghost Value = { Known };
+
+    ghost view = { λ a. record { found = a.found; owner = option_copied a.owner } };
+}
+
+impl<'c, 'a> Answer<'c, 'a> {
+    /// Nothing is known.
+    #[inline(always)]
+    fn nothing() -> Answer<'c, 'a>
+        ensures { result ≡ nothing }
+    {
+        Answer {
+            found: None,
+            owner: None,
+        }
     }
-    writer.put(b" [");
-    writer.put(name);
-    writer.put(b"]");
+}
+
+impl Answer<'_, '_> {
+    /// Whether nothing is known.
+    #[inline(always)]
+    pub fn is_nothing(&self) -> bool
+        ensures { result ≡ is_nothing self.now }
+    {
+        self.found.is_none() && self.owner.is_none()
+    }
 }
 
 /// The symbol as it is told of an address so many bytes farther on.
+#[inline(always)]
 pub fn farther<'c, 'a>(found: FoundSymbol<'c, 'a>, bytes: u64) -> FoundSymbol<'c, 'a>
     requires { found.offset + bytes < 2 ^ 64 }
     ensures { result ≡ farther bytes found.entry }
@@ -47,32 +66,6 @@ pub fn farther<'c, 'a>(found: FoundSymbol<'c, 'a>, bytes: u64) -> FoundSymbol<'c
         offset: found.offset + bytes,
         size: found.size,
     }
-}
-
-/// Writes what is known of an address that the item holds, for one that lies `before` bytes
-/// farther on.
-fn write_held<W: Write>(
-    writer: &mut Output<W>,
-    catalog: &Catalog,
-    item: Item,
-    addr: u64,
-    before: u64,
-)
-    requires from { item.a ≤ addr }
-    requires below { addr < item.b }
-    requires near { before ≤ 1 }
-    ensures { Says W.contents writer.old writer.new
-        (held_text catalog.now item before addr) }
-{
-    let Some(module) = catalog.module(item.tag) else {
-        return writer.put(b"-");
-    };
-    match symbol_of(catalog, item, addr) {
-        Some(found) => write_symbol(writer, &farther(found, before)),
-        None if item.tag == 0 => return writer.put(b"-"),
-        None => writer.put(b"?"),
-    }
-    write_module(writer, item.tag, module.name());
 }
 
 /// The item and the address, where the item holds it.
@@ -90,48 +83,98 @@ fn held_at(item: Option<Item>, addr: u64) -> Option<(Item, u64)>
 
 /// The item that was found for the address that the rule looks up, and this address, where the item
 /// holds it.
-pub fn sought(rule: AddressRule, item: Option<Item>, addr: u64) -> Option<(Item, u64)>
+pub(crate) fn sought(rule: AddressRule, item: Option<Item>, addr: u64) -> Option<(Item, u64)>
     ensures is { result ≡ sought rule item addr }
     ensures holds { IfSome result (λ s. (s.0.a ≤ s.1) × (s.1 < s.0.b)) }
 {
     held_at(item, rule.place_of(addr)?)
 }
 
-/// Writes the text of an answer for an address that is looked up as it is: `write_answer_by` of
-/// [`AddressRule::AS_GIVEN`].
-pub fn write_answer<W: Write>(
-    writer: &mut Output<W>,
-    catalog: &Catalog,
-    item: Option<Item>,
-    addr: u64,
-)
-    ensures { Says W.contents writer.old writer.new (answer_text catalog.now item addr) }
-{
-    match held_at(item, addr) {
-        Some((item, addr)) => write_held(writer, catalog, item, addr, 0),
-        None => writer.put(b"-"),
-    }
-}
-
-/// Writes the text of an answer for an address, where `item` was found for the address that the
-/// rule looks up in its place: `NAME+0xOFFSET/0xSIZE [MODULE]`, without ` [MODULE]` for the kernel
-/// itself, and `? [MODULE]` where no symbol of the module is at or below the address.
+/// What is known of an address, where `item` was found for the address that the rule looks up in its
+/// place.
 ///
-/// It writes `-` where the rule looks nothing up, there is no item, the item does not hold the
+/// It is nothing where the rule looks nothing up, there is no item, the item does not hold the
 /// address, its tag is the number of no module, or the kernel itself has no symbol at or below the
 /// address. It takes no memory.
-pub fn write_answer_by<W: Write>(
-    writer: &mut Output<W>,
-    catalog: &Catalog,
+///
+/// Like [`symbol_in`] it is compiled into its callers.
+#[inline(always)]
+pub fn answer_of<'c, 'a>(
+    catalog: &'c Catalog<'a>,
     rule: AddressRule,
     item: Option<Item>,
     addr: u64,
-)
-    ensures { Says W.contents writer.old writer.new
-        (answer_text_by catalog.now rule item addr) }
+) -> Answer<'c, 'a>
+    ensures { result ≡ answer_of catalog.now rule item addr }
 {
-    match sought(rule, item, addr) {
-        Some((item, place)) => write_held(writer, catalog, item, place, rule.before()),
-        None => writer.put(b"-"),
+    let Some((item, place)) = sought(rule, item, addr) else {
+        return Answer::nothing();
+    };
+    held_answer(catalog, item, place, rule.before())
+}
+
+/// What is known of an address that the item holds, for one that lies `before` bytes farther on.
+#[inline(always)]
+fn held_answer<'c, 'a>(
+    catalog: &'c Catalog<'a>,
+    item: Item,
+    addr: u64,
+    before: u64,
+) -> Answer<'c, 'a>
+    requires from { item.a ≤ addr }
+    requires below { addr < item.b }
+    requires near { before ≤ 1 }
+    ensures { result ≡ held_answer catalog.now item before addr }
+{
+    let Some(module) = catalog.module(item.tag) else {
+        return Answer::nothing();
+    };
+    let found = match symbol_in(module, item.a, item.b, addr) {
+        Some(found) => Some(farther(found, before)),
+        None => None,
+    };
+    let owner = if item.tag == 0 {
+        None
+    } else {
+        Some(module.name())
+    };
+    Answer { found, owner }
+}
+
+/// Writes the text of an answer: `NAME+0xOFFSET/0xSIZE [MODULE]`, without ` [MODULE]` for the kernel
+/// itself, `? [MODULE]` where the module alone is known, and `-` where nothing is.
+pub fn put_answer<W: Write>(writer: &mut Output<W>, answer: &Answer)
+    ensures { Says W.contents writer.old writer.new (text_of answer.now) }
+{
+    match &answer.found {
+        Some(found) => put_symbol(writer, found),
+        None if answer.is_nothing() => writer.put(b"-"),
+        None => writer.put(b"?"),
+    }
+    put_owner(writer, answer.owner);
+}
+
+/// Writes `NAME+0xOFFSET/0xSIZE`.
+#[tactic(auto, unfolding(crate::specs::Answers::symbol_text))]
+fn put_symbol<W: Write>(writer: &mut Output<W>, found: &FoundSymbol)
+    ensures { Says W.contents writer.old writer.new (symbol_text found.now) }
+{
+    let symbol = found.symbol;
+    writer.put(symbol.name);
+    writer.put(b"+");
+    writer.put_hexadecimal(found.offset);
+    writer.put(b"/");
+    writer.put_hexadecimal(found.size);
+}
+
+/// Writes ` [MODULE]`, or nothing for the kernel itself.
+#[tactic(auto, unfolding(crate::specs::Answers::owner_text))]
+fn put_owner<W: Write>(writer: &mut Output<W>, owner: Option<&[u8]>)
+    ensures { Says W.contents writer.old writer.new (owner_text (option_copied owner.entry)) }
+{
+    if let Some(name) = owner {
+        writer.put(b" [");
+        writer.put(name);
+        writer.put(b"]");
     }
 }

@@ -3,8 +3,7 @@ ghost use Rattle.std.specs.Prelude.{◌≡◌, ◌<◌, ◌++◌, codes, length,
 ghost use Rattle.std.specs.Prelude.{option_and_then, option_map};
 ghost use Rattle.modules.specs.Items.{item_of_address};
 ghost use Rattle.listing.specs.AddressRules.{place_of};
-ghost use Rattle.listing.specs.Answers.{answer_text_by};
-ghost use Rattle.texts.specs.Output.{Says};
+ghost use Rattle.listing.specs.Answers.{text_of};
 ghost use Rattle.listing.specs.AnnotatedLogs.{goes_on, says_caller, text_behind};
 ghost use Rattle.listing.specs.LogContexts.{kept_in};
 ghost use Rattle.listing.specs.Insertions.{IsInsertionAt, IsPlaceOf, answering_of};
@@ -13,10 +12,9 @@ use crate::log_contexts::Context;
 use crate::log_index::LogIndex;
 use crate::log_places::Taking;
 use crate::log_words::{address_of_word, has_prefix, is_closer, is_word_byte};
-use crate::{AddressRule, LogRule, write_answer_by};
+use crate::{AddressRule, Answer, LogRule, answer_of, put_answer};
 use order_laws::Item;
 use std::alloc::{AllocError, Global};
-use std::io::Write;
 use texts::Output;
 
 /// What the addresses of a log are answered by.
@@ -95,28 +93,12 @@ impl<'i, 'c> LogAnswers<'i, 'c> {
             (λ o. option_map (λ v. v.items) o ≡ (answering_of self.now).text says_so addr) }
     {
         let rule = self.rule.rule_at(says_so);
-        let Some(item) = self.item_of(rule, addr) else {
+        let item = self.item_of(rule, addr);
+        let answer = answer_of(self.index.catalog(), rule, item, addr);
+        if answer.is_nothing() {
             return Ok(None);
-        };
-        let text = self.written(rule, item, addr)?;
-        Ok(if text.as_slice() == b" -".as_slice() {
-            None
-        } else {
-            Some(text)
-        })
-    }
-
-    /// A blank and the text of the answer.
-    fn written(&self, rule: AddressRule, item: Item, addr: u64) -> Result<Vec<u8>, AllocError>
-        ensures { IfOk result (λ text. text.items
-            ≡ codes " " ++ answer_text_by self.now.index rule (Some item) addr) }
-    {
-        let mut text = Output::new(Vec::with_capacity(self.alloc, ROOM)?);
-        self.put_text(&mut text, rule, item, addr);
-        if text.has_failed() {
-            return Err(AllocError);
         }
-        Ok(text.into_inner())
+        Ok(Some(written(self.alloc, &answer)?))
     }
 
     /// The region that holds the address that the rule looks up.
@@ -126,15 +108,19 @@ impl<'i, 'c> LogAnswers<'i, 'c> {
     {
         self.index.find(rule.place_of(addr)?)
     }
+}
 
-    /// Writes a blank and the text of the answer.
-    fn put_text<W: Write>(&self, writer: &mut Output<W>, rule: AddressRule, item: Item, addr: u64)
-        ensures { Says W.contents writer.old writer.new
-            (codes " " ++ answer_text_by self.now.index rule (Some item) addr) }
-    {
-        writer.put(b" ");
-        write_answer_by(writer, self.index.catalog(), rule, Some(item), addr);
+/// A blank and the text of an answer.
+fn written(alloc: Global, answer: &Answer) -> Result<Vec<u8>, AllocError>
+    ensures { IfOk result (λ text. text.items ≡ codes " " ++ text_of answer.now) }
+{
+    let mut text = Output::new(Vec::with_capacity(alloc, ROOM)?);
+    text.put(b" ");
+    put_answer(&mut text, answer);
+    if text.has_failed() {
+        return Err(AllocError);
     }
+    Ok(text.into_inner())
 }
 
 /// Whether the place of a word says that it is a caller's.

@@ -24,11 +24,12 @@ mod opening;
 mod overlaps;
 mod region_listing;
 mod symbol_listing;
+mod tallies;
 
 pub use address_rules::{AddressRule, Callers, LogRule};
 pub use addresses::read_addresses;
 pub use annotation::{LogFault, annotate};
-pub use answers::{farther, sought, write_answer, write_answer_by};
+pub use answers::{Answer, answer_of, farther, put_answer};
 pub use causes::{Cause, Counts, each_line_is_counted_once};
 pub use laws::{
     addresses_by_their_lines, each_listed_line_is_counted_once, left_out_modules_overlap,
@@ -36,17 +37,14 @@ pub use laws::{
 };
 pub use listing_notes::{
     ListingNote, ListingNotes, SymbolFacts, applies_to_kallsyms, applies_to_modules,
-    note_of_kallsyms, note_of_modules,
 };
 pub use log_names::LogNames;
-pub use looks::{
-    KernelSymbols, are_modules_hidden, are_symbols_hidden, first_line_ends_in_cr, is_gzip,
-    kernel_symbols, looks_like_modules, looks_like_symbols,
-};
+pub use looks::{are_modules_hidden, are_symbols_hidden};
 pub use module_listing::{ModuleCounts, SkippedModule, read_modules};
 pub use opening::{Listings, SymbolListing, open_listings, open_symbols};
 pub use region_listing::read_regions;
 pub use symbol_listing::{
-    ListedSymbols, SkippedSymbol, SymbolCounts, cut, cut_tabbed_line, is_mapping, is_narrow,
-    read_kallsyms, symbol_of_line,
+    SkippedSymbol, SymbolCounts, cut, cut_tabbed_line, is_mapping, is_narrow, read_kallsyms,
+    symbol_of_line,
 };
+pub use tallies::{LineTallies, LineTally, Row, put_counts};

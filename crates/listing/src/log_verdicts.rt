@@ -7,12 +7,12 @@ ghost use Rattle.listing.specs.Insertions.{answering_of};
 ghost use Rattle.listing.specs.LogContexts.{kept_in};
 ghost use Rattle.listing.specs.LogNames.{agrees, has_alias, verdict_behind};
 
+use crate::answers::sought;
 use crate::insertions::{LogAnswers, says_caller};
 use crate::log_contexts::Context;
 use crate::log_index::LogIndex;
 use crate::log_names::name_behind;
 use crate::log_words::address_of_word;
-use crate::sought;
 use modules::{Symbol, symbol_in};
 use order_laws::Item;
 

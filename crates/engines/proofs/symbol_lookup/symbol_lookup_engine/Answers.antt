@@ -1,12 +1,17 @@
-use Rattle.std.proofs.Common.{◌≡◌, refl, subst, sym}
-use Rattle.std.specs.Prelude.{IfSome}
+use Rattle.std.proofs.Common.{◌≡◌, List, ℕ, Option, Some, None, IfSome, refl, subst, sym}
+use Rattle.std.specs.Prelude.{option_and_then}
 use Rattle.texts.specs.Counted.{device_of, failures_of}
 use Rattle.engines.specs.LookupInputs.{known_text}
 use Rattle.engines.specs.Readings.{failures_in}
 use Rattle.engines.specs.SymbolLookups.{IsSymbolLookupOf, known_symbol_inputs, symbol_inputs_of}
 use Rattle.engines.proofs.InputLemmas.{answered_behind}
-use Rattle.engines.proofs.SymbolInputLemmas.{where_text_known}
 use Rattle.engines.proofs.symbol_lookup.symbol_lookup_engine.Goals as goal
+
+-- what holds of what a text says that was read holds of what is known
+where_text_known : {R : Type 0} (P : R → Type 0) (said : List ℕ → Option R) (text : List ℕ) (known : Option (List ℕ)) → IfSome known (λ x. text ≡ x) → IfSome (said text) P
+    → IfSome (option_and_then said known) P
+where_text_known P said text None is p = tt
+where_text_known P said text (Some x) is p = subst (λ s. IfSome (said s) P) is p
 
 pub returns : goal.returns
 returns g c =

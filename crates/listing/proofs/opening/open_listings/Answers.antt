@@ -18,6 +18,7 @@ use Rattle.listing.proofs.ListingNoteLemmas.{bounds_are, copied_some, given_or, 
 use Rattle.listing.proofs.opening.open_listings.Goals as goal
 
 pub returns-clause-said : goal.returns-clause-said
+unfolding catalog_of_texts counts_of_texts
 returns-clause-said c =
     let kernel = option_copied c.args.kernel in
     let mapping = c.args.with_mapping in

@@ -1,0 +1,109 @@
+-- Where the lines of listings went.
+use Rattle.std.specs.Prelude.{ℕ, Bool, if◌then◌else◌, List, [], ◌∷◌, ◌++◌, codes, decimal}
+use Rattle.std.specs.Prelude.{drop, flat_map, map, slice_index, take, Option, Some, None}
+use Rattle.std.specs.Option.{option_map_or}
+use Rattle.listing.specs.ModuleListing.{module_cause_name, module_causes, module_place}
+use Rattle.listing.specs.SymbolListing.{symbol_cause_name, symbol_causes, symbol_place}
+use Rattle.listing.specs.declared.module_listing.SkippedModule.TheVariants as module_cause
+use Rattle.listing.specs.declared.opening.Listings.{Listings}
+use Rattle.listing.specs.declared.opening.SymbolListing.{SymbolListing}
+use Rattle.listing.specs.declared.symbol_listing.SkippedSymbol.TheVariants as symbol_cause
+use Rattle.modules.specs.declared.catalog.BuildCounts.{BuildCounts}
+use Rattle.modules.specs.declared.catalog.KeptCounts.{KeptCounts}
+
+-- what is listed, how much of it is kept, and what else is counted, each with its name
+pub record Tally : Type 0 where
+  pub title : List ℕ
+  pub kept : ℕ
+  pub rows : List (List ℕ × ℕ)
+
+-- of all listings
+pub record Tallies : Type 0 where
+  pub modules : Tally
+  pub symbols : Tally
+  pub regions : Option Tally
+
+-- causes, of which each is known by its place, with their counts
+abbrev pub rows_of : {E : Type 0} → (E → ℕ) → (E → List ℕ) → List ℕ → List E → List (List ℕ × ℕ)
+rows_of place name counts causes = map (λ c. (name c, slice_index counts (place c))) causes
+
+-- of a listing of modules: the causes that the build finds stand before the first cause of a line's
+-- form, which is that it is long
+abbrev pub modules_tally : List ℕ → BuildCounts → Tally
+modules_tally skipped built = record {
+  title = codes "modules";
+  kept = built.modules;
+  rows =
+      rows_of module_place module_cause_name skipped
+      (take (module_place module_cause.Long) module_causes)
+      ++ (codes "overlap", built.overlap) ∷ (codes "double", built.double)
+      ∷ rows_of module_place module_cause_name skipped
+      (drop (module_place module_cause.Long) module_causes);
+}
+
+-- of a listing of symbols, of which so many are kept or stray
+abbrev pub symbols_tally : List ℕ → ℕ → ℕ → Tally
+symbols_tally skipped kept stray = record {
+  title = codes "symbols";
+  kept = kept;
+  rows =
+      rows_of symbol_place symbol_cause_name skipped
+      (take (symbol_place symbol_cause.Long) symbol_causes)
+      ++ (codes "stray", stray)
+      ∷ rows_of symbol_place symbol_cause_name skipped
+      (drop (symbol_place symbol_cause.Long) symbol_causes);
+}
+
+-- of a listing of regions: how many lines a module has its regions from, and how many none has
+abbrev pub regions_tally : BuildCounts → Tally
+regions_tally built = record {
+  title = codes "regions";
+  kept = built.regions;
+  rows = (codes "stray", built.stray_regions) ∷ [];
+}
+
+-- how many modules a listing of symbols alone has, and how many regions these have
+abbrev pub found_tally : KeptCounts → Tally
+found_tally kept = record {
+  title = codes "modules";
+  kept = kept.modules;
+  rows = (codes "regions", kept.regions) ∷ [];
+}
+
+-- of listings of modules and of symbols, and of one of regions where there is one
+abbrev pub tallies_by : List ℕ → List ℕ → Bool → BuildCounts → Tallies
+tallies_by modules symbols given built = record {
+  modules = modules_tally modules built;
+  symbols = symbols_tally symbols built.symbols built.stray;
+  regions = if given then Some (regions_tally built) else None;
+}
+
+-- of a listing of symbols alone
+abbrev pub symbol_tallies_by : KeptCounts → List ℕ → Tallies
+symbol_tallies_by kept skipped = record {
+  modules = found_tally kept;
+  symbols = symbols_tally skipped kept.symbols kept.stray;
+  regions = None;
+}
+
+-- of listings that were opened
+abbrev pub tallies_of : Listings → Tallies
+tallies_of l =
+    tallies_by l.skipped_modules.by_place l.skipped_symbols.by_place l.has_regions l.built
+
+abbrev pub symbol_tallies_of : SymbolListing → Tallies
+symbol_tallies_of l = symbol_tallies_by l.kept l.skipped.by_place
+
+-- ---- their lines
+
+-- ` NAME COUNT`
+unfoldable pub row_text : List ℕ × ℕ → List ℕ
+row_text row = codes " " ++ row.0 ++ codes " " ++ decimal row.1
+
+-- `TITLE KEPT`, and each row
+unfoldable pub tally_line : Tally → List ℕ
+tally_line t = t.title ++ codes " " ++ decimal t.kept ++ flat_map row_text t.rows ++ codes "\n"
+
+-- a line for each listing
+abbrev pub counts_text : Tallies → List ℕ
+counts_text t = tally_line t.modules ++ tally_line t.symbols ++ option_map_or tally_line t.regions []
