@@ -2,9 +2,6 @@
 use Rattle.std.proofs.Common.{true, false, ◌≡◌, ◌∙◌, ℕ, List, [], ◌++◌, length, Option, Some, None, Result, Ok, Err, refl, ap, subst}
 use Rattle.std.specs.Prelude.{IfSome, is_some, unwrap_or}
 use Rattle.clap.specs.Words.{Text}
-use Rattle.texts.specs.declared.output.Output.{Output}
-use Rattle.texts.specs.Output.{Says, WroteAll, WrotePart, has_failed}
-use Rattle.texts.proofs.OutputLemmas.{all_written, part_written}
 use Rattle.texts.specs.Lines.{lines_of}
 use Rattle.listing.specs.ModuleListing.{module_counts, modules_in}
 use Rattle.listing.specs.SymbolListing.{symbol_counts, symbols_in, symbols_with}
@@ -14,20 +11,16 @@ use Rattle.modules.specs.Catalogs.{build_of_listed, catalog_of, counts_of}
 use Rattle.modules.specs.Entries.{CatalogEntries}
 use Rattle.modules.specs.Lines.{bounds_for, usual_bounds}
 use Rattle.modules.specs.Listed.{BoundNames, ListedRegion}
-use Rattle.order_laws.specs.declared.refusals.Refusal.TheVariants as refusal
-use Rattle.latchsym.specs.Checks.{ChecksGiven, ChecksListings, ChecksTexts, IsChecked, IsModulesReport, IsReport, IsSymbolsReport, listings_report, modules_name, regions_beside, status_of_kept, symbol_listing_report}
+use Rattle.latchsym.specs.Checks.{IsModulesReport, IsSymbolsReport, listings_report, modules_name, symbol_listing_report}
 use Rattle.listing.specs.ListingNotes.{is_of_kallsyms, is_of_modules}
 use Rattle.engines.specs.LookupInputs.{Inputs, catalog_in, counts_in, region_lines}
 use Rattle.engines.specs.LookupTexts.{modules_line, symbols_line}
 use Rattle.engines.specs.Lookups.{AreListingsOf, regions_line_of}
 use Rattle.latchsym.specs.NoteTexts.{applying_lines}
-use Rattle.engines.specs.OpenedCatalogs.{Given, HasBadRegion, HasCrowdedRegions, opening_options}
-use Rattle.engines.specs.Readings.{Failures, NoReaderFailed}
+use Rattle.engines.specs.OpenedCatalogs.{opening_options}
 use Rattle.engines.specs.SymbolLookups.{counts_text_of}
 use Rattle.listing.specs.Opening.{IsSymbolListing, kept_in_text, listed}
-use Rattle.latchsym.specs.declared.command_line.ListingFiles.{ListingFiles}
-use Rattle.engines.specs.declared.fault.Fault.{Fault}
-use Rattle.engines.specs.declared.fault.Fault.TheVariants.{Refused, BadLine, Write}
+use Rattle.latchsym.specs.declared.requests.ListingFiles.{ListingFiles}
 use Rattle.listing.specs.declared.opening.Listings.{Listings}
 use Rattle.listing.specs.declared.opening.SymbolListing.{SymbolListing}
 
@@ -79,29 +72,3 @@ symbols_reported kernel file text l names is named =
           ∙ ap (λ s. applying_lines n file (is_of_kallsyms n text kept.symbols) ++ counts_text_of kept s) is.skipped,
       ap (λ k. k.symbols) is.kept,
     )
-
--- ---- what is returned
-
-module _ {W : Type 0} (contents : W → Option (List ℕ)) (Is : List ℕ → ℕ → Type 0) (regions : Option (List ℕ)) (w w' : Output W) (text : List ℕ) (kept : ℕ) (report : Is text kept) (said : Says contents w w' text) where
-  pub was_written : has_failed w' ≡ false → (status : ℕ) → status ≡ status_of_kept kept → ChecksTexts contents Is regions w w' (Ok status)
-  was_written sound status says = (text, kept, report, all_written said sound, says)
-
-  pub was_not_written : has_failed w' ≡ true → ChecksTexts contents Is regions w w' (Err Write)
-  was_not_written failed = (status_of_kept kept, (text, kept, report, part_written said failed, refl))
-
--- the same where the texts come from readers that did not fail
-module _ {W : Type 0} (contents : W → Option (List ℕ)) (kernel : Option BoundNames) (files : ListingFiles) (g : Given) (known : Option Given) (is : IfSome known (λ k. g ≡ k)) (counts : Failures) (none : NoReaderFailed counts) (w w' : Output W) where
-  said_of : (P : Given → Type 0) → P g → IfSome known P
-  said_of P p = moved known is
-    where
-      moved : (k : Option Given) → IfSome k (λ x. g ≡ x) → IfSome k P
-      moved None h = tt
-      moved (Some x) h = subst P h p
-
-  pub listings_known : (result : Result ℕ Fault) → ChecksGiven contents kernel files g w w' result → ChecksListings contents kernel files known counts w w' result
-  listings_known (Ok status) h = (none, h.3.1, said_of (λ x. IsChecked (WroteAll contents w w') (IsReport kernel files x) status) h)
-  listings_known (Err (Refused refusal.OutOfMemory)) h = (none, h)
-  listings_known (Err (Refused refusal.TooManyRegions)) h = (none, h.0, said_of (λ x. HasCrowdedRegions (regions_beside x.modules x.regions)) h.1)
-  listings_known (Err (BadLine place n)) h = (none, h.0, h.1, said_of (λ x. HasBadRegion n (regions_beside x.modules x.regions)) h.2)
-  listings_known (Err Write) h = (none, h.1.3.0, said_of (λ x. (status : ℕ) × IsChecked (WrotePart contents w w') (IsReport kernel files x) status) h)
-  listings_known (Err _) h = absurd h

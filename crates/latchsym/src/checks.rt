@@ -2,21 +2,22 @@
 //!
 //! A lookup tells of each listing the first note that applies; a check tells them all, and where
 //! they are its answer it writes them.
-ghost use Rattle.std.specs.Prelude.{◌≡◌, None};
-ghost use Rattle.std.specs.Option.{option_copied, option_map};
+ghost use Rattle.std.specs.Prelude.{◌≡◌, None, Some};
+ghost use Rattle.std.specs.Option.{option_copied};
 ghost use Rattle.texts.specs.Output.{Says};
 ghost use Rattle.texts.specs.Lines.{lines_of};
 ghost use Rattle.listing.specs.Looks.{are_modules_hidden, are_symbols_hidden};
-ghost use Rattle.latchsym.specs.Checks.{ChecksGiven, ChecksListings, ChecksTexts, IsModulesReport};
-ghost use Rattle.latchsym.specs.Checks.{IsSymbolsReport, listings_report, modules_name};
-ghost use Rattle.latchsym.specs.Checks.{status_of_kept, symbol_listing_report};
+ghost use Rattle.latchsym.specs.Checks.{IsChecked, listings_report, modules_name, status_of_kept};
+ghost use Rattle.latchsym.specs.Checks.{symbol_listing_report, with_modules};
+ghost use Rattle.latchsym.specs.GivenAnswers.{AnswersGiven, AnswersListings};
 ghost use Rattle.listing.specs.ListingNotes.{is_of_kallsyms, is_of_modules};
 ghost use Rattle.engines.specs.LookupInputs.{inputs_in};
 ghost use Rattle.latchsym.specs.NoteTexts.{applying_lines};
 ghost use Rattle.engines.specs.OpenedCatalogs.{given_in, known_given, listing_failures};
 
-use crate::command_line::ListingFiles;
 use crate::note_texts::put_note_where;
+use crate::reports::unless_failed;
+use crate::requests::ListingFiles;
 use engines::{
     FAILED, Fault, GivenTexts, ListingReaders, LookupInputs, LookupOptions, SUCCEEDED,
     bounds_or_usual, listings_in, put_counts, put_found_counts, read_given, region_lines_in,
@@ -43,7 +44,7 @@ pub fn check_engine<M: Read, K: Read, R: Read, W: Write>(
     files: &ListingFiles<'_>,
     writer: &mut Output<W>,
 ) -> Result<u8, Fault>
-    ensures { ChecksListings W.contents (option_copied kernel.entry) files.now
+    ensures { AnswersListings W.contents (IsChecked (option_copied kernel.entry) files.now)
         (known_given M.remaining K.remaining R.remaining readers.old)
         (listing_failures readers.old readers.new) writer.old writer.new result }
 {
@@ -59,12 +60,12 @@ fn check_given<W: Write>(
     files: &ListingFiles<'_>,
     writer: &mut Output<W>,
 ) -> Result<u8, Fault>
-    ensures { ChecksGiven W.contents (option_copied kernel.entry) files.now (given_in texts.now)
-        writer.old writer.new result }
+    ensures { AnswersGiven W.contents (IsChecked (option_copied kernel.entry) files.now)
+        (given_in texts.now) writer.old writer.new result }
 {
     match &texts.modules {
         Some(modules) => check_modules(alloc, texts, modules, kernel, files, writer),
-        None => check_symbols(alloc, &texts.kallsyms, kernel, files.kallsyms, writer),
+        None => check_symbols(alloc, texts, kernel, files, writer),
     }
 }
 
@@ -77,10 +78,8 @@ fn check_modules<W: Write>(
     files: &ListingFiles<'_>,
     writer: &mut Output<W>,
 ) -> Result<u8, Fault>
-    ensures { ChecksTexts W.contents
-        (IsModulesReport (option_copied kernel.entry) files.now modules.now texts.now.kallsyms.items
-        (option_map (λ text. text.items) texts.now.regions))
-        (option_map (λ text. text.items) texts.now.regions) writer.old writer.new result }
+    ensures { AnswersGiven W.contents (IsChecked (option_copied kernel.entry) files.now)
+        (with_modules (Some modules.now) (given_in texts.now)) writer.old writer.new result }
 {
     let options = LookupOptions {
         kernel: bounds_or_usual(kernel),
@@ -96,31 +95,25 @@ fn check_modules<W: Write>(
     };
     let listings = listings_in(alloc, &inputs, Asked::These(&[]))?;
     put_listings(writer, files, &inputs, &listings);
-    if writer.has_failed() {
-        return Err(Fault::Write);
-    }
-    Ok(status_of_kept(listings.built.symbols))
+    unless_failed(writer, status_of_kept(listings.built.symbols))
 }
 
 /// The same of a listing of symbols alone.
 fn check_symbols<W: Write>(
     alloc: Global,
-    kallsyms: &[u8],
+    texts: &GivenTexts,
     kernel: Option<&KernelBounds>,
-    file: &str,
+    files: &ListingFiles<'_>,
     writer: &mut Output<W>,
 ) -> Result<u8, Fault>
-    ensures { ChecksTexts W.contents
-        (IsSymbolsReport (option_copied kernel.entry) file.now kallsyms.now) None
-        writer.old writer.new result }
+    ensures { AnswersGiven W.contents (IsChecked (option_copied kernel.entry) files.now)
+        (with_modules None (given_in texts.now)) writer.old writer.new result }
 {
+    let kallsyms = texts.kallsyms.as_slice();
     let listing = open_symbols(alloc, kernel, kallsyms, Asked::These(&[]))?;
     let names = kernel.unwrap_or(&listing.usual);
-    put_symbol_listing(writer, names, file, kallsyms, &listing);
-    if writer.has_failed() {
-        return Err(Fault::Write);
-    }
-    Ok(status_of_kept(listing.kept.symbols))
+    put_symbol_listing(writer, names, files.kallsyms, kallsyms, &listing);
+    unless_failed(writer, status_of_kept(listing.kept.symbols))
 }
 
 /// The program's status, by how many symbols are kept.
@@ -133,23 +126,6 @@ fn status_of_kept(kept: u64) -> u8
 /// Writes what applies to listings of modules and of symbols, and their counts, and lets the writer
 /// keep nothing back.
 fn put_listings<W: Write>(
-    writer: &mut Output<W>,
-    files: &ListingFiles<'_>,
-    inputs: &LookupInputs<'_, '_>,
-    listings: &Listings,
-)
-    requires modules { listings.now.modules_hidden
-        ≡ are_modules_hidden (lines_of inputs.now.modules.now) }
-    requires symbols { listings.now.symbols_hidden
-        ≡ are_symbols_hidden (lines_of inputs.now.kallsyms.now) }
-    ensures { Says W.contents writer.old writer.new
-        (listings_report files.now (inputs_in inputs.now) listings.now) }
-{
-    put_listings_report(writer, files, inputs, listings);
-    writer.flush();
-}
-
-fn put_listings_report<W: Write>(
     writer: &mut Output<W>,
     files: &ListingFiles<'_>,
     inputs: &LookupInputs<'_, '_>,
@@ -182,6 +158,7 @@ fn put_listings_report<W: Write>(
         listings.built.symbols,
     );
     put_counts(writer, listings);
+    writer.flush();
 }
 
 /// The name of the file of modules, which is empty where there is none.
@@ -203,21 +180,6 @@ fn put_symbol_listing<W: Write>(
     ensures { Says W.contents writer.old writer.new
         (symbol_listing_report names.now file.now kallsyms.now listing.now) }
 {
-    put_symbols_report(writer, names, file, kallsyms, listing);
-    writer.flush();
-}
-
-fn put_symbols_report<W: Write>(
-    writer: &mut Output<W>,
-    names: &KernelBounds,
-    file: &str,
-    kallsyms: &[u8],
-    listing: &SymbolListing,
-)
-    requires { listing.now.hidden ≡ are_symbols_hidden (lines_of kallsyms.now) }
-    ensures { Says W.contents writer.old writer.new
-        (symbol_listing_report names.now file.now kallsyms.now listing.now) }
-{
     put_symbol_notes(
         writer,
         names,
@@ -227,6 +189,7 @@ fn put_symbols_report<W: Write>(
         listing.kept.symbols,
     );
     put_found_counts(writer, listing);
+    writer.flush();
 }
 
 /// Writes the line of each note that applies to a listing of modules with this text beside one of

@@ -1,0 +1,15 @@
+use Rattle.std.proofs.Common.{◌∙◌, ap, append-nil}
+use Rattle.texts.proofs.OutputLemmas.{same_text, then}
+use Rattle.listing.specs.ListingNotes.{is_of_kallsyms, is_of_modules}
+use Rattle.latchsym.specs.NoteTexts.{applying_lines}
+use Rattle.latchsym.proofs.checks.put_listings.Goals as goal
+
+pub returns : goal.returns
+returns g c =
+    let i = c.args.inputs.now in
+    let l = c.args.listings.now in
+    let names = i.options.now.kernel in
+    let of_modules = ap (λ file. applying_lines names file (is_of_modules i.modules.now i.kallsyms.now l.catalog)) (c.as_bytes-modules.ensures.value ∙ c.modules_name.ensures) in
+    let of_symbols = ap (λ file. applying_lines names file (is_of_kallsyms names i.kallsyms.now l.built.symbols)) c.as_bytes.ensures.value in
+    let said = then (then (same_text of_modules c.put_module_notes.ensures) (same_text of_symbols c.put_symbol_notes.ensures)) c.put_counts.ensures in
+    same_text (append-nil _) (then said c.flush.ensures)

@@ -1,0 +1,11 @@
+use Rattle.std.proofs.Common.{ap, append-nil}
+use Rattle.texts.proofs.OutputLemmas.{same_text, then}
+use Rattle.listing.specs.ListingNotes.{is_of_kallsyms}
+use Rattle.latchsym.specs.NoteTexts.{applying_lines}
+use Rattle.latchsym.proofs.checks.put_symbol_listing.Goals as goal
+
+pub returns : goal.returns
+returns g c =
+    let a = c.args in
+    let of_symbols = ap (λ file. applying_lines a.names.now file (is_of_kallsyms a.names.now a.kallsyms.now a.listing.now.kept.symbols)) c.as_bytes.ensures.value in
+    same_text (append-nil _) (then (then (same_text of_symbols c.put_symbol_notes.ensures) c.put_found_counts.ensures) c.flush.ensures)
