@@ -1,22 +1,7 @@
 -- From what came of a log by the catalog of listings to what the engine returns.
-use Rattle.std.proofs.Common.{◌≡◌, ℕ, List, [], Option, Some, None, Result, Ok, Err, refl, sym, subst, inl, inr, ⊎_elim}
-use Rattle.std.specs.Prelude.{IfSome}
-use Rattle.texts.specs.declared.counted.Counted.{Counted}
-use Rattle.texts.specs.declared.output.Output.{Output}
-use Rattle.listing.specs.AnnotatedLogs.{answered_by}
+use Rattle.latchsym.proofs.Words.{◌≡◌, ℕ, List, [], Option, Some, None, Result, Ok, Err, refl, sym, subst, inl, inr, ⊎_elim, IfSome, Counted, Output, answered_by, HoldsOfRegions, AnnotatesBy, AnnotatesLog, IsTold, AreReadAs, Given, HasBadRegion, HasCrowdedRegions, IsCatalogOf, OpensCatalog, Failures, NoReaderFailed, Fault, Refused, BadLine, Read, TooLong, Write, GivenTexts, Annotate, Request, is_narrow, symbols_in, lines_of}
 use Rattle.order_laws.specs.declared.refusals.Refusal.TheVariants as refusal
-use Rattle.latchsym.specs.GivenAnswers.{HoldsOfRegions}
 use Rattle.latchsym.proofs.GivenLemmas.{known_too}
-use Rattle.latchsym.specs.Annotations.{AnnotatesBy, AnnotatesLog, IsTold}
-use Rattle.engines.specs.OpenedCatalogs.{AreReadAs, Given, HasBadRegion, HasCrowdedRegions, IsCatalogOf, OpensCatalog}
-use Rattle.engines.specs.Readings.{Failures, NoReaderFailed}
-use Rattle.engines.specs.declared.fault.Fault.{Fault}
-use Rattle.engines.specs.declared.fault.Fault.TheVariants.{Refused, BadLine, Read, TooLong, Write}
-use Rattle.engines.specs.declared.opened_catalogs.GivenTexts.{GivenTexts}
-use Rattle.latchsym.specs.declared.requests.Annotate.{Annotate}
-use Rattle.latchsym.specs.declared.requests.Request.{Request}
-use Rattle.listing.specs.SymbolListing.{is_narrow, symbols_in}
-use Rattle.texts.specs.Lines.{lines_of}
 
 module _ {L W E : Type 0} (remaining : L → Option (List ℕ)) (contents : W → Option (List ℕ)) (errors : E → Option (List ℕ)) (q : Request) (a : Annotate) where
   -- the catalog could not be opened

@@ -1,16 +1,6 @@
 -- From what was written about listings to what the engine returns.
-use Rattle.std.proofs.Common.{◌≡◌, ℕ, List, Bool, true, false, cond, Option, Some, None, Result, Ok, Err, refl, sym, subst}
-use Rattle.std.specs.Prelude.{IfSome}
-use Rattle.texts.specs.declared.output.Output.{Output}
-use Rattle.texts.specs.Output.{Says, WroteAll, WrotePart, has_failed}
-use Rattle.texts.proofs.OutputLemmas.{all_written, part_written}
-use Rattle.modules.specs.Listed.{BoundNames}
+use Rattle.latchsym.proofs.Words.{◌≡◌, ℕ, List, Bool, true, false, cond, Option, Some, None, Result, Ok, Err, refl, sym, subst, IfSome, Output, Says, WroteAll, WrotePart, has_failed, all_written, part_written, BoundNames, Given, HasBadRegion, HasCrowdedRegions, OpensCatalog, Failures, NoReaderFailed, Fault, Refused, BadLine, Write, AnswersGiven, AnswersListings, HoldsOfRegions, IsTextWritten}
 use Rattle.order_laws.specs.declared.refusals.Refusal.TheVariants as refusal
-use Rattle.engines.specs.OpenedCatalogs.{Given, HasBadRegion, HasCrowdedRegions, OpensCatalog}
-use Rattle.engines.specs.Readings.{Failures, NoReaderFailed}
-use Rattle.engines.specs.declared.fault.Fault.{Fault}
-use Rattle.engines.specs.declared.fault.Fault.TheVariants.{Refused, BadLine, Write}
-use Rattle.latchsym.specs.GivenAnswers.{AnswersGiven, AnswersListings, HoldsOfRegions, IsTextWritten}
 
 -- what holds of listings that were read holds of them where they are known
 pub known_too : {G : Type 0} (P : G → Type 0) (g : G) (known : Option G) → IfSome known (λ k. g ≡ k) → P g → IfSome known P

@@ -1,3 +1,5 @@
+-- the words that the proofs of this crate use
+mod Words
 -- what a parse by the program's command gives
 mod ParseLemmas
 -- words that are numbers, one after the other
@@ -6,13 +8,9 @@ mod AddressLemmas
 mod FaultLemmas
 -- from what came of a log to what the engine returns
 mod AnnotationLemmas
--- what listings that are checked say is the report on them
-mod CheckLemmas
 -- the kept symbols of the names that words ask for, symbol by symbol
 mod SoughtLemmas
 -- from what was written about listings to what the engine returns
 mod GivenLemmas
 -- where the last byte of its kind stands, and where a symbol that was found ends
 mod AskedNameLemmas
--- the place of a word among words and among their texts
-mod OperandLemmas

@@ -1,26 +1,8 @@
 -- What a parse by the program's command gives.
-use Rattle.std.proofs.Common.{◌≡◌, ◌∙◌, ◌||◌, ap, sym, List, [], Option, Some, None, Result, Ok, Err, true, false, refl, subst, inl, inr}
-use Rattle.std.specs.Borrow.{Bor}
-use Rattle.std.specs.Prelude.{Box, IfOk, option_map}
-use Rattle.std.specs.Box.{box_value}
-use Rattle.facts.proofs.Options.{Some-from_parts}
-use Rattle.clap.specs.declared.parser.matches.ArgMatches.TheViews.{out-ArgMatches, out-SubCommand}
-use Rattle.clap.specs.declared.parser.matches.SubCommand.{SubCommand}
-use Rattle.clap.specs.Built.{AddsSubcommand}
-use Rattle.clap.specs.Simple.{shape_of, with_subcommand}
-use Rattle.clap.specs.Words.{AddsArg, Row, subcommand_name_of, subcommand_rows, App, Rule, Text, rule_of, with_rule, HasKind, HasMatchesOf, IsAmong, fault_of, is_simple, is_simple_and_free, kind_of, subcommand_of, subcommand_rows_of}
-use Rattle.clap.specs.declared.error.Error.{Error}
-use Rattle.clap.specs.declared.error.kind.ErrorKind.TheVariants as kind
-use Rattle.clap.specs.declared.parser.matches.ArgMatches.{ArgMatches}
+use Rattle.latchsym.proofs.Words.{◌≡◌, ◌∙◌, ◌||◌, ap, sym, List, [], Option, Some, None, Result, Ok, Err, true, false, refl, subst, inl, inr, Bor, Box, IfOk, box_value, Some-from_parts, out-ArgMatches, out-SubCommand, SubCommand, AddsSubcommand, shape_of, with_subcommand, AddsArg, Row, subcommand_name_of, subcommand_rows, App, Rule, Text, rule_of, with_rule, HasKind, HasMatchesOf, IsAmong, fault_of, is_simple, is_simple_and_free, kind_of, subcommand_of, subcommand_rows_of, Error, ArgMatches, Arg, Command, out-Command, IsCommand, IsPlainArg, latchsym_app, AnswersMatches, AnswersWords, IsFaultOf, IsUnparsed, Job, JobFault, CommandLine, OutOfMemory}
 use Rattle.clap.proofs.OnLiterals.{clap_on_literals}
-use Rattle.clap.specs.declared.builder.arg.Arg.{Arg}
-use Rattle.clap.specs.declared.builder.command.Command.{Command}
-use Rattle.clap.specs.declared.builder.command.Command.TheViews.{out-Command}
-use Rattle.latchsym.specs.CommandLine.{IsCommand, IsPlainArg, latchsym_app}
-use Rattle.latchsym.specs.Jobs.{AnswersMatches, AnswersWords, IsFaultOf, IsUnparsed}
-use Rattle.latchsym.specs.declared.requests.Job.{Job}
-use Rattle.latchsym.specs.declared.requests.JobFault.{JobFault}
-use Rattle.latchsym.specs.declared.requests.JobFault.TheVariants.{CommandLine, OutOfMemory}
+use Rattle.std.specs.Prelude.{option_map}
+use Rattle.clap.specs.declared.error.kind.ErrorKind.TheVariants as kind
 
 is_simple_latchsym : is_simple latchsym_app ≡ true
 unfolding clap_on_literals

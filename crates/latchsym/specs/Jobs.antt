@@ -6,7 +6,9 @@ use Rattle.std.specs.Global.{Vec}
 use Rattle.std.specs.List.{filter_map, list_any, starts_with}
 use Rattle.std.specs.Option.{option_map, option_map_or}
 use Rattle.std.specs.Str.{bytes_eq}
-use Rattle.clap.specs.Words.{IsAmong, Row, Text, all_of, fault_of, first_of, kind_of, subcommand_of}
+use Rattle.clap.specs.Words.{IsAmong, Row, Text, all_of, fault_of, first_of, found_of, kind_of}
+use Rattle.clap.specs.Words.{rows_of, subcommand_of}
+use Rattle.clap.specs.declared.parser.matches.ArgMatches.{ArgMatches}
 use Rattle.clap.specs.declared.error.Error.{Error}
 use Rattle.clap.specs.declared.error.kind.ErrorKind.TheVariants as kind
 use Rattle.engines.specs.declared.forms.AnswerForm.{AnswerForm}
@@ -34,6 +36,10 @@ use Rattle.latchsym.specs.declared.requests.Subcommand.{Subcommand}
 use Rattle.latchsym.specs.declared.requests.Subcommand.TheVariants as sub
 
 -- ---- the values of a subcommand, by the names of its arguments
+
+-- those that a parse found
+abbrev pub rows_in : ArgMatches → List Row
+rows_in found = rows_of (found_of found)
 
 -- all values of an argument
 abbrev pub values_in : Text → List Row → List Text
@@ -91,8 +97,8 @@ abbrev pub are_named : Option BoundNames → Bool
 are_named kernel = not (option_map_or (λ names. is_like_address names.end) kernel false)
 
 -- these are the bounds that are given
-pub record AreBoundsIn (words : List Text) (kernel : Option BoundNames) : Type 0 where
-  pub given : bounds_in words ≡ Some kernel
+pub record AreBoundsIn (rows : List Row) (kernel : Option BoundNames) : Type 0 where
+  pub given : bounds_in (values_in (codes "kernel") rows) ≡ Some kernel
   pub named : are_named kernel ≡ true
 
 -- the second of two names is this word, which looks like an address
@@ -107,6 +113,10 @@ pub record HasBadEnd (words : List Text) (word : Text) : Type 0 where
 abbrev pub offset_of : Option Text → Option ℕ
 offset_of None = Some 0
 offset_of (Some word) = number_of word
+
+-- this is the offset that is given
+abbrev pub IsOffsetIn : List Row → ℕ → Type 0
+IsOffsetIn rows offset = offset_of (first_of (codes "offset") rows) ≡ Some offset
 
 -- this word is given for an offset, and is no number
 pub record HasBadOffset (rows : List Row) (word : Text) : Type 0 where
@@ -141,7 +151,7 @@ pub record IsLookupIn (rows : List Row) (lookup : Lookup) : Type 0 where
   pub addresses : AreNumbersIn rows lookup.addresses
   pub file : option_map (λ f. f.now) lookup.file ≡ first_of (codes "addresses") rows
   pub callers : lookup.rule.callers ≡ has_flag (codes "callers") rows
-  pub lower : offset_of (first_of (codes "offset") rows) ≡ Some lookup.rule.offset
+  pub lower : IsOffsetIn rows lookup.rule.offset
   pub form : lookup.form ≡ form_in rows
 
 -- the number of readers that a word is, which are as many as one table may have
@@ -171,14 +181,14 @@ callers_in rows =
 -- the log, which is the standard input where none is named, and how its addresses are taken
 pub record IsAnnotateIn (rows : List Row) (annotate : Annotate) : Type 0 where
   pub callers : annotate.rule.callers ≡ callers_in rows
-  pub lower : offset_of (first_of (codes "offset") rows) ≡ Some annotate.rule.offset
+  pub lower : IsOffsetIn rows annotate.rule.offset
   pub log : annotate.log.now ≡ unwrap_or (first_of (codes "log") rows) (codes "-")
 
 -- the names, and how their addresses are told
 pub record IsAddressIn (rows : List Row) (address : Address) : Type 0 where
   pub names : map (λ n. n.now) address.names.items ≡ values_in (codes "name") rows
   pub json : address.form.json ≡ has_flag (codes "json") rows
-  pub higher : offset_of (first_of (codes "offset") rows) ≡ Some address.form.higher
+  pub higher : IsOffsetIn rows address.form.higher
 
 -- a subcommand of this name asks for this
 abbrev pub IsSubcommandIn : Text → List Row → Subcommand → Type 0
@@ -195,7 +205,7 @@ IsSubcommandIn name rows (sub.Address address) =
 -- a subcommand of this name asks for this over these listings
 pub record IsRequestIn (name : Text) (rows : List Row) (request : Request) : Type 0 where
   pub files : AreFilesIn rows request.files
-  pub kernel : AreBoundsIn (values_in (codes "kernel") rows) request.kernel
+  pub kernel : AreBoundsIn rows request.kernel
   pub subcommand : IsSubcommandIn name rows request.subcommand
 
 -- the trace in the file of this name is asked for, and whether its steps are to be told
@@ -245,8 +255,9 @@ HasBadValue name rows NoJob = IsIncomplete name rows
 HasBadValue name rows _ = ⊥
 
 -- a part of what a subcommand of this name asks for, or what is wrong with its values
-abbrev pub Gives : {A : Type 0} → (A → Type 0) → Text → List Row → Result A JobFault → Type 0
-Gives Is name rows (Ok part) = Is part
+abbrev pub Gives : {A : Type 0} → (List Row → A → Type 0) → Text → List Row → Result A JobFault
+    → Type 0
+Gives Is name rows (Ok part) = Is rows part
 Gives Is name rows (Err fault) = HasBadValue name rows fault
 
 -- The answer to a subcommand of this name, with these values. Options that do not go together are

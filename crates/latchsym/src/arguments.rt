@@ -1,11 +1,11 @@
 //! From the words of a command line to the job that they ask for.
-ghost use Rattle.std.specs.Prelude.{◌≡◌, ◌≢◌, List, Some, codes, map, option_map, unwrap_or};
-ghost use Rattle.clap.specs.Words.{Row, Text, found_of, first_of, rows_of, subcommand_rows_of};
+ghost use Rattle.std.specs.Prelude.{◌≡◌, ◌≢◌, List, codes, map, option_map, unwrap_or};
+ghost use Rattle.clap.specs.Words.{Row, Text, first_of, subcommand_rows_of};
 ghost use Rattle.latchsym.specs.Jobs.{AnswersMatches, AnswersSubcommand, AnswersWords, AreBoundsIn};
 ghost use Rattle.latchsym.specs.Jobs.{AreFilesIn, AreNumbersIn, Gives, IsAddressIn, IsAnnotateIn};
-ghost use Rattle.latchsym.specs.Jobs.{IsFaultOf, IsJobIn, IsLookupIn, IsRequestIn, IsRunIn};
-ghost use Rattle.latchsym.specs.Jobs.{IsSubcommandIn, callers_in, clash_in, form_in, has_flag};
-ghost use Rattle.latchsym.specs.Jobs.{is_like_address, offset_of, option_clash, readers_of};
+ghost use Rattle.latchsym.specs.Jobs.{IsFaultOf, IsJobIn, IsLookupIn, IsOffsetIn, IsRequestIn};
+ghost use Rattle.latchsym.specs.Jobs.{IsRunIn, IsSubcommandIn, callers_in, clash_in, form_in};
+ghost use Rattle.latchsym.specs.Jobs.{has_flag, is_like_address, option_clash, readers_of, rows_in};
 ghost use Rattle.latchsym.specs.Jobs.{source_clash, values_in};
 
 use crate::address_texts::AddressForm;
@@ -68,7 +68,7 @@ fn job_of_subcommand<'a>(
     name: &str,
     found: &ArgMatches<'a>,
 ) -> Result<Job<'a>, JobFault<'a>>
-    ensures { AnswersSubcommand name.now (rows_of (found_of found.now)) result }
+    ensures { AnswersSubcommand name.now (rows_in found.now) result }
 {
     if let Some(clash) = clash_in(name, found) {
         return Err(clash);
@@ -81,7 +81,7 @@ fn job_of_subcommand<'a>(
 
 /// What is wrong with the options of a subcommand of this name beside one another.
 fn clash_in<'a>(name: &str, found: &ArgMatches<'_>) -> Option<JobFault<'a>>
-    ensures { result ≡ clash_in name.now (rows_of (found_of found.now)) }
+    ensures { result ≡ clash_in name.now (rows_in found.now) }
 {
     match name {
         "lookup" => source_clash(found),
@@ -91,7 +91,7 @@ fn clash_in<'a>(name: &str, found: &ArgMatches<'_>) -> Option<JobFault<'a>>
 
 /// A lookup has its modules from one place.
 fn source_clash<'a>(found: &ArgMatches<'_>) -> Option<JobFault<'a>>
-    ensures { result ≡ source_clash (rows_of (found_of found.now)) }
+    ensures { result ≡ source_clash (rows_in found.now) }
 {
     let is_listed = value_of(found, "modules").is_some();
     let has_regions = value_of(found, "regions").is_some();
@@ -104,7 +104,7 @@ fn source_clash<'a>(found: &ArgMatches<'_>) -> Option<JobFault<'a>>
 
 /// Regions are those of listed modules, and the addresses of a log are taken in one way.
 fn option_clash<'a>(found: &ArgMatches<'_>) -> Option<JobFault<'a>>
-    ensures { result ≡ option_clash (rows_of (found_of found.now)) }
+    ensures { result ≡ option_clash (rows_in found.now) }
 {
     if value_of(found, "modules").is_none() && value_of(found, "regions").is_some() {
         Some(JobFault::RegionsAlone)
@@ -116,8 +116,7 @@ fn option_clash<'a>(found: &ArgMatches<'_>) -> Option<JobFault<'a>>
 }
 
 fn trace_in<'a>(found: &ArgMatches<'a>) -> Result<Job<'a>, JobFault<'a>>
-    ensures { Gives (IsJobIn (codes "trace") (rows_of (found_of found.now))) (codes "trace")
-        (rows_of (found_of found.now)) result }
+    ensures { Gives (IsJobIn (codes "trace")) (codes "trace") (rows_in found.now) result }
 {
     match value_of(found, "file") {
         Some(file) if is_given(found, "steps") => Ok(Job::Steps { file }),
@@ -133,8 +132,7 @@ fn request_in<'a>(
     found: &ArgMatches<'a>,
 ) -> Result<Request<'a>, JobFault<'a>>
     requires { name.now ≢ codes "trace" }
-    ensures { Gives (IsRequestIn name.now (rows_of (found_of found.now))) name.now
-        (rows_of (found_of found.now)) result }
+    ensures { Gives (IsRequestIn name.now) name.now (rows_in found.now) result }
 {
     let kernel = bounds_in(found)?;
     let subcommand = subcommand_in(alloc, name, found)?;
@@ -147,7 +145,7 @@ fn request_in<'a>(
 
 /// The files of the listings.
 fn files_in<'a>(found: &ArgMatches<'a>) -> ListingFiles<'a>
-    ensures { AreFilesIn (rows_of (found_of found.now)) result }
+    ensures { AreFilesIn (rows_in found.now) result }
 {
     ListingFiles {
         modules: value_of(found, "modules"),
@@ -160,9 +158,7 @@ fn files_in<'a>(found: &ArgMatches<'a>) -> ListingFiles<'a>
 /// one name alone, its first address is taken for the other, which is what a `0x` in front of it
 /// tells.
 fn bounds_in<'a>(found: &ArgMatches<'a>) -> Result<Option<KernelBounds<'a>>, JobFault<'a>>
-    ensures { (name : Text)
-        → Gives (AreBoundsIn (values_in (codes "kernel") (rows_of (found_of found.now)))) name
-        (rows_of (found_of found.now)) result }
+    ensures { (name : Text) → Gives AreBoundsIn name (rows_in found.now) result }
 {
     match values_of(found, "kernel") {
         [] => Ok(None),
@@ -189,8 +185,7 @@ fn subcommand_in<'a>(
     found: &ArgMatches<'a>,
 ) -> Result<Subcommand<'a>, JobFault<'a>>
     requires { name.now ≢ codes "trace" }
-    ensures { Gives (IsSubcommandIn name.now (rows_of (found_of found.now))) name.now
-        (rows_of (found_of found.now)) result }
+    ensures { Gives (IsSubcommandIn name.now) name.now (rows_in found.now) result }
 {
     match name {
         "lookup" => Ok(Subcommand::Lookup(lookup_in(alloc, found)?)),
@@ -204,8 +199,7 @@ fn subcommand_in<'a>(
 
 /// The addresses that are looked up, of which there has to be one or a file of them.
 fn lookup_in<'a>(alloc: Global, found: &ArgMatches<'a>) -> Result<Lookup<'a>, JobFault<'a>>
-    ensures { Gives (IsLookupIn (rows_of (found_of found.now))) (codes "lookup")
-        (rows_of (found_of found.now)) result }
+    ensures { Gives IsLookupIn (codes "lookup") (rows_in found.now) result }
 {
     let offset = offset_in(found)?;
     let file = value_of(found, "addresses");
@@ -227,7 +221,7 @@ fn lookup_in<'a>(alloc: Global, found: &ArgMatches<'a>) -> Result<Lookup<'a>, Jo
 
 /// The form in which the answers of a lookup are written.
 fn form_in(found: &ArgMatches<'_>) -> AnswerForm
-    ensures { result ≡ form_in (rows_of (found_of found.now)) }
+    ensures { result ≡ form_in (rows_in found.now) }
 {
     AnswerForm {
         json: is_given(found, "json"),
@@ -238,7 +232,7 @@ fn form_in(found: &ArgMatches<'_>) -> AnswerForm
 /// The numbers that words are.
 fn numbers_of<'a>(alloc: Global, words: &[&'a str]) -> Result<Vec<u64>, JobFault<'a>>
     ensures { (rows : List Row) → map (λ w. w.now) words.now ≡ values_in (codes "address") rows
-        → Gives (AreNumbersIn rows) (codes "lookup") rows result }
+        → Gives AreNumbersIn (codes "lookup") rows result }
 {
     let mut numbers = Vec::new(alloc);
     for word in words {
@@ -252,8 +246,7 @@ fn numbers_of<'a>(alloc: Global, words: &[&'a str]) -> Result<Vec<u64>, JobFault
 
 /// The script that is run, over modules that are listed.
 fn run_in<'a>(found: &ArgMatches<'a>) -> Result<Run<'a>, JobFault<'a>>
-    ensures { Gives (IsRunIn (rows_of (found_of found.now))) (codes "run")
-        (rows_of (found_of found.now)) result }
+    ensures { Gives IsRunIn (codes "run") (rows_in found.now) result }
 {
     let (Some(_), Some(word), Some(script)) = (
         value_of(found, "modules"),
@@ -277,8 +270,7 @@ fn readers_in(word: &str) -> Option<u32>
 
 /// The log that is annotated.
 fn annotate_in<'a>(found: &ArgMatches<'a>) -> Result<Annotate<'a>, JobFault<'a>>
-    ensures { Gives (IsAnnotateIn (rows_of (found_of found.now))) (codes "annotate")
-        (rows_of (found_of found.now)) result }
+    ensures { Gives IsAnnotateIn (codes "annotate") (rows_in found.now) result }
 {
     let offset = offset_in(found)?;
     Ok(Annotate {
@@ -292,7 +284,7 @@ fn annotate_in<'a>(found: &ArgMatches<'a>) -> Result<Annotate<'a>, JobFault<'a>>
 
 /// Which addresses of a log are taken as return addresses.
 fn callers_in(found: &ArgMatches<'_>) -> Callers
-    ensures { result ≡ callers_in (rows_of (found_of found.now)) }
+    ensures { result ≡ callers_in (rows_in found.now) }
 {
     if is_given(found, "callers") {
         Callers::Every
@@ -305,8 +297,7 @@ fn callers_in(found: &ArgMatches<'_>) -> Callers
 
 /// The names that are looked for.
 fn address_in<'a>(alloc: Global, found: &ArgMatches<'a>) -> Result<Address<'a>, JobFault<'a>>
-    ensures { Gives (IsAddressIn (rows_of (found_of found.now))) (codes "address")
-        (rows_of (found_of found.now)) result }
+    ensures { Gives IsAddressIn (codes "address") (rows_in found.now) result }
 {
     let higher = offset_in(found)?;
     let Ok(names) = Vec::from_slice(alloc, values_of(found, "name")) else {
@@ -321,9 +312,7 @@ fn address_in<'a>(alloc: Global, found: &ArgMatches<'a>) -> Result<Address<'a>, 
 
 /// By how many bytes the addresses are moved: none where no word says it.
 fn offset_in<'a>(found: &ArgMatches<'a>) -> Result<u64, JobFault<'a>>
-    ensures { (name : Text)
-        → Gives (λ n. offset_of (first_of (codes "offset") (rows_of (found_of found.now))) ≡ Some n)
-        name (rows_of (found_of found.now)) result }
+    ensures { (name : Text) → Gives IsOffsetIn name (rows_in found.now) result }
 {
     let Some(word) = value_of(found, "offset") else {
         return Ok(0);
@@ -333,28 +322,28 @@ fn offset_in<'a>(found: &ArgMatches<'a>) -> Result<u64, JobFault<'a>>
 
 /// The value of an argument that takes one.
 fn value_of<'a>(found: &ArgMatches<'a>, id: &str) -> Option<&'a str>
-    ensures { option_map (λ s. s.now) result ≡ first_of id.now (rows_of (found_of found.now)) }
+    ensures { option_map (λ s. s.now) result ≡ first_of id.now (rows_in found.now) }
 {
     found.get_str(id)
 }
 
 /// The value of an argument that takes one, or else the usual one.
 fn value_or<'a>(found: &ArgMatches<'a>, id: &str, usual: &'a str) -> &'a str
-    ensures { result.now ≡ unwrap_or (first_of id.now (rows_of (found_of found.now))) usual.entry.now }
+    ensures { result.now ≡ unwrap_or (first_of id.now (rows_in found.now)) usual.entry.now }
 {
     value_of(found, id).unwrap_or(usual)
 }
 
 /// Whether a flag is given.
 fn is_given(found: &ArgMatches<'_>, id: &str) -> bool
-    ensures { result ≡ has_flag id.now (rows_of (found_of found.now)) }
+    ensures { result ≡ has_flag id.now (rows_in found.now) }
 {
     value_of(found, id) == Some("true")
 }
 
 /// The values of an argument that takes any number of them.
 fn values_of<'m, 'a>(found: &'m ArgMatches<'a>, id: &str) -> &'m [&'a str]
-    ensures { map (λ w. w.now) result.now ≡ values_in id.now (rows_of (found_of found.now)) }
+    ensures { map (λ w. w.now) result.now ≡ values_in id.now (rows_in found.now) }
 {
     found.get_raw(id).unwrap_or_default()
 }

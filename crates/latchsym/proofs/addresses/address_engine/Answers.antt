@@ -1,7 +1,4 @@
-use Rattle.std.proofs.Common.{map}
-use Rattle.std.specs.Option.{option_copied}
-use Rattle.engines.specs.OpenedCatalogs.{given_in, known_given, listing_failures}
-use Rattle.latchsym.specs.Addresses.{IsAddressed}
+use Rattle.latchsym.proofs.Words.{map, option_copied, given_in, known_given, listing_failures, IsAddressed}
 use Rattle.latchsym.proofs.GivenLemmas.{listings_known}
 use Rattle.latchsym.proofs.addresses.address_engine.Goals as goal
 

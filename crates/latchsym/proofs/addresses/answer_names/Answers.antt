@@ -1,13 +1,4 @@
-use Rattle.std.proofs.Common.{[], map, subst, sym}
-use Rattle.std.specs.Prelude.{unwrap_or}
-use Rattle.std.specs.Option.{option_copied}
-use Rattle.latchsym.specs.Addresses.{IsAddressed}
-use Rattle.latchsym.specs.AddressTexts.{words_text}
-use Rattle.latchsym.specs.GivenAnswers.{AnswersGiven}
-use Rattle.latchsym.specs.KeptSymbols.{IsSought, found_by, kept_symbols}
-use Rattle.engines.specs.OpenedCatalogs.{IsCatalogOf, given_in}
-use Rattle.listing.specs.SymbolListing.{symbols_in}
-use Rattle.texts.specs.Lines.{lines_of}
+use Rattle.latchsym.proofs.Words.{[], map, subst, sym, unwrap_or, option_copied, IsAddressed, words_text, AnswersGiven, IsSought, found_by, kept_symbols, IsCatalogOf, given_in, symbols_in, lines_of}
 use Rattle.latchsym.proofs.FaultLemmas.{handed_on}
 use Rattle.latchsym.proofs.GivenLemmas.{not_opened, said_or_not}
 use Rattle.latchsym.proofs.SoughtLemmas.{text_by_map}

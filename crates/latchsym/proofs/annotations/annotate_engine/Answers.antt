@@ -1,5 +1,4 @@
-use Rattle.engines.specs.OpenedCatalogs.{given_in, known_given, listing_failures}
-use Rattle.latchsym.specs.Annotations.{AnnotatesLog}
+use Rattle.latchsym.proofs.Words.{given_in, known_given, listing_failures, AnnotatesLog}
 use Rattle.latchsym.proofs.FaultLemmas.{handed_on}
 use Rattle.latchsym.proofs.AnnotationLemmas.{not_read, readers_known}
 use Rattle.latchsym.proofs.annotations.annotate_engine.Goals as goal

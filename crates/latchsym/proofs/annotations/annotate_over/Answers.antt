@@ -1,13 +1,5 @@
-use Rattle.std.proofs.Common.{[], ◌∙◌, ap, Err, Some, inl, refl, subst, sym}
-use Rattle.latchsym.specs.Reports.{IsNoted}
-use Rattle.listing.specs.ListingNotes.{is_some_noted}
-use Rattle.latchsym.specs.NoteTexts.{note_lines}
-use Rattle.listing.specs.SymbolListing.{is_narrow, symbols_in}
-use Rattle.texts.specs.Lines.{lines_of}
-use Rattle.engines.specs.OpenedCatalogs.{IsCatalogOf, OpensCatalog, given_in}
-use Rattle.engines.specs.declared.fault.Fault.TheVariants.{Refused}
+use Rattle.latchsym.proofs.Words.{[], ◌∙◌, ap, Err, Some, inl, refl, subst, sym, IsNoted, is_some_noted, note_lines, is_narrow, symbols_in, lines_of, IsCatalogOf, OpensCatalog, given_in, Refused, AnnotatesLog}
 use Rattle.order_laws.specs.declared.refusals.Refusal.TheVariants as refusal
-use Rattle.latchsym.specs.Annotations.{AnnotatesLog}
 use Rattle.latchsym.proofs.FaultLemmas.{handed_on}
 use Rattle.latchsym.proofs.AnnotationLemmas.{log_annotated, not_opened}
 use Rattle.latchsym.proofs.annotations.annotate_over.Goals as goal

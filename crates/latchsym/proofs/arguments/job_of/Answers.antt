@@ -1,4 +1,4 @@
-use Rattle.std.proofs.Common.{map}
+use Rattle.latchsym.proofs.Words.{map}
 use Rattle.latchsym.proofs.ParseLemmas.{answers_error, answers_matches}
 use Rattle.latchsym.proofs.arguments.job_of.Goals as goal
 

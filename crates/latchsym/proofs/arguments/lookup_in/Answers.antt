@@ -1,11 +1,4 @@
-use Rattle.std.proofs.Common.{◌≡◌, ◌∙◌, ◌&&◌, ap, sym, refl, nat_eq, List, [], ◌∷◌, length, map, Option, Some, None, option_map, true, false, codes, arith, rules, tests}
-use Rattle.std.specs.Prelude.{is_none, is_some}
-use Rattle.std.specs.Borrow.{Bor}
-use Rattle.std.proofs.lemmas.Bool.{false≢true}
-use Rattle.std.proofs.lemmas.Bool.Decides.{nat_tests}
-use Rattle.std.proofs.lemmas.Grind.{common_steps}
-use Rattle.clap.specs.Words.{Text, found_of, rows_of}
-use Rattle.latchsym.specs.Jobs.{Gives, IsLookupIn}
+use Rattle.latchsym.proofs.Words.{◌≡◌, ◌∙◌, ◌&&◌, ap, sym, refl, nat_eq, List, [], ◌∷◌, length, map, Option, Some, None, option_map, true, false, codes, arith, rules, tests, is_none, is_some, Bor, false≢true, nat_tests, common_steps, Text, found_of, rows_of, Gives, IsLookupIn}
 use Rattle.latchsym.proofs.FaultLemmas.{handed_on}
 use Rattle.latchsym.proofs.arguments.lookup_in.Goals as goal
 
@@ -24,12 +17,12 @@ returns-then-is_none c =
 pub returns-in_err-offset : goal.returns-in_err-offset
 returns-in_err-offset c =
     let rows = rows_of (found_of c.args.found.now) in
-    handed_on (Gives (IsLookupIn rows) (codes "lookup") rows) c.from_residual.result c.in_err-offset.field-0.0 c.from_residual.ensures.1 (c.in_err-offset.ensures (codes "lookup"))
+    handed_on (Gives IsLookupIn (codes "lookup") rows) c.from_residual.result c.in_err-offset.field-0.0 c.from_residual.ensures.1 (c.in_err-offset.ensures (codes "lookup"))
 
 pub returns-in_err-addresses : goal.returns-in_err-addresses
 returns-in_err-addresses c =
     let rows = rows_of (found_of c.args.found.now) in
-    handed_on (Gives (IsLookupIn rows) (codes "lookup") rows) c.from_residual-in_err-addresses.result c.in_err-addresses.field-0.0 c.from_residual-in_err-addresses.ensures.1 (c.in_err-addresses.ensures rows c.values_of-words.ensures)
+    handed_on (Gives IsLookupIn (codes "lookup") rows) c.from_residual-in_err-addresses.result c.in_err-addresses.field-0.0 c.from_residual-in_err-addresses.ensures.1 (c.in_err-addresses.ensures rows c.values_of-words.ensures)
 
 pub returns : goal.returns
 returns c = record {

@@ -1,9 +1,4 @@
-use Rattle.std.proofs.Common.{◌≡◌, [], ◌∷◌, ◌++◌, ◌∙◌, None, ap, refl, subst, sym}
-use Rattle.std.specs.Prelude.{find}
-use Rattle.std.specs.List.{filter_map}
-use Rattle.std.proofs.lemmas.List.{take_all}
-use Rattle.texts.specs.Numbers.{number_of}
-use Rattle.latchsym.specs.Jobs.{is_no_number}
+use Rattle.latchsym.proofs.Words.{◌≡◌, [], ◌∷◌, ◌++◌, ◌∙◌, None, ap, refl, subst, sym, find, filter_map, take_all, number_of, is_no_number}
 use Rattle.latchsym.proofs.AddressLemmas.{first_bad, one_number_more, still_numbers, texts}
 use Rattle.latchsym.proofs.arguments.numbers_of.Goals as goal
 

@@ -1,8 +1,4 @@
-use Rattle.std.proofs.Common.{◌≡◌, take, None}
-use Rattle.std.specs.Prelude.{find}
-use Rattle.std.specs.List.{filter_map}
-use Rattle.texts.specs.Numbers.{number_of}
-use Rattle.latchsym.specs.Jobs.{is_no_number}
+use Rattle.latchsym.proofs.Words.{◌≡◌, take, None, find, filter_map, number_of, is_no_number}
 use Rattle.latchsym.proofs.AddressLemmas.{texts}
 use Rattle.latchsym.proofs.arguments.numbers_of.Given as goal
 

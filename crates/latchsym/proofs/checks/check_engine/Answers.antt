@@ -1,6 +1,4 @@
-use Rattle.std.specs.Option.{option_copied}
-use Rattle.engines.specs.OpenedCatalogs.{given_in, known_given, listing_failures}
-use Rattle.latchsym.specs.Checks.{IsChecked}
+use Rattle.latchsym.proofs.Words.{option_copied, given_in, known_given, listing_failures, IsChecked}
 use Rattle.latchsym.proofs.GivenLemmas.{listings_known}
 use Rattle.latchsym.proofs.checks.check_engine.Goals as goal
 

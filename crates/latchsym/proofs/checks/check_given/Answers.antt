@@ -1,8 +1,4 @@
-use Rattle.std.proofs.Common.{List, ℕ, Option, Some, ap, option_map, subst, sym}
-use Rattle.std.specs.Option.{option_copied}
-use Rattle.engines.specs.OpenedCatalogs.{given_in}
-use Rattle.latchsym.specs.Checks.{IsChecked, with_modules}
-use Rattle.latchsym.specs.GivenAnswers.{AnswersGiven}
+use Rattle.latchsym.proofs.Words.{List, ℕ, Option, Some, ap, option_map, subst, sym, option_copied, given_in, IsChecked, with_modules, AnswersGiven}
 use Rattle.latchsym.proofs.checks.check_given.Goals as goal
 
 pub returns-in-Some : goal.returns-in-Some

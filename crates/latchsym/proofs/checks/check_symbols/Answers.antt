@@ -1,12 +1,19 @@
-use Rattle.std.proofs.Common.{◌∙◌, None, ap, subst}
-use Rattle.std.specs.Option.{option_copied}
-use Rattle.latchsym.specs.Checks.{IsChecked, IsSymbolsReport, symbol_listing_report, with_modules}
-use Rattle.engines.specs.OpenedCatalogs.{given_in}
-use Rattle.listing.specs.Opening.{listed}
-use Rattle.latchsym.proofs.CheckLemmas.{symbols_reported}
+use Rattle.latchsym.proofs.Words.{◌≡◌, ◌∙◌, ℕ, List, ◌++◌, Option, None, ap, subst, Text, KeptCounts, bounds_for, BoundNames, IsSymbolsReport, symbol_listing_report, is_of_kallsyms, applying_lines, counts_text_of, IsSymbolListing, kept_in_text, listed, SymbolListing, option_copied, IsChecked, with_modules, given_in, bounds_are}
 use Rattle.latchsym.proofs.GivenLemmas.{said_or_not}
-use Rattle.listing.proofs.ListingNoteLemmas.{bounds_are}
 use Rattle.latchsym.proofs.checks.check_symbols.Goals as goal
+
+symbols_reported : (kernel : Option BoundNames) (file : Text) (text : List ℕ) (l : SymbolListing) (names : BoundNames) → IsSymbolListing kernel text l → names ≡ bounds_for kernel (listed text)
+    → IsSymbolsReport kernel file text (symbol_listing_report names file text l) l.kept.symbols
+symbols_reported kernel file text l names is named =
+    let n = bounds_for kernel (listed text) in
+    let kept : KeptCounts = kept_in_text text is.modules in (
+      is.modules,
+      is.said,
+      ap (λ m. symbol_listing_report m file text l) named
+          ∙ ap (λ k. applying_lines n file (is_of_kallsyms n text k.symbols) ++ counts_text_of k l.skipped.by_place) is.kept
+          ∙ ap (λ s. applying_lines n file (is_of_kallsyms n text kept.symbols) ++ counts_text_of kept s) is.skipped,
+      ap (λ k. k.symbols) is.kept,
+    )
 
 pub returns : goal.returns
 returns g c =

@@ -1,5 +1,4 @@
-use Rattle.std.proofs.Common.{rules}
-use Rattle.latchsym.specs.CommandLine.{IsCommand, top_app}
+use Rattle.latchsym.proofs.Words.{rules, IsCommand, top_app}
 use Rattle.latchsym.proofs.command_line.latchsym_command.Goals as goal
 
 pub returns : goal.returns

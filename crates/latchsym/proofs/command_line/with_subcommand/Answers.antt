@@ -1,6 +1,4 @@
-use Rattle.std.proofs.Common.{subst}
-use Rattle.std.specs.Prelude.{IfOk}
-use Rattle.latchsym.specs.CommandLine.{IsCommand}
+use Rattle.latchsym.proofs.Words.{subst, IfOk, IsCommand}
 use Rattle.latchsym.proofs.ParseLemmas.{subcommand_more_if_ok}
 use Rattle.latchsym.proofs.command_line.with_subcommand.Goals as goal
 

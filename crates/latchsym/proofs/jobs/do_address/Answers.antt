@@ -1,8 +1,4 @@
-use Rattle.std.proofs.Common.{map, subst}
-use Rattle.std.specs.Option.{option_copied}
-use Rattle.engines.specs.OpenedCatalogs.{known_given, listing_failures}
-use Rattle.latchsym.specs.Addresses.{IsAddressed}
-use Rattle.latchsym.specs.GivenAnswers.{AnswersListings}
+use Rattle.latchsym.proofs.Words.{map, subst, option_copied, known_given, listing_failures, IsAddressed, AnswersListings}
 use Rattle.latchsym.proofs.jobs.do_address.Goals as goal
 
 pub returns : goal.returns

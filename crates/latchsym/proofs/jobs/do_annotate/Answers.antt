@@ -1,5 +1,4 @@
-use Rattle.std.proofs.Common.{ap, ◌∙◌}
-use Rattle.engines.specs.Faults.{with_notes}
+use Rattle.latchsym.proofs.Words.{ap, ◌∙◌, with_notes}
 use Rattle.latchsym.proofs.jobs.do_annotate.Goals as goal
 
 pub returns : goal.returns

@@ -1,8 +1,4 @@
-use Rattle.std.proofs.Common.{ap, subst, ◌∙◌}
-use Rattle.engines.specs.Faults.{with_notes}
-use Rattle.engines.specs.OpenedCatalogs.{known_given, listing_failures}
-use Rattle.latchsym.specs.Checks.{IsChecked}
-use Rattle.latchsym.specs.GivenAnswers.{AnswersListings}
+use Rattle.latchsym.proofs.Words.{ap, subst, ◌∙◌, with_notes, known_given, listing_failures, IsChecked, AnswersListings}
 use Rattle.latchsym.proofs.jobs.do_check.Goals as goal
 
 pub returns : goal.returns

@@ -1,10 +1,4 @@
-use Rattle.std.proofs.Common.{◌∙◌, List, ℕ, ap, subst, true}
-use Rattle.std.specs.Prelude.{unwrap_or}
-use Rattle.engines.specs.LookupInputs.{known_inputs}
-use Rattle.engines.specs.Lookups.{AnswersLookup, failures_between}
-use Rattle.engines.specs.declared.lookup.LookupOptions.{LookupOptions}
-use Rattle.modules.specs.Lines.{usual_bounds}
-use Rattle.modules.specs.Listed.{BoundNames}
+use Rattle.latchsym.proofs.Words.{◌∙◌, List, ℕ, ap, subst, true, unwrap_or, known_inputs, AnswersLookup, failures_between, LookupOptions, usual_bounds, BoundNames}
 use Rattle.latchsym.proofs.jobs.do_lookup.Goals as goal
 
 pub returns : goal.returns

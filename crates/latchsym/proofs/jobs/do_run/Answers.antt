@@ -1,8 +1,4 @@
-use Rattle.std.proofs.Common.{◌∙◌, ap, subst}
-use Rattle.std.specs.Prelude.{unwrap_or}
-use Rattle.engines.specs.RunInputs.{known_run_inputs}
-use Rattle.engines.specs.Runs.{AnswersRun, run_failures_between}
-use Rattle.modules.specs.Lines.{usual_bounds}
+use Rattle.latchsym.proofs.Words.{◌∙◌, ap, subst, unwrap_or, known_run_inputs, AnswersRun, run_failures_between, usual_bounds}
 use Rattle.latchsym.proofs.jobs.do_run.Goals as goal
 
 pub returns : goal.returns

@@ -1,7 +1,4 @@
-use Rattle.std.proofs.Common.{List, ℕ, subst}
-use Rattle.engines.specs.SymbolLookups.{AnswersSymbolLookup, failures_of_symbols, known_symbol_inputs}
-use Rattle.engines.specs.declared.symbol_lookup.SymbolLookupOptions.{SymbolLookupOptions}
-use Rattle.modules.specs.Listed.{BoundNames}
+use Rattle.latchsym.proofs.Words.{List, ℕ, subst, AnswersSymbolLookup, failures_of_symbols, known_symbol_inputs, SymbolLookupOptions, BoundNames}
 use Rattle.std.specs.Prelude.{Option}
 use Rattle.latchsym.proofs.jobs.do_symbol_lookup.Goals as goal
 
