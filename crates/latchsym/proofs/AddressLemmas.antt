@@ -1,15 +1,5 @@
 -- Words that are numbers, one after the other.
-use Rattle.std.proofs.Common.{◌≡◌, ℕ, ◌+◌, ◌<◌, List, [], ◌∷◌, ◌++◌, length, map, take, drop, get_or, Option, Some, None, refl, sym, ◌∙◌, ap}
-use Rattle.std.specs.Prelude.{find}
-use Rattle.std.specs.Borrow.{Bor}
-use Rattle.std.specs.List.{filter_map}
-use Rattle.std.specs.Option.{option_or}
-use Rattle.std.proofs.lemmas.List.{map-append, take_more, take-append-drop}
-use Rattle.std.proofs.lemmas.List.Elements.{filter_map-append}
-use Rattle.std.proofs.lemmas.List.Folds.{find-append}
-use Rattle.clap.specs.Words.{Text}
-use Rattle.texts.specs.Numbers.{number_of}
-use Rattle.latchsym.specs.Jobs.{is_no_number}
+use Rattle.latchsym.proofs.Words.{◌≡◌, ℕ, ◌+◌, ◌<◌, List, [], ◌∷◌, ◌++◌, length, map, take, drop, get_or, Option, Some, None, refl, sym, ◌∙◌, ap, find, Bor, filter_map, option_or, map-append, take_more, take-append-drop, filter_map-append, find-append, Text, number_of, is_no_number}
 
 -- the texts of words
 abbrev pub texts : List (Bor Text) → List Text

@@ -1,32 +1,12 @@
 -- From what came of a log by the catalog of listings to what the engine returns.
-use Rattle.std.proofs.Common.{◌≡◌, ℕ, List, [], Option, Some, None, Result, Ok, Err, refl, sym, subst, inl, inr, ⊎_elim}
-use Rattle.std.specs.Prelude.{IfSome, IsErrAnd, is_some, true}
-use Rattle.clap.specs.Words.{Text}
-use Rattle.texts.specs.declared.counted.Counted.{Counted}
-use Rattle.texts.specs.declared.output.Output.{Output}
-use Rattle.listing.specs.AnnotatedLogs.{answered_by}
+use Rattle.latchsym.proofs.Words.{◌≡◌, ℕ, List, [], Option, Some, None, Result, Ok, Err, refl, sym, subst, inl, inr, ⊎_elim, IfSome, Counted, Output, answered_by, HoldsOfRegions, AnnotatesBy, AnnotatesLog, IsTold, AreReadAs, Given, HasBadRegion, HasCrowdedRegions, IsCatalogOf, OpensCatalog, Failures, NoReaderFailed, Fault, Refused, BadLine, Read, TooLong, Write, GivenTexts, Annotate, Request, is_narrow, symbols_in, lines_of}
 use Rattle.order_laws.specs.declared.refusals.Refusal.TheVariants as refusal
-use Rattle.latchsym.specs.Annotations.{AnnotatesBy, AnnotatesLog, IsTold}
-use Rattle.engines.specs.OpenedCatalogs.{AreReadAs, Given, HasBadRegion, HasCrowdedRegions, IsCatalogOf, OpensCatalog}
-use Rattle.engines.specs.Readings.{Failures, NoReaderFailed}
-use Rattle.latchsym.specs.declared.command_line.ListingFiles.{ListingFiles}
-use Rattle.engines.specs.declared.fault.Fault.{Fault}
-use Rattle.engines.specs.declared.fault.Fault.TheVariants.{Refused, BadLine, Read, TooLong, Write}
-use Rattle.engines.specs.declared.opened_catalogs.GivenTexts.{GivenTexts}
-use Rattle.latchsym.specs.declared.annotations.AnnotateOptions.{AnnotateOptions}
-use Rattle.listing.specs.SymbolListing.{is_narrow, symbols_in}
-use Rattle.texts.specs.Lines.{lines_of}
+use Rattle.latchsym.proofs.GivenLemmas.{known_too}
 
-module _ {L W E : Type 0} (remaining : L → Option (List ℕ)) (contents : W → Option (List ℕ)) (errors : E → Option (List ℕ)) (o : AnnotateOptions) (files : ListingFiles) (log : Text) where
-  -- a fault on the way
-  pub ended : (known : Option Given) (counts : Failures) (l l' : Counted L) (w w' : Output W) (e e' : Output E) (result : Result ℕ Fault) (fault : Fault) → IsErrAnd result (λ f. f ≡ fault)
-      → AnnotatesLog remaining contents errors o files log known counts l l' w w' e e' (Err fault) → AnnotatesLog remaining contents errors o files log known counts l l' w w' e e' result
-  ended known counts l l' w w' e e' (Ok done) fault is h = absurd is
-  ended known counts l l' w w' e e' (Err f) fault is h = subst (λ x. AnnotatesLog remaining contents errors o files log known counts l l' w w' e e' (Err x)) (sym is) h
-
+module _ {L W E : Type 0} (remaining : L → Option (List ℕ)) (contents : W → Option (List ℕ)) (errors : E → Option (List ℕ)) (q : Request) (a : Annotate) where
   -- the catalog could not be opened
-  pub not_opened : (g : Given) (l : Counted L) (w : Output W) (e : Output E) (f : Fault) → OpensCatalog o.kernel g (Err f)
-      → AnnotatesLog remaining contents errors o files log (Some g) [] l l w w e e (Err f)
+  pub not_opened : (g : Given) (l : Counted L) (w : Output W) (e : Output E) (f : Fault) → OpensCatalog q.kernel g (Err f)
+      → AnnotatesLog remaining contents errors q a (Some g) [] l l w w e e (Err f)
   not_opened g l w e (Refused refusal.OutOfMemory) h = (tt, inl (refl, refl, refl))
   not_opened g l w e (Refused refusal.TooManyRegions) h = (tt, (refl, refl, refl), h)
   not_opened g l w e (BadLine place n) h = (tt, (refl, refl, refl), h.1, (h.0, h.2))
@@ -34,18 +14,18 @@ module _ {L W E : Type 0} (remaining : L → Option (List ℕ)) (contents : W �
 
   -- the listings could not be read
   pub not_read : (known : Option Given) (counts : Failures) (l : Counted L) (w : Output W) (e : Output E) (f : Fault) → AreReadAs {A = GivenTexts} counts (Err f)
-      → AnnotatesLog remaining contents errors o files log known counts l l w w e e (Err f)
+      → AnnotatesLog remaining contents errors q a known counts l l w w e e (Err f)
   not_read known counts l w e (Refused refusal.OutOfMemory) h = (h, inl (refl, refl, refl))
   not_read known counts l w e (Read place) h = inl (h, (refl, refl, refl))
   not_read known counts l w e _ h = absurd h
 
   module _ (l l' : Counted L) (w w' : Output W) (e e' : Output E) where
     abbrev Told : Option Given → Result ℕ Fault → Type 0
-    Told known r = IsTold errors o.kernel files known e (λ c narrow noted. AnnotatesBy remaining contents errors log (answered_by c o.rule narrow) l l' w w' noted e' r)
+    Told known r = IsTold errors q.kernel q.files known e (λ c narrow noted. AnnotatesBy remaining contents errors a.log.now (answered_by c a.rule narrow) l l' w w' noted e' r)
 
     -- the notes were told, and this came of the log
     pub log_annotated : (known : Option Given) (result : Result ℕ Fault) → Told known result
-        → AnnotatesLog remaining contents errors o files log known [] l l' w w' e e' result
+        → AnnotatesLog remaining contents errors q a known [] l l' w w' e e' result
     log_annotated known (Ok done) t = (tt, t)
     log_annotated known (Err (Refused refusal.OutOfMemory)) t = (tt, inr t)
     log_annotated known (Err (Read place)) t = inr (tt, t)
@@ -55,31 +35,24 @@ module _ {L W E : Type 0} (remaining : L → Option (List ℕ)) (contents : W �
 
     -- the same where the texts come from readers that did not fail
     module _ (g : Given) (known : Option Given) (is : IfSome known (λ k. g ≡ k)) (counts : Failures) (none : NoReaderFailed counts) where
-      said_of : (P : Given → Type 0) → P g → IfSome known P
-      said_of P p = moved known is
-        where
-          moved : (k : Option Given) → IfSome k (λ x. g ≡ x) → IfSome k P
-          moved None h = tt
-          moved (Some x) h = subst P h p
-
       told_of : (r : Result ℕ Fault) → Told (Some g) r → Told known r
       told_of r t = record {
         catalog = t.catalog;
         narrow = t.narrow;
         notes = t.notes;
         noted = t.noted;
-        sized = said_of (λ x. t.narrow ≡ is_narrow (symbols_in (lines_of x.kallsyms))) t.sized;
-        said = said_of (λ x. IsCatalogOf o.kernel x t.catalog t.notes) t.said;
+        sized = known_too (λ x. t.narrow ≡ is_narrow (symbols_in (lines_of x.kallsyms))) g known is t.sized;
+        said = known_too (λ x. IsCatalogOf q.kernel x t.catalog t.notes) g known is t.said;
         told = t.told;
         holds = t.holds;
       }
 
-      pub readers_known : (result : Result ℕ Fault) → AnnotatesLog remaining contents errors o files log (Some g) [] l l' w w' e e' result
-          → AnnotatesLog remaining contents errors o files log known counts l l' w w' e e' result
+      pub readers_known : (result : Result ℕ Fault) → AnnotatesLog remaining contents errors q a (Some g) [] l l' w w' e e' result
+          → AnnotatesLog remaining contents errors q a known counts l l' w w' e e' result
       readers_known (Ok done) h = (none, told_of (Ok done) h.1)
       readers_known (Err (Refused refusal.OutOfMemory)) h = (none, ⊎_elim inl (λ t. inr (told_of (Err (Refused refusal.OutOfMemory)) t)) h.1)
-      readers_known (Err (Refused refusal.TooManyRegions)) h = (none, h.1, said_of (λ x. (is_some x.modules ≡ true) × HasCrowdedRegions x.regions) h.2)
-      readers_known (Err (BadLine place n)) h = (none, h.1, h.2, said_of (λ x. (is_some x.modules ≡ true) × HasBadRegion n x.regions) h.3)
+      readers_known (Err (Refused refusal.TooManyRegions)) h = (none, h.1, known_too (HoldsOfRegions HasCrowdedRegions) g known is h.2)
+      readers_known (Err (BadLine place n)) h = (none, h.1, h.2, known_too (HoldsOfRegions (HasBadRegion n)) g known is h.3)
       readers_known (Err (Read place)) h = inr (⊎_elim (λ f. absurd f.0) (λ t. (none, told_of (Err (Read place)) t.1)) h)
       readers_known (Err (TooLong place)) h = (none, told_of (Err (TooLong place)) h.1)
       readers_known (Err Write) h = (none, told_of (Err Write) h.1)

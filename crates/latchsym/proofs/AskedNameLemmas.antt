@@ -1,17 +1,5 @@
 -- Where the last byte of its kind stands, and where a symbol that was found ends.
-use Rattle.std.proofs.Common.{◌≡◌, ◌∙◌, ℕ, zero, suc, ◌+◌, ◌-◌, ◌<◌, ◌≤◌, ◌==◌, true, false, cond, List, [], ◌∷◌, length, take, drop, Option, Some, None, refl, sym, ap, arith, subst, nat_le, nat_lt, ⊎_elim}
-use Rattle.std.specs.Prelude.{All, MatchOption, option_and_then}
-use Rattle.std.proofs.lemmas.Bool.{and_parts, false_from_ne_true, ltb-true}
-use Rattle.std.proofs.lemmas.List.Elements.{filter_passes}
-use Rattle.memchr.specs.Find.{Nowhere, Passes, is_byte}
-use Rattle.order_laws.specs.declared.items.Item.{Item}
-use Rattle.modules.specs.Catalogs.{module_of}
-use Rattle.modules.specs.Entries.{CatalogEntries, ModuleEntry, SymbolEntry}
-use Rattle.modules.specs.Found.{Found, IsFound, found_in, symbol_at, symbols_from}
-use Rattle.modules.specs.Regions.{holds}
-use Rattle.modules.proofs.FindLemmas.{found_by_place}
-use Rattle.latchsym.specs.AskedNames.{cut_at_last, cut_before}
-use Rattle.latchsym.specs.KeptSymbols.{end_of}
+use Rattle.latchsym.proofs.Words.{◌≡◌, ◌∙◌, ℕ, zero, suc, ◌+◌, ◌-◌, ◌<◌, ◌≤◌, ◌==◌, true, false, cond, List, [], ◌∷◌, length, take, drop, Option, Some, None, refl, sym, ap, arith, subst, nat_le, nat_lt, ⊎_elim, All, MatchOption, option_and_then, and_parts, false_from_ne_true, ltb-true, filter_passes, Nowhere, Passes, is_byte, Item, module_of, CatalogEntries, ModuleEntry, SymbolEntry, Found, IsFound, found_in, symbol_at, symbols_from, holds, found_by_place, cut_at_last, cut_before, end_of}
 
 -- ---- the last byte
 

@@ -1,36 +1,6 @@
 -- The kept symbols of the names that words ask for, symbol by symbol.
-use Rattle.std.proofs.Common.{◌≡◌, ◌∙◌, ℕ, List, [], ◌∷◌, ◌++◌, Bool, true, false, cond, ◌||◌, ◌+◌, ◌<◌, length, take, get_or, Option, Some, None, option_map, refl, sym, ap, subst}
-use Rattle.std.specs.Prelude.{option_and_then, unwrap_or}
-use Rattle.std.specs.BTreeMap.{BTreeMap, UpdatesBy, get_by, is_at}
-use Rattle.std.specs.Borrow.{Bor}
-use Rattle.std.specs.Cmp.Lexicographic.{slice_cmp}
-use Rattle.std.specs.Global.{Vec}
-use Rattle.std.specs.List.{cons_option}
-use Rattle.std.specs.Option.{option_to_list}
-use Rattle.std.specs.Map.{lookup}
-use Rattle.std.specs.Ordering.{nat_cmp}
-use Rattle.std.specs.Result.{result_ok}
-use Rattle.std.specs.Str.{bytes_eq}
-use Rattle.std.proofs.lemmas.Bool.{false≢true}
-use Rattle.std.proofs.lemmas.Grind.{flat_map-append}
+use Rattle.latchsym.proofs.Words.{append_assoc, list_any-append, or-false, or-true, same_from_decides, ◌≡◌, ◌∙◌, ℕ, List, [], ◌∷◌, ◌++◌, Bool, true, false, cond, ◌||◌, ◌+◌, ◌<◌, length, take, get_or, Option, Some, None, option_map, refl, sym, ap, subst, option_and_then, unwrap_or, BTreeMap, UpdatesBy, get_by, is_at, Bor, slice_cmp, Vec, cons_option, option_to_list, lookup, nat_cmp, result_ok, bytes_eq, false≢true, flat_map-append, filter-append, filter_map-append, btree_map_updates_str, bytes_eq-Decides, Item, CatalogEntries, Found, symbol_at, item_of_address, ListedSymbol, Output, Says, same_text, then, lines_of, is_mapping, symbol_of, symbols_in, AddressForm, symbols_text, word_text, words_text, asked_of, IsSought, Kept, end_of, found_by, is_owner, is_sought, kept_at_its_address, kept_in, kept_line, kept_symbol, kept_symbols, named, sought}
 use Rattle.std.proofs.lemmas.List.{append-nil}
-use Rattle.std.proofs.lemmas.List.Elements.{filter-append, filter_map-append}
-use Rattle.std.proofs.lemmas.Map.Text.{btree_map_updates_str}
-use Rattle.std.proofs.lemmas.Slice.Eq.{bytes_eq-Decides}
-use Rattle.order_laws.specs.declared.items.Item.{Item}
-use Rattle.modules.specs.Entries.{CatalogEntries}
-use Rattle.modules.specs.Found.{Found, symbol_at}
-use Rattle.modules.specs.Items.{item_of_address}
-use Rattle.modules.specs.Listed.{ListedSymbol}
-use Rattle.texts.specs.declared.output.Output.{Output}
-use Rattle.texts.specs.Output.{Says}
-use Rattle.texts.proofs.OutputLemmas.{same_text, then}
-use Rattle.texts.specs.Lines.{lines_of}
-use Rattle.listing.specs.SymbolListing.{is_mapping, symbol_of, symbols_in}
-use Rattle.latchsym.specs.declared.address_texts.AddressForm.{AddressForm}
-use Rattle.latchsym.specs.AddressTexts.{symbols_text, word_text, words_text}
-use Rattle.latchsym.specs.AskedNames.{asked_of}
-use Rattle.latchsym.specs.KeptSymbols.{IsSought, Kept, end_of, found_by, is_owner, is_sought, kept_at_its_address, kept_in, kept_line, kept_symbol, kept_symbols, named, sought}
 use Rattle.latchsym.proofs.AddressLemmas.{text_more, texts}
 
 same_bytes : (xs ys : List ℕ) → bytes_eq xs ys ≡ true → xs ≡ ys
@@ -61,25 +31,10 @@ written name m n v writes other =
 
 -- the test of one word more
 is_sought_more : (words : List (List ℕ)) (word name : List ℕ) → is_sought (words ++ word ∷ []) name ≡ (is_sought words name || bytes_eq name (asked_of word).symbol)
-is_sought_more [] word name = ends (bytes_eq name (asked_of word).symbol)
-  where
-    ends : (b : Bool) → (b || false) ≡ (false || b)
-    ends true = refl
-    ends false = refl
-is_sought_more (w ∷ ws) word name = ap (λ b. bytes_eq name (asked_of w).symbol || b) (is_sought_more ws word name) ∙ joined (bytes_eq name (asked_of w).symbol) (is_sought ws name) (bytes_eq name (asked_of word).symbol)
-  where
-    joined : (a b c : Bool) → (a || (b || c)) ≡ ((a || b) || c)
-    joined true b c = refl
-    joined false b c = refl
+is_sought_more words word name = list_any-append (λ w. bytes_eq name (asked_of w).symbol) words (word ∷ []) ∙ ap (λ b. is_sought words name || b) (or-false (bytes_eq name (asked_of word).symbol))
 
 symmetric : (xs ys : List ℕ) → bytes_eq xs ys ≡ bytes_eq ys xs
-symmetric xs ys = by (bytes_eq xs ys) (bytes_eq ys xs) refl refl
-  where
-    by : (a b : Bool) → bytes_eq xs ys ≡ a → bytes_eq ys xs ≡ b → a ≡ b
-    by true true p q = refl
-    by false false p q = refl
-    by true false p q = absurd (false≢true (sym q ∙ (bytes_eq-Decides ys xs).1 (sym (same_bytes xs ys p))))
-    by false true p q = absurd (false≢true (sym p ∙ (bytes_eq-Decides xs ys).1 (sym (same_bytes ys xs q))))
+symmetric xs ys = let d = bytes_eq-Decides ys xs in same_from_decides (bytes_eq xs ys) (bytes_eq ys xs) (bytes_eq-Decides xs ys) (λ p. sym (d.0 p), λ e. d.1 (sym e))
 
 -- one word more, whose name has no symbols yet
 pub word_more : (words : List (List ℕ)) (word : List ℕ) (m n : Symbols) (v : Vec Kept) → v.items ≡ [] → IsSought words [] m → Writes (asked_of word).symbol m n v
@@ -111,11 +66,7 @@ own_named name (Some k) own = ap (λ b. cond b (k ∷ []) []) ((bytes_eq-Decides
 
 sought_more : (words : List (List ℕ)) (kept more : List Kept) (other : List ℕ) → named more other ≡ [] → sought words (kept ++ more) other ≡ sought words kept other
 sought_more words kept more other none =
-    ap (λ ks. cond (is_sought words other) (Some ks) None) (filter-append (λ k. bytes_eq other k.name) kept more ∙ ap (λ ks. named kept other ++ ks) none ∙ no_more (named kept other))
-  where
-    no_more : (ks : List Kept) → ks ++ [] ≡ ks
-    no_more [] = refl
-    no_more (k ∷ ks) = ap (λ l. k ∷ l) (no_more ks)
+    ap (λ ks. cond (is_sought words other) (Some ks) None) (filter-append (λ k. bytes_eq other k.name) kept more ∙ ap (λ ks. named kept other ++ ks) none ∙ append-nil (named kept other))
 
 module _ (words : List (List ℕ)) (kept : List Kept) (name : List ℕ) (o : Option Kept) (own : (k : Kept) → o ≡ Some k → k.name ≡ name) (m : Symbols) (holds : IsSought words kept m) where
   others : (other : List ℕ) → bytes_eq name other ≡ false → named (option_to_list o) other ≡ []
@@ -230,11 +181,7 @@ line_more c lines line =
 
 own_is_sought : (before after : List (List ℕ)) (word : List ℕ) → is_sought (before ++ word ∷ after) (asked_of word).symbol ≡ true
 own_is_sought [] after word = ap (λ b. b || is_sought after (asked_of word).symbol) (own_bytes (asked_of word).symbol)
-own_is_sought (w ∷ ws) after word = ap (λ b. bytes_eq (asked_of word).symbol (asked_of w).symbol || b) (own_is_sought ws after word) ∙ or_true (bytes_eq (asked_of word).symbol (asked_of w).symbol)
-  where
-    or_true : (b : Bool) → (b || true) ≡ true
-    or_true true = refl
-    or_true false = refl
+own_is_sought (w ∷ ws) after word = ap (λ b. bytes_eq (asked_of word).symbol (asked_of w).symbol || b) (own_is_sought ws after word) ∙ or-true (bytes_eq (asked_of word).symbol (asked_of w).symbol)
 
 -- the text of words by a map that has the symbols of their names
 pub text_by_map : (form : AddressForm) (words : List (List ℕ)) (kept : List Kept) (m : Symbols) → IsSought words kept m
@@ -248,11 +195,7 @@ text_by_map form words kept m holds = from [] words refl
         let asks : is_sought words symbol ≡ true = ap (λ all. is_sought all symbol) is ∙ own_is_sought before ws w in
         let has : unwrap_or (found_by m symbol) [] ≡ named kept symbol = ap (λ o. unwrap_or o []) (holds symbol ∙ ap (λ b. cond b (Some (named kept symbol)) None) asks) in
         ap (λ ks. symbols_text form w (asked_of w) ks ++ words_text form (λ name. unwrap_or (found_by m name) []) ws) has
-        ∙ ap (λ text. symbols_text form w (asked_of w) (named kept symbol) ++ text) (from (before ++ w ∷ []) ws (is ∙ moved before w ws))
-      where
-        moved : (xs : List (List ℕ)) (x : List ℕ) (ys : List (List ℕ)) → xs ++ x ∷ ys ≡ (xs ++ x ∷ []) ++ ys
-        moved [] x ys = refl
-        moved (z ∷ zs) x ys = ap (λ l. z ∷ l) (moved zs x ys)
+        ∙ ap (λ text. symbols_text form w (asked_of w) (named kept symbol) ++ text) (from (before ++ w ∷ []) ws (is ∙ sym (append_assoc before (w ∷ []) ws)))
 
 -- where no text is left, all lines were gone through
 pub whole_text : (done : List (List ℕ)) (rest text : List ℕ) → done ++ lines_of rest ≡ lines_of text → rest ≡ [] → done ≡ lines_of text

@@ -1,5 +1,5 @@
 -- What is written for a log, and told of the listings that say what its addresses are.
-use Rattle.std.specs.Prelude.{◌≡◌, ◌⊎◌, ℕ, Bool, List, Option, Result, Ok, Err, IfSome, is_some, true}
+use Rattle.std.specs.Prelude.{◌≡◌, ◌⊎◌, ℕ, Bool, List, Option, Result, Ok, Err, IfSome}
 use Rattle.listing.specs.declared.annotation.LogFault.TheVariants as log_fault
 use Rattle.texts.specs.declared.counted.Counted.{Counted}
 use Rattle.texts.specs.declared.output.Output.{Output}
@@ -8,6 +8,7 @@ use Rattle.listing.specs.Annotation.{Annotates}
 use Rattle.modules.specs.Entries.{CatalogEntries}
 use Rattle.modules.specs.Listed.{BoundNames}
 use Rattle.order_laws.specs.declared.refusals.Refusal.TheVariants as refusal
+use Rattle.latchsym.specs.GivenAnswers.{HoldsOfRegions}
 use Rattle.latchsym.specs.Reports.{IsNoted}
 use Rattle.listing.specs.ListingNotes.{is_some_noted}
 use Rattle.latchsym.specs.NoteTexts.{note_lines, other_boot_line}
@@ -18,11 +19,12 @@ use Rattle.engines.specs.OpenedCatalogs.{Given, HasBadRegion, HasCrowdedRegions,
 use Rattle.listing.specs.SymbolListing.{is_narrow, symbols_in}
 use Rattle.texts.specs.Lines.{lines_of}
 use Rattle.engines.specs.Readings.{Failures, NoReaderFailed, OnlyFailed}
-use Rattle.latchsym.specs.declared.command_line.ListingFiles.{ListingFiles}
+use Rattle.latchsym.specs.declared.requests.ListingFiles.{ListingFiles}
 use Rattle.engines.specs.declared.fault.Fault.{Fault}
 use Rattle.engines.specs.declared.fault.Fault.TheVariants.{Refused, BadLine, Read, TooLong, Write}
 use Rattle.listing.specs.declared.listing_notes.ListingNotes.{ListingNotes}
-use Rattle.latchsym.specs.declared.annotations.AnnotateOptions.{AnnotateOptions}
+use Rattle.latchsym.specs.declared.requests.Annotate.{Annotate}
+use Rattle.latchsym.specs.declared.requests.Request.{Request}
 
 -- the log was annotated to its end, and where its own names tell that it is of another boot than the
 -- listing, this is noted behind it
@@ -83,10 +85,10 @@ AnnotatesAfter known counts Untouched Told (Err (Refused refusal.OutOfMemory)) =
     NoReaderFailed counts × (Untouched ⊎ Told (Err (Refused refusal.OutOfMemory)))
 AnnotatesAfter known counts Untouched Told (Err (Refused refusal.TooManyRegions)) =
     NoReaderFailed counts × Untouched
-    × IfSome known (λ g. (is_some g.modules ≡ true) × HasCrowdedRegions g.regions)
+    × IfSome known (HoldsOfRegions HasCrowdedRegions)
 AnnotatesAfter known counts Untouched Told (Err (BadLine place n)) =
     NoReaderFailed counts × Untouched × (place ≡ 2)
-    × IfSome known (λ g. (is_some g.modules ≡ true) × HasBadRegion n g.regions)
+    × IfSome known (HoldsOfRegions (HasBadRegion n))
 AnnotatesAfter known counts Untouched Told (Err (Read place)) =
     (OnlyFailed place counts × Untouched) ⊎ (NoReaderFailed counts × Told (Err (Read place)))
 AnnotatesAfter known counts Untouched Told (Err (TooLong place)) =
@@ -95,15 +97,15 @@ AnnotatesAfter known counts Untouched Told (Err Write) =
     NoReaderFailed counts × Told (Err Write)
 AnnotatesAfter known counts Untouched Told (Err _) = ⊥
 
--- What the engine returns. Once it told what is noted of the listings, the log in this file is
--- annotated by the answers of their catalog.
+-- What the engine returns. Once it told what is noted of the listings, the log is annotated by the
+-- answers of their catalog.
 abbrev pub AnnotatesLog : {L W E : Type 0} → (L → Option (List ℕ)) → (W → Option (List ℕ))
-    → (E → Option (List ℕ)) → AnnotateOptions → ListingFiles → Text → Option Given → Failures
+    → (E → Option (List ℕ)) → Request → Annotate → Option Given → Failures
     → Counted L → Counted L → Output W → Output W → Output E → Output E
     → Result ℕ Fault → Type 0
-AnnotatesLog remaining contents errors o files log known counts l l' w w' e e' result =
+AnnotatesLog remaining contents errors q a known counts l l' w w' e e' result =
     AnnotatesAfter known counts (IsUntouched l l' w w' e e')
-    (λ r. IsTold errors o.kernel files known e
-    (λ c narrow noted. AnnotatesBy remaining contents errors log (answered_by c o.rule narrow)
-    l l' w w' noted e' r))
+    (λ r. IsTold errors q.kernel q.files known e
+    (λ c narrow noted. AnnotatesBy remaining contents errors a.log.now
+    (answered_by c a.rule narrow) l l' w w' noted e' r))
     result

@@ -1,28 +1,22 @@
 -- What is written of listings that are checked.
 use Rattle.std.specs.Prelude.{◌≡◌, ℕ, nat_eq, if◌then◌else◌, List, [], ◌++◌, Option, Some, None}
-use Rattle.std.specs.Prelude.{Result, Ok, Err, IfSome, unwrap_or, true, false}
+use Rattle.std.specs.Prelude.{Ok, unwrap_or, true}
 use Rattle.std.specs.Option.{option_map}
 use Rattle.clap.specs.Words.{Text}
-use Rattle.texts.specs.declared.output.Output.{Output}
-use Rattle.texts.specs.Output.{WroteAll, WrotePart, has_failed}
 use Rattle.texts.specs.Lines.{lines_of}
 use Rattle.modules.specs.Accepted.{Accepted}
 use Rattle.modules.specs.Lines.{bounds_for}
 use Rattle.modules.specs.Listed.{BoundNames, ListedRegion}
 use Rattle.modules.specs.Placed.{are_few}
-use Rattle.order_laws.specs.declared.refusals.Refusal.TheVariants as refusal
 use Rattle.listing.specs.ListingNotes.{is_of_kallsyms, is_of_modules}
 use Rattle.engines.specs.LookupInputs.{Inputs, catalog_in, counts_in, region_lines}
 use Rattle.engines.specs.Lookups.{tallies_in}
 use Rattle.latchsym.specs.NoteTexts.{applying_lines}
-use Rattle.engines.specs.OpenedCatalogs.{Given, HasBadRegion, HasCrowdedRegions, inputs_by}
-use Rattle.engines.specs.Readings.{Failures, NoReaderFailed, OnlyFailed}
+use Rattle.engines.specs.OpenedCatalogs.{Given, inputs_by}
 use Rattle.engines.specs.SymbolLookups.{tallies_found}
 use Rattle.listing.specs.Tallies.{counts_text, symbol_tallies_of, tallies_of}
 use Rattle.listing.specs.Opening.{SaysOfModules, kept_in_text, listed}
-use Rattle.latchsym.specs.declared.command_line.ListingFiles.{ListingFiles}
-use Rattle.engines.specs.declared.fault.Fault.{Fault}
-use Rattle.engines.specs.declared.fault.Fault.TheVariants.{Refused, BadLine, Read, Write}
+use Rattle.latchsym.specs.declared.requests.ListingFiles.{ListingFiles}
 use Rattle.listing.specs.declared.opening.Listings.{Listings}
 use Rattle.listing.specs.declared.opening.SymbolListing.{SymbolListing}
 
@@ -88,61 +82,15 @@ IsReportBy kernel files g (Some modules) text kept =
 abbrev pub IsReport : Option BoundNames → ListingFiles → Given → List ℕ → ℕ → Type 0
 IsReport kernel files g text kept = IsReportBy kernel files g g.modules text kept
 
--- the listing of regions, where there is one beside that of modules
-abbrev pub regions_beside : Option (List ℕ) → Option (List ℕ) → Option (List ℕ)
-regions_beside None regions = None
-regions_beside (Some modules) regions = regions
+-- the texts with this one for that of the listing of modules
+abbrev pub with_modules : Option (List ℕ) → Given → Given
+with_modules modules g = record g { modules = modules }
 
 -- the program's status, by how many symbols are kept
 abbrev pub status_of_kept : ℕ → ℕ
 status_of_kept kept = if nat_eq kept 0 then 1 else 0
 
--- a text of which this holds was written as far as this says, and the status is that of its kept
--- symbols
-abbrev pub IsChecked : (List ℕ → Type 0) → (List ℕ → ℕ → Type 0) → ℕ → Type 0
-IsChecked Wrote Is status =
-    (text : List ℕ) × (kept : ℕ) × Is text kept × Wrote text × (status ≡ status_of_kept kept)
-
--- What is returned for texts that were read, from one state of the writer to another. Every fault
--- but a failed write leaves the writer as it was, and a call of it failed then alone.
-abbrev pub ChecksTexts : {W : Type 0} → (W → Option (List ℕ)) → (List ℕ → ℕ → Type 0)
-    → Option (List ℕ) → Output W → Output W → Result ℕ Fault → Type 0
-ChecksTexts contents Is regions w w' (Ok status) =
-    IsChecked (WroteAll contents w w') Is status
-ChecksTexts contents Is regions w w' (Err (Refused refusal.OutOfMemory)) = w' ≡ w
-ChecksTexts contents Is regions w w' (Err (Refused refusal.TooManyRegions)) =
-    (w' ≡ w) × HasCrowdedRegions regions
-ChecksTexts contents Is regions w w' (Err (BadLine place n)) =
-    (w' ≡ w) × (place ≡ 2) × HasBadRegion n regions
-ChecksTexts contents Is regions w w' (Err Write) =
-    (status : ℕ) × IsChecked (WrotePart contents w w') Is status
-ChecksTexts contents Is regions w w' (Err _) = ⊥
-
--- the same of the listings that are given
-abbrev pub ChecksGiven : {W : Type 0} → (W → Option (List ℕ)) → Option BoundNames → ListingFiles
-    → Given → Output W → Output W → Result ℕ Fault → Type 0
-ChecksGiven contents kernel files g w w' result =
-    ChecksTexts contents (IsReport kernel files g) (regions_beside g.modules g.regions) w w' result
-
--- What the engine returns that also read the listings, where these are known. A call of a reader or
--- of the writer failed where the answer says so, and else none.
-abbrev pub ChecksListings : {W : Type 0} → (W → Option (List ℕ)) → Option BoundNames
-    → ListingFiles → Option Given → Failures → Output W → Output W → Result ℕ Fault → Type 0
-ChecksListings contents kernel files known counts w w' (Ok status) =
-    NoReaderFailed counts × (has_failed w' ≡ false)
-    × IfSome known (λ g. IsChecked (WroteAll contents w w') (IsReport kernel files g) status)
-ChecksListings contents kernel files known counts w w' (Err (Refused refusal.OutOfMemory)) =
-    NoReaderFailed counts × (w' ≡ w)
-ChecksListings contents kernel files known counts w w' (Err (Refused refusal.TooManyRegions)) =
-    NoReaderFailed counts × (w' ≡ w)
-    × IfSome known (λ g. HasCrowdedRegions (regions_beside g.modules g.regions))
-ChecksListings contents kernel files known counts w w' (Err (BadLine place n)) =
-    NoReaderFailed counts × (w' ≡ w) × (place ≡ 2)
-    × IfSome known (λ g. HasBadRegion n (regions_beside g.modules g.regions))
-ChecksListings contents kernel files known counts w w' (Err (Read place)) =
-    (w' ≡ w) × OnlyFailed place counts
-ChecksListings contents kernel files known counts w w' (Err Write) =
-    NoReaderFailed counts × (has_failed w' ≡ true)
-    × IfSome known (λ g. (status : ℕ)
-    × IsChecked (WrotePart contents w w') (IsReport kernel files g) status)
-ChecksListings contents kernel files known counts w w' (Err _) = ⊥
+-- the report on the listings in these files, and the status
+abbrev pub IsChecked : Option BoundNames → ListingFiles → Given → List ℕ → ℕ → Type 0
+IsChecked kernel files g text status =
+    (kept : ℕ) × IsReport kernel files g text kept × (status ≡ status_of_kept kept)

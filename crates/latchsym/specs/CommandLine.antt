@@ -1,5 +1,6 @@
 -- The program's command line, as `clap` reads it.
-use Rattle.std.specs.Prelude.{◌≡◌, Some, codes, true, false}
+use Rattle.std.specs.Prelude.{◌≡◌, List, [], ◌∷◌, Some, codes, true, false}
+use Rattle.std.specs.List.{fold}
 use Rattle.clap.specs.Lexer.{usize_max}
 use Rattle.clap.specs.Words.{App, Rule, Text, app_of, new_app, new_rule, rule_of, with_rule}
 use Rattle.clap.specs.Words.{with_subcommand}
@@ -44,93 +45,66 @@ words_rule id = record (new_rule id) {
 abbrev pub some_words_rule : Text → Rule
 some_words_rule id = record (words_rule id) { required = true }
 
+-- a subcommand with these arguments, in the order of its help
+abbrev pub with_rules : App → List Rule → App
+with_rules app rules = fold with_rule app rules
+
 -- trace [--steps] FILE
 abbrev pub trace_app : App
 trace_app =
-    with_rule (with_rule (new_app (codes "trace")) (flag_rule (codes "steps")))
-    (word_rule (codes "file"))
+    with_rules (new_app (codes "trace")) (flag_rule (codes "steps") ∷ word_rule (codes "file") ∷ [])
 
--- the option of the modules, and --kallsyms FILE [--regions FILE] [--kernel START END]
-abbrev pub with_listings : App → Rule → App
-with_listings app modules =
-    with_rule
-    (with_rule (with_rule (with_rule app modules) (option_rule (codes "kallsyms")))
-    (optional_rule (codes "regions")))
-    (pair_rule (codes "kernel"))
+-- the options of the modules and of the symbols, and [--regions FILE] [--kernel START END]
+abbrev pub with_listings : App → Rule → Rule → App
+with_listings app one two =
+    with_rules app
+    (one ∷ two ∷ optional_rule (codes "regions") ∷ pair_rule (codes "kernel") ∷ [])
 
 -- lookup [--modules FILE] --kallsyms FILE [--regions FILE] [--kernel START END]
 -- [--modules-from-symbols] [--addresses FILE] [--callers] [--offset N] [--json] [--no-counts]
 -- [ADDR]..
 abbrev pub lookup_app : App
 lookup_app =
-    with_rule
-    (with_rule
-    (with_rule
-    (with_rule
-    (with_rule
-    (with_rule
-    (with_rule
-    (with_listings (new_app (codes "lookup")) (optional_rule (codes "modules")))
-    (flag_rule (codes "modules-from-symbols")))
-    (optional_rule (codes "addresses")))
-    (flag_rule (codes "callers")))
-    (optional_rule (codes "offset")))
-    (flag_rule (codes "json")))
-    (flag_rule (codes "no-counts")))
-    (words_rule (codes "address"))
+    with_rules
+    (with_listings (new_app (codes "lookup")) (optional_rule (codes "modules"))
+    (option_rule (codes "kallsyms")))
+    (flag_rule (codes "modules-from-symbols") ∷ optional_rule (codes "addresses")
+    ∷ flag_rule (codes "callers") ∷ optional_rule (codes "offset") ∷ flag_rule (codes "json")
+    ∷ flag_rule (codes "no-counts") ∷ words_rule (codes "address") ∷ [])
 
 -- run --modules FILE --kallsyms FILE [--regions FILE] [--kernel START END] --readers N SCRIPT
 abbrev pub run_app : App
 run_app =
-    with_rule
-    (with_rule
-    (with_listings (new_app (codes "run")) (option_rule (codes "modules")))
-    (option_rule (codes "readers")))
-    (word_rule (codes "script"))
+    with_rules
+    (with_listings (new_app (codes "run")) (option_rule (codes "modules"))
+    (option_rule (codes "kallsyms")))
+    (option_rule (codes "readers") ∷ word_rule (codes "script") ∷ [])
 
 -- annotate [--kallsyms FILE] [--modules FILE] [--regions FILE] [--kernel START END] [--callers]
 -- [--exact] [--offset N] [LOG]
 abbrev pub annotate_app : App
 annotate_app =
-    with_rule
-    (with_rule
-    (with_rule
-    (with_rule
-    (with_rule
-    (with_rule
-    (with_rule
-    (with_rule (new_app (codes "annotate")) (optional_rule (codes "kallsyms")))
+    with_rules
+    (with_listings (new_app (codes "annotate")) (optional_rule (codes "kallsyms"))
     (optional_rule (codes "modules")))
-    (optional_rule (codes "regions")))
-    (pair_rule (codes "kernel")))
-    (flag_rule (codes "callers")))
-    (flag_rule (codes "exact")))
-    (optional_rule (codes "offset")))
-    (optional_word_rule (codes "log"))
+    (flag_rule (codes "callers") ∷ flag_rule (codes "exact") ∷ optional_rule (codes "offset")
+    ∷ optional_word_rule (codes "log") ∷ [])
 
 -- check [--modules FILE] --kallsyms FILE [--regions FILE] [--kernel START END]
 abbrev pub check_app : App
-check_app = with_listings (new_app (codes "check")) (optional_rule (codes "modules"))
+check_app =
+    with_listings (new_app (codes "check")) (optional_rule (codes "modules"))
+    (option_rule (codes "kallsyms"))
 
 -- address [--kallsyms FILE] [--modules FILE] [--regions FILE] [--kernel START END] [--offset N]
 -- [--json] [--no-counts] NAME..
 abbrev pub address_app : App
 address_app =
-    with_rule
-    (with_rule
-    (with_rule
-    (with_rule
-    (with_rule
-    (with_rule
-    (with_rule
-    (with_rule (new_app (codes "address")) (optional_rule (codes "kallsyms")))
+    with_rules
+    (with_listings (new_app (codes "address")) (optional_rule (codes "kallsyms"))
     (optional_rule (codes "modules")))
-    (optional_rule (codes "regions")))
-    (pair_rule (codes "kernel")))
-    (optional_rule (codes "offset")))
-    (flag_rule (codes "json")))
-    (flag_rule (codes "no-counts")))
-    (some_words_rule (codes "name"))
+    (optional_rule (codes "offset") ∷ flag_rule (codes "json") ∷ flag_rule (codes "no-counts")
+    ∷ some_words_rule (codes "name") ∷ [])
 
 -- a subcommand has to be given, but for `--version`
 abbrev pub top_app : App
@@ -140,20 +114,15 @@ top_app =
 
 abbrev pub latchsym_app : App
 latchsym_app =
-    with_subcommand
-    (with_subcommand
-    (with_subcommand
-    (with_subcommand
-    (with_subcommand (with_subcommand top_app annotate_app.top) lookup_app.top)
-    address_app.top)
-    check_app.top)
-    trace_app.top)
-    run_app.top
+    fold (λ app added. with_subcommand app added.top) top_app
+    (annotate_app ∷ lookup_app ∷ address_app ∷ check_app ∷ trace_app ∷ run_app ∷ [])
 
 -- the command reads words as `app` does
-abbrev pub IsCommand : App → Command → Type 0
-IsCommand app c = (app_of c ≡ app) × ((out-Command c).has_globals ≡ false)
+pub record IsCommand (app : App) (c : Command) : Type 0 where
+  pub shape : app_of c ≡ app
+  pub local : (out-Command c).has_globals ≡ false
 
 -- the argument is read as `rule` says
-abbrev pub IsPlainArg : Rule → Arg → Type 0
-IsPlainArg rule a = (rule_of a ≡ rule) × (a.global ≡ false)
+pub record IsPlainArg (rule : Rule) (a : Arg) : Type 0 where
+  pub shape : rule_of a ≡ rule
+  pub local : a.global ≡ false

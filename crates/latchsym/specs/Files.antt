@@ -1,24 +1,49 @@
--- The files of a job: what their names hold, and the readers that are opened on them.
-use Rattle.std.specs.Prelude.{◌≡◌, ℕ, List, codes, Option, Some, None, if◌then◌else◌}
+-- The files of a job: their names, what these hold, and the readers that are opened on them.
+use Rattle.std.specs.Prelude.{◌≡◌, ℕ, List, [], ◌∷◌, codes, Option, Some, None, if◌then◌else◌}
+use Rattle.std.specs.Prelude.{option_and_then, slice_get}
 use Rattle.std.specs.Borrow.{Bor}
+use Rattle.std.specs.Option.{option_map}
 use Rattle.std.specs.Str.{bytes_eq}
 use Rattle.clap.specs.Words.{Text}
 use Rattle.texts.specs.declared.counted.Counted.{Counted}
 use Rattle.texts.specs.Counted.{device_of}
-use Rattle.latchsym.specs.declared.annotations.AnnotateReaders.{AnnotateReaders}
-use Rattle.latchsym.specs.declared.command_line.AnnotateJob.{AnnotateJob}
-use Rattle.latchsym.specs.declared.command_line.Job.{Job}
-use Rattle.latchsym.specs.declared.command_line.Job.TheVariants as job
-use Rattle.latchsym.specs.declared.command_line.ListingFiles.{ListingFiles}
-use Rattle.latchsym.specs.declared.command_line.LookupJob.{LookupJob}
-use Rattle.latchsym.specs.declared.command_line.RunJob.{RunJob}
-use Rattle.latchsym.specs.declared.command_line.SymbolLookupJob.{SymbolLookupJob}
 use Rattle.latchsym.specs.declared.jobs.OpenedJob.{OpenedJob}
 use Rattle.latchsym.specs.declared.jobs.OpenedJob.TheVariants as opened
+use Rattle.latchsym.specs.declared.requests.Job.{Job}
+use Rattle.latchsym.specs.declared.requests.Job.TheVariants as job
+use Rattle.latchsym.specs.declared.requests.ListingFiles.{ListingFiles}
+use Rattle.latchsym.specs.declared.requests.Request.{Request}
+use Rattle.latchsym.specs.declared.requests.Subcommand.{Subcommand}
+use Rattle.latchsym.specs.declared.requests.Subcommand.TheVariants as sub
 use Rattle.engines.specs.declared.lookup.LookupReaders.{LookupReaders}
 use Rattle.engines.specs.declared.opened_catalogs.ListingReaders.{ListingReaders}
 use Rattle.engines.specs.declared.runs.RunReaders.{RunReaders}
-use Rattle.engines.specs.declared.symbol_lookup.SymbolLookupReaders.{SymbolLookupReaders}
+
+-- the file that is read behind the listings
+abbrev pub input_of : Subcommand → Option Text
+input_of (sub.Lookup lookup) = option_map (λ f. f.now) lookup.file
+input_of (sub.Run run) = Some run.script.now
+input_of (sub.Annotate annotate) = Some annotate.log.now
+input_of sub.Check = None
+input_of (sub.Address address) = None
+
+-- the files that are read, in order; the place of one that is not given stays empty
+abbrev pub files_of_request : Request → List (Option Text)
+files_of_request q =
+    option_map (λ f. f.now) q.files.modules ∷ Some q.files.kallsyms.now
+    ∷ option_map (λ f. f.now) q.files.regions ∷ input_of q.subcommand ∷ []
+
+abbrev pub files_of : Job → List (Option Text)
+files_of (job.Trace file) = Some file.now ∷ []
+files_of (job.Steps file) = Some file.now ∷ []
+files_of (job.Request q) = files_of_request q
+
+-- the file at a place among them
+abbrev pub request_file_at : Request → ℕ → Option Text
+request_file_at q place = option_and_then (λ f. f) (slice_get (files_of_request q) place)
+
+abbrev pub file_at : Job → ℕ → Option Text
+file_at job place = option_and_then (λ f. f) (slice_get (files_of job) place)
 
 -- what the file of each name holds, where that is known
 abbrev pub Held : Type 0
@@ -35,24 +60,10 @@ IsOpenedIfGiven remaining held None None = Unit {0}
 IsOpenedIfGiven remaining held (Some name) (Some reader) = IsOpened remaining held name.now reader
 IsOpenedIfGiven remaining held _ _ = ⊥
 
--- what the names hold of files of addresses, of scripts and of logs, of which `-` is the standard input
+-- what the names hold of files of addresses, of scripts and of logs, of which `-` is the standard
+-- input
 abbrev pub or_standard : Option (List ℕ) → Held → Held
 or_standard standard held name = if bytes_eq name (codes "-") then standard else held name
-
--- the readers of a lookup are those of the job's own files
-pub record AreLookupFiles {F : Type 0} (remaining : F → Option (List ℕ)) (held : Held)
-    (standard : Option (List ℕ)) (job : LookupJob) (r : LookupReaders F F F F) : Type 0 where
-  pub modules : IsOpened remaining held job.modules.now r.modules
-  pub kallsyms : IsOpened remaining held job.kallsyms.now r.kallsyms
-  pub regions : IsOpenedIfGiven remaining held job.regions r.regions
-  pub addresses : IsOpenedIfGiven remaining (or_standard standard held) job.address_file r.addresses
-
--- the readers of a lookup by symbols alone are those of the job's own files
-pub record AreSymbolLookupFiles {F : Type 0} (remaining : F → Option (List ℕ)) (held : Held)
-    (standard : Option (List ℕ)) (job : SymbolLookupJob) (r : SymbolLookupReaders F F)
-    : Type 0 where
-  pub kallsyms : IsOpened remaining held job.kallsyms.now r.kallsyms
-  pub addresses : IsOpenedIfGiven remaining (or_standard standard held) job.address_file r.addresses
 
 -- the readers of listings are those of these files
 pub record AreListingFiles {F : Type 0} (remaining : F → Option (List ℕ)) (held : Held)
@@ -61,20 +72,43 @@ pub record AreListingFiles {F : Type 0} (remaining : F → Option (List ℕ)) (h
   pub kallsyms : IsOpened remaining held files.kallsyms.now r.kallsyms
   pub regions : IsOpenedIfGiven remaining held files.regions r.regions
 
--- the readers of an annotation are those of the job's own files
-pub record AreAnnotateFiles {F : Type 0} (remaining : F → Option (List ℕ)) (held : Held)
-    (standard : Option (List ℕ)) (job : AnnotateJob) (r : AnnotateReaders F F F F)
-    : Type 0 where
-  pub listings : AreListingFiles remaining held job.listings r.listings
-  pub log : IsOpened remaining (or_standard standard held) job.log.now r.log
+-- the readers of the listings among those of a lookup, and of a run
+abbrev pub listings_of_lookup : {F : Type 0} → LookupReaders F F F F → ListingReaders F F F
+listings_of_lookup r = record {
+  modules = Some r.modules;
+  kallsyms = r.kallsyms;
+  regions = r.regions;
+}
 
--- the readers of a run are those of the job's own files
-pub record AreRunFiles {F : Type 0} (remaining : F → Option (List ℕ)) (held : Held)
-    (standard : Option (List ℕ)) (job : RunJob) (r : RunReaders F F F F) : Type 0 where
-  pub modules : IsOpened remaining held job.modules.now r.modules
-  pub kallsyms : IsOpened remaining held job.kallsyms.now r.kallsyms
-  pub regions : IsOpenedIfGiven remaining held job.regions r.regions
-  pub script : IsOpened remaining (or_standard standard held) job.script.now r.script
+abbrev pub listings_of_run : {F : Type 0} → RunReaders F F F F → ListingReaders F F F
+listings_of_run r = record {
+  modules = Some r.modules;
+  kallsyms = r.kallsyms;
+  regions = r.regions;
+}
+
+-- what a request with this subcommand asks for is opened over the readers of its own files
+abbrev pub IsOpenedWith : {F : Type 0} → (F → Option (List ℕ)) → Held → Held → Request → Subcommand
+    → OpenedJob F → Type 0
+IsOpenedWith remaining held inputs q (sub.Lookup lookup) (opened.Lookup o p r) =
+    (o.now ≡ q) × (p.now ≡ lookup)
+    × AreListingFiles remaining held q.files (listings_of_lookup r)
+    × IsOpenedIfGiven remaining inputs lookup.file r.addresses
+IsOpenedWith remaining held inputs q (sub.Lookup lookup) (opened.SymbolLookup o p r) =
+    (o.now ≡ q) × (p.now ≡ lookup) × (q.files.modules ≡ None)
+    × IsOpened remaining held q.files.kallsyms.now r.kallsyms
+    × IsOpenedIfGiven remaining inputs lookup.file r.addresses
+IsOpenedWith remaining held inputs q (sub.Run run) (opened.Run o p r) =
+    (o.now ≡ q) × (p.now ≡ run) × AreListingFiles remaining held q.files (listings_of_run r)
+    × IsOpened remaining inputs run.script.now r.script
+IsOpenedWith remaining held inputs q (sub.Annotate annotate) (opened.Annotate o p r) =
+    (o.now ≡ q) × (p.now ≡ annotate) × AreListingFiles remaining held q.files r.listings
+    × IsOpened remaining inputs annotate.log.now r.log
+IsOpenedWith remaining held inputs q sub.Check (opened.Check o r) =
+    (o.now ≡ q) × AreListingFiles remaining held q.files r
+IsOpenedWith remaining held inputs q (sub.Address address) (opened.Address o p r) =
+    (o.now ≡ q) × (p.now ≡ address) × AreListingFiles remaining held q.files r
+IsOpenedWith remaining held inputs q _ _ = ⊥
 
 -- the job is the one that is opened, over the readers of its own files
 abbrev pub IsOpenedFor : {F : Type 0} → (F → Option (List ℕ)) → Held → Option (List ℕ) → Job
@@ -83,16 +117,6 @@ IsOpenedFor remaining held standard (job.Trace file) (opened.Trace r) =
     IsOpened remaining held file.now r
 IsOpenedFor remaining held standard (job.Steps file) (opened.Steps r) =
     IsOpened remaining held file.now r
-IsOpenedFor remaining held standard (job.Lookup j) (opened.Lookup o r) =
-    (o.now ≡ j) × AreLookupFiles remaining held standard j r
-IsOpenedFor remaining held standard (job.SymbolLookup j) (opened.SymbolLookup o r) =
-    (o.now ≡ j) × AreSymbolLookupFiles remaining held standard j r
-IsOpenedFor remaining held standard (job.Run j) (opened.Run o r) =
-    (o.now ≡ j) × AreRunFiles remaining held standard j r
-IsOpenedFor remaining held standard (job.Annotate j) (opened.Annotate o r) =
-    (o.now ≡ j) × AreAnnotateFiles remaining held standard j r
-IsOpenedFor remaining held standard (job.Check j) (opened.Check o r) =
-    (o.now ≡ j) × AreListingFiles remaining held j.listings r
-IsOpenedFor remaining held standard (job.Address j) (opened.Address o r) =
-    (o.now ≡ j) × AreListingFiles remaining held j.listings r
+IsOpenedFor remaining held standard (job.Request q) o =
+    IsOpenedWith remaining held (or_standard standard held) q q.subcommand o
 IsOpenedFor remaining held standard _ _ = ⊥

@@ -1,6 +1,8 @@
 -- The definitions of this crate, in the order in which to read them.
 -- the program's command line, as `clap` reads it
 pub mod CommandLine
+-- what belongs together in a request
+pub mod Requests
 -- the job that the words of a command line ask for
 pub mod Jobs
 -- the lines that say what is noted of listings
@@ -11,6 +13,8 @@ pub mod Reasons
 pub mod Reports
 -- what is said of a command line that gives no job
 pub mod Misuses
+-- what an engine returns that reads listings, and then writes a text about them
+pub mod GivenAnswers
 -- what is written for a log, and told of its listings
 pub mod Annotations
 -- what is written of listings that are checked
@@ -23,9 +27,9 @@ pub mod AskedNames
 pub mod KeptSymbols
 -- the lines that are written for names
 pub mod AddressTexts
--- what is returned where names are asked for, and what is written of them
+-- what is written where names are asked for
 pub mod Addresses
--- the files of a job: what their names hold, and the readers that are opened on them
+-- the files of a job: their names, what these hold, and the readers that are opened on them
 pub mod Files
 -- what comes of a job: that of its engine over the job's own readers
 pub mod Outcomes

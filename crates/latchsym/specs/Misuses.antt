@@ -9,13 +9,13 @@ use Rattle.texts.specs.declared.output.Output.{Output}
 use Rattle.texts.specs.Output.{Says}
 use Rattle.order_laws.specs.declared.refusals.Refusal.TheVariants as refusal
 use Rattle.latchsym.specs.Reports.{fault_text}
-use Rattle.latchsym.specs.declared.command_line.JobFault.{JobFault}
-use Rattle.latchsym.specs.declared.command_line.JobFault.TheVariants.{OutOfMemory, CommandLine}
-use Rattle.latchsym.specs.declared.command_line.JobFault.TheVariants.{BadAddress, NoAddress}
-use Rattle.latchsym.specs.declared.command_line.JobFault.TheVariants.{BadEnd, BadOffset}
-use Rattle.latchsym.specs.declared.command_line.JobFault.TheVariants.{BadReaders, NoJob}
-use Rattle.latchsym.specs.declared.command_line.JobFault.TheVariants.{NoModules, ModulesTwice}
-use Rattle.latchsym.specs.declared.command_line.JobFault.TheVariants.{RegionsAlone, TakenTwice}
+use Rattle.latchsym.specs.declared.requests.JobFault.{JobFault}
+use Rattle.latchsym.specs.declared.requests.JobFault.TheVariants.{OutOfMemory, CommandLine}
+use Rattle.latchsym.specs.declared.requests.JobFault.TheVariants.{BadAddress, NoAddress}
+use Rattle.latchsym.specs.declared.requests.JobFault.TheVariants.{BadEnd, BadOffset}
+use Rattle.latchsym.specs.declared.requests.JobFault.TheVariants.{BadReaders, NoJob}
+use Rattle.latchsym.specs.declared.requests.JobFault.TheVariants.{NoModules, ModulesTwice}
+use Rattle.latchsym.specs.declared.requests.JobFault.TheVariants.{RegionsAlone, TakenTwice}
 use Rattle.engines.specs.declared.fault.Fault.TheVariants.{Refused, Write}
 
 -- what is wrong with the command line, and with which word

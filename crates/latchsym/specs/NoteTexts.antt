@@ -8,10 +8,9 @@ use Rattle.clap.specs.Words.{Text}
 use Rattle.modules.specs.Lines.{usual_bounds}
 use Rattle.modules.specs.Listed.{BoundNames}
 use Rattle.listing.specs.ListingNotes.{all_notes}
-use Rattle.latchsym.specs.declared.command_line.Job.{Job}
-use Rattle.latchsym.specs.declared.command_line.Job.TheVariants.{Trace, Steps, Lookup, SymbolLookup}
-use Rattle.latchsym.specs.declared.command_line.Job.TheVariants.{Address, Annotate, Check, Run}
-use Rattle.latchsym.specs.declared.command_line.ListingFiles.{ListingFiles}
+use Rattle.latchsym.specs.declared.requests.Job.{Job}
+use Rattle.latchsym.specs.declared.requests.Job.TheVariants.{Request}
+use Rattle.latchsym.specs.declared.requests.ListingFiles.{ListingFiles}
 use Rattle.listing.specs.declared.listing_notes.ListingNote.{ListingNote}
 use Rattle.listing.specs.declared.listing_notes.ListingNote.TheVariants.{Gzip, AllHidden}
 use Rattle.listing.specs.declared.listing_notes.ListingNote.TheVariants.{LooksLikeSymbols}
@@ -94,12 +93,5 @@ note_lines kernel files notes = lines_by kernel files.modules files.kallsyms.now
 
 -- the lines of a job, by the names of its files
 abbrev pub notes_text : Job → ListingNotes → List ℕ
-notes_text (Trace file) notes = []
-notes_text (Steps file) notes = []
-notes_text (Lookup job) notes = lines_for job.options.kernel job.modules.now job.kallsyms.now notes
-notes_text (SymbolLookup job) notes =
-    line_if_noted (noted_bounds job.options.kernel) job.kallsyms.now notes.kallsyms
-notes_text (Run job) notes = lines_for job.kernel job.modules.now job.kallsyms.now notes
-notes_text (Annotate job) notes = note_lines job.options.kernel job.listings notes
-notes_text (Check job) notes = []
-notes_text (Address job) notes = note_lines job.kernel job.listings notes
+notes_text (Request q) notes = note_lines q.kernel q.files notes
+notes_text _ notes = []

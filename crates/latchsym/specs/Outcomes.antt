@@ -1,10 +1,10 @@
 -- What comes of a job: that of its engine over the job's own readers.
-use Rattle.std.specs.Prelude.{◌≡◌, ℕ, List, map, Option, Result}
-use Rattle.texts.specs.declared.counted.Counted.{Counted}
+use Rattle.std.specs.Prelude.{◌≡◌, ℕ, List, map, Option, Result, true, unwrap_or}
 use Rattle.texts.specs.declared.output.Output.{Output}
-use Rattle.latchsym.specs.Addresses.{AnswersNames}
+use Rattle.latchsym.specs.Addresses.{IsAddressed}
 use Rattle.latchsym.specs.Annotations.{AnnotatesLog}
-use Rattle.latchsym.specs.Checks.{ChecksListings}
+use Rattle.latchsym.specs.Checks.{IsChecked}
+use Rattle.latchsym.specs.GivenAnswers.{AnswersListings}
 use Rattle.engines.specs.Faults.{with_notes, with_status, without_notes}
 use Rattle.listing.specs.ListingNotes.{no_notes}
 use Rattle.engines.specs.LookupInputs.{known_inputs}
@@ -16,116 +16,72 @@ use Rattle.engines.specs.SymbolLookups.{AnswersSymbolLookup, failures_of_symbols
 use Rattle.engines.specs.SymbolLookups.{known_symbol_inputs}
 use Rattle.engines.specs.StepTraces.{AnswersSteps}
 use Rattle.engines.specs.Traces.{AnswersTrace}
-use Rattle.latchsym.specs.declared.address_command.AddressJob.{AddressJob}
-use Rattle.latchsym.specs.declared.annotations.AnnotateReaders.{AnnotateReaders}
-use Rattle.latchsym.specs.declared.command_line.AnnotateJob.{AnnotateJob}
-use Rattle.latchsym.specs.declared.command_line.CheckJob.{CheckJob}
-use Rattle.latchsym.specs.declared.command_line.LookupJob.{LookupJob}
-use Rattle.latchsym.specs.declared.command_line.RunJob.{RunJob}
-use Rattle.latchsym.specs.declared.command_line.SymbolLookupJob.{SymbolLookupJob}
+use Rattle.modules.specs.Lines.{usual_bounds}
+use Rattle.modules.specs.Listed.{BoundNames}
 use Rattle.engines.specs.declared.fault.Fault.{Fault}
 use Rattle.engines.specs.declared.fault.Finished.{Finished}
-use Rattle.listing.specs.declared.listing_notes.ListingNotes.{ListingNotes}
-use Rattle.engines.specs.declared.lookup.LookupReaders.{LookupReaders}
-use Rattle.engines.specs.declared.opened_catalogs.ListingReaders.{ListingReaders}
-use Rattle.engines.specs.declared.symbol_lookup.SymbolLookupReaders.{SymbolLookupReaders}
-use Rattle.engines.specs.declared.runs.RunReaders.{RunReaders}
+use Rattle.engines.specs.declared.lookup.LookupOptions.{LookupOptions}
+use Rattle.engines.specs.declared.symbol_lookup.SymbolLookupOptions.{SymbolLookupOptions}
 use Rattle.latchsym.specs.declared.jobs.OpenedJob.{OpenedJob}
 use Rattle.latchsym.specs.declared.jobs.OpenedJob.TheVariants.{Trace, Steps, Lookup, SymbolLookup}
 use Rattle.latchsym.specs.declared.jobs.OpenedJob.TheVariants.{Address, Annotate, Check, Run}
+use Rattle.latchsym.specs.declared.requests.Lookup as lookup
+use Rattle.latchsym.specs.declared.requests.Request.{Request}
 
--- what the trace engine returned, whose success is status 0
-abbrev pub IsTraced : {R W : Type 0} → (R → Option (List ℕ)) → (W → Option (List ℕ))
-    → Counted R → Counted R → Output W → Output W → Result Finished Fault → Type 0
-IsTraced remaining contents r r' w w' outcome =
-    (result : Result (Unit {0}) Fault) × AnswersTrace remaining contents r r' w w' result
-    × (outcome ≡ with_status (without_notes result))
+-- the names of the kernel's bounds where modules are listed
+abbrev pub bounds_of : Request → BoundNames
+bounds_of q = unwrap_or q.kernel usual_bounds
 
--- what the engine of steps returned
-abbrev pub AreStepsTold : {R W : Type 0} → (R → Option (List ℕ)) → (W → Option (List ℕ))
-    → Counted R → Counted R → Output W → Output W → Result Finished Fault → Type 0
-AreStepsTold remaining contents r r' w w' outcome =
-    (result : Result (Unit {0}) Fault) × AnswersSteps remaining contents r r' w w' result
-    × (outcome ≡ with_status (without_notes result))
+-- how the addresses of a request are looked up, in listings of modules and of symbols
+abbrev pub options_of : Request → lookup.Lookup → LookupOptions
+options_of q l = record { kernel = bounds_of q; rule = l.rule; with_mapping = true }
 
--- what the engine of lookups returned for the job's own options and addresses, whose success is
--- status 0
-abbrev pub IsLookedUp : {R W : Type 0} → (R → Option (List ℕ)) → (W → Option (List ℕ))
-    → LookupJob → LookupReaders R R R R → LookupReaders R R R R → Output W → Output W
+-- the same in a listing of symbols alone
+abbrev pub symbol_options_of : Request → lookup.Lookup → SymbolLookupOptions
+symbol_options_of q l = record { kernel = q.kernel; rule = l.rule }
+
+-- an engine returned what it may, and the outcome is this of it
+abbrev pub Ends : {A : Type 0} → (Result A Fault → Type 0) → (Result A Fault → Result Finished Fault)
     → Result Finished Fault → Type 0
-IsLookedUp remaining contents job r r' w w' outcome =
-    (result : Result ListingNotes Fault) × AnswersLookup contents job.form
-    (known_inputs remaining remaining remaining remaining r job.options job.addresses.items)
-    (failures_between r r') w w' result
-    × (outcome ≡ with_status result)
+Ends {A} May finish outcome = (result : Result A Fault) × May result × (outcome ≡ finish result)
 
--- the same of the engine of lookups by symbols alone
-abbrev pub IsLookedUpBySymbols : {R W : Type 0} → (R → Option (List ℕ)) → (W → Option (List ℕ))
-    → SymbolLookupJob → SymbolLookupReaders R R → SymbolLookupReaders R R → Output W → Output W
-    → Result Finished Fault → Type 0
-IsLookedUpBySymbols remaining contents job r r' w w' outcome =
-    (result : Result ListingNotes Fault) × AnswersSymbolLookup contents job.form
-    (known_symbol_inputs remaining remaining r job.options job.addresses.items)
-    (failures_of_symbols r r') w w' result
-    × (outcome ≡ with_status result)
-
--- what the engine of scripts returned for the job's own bounds and number of readers
-abbrev pub IsScriptRun : {R W : Type 0} → (R → Option (List ℕ)) → (W → Option (List ℕ)) → RunJob
-    → RunReaders R R R R → RunReaders R R R R → Output W → Output W → Result Finished Fault
-    → Type 0
-IsScriptRun remaining contents job r r' w w' outcome =
-    AnswersRun contents job.readers
-    (known_run_inputs remaining remaining remaining remaining r job.kernel job.readers)
-    (run_failures_between r r') w w' outcome
-
--- what the engine of annotations returned for the job's own options; nothing is left to be noted
-abbrev pub IsAnnotated : {R W E : Type 0} → (R → Option (List ℕ)) → (W → Option (List ℕ))
-    → (E → Option (List ℕ)) → AnnotateJob → AnnotateReaders R R R R → AnnotateReaders R R R R
-    → Output W → Output W → Output E → Output E → Result Finished Fault → Type 0
-IsAnnotated remaining contents errors job r r' w w' e e' outcome =
-    (result : Result ℕ Fault) × AnnotatesLog remaining contents errors job.options job.listings
-    job.log.now (known_given remaining remaining remaining r.listings)
-    (listing_failures r.listings r'.listings) r.log r'.log w w' e e' result
-    × (outcome ≡ with_notes no_notes result)
-
--- what the engine of checks returned for the job's own bounds, and nothing is left to be noted
-abbrev pub IsListingsChecked : {R W : Type 0} → (R → Option (List ℕ)) → (W → Option (List ℕ))
-    → CheckJob → ListingReaders R R R → ListingReaders R R R → Output W → Output W
-    → Result Finished Fault → Type 0
-IsListingsChecked remaining contents job r r' w w' outcome =
-    (result : Result ℕ Fault) × ChecksListings contents job.kernel job.listings
-    (known_given remaining remaining remaining r) (listing_failures r r') w w' result
-    × (outcome ≡ with_notes no_notes result)
-
--- what the engine of names returned for the job's own bounds, names and form
-abbrev pub AreNamesFound : {R W : Type 0} → (R → Option (List ℕ)) → (W → Option (List ℕ))
-    → AddressJob → ListingReaders R R R → ListingReaders R R R → Output W → Output W
-    → Result Finished Fault → Type 0
-AreNamesFound remaining contents job r r' w w' outcome =
-    (result : Result ListingNotes Fault) × AnswersNames contents job.form job.kernel
-    (map (λ n. n.now) job.names.items) (known_given remaining remaining remaining r)
-    (listing_failures r r') w w' result
-    × (outcome ≡ with_status result)
-
--- The status or the fault of a job, over what its readers had. Only an annotation says something
--- while it is done.
+-- The status or the fault of a job, over what its readers had. A trace or a lookup that succeeds has
+-- status 0; of a log or of listings that are checked nothing is left to be noted. Only an annotation
+-- says something while it is done.
 abbrev pub IsOutcome : {R W E : Type 0} → (R → Option (List ℕ)) → (W → Option (List ℕ))
     → (E → Option (List ℕ)) → OpenedJob R → OpenedJob R → Output W → Output W → Output E
     → Output E → Result Finished Fault → Type 0
 IsOutcome remaining contents errors (Trace r) (Trace r') w w' e e' outcome =
-    IsTraced remaining contents r r' w w' outcome × (e' ≡ e)
+    Ends (AnswersTrace remaining contents r r' w w') (λ x. with_status (without_notes x)) outcome
+    × (e' ≡ e)
 IsOutcome remaining contents errors (Steps r) (Steps r') w w' e e' outcome =
-    AreStepsTold remaining contents r r' w w' outcome × (e' ≡ e)
-IsOutcome remaining contents errors (Lookup job r) (Lookup _ r') w w' e e' outcome =
-    IsLookedUp remaining contents job.now r r' w w' outcome × (e' ≡ e)
-IsOutcome remaining contents errors (SymbolLookup job r) (SymbolLookup _ r') w w' e e' outcome =
-    IsLookedUpBySymbols remaining contents job.now r r' w w' outcome × (e' ≡ e)
-IsOutcome remaining contents errors (Run job r) (Run _ r') w w' e e' outcome =
-    IsScriptRun remaining contents job.now r r' w w' outcome × (e' ≡ e)
-IsOutcome remaining contents errors (Annotate job r) (Annotate _ r') w w' e e' outcome =
-    IsAnnotated remaining contents errors job.now r r' w w' e e' outcome
-IsOutcome remaining contents errors (Check job r) (Check _ r') w w' e e' outcome =
-    IsListingsChecked remaining contents job.now r r' w w' outcome × (e' ≡ e)
-IsOutcome remaining contents errors (Address job r) (Address _ r') w w' e e' outcome =
-    AreNamesFound remaining contents job.now r r' w w' outcome × (e' ≡ e)
+    Ends (AnswersSteps remaining contents r r' w w') (λ x. with_status (without_notes x)) outcome
+    × (e' ≡ e)
+IsOutcome remaining contents errors (Lookup q l r) (Lookup _ _ r') w w' e e' outcome =
+    Ends (AnswersLookup contents l.now.form
+    (known_inputs remaining remaining remaining remaining r (options_of q.now l.now)
+    l.now.addresses.items)
+    (failures_between r r') w w') with_status outcome × (e' ≡ e)
+IsOutcome remaining contents errors (SymbolLookup q l r) (SymbolLookup _ _ r') w w' e e' outcome =
+    Ends (AnswersSymbolLookup contents l.now.form
+    (known_symbol_inputs remaining remaining r (symbol_options_of q.now l.now)
+    l.now.addresses.items)
+    (failures_of_symbols r r') w w') with_status outcome × (e' ≡ e)
+IsOutcome remaining contents errors (Run q run r) (Run _ _ r') w w' e e' outcome =
+    AnswersRun contents run.now.readers
+    (known_run_inputs remaining remaining remaining remaining r (bounds_of q.now) run.now.readers)
+    (run_failures_between r r') w w' outcome × (e' ≡ e)
+IsOutcome remaining contents errors (Annotate q a r) (Annotate _ _ r') w w' e e' outcome =
+    Ends (AnnotatesLog remaining contents errors q.now a.now
+    (known_given remaining remaining remaining r.listings)
+    (listing_failures r.listings r'.listings) r.log r'.log w w' e e') (with_notes no_notes) outcome
+IsOutcome remaining contents errors (Check q r) (Check _ r') w w' e e' outcome =
+    Ends (AnswersListings contents (IsChecked q.now.kernel q.now.files)
+    (known_given remaining remaining remaining r) (listing_failures r r') w w')
+    (with_notes no_notes) outcome × (e' ≡ e)
+IsOutcome remaining contents errors (Address q a r) (Address _ _ r') w w' e e' outcome =
+    Ends (AnswersListings contents
+    (IsAddressed a.now.form q.now.kernel (map (λ n. n.now) a.now.names.items))
+    (known_given remaining remaining remaining r) (listing_failures r r') w w') with_status outcome
+    × (e' ≡ e)
 IsOutcome remaining contents errors _ _ w w' e e' outcome = ⊥

@@ -25,17 +25,17 @@ error_of_listing r place =
 
 -- the jobs that tell what the system said
 abbrev pub tells_errors : {R : Type 0} → OpenedJob R → Bool
-tells_errors (Annotate job r) = true
-tells_errors (Check job r) = true
-tells_errors (Address job r) = true
+tells_errors (Annotate q a r) = true
+tells_errors (Check q r) = true
+tells_errors (Address q a r) = true
 tells_errors _ = false
 
 -- the error that the reader at a place among those of such a job gave last
 abbrev pub error_at : {R : Type 0} → OpenedJob R → ℕ → Option Error
-error_at (Annotate job r) place =
+error_at (Annotate q a r) place =
     if nat_eq place 3 then error_of r.log else error_of_listing r.listings place
-error_at (Check job r) place = error_of_listing r place
-error_at (Address job r) place = error_of_listing r place
+error_at (Check q r) place = error_of_listing r place
+error_at (Address q a r) place = error_of_listing r place
 error_at _ place = None
 
 -- the error behind a fault of such a job, of its readers, or of its writer, which gave this one last

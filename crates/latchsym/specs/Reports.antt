@@ -6,12 +6,12 @@ use Rattle.clap.specs.Words.{Text}
 use Rattle.texts.specs.declared.output.Output.{Output}
 use Rattle.texts.specs.Output.{Says}
 use Rattle.order_laws.specs.Refusals.{refusal_number}
-use Rattle.latchsym.specs.Jobs.{file_at}
+use Rattle.latchsym.specs.Files.{file_at}
 use Rattle.latchsym.specs.Reasons.{reason_text}
 use Rattle.listing.specs.ListingNotes.{is_some_noted}
 use Rattle.latchsym.specs.NoteTexts.{notes_text}
 use Rattle.engines.specs.TraceTexts.{refused_text}
-use Rattle.latchsym.specs.declared.command_line.Job.{Job}
+use Rattle.latchsym.specs.declared.requests.Job.{Job}
 use Rattle.engines.specs.declared.fault.Fault.{Fault}
 use Rattle.engines.specs.declared.fault.Finished.{Finished}
 use Rattle.engines.specs.declared.fault.Fault.TheVariants.{Refused, BadLine, Read, TooLong, Write}

@@ -1,11 +1,13 @@
 //! From the bytes of listings and from names to the lines that say where the symbols are.
-ghost use Rattle.std.specs.Prelude.{◌≡◌, [], map, Some};
+ghost use Rattle.std.specs.Prelude.{◌≡◌, map, Some};
 ghost use Rattle.std.specs.Option.{option_copied};
-ghost use Rattle.latchsym.specs.Addresses.{AnswersGiven, AnswersNames};
+ghost use Rattle.latchsym.specs.Addresses.{IsAddressed};
+ghost use Rattle.latchsym.specs.GivenAnswers.{AnswersGiven, AnswersListings};
 ghost use Rattle.engines.specs.OpenedCatalogs.{given_in, known_given, listing_failures};
 
 use crate::address_texts::{AddressForm, put_words};
 use crate::kept_symbols::symbols_sought;
+use crate::reports::unless_failed;
 use engines::{Fault, GivenTexts, ListingReaders, open_catalog, read_given};
 use listing::ListingNotes;
 use modules::{IndexedCatalog, KernelBounds};
@@ -27,7 +29,8 @@ pub fn address_engine<M: Read, K: Read, R: Read, W: Write>(
     words: &[&str],
     writer: &mut Output<W>,
 ) -> Result<ListingNotes, Fault>
-    ensures { AnswersNames W.contents form (option_copied kernel.entry) (map (λ w. w.now) words.now)
+    ensures { AnswersListings W.contents
+        (IsAddressed form (option_copied kernel.entry) (map (λ w. w.now) words.now))
         (known_given M.remaining K.remaining R.remaining readers.old)
         (listing_failures readers.old readers.new) writer.old writer.new result }
 {
@@ -44,7 +47,8 @@ fn answer_names<W: Write>(
     words: &[&str],
     writer: &mut Output<W>,
 ) -> Result<ListingNotes, Fault>
-    ensures { AnswersGiven W.contents form (option_copied kernel.entry) (map (λ w. w.now) words.now)
+    ensures { AnswersGiven W.contents
+        (IsAddressed form (option_copied kernel.entry) (map (λ w. w.now) words.now))
         (given_in texts.now) writer.old writer.new result }
 {
     let opened = open_catalog(alloc, kernel, texts)?;
@@ -53,8 +57,5 @@ fn answer_names<W: Write>(
     let sought = symbols_sought(alloc, &index, &texts.kallsyms, words)?;
     put_words(writer, form, &sought, words);
     writer.flush();
-    if writer.has_failed() {
-        return Err(Fault::Write);
-    }
-    Ok(notes)
+    unless_failed(writer, notes)
 }

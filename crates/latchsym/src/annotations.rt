@@ -8,11 +8,11 @@ ghost use Rattle.listing.specs.AnnotatedLogs.{answered_by};
 ghost use Rattle.latchsym.specs.Annotations.{AnnotatesBy, AnnotatesLog};
 ghost use Rattle.engines.specs.OpenedCatalogs.{given_in, known_given, listing_failures};
 
-use crate::command_line::ListingFiles;
 use crate::reports::{note_listings, note_log};
+use crate::requests::{Annotate, Request};
 use engines::{FAILED, Fault, GivenTexts, ListingReaders, SUCCEEDED, open_catalog, read_given};
 use listing::{LogFault, LogRule, annotate, is_narrow};
-use modules::{IndexedCatalog, KernelBounds};
+use modules::IndexedCatalog;
 use order_laws::Refusal;
 use std::alloc::Global;
 use std::io::{Read, Write};
@@ -27,47 +27,35 @@ pub struct AnnotateReaders<M, K, R, L> {
     pub log: Counted<L>,
 }
 
-/// How the kernel's own regions are found, and how the addresses of a log are taken.
-#[derive(Debug, Drop)]
-pub struct AnnotateOptions<'a> {
-    /// The names of the symbols that bound the kernel, where they are given; else the usual ones of
-    /// the listing do.
-    pub kernel: Option<KernelBounds<'a>>,
-    /// How the addresses are taken.
-    pub rule: LogRule,
-}
-
 /// The place of the log among the files that are read.
 const LOG_PLACE: u64 = 3;
 
 /// Writes a log again, with the text of the answer behind each address in it that the listings
-/// have. The options say between which symbols the kernel itself lies, and how the addresses are
-/// taken; the listing of symbols says whether the log is of a 32-bit kernel.
+/// have. The request says between which symbols the kernel itself lies, and the job how the addresses
+/// are taken; the listing of symbols says whether the log is of a 32-bit kernel.
 ///
-/// What is noted of the listings in these files is told to `errors` before the log is begun. Every
+/// What is noted of the listings is told to `errors` before the log is begun. Every
 /// fault that comes before that leaves the log, the writer and `errors` as they were. Of the log
 /// all that is decided is written, and the writer flushed, after each block that was read; so
 /// whatever ends it, what was written is a beginning of the annotated log. The status is 1 where
 /// nobody reads any more what is written, as before `head`. Behind a log that was annotated to its
-/// end it is noted where the names that it has itself are not those of the listing; `name` is that of
-/// its file. docs/FORMATS.md has the listings, and says what is inserted.
+/// end it is noted where the names that it has itself are not those of the listing. docs/FORMATS.md has the listings, and says what is inserted.
 pub fn annotate_engine<M: Read, K: Read, R: Read, L: Read, E: Write, W: Write>(
     alloc: Global,
     readers: &mut AnnotateReaders<M, K, R, L>,
-    options: &AnnotateOptions<'_>,
-    files: &ListingFiles<'_>,
-    name: &str,
+    request: &Request<'_>,
+    job: &Annotate<'_>,
     errors: &mut Output<E>,
     writer: &mut Output<W>,
 ) -> Result<u8, Fault>
-    ensures { AnnotatesLog L.remaining W.contents E.contents options.now files.now name.now
+    ensures { AnnotatesLog L.remaining W.contents E.contents request.now job.now
         (known_given M.remaining K.remaining R.remaining readers.old.listings)
         (listing_failures readers.old.listings readers.new.listings)
         readers.old.log readers.new.log writer.old writer.new errors.old errors.new result }
 {
     let texts = read_given(alloc, &mut readers.listings)?;
     let log = &mut readers.log;
-    annotate_over(alloc, &texts, options, files, name, errors, log, writer)
+    annotate_over(alloc, &texts, request, job, errors, log, writer)
 }
 
 /// Writes the log again by the catalog that these texts say, and tells before it what is noted of
@@ -75,31 +63,24 @@ pub fn annotate_engine<M: Read, K: Read, R: Read, L: Read, E: Write, W: Write>(
 fn annotate_over<L: Read, E: Write, W: Write>(
     alloc: Global,
     texts: &GivenTexts,
-    options: &AnnotateOptions<'_>,
-    files: &ListingFiles<'_>,
-    name: &str,
+    request: &Request<'_>,
+    job: &Annotate<'_>,
     errors: &mut Output<E>,
     log: &mut Counted<L>,
     writer: &mut Output<W>,
 ) -> Result<u8, Fault>
-    ensures { AnnotatesLog L.remaining W.contents E.contents options.now files.now name.now
+    ensures { AnnotatesLog L.remaining W.contents E.contents request.now job.now
         (Some (given_in texts.now)) [] log.old log.new writer.old writer.new
         errors.old errors.new result }
 {
-    let opened = open_catalog(alloc, options.kernel.as_ref(), texts)?;
+    let kernel = request.kernel.as_ref();
+    let opened = open_catalog(alloc, kernel, texts)?;
     let notes = opened.notes;
     let index = IndexedCatalog::new(alloc, opened.catalog)?;
-    note_listings(&notes, options.kernel.as_ref(), files, errors);
+    note_listings(&notes, kernel, &request.files, errors);
     let is_narrow = is_narrow(&texts.kallsyms);
     annotate_by(
-        alloc,
-        &index,
-        options.rule,
-        is_narrow,
-        name,
-        errors,
-        log,
-        writer,
+        alloc, &index, job.rule, is_narrow, job.log, errors, log, writer,
     )
 }
 

@@ -2,21 +2,22 @@
 //!
 //! A lookup tells of each listing the first note that applies; a check tells them all, and where
 //! they are its answer it writes them.
-ghost use Rattle.std.specs.Prelude.{◌≡◌, None};
-ghost use Rattle.std.specs.Option.{option_copied, option_map};
+ghost use Rattle.std.specs.Prelude.{◌≡◌, None, Some};
+ghost use Rattle.std.specs.Option.{option_copied};
 ghost use Rattle.texts.specs.Output.{Says};
 ghost use Rattle.texts.specs.Lines.{lines_of};
 ghost use Rattle.listing.specs.Looks.{are_modules_hidden, are_symbols_hidden};
-ghost use Rattle.latchsym.specs.Checks.{ChecksGiven, ChecksListings, ChecksTexts, IsModulesReport};
-ghost use Rattle.latchsym.specs.Checks.{IsSymbolsReport, listings_report, modules_name};
-ghost use Rattle.latchsym.specs.Checks.{status_of_kept, symbol_listing_report};
+ghost use Rattle.latchsym.specs.Checks.{IsChecked, listings_report, modules_name, status_of_kept};
+ghost use Rattle.latchsym.specs.Checks.{symbol_listing_report, with_modules};
+ghost use Rattle.latchsym.specs.GivenAnswers.{AnswersGiven, AnswersListings};
 ghost use Rattle.listing.specs.ListingNotes.{is_of_kallsyms, is_of_modules};
 ghost use Rattle.engines.specs.LookupInputs.{inputs_in};
 ghost use Rattle.latchsym.specs.NoteTexts.{applying_lines};
 ghost use Rattle.engines.specs.OpenedCatalogs.{given_in, known_given, listing_failures};
 
-use crate::command_line::ListingFiles;
 use crate::note_texts::put_note_where;
+use crate::reports::unless_failed;
+use crate::requests::ListingFiles;
 use engines::{
     FAILED, Fault, GivenTexts, ListingReaders, LookupInputs, LookupOptions, SUCCEEDED,
     bounds_or_usual, listings_in, read_given, region_lines_in,
@@ -43,7 +44,7 @@ pub fn check_engine<M: Read, K: Read, R: Read, W: Write>(
     files: &ListingFiles<'_>,
     writer: &mut Output<W>,
 ) -> Result<u8, Fault>
-    ensures { ChecksListings W.contents (option_copied kernel.entry) files.now
+    ensures { AnswersListings W.contents (IsChecked (option_copied kernel.entry) files.now)
         (known_given M.remaining K.remaining R.remaining readers.old)
         (listing_failures readers.old readers.new) writer.old writer.new result }
 {
@@ -59,12 +60,12 @@ fn check_given<W: Write>(
     files: &ListingFiles<'_>,
     writer: &mut Output<W>,
 ) -> Result<u8, Fault>
-    ensures { ChecksGiven W.contents (option_copied kernel.entry) files.now (given_in texts.now)
-        writer.old writer.new result }
+    ensures { AnswersGiven W.contents (IsChecked (option_copied kernel.entry) files.now)
+        (given_in texts.now) writer.old writer.new result }
 {
     match &texts.modules {
         Some(modules) => check_modules(alloc, texts, modules, kernel, files, writer),
-        None => check_symbols(alloc, &texts.kallsyms, kernel, files.kallsyms, writer),
+        None => check_symbols(alloc, texts, kernel, files, writer),
     }
 }
 
@@ -77,10 +78,8 @@ fn check_modules<W: Write>(
     files: &ListingFiles<'_>,
     writer: &mut Output<W>,
 ) -> Result<u8, Fault>
-    ensures { ChecksTexts W.contents
-        (IsModulesReport (option_copied kernel.entry) files.now modules.now texts.now.kallsyms.items
-        (option_map (λ text. text.items) texts.now.regions))
-        (option_map (λ text. text.items) texts.now.regions) writer.old writer.new result }
+    ensures { AnswersGiven W.contents (IsChecked (option_copied kernel.entry) files.now)
+        (with_modules (Some modules.now) (given_in texts.now)) writer.old writer.new result }
 {
     let options = LookupOptions {
         kernel: bounds_or_usual(kernel),
@@ -96,31 +95,25 @@ fn check_modules<W: Write>(
     };
     let listings = listings_in(alloc, &inputs, Asked::These(&[]))?;
     put_listings(writer, files, &inputs, &listings);
-    if writer.has_failed() {
-        return Err(Fault::Write);
-    }
-    Ok(status_of_kept(listings.built.symbols))
+    unless_failed(writer, status_of_kept(listings.built.symbols))
 }
 
 /// The same of a listing of symbols alone.
 fn check_symbols<W: Write>(
     alloc: Global,
-    kallsyms: &[u8],
+    texts: &GivenTexts,
     kernel: Option<&KernelBounds>,
-    file: &str,
+    files: &ListingFiles<'_>,
     writer: &mut Output<W>,
 ) -> Result<u8, Fault>
-    ensures { ChecksTexts W.contents
-        (IsSymbolsReport (option_copied kernel.entry) file.now kallsyms.now) None
-        writer.old writer.new result }
+    ensures { AnswersGiven W.contents (IsChecked (option_copied kernel.entry) files.now)
+        (with_modules None (given_in texts.now)) writer.old writer.new result }
 {
+    let kallsyms = texts.kallsyms.as_slice();
     let listing = open_symbols(alloc, kernel, kallsyms, Asked::These(&[]))?;
     let names = kernel.unwrap_or(&listing.usual);
-    put_symbol_listing(writer, names, file, kallsyms, &listing);
-    if writer.has_failed() {
-        return Err(Fault::Write);
-    }
-    Ok(status_of_kept(listing.kept.symbols))
+    put_symbol_listing(writer, names, files.kallsyms, kallsyms, &listing);
+    unless_failed(writer, status_of_kept(listing.kept.symbols))
 }
 
 /// The program's status, by how many symbols are kept.

@@ -1,28 +1,38 @@
 //! A job from the names of its files to its status: its files are opened, and then its engine
 //! answers over their readers.
-ghost use Rattle.std.specs.Prelude.{◌≡◌, IfOk, IfErr, List, ℕ, Option};
+ghost use Rattle.std.specs.Prelude.{◌≡◌, IfOk, IfErr, List, ℕ, Option, is_some, map, true};
 ghost use Rattle.texts.specs.Counted.{device_of};
 ghost use Rattle.texts.specs.Output.{error_in};
-ghost use Rattle.latchsym.specs.Files.{AreAnnotateFiles, AreListingFiles, AreLookupFiles};
-ghost use Rattle.latchsym.specs.Files.{AreRunFiles, AreSymbolLookupFiles};
-ghost use Rattle.latchsym.specs.Files.{IsOpened, IsOpenedFor, IsOpenedIfGiven, or_standard};
-ghost use Rattle.latchsym.specs.Outcomes.{AreNamesFound, IsAnnotated, IsListingsChecked};
-ghost use Rattle.latchsym.specs.Outcomes.{IsLookedUp, IsLookedUpBySymbols, IsOutcome};
+ghost use Rattle.engines.specs.Faults.{with_notes, with_status};
+ghost use Rattle.engines.specs.LookupInputs.{known_inputs};
+ghost use Rattle.engines.specs.Lookups.{AnswersLookup, failures_between};
+ghost use Rattle.engines.specs.OpenedCatalogs.{known_given, listing_failures};
+ghost use Rattle.engines.specs.RunInputs.{known_run_inputs};
+ghost use Rattle.engines.specs.Runs.{AnswersRun, run_failures_between};
+ghost use Rattle.engines.specs.SymbolLookups.{AnswersSymbolLookup, failures_of_symbols};
+ghost use Rattle.engines.specs.SymbolLookups.{known_symbol_inputs};
+ghost use Rattle.listing.specs.ListingNotes.{no_notes};
+ghost use Rattle.latchsym.specs.Addresses.{IsAddressed};
+ghost use Rattle.latchsym.specs.Annotations.{AnnotatesLog};
+ghost use Rattle.latchsym.specs.Checks.{IsChecked};
+ghost use Rattle.latchsym.specs.GivenAnswers.{AnswersListings};
+ghost use Rattle.latchsym.specs.Files.{AreListingFiles, IsOpened, IsOpenedFor, IsOpenedIfGiven};
+ghost use Rattle.latchsym.specs.Files.{IsOpenedWith, or_standard};
+ghost use Rattle.latchsym.specs.Outcomes.{Ends, IsOutcome, bounds_of, options_of};
+ghost use Rattle.latchsym.specs.Outcomes.{symbol_options_of};
 ghost use Rattle.latchsym.specs.Reasons.{error_if_given, error_of_listing};
 
-use crate::address_command::AddressJob;
 use crate::addresses::address_engine;
 use crate::annotations::{AnnotateReaders, annotate_engine};
 use crate::checks::check_engine;
-use crate::command_line::{
-    AnnotateJob, CheckJob, Job, ListingFiles, LookupJob, RunJob, SymbolLookupJob,
-};
+use crate::requests::{Address, Annotate, Job, ListingFiles, Lookup, Request, Run, Subcommand};
 use engines::{
-    Fault, Finished, ListingReaders, LookupReaders, RunReaders, SymbolLookupReaders, lookup_engine,
-    run_engine, steps_engine, symbol_lookup_engine, trace_engine, with_notes, with_status,
-    without_notes,
+    Fault, Finished, ListingReaders, LookupOptions, LookupReaders, RunReaders, SymbolLookupOptions,
+    SymbolLookupReaders, bounds_or_usual, lookup_engine, run_engine, steps_engine,
+    symbol_lookup_engine, trace_engine, with_notes, with_status, without_notes,
 };
 use listing::ListingNotes;
+use modules::KernelBounds;
 use order_laws::Refusal;
 use std::alloc::Global;
 use std::io;
@@ -58,12 +68,12 @@ pub trait FileSource {
 pub enum OpenedJob<'j, 'a, R> {
     Trace(Counted<R>),
     Steps(Counted<R>),
-    Lookup(&'j LookupJob<'a>, LookupReaders<R, R, R, R>),
-    SymbolLookup(&'j SymbolLookupJob<'a>, SymbolLookupReaders<R, R>),
-    Run(&'j RunJob<'a>, RunReaders<R, R, R, R>),
-    Annotate(&'j AnnotateJob<'a>, AnnotateReaders<R, R, R, R>),
-    Check(&'j CheckJob<'a>, ListingReaders<R, R, R>),
-    Address(&'j AddressJob<'a>, ListingReaders<R, R, R>),
+    Lookup(&'j Request<'a>, &'j Lookup<'a>, LookupReaders<R, R, R, R>),
+    SymbolLookup(&'j Request<'a>, &'j Lookup<'a>, SymbolLookupReaders<R, R>),
+    Run(&'j Request<'a>, &'j Run<'a>, RunReaders<R, R, R, R>),
+    Annotate(&'j Request<'a>, &'j Annotate<'a>, AnnotateReaders<R, R, R, R>),
+    Check(&'j Request<'a>, ListingReaders<R, R, R>),
+    Address(&'j Request<'a>, &'j Address<'a>, ListingReaders<R, R, R>),
 }
 
 /// Opens the files that a job names.
@@ -78,15 +88,100 @@ pub fn open_job<'j, 'a, F: FileSource>(
     match job {
         Job::Trace { file } => Ok(OpenedJob::Trace(files.open(file)?)),
         Job::Steps { file } => Ok(OpenedJob::Steps(files.open(file)?)),
-        Job::Lookup(job) => Ok(OpenedJob::Lookup(job, open_lookup(files, job)?)),
-        Job::SymbolLookup(job) => {
-            Ok(OpenedJob::SymbolLookup(job, open_symbol_lookup(files, job)?))
-        }
-        Job::Run(job) => Ok(OpenedJob::Run(job, open_run(files, job)?)),
-        Job::Annotate(job) => Ok(OpenedJob::Annotate(job, open_annotation(files, job)?)),
-        Job::Check(job) => Ok(OpenedJob::Check(job, open_listings(files, &job.listings)?)),
-        Job::Address(job) => Ok(OpenedJob::Address(job, open_listings(files, &job.listings)?)),
+        Job::Request(request) => open_request(files, request),
     }
+}
+
+/// Opens the files of a request: those of the listings, and then what is asked over them.
+fn open_request<'j, 'a, F: FileSource>(
+    files: &F,
+    request: &'j Request<'a>,
+) -> Result<OpenedJob<'j, 'a, F::File>, Refusal>
+    ensures opened { IfOk result (IsOpenedWith F.File.remaining (F.held files.now)
+        (or_standard (F.standard files.now) (F.held files.now)) request.now request.now.subcommand) }
+    ensures refusal { IfErr result (λ e. e ≡ Refusal.OutOfMemory) }
+{
+    match &request.subcommand {
+        Subcommand::Lookup(lookup) => open_lookup(files, request, lookup),
+        Subcommand::Run(run) => open_run(files, request, run),
+        Subcommand::Annotate(annotate) => {
+            let listings = open_listings(files, &request.files)?;
+            let log = open_or_standard(files, annotate.log)?;
+            let readers = AnnotateReaders { listings, log };
+            Ok(OpenedJob::Annotate(request, annotate, readers))
+        }
+        Subcommand::Check => {
+            let listings = open_listings(files, &request.files)?;
+            Ok(OpenedJob::Check(request, listings))
+        }
+        Subcommand::Address(address) => {
+            let listings = open_listings(files, &request.files)?;
+            Ok(OpenedJob::Address(request, address, listings))
+        }
+    }
+}
+
+/// Opens the files of a lookup, which is by symbols alone where no modules are listed.
+fn open_lookup<'j, 'a, F: FileSource>(
+    files: &F,
+    request: &'j Request<'a>,
+    lookup: &'j Lookup<'a>,
+) -> Result<OpenedJob<'j, 'a, F::File>, Refusal>
+    ensures opened { IfOk result (IsOpenedWith F.File.remaining (F.held files.now)
+        (or_standard (F.standard files.now) (F.held files.now)) request.now
+        (Subcommand.Lookup lookup.now)) }
+    ensures refusal { IfErr result (λ e. e ≡ Refusal.OutOfMemory) }
+{
+    let ListingReaders {
+        modules,
+        kallsyms,
+        regions,
+    } = open_listings(files, &request.files)?;
+    let addresses = open_addresses(files, lookup.file)?;
+    let Some(modules) = modules else {
+        let readers = SymbolLookupReaders {
+            kallsyms,
+            addresses,
+        };
+        return Ok(OpenedJob::SymbolLookup(request, lookup, readers));
+    };
+    let readers = LookupReaders {
+        modules,
+        kallsyms,
+        regions,
+        addresses,
+    };
+    Ok(OpenedJob::Lookup(request, lookup, readers))
+}
+
+/// Opens the files of a run, whose modules are listed.
+fn open_run<'j, 'a, F: FileSource>(
+    files: &F,
+    request: &'j Request<'a>,
+    run: &'j Run<'a>,
+) -> Result<OpenedJob<'j, 'a, F::File>, Refusal>
+    requires { is_some request.now.files.modules ≡ true }
+    ensures opened { IfOk result (IsOpenedWith F.File.remaining (F.held files.now)
+        (or_standard (F.standard files.now) (F.held files.now)) request.now
+        (Subcommand.Run run.now)) }
+    ensures refusal { IfErr result (λ e. e ≡ Refusal.OutOfMemory) }
+{
+    let ListingReaders {
+        modules,
+        kallsyms,
+        regions,
+    } = open_listings(files, &request.files)?;
+    let script = open_or_standard(files, run.script)?;
+    let Some(modules) = modules else {
+        unreachable!();
+    };
+    let readers = RunReaders {
+        modules,
+        kallsyms,
+        regions,
+        script,
+    };
+    Ok(OpenedJob::Run(request, run, readers))
 }
 
 /// Does the job over its readers: has its engine answer with the job's own options, addresses and
@@ -109,98 +204,149 @@ pub fn do_job<T: Threads + Wait + Sync, R: Read, W: Write, E: Write>(
         OpenedJob::Steps(reader) => {
             with_status(without_notes(steps_engine(alloc, reader, writer)))
         }
-        OpenedJob::Lookup(job, readers) => do_lookup(alloc, job, readers, writer),
-        OpenedJob::SymbolLookup(job, readers) => do_symbol_lookup(alloc, job, readers, writer),
-        OpenedJob::Run(job, readers) => {
-            run_engine(threads, alloc, readers, &job.kernel, job.readers, writer)
+        OpenedJob::Lookup(request, lookup, readers) => {
+            do_lookup(alloc, request, lookup, readers, writer)
         }
-        OpenedJob::Annotate(job, readers) => do_annotate(alloc, job, readers, writer, errors),
-        OpenedJob::Check(job, readers) => do_check(alloc, job, readers, writer),
-        OpenedJob::Address(job, readers) => do_address(alloc, job, readers, writer),
+        OpenedJob::SymbolLookup(request, lookup, readers) => {
+            do_symbol_lookup(alloc, request, lookup, readers, writer)
+        }
+        OpenedJob::Run(request, run, readers) => {
+            do_run(threads, alloc, request, run, readers, writer)
+        }
+        OpenedJob::Annotate(request, annotate, readers) => {
+            do_annotate(alloc, request, annotate, readers, writer, errors)
+        }
+        OpenedJob::Check(request, readers) => do_check(alloc, request, readers, writer),
+        OpenedJob::Address(request, address, readers) => {
+            do_address(alloc, request, address, readers, writer)
+        }
     }
 }
 
-/// Looks up the addresses of a job.
+/// Looks addresses up where modules are listed.
 fn do_lookup<R: Read, W: Write>(
     alloc: Global,
-    job: &LookupJob<'_>,
+    request: &Request<'_>,
+    lookup: &Lookup<'_>,
     readers: &mut LookupReaders<R, R, R, R>,
     writer: &mut Output<W>,
 ) -> Result<Finished, Fault>
-    ensures { IsLookedUp R.remaining W.contents job.now readers.old readers.new
-        writer.old writer.new result }
+    ensures { Ends (AnswersLookup W.contents lookup.now.form
+        (known_inputs R.remaining R.remaining R.remaining R.remaining readers.old
+        (options_of request.now lookup.now) lookup.now.addresses.items)
+        (failures_between readers.old readers.new) writer.old writer.new) with_status result }
 {
-    let options = &job.options;
-    let done = lookup_engine(alloc, readers, options, &job.addresses, job.form, writer);
-    with_status(done)
+    let options = LookupOptions {
+        kernel: bounds_or_usual(request.kernel.as_ref()),
+        rule: lookup.rule,
+        with_mapping: true,
+    };
+    let addresses = &lookup.addresses;
+    with_status(lookup_engine(alloc, readers, &options, addresses, lookup.form, writer))
 }
 
-/// Looks up the addresses of a job by the symbols alone.
+/// Looks addresses up by the symbols alone.
 fn do_symbol_lookup<R: Read, W: Write>(
     alloc: Global,
-    job: &SymbolLookupJob<'_>,
+    request: &Request<'_>,
+    lookup: &Lookup<'_>,
     readers: &mut SymbolLookupReaders<R, R>,
     writer: &mut Output<W>,
 ) -> Result<Finished, Fault>
-    ensures { IsLookedUpBySymbols R.remaining W.contents job.now readers.old readers.new
-        writer.old writer.new result }
+    ensures { Ends (AnswersSymbolLookup W.contents lookup.now.form
+        (known_symbol_inputs R.remaining R.remaining readers.old
+        (symbol_options_of request.now lookup.now) lookup.now.addresses.items)
+        (failures_of_symbols readers.old readers.new) writer.old writer.new) with_status result }
 {
-    let options = &job.options;
-    let done = symbol_lookup_engine(alloc, readers, options, &job.addresses, job.form, writer);
-    with_status(done)
+    let options = SymbolLookupOptions {
+        kernel: same_bounds(&request.kernel),
+        rule: lookup.rule,
+    };
+    let addresses = &lookup.addresses;
+    with_status(symbol_lookup_engine(alloc, readers, &options, addresses, lookup.form, writer))
 }
 
-/// Annotates the log of a job.
+/// The bounds that are given, once more.
+fn same_bounds<'k>(kernel: &Option<KernelBounds<'k>>) -> Option<KernelBounds<'k>>
+    ensures { result ≡ kernel.now }
+{
+    match kernel {
+        Some(names) => Some(KernelBounds {
+            start: names.start,
+            end: names.end,
+        }),
+        None => None,
+    }
+}
+
+/// Does what a script says.
+fn do_run<T: Threads + Wait + Sync, R: Read, W: Write>(
+    threads: &T,
+    alloc: Global,
+    request: &Request<'_>,
+    run: &Run<'_>,
+    readers: &mut RunReaders<R, R, R, R>,
+    writer: &mut Output<W>,
+) -> Result<Finished, Fault>
+    ensures { AnswersRun W.contents run.now.readers
+        (known_run_inputs R.remaining R.remaining R.remaining R.remaining readers.old
+        (bounds_of request.now) run.now.readers)
+        (run_failures_between readers.old readers.new) writer.old writer.new result }
+{
+    let kernel = bounds_or_usual(request.kernel.as_ref());
+    run_engine(threads, alloc, readers, &kernel, run.readers, writer)
+}
+
+/// Annotates a log.
 fn do_annotate<R: Read, W: Write, E: Write>(
     alloc: Global,
-    job: &AnnotateJob<'_>,
+    request: &Request<'_>,
+    annotate: &Annotate<'_>,
     readers: &mut AnnotateReaders<R, R, R, R>,
     writer: &mut Output<W>,
     errors: &mut Output<E>,
 ) -> Result<Finished, Fault>
-    ensures { IsAnnotated R.remaining W.contents E.contents job.now readers.old readers.new
-        writer.old writer.new errors.old errors.new result }
+    ensures { Ends (AnnotatesLog R.remaining W.contents E.contents request.now annotate.now
+        (known_given R.remaining R.remaining R.remaining readers.old.listings)
+        (listing_failures readers.old.listings readers.new.listings) readers.old.log readers.new.log
+        writer.old writer.new errors.old errors.new) (with_notes no_notes) result }
 {
-    let done = annotate_engine(
-        alloc,
-        readers,
-        &job.options,
-        &job.listings,
-        job.log,
-        errors,
-        writer,
-    );
+    let done = annotate_engine(alloc, readers, request, annotate, errors, writer);
     with_notes(done, ListingNotes::none())
 }
 
-/// Checks the listings of a job. What is noted of them is written, so that nothing is left to be
-/// told.
+/// Checks listings. What is noted of them is written, so that nothing is left to be told.
 fn do_check<R: Read, W: Write>(
     alloc: Global,
-    job: &CheckJob<'_>,
+    request: &Request<'_>,
     readers: &mut ListingReaders<R, R, R>,
     writer: &mut Output<W>,
 ) -> Result<Finished, Fault>
-    ensures { IsListingsChecked R.remaining W.contents job.now readers.old readers.new
-        writer.old writer.new result }
+    ensures { Ends (AnswersListings W.contents (IsChecked request.now.kernel request.now.files)
+        (known_given R.remaining R.remaining R.remaining readers.old)
+        (listing_failures readers.old readers.new) writer.old writer.new)
+        (with_notes no_notes) result }
 {
-    let kernel = job.kernel.as_ref();
-    let status = check_engine(alloc, readers, kernel, &job.listings, writer);
+    let kernel = request.kernel.as_ref();
+    let status = check_engine(alloc, readers, kernel, &request.files, writer);
     with_notes(status, ListingNotes::none())
 }
 
-/// Says where the symbols of a job's names are.
+/// Says where the symbols of names are.
 fn do_address<R: Read, W: Write>(
     alloc: Global,
-    job: &AddressJob<'_>,
+    request: &Request<'_>,
+    address: &Address<'_>,
     readers: &mut ListingReaders<R, R, R>,
     writer: &mut Output<W>,
 ) -> Result<Finished, Fault>
-    ensures { AreNamesFound R.remaining W.contents job.now readers.old readers.new
-        writer.old writer.new result }
+    ensures { Ends (AnswersListings W.contents (IsAddressed address.now.form request.now.kernel
+        (map (λ n. n.now) address.now.names.items))
+        (known_given R.remaining R.remaining R.remaining readers.old)
+        (listing_failures readers.old readers.new) writer.old writer.new) with_status result }
 {
-    let kernel = job.kernel.as_ref();
-    let done = address_engine(alloc, readers, job.form, kernel, &job.names, writer);
+    let kernel = request.kernel.as_ref();
+    let done = address_engine(alloc, readers, address.form, kernel, &address.names, writer);
     with_status(done)
 }
 
@@ -239,9 +385,9 @@ impl<R> OpenedJob<'_, '_, R> {
         ensures { result ≡ error_at self.now place }
     {
         match self {
-            OpenedJob::Annotate(_, readers) if place == 3 => readers.log.error(),
-            OpenedJob::Annotate(_, readers) => error_of_listing(&readers.listings, place),
-            OpenedJob::Check(_, readers) | OpenedJob::Address(_, readers) => {
+            OpenedJob::Annotate(_, _, readers) if place == 3 => readers.log.error(),
+            OpenedJob::Annotate(_, _, readers) => error_of_listing(&readers.listings, place),
+            OpenedJob::Check(_, readers) | OpenedJob::Address(_, _, readers) => {
                 error_of_listing(readers, place)
             }
             OpenedJob::Trace(_)
@@ -273,72 +419,6 @@ fn error_if_given<R>(reader: &Option<Counted<R>>) -> Option<io::Error>
         Some(reader) => reader.error(),
         None => None,
     }
-}
-
-/// Opens the files of a lookup.
-fn open_lookup<F: FileSource>(
-    files: &F,
-    job: &LookupJob<'_>,
-) -> Result<LookupReaders<F::File, F::File, F::File, F::File>, Refusal>
-    ensures opened { IfOk result
-        (AreLookupFiles F.File.remaining (F.held files.now) (F.standard files.now) job.now) }
-    ensures refusal { IfErr result (λ e. e ≡ Refusal.OutOfMemory) }
-{
-    Ok(LookupReaders {
-        modules: files.open(job.modules)?,
-        kallsyms: files.open(job.kallsyms)?,
-        regions: open_if_given(files, job.regions)?,
-        addresses: open_addresses(files, job.address_file)?,
-    })
-}
-
-/// Opens the files of a lookup by symbols alone.
-fn open_symbol_lookup<F: FileSource>(
-    files: &F,
-    job: &SymbolLookupJob<'_>,
-) -> Result<SymbolLookupReaders<F::File, F::File>, Refusal>
-    ensures opened { IfOk result
-        (AreSymbolLookupFiles F.File.remaining (F.held files.now) (F.standard files.now) job.now) }
-    ensures refusal { IfErr result (λ e. e ≡ Refusal.OutOfMemory) }
-{
-    let kallsyms = files.open(job.kallsyms)?;
-    let addresses = open_addresses(files, job.address_file)?;
-    Ok(SymbolLookupReaders {
-        kallsyms,
-        addresses,
-    })
-}
-
-/// Opens the files of a run.
-fn open_run<F: FileSource>(
-    files: &F,
-    job: &RunJob<'_>,
-) -> Result<RunReaders<F::File, F::File, F::File, F::File>, Refusal>
-    ensures opened { IfOk result
-        (AreRunFiles F.File.remaining (F.held files.now) (F.standard files.now) job.now) }
-    ensures refusal { IfErr result (λ e. e ≡ Refusal.OutOfMemory) }
-{
-    Ok(RunReaders {
-        modules: files.open(job.modules)?,
-        kallsyms: files.open(job.kallsyms)?,
-        regions: open_if_given(files, job.regions)?,
-        script: open_or_standard(files, job.script)?,
-    })
-}
-
-/// Opens the files of an annotation.
-fn open_annotation<F: FileSource>(
-    files: &F,
-    job: &AnnotateJob<'_>,
-) -> Result<AnnotateReaders<F::File, F::File, F::File, F::File>, Refusal>
-    ensures opened { IfOk result
-        (AreAnnotateFiles F.File.remaining (F.held files.now) (F.standard files.now) job.now) }
-    ensures refusal { IfErr result (λ e. e ≡ Refusal.OutOfMemory) }
-{
-    Ok(AnnotateReaders {
-        listings: open_listings(files, &job.listings)?,
-        log: open_or_standard(files, job.log)?,
-    })
 }
 
 /// Opens the files of listings.

@@ -9,15 +9,15 @@
 //! - `check` says what is wrong with listings, and how many of their lines are of use
 //! - `address` says where the symbols of some names are
 //!
-//! The options of each stand in `command_line`.
+//! The options of each stand in `command_line`, and what they ask for in `requests`.
 //!
 //! What `trace`, `lookup` and `run` do stands in `engines`; what needs no table stands here.
 #![tactic(auto)]
 
-mod address_command;
 mod address_texts;
 mod addresses;
 mod annotations;
+mod arguments;
 mod asked_names;
 mod checks;
 mod command_line;
@@ -28,8 +28,9 @@ mod misuse;
 mod note_texts;
 mod operands;
 mod reports;
+mod requests;
 
-use command_line::{Job, JobFault, job_of};
+use arguments::job_of;
 use engines::Fault;
 use input::FileSystem;
 use jobs::{do_job, open_job};
@@ -37,6 +38,7 @@ use misuse::{misused, refuse};
 use operands::with_operands;
 use order_laws::Refusal;
 use reports::{conclude, report_before_job};
+use requests::{Job, JobFault, Subcommand};
 use std::env;
 use std::io::{BufWriter, ErrorKind, Stderr, Write};
 use std::process::ExitCode;
@@ -81,33 +83,39 @@ fn answer<T: Threads + Wait + Sync>(
     }
 }
 
-/// Does the job, and returns the program's status. The engines of traces and of logs write blocks, so
-/// nothing gathers their output; for the others there is a buffer before anything is read.
+/// Does the job, and returns the program's status.
 fn run<T: Threads + Wait + Sync>(
     rt: &HostRuntime,
     threads: &T,
     job: &Job<'_>,
     errors: &mut Output<Stderr>,
 ) -> u8 {
-    match job {
-        Job::Trace { .. } | Job::Annotate(_) => {
-            let mut writer = Output::new(rt.stdout());
+    if writes_blocks(job) {
+        let mut writer = Output::new(rt.stdout());
+        return run_to(rt, threads, job, &mut writer, errors);
+    }
+    match BufWriter::with_capacity(rt.alloc(), BLOCK, rt.stdout()) {
+        Ok(buffer) => {
+            let mut writer = Output::new(buffer);
             run_to(rt, threads, job, &mut writer, errors)
         }
-        Job::Steps { .. }
-        | Job::Lookup(_)
-        | Job::SymbolLookup(_)
-        | Job::Run(_)
-        | Job::Check(_)
-        | Job::Address(_) => {
-            match BufWriter::with_capacity(rt.alloc(), BLOCK, rt.stdout()) {
-                Ok(buffer) => {
-                    let mut writer = Output::new(buffer);
-                    run_to(rt, threads, job, &mut writer, errors)
-                }
-                Err(_) => report_before_job(&NO_MEMORY, errors),
-            }
-        }
+        Err(_) => report_before_job(&NO_MEMORY, errors),
+    }
+}
+
+/// Whether the engine of the job writes blocks, so that nothing has to gather its output; for the
+/// others there is a buffer before anything is read.
+fn writes_blocks(job: &Job<'_>) -> bool {
+    match job {
+        Job::Trace { .. } => true,
+        Job::Steps { .. } => false,
+        Job::Request(request) => match request.subcommand {
+            Subcommand::Annotate(_) => true,
+            Subcommand::Lookup(_)
+            | Subcommand::Run(_)
+            | Subcommand::Check
+            | Subcommand::Address(_) => false,
+        },
     }
 }
 

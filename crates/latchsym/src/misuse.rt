@@ -4,8 +4,8 @@ ghost use Rattle.texts.specs.Output.{Says};
 ghost use Rattle.latchsym.specs.Misuses.{IsExplained, IsMisused, IsNoJob, misuse_text};
 ghost use Rattle.latchsym.specs.Misuses.{offset_message};
 
-use crate::command_line::JobFault;
 use crate::reports::report_before_job;
+use crate::requests::JobFault;
 use clap::Error;
 use engines::{Fault, SUCCEEDED};
 use order_laws::Refusal;

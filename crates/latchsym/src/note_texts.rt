@@ -6,7 +6,7 @@ ghost use Rattle.latchsym.specs.NoteTexts.{line_if_noted, line_where, lines_for,
 ghost use Rattle.latchsym.specs.NoteTexts.{missing_text, note_line, note_lines, noted_bounds};
 ghost use Rattle.latchsym.specs.NoteTexts.{notes_text, other_boot_line, remedy_text};
 
-use crate::command_line::{Job, ListingFiles};
+use crate::requests::{Job, ListingFiles};
 use listing::{ListingNote, ListingNotes, LogNames};
 use modules::KernelBounds;
 use std::io::Write;
@@ -17,19 +17,10 @@ pub fn put_job_notes<W: Write>(writer: &mut Output<W>, job: &Job<'_>, notes: &Li
     ensures { Says W.contents writer.old writer.new (notes_text job.now notes.now) }
 {
     match job {
-        Job::Trace { .. } | Job::Steps { .. } | Job::Check(_) => {}
-        Job::Lookup(job) => {
-            let names = &job.options.kernel;
-            put_listing_notes(writer, names, job.modules, job.kallsyms, notes)
+        Job::Trace { .. } | Job::Steps { .. } => {}
+        Job::Request(request) => {
+            put_notes_of(writer, request.kernel.as_ref(), &request.files, notes)
         }
-        Job::SymbolLookup(job) => {
-            put_symbol_note(writer, job.options.kernel.as_ref(), job.kallsyms, notes)
-        }
-        Job::Run(job) => put_listing_notes(writer, &job.kernel, job.modules, job.kallsyms, notes),
-        Job::Annotate(job) => {
-            put_notes_of(writer, job.options.kernel.as_ref(), &job.listings, notes)
-        }
-        Job::Address(job) => put_notes_of(writer, job.kernel.as_ref(), &job.listings, notes),
     }
 }
 

@@ -1,7 +1,8 @@
 //! What is said at the end of a run: what is noted of its listings, or why it failed.
-ghost use Rattle.std.specs.Prelude.{◌≡◌, ◌++◌, [], None};
+ghost use Rattle.std.specs.Prelude.{◌≡◌, ◌++◌, [], None, Ok, Err, if◌then◌else◌};
 ghost use Rattle.std.specs.Option.{option_copied};
-ghost use Rattle.texts.specs.Output.{Says};
+ghost use Rattle.texts.specs.Output.{Says, has_failed};
+ghost use Rattle.engines.specs.declared.fault.Fault.TheVariants.{Write};
 ghost use Rattle.latchsym.specs.Reasons.{reason_text};
 ghost use Rattle.latchsym.specs.Reports.{IsConcluded, IsFaultTold, IsNoted};
 ghost use Rattle.latchsym.specs.Reports.{bad_line_text, fault_text, file_of, message_text};
@@ -10,8 +11,8 @@ ghost use Rattle.listing.specs.ListingNotes.{is_some_noted};
 ghost use Rattle.listing.specs.LogNames.{is_of_another_boot};
 ghost use Rattle.latchsym.specs.NoteTexts.{note_lines, notes_text, other_boot_line};
 
-use crate::command_line::{Job, ListingFiles};
 use crate::note_texts::{put_job_notes, put_notes_of, put_other_boot};
+use crate::requests::{Job, ListingFiles};
 use arrayvec::ArrayString;
 use engines::{FAILED, Fault, Finished, put_refused};
 use listing::{ListingNotes, LogNames};
@@ -95,6 +96,17 @@ fn report<W: Write>(
         None => put_fault(fault, file, None, writer),
     }
     FAILED
+}
+
+/// What an engine came to, unless a call of its writer failed.
+pub fn unless_failed<W, T: Drop>(writer: &Output<W>, done: T) -> Result<T, Fault>
+    ensures { result ≡ (if has_failed writer.now then Err Write else Ok done) }
+{
+    if writer.has_failed() {
+        Err(Fault::Write)
+    } else {
+        Ok(done)
+    }
 }
 
 /// The most bytes that are told of what the system says.

@@ -1,8 +1,5 @@
-use Rattle.std.proofs.Common.{ap}
-use Rattle.texts.specs.Exact.{hexadecimal}
-use Rattle.texts.proofs.OutputLemmas.{same_text, then}
-use Rattle.latchsym.specs.AddressTexts.{address_line, owner_text}
-use Rattle.latchsym.specs.KeptSymbols.{Kept}
+use Rattle.latchsym.proofs.Words.{ap, hexadecimal, same_text, then, owner_text, Kept}
+use Rattle.latchsym.specs.AddressTexts.{address_line}
 use Rattle.latchsym.proofs.address_texts.put_address.Goals as goal
 
 pub returns : goal.returns

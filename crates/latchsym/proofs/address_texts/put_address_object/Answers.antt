@@ -1,9 +1,5 @@
-use Rattle.std.proofs.Common.{◌∙◌, ap}
-use Rattle.texts.proofs.OutputLemmas.{same_text, then}
-use Rattle.latchsym.specs.AddressTexts.{address_object, owner_member}
-use Rattle.latchsym.specs.AskedNames.{AskedSymbols}
-use Rattle.engines.specs.JsonTexts.{address_member, symbol_members}
-use Rattle.latchsym.specs.KeptSymbols.{Kept}
+use Rattle.latchsym.proofs.Words.{◌∙◌, ap, same_text, then, owner_member, AskedSymbols, address_member, symbol_members, Kept}
+use Rattle.latchsym.specs.AddressTexts.{address_object}
 use Rattle.latchsym.proofs.address_texts.put_address_object.Goals as goal
 
 pub returns : goal.returns

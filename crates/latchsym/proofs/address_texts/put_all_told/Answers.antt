@@ -1,7 +1,4 @@
-use Rattle.std.proofs.Common.{rules, arith}
-use Rattle.texts.proofs.OutputLemmas.{piece_said}
-use Rattle.latchsym.specs.AddressTexts.{is_told, told_line}
-use Rattle.latchsym.specs.NoteTexts.{line_where}
+use Rattle.latchsym.proofs.Words.{rules, arith, piece_said, is_told, told_line, line_where}
 use Rattle.latchsym.proofs.address_texts.put_all_told.Goals as goal
 
 pub loop-symbol-preserved : goal.loop-symbol-preserved

@@ -1,6 +1,4 @@
-use Rattle.std.proofs.Common.{take}
-use Rattle.texts.specs.Output.{Says}
-use Rattle.latchsym.specs.AddressTexts.{told_lines}
+use Rattle.latchsym.proofs.Words.{take, Says, told_lines}
 use Rattle.latchsym.proofs.address_texts.put_all_told.Given as goal
 
 -- the lines of the symbols so far were written

@@ -1,4 +1,4 @@
-use Rattle.std.proofs.Common.{◌∙◌, sym}
+use Rattle.latchsym.proofs.Words.{◌∙◌, sym}
 use Rattle.latchsym.proofs.address_texts.put_if_told.Goals as goal
 
 pub put_told-requires : goal.put_told-requires

@@ -1,10 +1,4 @@
-use Rattle.std.proofs.Common.{◌≡◌, ◌∙◌, [], Some, None, ap, option_map}
-use Rattle.std.specs.Prelude.{unwrap_or}
-use Rattle.std.specs.Global.{Vec}
-use Rattle.texts.proofs.OutputLemmas.{same_text}
-use Rattle.latchsym.specs.AddressTexts.{symbols_text}
-use Rattle.latchsym.specs.AskedNames.{AskedSymbols, asked_of}
-use Rattle.latchsym.specs.KeptSymbols.{Kept, found_by}
+use Rattle.latchsym.proofs.Words.{◌≡◌, ◌∙◌, [], Some, None, ap, option_map, unwrap_or, Vec, same_text, symbols_text, AskedSymbols, asked_of, Kept, found_by}
 use Rattle.latchsym.proofs.address_texts.put_word.Goals as goal
 
 pub returns-in-Some : goal.returns-in-Some

@@ -1,8 +1,4 @@
-use Rattle.std.proofs.Common.{[], List, ℕ, ap}
-use Rattle.std.specs.Prelude.{unwrap_or}
-use Rattle.texts.proofs.OutputLemmas.{same_text}
-use Rattle.latchsym.specs.AddressTexts.{word_text}
-use Rattle.latchsym.specs.KeptSymbols.{Kept, found_by}
+use Rattle.latchsym.proofs.Words.{[], List, ℕ, ap, unwrap_or, same_text, word_text, Kept, found_by}
 use Rattle.latchsym.proofs.SoughtLemmas.{word_said}
 use Rattle.latchsym.proofs.address_texts.put_words.Goals as goal
 

@@ -1,8 +1,4 @@
-use Rattle.std.proofs.Common.{[], map, take}
-use Rattle.std.specs.Prelude.{unwrap_or}
-use Rattle.texts.specs.Output.{Says}
-use Rattle.latchsym.specs.AddressTexts.{words_text}
-use Rattle.latchsym.specs.KeptSymbols.{found_by}
+use Rattle.latchsym.proofs.Words.{[], map, take, unwrap_or, Says, words_text, found_by}
 use Rattle.latchsym.proofs.address_texts.put_words.Given as goal
 
 -- the lines of the words so far were written

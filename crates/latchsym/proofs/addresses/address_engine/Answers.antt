@@ -1,13 +1,11 @@
-use Rattle.std.proofs.Common.{map}
-use Rattle.std.specs.Option.{option_copied}
-use Rattle.engines.specs.OpenedCatalogs.{given_in, known_given, listing_failures}
-use Rattle.latchsym.proofs.NameAnswerLemmas.{listings_known}
+use Rattle.latchsym.proofs.Words.{map, option_copied, given_in, known_given, listing_failures, IsAddressed}
+use Rattle.latchsym.proofs.GivenLemmas.{listings_known}
 use Rattle.latchsym.proofs.addresses.address_engine.Goals as goal
 
 pub returns : goal.returns
 returns g c =
     let a = c.args in
     let readers = a.readers.now in
-    listings_known g.W.Write.contents a.form (option_copied a.kernel) (map (λ w. w.now) a.words.now) (given_in c.in_ok-texts.texts)
+    listings_known g.W.Write.contents (IsAddressed a.form (option_copied a.kernel) (map (λ w. w.now) a.words.now)) (given_in c.in_ok-texts.texts)
     (known_given g.M.Read.remaining g.K.Read.remaining g.R.Read.remaining readers) c.in_ok-texts.ensures.bytes
     (listing_failures readers c.read_given.new.readers) c.in_ok-texts.ensures.read a.writer.now c.answer_names.new.writer c.answer_names.result c.answer_names.ensures

@@ -1,13 +1,7 @@
-use Rattle.std.proofs.Common.{[], ◌∙◌, ap, Err, Some, inl, refl, subst, sym}
-use Rattle.latchsym.specs.Reports.{IsNoted}
-use Rattle.listing.specs.ListingNotes.{is_some_noted}
-use Rattle.latchsym.specs.NoteTexts.{note_lines}
-use Rattle.listing.specs.SymbolListing.{is_narrow, symbols_in}
-use Rattle.texts.specs.Lines.{lines_of}
-use Rattle.engines.specs.OpenedCatalogs.{IsCatalogOf, OpensCatalog, given_in}
-use Rattle.engines.specs.declared.fault.Fault.TheVariants.{Refused}
+use Rattle.latchsym.proofs.Words.{[], ◌∙◌, ap, Err, Some, inl, refl, subst, sym, IsNoted, is_some_noted, note_lines, is_narrow, symbols_in, lines_of, IsCatalogOf, OpensCatalog, given_in, Refused, AnnotatesLog}
 use Rattle.order_laws.specs.declared.refusals.Refusal.TheVariants as refusal
-use Rattle.latchsym.proofs.AnnotationLemmas.{ended, log_annotated, not_opened}
+use Rattle.latchsym.proofs.FaultLemmas.{handed_on}
+use Rattle.latchsym.proofs.AnnotationLemmas.{log_annotated, not_opened}
 use Rattle.latchsym.proofs.annotations.annotate_over.Goals as goal
 
 pub returns-in_err-opened : goal.returns-in_err-opened
@@ -15,15 +9,15 @@ returns-in_err-opened g c =
     let a = c.args in
     let given = given_in a.texts.now in
     let fault = c.in_err-opened.field-0.0 in
-    ended g.L.Read.remaining g.W.Write.contents g.E.Write.contents a.options.now a.files.now a.name.now (Some given) [] a.log.now a.log.now a.writer.now a.writer.now a.errors.now a.errors.now
+    handed_on (AnnotatesLog g.L.Read.remaining g.W.Write.contents g.E.Write.contents a.request.now a.job.now (Some given) [] a.log.now a.log.now a.writer.now a.writer.now a.errors.now a.errors.now)
     c.from_residual.result fault c.from_residual.ensures.1
-    (not_opened g.L.Read.remaining g.W.Write.contents g.E.Write.contents a.options.now a.files.now a.name.now given a.log.now a.writer.now a.errors.now fault
-    (subst (λ k. OpensCatalog k given (Err fault)) c.as_ref.ensures.value c.in_err-opened.ensures))
+    (not_opened g.L.Read.remaining g.W.Write.contents g.E.Write.contents a.request.now a.job.now given a.log.now a.writer.now a.errors.now fault
+    (subst (λ k. OpensCatalog k given (Err fault)) c.as_ref-kernel.ensures.value c.in_err-opened.ensures))
 
 pub returns-in_err-index : goal.returns-in_err-index
 returns-in_err-index g c =
     let a = c.args in
-    ended g.L.Read.remaining g.W.Write.contents g.E.Write.contents a.options.now a.files.now a.name.now (Some (given_in a.texts.now)) [] a.log.now a.log.now a.writer.now a.writer.now a.errors.now a.errors.now
+    handed_on (AnnotatesLog g.L.Read.remaining g.W.Write.contents g.E.Write.contents a.request.now a.job.now (Some (given_in a.texts.now)) [] a.log.now a.log.now a.writer.now a.writer.now a.errors.now a.errors.now)
     c.from_residual-in_err-index.result (Refused refusal.OutOfMemory) c.from_residual-in_err-index.ensures.1 (tt, inl (refl, refl, refl))
 
 pub returns : goal.returns
@@ -31,15 +25,15 @@ returns g c =
     let a = c.args in
     let given = given_in a.texts.now in
     let opened = c.in_ok-opened.opened in
-    log_annotated g.L.Read.remaining g.W.Write.contents g.E.Write.contents a.options.now a.files.now a.name.now a.log.now c.annotate_by.new.log a.writer.now c.annotate_by.new.writer a.errors.now c.annotate_by.new.errors
+    log_annotated g.L.Read.remaining g.W.Write.contents g.E.Write.contents a.request.now a.job.now a.log.now c.annotate_by.new.log a.writer.now c.annotate_by.new.writer a.errors.now c.annotate_by.new.errors
     (Some given) c.annotate_by.result (record {
       catalog = c.in_ok-index.index;
       narrow = c.is_narrow-is_narrow.result;
       notes = opened.notes;
       noted = c.note_listings.new.writer;
       sized = c.is_narrow-is_narrow.ensures ∙ ap (λ t. is_narrow (symbols_in (lines_of t))) c.deref.ensures.value;
-      said = subst (λ x. IsCatalogOf a.options.now.kernel given x opened.notes) (sym c.in_ok-index.ensures)
-          (subst (λ k. IsCatalogOf k given opened.catalog opened.notes) c.as_ref.ensures.value c.in_ok-opened.ensures);
-      told = subst (λ k. IsNoted g.E.Write.contents a.errors.now c.note_listings.new.writer (is_some_noted opened.notes) (note_lines k a.files.now opened.notes)) c.as_ref-2.ensures.value c.note_listings.ensures;
+      said = subst (λ x. IsCatalogOf a.request.now.kernel given x opened.notes) (sym c.in_ok-index.ensures)
+          (subst (λ k. IsCatalogOf k given opened.catalog opened.notes) c.as_ref-kernel.ensures.value c.in_ok-opened.ensures);
+      told = subst (λ k. IsNoted g.E.Write.contents a.errors.now c.note_listings.new.writer (is_some_noted opened.notes) (note_lines k a.request.now.files opened.notes)) c.as_ref-kernel.ensures.value c.note_listings.ensures;
       holds = c.annotate_by.ensures;
     })

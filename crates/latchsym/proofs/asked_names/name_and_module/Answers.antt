@@ -1,8 +1,5 @@
-use Rattle.std.proofs.Common.{◌∙◌, ◌+◌, ℕ, List, Option, Some, drop, ap, sym}
-use Rattle.std.specs.Borrow.{Bor}
+use Rattle.latchsym.proofs.Words.{◌∙◌, ◌+◌, ℕ, List, Option, Some, drop, ap, sym, Bor, take_rest, parted_by, without_last}
 use Rattle.std.specs.Option.{option_and_then, option_map}
-use Rattle.std.proofs.lemmas.List.{take_rest}
-use Rattle.latchsym.specs.AskedNames.{parted_by, without_last}
 use Rattle.latchsym.proofs.AskedNameLemmas.{last_here, no_last}
 use Rattle.latchsym.proofs.asked_names.name_and_module.Goals as goal
 

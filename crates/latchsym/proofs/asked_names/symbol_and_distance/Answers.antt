@@ -1,9 +1,5 @@
-use Rattle.std.proofs.Common.{◌∙◌, ◌+◌, ℕ, List, Option, take, ap, sym}
-use Rattle.std.specs.Borrow.{Bor}
+use Rattle.latchsym.proofs.Words.{◌∙◌, ◌+◌, ℕ, List, Option, take, ap, sym, Bor, take_rest, Distance, distance_in}
 use Rattle.std.specs.Option.{option_and_then, option_map}
-use Rattle.std.proofs.lemmas.List.{take_rest}
-use Rattle.latchsym.specs.declared.asked_names.Distance.{Distance}
-use Rattle.latchsym.specs.AskedNames.{distance_in}
 use Rattle.latchsym.proofs.AskedNameLemmas.{last_here, no_last}
 use Rattle.latchsym.proofs.asked_names.symbol_and_distance.Goals as goal
 

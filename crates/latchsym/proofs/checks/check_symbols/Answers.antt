@@ -1,33 +1,29 @@
-use Rattle.std.proofs.Common.{sym, ◌∙◌, None}
-use Rattle.std.specs.Option.{option_copied}
-use Rattle.latchsym.specs.Checks.{IsSymbolsReport, symbol_listing_report}
-use Rattle.listing.specs.Opening.{listed}
-use Rattle.latchsym.proofs.CheckLemmas.{symbols_reported, was_not_written, was_written}
-use Rattle.listing.proofs.ListingNoteLemmas.{bounds_are}
+use Rattle.latchsym.proofs.Words.{◌≡◌, ◌∙◌, ℕ, List, ◌++◌, Option, None, ap, subst, Text, KeptCounts, bounds_for, BoundNames, IsSymbolsReport, symbol_listing_report, is_of_kallsyms, applying_lines, IsSymbolListing, kept_in_text, listed, SymbolListing, option_copied, IsChecked, with_modules, given_in, bounds_are, counts_text, symbol_tallies_by}
+use Rattle.latchsym.proofs.GivenLemmas.{said_or_not}
 use Rattle.latchsym.proofs.checks.check_symbols.Goals as goal
+
+symbols_reported : (kernel : Option BoundNames) (file : Text) (text : List ℕ) (l : SymbolListing) (names : BoundNames) → IsSymbolListing kernel text l → names ≡ bounds_for kernel (listed text)
+    → IsSymbolsReport kernel file text (symbol_listing_report names file text l) l.kept.symbols
+symbols_reported kernel file text l names is named =
+    let n = bounds_for kernel (listed text) in
+    let kept : KeptCounts = kept_in_text text is.modules in (
+      is.modules,
+      is.said,
+      ap (λ m. symbol_listing_report m file text l) named
+          ∙ ap (λ k. applying_lines n file (is_of_kallsyms n text k.symbols) ++ counts_text (symbol_tallies_by k l.skipped.by_place)) is.kept
+          ∙ ap (λ s. applying_lines n file (is_of_kallsyms n text kept.symbols) ++ counts_text (symbol_tallies_by kept s)) is.skipped,
+      ap (λ k. k.symbols) is.kept,
+    )
 
 pub returns : goal.returns
 returns g c =
     let a = c.args in
     let kernel = option_copied a.kernel in
-    let text = a.kallsyms.now in
-    let file = a.file.now in
+    let file = a.files.now.kallsyms.now in
+    let text = c.as_slice-kallsyms.result.now in
     let l = c.in_ok-listing.listing in
     let names = c.unwrap_or-names.result.now in
     let named = bounds_are a.kernel _ c.unwrap_or-names.result (listed text) c.unwrap_or-names.ensures c.in_ok-listing.ensures.usual in
-    was_written g.W.Write.contents (IsSymbolsReport kernel file text) None a.writer.now c.put_symbol_listing.new.writer
-    (symbol_listing_report names file text l) l.kept.symbols (symbols_reported kernel file text l names c.in_ok-listing.ensures named)
-    c.put_symbol_listing.ensures (sym c.has_failed.ensures ∙ c.if-has_failed.false) c.status_of_kept.result c.status_of_kept.ensures
-
-pub returns-then-has_failed : goal.returns-then-has_failed
-returns-then-has_failed g c =
-    let a = c.args in
-    let kernel = option_copied a.kernel in
-    let text = a.kallsyms.now in
-    let file = a.file.now in
-    let l = c.in_ok-listing.listing in
-    let names = c.unwrap_or-names.result.now in
-    let named = bounds_are a.kernel _ c.unwrap_or-names.result (listed text) c.unwrap_or-names.ensures c.in_ok-listing.ensures.usual in
-    was_not_written g.W.Write.contents (IsSymbolsReport kernel file text) None a.writer.now c.put_symbol_listing.new.writer
-    (symbol_listing_report names file text l) l.kept.symbols (symbols_reported kernel file text l names c.in_ok-listing.ensures named)
-    c.put_symbol_listing.ensures (sym c.has_failed.ensures ∙ c.if-has_failed.true)
+    let report = subst (λ t. IsSymbolsReport kernel file t (symbol_listing_report names file text l) l.kept.symbols) c.as_slice-kallsyms.ensures.value (symbols_reported kernel file text l names c.in_ok-listing.ensures named) in
+    said_or_not g.W.Write.contents (IsChecked kernel a.files.now) (with_modules None (given_in a.texts.now)) a.writer.now c.put_symbol_listing.new.writer c.status_of_kept.result
+    (symbol_listing_report names file text l) (l.kept.symbols, report, c.status_of_kept.ensures) c.put_symbol_listing.ensures c.unless_failed.result c.unless_failed.ensures

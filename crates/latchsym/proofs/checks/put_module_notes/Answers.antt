@@ -1,8 +1,5 @@
-use Rattle.std.proofs.Common.{rules, ap, get_or}
-use Rattle.texts.proofs.OutputLemmas.{piece_said, same_text}
-use Rattle.listing.specs.ListingNotes.{is_of_modules}
+use Rattle.latchsym.proofs.Words.{rules, ap, get_or, piece_said, same_text, is_of_modules, line_where, note_line}
 use Rattle.listing.specs.declared.listing_notes.ListingNote.TheVariants as note
-use Rattle.latchsym.specs.NoteTexts.{line_where, note_line}
 use Rattle.latchsym.proofs.checks.put_module_notes.Goals as goal
 
 pub loop-note-preserved : goal.loop-note-preserved

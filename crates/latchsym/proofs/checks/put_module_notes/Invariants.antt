@@ -1,7 +1,4 @@
-use Rattle.std.proofs.Common.{flat_map, take}
-use Rattle.texts.specs.Output.{Says}
-use Rattle.listing.specs.ListingNotes.{is_of_modules}
-use Rattle.latchsym.specs.NoteTexts.{line_where, note_line}
+use Rattle.latchsym.proofs.Words.{flat_map, take, Says, is_of_modules, line_where, note_line}
 use Rattle.latchsym.proofs.checks.put_module_notes.Given as goal
 
 -- the lines of the notes so far were written

@@ -1,8 +1,4 @@
-use Rattle.std.proofs.Common.{append-nil, ap}
-use Rattle.texts.proofs.OutputLemmas.{same_text, then}
-use Rattle.listing.specs.ListingNotes.{is_of_kallsyms}
-use Rattle.listing.specs.Tallies.{counts_text}
-use Rattle.latchsym.specs.NoteTexts.{applying_lines}
+use Rattle.latchsym.proofs.Words.{ap, append-nil, same_text, then, is_of_kallsyms, applying_lines, counts_text}
 use Rattle.latchsym.proofs.checks.put_symbol_listing.Goals as goal
 
 pub returns : goal.returns

@@ -1,9 +1,7 @@
-use Rattle.std.proofs.Common.{subst}
-use Rattle.std.specs.Prelude.{IfOk}
-use Rattle.latchsym.specs.CommandLine.{IsCommand}
-use Rattle.latchsym.proofs.ParseLemmas.{one_subcommand_more_if_ok}
+use Rattle.latchsym.proofs.Words.{subst, IfOk, IsCommand}
+use Rattle.latchsym.proofs.ParseLemmas.{subcommand_more_if_ok}
 use Rattle.latchsym.proofs.command_line.with_subcommand.Goals as goal
 
 pub returns : goal.returns
 returns c = λ app added command subcommand.
-    one_subcommand_more_if_ok c.args.command c.subcommand.result c.in_ok-subcommand.field-0 app added command (subst (λ r. IfOk r (IsCommand added)) c.in_ok-subcommand.was subcommand) c.subcommand.ensures
+    subcommand_more_if_ok c.subcommand.result command (subst (λ r. IfOk r (IsCommand added)) c.in_ok-subcommand.was subcommand) c.subcommand.ensures

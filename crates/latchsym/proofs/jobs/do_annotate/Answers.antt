@@ -1,10 +1,5 @@
-use Rattle.std.proofs.Common.{ap, ◌∙◌}
-use Rattle.engines.specs.Faults.{with_notes}
+use Rattle.latchsym.proofs.Words.{ap, ◌∙◌, with_notes}
 use Rattle.latchsym.proofs.jobs.do_annotate.Goals as goal
 
 pub returns : goal.returns
-returns g c = (
-  c.annotate_engine-done.result,
-  c.annotate_engine-done.ensures,
-  c.with_notes.ensures ∙ ap (λ n. with_notes n c.annotate_engine-done.result) c.none.ensures,
-)
+returns g c = (c.annotate_engine-done.result, c.annotate_engine-done.ensures, c.with_notes.ensures ∙ ap (λ n. with_notes n c.annotate_engine-done.result) c.none.ensures)

@@ -1,19 +1,16 @@
-use Rattle.std.proofs.Common.{subst}
-use Rattle.engines.specs.LookupInputs.{known_inputs}
-use Rattle.engines.specs.Lookups.{AnswersLookup, failures_between}
+use Rattle.latchsym.proofs.Words.{◌∙◌, List, ℕ, ap, subst, true, unwrap_or, known_inputs, AnswersLookup, failures_between, LookupOptions, usual_bounds, BoundNames}
 use Rattle.latchsym.proofs.jobs.do_lookup.Goals as goal
 
 pub returns : goal.returns
 returns g c =
-    let contents = g.W.Write.contents in
     let remaining = g.R.Read.remaining in
-    let before = c.args.readers.now in
-    let after = c.lookup_engine-done.new.readers in
-    let options = c.args.job.now.options in (
-      c.lookup_engine-done.result,
-      subst
-          (λ xs. AnswersLookup contents c.args.job.now.form (known_inputs remaining remaining remaining remaining before options xs)
-          (failures_between before after) c.args.writer.now c.lookup_engine-done.new.writer c.lookup_engine-done.result)
-          c.deref.ensures.value c.lookup_engine-done.ensures,
+    let a = c.args in
+    let r = a.readers.now in
+    let l = a.lookup.now in
+    let options : BoundNames → LookupOptions = λ k. record { kernel = k; rule = l.rule; with_mapping = true } in
+    let May : BoundNames → List ℕ → Type 0 = λ k xs. AnswersLookup g.W.Write.contents l.form (known_inputs remaining remaining remaining remaining r (options k) xs) (failures_between r c.lookup_engine.new.readers) a.writer.now c.lookup_engine.new.writer c.lookup_engine.result in
+    let kernel = c.bounds_or_usual.ensures ∙ ap (λ k. unwrap_or k usual_bounds) c.as_ref.ensures.value in (
+      c.lookup_engine.result,
+      subst (λ k. May k l.addresses.items) kernel (subst (May c.bounds_or_usual.result) c.deref.ensures.value c.lookup_engine.ensures),
       c.with_status.ensures,
     )

@@ -1,8 +1,4 @@
-use Rattle.std.proofs.Common.{◌≡◌, ◌≤◌, ◌<◌, ◌∙◌, ap, arith}
-use Rattle.modules.specs.Entries.{SymbolEntry}
-use Rattle.modules.specs.Found.{Found}
-use Rattle.modules.specs.Listed.{ListedSymbol}
-use Rattle.latchsym.specs.KeptSymbols.{end_of}
+use Rattle.latchsym.proofs.Words.{◌≡◌, ◌≤◌, ◌<◌, ◌∙◌, ap, arith, SymbolEntry, Found, ListedSymbol, end_of}
 use Rattle.latchsym.proofs.AskedNameLemmas.{ends_in_item}
 use Rattle.latchsym.proofs.kept_symbols.kept_in.Goals as goal
 

@@ -1,6 +1,4 @@
-use Rattle.std.proofs.Common.{[], ◌∙◌, map, refl, subst, sym, take, ap}
-use Rattle.latchsym.specs.AskedNames.{asked_of}
-use Rattle.latchsym.specs.KeptSymbols.{IsSought}
+use Rattle.latchsym.proofs.Words.{[], ◌∙◌, map, refl, subst, sym, take, ap, asked_of, IsSought}
 use Rattle.latchsym.proofs.AddressLemmas.{text_more}
 use Rattle.latchsym.proofs.SoughtLemmas.{Writes, word_more}
 use Rattle.latchsym.proofs.kept_symbols.names_sought.Goals as goal

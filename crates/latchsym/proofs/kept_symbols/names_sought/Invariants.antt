@@ -1,5 +1,4 @@
-use Rattle.std.proofs.Common.{[], map, take}
-use Rattle.latchsym.specs.KeptSymbols.{IsSought}
+use Rattle.latchsym.proofs.Words.{[], map, take, IsSought}
 use Rattle.latchsym.proofs.kept_symbols.names_sought.Given as goal
 
 -- the names of the words so far are there

@@ -1,10 +1,4 @@
-use Rattle.std.proofs.Common.{[], ◌∷◌, ◌++◌, ◌∙◌, length, map, refl, subst, sym}
-use Rattle.facts.proofs.Lists.{moved_over}
-use Rattle.std.proofs.lemmas.Bool.{eqb-true}
-use Rattle.std.proofs.lemmas.List.{nil_from_length}
-use Rattle.texts.specs.Lines.{lines_of}
-use Rattle.listing.specs.SymbolListing.{symbols_in}
-use Rattle.latchsym.specs.KeptSymbols.{IsSought, kept_symbols}
+use Rattle.latchsym.proofs.Words.{[], ◌∷◌, ◌++◌, ◌∙◌, length, map, refl, subst, sym, moved_over, eqb-true, nil_from_length, lines_of, symbols_in, IsSought, kept_symbols}
 use Rattle.latchsym.proofs.SoughtLemmas.{line_more, whole_text}
 use Rattle.latchsym.proofs.kept_symbols.symbols_sought.Goals as goal
 

@@ -1,7 +1,4 @@
-use Rattle.std.proofs.Common.{◌≡◌, ◌++◌, List, ℕ, length, map}
-use Rattle.texts.specs.Lines.{lines_of}
-use Rattle.listing.specs.SymbolListing.{symbols_in}
-use Rattle.latchsym.specs.KeptSymbols.{IsSought, kept_symbols}
+use Rattle.latchsym.proofs.Words.{◌≡◌, ◌++◌, List, ℕ, length, map, lines_of, symbols_in, IsSought, kept_symbols}
 use Rattle.latchsym.proofs.kept_symbols.symbols_sought.Given as goal
 
 -- the symbols of the lines so far are there

@@ -1,12 +1,4 @@
-use Rattle.std.proofs.Common.{◌≡◌, ◌∙◌, Some, None, ap, option_map, rules, subst, sym}
-use Rattle.std.specs.BTreeMap.{is_at}
-use Rattle.std.specs.Cmp.Lexicographic.{slice_cmp}
-use Rattle.std.specs.Global.{Vec}
-use Rattle.std.specs.Ordering.{nat_cmp}
-use Rattle.std.specs.Result.{result_ok}
-use Rattle.std.proofs.lemmas.Map.Steps.{set_value_same}
-use Rattle.modules.specs.Listed.{ListedSymbol}
-use Rattle.latchsym.specs.KeptSymbols.{IsSought, Kept, found_by}
+use Rattle.latchsym.proofs.Words.{◌≡◌, ◌∙◌, Some, None, ap, option_map, rules, subst, sym, is_at, slice_cmp, Vec, nat_cmp, result_ok, set_value_same, ListedSymbol, IsSought, Kept, found_by}
 use Rattle.latchsym.proofs.SoughtLemmas.{Writes, all, name_not_sought, symbol_kept, symbol_not_kept}
 use Rattle.latchsym.proofs.kept_symbols.take_line.Goals as goal
 

@@ -1,6 +1,4 @@
-use Rattle.std.proofs.Common.{ap, sym}
-use Rattle.texts.proofs.OutputLemmas.{same_text}
-use Rattle.latchsym.specs.NoteTexts.{message_of}
+use Rattle.latchsym.proofs.Words.{ap, sym, same_text, message_of}
 use Rattle.latchsym.proofs.note_texts.put_message.Goals as goal
 
 pub returns-in-Gzip : goal.returns-in-Gzip

@@ -1,4 +1,4 @@
-use Rattle.texts.proofs.OutputLemmas.{same_text, then}
+use Rattle.latchsym.proofs.Words.{same_text, then}
 use Rattle.latchsym.proofs.note_texts.put_missing.Goals as goal
 
 pub returns : goal.returns

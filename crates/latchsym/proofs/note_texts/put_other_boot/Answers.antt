@@ -1,5 +1,4 @@
-use Rattle.std.proofs.Common.{ap, decimal}
-use Rattle.texts.proofs.OutputLemmas.{same_text, then}
+use Rattle.latchsym.proofs.Words.{ap, decimal, same_text, then}
 use Rattle.latchsym.proofs.note_texts.put_other_boot.Goals as goal
 
 pub returns : goal.returns

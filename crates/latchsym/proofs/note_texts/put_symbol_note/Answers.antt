@@ -1,8 +1,4 @@
-use Rattle.std.proofs.Common.{◌∙◌, ap}
-use Rattle.std.specs.Option.{option_copied}
-use Rattle.texts.proofs.OutputLemmas.{same_text}
-use Rattle.latchsym.specs.NoteTexts.{line_if_noted, noted_bounds}
-use Rattle.listing.proofs.ListingNoteLemmas.{given_or}
+use Rattle.latchsym.proofs.Words.{◌∙◌, ap, option_copied, same_text, line_if_noted, noted_bounds, given_or}
 use Rattle.latchsym.proofs.note_texts.put_symbol_note.Goals as goal
 
 pub returns : goal.returns

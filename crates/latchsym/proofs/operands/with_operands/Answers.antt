@@ -1,10 +1,4 @@
-use Rattle.std.proofs.Common.{◌≡◌, ◌∙◌, List, None, Some, ap, codes, insert, map}
-use Rattle.std.specs.Borrow.{Bor}
-use Rattle.std.specs.Option.{option_map_or}
-use Rattle.std.proofs.lemmas.List.{take_all}
-use Rattle.facts.proofs.Lists.{map-insert}
-use Rattle.clap.specs.Words.{Text}
-use Rattle.latchsym.specs.Operands.{operand_place}
+use Rattle.latchsym.proofs.Words.{◌≡◌, ◌∙◌, List, None, Some, ap, codes, insert, map, Bor, option_map_or, take_all, map-insert, Text, operand_place}
 use Rattle.latchsym.proofs.AddressLemmas.{texts}
 use Rattle.latchsym.proofs.operands.with_operands.Goals as goal
 

@@ -1,4 +1,4 @@
-use Rattle.std.proofs.Common.{◌≡◌, map, take}
+use Rattle.latchsym.proofs.Words.{◌≡◌, map, take}
 use Rattle.latchsym.proofs.operands.with_operands.Given as goal
 
 abbrev pub invariant-loop-word : goal.invariant-loop-word

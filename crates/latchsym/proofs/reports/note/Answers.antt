@@ -1,6 +1,4 @@
-use Rattle.std.proofs.Common.{subst, sym, refl, ◌∙◌}
-use Rattle.latchsym.specs.Reports.{IsNoted}
-use Rattle.latchsym.specs.NoteTexts.{notes_text}
+use Rattle.latchsym.proofs.Words.{subst, sym, refl, ◌∙◌, IsNoted, notes_text}
 use Rattle.latchsym.proofs.reports.note.Goals as goal
 
 pub returns-then-any : goal.returns-then-any

@@ -1,7 +1,4 @@
-use Rattle.std.proofs.Common.{subst, sym, refl, ◌∙◌}
-use Rattle.std.specs.Option.{option_copied}
-use Rattle.latchsym.specs.Reports.{IsNoted}
-use Rattle.latchsym.specs.NoteTexts.{note_lines}
+use Rattle.latchsym.proofs.Words.{subst, sym, refl, ◌∙◌, option_copied, IsNoted, note_lines}
 use Rattle.latchsym.proofs.reports.note_listings.Goals as goal
 
 pub returns-then-any : goal.returns-then-any

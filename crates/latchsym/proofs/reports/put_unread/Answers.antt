@@ -1,4 +1,4 @@
-use Rattle.texts.proofs.OutputLemmas.{then}
+use Rattle.latchsym.proofs.Words.{then}
 use Rattle.latchsym.proofs.reports.put_unread.Goals as goal
 
 pub returns : goal.returns

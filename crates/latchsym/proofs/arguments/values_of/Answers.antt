@@ -1,9 +1,6 @@
-use Rattle.std.proofs.Common.{◌≡◌, ◌∙◌, ap, List, [], map, Option, Some, None, option_map, unwrap_or}
-use Rattle.std.specs.Borrow.{Bor}
-use Rattle.std.specs.Option.{UnwrapsOrElse}
-use Rattle.clap.specs.Words.{Text, found_of}
-use Rattle.clap.proofs.WalkLemmas.{raw_values-rows}
-use Rattle.latchsym.proofs.command_line.values_of.Goals as goal
+use Rattle.latchsym.proofs.Words.{◌≡◌, ◌∙◌, ap, List, [], map, Option, Some, None, option_map, Bor, UnwrapsOrElse, Text, found_of, raw_values-rows}
+use Rattle.std.proofs.Common.{unwrap_or}
+use Rattle.latchsym.proofs.arguments.values_of.Goals as goal
 
 abbrev texts : Bor (List (Bor Text)) → List Text
 texts values = map (λ w. w.now) values.now

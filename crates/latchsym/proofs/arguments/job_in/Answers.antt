@@ -1,8 +1,6 @@
-use Rattle.std.proofs.Common.{subst, sym}
-use Rattle.clap.specs.Words.{found_of, rows_of}
-use Rattle.latchsym.specs.Jobs.{AnswersMatches}
+use Rattle.latchsym.proofs.Words.{subst, sym, found_of, rows_of, AnswersMatches}
 use Rattle.latchsym.proofs.ParseLemmas.{entered_is}
-use Rattle.latchsym.proofs.command_line.job_in.Goals as goal
+use Rattle.latchsym.proofs.arguments.job_in.Goals as goal
 
 pub returns-in-Some : goal.returns-in-Some
 returns-in-Some c =

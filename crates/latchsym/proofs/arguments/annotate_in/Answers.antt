@@ -1,0 +1,11 @@
+use Rattle.latchsym.proofs.Words.{codes, found_of, rows_of, Gives, IsAnnotateIn}
+use Rattle.latchsym.proofs.FaultLemmas.{handed_on}
+use Rattle.latchsym.proofs.arguments.annotate_in.Goals as goal
+
+pub returns-in_err-offset : goal.returns-in_err-offset
+returns-in_err-offset c =
+    let rows = rows_of (found_of c.args.found.now) in
+    handed_on (Gives IsAnnotateIn (codes "annotate") rows) c.from_residual.result c.in_err-offset.field-0.0 c.from_residual.ensures.1 (c.in_err-offset.ensures (codes "annotate"))
+
+pub returns : goal.returns
+returns c = record { callers = c.callers_in.ensures; lower = c.in_ok-offset.ensures (codes "annotate"); log = c.value_or.ensures }

@@ -1,0 +1,12 @@
+use Rattle.latchsym.proofs.Words.{found_of, rows_of, Gives, IsRequestIn}
+use Rattle.latchsym.proofs.FaultLemmas.{handed_on}
+use Rattle.latchsym.proofs.arguments.request_in.Goals as goal
+
+pub returns-in_err-kernel : goal.returns-in_err-kernel
+returns-in_err-kernel c =
+    let name = c.args.name.now in
+    let rows = rows_of (found_of c.args.found.now) in
+    handed_on (Gives (IsRequestIn name) name rows) c.from_residual.result c.in_err-kernel.field-0.0 c.from_residual.ensures.1 (c.in_err-kernel.ensures name)
+
+pub returns : goal.returns
+returns c = record { files = c.files_in.ensures; kernel = c.in_ok-kernel.ensures c.args.name.now; subcommand = c.in_ok-subcommand.ensures }

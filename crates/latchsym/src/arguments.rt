@@ -1,0 +1,349 @@
+//! From the words of a command line to the job that they ask for.
+ghost use Rattle.std.specs.Prelude.{◌≡◌, ◌≢◌, List, codes, map, option_map, unwrap_or};
+ghost use Rattle.clap.specs.Words.{Row, Text, first_of, subcommand_rows_of};
+ghost use Rattle.latchsym.specs.Jobs.{AnswersMatches, AnswersSubcommand, AnswersWords, AreBoundsIn};
+ghost use Rattle.latchsym.specs.Jobs.{AreFilesIn, AreNumbersIn, Gives, IsAddressIn, IsAnnotateIn};
+ghost use Rattle.latchsym.specs.Jobs.{IsFaultOf, IsJobIn, IsLookupIn, IsOffsetIn, IsRequestIn};
+ghost use Rattle.latchsym.specs.Jobs.{IsRunIn, IsSubcommandIn, callers_in, clash_in, form_in};
+ghost use Rattle.latchsym.specs.Jobs.{has_flag, is_like_address, option_clash, readers_of, rows_in};
+ghost use Rattle.latchsym.specs.Jobs.{source_clash, values_in};
+
+use crate::address_texts::AddressForm;
+use crate::command_line::latchsym_command;
+use crate::requests::{
+    Address, Annotate, Job, JobFault, ListingFiles, Lookup, Request, Run, Subcommand,
+};
+use clap::error::ErrorKind;
+use clap::{ArgMatches, Error};
+use engines::AnswerForm;
+use latch_table::MOST_READERS;
+use listing::{AddressRule, Callers, LogRule};
+use modules::KernelBounds;
+use std::alloc::Global;
+use std::convert::AsStr;
+use texts::{number, number_up_to};
+
+/// The listing of symbols that the kernel itself gives.
+const KALLSYMS: &str = "/proc/kallsyms";
+
+/// The word for the standard input.
+const STANDARD_INPUT: &str = "-";
+
+/// The job that a program's words ask for, the first of which is the program's name.
+pub fn job_of<'a, S: AsStr>(alloc: Global, words: &'a [S]) -> Result<Job<'a>, JobFault<'a>>
+    ensures { AnswersWords (map S.text words.entry.now) result }
+{
+    let mut command = match latchsym_command(alloc) {
+        Ok(command) => command,
+        Err(_) => return Err(JobFault::OutOfMemory),
+    };
+    match command.try_get_matches_from_mut(words) {
+        Ok(matches) => job_in(alloc, &matches),
+        Err(error) => Err(fault_of_error(error)),
+    }
+}
+
+fn fault_of_error<'a>(error: Error) -> JobFault<'a>
+    ensures { IsFaultOf error result }
+{
+    match error.kind() {
+        ErrorKind::OutOfMemory => JobFault::OutOfMemory,
+        _ => JobFault::CommandLine(error),
+    }
+}
+
+fn job_in<'a>(alloc: Global, matches: &ArgMatches<'a>) -> Result<Job<'a>, JobFault<'a>>
+    ensures { AnswersMatches (subcommand_rows_of matches.now) result }
+{
+    match matches.subcommand() {
+        Some((name, found)) => job_of_subcommand(alloc, name, found),
+        None => Err(JobFault::NoJob),
+    }
+}
+
+/// The job that a subcommand of this name asks for. Where its options do not go together, that is
+/// told before all else.
+fn job_of_subcommand<'a>(
+    alloc: Global,
+    name: &str,
+    found: &ArgMatches<'a>,
+) -> Result<Job<'a>, JobFault<'a>>
+    ensures { AnswersSubcommand name.now (rows_in found.now) result }
+{
+    if let Some(clash) = clash_in(name, found) {
+        return Err(clash);
+    }
+    match name {
+        "trace" => trace_in(found),
+        _ => Ok(Job::Request(request_in(alloc, name, found)?)),
+    }
+}
+
+/// What is wrong with the options of a subcommand of this name beside one another.
+fn clash_in<'a>(name: &str, found: &ArgMatches<'_>) -> Option<JobFault<'a>>
+    ensures { result ≡ clash_in name.now (rows_in found.now) }
+{
+    match name {
+        "lookup" => source_clash(found),
+        _ => option_clash(found),
+    }
+}
+
+/// A lookup has its modules from one place.
+fn source_clash<'a>(found: &ArgMatches<'_>) -> Option<JobFault<'a>>
+    ensures { result ≡ source_clash (rows_in found.now) }
+{
+    let is_listed = value_of(found, "modules").is_some();
+    let has_regions = value_of(found, "regions").is_some();
+    match is_given(found, "modules-from-symbols") {
+        true if is_listed || has_regions => Some(JobFault::ModulesTwice),
+        false if !is_listed => Some(JobFault::NoModules),
+        _ => None,
+    }
+}
+
+/// Regions are those of listed modules, and the addresses of a log are taken in one way.
+fn option_clash<'a>(found: &ArgMatches<'_>) -> Option<JobFault<'a>>
+    ensures { result ≡ option_clash (rows_in found.now) }
+{
+    if value_of(found, "modules").is_none() && value_of(found, "regions").is_some() {
+        Some(JobFault::RegionsAlone)
+    } else if is_given(found, "callers") && is_given(found, "exact") {
+        Some(JobFault::TakenTwice)
+    } else {
+        None
+    }
+}
+
+fn trace_in<'a>(found: &ArgMatches<'a>) -> Result<Job<'a>, JobFault<'a>>
+    ensures { Gives (IsJobIn (codes "trace")) (codes "trace") (rows_in found.now) result }
+{
+    match value_of(found, "file") {
+        Some(file) if is_given(found, "steps") => Ok(Job::Steps { file }),
+        Some(file) => Ok(Job::Trace { file }),
+        None => Err(JobFault::NoJob),
+    }
+}
+
+/// What a subcommand of this name, which is not `trace`, asks for over listings.
+fn request_in<'a>(
+    alloc: Global,
+    name: &str,
+    found: &ArgMatches<'a>,
+) -> Result<Request<'a>, JobFault<'a>>
+    requires { name.now ≢ codes "trace" }
+    ensures { Gives (IsRequestIn name.now) name.now (rows_in found.now) result }
+{
+    let kernel = bounds_in(found)?;
+    let subcommand = subcommand_in(alloc, name, found)?;
+    Ok(Request {
+        files: files_in(found),
+        kernel,
+        subcommand,
+    })
+}
+
+/// The files of the listings.
+fn files_in<'a>(found: &ArgMatches<'a>) -> ListingFiles<'a>
+    ensures { AreFilesIn (rows_in found.now) result }
+{
+    ListingFiles {
+        modules: value_of(found, "modules"),
+        kallsyms: value_or(found, "kallsyms", KALLSYMS),
+        regions: value_of(found, "regions"),
+    }
+}
+
+/// The names of the symbols that are given for the kernel's bounds. Where a lookup is asked for with
+/// one name alone, its first address is taken for the other, which is what a `0x` in front of it
+/// tells.
+fn bounds_in<'a>(found: &ArgMatches<'a>) -> Result<Option<KernelBounds<'a>>, JobFault<'a>>
+    ensures { (name : Text) → Gives AreBoundsIn name (rows_in found.now) result }
+{
+    match values_of(found, "kernel") {
+        [] => Ok(None),
+        [_, end] if is_like_address(end) => Err(JobFault::BadEnd(end)),
+        [start, end] => Ok(Some(KernelBounds {
+            start: start.as_bytes(),
+            end: end.as_bytes(),
+        })),
+        _ => Err(JobFault::NoJob),
+    }
+}
+
+/// Whether a word looks like an address, and not like the name of a symbol.
+fn is_like_address(word: &str) -> bool
+    ensures { result ≡ is_like_address word.now }
+{
+    word.as_bytes().starts_with(b"0x")
+}
+
+/// What a subcommand of this name does with listings.
+fn subcommand_in<'a>(
+    alloc: Global,
+    name: &str,
+    found: &ArgMatches<'a>,
+) -> Result<Subcommand<'a>, JobFault<'a>>
+    requires { name.now ≢ codes "trace" }
+    ensures { Gives (IsSubcommandIn name.now) name.now (rows_in found.now) result }
+{
+    match name {
+        "lookup" => Ok(Subcommand::Lookup(lookup_in(alloc, found)?)),
+        "run" => Ok(Subcommand::Run(run_in(found)?)),
+        "annotate" => Ok(Subcommand::Annotate(annotate_in(found)?)),
+        "check" => Ok(Subcommand::Check),
+        "address" => Ok(Subcommand::Address(address_in(alloc, found)?)),
+        _ => Err(JobFault::NoJob),
+    }
+}
+
+/// The addresses that are looked up, of which there has to be one or a file of them.
+fn lookup_in<'a>(alloc: Global, found: &ArgMatches<'a>) -> Result<Lookup<'a>, JobFault<'a>>
+    ensures { Gives IsLookupIn (codes "lookup") (rows_in found.now) result }
+{
+    let offset = offset_in(found)?;
+    let file = value_of(found, "addresses");
+    let words = values_of(found, "address");
+    if words.is_empty() && file.is_none() {
+        return Err(JobFault::NoAddress);
+    }
+    let addresses = numbers_of(alloc, words)?;
+    Ok(Lookup {
+        addresses,
+        file,
+        rule: AddressRule {
+            callers: is_given(found, "callers"),
+            offset,
+        },
+        form: form_in(found),
+    })
+}
+
+/// The form in which the answers of a lookup are written.
+fn form_in(found: &ArgMatches<'_>) -> AnswerForm
+    ensures { result ≡ form_in (rows_in found.now) }
+{
+    AnswerForm {
+        json: is_given(found, "json"),
+        counts: !is_given(found, "no-counts"),
+    }
+}
+
+/// The numbers that words are.
+fn numbers_of<'a>(alloc: Global, words: &[&'a str]) -> Result<Vec<u64>, JobFault<'a>>
+    ensures { (rows : List Row) → map (λ w. w.now) words.now ≡ values_in (codes "address") rows
+        → Gives AreNumbersIn (codes "lookup") rows result }
+{
+    let mut numbers = Vec::new(alloc);
+    for word in words {
+        match number(word.as_bytes()) {
+            Some(number) => numbers.push(number)?,
+            None => return Err(JobFault::BadAddress(word)),
+        }
+    }
+    Ok(numbers)
+}
+
+/// The script that is run, over modules that are listed.
+fn run_in<'a>(found: &ArgMatches<'a>) -> Result<Run<'a>, JobFault<'a>>
+    ensures { Gives IsRunIn (codes "run") (rows_in found.now) result }
+{
+    let (Some(_), Some(word), Some(script)) = (
+        value_of(found, "modules"),
+        value_of(found, "readers"),
+        value_of(found, "script"),
+    ) else {
+        return Err(JobFault::NoJob);
+    };
+    match readers_in(word) {
+        Some(readers) => Ok(Run { readers, script }),
+        None => Err(JobFault::BadReaders(word)),
+    }
+}
+
+/// The number of readers that a word is.
+fn readers_in(word: &str) -> Option<u32>
+    ensures { result ≡ readers_of word.now }
+{
+    number_up_to(word.as_bytes(), MOST_READERS)
+}
+
+/// The log that is annotated.
+fn annotate_in<'a>(found: &ArgMatches<'a>) -> Result<Annotate<'a>, JobFault<'a>>
+    ensures { Gives IsAnnotateIn (codes "annotate") (rows_in found.now) result }
+{
+    let offset = offset_in(found)?;
+    Ok(Annotate {
+        rule: LogRule {
+            callers: callers_in(found),
+            offset,
+        },
+        log: value_or(found, "log", STANDARD_INPUT),
+    })
+}
+
+/// Which addresses of a log are taken as return addresses.
+fn callers_in(found: &ArgMatches<'_>) -> Callers
+    ensures { result ≡ callers_in (rows_in found.now) }
+{
+    if is_given(found, "callers") {
+        Callers::Every
+    } else if is_given(found, "exact") {
+        Callers::Never
+    } else {
+        Callers::ByPlace
+    }
+}
+
+/// The names that are looked for.
+fn address_in<'a>(alloc: Global, found: &ArgMatches<'a>) -> Result<Address<'a>, JobFault<'a>>
+    ensures { Gives IsAddressIn (codes "address") (rows_in found.now) result }
+{
+    let higher = offset_in(found)?;
+    let Ok(names) = Vec::from_slice(alloc, values_of(found, "name")) else {
+        return Err(JobFault::OutOfMemory);
+    };
+    let json = is_given(found, "json");
+    Ok(Address {
+        names,
+        form: AddressForm { json, higher },
+    })
+}
+
+/// By how many bytes the addresses are moved: none where no word says it.
+fn offset_in<'a>(found: &ArgMatches<'a>) -> Result<u64, JobFault<'a>>
+    ensures { (name : Text) → Gives IsOffsetIn name (rows_in found.now) result }
+{
+    let Some(word) = value_of(found, "offset") else {
+        return Ok(0);
+    };
+    number(word.as_bytes()).ok_or(JobFault::BadOffset(word))
+}
+
+/// The value of an argument that takes one.
+fn value_of<'a>(found: &ArgMatches<'a>, id: &str) -> Option<&'a str>
+    ensures { option_map (λ s. s.now) result ≡ first_of id.now (rows_in found.now) }
+{
+    found.get_str(id)
+}
+
+/// The value of an argument that takes one, or else the usual one.
+fn value_or<'a>(found: &ArgMatches<'a>, id: &str, usual: &'a str) -> &'a str
+    ensures { result.now ≡ unwrap_or (first_of id.now (rows_in found.now)) usual.entry.now }
+{
+    value_of(found, id).unwrap_or(usual)
+}
+
+/// Whether a flag is given.
+fn is_given(found: &ArgMatches<'_>, id: &str) -> bool
+    ensures { result ≡ has_flag id.now (rows_in found.now) }
+{
+    value_of(found, id) == Some("true")
+}
+
+/// The values of an argument that takes any number of them.
+fn values_of<'m, 'a>(found: &'m ArgMatches<'a>, id: &str) -> &'m [&'a str]
+    ensures { map (λ w. w.now) result.now ≡ values_in id.now (rows_in found.now) }
+{
+    found.get_raw(id).unwrap_or_default()
+}

@@ -1,0 +1,195 @@
+//! What a command line asks for, and why it may ask for nothing.
+ghost use Rattle.std.specs.Prelude.{◌≡◌, option_map, true};
+ghost use Rattle.latchsym.specs.Requests.{has_modules_to_run};
+
+use crate::address_texts::AddressForm;
+use clap::Error;
+use engines::AnswerForm;
+use listing::{AddressRule, LogRule};
+use modules::KernelBounds;
+use std::alloc::AllocFailed;
+
+/// What a command line asks for.
+#[derive(Debug, Drop)]
+pub enum Job<'a> {
+    /// `latchsym trace FILE`: run the trace in this file.
+    Trace { file: &'a str },
+    /// `latchsym trace --steps FILE`: run the trace in this file, and write what each step did.
+    Steps { file: &'a str },
+    /// The other commands, which read listings.
+    Request(Request<'a>),
+}
+
+/// What is asked for over listings.
+#[derive(Debug, Drop)]
+pub struct Request<'a> {
+    /// The files of the listings.
+    pub files: ListingFiles<'a>,
+    /// The names of the symbols that bound the kernel's own region, where they are given.
+    pub kernel: Option<KernelBounds<'a>>,
+    /// What is done with them.
+    pub subcommand: Subcommand<'a>,
+    ghost listed: { has_modules_to_run files subcommand ≡ true },
+}
+
+/// The files of listings.
+#[derive(Debug, Drop)]
+pub struct ListingFiles<'a> {
+    /// That of the listing of modules; where there is none, the symbols say where modules lie.
+    pub modules: Option<&'a str>,
+    /// That of the listing of symbols.
+    pub kallsyms: &'a str,
+    /// That of the listing of regions, where there is one beside that of modules.
+    pub regions: Option<&'a str>,
+}
+
+/// What is done with listings. Each has the options `--kallsyms FILE`, `[--modules FILE]`,
+/// `[--regions FILE]` and `[--kernel START END]`.
+#[derive(Debug, Drop)]
+pub enum Subcommand<'a> {
+    /// `latchsym lookup [--modules-from-symbols] [--addresses FILE] [--callers] [--offset N] [--json]
+    /// [--no-counts] [ADDR]..`: look addresses up.
+    Lookup(Lookup<'a>),
+    /// `latchsym run --readers N SCRIPT`: do what a script says, each writer and each reader on a
+    /// thread.
+    Run(Run<'a>),
+    /// `latchsym annotate [--callers | --exact] [--offset N] [LOG]`: write a log again, with a symbol
+    /// behind each address.
+    Annotate(Annotate<'a>),
+    /// `latchsym check`: write all that is noted of listings, and their counts.
+    Check,
+    /// `latchsym address [--offset N] [--json] [--no-counts] NAME..`: write where the symbols of these
+    /// names are.
+    Address(Address<'a>),
+}
+
+/// Which addresses are looked up, how they are taken, and how the answers are written.
+#[derive(Debug, Drop)]
+pub struct Lookup<'a> {
+    /// The addresses of the command line, in the order of their words.
+    pub addresses: Vec<u64>,
+    /// The file of further addresses, where there is one; `-` is the standard input.
+    pub file: Option<&'a str>,
+    /// How the addresses are taken that are looked up.
+    pub rule: AddressRule,
+    /// How the answers are written.
+    pub form: AnswerForm,
+}
+
+/// Which script is run, and by how many readers.
+#[derive(Debug, Drop)]
+pub struct Run<'a> {
+    /// How many readers there are, 1 to 64.
+    pub readers: u32,
+    /// The file of the script; `-` is the standard input.
+    pub script: &'a str,
+}
+
+/// Which log is annotated.
+#[derive(Debug, Drop)]
+pub struct Annotate<'a> {
+    /// How the addresses of the log are taken.
+    pub rule: LogRule,
+    /// The file of the log; `-` is the standard input.
+    pub log: &'a str,
+}
+
+/// Which names are looked for.
+#[derive(Debug, Drop)]
+pub struct Address<'a> {
+    /// The names, in the order of their words.
+    pub names: Vec<&'a str>,
+    /// How the addresses are told.
+    pub form: AddressForm,
+}
+
+impl<'a> Job<'a> {
+    ghost use Rattle.latchsym.specs.Files.{file_at};
+
+    /// The file at this place among those that the job reads, in the order in which it reads them.
+    /// The listing of regions has place 2 and the file of addresses 3, where they are given; the
+    /// script and the log have place 3.
+    pub fn file(&self, place: u64) -> Option<&'a str>
+        ensures { option_map (λ f. f.now) result ≡ file_at self.now place }
+    {
+        match self {
+            Job::Trace { file } | Job::Steps { file } => {
+                if place == 0 { Some(file) } else { None }
+            }
+            Job::Request(request) => request.file(place),
+        }
+    }
+}
+
+impl<'a> Request<'a> {
+    ghost use Rattle.latchsym.specs.Files.{request_file_at};
+
+    /// The same of a request.
+    fn file(&self, place: u64) -> Option<&'a str>
+        ensures { option_map (λ f. f.now) result ≡ request_file_at self.now place }
+    {
+        match place {
+            0 => self.files.modules,
+            1 => Some(self.files.kallsyms),
+            2 => self.files.regions,
+            3 => self.subcommand.input(),
+            _ => None,
+        }
+    }
+}
+
+impl<'a> Subcommand<'a> {
+    ghost use Rattle.latchsym.specs.Files.{input_of};
+
+    /// The file that is read behind the listings, where there is one.
+    fn input(&self) -> Option<&'a str>
+        ensures { option_map (λ f. f.now) result ≡ input_of self.now }
+    {
+        match self {
+            Subcommand::Lookup(lookup) => lookup.file,
+            Subcommand::Run(run) => Some(run.script),
+            Subcommand::Annotate(annotate) => Some(annotate.log),
+            Subcommand::Check | Subcommand::Address(_) => None,
+        }
+    }
+}
+
+/// Why a command line gives no job.
+#[derive(Drop)]
+pub enum JobFault<'a> {
+    /// Memory ran out.
+    OutOfMemory,
+    /// Help that was asked for, or words that the command line does not have. The error holds the
+    /// text for the user.
+    CommandLine(Error),
+    /// The first address that is no number.
+    BadAddress(&'a str),
+    /// A lookup without an address.
+    NoAddress,
+    /// A lookup that does not say where its modules come from.
+    NoModules,
+    /// A lookup whose modules come both from the symbols and from a file.
+    ModulesTwice,
+    /// Regions of modules, and no listing of these.
+    RegionsAlone,
+    /// A log whose addresses are taken in two ways.
+    TakenTwice,
+    /// A value of `--offset` that is no NUMBER.
+    BadOffset(&'a str),
+    /// An END of `--kernel` that begins with `0x`, as an address does.
+    BadEnd(&'a str),
+    /// A value of `--readers` that is no NUMBER from 1 to 64.
+    BadReaders(&'a str),
+    /// The words pass, and still name no job.
+    NoJob,
+}
+
+impl<T: Drop> From<AllocFailed<T>> for JobFault<'_> {
+    ghost use Rattle.latchsym.specs.declared.requests.JobFault.TheVariants.{OutOfMemory};
+
+    ghost from_gives = { λ _ fault. fault ≡ OutOfMemory };
+
+    fn from(_failed: AllocFailed<T>) -> Self {
+        JobFault::OutOfMemory
+    }
+}
