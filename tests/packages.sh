@@ -62,7 +62,7 @@ fi
 # the packages for Debian
 tools='command -v dpkg-buildpackage && command -v dh && command -v lintian'
 has "$tools" dpkg-dev debhelper lintian || exit 0
-sed -nE 's/^ (latchsym_[a-z_]+)@LATCHSYM_1 .*/\1/p' "$top/packaging/debian/liblatchsym1.symbols" |
+sed -nE 's/^ (latchsym_[a-z_]+)@LATCHSYM_1[.0-9]* .*/\1/p' "$top/packaging/debian/liblatchsym1.symbols" |
     diff - <(grep -oE '^(uint32_t|void) latchsym_[a-z_]+' "$top/include/latchsym.h" | cut -d' ' -f2 |
         LC_ALL=C sort) || fail 'the symbols file and the header have other calls'
 mkdir "$work/debian"
