@@ -1,7 +1,7 @@
 //! Texts of answers, and the failing calls of their writer.
 
 use crate::symbol_lists::small_catalog;
-use listing::write_answer;
+use listing::{AddressRule, answer_of, put_answer};
 use order_laws::Item;
 use std::test::Fail;
 use texts::{FailAt, Output};
@@ -26,7 +26,8 @@ fn items_that_no_table_holds(rt: HostRuntime) -> Result<(), Fail> {
     let catalog = small_catalog(&rt, rt.alloc())?;
     for (item, addr, text) in ROWS {
         let mut writer = Output::new(Vec::new(rt.alloc()));
-        write_answer(&mut writer, &catalog, Some(item), addr);
+        let answer = answer_of(&catalog, AddressRule::AS_GIVEN, Some(item), addr);
+        put_answer(&mut writer, &answer);
         assert_eq!(rt; writer.into_inner().as_slice(), text);
     }
     Ok(())
@@ -35,9 +36,15 @@ fn items_that_no_table_holds(rt: HostRuntime) -> Result<(), Fail> {
 #[test]
 fn nothing_is_written_after_a_failed_write(rt: HostRuntime) -> Result<(), Fail> {
     let catalog = small_catalog(&rt, rt.alloc())?;
+    let answer = answer_of(
+        &catalog,
+        AddressRule::AS_GIVEN,
+        Some(EXT4),
+        0xffff_ffff_c000_0018,
+    );
     for call in 1..12 {
         let mut writer = Output::new(FailAt::new(Vec::new(rt.alloc()), call));
-        write_answer(&mut writer, &catalog, Some(EXT4), 0xffff_ffff_c000_0018);
+        put_answer(&mut writer, &answer);
         assert_eq!(rt; writer.has_failed(), call < 9);
         let written = writer.into_inner().into_memory();
         assert!(rt; b"ext4_a+0x8/0x30 [ext4]".starts_with(&written));
