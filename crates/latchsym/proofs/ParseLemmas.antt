@@ -1,5 +1,5 @@
 -- What a parse by the program's command gives.
-use Rattle.latchsym.proofs.Words.{◌≡◌, ◌∙◌, ◌||◌, ap, sym, List, [], Option, Some, None, Result, Ok, Err, true, false, refl, subst, inl, inr, Bor, Box, IfOk, box_value, Some-from_parts, out-ArgMatches, out-SubCommand, SubCommand, AddsSubcommand, shape_of, with_subcommand, AddsArg, Row, subcommand_name_of, subcommand_rows, App, Rule, Text, rule_of, with_rule, HasKind, HasMatchesOf, IsAmong, fault_of, is_simple, is_simple_and_free, kind_of, subcommand_of, subcommand_rows_of, Error, ArgMatches, Arg, Command, out-Command, IsCommand, IsPlainArg, latchsym_app, AnswersMatches, AnswersWords, IsFaultOf, IsUnparsed, Job, JobFault, CommandLine, OutOfMemory}
+use Rattle.latchsym.proofs.Words.{◌≡◌, ◌∙◌, ◌||◌, ap, sym, List, [], Option, Some, None, Result, Ok, Err, true, false, refl, subst, inl, inr, Box, IfOk, box_value, Some-from_parts, out-ArgMatches, out-SubCommand, SubCommand, AddsSubcommand, shape_of, with_subcommand, AddsArg, Row, subcommand_name_of, subcommand_rows, App, Rule, Text, rule_of, with_rule, HasKind, HasMatchesOf, IsAmong, fault_of, is_simple, is_simple_and_free, kind_of, subcommand_of, subcommand_rows_of, Error, ArgMatches, Arg, Command, out-Command, IsCommand, IsPlainArg, latchsym_app, AnswersMatches, AnswersWords, IsFaultOf, IsUnparsed, Job, JobFault, CommandLine, OutOfMemory}
 use Rattle.clap.proofs.OnLiterals.{clap_on_literals}
 use Rattle.std.specs.Prelude.{option_map}
 use Rattle.clap.specs.declared.error.kind.ErrorKind.TheVariants as kind

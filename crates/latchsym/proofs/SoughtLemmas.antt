@@ -1,5 +1,5 @@
 -- The kept symbols of the names that words ask for, symbol by symbol.
-use Rattle.latchsym.proofs.Words.{append_assoc, list_any-append, or-false, or-true, same_from_decides, ◌≡◌, ◌∙◌, ℕ, List, [], ◌∷◌, ◌++◌, Bool, true, false, cond, ◌||◌, ◌+◌, ◌<◌, length, take, get_or, Option, Some, None, option_map, refl, sym, ap, subst, option_and_then, unwrap_or, BTreeMap, UpdatesBy, get_by, is_at, Bor, slice_cmp, Vec, cons_option, option_to_list, lookup, nat_cmp, result_ok, bytes_eq, false≢true, flat_map-append, filter-append, filter_map-append, btree_map_updates_str, bytes_eq-Decides, Item, CatalogEntries, Found, symbol_at, item_of_address, ListedSymbol, Output, Says, same_text, then, lines_of, is_mapping, symbol_of, symbols_in, AddressForm, symbols_text, word_text, words_text, asked_of, IsSought, Kept, end_of, found_by, is_owner, is_sought, kept_at_its_address, kept_in, kept_line, kept_symbol, kept_symbols, named, sought}
+use Rattle.latchsym.proofs.Words.{append_assoc, list_any-append, or-false, or-true, same_from_decides, ◌≡◌, ◌∙◌, ℕ, List, [], ◌∷◌, ◌++◌, Bool, true, false, cond, ◌||◌, ◌+◌, ◌<◌, length, take, get_or, Option, Some, None, option_map, refl, sym, ap, subst, option_and_then, unwrap_or, BTreeMap, UpdatesBy, get_by, is_at, Bor, slice_cmp, Vec, cons_option, option_to_list, lookup, nat_cmp, result_ok, bytes_eq, flat_map-append, filter-append, filter_map-append, btree_map_updates_str, bytes_eq-Decides, Item, CatalogEntries, Found, symbol_at, item_of_address, ListedSymbol, Output, Says, same_text, then, lines_of, is_mapping, symbol_of, symbols_in, AddressForm, symbols_text, word_text, words_text, asked_of, IsSought, Kept, end_of, found_by, is_owner, is_sought, kept_at_its_address, kept_in, kept_line, kept_symbol, kept_symbols, named, sought}
 use Rattle.std.proofs.lemmas.List.{append-nil}
 use Rattle.latchsym.proofs.AddressLemmas.{text_more, texts}
 

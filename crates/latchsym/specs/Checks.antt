@@ -3,7 +3,6 @@ use Rattle.std.specs.Prelude.{◌≡◌, ℕ, nat_eq, if◌then◌else◌, List,
 use Rattle.std.specs.Prelude.{Ok, unwrap_or, true}
 use Rattle.std.specs.Option.{option_map}
 use Rattle.clap.specs.Words.{Text}
-use Rattle.texts.specs.Lines.{lines_of}
 use Rattle.modules.specs.Accepted.{Accepted}
 use Rattle.modules.specs.Lines.{bounds_for}
 use Rattle.modules.specs.Listed.{BoundNames, ListedRegion}

@@ -1,4 +1,4 @@
-use Rattle.latchsym.proofs.Words.{true, false, ◌≡◌, ◌∙◌, ℕ, List, [], ◌++◌, length, Option, Some, None, Result, Ok, Err, refl, ap, subst, IfSome, is_some, unwrap_or, Text, lines_of, module_counts, modules_in, symbol_counts, symbols_in, symbols_with, BuildCounts, KeptCounts, build_of_listed, CatalogEntries, bounds_for, usual_bounds, BoundNames, ListedRegion, IsModulesReport, IsSymbolsReport, listings_report, modules_name, symbol_listing_report, is_of_kallsyms, is_of_modules, Inputs, region_lines, AreListingsOf, applying_lines, opening_options, IsSymbolListing, kept_in_text, listed, ListingFiles, Listings, SymbolListing, option_map, option_copied, IsChecked, with_modules, given_in, Tallies, counts_text, tallies_by, tallies_of, catalog_of_texts, counts_of_texts}
+use Rattle.latchsym.proofs.Words.{false, ◌≡◌, ◌∙◌, ℕ, List, [], ◌++◌, Option, Some, Ok, ap, subst, is_some, unwrap_or, lines_of, module_counts, symbol_counts, BuildCounts, CatalogEntries, usual_bounds, BoundNames, ListedRegion, IsModulesReport, listings_report, modules_name, is_of_kallsyms, is_of_modules, Inputs, region_lines, AreListingsOf, applying_lines, opening_options, ListingFiles, Listings, option_map, option_copied, IsChecked, with_modules, given_in, Tallies, counts_text, tallies_by, tallies_of, catalog_of_texts, counts_of_texts}
 use Rattle.latchsym.proofs.GivenLemmas.{said_or_not}
 use Rattle.latchsym.proofs.checks.check_modules.Goals as goal
 
