@@ -1,7 +1,7 @@
 #!/usr/bin/env bash
 # How long `annotate` takes over long logs, and how much memory beside the catalog, beside a plain
 # Rust program of the same job (peers/annotate.rs). One log has an address in each line, the other
-# none. Both programs run by turns; the least processor time of each counts.
+# none. Both take each address as it is, and run by turns; the least processor time of each counts.
 #
 #     benches/annotate.sh [MEGABYTES [KALLSYMS]]
 #
@@ -46,7 +46,7 @@ awk -v bytes="$megabytes"000000 'BEGIN {
 }' >"$work/plain.log"
 : >"$work/empty.log"
 
-ours() { "$program" annotate --kallsyms "$work/kallsyms" "$work/$1.log"; }
+ours() { "$program" annotate --exact --kallsyms "$work/kallsyms" "$work/$1.log"; }
 peer() { "$work/peer" "$work/kallsyms" "$work/$1.log"; }
 
 # seconds NAME LOG: the processor time of a run, added to the file NAME
