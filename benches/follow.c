@@ -29,6 +29,7 @@ static atomic_long finds, replacements;
 static pthread_mutex_t lock = PTHREAD_MUTEX_INITIALIZER;
 static void *cache;
 static double seconds;
+static uint64_t first_addr, span; /* of the listing shown last; set before a thread draws */
 
 static double now(void) {
     struct timespec t;
@@ -76,7 +77,7 @@ static double replace(struct listing *by) {
 
 static uint64_t draw(uint64_t *state) {
     *state = *state * 6364136223846793005 + 1442695040888963407;
-    return items[0].a + (*state >> 16) % (items[sizes.regions - 1].b - items[0].a);
+    return first_addr + (*state >> 16) % span;
 }
 
 static void *find_ours(void *unused) {
@@ -110,7 +111,7 @@ static double renew_theirs(void) {
     pthread_mutex_lock(&lock);
     if (cache) bcc_free_symcache(cache, -1);
     cache = bcc_symcache_new(-1, 0);
-    bcc_symcache_resolve_no_demangle(cache, items[0].a, &found); /* it reads at its first */
+    bcc_symcache_resolve_no_demangle(cache, first_addr, &found); /* it reads at its first */
     pthread_mutex_unlock(&lock);
     return now() - start;
 }
@@ -142,6 +143,7 @@ int main(int argc, char **argv) {
         double time = replace(&both[i % 2]);
         if (i && time < update) update = time;
     }
+    first_addr = items[0].a, span = items[sizes.regions - 1].b - items[0].a;
     theirs = renew_theirs();
     printf("%zu regions: %.1f ms to read, %.1f ms to open, %.1f us the update; libbcc anew %.1f ms\n", sizes.regions,
            1e3 * reading, 1e3 * opening, 1e6 * update, 1e3 * theirs);

@@ -160,25 +160,26 @@ static void read_listing(void) {
     show(new);
 }
 
-static int has_changed(struct timespec *seen) {
+/* Whether the file is another than when this was asked last, which is always before it is read: a change beside the
+ * reading is seen the next time. */
+static int has_changed(void) {
+    static struct timespec seen;
     struct stat file;
     if (stat(symbols_name, &file)) return 0;
-    if (file.st_mtim.tv_sec == seen->tv_sec && file.st_mtim.tv_nsec == seen->tv_nsec) return 0;
-    *seen = file.st_mtim;
+    if (file.st_mtim.tv_sec == seen.tv_sec && file.st_mtim.tv_nsec == seen.tv_nsec) return 0;
+    seen = file.st_mtim;
     return 1;
 }
 
 /* Reads the listing again each time that a line says so, and each second in which it has changed. */
 static void *watch(void *unused) {
     struct pollfd told = {STDIN_FILENO, POLLIN, 0};
-    struct timespec seen = {0, 0};
     char bytes[256];
-    has_changed(&seen);
     for (;;) {
         ssize_t got = 0;
         int ready = poll(&told, 1, SECOND);
         if (ready > 0 && (got = read(STDIN_FILENO, bytes, sizeof bytes)) <= 0) break;
-        if (has_changed(&seen) || ready > 0) read_listing();
+        if (has_changed() || ready > 0) read_listing();
     }
     atomic_store(&ended, 1);
     return unused;
@@ -254,6 +255,7 @@ int main(int count, char **words) {
     sigaddset(&prof, SIGPROF);
     pthread_sigmask(SIG_BLOCK, &prof, NULL);
     must(latchsym_table_open(NODES, &writer, readers, THREADS));
+    has_changed();
     read_listing();
     sigaction(SIGPROF, &action, NULL);
     for (int i = 0; i < THREADS; i++) {

@@ -39,7 +39,8 @@ const LOG_PLACE: u64 = 3;
 /// all that is decided is written, and the writer flushed, after each block that was read; so
 /// whatever ends it, what was written is a beginning of the annotated log. The status is 1 where
 /// nobody reads any more what is written, as before `head`. Behind a log that was annotated to its
-/// end it is noted where the names that it has itself are not those of the listing. docs/FORMATS.md has the listings, and says what is inserted.
+/// end it is noted where the names that it has itself are not those of the listing. docs/FORMATS.md
+/// has the listings, and says what is inserted.
 pub fn annotate_engine<M: Read, K: Read, R: Read, L: Read, E: Write, W: Write>(
     alloc: Global,
     readers: &mut AnnotateReaders<M, K, R, L>,
