@@ -7,6 +7,8 @@
 #![tactic(auto)]
 
 #[cfg(test)]
+mod followed;
+#[cfg(test)]
 mod gates;
 #[cfg(test)]
 mod ledgers;

@@ -1,0 +1,2 @@
+pub mod CatalogLemmas
+pub mod FollowingLemmas
