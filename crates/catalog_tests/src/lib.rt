@@ -5,12 +5,4 @@
 #![tactic(auto)]
 
 #[cfg(test)]
-mod address_files;
-#[cfg(test)]
-mod annotated_logs;
-#[cfg(test)]
-mod portions;
-#[cfg(test)]
-mod symbol_answers;
-#[cfg(test)]
-mod symbol_lists;
+mod tests;

@@ -1,7 +1,7 @@
 //! Logs in blocks of each length, and the failing calls of their devices.
 
-use crate::portions::Portions;
-use crate::symbol_lists::small_catalog;
+use crate::tests::portions::Portions;
+use crate::tests::symbol_lists::small_catalog;
 use listing::{Callers, LogFault, LogNames, LogRule, annotate};
 use modules::IndexedCatalog;
 use std::test::Fail;

@@ -1,6 +1,6 @@
 //! Texts of answers, and the failing calls of their writer.
 
-use crate::symbol_lists::small_catalog;
+use crate::tests::symbol_lists::small_catalog;
 use listing::{AddressRule, answer_of, put_answer};
 use order_laws::Item;
 use std::test::Fail;
