@@ -6,12 +6,4 @@
 #![tactic(auto)]
 
 #[cfg(test)]
-mod orders;
-#[cfg(test)]
-mod plan_runs;
-#[cfg(test)]
-mod plans;
-#[cfg(test)]
-mod schedules;
-#[cfg(test)]
-mod words;
+mod tests;

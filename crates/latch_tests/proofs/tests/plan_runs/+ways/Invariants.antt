@@ -1,4 +1,4 @@
-use Rattle.latch_tests.proofs.plan_runs.+ways.Given as goal
+use Rattle.latch_tests.proofs.tests.plan_runs.+ways.Given as goal
 
 abbrev pub decreases-ways : goal.decreases-ways
 decreases-ways g l = l.left

@@ -1,6 +1,6 @@
 use Rattle.std.proofs.Common.{[], ◌∷◌, arith}
 use Rattle.std.proofs.lemmas.List.Sorted.{IsNonDecreasingBy-short}
-use Rattle.latch_tests.proofs.plans.one_left_out_by_halves.Goals as goal
+use Rattle.latch_tests.proofs.tests.plans.one_left_out_by_halves.Goals as goal
 
 pub meets_rising-requires : goal.meets_rising-requires
 meets_rising-requires g c = IsNonDecreasingBy-short (λ x. x) (11 ∷ []) (omega arith)

@@ -1,0 +1,5 @@
+mod orders;
+mod plan_runs;
+mod plans;
+mod schedules;
+mod words;
