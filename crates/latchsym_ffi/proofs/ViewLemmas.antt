@@ -2,7 +2,7 @@
 use Rattle.std.proofs.Common.{◌≡◌, ℕ, ◌-◌, ◌<◌, ◌≤◌, List, [], length, get_or, map, Option, Some, None, refl, sym, ap, subst, ◌∙◌, arith}
 use Rattle.std.specs.Prelude.{All, Contains, IfSome, slice_get}
 use Rattle.std.specs.Option.{option_map}
-use Rattle.std.proofs.lemmas.List.{get_or-map, length-map}
+use Rattle.std.proofs.lemmas.List.{get_or-map, get_or_default, length-map}
 use Rattle.std.proofs.lemmas.List.Elements.{All-contains}
 use Rattle.std.proofs.lemmas.Option.{get_or_from_slice_get, slice_get-map}
 use Rattle.facts.proofs.Lists.{slice_get_some}
@@ -99,9 +99,17 @@ module _ (c : CatalogEntries) (regions : List ViewRegion) (is : IsViewOf c regio
   pub no_region_below : split ≡ 0 → None ≡ item_of_address c addr
   no_region_below e = nothing_below c is.sound items is.indexed addr split of_items e
 
-  module _ (r : ViewRegion) (some : 0 < split) (last : get_or regions (split - 1) r ≡ r) where
+  -- the last region that begins at or below the address
+  module _ (none : ViewRegion) (some : 0 < split) where
+    abbrev r : ViewRegion
+    r = get_or regions (split - 1) none
+
     last_item : get_or items (split - 1) (item_of_row r) ≡ item_of_row r
-    last_item = get_or-map item_of_row regions (split - 1) r (item_of_row r) (let b = parts.bound in omega (arith, b, some)) ∙ ap item_of_row last
+    last_item =
+        let b = parts.bound in
+        let within : split - 1 < length regions = omega (arith, b, some) in
+        get_or-map item_of_row regions (split - 1) r (item_of_row r) within
+        ∙ ap item_of_row (get_or_default regions (split - 1) r none within)
 
     pub region_found : addr < r.b → Some (item_of_row r) ≡ item_of_address c addr
     region_found lt = last_found c is.sound items is.indexed addr split of_items (item_of_row r) some last_item lt

@@ -1,8 +1,8 @@
 -- What is told of an address, with the names where they lie in the listings.
-use Rattle.std.specs.Prelude.{◌≡◌}
+use Rattle.std.specs.Prelude.{◌≡◌, ℕ}
 use Rattle.modules.specs.Entries.{CatalogEntries}
 use Rattle.latchsym_ffi.specs.declared.finding.CatalogSymbol.{CatalogSymbol}
-use Rattle.latchsym_ffi.specs.Finding.{Known, answer_of, owner_named, symbol_named}
+use Rattle.latchsym_ffi.specs.Finding.{Known, answer_of, known_code, owner_named, symbol_named}
 
 -- the numbers are those that are told of what is known, and the bytes at the places are the names
 pub record IsNamed (c : CatalogEntries) (k : Known) (s : CatalogSymbol) : Type 0 where
@@ -11,3 +11,8 @@ pub record IsNamed (c : CatalogEntries) (k : Known) (s : CatalogSymbol) : Type 0
   pub size : s.size ≡ (answer_of c k).size
   pub name : s.name.now ≡ symbol_named k
   pub owner : s.«module».now ≡ owner_named c k
+
+-- the same, with the number that is returned
+pub record IsTold (c : CatalogEntries) (k : Known) (result : ℕ) (s : CatalogSymbol) : Type 0 where
+  pub code : result ≡ known_code k
+  pub symbol : IsNamed c k s

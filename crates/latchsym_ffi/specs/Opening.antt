@@ -71,28 +71,19 @@ counts_in m s b notes = record {
   symbols_note = number_if_noted notes.kallsyms;
 }
 
--- the counts of the skipped lines of a listing of symbols alone, those of the build, and what is
--- noted
+-- those of a listing of symbols alone, beside which no line of modules is skipped
 abbrev pub counts_alone : List ℕ → KeptCounts → Option ListingNote → CatalogCounts
-counts_alone s k note = record {
-  modules = k.modules;
-  modules_hidden = 0;
-  modules_empty = 0;
-  modules_wraps = 0;
-  modules_overlap = 0;
-  modules_double = 0;
-  modules_long = 0;
-  modules_malformed = 0;
-  symbols = k.symbols;
-  symbols_hidden = slice_index s (symbol_place symbol_cause.Hidden);
-  symbols_stray = k.stray;
-  symbols_long = slice_index s (symbol_place symbol_cause.Long);
-  symbols_malformed = slice_index s (symbol_place symbol_cause.Malformed);
-  regions = k.regions;
-  regions_stray = 0;
-  modules_note = number_if_noted None;
-  symbols_note = number_if_noted note;
-}
+counts_alone s k note =
+    let built : BuildCounts = record {
+      modules = k.modules;
+      double = 0;
+      overlap = 0;
+      regions = k.regions;
+      stray_regions = 0;
+      symbols = k.symbols;
+      stray = k.stray;
+    } in
+    counts_in [] s built (record { modules = None; kallsyms = note })
 
 -- the catalog and the counts are those of the texts, with this listing of modules and these region
 -- lines; mapping symbols are stray

@@ -11,7 +11,8 @@ ghost use Rattle.latchsym_ffi.specs.ByNumber.{symbol_at_place};
 ghost use Rattle.latchsym_ffi.specs.Handles.{HoldsCatalog, Stays};
 ghost use Rattle.latchsym_ffi.specs.Kinds.{catalog_kind};
 
-use crate::answers::{BAD_HANDLE, DONE, NOTHING};
+use crate::answers::{DONE, NOTHING};
+use crate::calls::with_catalog;
 use crate::handles::Handle;
 use modules::{Catalog, Part, Symbol};
 
@@ -152,12 +153,10 @@ pub extern "C" fn latchsym_catalog_modules(catalog: &mut Handle, out: &mut u64) 
     ensures other { catalog.old.kind ≢ catalog_kind → (result ≡ 101) × (catalog.new ≡ catalog.old)
         × (out.new ≡ out.old) }
 {
-    let Some(taken) = catalog.take_catalog() else {
-        return BAD_HANDLE;
-    };
-    *out = taken.indexed().catalog().len();
-    catalog.put_catalog(taken);
-    DONE
+    with_catalog!(catalog, |open| {
+        *out = open.catalog().len();
+        DONE
+    })
 }
 
 /// Tells of the module of a number: 0 is the kernel itself.
@@ -173,12 +172,7 @@ pub extern "C" fn latchsym_catalog_module(
     ensures other { catalog.old.kind ≢ catalog_kind → (result ≡ 101) × (catalog.new ≡ catalog.old)
         × (out.new ≡ out.old) }
 {
-    let Some(taken) = catalog.take_catalog() else {
-        return BAD_HANDLE;
-    };
-    let result = tell_module(taken.indexed().catalog(), number, out);
-    catalog.put_catalog(taken);
-    result
+    with_catalog!(catalog, |open| tell_module(open.catalog(), number, out))
 }
 
 /// Tells of a region of a module.
@@ -196,12 +190,10 @@ pub extern "C" fn latchsym_catalog_region(
     ensures other { catalog.old.kind ≢ catalog_kind → (result ≡ 101) × (catalog.new ≡ catalog.old)
         × (out.new ≡ out.old) }
 {
-    let Some(taken) = catalog.take_catalog() else {
-        return BAD_HANDLE;
-    };
-    let result = tell_region(taken.indexed().catalog(), number, place, out);
-    catalog.put_catalog(taken);
-    result
+    with_catalog!(
+        catalog,
+        |open| tell_region(open.catalog(), number, place, out)
+    )
 }
 
 /// Tells of a symbol of a module.
@@ -218,12 +210,10 @@ pub extern "C" fn latchsym_catalog_symbol(
     ensures other { catalog.old.kind ≢ catalog_kind → (result ≡ 101) × (catalog.new ≡ catalog.old)
         × (out.new ≡ out.old) }
 {
-    let Some(taken) = catalog.take_catalog() else {
-        return BAD_HANDLE;
-    };
-    let result = tell_symbol(taken.indexed().catalog(), number, place, out);
-    catalog.put_catalog(taken);
-    result
+    with_catalog!(
+        catalog,
+        |open| tell_symbol(open.catalog(), number, place, out)
+    )
 }
 
 /// Tells where the next symbol of a module is that has a name.
@@ -241,10 +231,8 @@ pub extern "C" fn latchsym_catalog_place_of_name_nonnull(
     ensures other { catalog.old.kind ≢ catalog_kind → (result ≡ 101) × (catalog.new ≡ catalog.old)
         × (out.new ≡ out.old) }
 {
-    let Some(taken) = catalog.take_catalog() else {
-        return BAD_HANDLE;
-    };
-    let result = tell_named(taken.indexed().catalog(), number, name, from, out);
-    catalog.put_catalog(taken);
-    result
+    with_catalog!(
+        catalog,
+        |open| tell_named(open.catalog(), number, name, from, out)
+    )
 }

@@ -2,7 +2,8 @@
 //!
 //! The content is taken out of the handle, the call is made with it, and it is put back: the kit
 //! lends no borrow through the handle's raw pointer. What is to be done with a writer or a reader
-//! comes as a closure; no closure takes a catalog, which has names of lifetime `'static`.
+//! comes as a closure. No closure takes a catalog, which has names of lifetime `'static`, so that is
+//! a macro.
 
 ghost use Rattle.std.specs.Prelude.{◌≡◌, ◌≢◌, IfNone, IfSome, Some};
 ghost use Rattle.std.specs.Fn.{CalledAtMut};
@@ -18,6 +19,23 @@ use latch_table::{Reader, Writer};
 use modules::IndexedCatalog;
 use order_laws::HalfOpen;
 use std::alloc::Global;
+
+/// Calls with the catalog that a handle holds; a handle with none is a bad one.
+macro_rules! with_catalog {
+    ($handle:ident, |$catalog:ident| $call:expr) => {
+        match $handle.take_catalog() {
+            Some(taken) => {
+                let $catalog = taken.indexed();
+                let result = $call;
+                $handle.put_catalog(taken);
+                result
+            }
+            None => $crate::answers::BAD_HANDLE,
+        }
+    };
+}
+
+pub(crate) use with_catalog;
 
 /// A catalog out of its handle, in the box in which it is put back.
 #[derive(Drop)]

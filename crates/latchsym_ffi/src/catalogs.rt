@@ -10,11 +10,12 @@ ghost use Rattle.latchsym_ffi.specs.Finding.{known_call, symbol_named};
 ghost use Rattle.latchsym_ffi.specs.Handles.{HoldsCatalog, Stays};
 ghost use Rattle.latchsym_ffi.specs.Kinds.{catalog_kind};
 ghost use Rattle.latchsym_ffi.specs.Listings.{is_understood, texts_in};
-ghost use Rattle.latchsym_ffi.specs.Named.{IsNamed};
+ghost use Rattle.latchsym_ffi.specs.Named.{IsTold};
 ghost use Rattle.latchsym_ffi.specs.Opening.{RefusesTexts, shown_texts};
 
 use crate::answers::{BAD_HANDLE, BAD_LINE, BAD_LISTINGS, DONE};
 use crate::batches::{CatalogTold, tell_in_order};
+use crate::calls::with_catalog;
 use crate::contents::{CLOSED, Content};
 use crate::finding::{CatalogAnswer, CatalogSymbol, copy_names, name_places, seek, seek_call};
 use crate::handles::Handle;
@@ -99,19 +100,15 @@ pub extern "C" fn latchsym_catalog_find(
     out: &mut CatalogSymbol,
 ) -> u32
     ensures stays { Stays catalog.old catalog.new }
-    ensures code { (c : CatalogEntries) → HoldsCatalog c catalog.old
-        → result ≡ known_code (known_at c addr) }
-    ensures symbol { (c : CatalogEntries) → HoldsCatalog c catalog.old
-        → IsNamed c (known_at c addr) out.new }
+    ensures told { (c : CatalogEntries) → HoldsCatalog c catalog.old
+        → IsTold c (known_at c addr) result out.new }
     ensures other { catalog.old.kind ≢ catalog_kind → (result ≡ 101) × (catalog.new ≡ catalog.old)
         × (out.new ≡ out.old) }
 {
-    let Some(taken) = catalog.take_catalog() else {
-        return BAD_HANDLE;
-    };
-    let result = name_places(taken.indexed().catalog(), seek(taken.indexed(), addr), out);
-    catalog.put_catalog(taken);
-    result
+    with_catalog!(
+        catalog,
+        |open| name_places(open.catalog(), seek(open, addr), out)
+    )
 }
 
 /// Tells of a return address: of the call before it, with the offset of the address itself.
@@ -122,23 +119,15 @@ pub extern "C" fn latchsym_catalog_find_caller(
     out: &mut CatalogSymbol,
 ) -> u32
     ensures stays { Stays catalog.old catalog.new }
-    ensures code { (c : CatalogEntries) → HoldsCatalog c catalog.old
-        → result ≡ known_code (known_call c addr) }
-    ensures symbol { (c : CatalogEntries) → HoldsCatalog c catalog.old
-        → IsNamed c (known_call c addr) out.new }
+    ensures told { (c : CatalogEntries) → HoldsCatalog c catalog.old
+        → IsTold c (known_call c addr) result out.new }
     ensures other { catalog.old.kind ≢ catalog_kind → (result ≡ 101) × (catalog.new ≡ catalog.old)
         × (out.new ≡ out.old) }
 {
-    let Some(taken) = catalog.take_catalog() else {
-        return BAD_HANDLE;
-    };
-    let result = name_places(
-        taken.indexed().catalog(),
-        seek_call(taken.indexed(), addr),
-        out,
-    );
-    catalog.put_catalog(taken);
-    result
+    with_catalog!(
+        catalog,
+        |open| name_places(open.catalog(), seek_call(open, addr), out)
+    )
 }
 
 /// Tells of several addresses, each in the room of its place.
@@ -159,12 +148,7 @@ pub extern "C" fn latchsym_catalog_find_many_nonnull(
     ensures other { catalog.old.kind ≢ catalog_kind
         → (result ≡ 101) × (catalog.new ≡ catalog.old) }
 {
-    let Some(taken) = catalog.take_catalog() else {
-        return BAD_HANDLE;
-    };
-    let result = tell_in_order(taken.indexed(), addrs, out);
-    catalog.put_catalog(taken);
-    result
+    with_catalog!(catalog, |open| tell_in_order(open, addrs, out))
 }
 
 /// Tells of an address, and copies as much of the names as there is room for.
@@ -188,18 +172,10 @@ pub extern "C" fn latchsym_catalog_name_nonnull(
     ensures other { catalog.old.kind ≢ catalog_kind → (result ≡ 101) × (catalog.new ≡ catalog.old)
         × (out.new ≡ out.old) × (name.new ≡ name.old) × (owner.new ≡ owner.old) }
 {
-    let Some(taken) = catalog.take_catalog() else {
-        return BAD_HANDLE;
-    };
-    let result = copy_names(
-        taken.indexed().catalog(),
-        seek(taken.indexed(), addr),
-        out,
-        name,
-        owner,
-    );
-    catalog.put_catalog(taken);
-    result
+    with_catalog!(
+        catalog,
+        |open| copy_names(open.catalog(), seek(open, addr), out, name, owner)
+    )
 }
 
 /// The same catalog once more, in a box.

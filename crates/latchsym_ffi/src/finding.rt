@@ -5,7 +5,7 @@ ghost use Rattle.std.specs.Option.{option_map};
 ghost use Rattle.latchsym_ffi.specs.Finding.{Describes, answer_of, copied, known_at, known_code};
 ghost use Rattle.latchsym_ffi.specs.Finding.{known_in, module_name, owner_named, shown_seen};
 ghost use Rattle.latchsym_ffi.specs.Finding.{known_call, symbol_named};
-ghost use Rattle.latchsym_ffi.specs.Named.{IsNamed};
+ghost use Rattle.latchsym_ffi.specs.Named.{IsTold};
 
 use crate::answers::{DONE, NO_SYMBOL, NOTHING};
 use listing::farther;
@@ -163,8 +163,7 @@ pub(crate) fn name_places(
     seen: Option<Seen<'_>>,
     out: &mut CatalogSymbol,
 ) -> u32
-    ensures code { result ≡ known_code (option_map shown_seen seen.entry) }
-    ensures symbol { IsNamed catalog.now (option_map shown_seen seen.entry) out.new }
+    ensures { IsTold catalog.now (option_map shown_seen seen.entry) result out.new }
 {
     let told = description_of(catalog, seen);
     *out = CatalogSymbol {

@@ -15,6 +15,7 @@ ghost use Rattle.latchsym_ffi.specs.Lookups.{Copies, LooksUp, Names, Shows, answ
 ghost use Rattle.latchsym_ffi.specs.Lookups.{found_code, name_code, try_code};
 
 use crate::answers::{BAD_HANDLE, DONE, NOTHING, RETRY};
+use crate::calls::with_catalog;
 use crate::contents::{CATALOG, READER};
 use crate::finding::{CatalogAnswer, copy_names, seen_in};
 use crate::handles::Handle;
@@ -138,18 +139,10 @@ fn name_in(
         × (name.new ≡ copied (symbol_named (known_in c addr item)) name.old)
         × (owner.new ≡ copied (owner_named c (known_in c addr item)) owner.old) }
 {
-    let Some(taken) = catalog.take_catalog() else {
-        return BAD_HANDLE;
-    };
-    let result = copy_names(
-        taken.indexed().catalog(),
-        seen_in(taken.indexed().catalog(), item, addr),
-        out,
-        name,
-        owner,
-    );
-    catalog.put_catalog(taken);
-    result
+    with_catalog!(catalog, |open| {
+        let seen = seen_in(open.catalog(), item, addr);
+        copy_names(open.catalog(), seen, out, name, owner)
+    })
 }
 
 /// The item that an address lies in, by memory or by one attempt, and the symbol of the catalog in

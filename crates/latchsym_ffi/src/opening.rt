@@ -1,7 +1,8 @@
 //! From the bytes of the listings to a catalog.
 
-ghost use Rattle.std.specs.Prelude.{◌≡◌, true, All, IfOk, IfErr};
+ghost use Rattle.std.specs.Prelude.{◌≡◌, true, All, IfOk, IfErr, slice_index};
 ghost use Rattle.std.specs.Option.{option_copied};
+ghost use Rattle.listing.specs.ModuleListing.{module_place};
 ghost use Rattle.modules.specs.Catalogs.{IsBuildRefusal};
 ghost use Rattle.modules.specs.Entries.{CatalogEntries};
 ghost use Rattle.modules.specs.Lines.{region_fits};
@@ -11,12 +12,12 @@ ghost use Rattle.latchsym_ffi.specs.Opening.{AreRead, AreReadAlone, GivesRegions
 ghost use Rattle.latchsym_ffi.specs.Opening.{IsOpenedCatalog, RefusesTexts};
 ghost use Rattle.latchsym_ffi.specs.Opening.{counts_alone, counts_in, shown_texts};
 
-use crate::answers::{NOTHING, number_if_noted};
+use crate::answers::number_if_noted;
 use crate::contents::Content;
 use crate::open_catalogs::OpenCatalog;
 use listing::{
-    ListingNote, ListingNotes, ModuleCounts, SkippedModule, SkippedSymbol, SymbolCounts,
-    open_listings, open_symbols, read_regions,
+    Cause, ListingNote, ListingNotes, SkippedModule, SkippedSymbol, SymbolCounts, open_listings,
+    open_symbols, read_regions,
 };
 use modules::{Asked, BuildCounts, IndexedCatalog, KeptCounts, KernelBounds, RegionLine};
 use order_laws::Refusal;
@@ -118,25 +119,31 @@ fn region_lines(
     }
 }
 
+/// How many lines of modules were skipped for this cause, by the counts at the places of the causes.
+fn skipped(modules: &[u64], cause: SkippedModule) -> u64
+    ensures { result ≡ slice_index modules.now (module_place cause) }
+{
+    modules.get(cause.place()).copied().unwrap_or(0)
+}
+
 /// The counts as C has them.
 fn counts_of(
-    modules: &ModuleCounts,
+    modules: &[u64],
     symbols: &SymbolCounts,
     built: &BuildCounts,
     notes: &ListingNotes,
 ) -> CatalogCounts
-    ensures { result
-        ≡ counts_in modules.now.by_place symbols.now.by_place built.now notes.now }
+    ensures { result ≡ counts_in modules.now symbols.now.by_place built.now notes.now }
 {
     CatalogCounts {
         modules: built.modules,
-        modules_hidden: modules.count(SkippedModule::Hidden),
-        modules_empty: modules.count(SkippedModule::Empty),
-        modules_wraps: modules.count(SkippedModule::Wraps),
+        modules_hidden: skipped(modules, SkippedModule::Hidden),
+        modules_empty: skipped(modules, SkippedModule::Empty),
+        modules_wraps: skipped(modules, SkippedModule::Wraps),
         modules_overlap: built.overlap,
         modules_double: built.double,
-        modules_long: modules.count(SkippedModule::Long),
-        modules_malformed: modules.count(SkippedModule::Malformed),
+        modules_long: skipped(modules, SkippedModule::Long),
+        modules_malformed: skipped(modules, SkippedModule::Malformed),
         symbols: built.symbols,
         symbols_hidden: symbols.count(SkippedSymbol::Hidden),
         symbols_stray: built.stray,
@@ -149,7 +156,7 @@ fn counts_of(
     }
 }
 
-/// The counts of a listing of symbols alone.
+/// The counts of a listing of symbols alone, beside which no line of modules is skipped.
 fn counts_alone(
     symbols: &SymbolCounts,
     kept: &KeptCounts,
@@ -157,26 +164,24 @@ fn counts_alone(
 ) -> CatalogCounts
     ensures { result ≡ counts_alone symbols.now.by_place kept.now note }
 {
-    CatalogCounts {
+    let built = BuildCounts {
         modules: kept.modules,
-        modules_hidden: 0,
-        modules_empty: 0,
-        modules_wraps: 0,
-        modules_overlap: 0,
-        modules_double: 0,
-        modules_long: 0,
-        modules_malformed: 0,
-        symbols: kept.symbols,
-        symbols_hidden: symbols.count(SkippedSymbol::Hidden),
-        symbols_stray: kept.stray,
-        symbols_long: symbols.count(SkippedSymbol::Long),
-        symbols_malformed: symbols.count(SkippedSymbol::Malformed),
+        double: 0,
+        overlap: 0,
         regions: kept.regions,
-        regions_stray: 0,
-        modules_note: NOTHING,
-        symbols_note: number_if_noted(note),
-    }
+        stray_regions: 0,
+        symbols: kept.symbols,
+        stray: kept.stray,
+    };
+    let notes = ListingNotes {
+        modules: None,
+        kallsyms: note,
+    };
+    counts_of(&[], symbols, &built, &notes)
 }
+
+/// A catalog, and how many lines went where.
+type Counted = (IndexedCatalog<'static>, CatalogCounts);
 
 /// Opens the listings of modules and of symbols, with these region lines.
 fn catalog_between(
@@ -184,7 +189,7 @@ fn catalog_between(
     texts: &CatalogTexts,
     modules: &'static [u8],
     regions: &[RegionLine<'static>],
-) -> Result<(IndexedCatalog<'static>, CatalogCounts), Refusal>
+) -> Result<Counted, Refusal>
     requires { All (λ r. region_fits r ≡ true) regions.now }
     ensures opened { IfOk result
         (λ r. IsOpenedCatalog (shown_texts texts.now) modules.now regions.now r.0 r.1) }
@@ -203,7 +208,7 @@ fn catalog_between(
         Asked::Any,
     )?;
     let counts = counts_of(
-        &opened.skipped_modules,
+        &opened.skipped_modules.by_place,
         &opened.skipped_symbols,
         &opened.built,
         &opened.notes,
@@ -213,10 +218,7 @@ fn catalog_between(
 }
 
 /// Opens the listing of symbols alone.
-fn catalog_alone(
-    alloc: Global,
-    texts: &CatalogTexts,
-) -> Result<(IndexedCatalog<'static>, CatalogCounts), AllocError>
+fn catalog_alone(alloc: Global, texts: &CatalogTexts) -> Result<Counted, AllocError>
     ensures { IfOk result (λ r. AreReadAlone (shown_texts texts.now) r.0 r.1) }
 {
     let opened = open_symbols(alloc, texts.kernel.as_ref(), texts.kallsyms, Asked::Any)?;
@@ -227,10 +229,7 @@ fn catalog_alone(
 
 /// Reads the listings, and builds the catalog of them, or of that of symbols alone where that of
 /// modules is not given.
-fn catalog_of(
-    alloc: Global,
-    texts: &CatalogTexts,
-) -> Result<(IndexedCatalog<'static>, CatalogCounts), CatalogFault>
+fn catalog_of(alloc: Global, texts: &CatalogTexts) -> Result<Counted, CatalogFault>
     ensures opened { IfOk result (λ r. AreRead (shown_texts texts.now) r.0 r.1) }
     ensures fault { IfErr result (RefusesTexts (shown_texts texts.now)) }
 {

@@ -11,7 +11,8 @@ ghost use Rattle.latchsym_ffi.specs.Kinds.{catalog_kind, writer_kind};
 ghost use Rattle.latchsym_ffi.specs.Replacing.{RefusesReplacingAs, TellsItems, item_told};
 ghost use Rattle.latchsym_ffi.specs.Updates.{item_from};
 
-use crate::answers::{BAD_HANDLE, BAD_LENGTH, DONE};
+use crate::answers::{BAD_LENGTH, DONE};
+use crate::calls::with_catalog;
 use crate::handles::Handle;
 use crate::updates::{TableItem, items_from};
 use latch_table::Writer;
@@ -64,12 +65,7 @@ pub extern "C" fn latchsym_catalog_items_nonnull(catalog: &mut Handle, out: &mut
     ensures other { catalog.old.kind ≢ catalog_kind
         → (result ≡ 101) × (catalog.new ≡ catalog.old) }
 {
-    let Some(taken) = catalog.take_catalog() else {
-        return BAD_HANDLE;
-    };
-    let result = tell_items(taken.indexed(), out);
-    catalog.put_catalog(taken);
-    result
+    with_catalog!(catalog, |open| tell_items(open, out))
 }
 
 /// Begins the update after which the table has just these items, and leaves it there.

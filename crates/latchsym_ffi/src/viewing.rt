@@ -2,19 +2,20 @@
 
 ghost use Rattle.std.specs.Prelude.{◌≡◌, ◌≢◌, ◌↔◌, IsTrue, length};
 ghost use Rattle.modules.specs.Entries.{CatalogEntries};
-ghost use Rattle.latchsym_ffi.specs.Finding.{known_at, known_call, known_code};
+ghost use Rattle.latchsym_ffi.specs.Finding.{known_at, known_call};
 ghost use Rattle.latchsym_ffi.specs.Handles.{HoldsCatalog, Stays};
 ghost use Rattle.latchsym_ffi.specs.Kinds.{catalog_kind};
-ghost use Rattle.latchsym_ffi.specs.Named.{IsNamed};
+ghost use Rattle.latchsym_ffi.specs.Named.{IsTold};
 ghost use Rattle.latchsym_ffi.specs.Viewing.{AreRooms, TellsSizes};
 ghost use Rattle.latchsym_ffi.specs.Views.{IsViewOf};
 
-use crate::answers::{BAD_HANDLE, BAD_LENGTH, DONE};
+use crate::answers::{BAD_LENGTH, DONE};
+use crate::calls::with_catalog;
 use crate::finding::CatalogSymbol;
 use crate::flattening::{flatten, symbols_in};
 use crate::handles::Handle;
 use crate::view_rows::{CatalogView, ViewRegion, ViewSymbol};
-use crate::views::{find, find_caller};
+use crate::views::{seek, seek_call, tell};
 use modules::Catalog;
 use order_laws::Refusal;
 
@@ -90,12 +91,7 @@ pub extern "C" fn latchsym_catalog_sizes(catalog: &mut Handle, out: &mut ViewSiz
     ensures other { catalog.old.kind ≢ catalog_kind → (result ≡ 101) × (catalog.new ≡ catalog.old)
         × (out.new ≡ out.old) }
 {
-    let Some(taken) = catalog.take_catalog() else {
-        return BAD_HANDLE;
-    };
-    let result = tell_sizes(taken.indexed().catalog(), out);
-    catalog.put_catalog(taken);
-    result
+    with_catalog!(catalog, |open| tell_sizes(open.catalog(), out))
 }
 
 /// Makes a view of the catalog in rooms for its rows.
@@ -118,28 +114,20 @@ pub extern "C" fn latchsym_catalog_flatten_nonnull<'c, 's>(
     ensures other { catalog.old.kind ≢ catalog_kind
         → (result ≡ 101) × (catalog.new ≡ catalog.old) }
 {
-    let Some(taken) = catalog.take_catalog() else {
-        return BAD_HANDLE;
-    };
-    let result = flatten_into(taken.indexed().catalog(), regions, symbols, addresses, out);
-    catalog.put_catalog(taken);
-    result
+    with_catalog!(
+        catalog,
+        |open| flatten_into(open.catalog(), regions, symbols, addresses, out)
+    )
 }
 
 /// Tells of an address, with the names where they lie in the listings. Any number of threads may
 /// call it with one view.
 #[unsafe(no_mangle)]
-pub extern "C" fn latchsym_view_find(
-    view: &CatalogView<'_, '_>,
-    addr: u64,
-    out: &mut CatalogSymbol,
-) -> u32
-    ensures code { (c : CatalogEntries) → IsViewOf c view.now.regions.now
-        → result ≡ known_code (known_at c addr) }
-    ensures symbol { (c : CatalogEntries) → IsViewOf c view.now.regions.now
-        → IsNamed c (known_at c addr) out.new }
+pub extern "C" fn latchsym_view_find(view: &CatalogView, addr: u64, out: &mut CatalogSymbol) -> u32
+    ensures { (c : CatalogEntries) → IsViewOf c view.now.regions.now
+        → IsTold c (known_at c addr) result out.new }
 {
-    find(view, addr, out)
+    tell(seek(view, addr), out)
 }
 
 /// Tells of a return address: of the call before it, with the offset of the address itself.
@@ -149,10 +137,8 @@ pub extern "C" fn latchsym_view_find_caller(
     addr: u64,
     out: &mut CatalogSymbol,
 ) -> u32
-    ensures code { (c : CatalogEntries) → IsViewOf c view.now.regions.now
-        → result ≡ known_code (known_call c addr) }
-    ensures symbol { (c : CatalogEntries) → IsViewOf c view.now.regions.now
-        → IsNamed c (known_call c addr) out.new }
+    ensures { (c : CatalogEntries) → IsViewOf c view.now.regions.now
+        → IsTold c (known_call c addr) result out.new }
 {
-    find_caller(view, addr, out)
+    tell(seek_call(view, addr), out)
 }

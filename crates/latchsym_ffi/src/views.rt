@@ -121,7 +121,7 @@ fn symbol_in_rows<'s>(region: &ViewRegion<'s>, addr: u64) -> Option<FoundRow<'s>
 }
 
 /// The region that the address lies in, and the symbol, the offset and the size where there is one.
-fn seek<'c, 's>(view: &CatalogView<'c, 's>, addr: u64) -> Option<SeenRow<'c, 's>>
+pub(crate) fn seek<'c, 's>(view: &CatalogView<'c, 's>, addr: u64) -> Option<SeenRow<'c, 's>>
     ensures known { (c : CatalogEntries) → IsViewOf c view.now.regions.now
         → option_map known_row result ≡ known_at c addr }
     ensures listed { IfSome result (λ s. Contains view.now.regions.now s.region.now) }
@@ -148,7 +148,7 @@ fn farther<'s>(found: FoundRow<'s>) -> FoundRow<'s>
 
 /// The same of a return address: the address one byte lower is looked up, and the offset is that of
 /// the return address.
-fn seek_call<'c, 's>(view: &CatalogView<'c, 's>, addr: u64) -> Option<SeenRow<'c, 's>>
+pub(crate) fn seek_call<'c, 's>(view: &CatalogView<'c, 's>, addr: u64) -> Option<SeenRow<'c, 's>>
     ensures known { (c : CatalogEntries) → IsViewOf c view.now.regions.now
         → option_map known_row result ≡ known_call c addr }
     ensures listed { IfSome result (λ s. Contains view.now.regions.now s.region.now) }
@@ -162,7 +162,7 @@ fn seek_call<'c, 's>(view: &CatalogView<'c, 's>, addr: u64) -> Option<SeenRow<'c
 }
 
 /// Tells of what was seen, as a search of the catalog does.
-fn tell(seen: Option<SeenRow<'_, '_>>, out: &mut CatalogSymbol) -> u32
+pub(crate) fn tell(seen: Option<SeenRow<'_, '_>>, out: &mut CatalogSymbol) -> u32
     ensures code { result ≡ known_code (option_map known_row seen.entry) }
     ensures symbol { (c : CatalogEntries) → IfSome seen.entry (λ s. IsRegionRow c s.region.now)
         → IsNamed c (option_map known_row seen.entry) out.new }
@@ -189,24 +189,4 @@ fn tell(seen: Option<SeenRow<'_, '_>>, out: &mut CatalogSymbol) -> u32
         module: region.module,
     };
     code
-}
-
-/// Tells of an address, as a search of the catalog does whose view this is.
-pub(crate) fn find(view: &CatalogView<'_, '_>, addr: u64, out: &mut CatalogSymbol) -> u32
-    ensures code { (c : CatalogEntries) → IsViewOf c view.now.regions.now
-        → result ≡ known_code (known_at c addr) }
-    ensures symbol { (c : CatalogEntries) → IsViewOf c view.now.regions.now
-        → IsNamed c (known_at c addr) out.new }
-{
-    tell(seek(view, addr), out)
-}
-
-/// The same of a return address.
-pub(crate) fn find_caller(view: &CatalogView<'_, '_>, addr: u64, out: &mut CatalogSymbol) -> u32
-    ensures code { (c : CatalogEntries) → IsViewOf c view.now.regions.now
-        → result ≡ known_code (known_call c addr) }
-    ensures symbol { (c : CatalogEntries) → IsViewOf c view.now.regions.now
-        → IsNamed c (known_call c addr) out.new }
-{
-    tell(seek_call(view, addr), out)
 }

@@ -1,5 +1,4 @@
-use Rattle.std.proofs.Common.{◌-◌, arith, slice_index_or, sym}
-use Rattle.std.proofs.lemmas.List.{get_or_default}
+use Rattle.std.proofs.Common.{arith}
 use Rattle.latchsym_ffi.proofs.ViewLemmas.{no_region_below, region_found, region_passed}
 use Rattle.latchsym_ffi.proofs.views.region_at.Goals as goal
 
@@ -9,18 +8,10 @@ returns-then-split-eq0-clause-is c = λ entries is.
 
 pub returns-then-addr-region-clause-is : goal.returns-then-addr-region-clause-is
 returns-then-addr-region-clause-is c = λ entries is.
-    let regions = c.args.view.now.regions.now in
-    let split = c.regions_below-split.result in
-    let parts = c.regions_below-split.ensures in
-    let some = c.if-split-eq0.false in
-    let r = slice_index_or regions (split - 1) c.index-view-split.result in
-    region_found entries regions is c.args.addr split parts r (omega arith) (sym (get_or_default regions (split - 1) c.index-view-split.result r (let b = parts.bound in omega arith))) c.if-addr-region.true
+    region_found entries c.args.view.now.regions.now is c.args.addr c.regions_below-split.result c.regions_below-split.ensures
+    c.index-view-split.result (let some = c.if-split-eq0.false in omega arith) c.if-addr-region.true
 
 pub returns-else-addr-region-clause-is : goal.returns-else-addr-region-clause-is
 returns-else-addr-region-clause-is c = λ entries is.
-    let regions = c.args.view.now.regions.now in
-    let split = c.regions_below-split.result in
-    let parts = c.regions_below-split.ensures in
-    let some = c.if-split-eq0.false in
-    let r = slice_index_or regions (split - 1) c.index-view-split.result in
-    region_passed entries regions is c.args.addr split parts r (omega arith) (sym (get_or_default regions (split - 1) c.index-view-split.result r (let b = parts.bound in omega arith))) c.if-addr-region.false
+    region_passed entries c.args.view.now.regions.now is c.args.addr c.regions_below-split.result c.regions_below-split.ensures
+    c.index-view-split.result (let some = c.if-split-eq0.false in omega arith) c.if-addr-region.false

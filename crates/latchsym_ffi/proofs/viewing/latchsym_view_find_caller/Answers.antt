@@ -1,0 +1,12 @@
+use Rattle.std.proofs.Common.{◌∙◌, ap, subst}
+use Rattle.latchsym_ffi.specs.Finding.{known_code}
+use Rattle.latchsym_ffi.specs.Named.{IsNamed}
+use Rattle.latchsym_ffi.proofs.ViewLemmas.{row_of_seen}
+use Rattle.latchsym_ffi.proofs.viewing.latchsym_view_find_caller.Goals as goal
+
+pub returns : goal.returns
+returns c = λ entries is. record {
+  code = c.tell.ensures.code ∙ ap known_code (c.seek_call.ensures.known entries is);
+  symbol = subst (λ k. IsNamed entries k c.tell.new.out) (c.seek_call.ensures.known entries is)
+      (c.tell.ensures.symbol entries (row_of_seen entries c.args.view.now.regions.now is.each c.seek_call.result c.seek_call.ensures.listed));
+}
