@@ -7,28 +7,4 @@
 #![tactic(auto)]
 
 #[cfg(test)]
-mod followed;
-#[cfg(test)]
-mod gates;
-#[cfg(test)]
-mod ledgers;
-#[cfg(test)]
-mod long_lists;
-#[cfg(test)]
-mod memory;
-#[cfg(test)]
-mod orders;
-#[cfg(test)]
-mod readers;
-#[cfg(test)]
-mod replacements;
-#[cfg(test)]
-mod runs;
-
-#[cfg(test)]
-use order_laws::Item;
-
-#[cfg(test)]
-fn item(a: u64, b: u64, tag: u64) -> Item {
-    Item { a, b, tag }
-}
+mod tests;

@@ -4,7 +4,7 @@
 ghost use Rattle.std.specs.Prelude.{◌≡◌, IfOk};
 ghost use Rattle.shared_lookup.specs.Enlarging.{AreLedgerReaders};
 
-use crate::item;
+use crate::tests::item;
 use latch_table::{Reader, Try};
 use modules::{
     Asked, Catalog, KernelBounds, ModuleLine, Part, RegionLine, SymbolLine, SymbolLines,

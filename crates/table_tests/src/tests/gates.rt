@@ -1,6 +1,6 @@
 //! Gates that hold threads and record their points.
 
-use crate::ledgers::{START, catalog};
+use crate::tests::ledgers::{START, catalog};
 use shared_lookup::{Answer, Change, Gate, Point, Served, serve};
 use std::alloc::{AllocError, Global};
 use std::sync::atomic::{AtomicU64, Ordering};

@@ -1,6 +1,6 @@
 //! A table whose items are replaced by others, on one thread.
 
-use crate::item;
+use crate::tests::item;
 use latch_table::{Did, Reader, Try, open};
 use order_laws::laws::look_through;
 use order_laws::{HalfOpen, Item, Refusal};

@@ -1,6 +1,6 @@
 //! Long lists of changes and of keys, whose answers are known, or have to be such as the log gives.
 
-use crate::ledgers::{START, catalog};
+use crate::tests::ledgers::{START, catalog};
 use order_laws::Refusal;
 use shared_lookup::{Answer, Change, Gate, Point, serve};
 use std::alloc::{AllocError, Global};

@@ -1,6 +1,6 @@
 //! Readers of a table on one thread.
 
-use crate::item;
+use crate::tests::item;
 use latch_table::{Did, Try, meet, open};
 use order_laws::HalfOpen;
 use std::test::Fail;

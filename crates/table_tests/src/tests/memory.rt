@@ -1,6 +1,6 @@
 //! What a reader remembers, at each stop of updates of each kind.
 
-use crate::item;
+use crate::tests::item;
 use latch_table::{Reader, Try, Writer, open};
 use order_laws::{HalfOpen, Item, Refusal};
 use std::alloc::Global;

@@ -1,6 +1,6 @@
 //! Events and commands, one after another.
 
-use crate::item;
+use crate::tests::item;
 use latch_steps::{Command, Note, World, drive, run};
 use order_laws::HalfOpen;
 use std::test::Fail;

@@ -1,93 +1,16 @@
-//! An order of one's own, whose key is a struct.
-ghost use Rattle.order_laws.specs.Orders.{half_open, half_open_lawful};
-
-use crate::item;
+//! The latch with an order of one's own, whose key is a struct.
+use crate::tests::item;
 use latch_core::attempts::Attempted;
 use latch_core::sequences::generation;
 use latch_core::{WriterCore, attempt_in, plain};
+use order_laws::Item;
 use order_laws::laws::look_through;
-use order_laws::{HalfOpen, Item, TreeOrder};
 use std::alloc::Global;
-use std::cmp::Ordering;
 use std::process::Abort;
 use std::test::Fail;
 use table_updates::Update;
 use word_layout::{Layout, apply};
-use workloads::Random;
-
-/// An address that is no plain number.
-#[derive(Clone, Copy, Debug, PartialEq, Eq, Drop)]
-struct Address(u64);
-
-/// Ranges without their end, found by an address.
-struct Ranges;
-
-impl TreeOrder for Ranges {
-    type Key = Address;
-
-    ghost order = { record {
-      key_of = λ i. record { 0 = i.a };
-      valid = half_open.valid;
-      apart = half_open.apart;
-      less = half_open.less;
-      comp = λ k i. half_open.comp k.0 i;
-    } };
-
-    fn key_of(i: &Item) -> Address {
-        Address(i.a)
-    }
-
-    fn valid(i: &Item) -> bool {
-        HalfOpen::valid(i)
-    }
-
-    fn apart(x: &Item, y: &Item) -> bool {
-        HalfOpen::apart(x, y)
-    }
-
-    fn less(x: &Item, y: &Item) -> bool {
-        HalfOpen::less(x, y)
-    }
-
-    fn comp(k: Address, i: &Item) -> Ordering {
-        HalfOpen::comp(k.0, i)
-    }
-
-    ghost lawful = { record {
-      irreflexive = half_open_lawful.irreflexive;
-      transitive = half_open_lawful.transitive;
-      one_is_less = half_open_lawful.one_is_less;
-      own_key = half_open_lawful.own_key;
-      key_below = half_open_lawful.key_below;
-      key_above = half_open_lawful.key_above;
-      below_lesser = λ k x y p. half_open_lawful.below_lesser k.0 x y (record {
-        first_valid = p.first_valid;
-        second_valid = p.second_valid;
-        is_apart = p.is_apart;
-        is_less = p.is_less;
-      });
-      above_greater = λ k x y p. half_open_lawful.above_greater k.0 x y (record {
-        first_valid = p.first_valid;
-        second_valid = p.second_valid;
-        is_apart = p.is_apart;
-        is_less = p.is_less;
-      });
-      in_lesser = λ k x y p. half_open_lawful.in_lesser k.0 x y (record {
-        first_valid = p.first_valid;
-        second_valid = p.second_valid;
-        is_apart = p.is_apart;
-        is_less = p.is_less;
-      });
-      in_greater = λ k x y p. half_open_lawful.in_greater k.0 x y (record {
-        first_valid = p.first_valid;
-        second_valid = p.second_valid;
-        is_apart = p.is_apart;
-        is_less = p.is_less;
-      });
-      symmetric = half_open_lawful.symmetric;
-      own_first_word = half_open_lawful.own_first_word;
-    } };
-}
+use workloads::{Address, Random, Ranges};
 
 /// A writer and its words.
 #[derive(Drop)]

@@ -1,6 +1,6 @@
 //! A table that follows catalogs, on one thread.
 
-use crate::ledgers::{START, catalog};
+use crate::tests::ledgers::{START, catalog};
 use follower::Follower;
 use latch_table::Try;
 use modules::IndexedCatalog;
