@@ -5,7 +5,7 @@ ghost use Rattle.shared_lookup.specs.Enlarging.{AreLedgerReaders};
 
 use crate::End;
 use crate::tables::with;
-use crate::updates::{KEYS, key};
+use crate::updates::{item, keys};
 use latch_table::{Reader, Try, Writer, open};
 use order_laws::{HalfOpen, Item, Refusal};
 use shared_lookup::{Ledger, Open};
@@ -13,19 +13,6 @@ use std::alloc::Global;
 use std::io::Print;
 use table_updates::Update;
 use word_layout::Layout;
-
-/// An item of the table before it is enlarged, and one that comes after.
-const FIRST: Item = Item {
-    a: 0x10,
-    b: 0x20,
-    tag: 1,
-};
-
-const SECOND: Item = Item {
-    a: 0x20,
-    b: 0x30,
-    tag: 2,
-};
 
 /// What can go on with more nodes.
 trait Growing: Drop {
@@ -120,23 +107,27 @@ impl Growing for LedgerTable {
 }
 
 /// What is found at the keys, in one number.
-fn account<T: Growing>(table: &mut T) -> u64 {
+fn account<T: Growing>(table: &mut T, keys: &[u64]) -> u64 {
     let mut sum: u64 = 0;
-    for place in 0..KEYS {
-        sum = sum
-            .wrapping_mul(31)
-            .wrapping_add(table.find(key(place, KEYS)));
+    for key in keys {
+        sum = sum.wrapping_mul(31).wrapping_add(table.find(*key));
     }
     sum
 }
 
 /// Enlarges a table, and once more where memory was refused.
-fn enlarge<T: Growing>(rt: &impl Print, alloc: Global, l: Layout, mut table: T) -> Result<T, End> {
-    let before = account(&mut table);
+fn enlarge<T: Growing>(
+    rt: &impl Print,
+    alloc: Global,
+    l: Layout,
+    mut table: T,
+    keys: &[u64],
+) -> Result<T, End> {
+    let before = account(&mut table, keys);
     match table.enlarge(alloc, l) {
         Ok(table) => Ok(table),
         Err((_, mut table)) => {
-            if account(&mut table) != before {
+            if account(&mut table, keys) != before {
                 println!(rt; "enlarge: changed by a refusal")?;
             }
             match table.enlarge(alloc, l) {
@@ -148,21 +139,28 @@ fn enlarge<T: Growing>(rt: &impl Print, alloc: Global, l: Layout, mut table: T) 
 }
 
 /// Inserts an item into a table of this layout, enlarges it and inserts another.
-fn grow<T: Growing>(rt: &impl Print, alloc: Global, l: Layout, mut table: T) -> Result<(), End> {
-    table.insert(FIRST)?;
-    println!(rt; "enlarge: found {}", account(&mut table))?;
+fn grow<T: Growing>(
+    rt: &impl Print,
+    alloc: Global,
+    l: Layout,
+    mut table: T,
+    keys: &[u64],
+) -> Result<(), End> {
+    table.insert(item(0))?;
+    println!(rt; "enlarge: found {}", account(&mut table, keys))?;
     let wider = Layout::wide(l.capacity().saturating_add(1))?;
-    let mut table = enlarge(rt, alloc, wider, table)?;
-    println!(rt; "enlarge: found {}", account(&mut table))?;
-    table.insert(SECOND)?;
-    println!(rt; "enlarge: found {}", account(&mut table))?;
+    let mut table = enlarge(rt, alloc, wider, table, keys)?;
+    println!(rt; "enlarge: found {}", account(&mut table, keys))?;
+    table.insert(item(1))?;
+    println!(rt; "enlarge: found {}", account(&mut table, keys))?;
     Ok(())
 }
 
 /// Opens a table and a ledger and enlarges each.
 pub(crate) fn call_all(rt: &impl Print, alloc: Global, l: Layout) -> Result<(), End> {
+    let keys = keys(alloc, 2)?;
     let (writer, readers) = open(alloc, l, 0, 2)?;
-    grow(rt, alloc, l, WriterWithReaders { writer, readers })?;
+    grow(rt, alloc, l, WriterWithReaders { writer, readers }, &keys)?;
     let (ledger, readers) = Ledger::open(alloc, l, 0, 2)?;
-    grow(rt, alloc, l, LedgerTable { ledger, readers })
+    grow(rt, alloc, l, LedgerTable { ledger, readers }, &keys)
 }

@@ -1,9 +1,9 @@
 //! `Ledger::open`, `apply` and `change`.
 
 use crate::End;
-use crate::tables::with;
-use crate::updates::{KEYS, key};
-use latch_table::{Reader, Try};
+use crate::tables::with_readers;
+use crate::updates::Work;
+use latch_table::Reader;
 use modules::Catalog;
 use order_laws::{HalfOpen, Refusal};
 use shared_lookup::{Change, Ledger, Open};
@@ -20,17 +20,6 @@ struct LedgerWithReaders<'a> {
     ledger: Ledger,
     readers: Vec<Reader<HalfOpen>>,
     keys: &'a [u64],
-}
-
-/// What the keys lie in, in one number, as a reader finds it.
-fn found_by(reader: &mut Reader<HalfOpen>, keys: &[u64]) -> u64 {
-    let mut sum: u64 = 0;
-    for key in keys {
-        if let Try::Answered(found, generation) = reader.try_find(*key) {
-            sum = with(sum, found, generation);
-        }
-    }
-    sum
 }
 
 /// What an update or a change came to, and what is found after it.
@@ -56,13 +45,8 @@ impl<'a> LedgerWithReaders<'a> {
 
     /// How long the log is and what is found now, in one number.
     fn account(&mut self) -> u64 {
-        let mut sum = self.ledger.log().len() as u64;
-        for reader in &mut self.readers {
-            sum = sum
-                .wrapping_mul(31)
-                .wrapping_add(found_by(reader, self.keys));
-        }
-        sum
+        let entries = self.ledger.log().len() as u64;
+        with_readers(entries, &mut self.readers, self.keys)
     }
 
     /// Makes an update, and once more where memory was refused.
@@ -92,25 +76,10 @@ impl<'a> LedgerWithReaders<'a> {
     }
 }
 
-/// The keys that a table of such a capacity is asked for.
-fn keys(alloc: Global, capacity: u32) -> Result<Vec<u64>, Refusal> {
-    let mut keys = Vec::new(alloc);
-    for place in 0..KEYS {
-        keys.push(key(place, capacity))?;
-    }
-    Ok(keys)
-}
-
 /// Opens a ledger and makes the updates.
-pub(crate) fn call_all(
-    rt: &impl Print,
-    alloc: Global,
-    l: Layout,
-    updates: &[Update],
-) -> Result<(), End> {
-    let keys = keys(alloc, l.capacity())?;
-    let mut table = LedgerWithReaders::open(alloc, l, &keys)?;
-    for update in updates {
+pub(crate) fn call_all(rt: &impl Print, alloc: Global, work: &Work) -> Result<(), End> {
+    let mut table = LedgerWithReaders::open(alloc, work.layout, &work.keys)?;
+    for update in &work.updates {
         table.apply(rt, update)?;
     }
     Ok(())

@@ -26,7 +26,7 @@ use std::io::Print;
 use std::sync::Wait;
 use std::thread::Threads;
 use std::{env, io};
-use word_layout::Layout;
+use updates::Work;
 
 /// What ends the program before its last call: memory was refused for what a call is given, or a
 /// line was not written.
@@ -54,13 +54,12 @@ fn call_all<R: Threads + Wait + Print + Sync>(
     alloc: Global,
     items: u32,
 ) -> Result<(), End> {
-    let layout = Layout::new(items)?;
-    let updates = updates::updates(alloc, items)?;
-    writers::call_all(rt, alloc, layout, &updates)?;
-    worlds::call_all(rt, alloc, layout, &updates)?;
-    tables::call_all(rt, alloc, layout, &updates)?;
-    ledgers::call_all(rt, alloc, layout, &updates)?;
-    growth::call_all(rt, alloc, layout)?;
+    let work = Work::of(alloc, items)?;
+    writers::call_all(rt, alloc, &work)?;
+    worlds::call_all(rt, alloc, &work)?;
+    tables::call_all(rt, alloc, &work)?;
+    ledgers::call_all(rt, alloc, &work)?;
+    growth::call_all(rt, alloc, work.layout)?;
     catalogs::call_all(rt, alloc, items)
 }
 

@@ -3,12 +3,33 @@
 use order_laws::{Item, Refusal};
 use std::alloc::Global;
 use table_updates::{Entries, Update};
+use word_layout::Layout;
+
+/// The layout of each table, and what it goes through.
+#[derive(Drop)]
+pub(crate) struct Work {
+    pub(crate) layout: Layout,
+    pub(crate) updates: Vec<Update>,
+    /// From below all items on to above them, some of them first words.
+    pub(crate) keys: Vec<u64>,
+}
+
+impl Work {
+    /// That of tables of so many items.
+    pub(crate) fn of(alloc: Global, items: u32) -> Result<Work, Refusal> {
+        Ok(Work {
+            layout: Layout::new(items)?,
+            updates: updates(alloc, items)?,
+            keys: keys(alloc, items)?,
+        })
+    }
+}
 
 /// How far the first addresses of two items lie apart.
 pub(crate) const STEP: u64 = 16;
 
 /// The item of this place, which has a tag of its own.
-fn item(place: u32) -> Item {
+pub(crate) fn item(place: u32) -> Item {
     let a = (place as u64 + 1) * STEP;
     Item {
         a,
@@ -33,7 +54,7 @@ fn exchange(alloc: Global, places: u32) -> Result<Update, Refusal> {
 
 /// The items one after another; the first half erased; a batch of what is left, which is refused
 /// while its nodes are not free; and an update that is refused.
-pub(crate) fn updates(alloc: Global, items: u32) -> Result<Vec<Update>, Refusal> {
+fn updates(alloc: Global, items: u32) -> Result<Vec<Update>, Refusal> {
     let mut all = Vec::new(alloc);
     for place in 0..items {
         all.push(Update::Insert(item(place)))?;
@@ -48,14 +69,18 @@ pub(crate) fn updates(alloc: Global, items: u32) -> Result<Vec<Update>, Refusal>
 }
 
 /// How many keys a table is asked for.
-pub(crate) const KEYS: u32 = 67;
+const KEYS: u32 = 67;
 
-/// One of the keys: from below all items on to above them, some of them first words.
-pub(crate) fn key(place: u32, capacity: u32) -> u64 {
-    let item = if capacity < KEYS {
-        place as u64
-    } else {
-        place as u64 * capacity as u64 / 64
-    };
-    item.saturating_mul(STEP)
+/// The keys for a table of so many items.
+pub(crate) fn keys(alloc: Global, items: u32) -> Result<Vec<u64>, Refusal> {
+    let mut keys = Vec::new(alloc);
+    for place in 0..KEYS {
+        let item = if items < KEYS {
+            place as u64
+        } else {
+            place as u64 * items as u64 / 64
+        };
+        keys.push(item.saturating_mul(STEP))?;
+    }
+    Ok(keys)
 }

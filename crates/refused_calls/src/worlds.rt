@@ -1,13 +1,12 @@
 //! `World::open`, `step` and `find_now`; `run` and `drive`.
 
 use crate::End;
-use crate::updates::{KEYS, STEP, key};
-use latch_steps::{Command, Event, Note, Reply, World, drive, run};
+use crate::updates::{STEP, Work};
+use latch_steps::{Command, Event, Note, Reply, Trace, World, drive, run};
 use order_laws::{HalfOpen, Refusal};
 use std::alloc::Global;
 use std::io::{self, Print};
 use table_updates::Update;
-use word_layout::Layout;
 
 /// How many readers have a pending lookup while the updates are made.
 const READERS: u32 = 3;
@@ -91,50 +90,45 @@ fn sum_of(notes: &[Note<u64>]) -> u64 {
 }
 
 /// A world that makes the events one by one, and finds each key after that.
-fn step_all(rt: &impl Print, alloc: Global, l: Layout, events: &[Event<u64>]) -> Result<(), End> {
-    let mut world = match World::<HalfOpen>::open(alloc, l, 0) {
+fn step_all(rt: &impl Print, alloc: Global, work: &Work, events: &[Event<u64>]) -> Result<(), End> {
+    let mut world = match World::<HalfOpen>::open(alloc, work.layout, 0) {
         Ok(world) => world,
-        Err(_) => World::open(alloc, l, 0)?,
+        Err(_) => World::open(alloc, work.layout, 0)?,
     };
     for event in events {
         step(rt, &mut world, event)?;
     }
     world.settle();
-    for place in 0..KEYS {
-        find(rt, &mut world, key(place, l.capacity()))?;
+    for key in &work.keys {
+        find(rt, &mut world, *key)?;
     }
     Ok(())
 }
 
+/// What a trace comes to.
+fn tell(rt: &impl Print, call: &str, trace: &Trace<HalfOpen>) -> io::Result<()> {
+    println!(rt;
+        "{call}: events {} notes {} sum {}",
+        trace.events.len(),
+        trace.notes.len(),
+        sum_of(&trace.notes)
+    )
+}
+
 /// All of them.
-pub(crate) fn call_all(
-    rt: &impl Print,
-    alloc: Global,
-    l: Layout,
-    updates: &[Update],
-) -> Result<(), End> {
-    let events = events(alloc, updates)?;
-    step_all(rt, alloc, l, &events)?;
+pub(crate) fn call_all(rt: &impl Print, alloc: Global, work: &Work) -> Result<(), End> {
+    let l = work.layout;
+    let events = events(alloc, &work.updates)?;
+    step_all(rt, alloc, work, &events)?;
     let trace = match run::<HalfOpen>(alloc, l, 0, &events) {
         Ok(trace) => trace,
         Err(_) => run(alloc, l, 0, &events)?,
     };
-    println!(rt;
-        "run: events {} notes {} sum {}",
-        trace.events.len(),
-        trace.notes.len(),
-        sum_of(&trace.notes)
-    )?;
-    let commands = commands(alloc, updates)?;
+    tell(rt, "run", &trace)?;
+    let commands = commands(alloc, &work.updates)?;
     let trace = match drive::<HalfOpen>(alloc, l, 0, &commands) {
         Ok(trace) => trace,
         Err(_) => drive(alloc, l, 0, &commands)?,
     };
-    println!(rt;
-        "drive: events {} notes {} sum {}",
-        trace.events.len(),
-        trace.notes.len(),
-        sum_of(&trace.notes)
-    )?;
-    Ok(())
+    Ok(tell(rt, "drive", &trace)?)
 }

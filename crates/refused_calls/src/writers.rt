@@ -1,13 +1,12 @@
 //! `WriterCore::open` and `begin`.
 
 use crate::End;
-use crate::updates::{KEYS, key};
+use crate::updates::Work;
 use latch_core::WriterCore;
 use order_laws::{HalfOpen, Refusal};
 use std::alloc::Global;
 use std::io::{self, Print};
 use table_updates::Update;
-use word_layout::Layout;
 
 /// What a writer returns when it is asked.
 #[derive(Clone, Copy, PartialEq, Eq)]
@@ -19,11 +18,10 @@ struct WriterState {
 }
 
 impl WriterState {
-    fn of(writer: &WriterCore<HalfOpen>) -> WriterState {
+    fn of(writer: &WriterCore<HalfOpen>, keys: &[u64]) -> WriterState {
         let mut held: u64 = 0;
-        for place in 0..KEYS {
-            let is_held = writer.holds(key(place, writer.layout().capacity()));
-            held = held.wrapping_mul(3).wrapping_add(is_held as u64);
+        for key in keys {
+            held = held.wrapping_mul(3).wrapping_add(writer.holds(*key) as u64);
         }
         WriterState {
             generation: writer.generation(),
@@ -45,12 +43,13 @@ fn finish(writer: &mut WriterCore<HalfOpen>) {
 fn carry_out(
     rt: &impl Print,
     writer: &mut WriterCore<HalfOpen>,
+    keys: &[u64],
     update: &Update,
 ) -> io::Result<()> {
-    let before = WriterState::of(writer);
+    let before = WriterState::of(writer, keys);
     let mut begun = writer.begin_from(update);
     if begun == Err(Refusal::OutOfMemory) {
-        if WriterState::of(writer) != before {
+        if WriterState::of(writer, keys) != before {
             println!(rt; "begin: changed by a refusal")?;
         }
         begun = writer.begin_from(update);
@@ -65,23 +64,18 @@ fn carry_out(
 }
 
 /// Opens a writer and carries the updates out.
-pub(crate) fn call_all(
-    rt: &impl Print,
-    alloc: Global,
-    l: Layout,
-    updates: &[Update],
-) -> Result<(), End> {
-    let mut writer = match WriterCore::<HalfOpen>::open(alloc, l, 0) {
+pub(crate) fn call_all(rt: &impl Print, alloc: Global, work: &Work) -> Result<(), End> {
+    let mut writer = match WriterCore::<HalfOpen>::open(alloc, work.layout, 0) {
         Ok(writer) => writer,
-        Err(_) => WriterCore::open(alloc, l, 0)?,
+        Err(_) => WriterCore::open(alloc, work.layout, 0)?,
     };
-    for update in updates {
-        carry_out(rt, &mut writer, update)?;
+    for update in &work.updates {
+        carry_out(rt, &mut writer, &work.keys, update)?;
     }
     println!(rt;
         "writer: generation {} held {}",
         writer.generation(),
-        WriterState::of(&writer).held
+        WriterState::of(&writer, &work.keys).held
     )?;
     Ok(())
 }
