@@ -2,8 +2,8 @@
 //! in modules and listed there in no order; and the look for the symbols of addresses in them.
 
 use crate::faults::MeasureFault;
-use crate::listings::tell;
-use modules::{Asked, Catalog, Held, KernelBounds, ModuleLine, SymbolLine, SymbolLines, symbol_of};
+use crate::listings::{build, tell};
+use modules::{Catalog, Held, ModuleLine, SymbolLine, SymbolLines, symbol_of};
 use order_laws::Item;
 use std::alloc::{AllocError, Global};
 use std::io::{Eprint, Print};
@@ -166,16 +166,7 @@ pub fn build_and_look_up<R: Print + Eprint + Clock>(
         eprintln!(rt; "a module has no region")?;
         return Ok(());
     }
-    let start = Instant::now(rt)?;
-    let (catalog, counts) = Catalog::build(
-        alloc,
-        Some(&KernelBounds::usual()),
-        &module_lines,
-        &[],
-        symbol_lines,
-        Asked::Any,
-    )?;
-    tell(rt, "build", &start)?;
+    let (catalog, counts) = build(rt, alloc, &module_lines, symbol_lines)?;
     let items = items(alloc, &catalog, modules)?;
     let start = Instant::now(rt)?;
     let (found, sizes) = look_up_all(&catalog, &items, lookups);

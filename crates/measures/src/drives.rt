@@ -6,8 +6,8 @@
 ghost use Rattle.std.specs.Prelude.{◌<◌};
 
 use crate::faults::MeasureFault;
-use latch_steps::{Command, Trace, drive};
-use order_laws::{HalfOpen, Item, Refusal};
+use latch_steps::{Command, drive};
+use order_laws::{HalfOpen, Item};
 use std::alloc::{AllocError, Global};
 use std::io::Print;
 use table_updates::Update;
@@ -57,24 +57,18 @@ fn commands(alloc: Global, items: u32, rounds: u32) -> Result<Vec<Command<u64>>,
     Ok(commands)
 }
 
-/// Drives the step machine through the rounds.
-fn rounds(alloc: Global, items: u32, rounds: u32) -> Result<Trace<HalfOpen>, Refusal> {
-    let layout = Layout::new(items)?;
-    let commands = commands(alloc, items, rounds)?;
-    drive::<HalfOpen>(alloc, layout, 0, &commands)
-}
-
-/// Drives so many rounds over so many ranges, and writes one line.
+/// Drives the step machine through so many rounds over so many ranges, and writes one line.
 pub fn count_events<R: Print + AllocGlobal>(
     rt: &R,
     items: u32,
-    count: u32,
+    rounds: u32,
 ) -> Result<(), MeasureFault> {
-    let trace = rounds(rt.alloc(), items, count)?;
+    let layout = Layout::new(items)?;
+    let commands = commands(rt.alloc(), items, rounds)?;
+    let trace = drive::<HalfOpen>(rt.alloc(), layout, 0, &commands)?;
+    let (events, notes) = (trace.events.len(), trace.notes.len());
     println!(rt;
-        "items {items} rounds {count} events {} notes {} sequence {}",
-        trace.events.len(),
-        trace.notes.len(),
+        "items {items} rounds {rounds} events {events} notes {notes} sequence {}",
         trace.sequence
     )?;
     Ok(())

@@ -1,8 +1,11 @@
 //! Two listings that are read from files, cut into lines and built into a catalog.
 
+ghost use Rattle.std.specs.Prelude.{◌≡◌, true, All};
+ghost use Rattle.modules.specs.Lines.{fits};
+
 use crate::faults::MeasureFault;
 use listing::{Cause, Counts, SkippedModule, SkippedSymbol, read_kallsyms, read_modules};
-use modules::{Asked, Catalog, KernelBounds};
+use modules::{Asked, BuildCounts, Catalog, KernelBounds, ModuleLine, SymbolLines};
 use std::alloc::Global;
 use std::io::{Eprint, Print};
 use std::time::{Clock, Instant};
@@ -27,8 +30,24 @@ fn print_causes<R: Print, C: Cause<N>, const N: usize>(
     Ok(())
 }
 
+/// Builds the catalog of these lines, and tells how long that took.
+pub fn build<'a, R: Eprint + Clock>(
+    rt: &R,
+    alloc: Global,
+    modules: &[ModuleLine<'a>],
+    symbols: SymbolLines<'a>,
+) -> Result<(Catalog<'a>, BuildCounts), MeasureFault>
+    requires { All (λ l. fits l ≡ true) modules.now }
+{
+    let start = Instant::now(rt)?;
+    let names = KernelBounds::usual();
+    let built = Catalog::build(alloc, Some(&names), modules, &[], symbols, Asked::Any)?;
+    tell(rt, "build", &start)?;
+    Ok(built)
+}
+
 /// Cuts the listings into lines, builds their catalog, and writes two lines.
-fn build<R: Print + Eprint + Clock>(
+fn count_lines<R: Print + Eprint + Clock>(
     rt: &R,
     alloc: Global,
     modules: &[u8],
@@ -38,16 +57,7 @@ fn build<R: Print + Eprint + Clock>(
     let (modules, skipped_modules) = read_modules(alloc, modules)?;
     let symbols = read_kallsyms(alloc, kallsyms, true)?;
     tell(rt, "lines", &start)?;
-    let start = Instant::now(rt)?;
-    let (_, counts) = Catalog::build(
-        alloc,
-        Some(&KernelBounds::usual()),
-        &modules,
-        &[],
-        symbols.lines,
-        Asked::Any,
-    )?;
-    tell(rt, "build", &start)?;
+    let (_, counts) = build(rt, alloc, &modules, symbols.lines)?;
     let (of_content, of_form) = SkippedModule::all().split_at(SkippedModule::Long.place());
     print!(rt; "modules {}", counts.modules)?;
     print_causes(rt, of_content, &skipped_modules)?;
@@ -79,5 +89,5 @@ pub fn read_and_build(rt: &HostRuntime, modules: &str, kallsyms: &str) -> Result
     let modules = text_of(rt, modules)?;
     let kallsyms = text_of(rt, kallsyms)?;
     tell(rt, "read", &start)?;
-    build(rt, rt.alloc(), &modules, &kallsyms)
+    count_lines(rt, rt.alloc(), &modules, &kallsyms)
 }

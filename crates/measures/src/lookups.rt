@@ -62,86 +62,104 @@ fn find(reader: &mut Reader<HalfOpen>, address: u64) -> Option<Item> {
     None
 }
 
-/// Looks so many random addresses of the slots up.
-pub fn look_up(
+/// How the next address is drawn.
+trait Drawing: Drop {
+    /// The next address of so many slots.
+    fn address(&mut self, numbers: &mut Random, slots: u32) -> u64
+        requires { 0 < slots };
+
+    /// Keeps what was found there.
+    fn keep(&mut self, answer: Option<Item>);
+}
+
+/// Anywhere in the slots.
+#[derive(Drop)]
+struct Uniform;
+
+impl Drawing for Uniform {
+    #[inline(always)]
+    fn address(&mut self, numbers: &mut Random, slots: u32) -> u64 {
+        numbers.address(slots, 0)
+    }
+
+    #[inline(always)]
+    fn keep(&mut self, _answer: Option<Item>) {}
+}
+
+/// From the tag that was found last.
+#[derive(Drop)]
+struct Chained {
+    tag: u64,
+}
+
+impl Drawing for Chained {
+    #[inline(always)]
+    fn address(&mut self, numbers: &mut Random, slots: u32) -> u64 {
+        numbers.address(slots, self.tag)
+    }
+
+    #[inline(always)]
+    fn keep(&mut self, answer: Option<Item>) {
+        self.tag = match answer {
+            Some(item) => item.tag,
+            None => 0,
+        };
+    }
+}
+
+/// Nine in ten in the range that was found last.
+#[derive(Drop)]
+struct Recent {
+    start: u64,
+}
+
+impl Drawing for Recent {
+    #[inline(always)]
+    fn address(&mut self, numbers: &mut Random, slots: u32) -> u64 {
+        let drawn = numbers.address(slots, 0);
+        if drawn % 10 == 0 || self.start == 0 {
+            drawn
+        } else {
+            self.start.wrapping_add(drawn % LENGTH)
+        }
+    }
+
+    #[inline(always)]
+    fn keep(&mut self, answer: Option<Item>) {
+        if let Some(item) = answer {
+            self.start = item.a;
+        }
+    }
+}
+
+/// Looks so many addresses up, where what was found may tell where the next one lies. Returns how
+/// many lay in a range, and the sum of the tags.
+#[inline(always)]
+fn look_up_by<D: Drawing>(
+    mut drawing: D,
     reader: &mut Reader<HalfOpen>,
     random: &mut Random,
     slots: u32,
     count: u64,
-    tally: &mut LookupCounts,
-)
+) -> (u64, u64)
     requires { 0 < slots }
 {
     // In locals, since an atomic step makes all else be read from memory again.
     let mut numbers = random.split();
-    let mut found: u64 = 0;
-    let mut tags: u64 = 0;
+    let (mut found, mut tags): (u64, u64) = (0, 0);
     for _ in 0..count {
-        if let Some(item) = find(reader, numbers.address(slots, 0)) {
+        let answer = find(reader, drawing.address(&mut numbers, slots));
+        if let Some(item) = answer {
             found = found.wrapping_add(1);
             tags = tags.wrapping_add(item.tag);
         }
+        drawing.keep(answer);
     }
-    tally.add(count, found, tags);
-}
-
-/// The same, where each address depends on the answer before.
-fn look_up_chain(
-    reader: &mut Reader<HalfOpen>,
-    random: &mut Random,
-    slots: u32,
-    count: u64,
-    tally: &mut LookupCounts,
-)
-    requires { 0 < slots }
-{
-    let mut numbers = random.split();
-    let (mut found, mut tags): (u64, u64) = (0, 0);
-    let mut tag: u64 = 0;
-    for _ in 0..count {
-        tag = match find(reader, numbers.address(slots, tag)) {
-            Some(item) => {
-                found = found.wrapping_add(1);
-                item.tag
-            }
-            None => 0,
-        };
-        tags = tags.wrapping_add(tag);
-    }
-    tally.add(count, found, tags);
-}
-
-/// The same, where nine in ten addresses lie in the range that was found last.
-fn look_up_recent(
-    reader: &mut Reader<HalfOpen>,
-    random: &mut Random,
-    slots: u32,
-    count: u64,
-    tally: &mut LookupCounts,
-)
-    requires { 0 < slots }
-{
-    let mut numbers = random.split();
-    let (mut found, mut tags): (u64, u64) = (0, 0);
-    let mut last: u64 = 0;
-    for _ in 0..count {
-        let drawn = numbers.address(slots, 0);
-        let address = if drawn % 10 == 0 || last == 0 {
-            drawn
-        } else {
-            last.wrapping_add(drawn % LENGTH)
-        };
-        if let Some(item) = find(reader, address) {
-            found = found.wrapping_add(1);
-            tags = tags.wrapping_add(item.tag);
-            last = item.a;
-        }
-    }
-    tally.add(count, found, tags);
+    (found, tags)
 }
 
 /// Looks so many addresses up that are drawn so.
-pub fn look_up_drawn(
+pub fn look_up(
     addressing: Addressing,
     reader: &mut Reader<HalfOpen>,
     random: &mut Random,
@@ -151,9 +169,10 @@ pub fn look_up_drawn(
 )
     requires { 0 < slots }
 {
-    match addressing {
-        Addressing::Uniform => look_up(reader, random, slots, count, tally),
-        Addressing::Chained => look_up_chain(reader, random, slots, count, tally),
-        Addressing::Recent => look_up_recent(reader, random, slots, count, tally),
-    }
+    let (found, tags) = match addressing {
+        Addressing::Uniform => look_up_by(Uniform, reader, random, slots, count),
+        Addressing::Chained => look_up_by(Chained { tag: 0 }, reader, random, slots, count),
+        Addressing::Recent => look_up_by(Recent { start: 0 }, reader, random, slots, count),
+    };
+    tally.add(count, found, tags);
 }

@@ -5,7 +5,7 @@ ghost use Rattle.word_layout.specs.Limits.{most_nodes};
 
 use crate::faults::MeasureFault;
 use crate::jobs::Writing;
-use crate::lookups::{Addressing, LookupCounts, look_up, look_up_drawn};
+use crate::lookups::{Addressing, LookupCounts, look_up};
 use crate::tables::{Measured, exchange, prepare};
 use crate::updates::{Written, write};
 use latch_table::Reader;
@@ -41,7 +41,7 @@ pub fn count_lookups<R: Print + Files + AllocGlobal>(
     let mut table = prepare(rt, items, 1)?;
     let mut tally = LookupCounts::new();
     for reader in &mut table.readers {
-        look_up_drawn(
+        look_up(
             addressing,
             reader,
             &mut Random::from_seed(SEED),
@@ -100,7 +100,7 @@ fn look_up_alone<R: Clock>(
     let mut random = Random::from_seed(SEED);
     let start = Instant::now(rt)?;
     for _ in 0..u64::MAX {
-        look_up_drawn(
+        look_up(
             addressing,
             reader,
             &mut random,
@@ -164,7 +164,14 @@ fn read<R: Clock>(
         if stop.load(Ordering::SeqCst) {
             break;
         }
-        look_up(reader, &mut random, items, BLOCK, &mut tally);
+        look_up(
+            Addressing::Uniform,
+            reader,
+            &mut random,
+            items,
+            BLOCK,
+            &mut tally,
+        );
     }
     tally.time = start.elapsed(rt)?;
     Ok(tally)

@@ -24,7 +24,7 @@ const PAIRS: u64 = 64;
 /// More items than this make a table large.
 const LARGE: usize = 10000;
 
-/// The microseconds of a pair of updates of a paced writer.
+/// The microseconds of a pair of updates of a paced writer; that of a steady one is due at once.
 const PACE: u64 = 200;
 
 /// How many updates were made, and in which time.
@@ -45,64 +45,20 @@ pub fn write<R: Clock>(
     requires some { 0 < length ranges.now }
     requires few { length ranges.now ≤ most_nodes }
 {
-    match writing {
+    let (pairs, pace) = match writing {
         Writing::Nothing => {
             sleep(rt, time);
-            Ok(Written { updates: 0, time })
+            return Ok(Written { updates: 0, time });
         }
-        Writing::Steady => write_steadily(rt, writer, ranges, time),
-        Writing::Paced => write_paced(rt, writer, ranges, time),
-    }
-}
-
-/// Makes updates without a rest.
-fn write_steadily<R: Clock>(
-    rt: &R,
-    writer: &mut Writer<HalfOpen>,
-    ranges: &[Item],
-    time: Duration,
-) -> Result<Written, MeasureFault>
-    requires some { 0 < length ranges.now }
-    requires few { length ranges.now ≤ most_nodes }
-{
-    let pairs = if ranges.len() > LARGE {
-        PAIRS_IF_LARGE
-    } else {
-        PAIRS
+        Writing::Steady if ranges.len() > LARGE => (PAIRS_IF_LARGE, Duration::ZERO),
+        Writing::Steady => (PAIRS, Duration::ZERO),
+        Writing::Paced => (1, Duration::from_micros(PACE)),
     };
     let mut random = Random::from_seed(SEED);
     let mut written = Written {
         updates: 0,
         time: Duration::ZERO,
     };
-    let start = Instant::now(rt)?;
-    for _ in 0..u64::MAX {
-        exchange(writer, ranges, &mut random, pairs)?;
-        written.updates = written.updates.saturating_add(2 * pairs);
-        written.time = start.elapsed(rt)?;
-        if written.time >= time {
-            break;
-        }
-    }
-    Ok(written)
-}
-
-/// Makes a pair of updates, and waits until its time is over, again and again.
-fn write_paced<R: Clock>(
-    rt: &R,
-    writer: &mut Writer<HalfOpen>,
-    ranges: &[Item],
-    time: Duration,
-) -> Result<Written, MeasureFault>
-    requires some { 0 < length ranges.now }
-    requires few { length ranges.now ≤ most_nodes }
-{
-    let mut random = Random::from_seed(SEED);
-    let mut written = Written {
-        updates: 0,
-        time: Duration::ZERO,
-    };
-    let pace = Duration::from_micros(PACE);
     let mut due = pace;
     let start = Instant::now(rt)?;
     for _ in 0..u64::MAX {
@@ -110,8 +66,8 @@ fn write_paced<R: Clock>(
             break;
         }
         if written.time >= due || written.updates == 0 {
-            exchange(writer, ranges, &mut random, 1)?;
-            written.updates = written.updates.saturating_add(2);
+            exchange(writer, ranges, &mut random, pairs)?;
+            written.updates = written.updates.saturating_add(pairs.saturating_mul(2));
             due = due.saturating_add(pace);
         }
         written.time = start.elapsed(rt)?;
