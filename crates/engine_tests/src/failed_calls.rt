@@ -184,22 +184,17 @@ fn are_reads_told<T: Threads + Wait + Sync>(
 
 #[test]
 fn each_failed_read_is_told_by_its_place(rt: HostRuntime) {
-    for (command, place) in [
-        (Command::Trace, 0),
-        (Command::Steps, 0),
-        (Command::Lookup, 0),
-        (Command::Lookup, 1),
-        (Command::Lookup, 2),
-        (Command::Lookup, 3),
-        (Command::SymbolLookup, 1),
-        (Command::SymbolLookup, 3),
-        (Command::Run, 0),
-        (Command::Run, 1),
-        (Command::Run, 2),
-        (Command::Run, 3),
+    for (command, files) in [
+        (Command::Trace, [0].as_slice()),
+        (Command::Steps, &[0]),
+        (Command::Lookup, &[0, 1, 2, 3]),
+        (Command::SymbolLookup, &[1, 3]),
+        (Command::Run, &[0, 1, 2, 3]),
     ] {
-        let told = are_reads_told(&rt, rt.alloc(), command, place);
-        assert!(rt; told, "file {place}");
+        for place in files {
+            let told = are_reads_told(&rt, rt.alloc(), command, *place);
+            assert!(rt; told, "file {place}");
+        }
     }
 }
 
