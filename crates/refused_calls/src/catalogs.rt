@@ -1,11 +1,12 @@
-//! `Catalog::build` and `load`, and `Ledger::change` and `serve` by that catalog.
+//! `Catalog::build` and `load`, and `Ledger::change`, `serve` and `Follower::show` by that catalog.
 
 ghost use Rattle.std.specs.Prelude.{◌≡◌, true, All};
 ghost use Rattle.modules.specs.Lines.{fits, region_fits};
 
-use crate::{End, ledgers, servings};
+use crate::{End, followers, ledgers, servings};
 use modules::{
-    Asked, Catalog, Held, KernelBounds, ModuleLine, Part, RegionLine, SymbolLine, SymbolLines,
+    Asked, Catalog, Held, IndexedCatalog, KernelBounds, ModuleLine, Part, RegionLine, SymbolLine,
+    SymbolLines,
 };
 use order_laws::Refusal;
 use std::alloc::Global;
@@ -60,11 +61,11 @@ fn regions() -> [RegionLine<'static>; 2] {
 
 /// The catalog with so many symbols, built once more where memory was refused, the update that
 /// loads its module, and the changes of a ledger.
-fn build<R: Threads + Wait + Print + Sync>(
+fn build<'a, R: Threads + Wait + Print + Sync>(
     rt: &R,
     alloc: Global,
-    modules: &[ModuleLine<'_>],
-    regions: &[RegionLine<'_>],
+    modules: &[ModuleLine<'a>],
+    regions: &[RegionLine<'a>],
     count: u32,
 ) -> Result<(), End>
     requires fit { All (λ l. fits l ≡ true) modules.now }
@@ -100,7 +101,41 @@ fn build<R: Threads + Wait + Print + Sync>(
     };
     println!(rt; "load: {:?}", loaded)?;
     ledgers::change_all(rt, alloc, &catalog, &[CORE, INIT])?;
-    servings::call_all(rt, alloc, &catalog, CORE)
+    servings::call_all(rt, alloc, &catalog, CORE)?;
+    followers::show_all(rt, alloc, indexed_thrice(alloc, modules, regions, count)?)
+}
+
+/// The catalog with so many symbols three times.
+fn indexed_thrice<'a>(
+    alloc: Global,
+    modules: &[ModuleLine<'a>],
+    regions: &[RegionLine<'a>],
+    count: u32,
+) -> Result<Vec<IndexedCatalog<'a>>, Refusal>
+    requires fit { All (λ l. fits l ≡ true) modules.now }
+    requires regions_fit { All (λ l. region_fits l ≡ true) regions.now }
+{
+    let mut catalogs = Vec::new(alloc);
+    for _catalog in 0..3 {
+        catalogs.push(indexed(alloc, modules, regions, count)?)?;
+    }
+    Ok(catalogs)
+}
+
+/// The catalog with so many symbols, with its regions by rising first address.
+fn indexed<'a>(
+    alloc: Global,
+    modules: &[ModuleLine<'a>],
+    regions: &[RegionLine<'a>],
+    count: u32,
+) -> Result<IndexedCatalog<'a>, Refusal>
+    requires fit { All (λ l. fits l ≡ true) modules.now }
+    requires regions_fit { All (λ l. region_fits l ≡ true) regions.now }
+{
+    let lines = symbols(alloc, count)?;
+    let names = KernelBounds::usual();
+    let (catalog, _) = Catalog::build(alloc, Some(&names), modules, regions, lines, Asked::Any)?;
+    Ok(IndexedCatalog::new(alloc, catalog)?)
 }
 
 /// Builds a catalog of so many symbols.

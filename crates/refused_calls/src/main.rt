@@ -12,6 +12,7 @@
 #![tactic(auto)]
 
 mod catalogs;
+mod followers;
 mod growth;
 mod ledgers;
 mod servings;

@@ -43,7 +43,10 @@ fn answers_and_their_names(rt: HostRuntime) -> Result<(), Fail> {
     assert_eq!(rt; follower.show(&Open, 0, large), Err(Refusal::Full));
     let named = [0, 1, 2, 3, 4, 9].map(|generation| name_at(&follower, generation));
     let [ext4, xfs, nfs]: [&[u8]; 3] = [b"ext4", b"xfs", b"nfs"];
-    assert_eq!(rt; named, [None, Some(ext4), Some(xfs), None, Some(nfs), Some(nfs)]);
+    assert_eq!(rt;
+        named,
+        [None, Some(ext4), Some(xfs), None, Some(nfs), Some(nfs)]
+    );
     follower.forget_below(3);
     let left = [1, 2, 3, 4].map(|generation| follower.catalog_at(generation).is_some());
     assert_eq!(rt; left, [false, false, true, true]);
