@@ -6,27 +6,18 @@ loop-command-init g c = way_begun g.O.TreeOrder.order _ _ _
 
 pub loop-command-preserved-in_ok-gather_command : goal.loop-command-preserved-in_ok-gather_command
 loop-command-preserved-in_ok-gather_command g c =
-    way_on g.O.TreeOrder.order c.args.lines.now.said c.args.driver.now c.args.text.now.items c.loop-command.lines.said
-    c.loop-command.driver c.loop-command.text.items c.loop-command.invariant c.in-Some.command
-    c.next_command.new.lines.said c.gather_command.new.driver c.gather_command.new.text.items
-    (taken c.loop-command.lines c.next_command.new.lines c.in_ok-command.field-0 c.in-Some.command c.in-Some.is c.in_ok-command.ensures.next)
-    c.in_ok-gather_command.ensures.gathered
+    way_on g.O.TreeOrder.order _ _ _ _ _ _ c.loop-command.invariant _ _ _ _
+    (taken _ _ _ _ c.in-Some.is c.in_ok-command.ensures.next) c.in_ok-gather_command.ensures.gathered
 
 pub loop-command-preserved-in_ok-gather_command-2 : goal.loop-command-preserved-in_ok-gather_command-2
 loop-command-preserved-in_ok-gather_command-2 g c =
-    way_on g.O.TreeOrder.order c.args.lines.now.said c.args.driver.now c.args.text.now.items c.loop-command.lines.said
-    c.loop-command.driver c.loop-command.text.items c.loop-command.invariant c.in-Some.command
-    c.next_command.new.lines.said c.gather_command.new.driver c.gather_command.new.text.items
-    (taken c.loop-command.lines c.next_command.new.lines c.in_ok-command.field-0 c.in-Some.command c.in-Some.is c.in_ok-command.ensures.next)
-    c.in_ok-gather_command.ensures.gathered
+    way_on g.O.TreeOrder.order _ _ _ _ _ _ c.loop-command.invariant _ _ _ _
+    (taken _ _ _ _ c.in-Some.is c.in_ok-command.ensures.next) c.in_ok-gather_command.ensures.gathered
 
 pub loop-command-preserved : goal.loop-command-preserved
 loop-command-preserved g c =
-    way_on g.O.TreeOrder.order c.args.lines.now.said c.args.driver.now c.args.text.now.items c.loop-command.lines.said
-    c.loop-command.driver c.loop-command.text.items c.loop-command.invariant c.in-Some.command
-    c.next_command.new.lines.said c.gather_command.new.driver c.gather_command.new.text.items
-    (taken c.loop-command.lines c.next_command.new.lines c.in_ok-command.field-0 c.in-Some.command c.in-Some.is c.in_ok-command.ensures.next)
-    c.in_ok-gather_command.ensures.gathered
+    way_on g.O.TreeOrder.order _ _ _ _ _ _ c.loop-command.invariant _ _ _ _
+    (taken _ _ _ _ c.in-Some.is c.in_ok-command.ensures.next) c.in_ok-gather_command.ensures.gathered
 
 pub returns-clause-gathered : goal.returns-clause-gathered
 returns-clause-gathered g c =

@@ -15,28 +15,19 @@ returns-in_err-open c = ap told c.from_residual.ensures ∙ sym (ap parted_by (n
 
 pub returns-in_err-name : goal.returns-in_err-name
 returns-in_err-name c =
-    let word = c.args.word.now in
-    let open' = c.in_ok-open.open in
-    let (last, found) = c.in_ok-open.ensures in
     ap told c.from_residual-in_err-name.ensures
-    ∙ ap (both (without_last 93 (drop (open' + 1) word))) c.in_err-name.ensures
-    ∙ sym (ap parted_by (last_here 91 word open' last.high found last.after))
+    ∙ ap (both (without_last 93 (drop (c.in_ok-open.open + 1) c.args.word.now))) c.in_err-name.ensures
+    ∙ sym (ap parted_by (last_here 91 c.args.word.now c.in_ok-open.open c.in_ok-open.ensures.0.high c.in_ok-open.ensures.1 c.in_ok-open.ensures.0.after))
 
 pub returns-in_err-owner : goal.returns-in_err-owner
 returns-in_err-owner c =
-    let word = c.args.word.now in
-    let open' = c.in_ok-open.open in
-    let (last, found) = c.in_ok-open.ensures in
     ap told c.from_residual-in_err-owner.ensures
-    ∙ ap (λ o. both o (Some c.in_ok-name.name.now)) (c.in_err-owner.ensures ∙ ap (without_last 93) (take_rest word (open' + 1)))
-    ∙ ap (both (without_last 93 (drop (open' + 1) word))) c.in_ok-name.ensures
-    ∙ sym (ap parted_by (last_here 91 word open' last.high found last.after))
+    ∙ ap (λ o. both o (Some c.in_ok-name.name.now)) (c.in_err-owner.ensures ∙ ap (without_last 93) (take_rest c.args.word.now (c.in_ok-open.open + 1)))
+    ∙ ap (both (without_last 93 (drop (c.in_ok-open.open + 1) c.args.word.now))) c.in_ok-name.ensures
+    ∙ sym (ap parted_by (last_here 91 c.args.word.now c.in_ok-open.open c.in_ok-open.ensures.0.high c.in_ok-open.ensures.1 c.in_ok-open.ensures.0.after))
 
 pub returns : goal.returns
 returns c =
-    let word = c.args.word.now in
-    let open' = c.in_ok-open.open in
-    let (last, found) = c.in_ok-open.ensures in
-    ap (λ o. both o (Some c.in_ok-name.name.now)) (c.in_ok-owner.ensures ∙ ap (without_last 93) (take_rest word (open' + 1)))
-    ∙ ap (both (without_last 93 (drop (open' + 1) word))) c.in_ok-name.ensures
-    ∙ sym (ap parted_by (last_here 91 word open' last.high found last.after))
+    ap (λ o. both o (Some c.in_ok-name.name.now)) (c.in_ok-owner.ensures ∙ ap (without_last 93) (take_rest c.args.word.now (c.in_ok-open.open + 1)))
+    ∙ ap (both (without_last 93 (drop (c.in_ok-open.open + 1) c.args.word.now))) c.in_ok-name.ensures
+    ∙ sym (ap parted_by (last_here 91 c.args.word.now c.in_ok-open.open c.in_ok-open.ensures.0.high c.in_ok-open.ensures.1 c.in_ok-open.ensures.0.after))

@@ -4,13 +4,12 @@ use Rattle.latchsym.proofs.jobs.do_address.Goals as goal
 pub returns : goal.returns
 returns g c =
     let remaining = g.R.Read.remaining in
-    let a = c.args in
-    let r = a.readers.now in
+    let r = c.args.readers.now in
     let known = known_given remaining remaining remaining r in
-    let form = a.address.now.form in
+    let form = c.args.address.now.form in
     let done = c.address_engine-done in (
       done.result,
-      subst (λ k. AnswersListings g.W.Write.contents (IsAddressed form k (map (λ n. n.now) a.address.now.names.items)) known (listing_failures r done.new.readers) a.writer.now done.new.writer done.result) c.as_ref-kernel.ensures.value
-          (subst (λ names. AnswersListings g.W.Write.contents (IsAddressed form (option_copied c.as_ref-kernel.result) (map (λ n. n.now) names)) known (listing_failures r done.new.readers) a.writer.now done.new.writer done.result) c.deref.ensures.value done.ensures),
+      subst (λ k. AnswersListings g.W.Write.contents (IsAddressed form k (map (λ n. n.now) c.args.address.now.names.items)) known (listing_failures r done.new.readers) c.args.writer.now done.new.writer done.result) c.as_ref-kernel.ensures.value
+          (subst (λ names. AnswersListings g.W.Write.contents (IsAddressed form (option_copied c.as_ref-kernel.result) (map (λ n. n.now) names)) known (listing_failures r done.new.readers) c.args.writer.now done.new.writer done.result) c.deref.ensures.value done.ensures),
       c.with_status.ensures,
     )
