@@ -1,73 +1,34 @@
--- Lines of events from their parts.
-use Rattle.std.proofs.Common.{◌≡◌, ◌∙◌, ℕ, ◌-◌, ◌≤◌, List, [], ◌∷◌, ◌++◌, length, take, drop, get_or, flat_map, Option, Some, codes, append_assoc, append-nil, ap, sym, arith}
+-- The lines of the steps of a trace from their parts: for put_event, put_begun and put_list of step_texts.
+use Rattle.std.proofs.Common.{◌≡◌, ◌∙◌, ℕ, ◌-◌, ◌≤◌, List, [], ◌∷◌, ◌++◌, length, take, drop, get_or, flat_map, Option, codes, append_assoc, ap, sym, arith}
 use Rattle.std.proofs.lemmas.List.{take_rest}
 use Rattle.order_laws.specs.declared.refusals.Refusal.{Refusal}
 use Rattle.table_updates.specs.declared.updates.Update.{Update}
-use Rattle.std.proofs.lemmas.Grind.{common_steps}
 use Rattle.latch_steps.specs.declared.events.Event.{Event}
 use Rattle.latch_steps.specs.declared.replies.NextLoad.{NextLoad}
 use Rattle.latch_steps.specs.declared.replies.Reply.{Reply}
 use Rattle.latch_steps.specs.declared.replies.Reply.TheVariants.{Refused}
-use Rattle.engines.specs.EventLines.{IsInFront, event_line, line_end, load_middle}
-use Rattle.engines.specs.Json.{json_number}
 use Rattle.engines.specs.JsonTexts.{json_count}
 use Rattle.engines.specs.LineRooms.{IsPutBefore}
-use Rattle.engines.specs.StepTexts.{begun_members, done_members, event_text, json_list, plain_load_members, refused_member, update_members}
+use Rattle.engines.specs.StepTexts.{begun_members, done_members, event_text, json_list, line_end, refused_member, update_members}
 
-pub front_one : {old new : List ℕ} (text : List ℕ) → new ≡ text ++ old → IsInFront old new
-front_one text p = (text, p)
+-- what stands before what an event did
+abbrev pub line_start : ℕ → ℕ → List ℕ
+line_start number line = json_count (codes "{\"event\":") number ++ json_count (codes ",\"line\":") line ++ codes ",\"kind\":"
 
--- what is in front of what is in front
-pub front_all : {old mid new : List ℕ} → IsInFront old mid → IsInFront mid new → IsInFront old new
-front_all {old} {mid} {new} (x, p) (y, q) = (y ++ x, q ∙ ap (λ t. y ++ t) p ∙ sym (append_assoc y x old))
+module _ (number line sequence : ℕ) (load : Option (NextLoad ℕ)) (e f : Event ℕ) (reply : Reply ℕ) (same : e ≡ f) where
+  -- the line of an event: its start, what was done and its end
+  pub line_told : (end : List ℕ) → end ≡ line_end sequence → line_start number line ++ done_members load f reply ++ end ≡ event_text number line load e reply sequence
+  unfolding event_text
+  line_told end ends =
+      ap (λ t. line_start number line ++ done_members load f reply ++ t) ends
+      ∙ ap (λ x. line_start number line ++ done_members load x reply ++ line_end sequence) (sym same)
 
-pub front_on : {old mid new : List ℕ} (text : List ℕ) → IsInFront old mid → new ≡ text ++ mid → IsInFront old new
-front_on text h p = front_all h (text, p)
-
-pub front_put : {old mid new text : List ℕ} {most : ℕ} → IsInFront old mid → IsPutBefore mid new most text → IsInFront old new
-front_put {text = text} h p = front_on text h p.line
-
--- the start of a line, and behind it what was done and the end, put together from the end
-pub whole_line : (number line sequence : ℕ) {done end behind : List ℕ} {most : ℕ} → end ≡ line_end sequence → IsPutBefore end behind most done
-    → json_count (codes "{\"event\":") number ++ json_count (codes ",\"line\":") line ++ codes ",\"kind\":" ++ behind ≡ event_line number line sequence done
-whole_line number line sequence {done} {end} {behind} ends is =
-    let start = json_count (codes "{\"event\":") number ++ json_count (codes ",\"line\":") line ++ codes ",\"kind\":" in
-    ap (λ t. start ++ t) (is.line ∙ ap (λ t. done ++ t) ends) ∙ sym (append_assoc start done (line_end sequence))
-
--- the line where nothing stands behind its end
-pub with_end : (number line sequence : ℕ) (done end : List ℕ) → end ≡ line_end sequence ++ []
-    → json_count (codes "{\"event\":") number ++ json_count (codes ",\"line\":") line ++ codes ",\"kind\":" ++ done ++ end ≡ event_line number line sequence done
-with_end number line sequence done end ends =
-    ap (λ t. json_count (codes "{\"event\":") number ++ json_count (codes ",\"line\":") line ++ codes ",\"kind\":" ++ done ++ t) (ends ∙ append-nil (line_end sequence))
-
--- the line of an event
-pub as_event_text : (number line sequence : ℕ) (load : Option (NextLoad ℕ)) (e f : Event ℕ) (reply : Reply ℕ) (done : List ℕ) → e ≡ f → done ≡ done_members load f reply
-    → event_line number line sequence done ≡ event_text number line load e reply sequence
-unfolding event_text
-as_event_text number line sequence load e f reply done same is =
-    let start = json_count (codes "{\"event\":") number ++ json_count (codes ",\"line\":") line ++ codes ",\"kind\":" in
-    ap (λ d. event_line number line sequence d) (is ∙ ap (λ x. done_members load x reply) (sym same))
-    ∙ sym (append_assoc (start ++ done_members load e reply) (json_count (codes ",\"sequence\":") sequence) (codes "}\n"))
-
--- what is put in front four times, put together
-pub stacked : {a c d r0 r1 r2 r3 r4 : List ℕ} {m1 m2 m4 : ℕ} (b' b end : List ℕ) → IsPutBefore r0 r1 m1 d → IsPutBefore r1 r2 m2 c → r3 ≡ b' ++ r2 → IsPutBefore r3 r4 m4 a → b' ≡ b → r0 ≡ end
-    → r4 ≡ a ++ b ++ c ++ d ++ end
-stacked {a} {c} {d} {r2 = r2} b' b end p1 p2 p3 p4 same p0 =
-    p4.line ∙ ap (λ t. a ++ t) (p3 ∙ ap (λ t. t ++ r2) same ∙ ap (λ t. b ++ t) (p2.line ∙ ap (λ t. c ++ t) (p1.line ∙ ap (λ t. d ++ t) p0)))
-    ∙ sym (append_assoc a b (c ++ (d ++ end))) ∙ sym (append_assoc (a ++ b) c (d ++ end)) ∙ sym (append_assoc (a ++ b ++ c) d end)
-
--- the same parts, grouped as they are written and as they are defined
-parts : (e l k r w n v end : List ℕ) → e ++ (l ++ k ++ r ++ w) ++ n ++ v ++ end ≡ e ++ l ++ k ++ (r ++ (w ++ n ++ v)) ++ end
-parts e l k r w n v end = grind (arith, common_steps)
-
--- a load after which its attempt goes on
-pub load_told : (number line sequence r : ℕ) (load : NextLoad ℕ) (end : List ℕ) → end ≡ line_end sequence
-    → json_count (codes "{\"event\":") number ++ load_middle line r ++ json_number load.word ++ json_count (codes ",\"value\":") load.value ++ end
-    ≡ event_line number line sequence (plain_load_members r (Some load))
-unfolding plain_load_members
-load_told number line sequence r load end ends =
-    parts (json_count (codes "{\"event\":") number) (json_count (codes ",\"line\":") line) (codes ",\"kind\":") (json_count (codes "\"load\",\"reader\":") r) (codes ",\"word\":") (json_number load.word) (json_count (codes ",\"value\":") load.value) end
-    ∙ ap (λ t. json_count (codes "{\"event\":") number ++ json_count (codes ",\"line\":") line ++ codes ",\"kind\":" ++ plain_load_members r (Some load) ++ t) ends
+  -- and put together from the end
+  pub event_told : {end behind done : List ℕ} {most : ℕ} → end ≡ line_end sequence → IsPutBefore end behind most done → done ≡ done_members load f reply
+      → line_start number line ++ behind ≡ event_text number line load e reply sequence
+  event_told {end} {done = done} ends put is =
+      ap (λ t. line_start number line ++ t) put.line ∙ sym (append_assoc (line_start number line) done end)
+      ∙ ap (λ d. line_start number line ++ d ++ end) is ∙ line_told end ends
 
 -- a list is its first item and those behind it
 pub list_told : {T : Type 0} (value : T → List ℕ) (xs : List T) (d : T) → 1 ≤ length xs

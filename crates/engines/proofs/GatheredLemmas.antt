@@ -1,4 +1,4 @@
--- The text of a trace whose commands are run one after another.
+-- The text of a trace whose commands are run one after another: of the functions of trace.
 use Rattle.std.proofs.Common.{◌≡◌, ℕ, List, [], ◌∷◌, ◌++◌, Option, Some, None, Result, Ok, Err, refl, sym, ◌∙◌, ap, subst, flat_map, append_assoc, append-nil}
 use Rattle.std.specs.Prelude.{IfSome}
 use Rattle.std.proofs.lemmas.Grind.{flat_map-append}
@@ -27,9 +27,9 @@ use Rattle.texts.specs.declared.output.Output.{Output}
 use Rattle.texts.specs.Output.{WroteAll, WrotePart}
 use Rattle.texts.proofs.ReadLemmas.{of_read}
 use Rattle.texts.specs.Said.{entries_after}
-use Rattle.texts.proofs.SaidLemmas.{all_said, bad_said, none_before, one_more}
+use Rattle.texts.proofs.SaidLemmas.{all_said, none_before, one_more}
 use Rattle.run_files.specs.Trace.{Contents, trace_of, with_header}
-use Rattle.engines.specs.GatheredTraces.{GathersCommand, GathersLines, HasGathered, IsLinesFault, IsNext, IsNotOpened}
+use Rattle.engines.specs.GatheredTraces.{GathersCommand, GathersLines, HasGathered, IsNext, IsNotOpened}
 use Rattle.engines.specs.TraceTexts.{end_text, note_text}
 use Rattle.engines.specs.Traces.{AnswersReadBy, AnswersSaid, HeaderMayNotOpen, HeaderMayOpen, IsRunText, IsTraceText, IsTraceWith, Stays, greatest_of, order_by}
 use Rattle.engines.specs.declared.fault.Fault.{Fault}

@@ -1,4 +1,4 @@
--- The same answer, where more is known of what was read.
+-- The same answer, where more is known of what was read: of the engines of lookup and symbol_lookup.
 use Rattle.std.proofs.Common.{◌≡◌, ℕ, zero, suc, [], ◌∷◌, Option, Result, Ok, Err, ⊎_elim, arith}
 use Rattle.std.specs.Prelude.{IfSome}
 use Rattle.texts.specs.Counted.{Rose}

@@ -2,18 +2,12 @@
 mod LoadLemmas
 -- a world for the table of a catalog, from its opening on
 mod WorldOpeningLemmas
--- one module more in a world that holds those of lesser numbers
-mod CatalogLoadLemmas
 -- the same answer, where more is known of what was read
 mod InputLemmas
 -- what is returned where all that was said is written, or a beginning of it
 mod WrittenLemmas
--- one line more of a script
-mod AssignmentLemmas
 -- from the lines of a script to its text
 mod RunLemmas
--- the text that bytes are, from one byte that is no part of it to the next
-mod JsonLemmas
 -- digits in front of what stands in a room for a line
 mod LineRoomLemmas
 -- lines of events from their parts

@@ -1,4 +1,4 @@
--- What updates that insert items leave in a table.
+-- What updates that insert items leave in a table: of WorldOpeningLemmas and of `load` of table.
 use Rattle.std.proofs.Common.{◌≡◌, ℕ, ◌<◌, List, [], ◌∷◌, ◌++◌, length, sym, ◌∙◌, ap, subst, inr, ⊎_elim, arith, append-nil, length-append}
 use Rattle.std.specs.Prelude.{Contains}
 use Rattle.std.proofs.lemmas.Grind.{flat_map-append}

@@ -1,4 +1,5 @@
--- From the lines of a script, and from its text, to what its run returns.
+-- From the lines of a script, and from its text, to what its run returns: of `run_lines` and
+-- `run_with` of runs.
 use Rattle.std.proofs.Common.{◌≡◌, ◌<◌, ◌≤◌, ℕ, List, [], Option, Some, Result, Ok, Err, true, refl, sym, subst}
 use Rattle.std.specs.Prelude.{IfSome}
 use Rattle.texts.specs.declared.output.Output.{Output}

@@ -1,5 +1,6 @@
--- What is done and written of a trace whose steps are told, one event and one command after another.
-use Rattle.std.proofs.Common.{◌≡◌, ℕ, ◌+◌, ◌<◌, Bool, true, false, true≢false, List, [], ◌∷◌, ◌++◌, length, take, get_or, Option, None, Ok, refl, sym, ◌∙◌, ap, subst, arith, append_assoc, append-nil, length-append, length-take-le, inl, inr, Err}
+-- What is done and written of a trace whose steps are told, one event and one command after another:
+-- of the functions of steps.
+use Rattle.std.proofs.Common.{◌≡◌, ℕ, ◌+◌, ◌<◌, Bool, true, false, List, [], ◌∷◌, ◌++◌, length, take, get_or, Option, Ok, refl, sym, ◌∙◌, ap, subst, arith, append_assoc, append-nil, length-append, length-take-le, inl, inr, Err}
 use Rattle.std.specs.Prelude.{IfSome, slice_get}
 use Rattle.facts.proofs.Lists.{take_push}
 use Rattle.std.proofs.Math.Seq.{take-length}
@@ -13,46 +14,22 @@ use Rattle.word_layout.specs.Words.{at}
 use Rattle.word_layout.specs.declared.layouts.Layout.{Layout}
 use Rattle.word_layout.specs.Layouts.{capacity_of, limit_of}
 use Rattle.latch_steps.specs.declared.commands.Command.{Command}
-use Rattle.latch_steps.specs.declared.commands.Command.TheVariants.{Begin as BeginCommand, Write as WriteCommand, WriteFlip, WriteEnd, Start as StartCommand, Read as ReadCommand}
 use Rattle.latch_steps.specs.declared.events.Event.{Event}
-use Rattle.latch_steps.specs.declared.events.Event.TheVariants.{Begin, Write, Start, Read}
 use Rattle.latch_steps.specs.declared.replies.NextLoad.{NextLoad}
 use Rattle.latch_steps.specs.declared.replies.Reply.{Reply}
 use Rattle.latch_steps.specs.declared.worlds.World.{World}
 use Rattle.latch_steps.specs.Expands.{Expand, Repeats, ends, event_of, most_of}
 use Rattle.latch_steps.specs.Runs.{Done, Moment, last_of, opening, step_done}
 use Rattle.latch_steps.specs.Steps.{Run, machine, machine_of}
-use Rattle.latch_steps.specs.WorldSteps.{Does, IsWorldStep, is_refused_for_memory}
+use Rattle.latch_steps.specs.WorldSteps.{Does}
 use Rattle.latch_steps.specs.Worlds.{HasEvents, HasSequence, RepresentsMoment, layout_in}
-use Rattle.latch_steps.proofs.RecorderLemmas.{IsUnended, does, expand_push, last_append, repeats_ended, repeats_full, run_append, unended_push}
-use Rattle.engines.specs.StepRuns.{AreCommandsTold, AreSomeTold, IsLoadBy, IsMemoryFault, IsTold, StopsTelling, Tells, TellsCommand, TellsCommands, TellsEvent, takes_memory}
+use Rattle.latch_steps.proofs.RecorderLemmas.{IsUnended, expand_push, last_append, repeats_ended, repeats_full, run_append, unended_push}
+use Rattle.engines.specs.StepRuns.{AreCommandsTold, AreSomeTold, IsLoadBy, IsMemoryFault, IsTold, StopsTelling, Tells, TellsCommand, TellsCommands, TellsEvent}
 use Rattle.engines.specs.StepTexts.{event_text, load_by, opening_text, step_text, steps_text}
 use Rattle.engines.specs.StepTraces.{AnswersStepsIn, AreTold, IsStepsText}
 use Rattle.engines.specs.Traces.{HeaderMayOpen, greatest_of}
 use Rattle.engines.specs.declared.fault.Fault.{Fault}
 use Rattle.engines.specs.declared.fault.Fault.TheVariants.{Write as WriteFault}
-
--- only a beginning and a start may be refused because memory ran out, and these load nothing
-pub steady : {O : Type 0} (o : Order ℕ) (old new : World O ℕ) (e : Event ℕ) (r : Reply ℕ) → IsWorldStep o old e r new → takes_memory e ≡ false → Does o old e r new
-steady o old new (Begin u) r steps free = absurd (true≢false free)
-steady o old new Write r steps free = steps
-steady o old new (Start q k) r steps free = absurd (true≢false free)
-steady o old new (Read q) r steps free = steps
-
-pub loads_none : {O : Type 0} (o : Order ℕ) (c : World O ℕ) (e : Event ℕ) → takes_memory e ≡ true → IsLoadBy o c e None
-loads_none o c (Begin u) takes w s = refl
-loads_none o c Write takes w s = absurd (true≢false (sym takes))
-loads_none o c (Start q k) takes w s = refl
-loads_none o c (Read q) takes w s = absurd (true≢false (sym takes))
-
--- and their commands do them once
-once : (c : Command ℕ) (e : Event ℕ) (r : Reply ℕ) (w next : Moment ℕ) → e ≡ event_of c → takes_memory e ≡ true → Repeats c (most_of w c) (step_done e r next ∷ [])
-once (BeginCommand u) e r w next same takes = (omega arith, same, refl)
-once (StartCommand q k) e r w next same takes = (omega arith, same, refl)
-once (WriteCommand most) e r w next same takes = absurd (true≢false (sym takes ∙ ap takes_memory same))
-once WriteFlip e r w next same takes = absurd (true≢false (sym takes ∙ ap takes_memory same))
-once WriteEnd e r w next same takes = absurd (true≢false (sym takes ∙ ap takes_memory same))
-once (ReadCommand q most) e r w next same takes = absurd (true≢false (sym takes ∙ ap takes_memory same))
 
 -- the lines of two runs one after the other
 pub steps_append : (o : Order ℕ) (n line : ℕ) (w : Moment ℕ) (run next : List (Done ℕ)) → steps_text o n line w (run ++ next) ≡ steps_text o n line w run ++ steps_text o n line (last_of w run) next
@@ -75,14 +52,6 @@ module _ {O W : Type 0} (o : Order ℕ) (contents : W → Option (List ℕ)) (li
       let same : event_text d.0.events line load e r (at d.0.latch.words 0) ≡ event_text d.0.events line (load_by o n w e) e r (at d.0.latch.words 0) = (λ i. event_text d.0.events line (loads w s i) e r (at d.0.latch.words 0)) in
       let said = same_text (same ∙ sym (append-nil _)) (told d.0 d.2) in
       (d.0, record { layout = lay; steps = (d.1, tt); shows = d.2; said = said })
-
-  -- an event that its command does once
-  pub command_told : (c : Command ℕ) (old new : World O ℕ) (a b : Output W) (e : Event ℕ) (r : Reply ℕ)
-      → IsWorldStep o old e r new → is_refused_for_memory r ≡ false → layout_in new ≡ layout_in old → e ≡ event_of c → takes_memory e ≡ true
-      → IsTold o contents line None e r new a b → TellsCommand o contents line c old new a b
-  command_told c old new a b e r steps stays lay same takes told w s =
-      let d = event_told old new a b e r None (λ v t. does o false old new e r steps stays v t) lay (loads_none o old e takes) told w s in
-      (step_done e r d.0 ∷ [], d.1, most_of w c, once c e r w d.0 same takes, λ sound. refl)
 
   tells_none : (c : World O ℕ) (a : Output W) (w : Moment ℕ) → RepresentsMoment o c w → Tells o contents line c c a a w []
   tells_none c a w s = record { layout = refl; steps = tt; shows = s; said = nothing_said a }
@@ -217,9 +186,22 @@ module _ {O W : Type 0} (o : Order ℕ) (contents : W → Option (List ℕ)) (li
 
 -- memory ran out at a command of a list
 pub stops_at : {O W : Type 0} (o : Order ℕ) (contents : W → Option (List ℕ)) (lines : List ℕ) (cs : List (Command ℕ)) (old now : World O ℕ) (a b c : Output W) (place : ℕ) (f : Fault)
-    → place < length cs → TellsCommands o contents lines (take place cs) old now a b → has_failed b ≡ false → IsMemoryFault b c f → StopsTelling o contents lines cs old a c f
+    → place < length cs → TellsCommands o contents lines (take place cs) old now a b → has_failed b ≡ false → IsMemoryFault o now b c f → StopsTelling o contents lines cs old a c f
 stops_at o contents lines cs old now a b c place f within told sound h =
-    inl (h.0, ap has_failed h.1 ∙ sound, (place, within, (now, subst (λ d. TellsCommands o contents lines (take place cs) old now a d) (sym h.1) told)))
+    inl (
+      h.0,
+      (
+        place,
+        within,
+        (
+          now,
+          λ w s.
+              let t = told w s in
+              let same = h.1 (last_of w t.run) t.shows in
+              (ap has_failed same ∙ sound, subst (λ d. AreCommandsTold o contents lines (take place cs) old now a d w) (sym same) t),
+        ),
+      ),
+    )
 
 past_the_last : (cs : List (Command ℕ)) → IfSome (slice_get cs (length cs)) (λ c. Repeats c 0 [])
 past_the_last [] = tt
@@ -344,8 +326,9 @@ module _ {O W : Type 0} (o : Order ℕ) (contents : W → Option (List ℕ)) (sa
 
   pub steps_stopped : (f : Fault) → StopsTelling o contents lines said.commands world b c f → AnswersStepsIn o contents said lines a c (Err f)
   steps_stopped f (inl h) =
-      let (is, sound, (place, within, (last, told))) = h in
-      let begun = steps_said (take place said.commands) last c (told _ begins) in
+      let (is, (place, within, (last, at_opening))) = h in
+      let (sound, told) = at_opening _ begins in
+      let begun = steps_said (take place said.commands) last c told in
       subst (λ (g : Fault). AnswersStepsIn o contents said lines a c (Err g)) (sym is)
       (inr (begun.0, record { opens = opens; place = place; within = within; begun = begun.1 }, all_written begun.2 sound))
   steps_stopped f (inr h) =

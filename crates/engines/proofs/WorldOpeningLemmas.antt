@@ -1,4 +1,4 @@
--- A world for the table of a catalog, from its opening on.
+-- A world for the table of a catalog, from its opening on: of `open_for` and `look_up` of table.
 use Rattle.std.proofs.Common.{◌≡◌, ℕ, ◌≤◌, false, List, [], length, Result, Ok, Err, refl, sym, ◌∙◌, ap, subst, ⊎_elim, arith}
 use Rattle.std.specs.Prelude.{IfOk, is_some}
 use Rattle.std.specs.Ordering.{nat_cmp}

@@ -23,8 +23,6 @@ pub mod LookupTexts
 pub mod StepTexts
 -- what is put into a room for such a line
 pub mod LineRooms
--- what the line of an event keeps for the next one
-pub mod EventLines
 -- what is written for a trace whose steps are asked for
 pub mod StepTraces
 -- what one event and one command of it do, while it is run

@@ -7,7 +7,6 @@ use Rattle.word_layout.specs.Layouts.{capacity_of}
 use Rattle.word_layout.specs.Words.{at}
 use Rattle.latch_steps.specs.declared.commands.Command.{Command}
 use Rattle.latch_steps.specs.declared.events.Event.{Event}
-use Rattle.latch_steps.specs.declared.events.Event.TheVariants.{Begin, Start}
 use Rattle.latch_steps.specs.declared.replies.NextLoad.{NextLoad}
 use Rattle.latch_steps.specs.declared.replies.Reply.{Reply}
 use Rattle.latch_steps.specs.declared.worlds.World.{World}
@@ -70,15 +69,12 @@ abbrev pub TellsCommands : {O W : Type 0} → Order ℕ → (W → Option (List 
 TellsCommands o contents lines cs old new a b =
     (w : Moment ℕ) → RepresentsMoment o old w → AreCommandsTold o contents lines cs old new a b w
 
--- an event that takes memory: a beginning or a start, which a command does once
-abbrev pub takes_memory : Event ℕ → Bool
-takes_memory (Begin u) = true
-takes_memory (Start r k) = true
-takes_memory _ = false
-
 -- memory ran out and nothing was written
-abbrev pub IsMemoryFault : {W : Type 0} → Output W → Output W → Fault → Type 0
-IsMemoryFault a b fault = (fault ≡ Refused refusal.OutOfMemory) × (b ≡ a)
+abbrev pub IsMemoryFault : {O W : Type 0} → Order ℕ → World O ℕ → Output W → Output W → Fault
+    → Type 0
+IsMemoryFault o old a b fault =
+    (fault ≡ Refused refusal.OutOfMemory)
+    × ((w : Moment ℕ) → RepresentsMoment o old w → b ≡ a)
 
 -- commands were told, and then some turns of the one at this place
 pub record AreSomeTold {O W : Type 0} (o : Order ℕ) (contents : W → Option (List ℕ))
@@ -98,9 +94,9 @@ pub record AreSomeTold {O W : Type 0} (o : Order ℕ) (contents : W → Option (
 abbrev pub StopsTelling : {O W : Type 0} → Order ℕ → (W → Option (List ℕ)) → List ℕ
     → List (Command ℕ) → World O ℕ → Output W → Output W → Fault → Type 0
 StopsTelling {O} o contents lines cs old a b fault =
-    ((fault ≡ Refused refusal.OutOfMemory) × (has_failed b ≡ false)
-    × ((place : ℕ) × (place < length cs)
-    × ((new : World O ℕ) × TellsCommands o contents lines (take place cs) old new a b)))
+    ((fault ≡ Refused refusal.OutOfMemory) × ((place : ℕ) × (place < length cs)
+    × ((new : World O ℕ) × ((w : Moment ℕ) → RepresentsMoment o old w → (has_failed b ≡ false)
+    × AreCommandsTold o contents lines (take place cs) old new a b w))))
     ⊎ ((fault ≡ WriteFault) × (has_failed b ≡ true)
     × ((place : ℕ) × ((w : Moment ℕ) → RepresentsMoment o old w
     → AreSomeTold o contents lines cs place old a b w)))

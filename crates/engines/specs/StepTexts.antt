@@ -127,13 +127,16 @@ done_members load Write reply = written_members reply
 done_members load (Start r key) reply = started_members r key reply
 done_members load (Read r) reply = read_members r load reply
 
+-- the end of a line
+abbrev pub line_end : ℕ → List ℕ
+line_end sequence = json_count (codes ",\"sequence\":") sequence ++ codes "}\n"
+
 -- the line of an event of this number that a line of the trace asked for, after which the sequence
 -- is this
 unfoldable pub event_text : ℕ → ℕ → Option (NextLoad ℕ) → Event ℕ → Reply ℕ → ℕ → List ℕ
 event_text number line load e reply sequence =
     json_count (codes "{\"event\":") number ++ json_count (codes ",\"line\":") line
-    ++ codes ",\"kind\":" ++ done_members load e reply
-    ++ json_count (codes ",\"sequence\":") sequence ++ codes "}\n"
+    ++ codes ",\"kind\":" ++ done_members load e reply ++ line_end sequence
 
 -- what an event loads at a moment, where it is a load
 abbrev pub load_by : {K : Type 0} → Order K → ℕ → Moment K → Event K → Option (NextLoad K)

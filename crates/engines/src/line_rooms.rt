@@ -3,7 +3,7 @@
 //! What is put in stands in front of what stands there already. So the digits of a number are
 //! written where they stay, the last one first, with none counted before and none copied after, and
 //! the whole line goes to a writer by one call: such a call costs more than the digits of a number.
-ghost use Rattle.std.specs.Prelude.{◌≡◌, ◌+◌, ◌≤◌, [], ◌++◌, decimal, drop, length};
+ghost use Rattle.std.specs.Prelude.{◌≡◌, ◌+◌, ◌≤◌, [], ◌++◌, decimal, length};
 ghost use Rattle.texts.specs.Exact.{hexadecimal};
 ghost use Rattle.engines.specs.Json.{json_number};
 ghost use Rattle.engines.specs.JsonTexts.{json_count};
@@ -66,15 +66,6 @@ impl LineRoom {
         ensures { self.new ≡ [] }
     {
         self.start = ROOM;
-    }
-
-    /// Takes so many bytes from its front.
-    #[inline(always)]
-    pub fn drop_front(&mut self, count: usize)
-        requires { count ≤ length self.old }
-        ensures { self.new ≡ drop count self.old }
-    {
-        self.start += count;
     }
 
     /// Puts bytes in front, for which there must be room.

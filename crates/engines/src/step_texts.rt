@@ -1,15 +1,14 @@
 //! The lines that the steps of a trace write, an object of JSON each, byte for byte, with no memory
 //! taken.
-ghost use Rattle.std.specs.Prelude.{◌≡◌, ◌+◌, ◌≤◌, ◌==◌, [], ◌++◌, if◌then◌else◌, codes, flat_map};
+ghost use Rattle.std.specs.Prelude.{◌≡◌, ◌+◌, ◌≤◌, ◌==◌, ◌++◌, if◌then◌else◌, codes, flat_map};
 ghost use Rattle.std.specs.Prelude.{length};
 ghost use Rattle.texts.specs.Output.{Says};
-ghost use Rattle.engines.specs.EventLines.{IsInFront, event_line, line_end, load_middle};
 ghost use Rattle.engines.specs.Json.{json_number};
 ghost use Rattle.engines.specs.JsonTexts.{json_count};
 ghost use Rattle.engines.specs.LineRooms.{IsPutBefore};
 ghost use Rattle.engines.specs.StepTexts.{answer_members, begun_members, event_text, json_item};
 ghost use Rattle.engines.specs.StepTexts.{json_list, json_tag, load_members, loaded_members};
-ghost use Rattle.engines.specs.StepTexts.{loaded_word, opening_text, order_text};
+ghost use Rattle.engines.specs.StepTexts.{line_end, loaded_word, opening_text, order_text};
 ghost use Rattle.engines.specs.StepTexts.{plain_load_members, read_members, reader_members};
 ghost use Rattle.engines.specs.StepTexts.{refused_member, started_members, stored_members};
 ghost use Rattle.engines.specs.StepTexts.{update_members, version_number, word_members};
@@ -23,7 +22,6 @@ use order_laws::{Item, Refusal};
 use run_files::{Header, Version};
 use std::io;
 use std::io::Write;
-use std::marker::Model;
 use table_updates::Update;
 use texts::Output;
 use word_layout::Store;
@@ -78,175 +76,24 @@ const LONGEST_DONE: usize = 290;
 /// No event has such a reply.
 const NO_REPLY: &[u8] = b"null";
 
-/// What stands between the numbers of event and word where a line of the trace asks for a reader's
-/// load. A contract sees this text.
-#[derive(Drop)]
-struct LoadMiddle {
-    text: LineRoom,
-    line: u64,
-    reader: u32,
-}
-
-impl Model for LoadMiddle {
-    ghost use Rattle.std.specs.Prelude.{ℕ, List, ◌≡◌, ◌≤◌, length};
-    ghost use Rattle.engines.specs.EventLines.{load_middle};
-
-    ghost Value = { List ℕ };
-
-    ghost view = { λ m. m.text };
-
-    ghost invariant = { λ m. (m.text ≡ load_middle m.line m.reader) × (length m.text ≤ 90) };
-}
-
-impl LoadMiddle {
-    /// That of a line and a reader.
-    fn new(line: u64, reader: u32) -> LoadMiddle
-        ensures { result ≡ load_middle line reader }
-    {
-        let mut text = LineRoom::new();
-        put_middle(&mut text, line, reader);
-        LoadMiddle { text, line, reader }
-    }
-
-    /// Becomes that of this line and reader, which mostly it is already.
-    #[inline(always)]
-    fn set(&mut self, line: u64, reader: u32)
-        ensures text { self.new ≡ load_middle line reader }
-        ensures short { length self.new ≤ 90 }
-    {
-        if self.line != line || self.reader != reader {
-            self.change(line, reader);
-        }
-    }
-
-    /// Writes that of this line and reader in its place.
-    fn change(&mut self, line: u64, reader: u32)
-        ensures text { self.new ≡ load_middle line reader }
-        ensures short { length self.new ≤ 90 }
-    {
-        self.text.clear();
-        put_middle(&mut self.text, line, reader);
-        self.line = line;
-        self.reader = reader;
-    }
-
-    /// The text itself.
-    #[inline(always)]
-    fn text(&self) -> &[u8]
-        ensures { result.now ≡ self.now }
-    {
-        self.text.line()
-    }
-}
-
-/// A line of an event while it is put together, with parts of it that the next line may have too:
-/// each load of a command has them.
-///
-/// A contract sees what stands in the room for the line.
-#[derive(Drop)]
-pub struct EventLine {
-    room: LineRoom,
-    /// The sequence that the end in the room has, and how many bytes that end takes.
-    sequence: u64,
-    end: usize,
-    middle: LoadMiddle,
-}
-
-impl Model for EventLine {
-    ghost use Rattle.std.specs.Prelude.{ℕ, List};
-    ghost use Rattle.engines.specs.EventLines.{HasEnd};
-
-    ghost Value = { List ℕ };
-
-    ghost view = { λ l. l.room };
-
-    ghost invariant = { λ l. HasEnd l.room l.sequence l.end };
-}
-
-impl EventLine {
-    /// The end of a line, with the parts of no event.
-    pub fn new() -> EventLine
-        ensures { result ≡ line_end 0 }
-    {
-        let mut room = LineRoom::new();
-        put_end(&mut room, 0);
-        let end = room.line().len();
-        EventLine {
-            room,
-            sequence: 0,
-            end,
-            middle: LoadMiddle::new(0, 0),
-        }
-    }
-
-    /// Has nothing but the end for this sequence in the room.
-    #[inline(always)]
-    fn end_with(&mut self, sequence: u64)
-        ensures end { self.new ≡ line_end sequence }
-        ensures short { length self.new ≤ 40 }
-    {
-        if self.sequence == sequence {
-            let front = self.room.line().len() - self.end;
-            self.room.drop_front(front);
-        } else {
-            self.change_end(sequence);
-        }
-    }
-
-    /// Writes the end for this sequence in place of all that stands in the room.
-    fn change_end(&mut self, sequence: u64)
-        ensures end { self.new ≡ line_end sequence }
-        ensures short { length self.new ≤ 40 }
-    {
-        self.room.clear();
-        put_end(&mut self.room, sequence);
-        self.end = self.room.line().len();
-        self.sequence = sequence;
-    }
-
-    /// Puts a load after which its attempt goes on, and the start of its line, in front.
-    #[inline(always)]
-    fn before_load(&mut self, place: EventPlace, reader: u32, load: NextLoad<u64>)
-        requires { length self.old ≤ 40 }
-        ensures { self.new ≡ json_count (codes "{\"event\":") place.number
-            ++ load_middle place.line reader ++ json_number load.word
-            ++ json_count (codes ",\"value\":") load.value ++ self.old }
-    {
-        self.middle.set(place.line, reader);
-        self.room.before_count(b",\"value\":", load.value);
-        self.room.before_number(load.word as u64);
-        self.room.before(self.middle.text());
-        self.room.before_count(b"{\"event\":", place.number);
-    }
-}
-
-/// Puts what stands between the numbers of event and word of a load in an empty room.
-fn put_middle(middle: &mut LineRoom, line: u64, reader: u32)
-    requires { middle.old ≡ [] }
-    ensures { IsPutBefore [] middle.new 90 (load_middle line reader) }
+/// Has nothing in the room but the end of a line with this sequence.
+#[inline(always)]
+fn end_alone(room: &mut LineRoom, sequence: u64)
+    ensures end { room.new ≡ line_end sequence }
+    ensures short { length room.new ≤ 40 }
 {
-    middle.before(b",\"word\":");
-    middle.before_count(b"\"load\",\"reader\":", u64::from(reader));
-    middle.before(b",\"kind\":");
-    middle.before_count(b",\"line\":", line);
-}
-
-/// Puts the end of a line in an empty room.
-fn put_end(line: &mut LineRoom, sequence: u64)
-    requires { line.old ≡ [] }
-    ensures { IsPutBefore [] line.new 40 (line_end sequence) }
-{
-    line.before(b"}\n");
-    line.before_count(b",\"sequence\":", sequence);
+    room.clear();
+    room.before(b"}\n");
+    room.before_count(b",\"sequence\":", sequence);
 }
 
 /// Writes the line of an event that had this reply; of a load there is also what is loaded.
 ///
-/// A line is put together from its end, and written by one call; but the lists of an update, which
-/// may be of any length, are written between its start and its end.
+/// A line is put together from its end in the room, and written by one call; but the lists of an
+/// update, which may be of any length, are written between its start and its end.
 #[inline(always)]
 pub fn put_event<W: Write>(
-    line: &mut EventLine,
+    room: &mut LineRoom,
     writer: &mut Output<W>,
     place: EventPlace,
     load: Option<NextLoad<u64>>,
@@ -256,44 +103,20 @@ pub fn put_event<W: Write>(
     ensures { Says W.contents writer.old writer.new
         (event_text place.number place.line load event.now reply.now place.sequence) }
 {
+    end_alone(room, place.sequence);
     match event {
-        Event::Begin(update) => put_beginning(writer, place, update, reply),
+        Event::Begin(update) => put_begun(writer, place, update, reply, room),
         Event::Write => {
-            line.end_with(place.sequence);
-            before_written(&mut line.room, reply);
-            put_behind_start(writer, place, &mut line.room)
+            before_written(room, reply);
+            put_behind_start(writer, place, room)
         }
         Event::Start(reader, key) => {
-            line.end_with(place.sequence);
-            before_started(&mut line.room, *reader, *key, reply);
-            put_behind_start(writer, place, &mut line.room)
+            before_started(room, *reader, *key, reply);
+            put_behind_start(writer, place, room)
         }
-        Event::Read(reader) => put_read(line, writer, place, *reader, load, reply),
-    }
-}
-
-/// Writes the line of a load. Mostly its attempt goes on, and the line has what is kept.
-#[inline(always)]
-fn put_read<W: Write>(
-    line: &mut EventLine,
-    writer: &mut Output<W>,
-    place: EventPlace,
-    reader: u32,
-    load: Option<NextLoad<u64>>,
-    reply: &Reply<u64>,
-)
-    ensures { Says W.contents writer.old writer.new
-        (event_line place.number place.line place.sequence (read_members reader load reply.now)) }
-{
-    line.end_with(place.sequence);
-    match (reply, load) {
-        (Reply::Loaded, Some(load)) => {
-            line.before_load(place, reader, load);
-            writer.put(line.room.line())
-        }
-        _ => {
-            before_read(&mut line.room, reader, load, reply);
-            put_behind_start(writer, place, &mut line.room)
+        Event::Read(reader) => {
+            before_read(room, *reader, load, reply);
+            put_behind_start(writer, place, room)
         }
     }
 }
@@ -301,33 +124,14 @@ fn put_read<W: Write>(
 /// Writes the start of a line, and behind it what stands in the room.
 fn put_behind_start<W: Write>(writer: &mut Output<W>, place: EventPlace, line: &mut LineRoom)
     requires { length line.old + 70 ≤ ROOM }
-    ensures wrote { Says W.contents writer.old writer.new
+    ensures { Says W.contents writer.old writer.new
         (json_count (codes "{\"event\":") place.number ++ json_count (codes ",\"line\":") place.line
         ++ codes ",\"kind\":" ++ line.old) }
-    ensures kept { IsInFront line.old line.new }
 {
     line.before(b",\"kind\":");
     line.before_count(b",\"line\":", place.line);
     line.before_count(b"{\"event\":", place.number);
     writer.put(line.line());
-}
-
-/// Writes a line of what the writer began. It has a room of its own, made here alone: to make one
-/// costs as much as a line of a load.
-#[inline(never)]
-fn put_beginning<W: Write>(
-    writer: &mut Output<W>,
-    place: EventPlace,
-    update: &Update,
-    reply: &Reply<u64>,
-)
-    ensures { Says W.contents writer.old writer.new
-        (event_line place.number place.line place.sequence
-        (begun_members update.now reply.now)) }
-{
-    let mut end = LineRoom::new();
-    put_end(&mut end, place.sequence);
-    put_begun(writer, place, update, reply, &mut end);
 }
 
 /// Writes a line of what the writer began, whose end is in the room.

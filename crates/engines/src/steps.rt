@@ -4,7 +4,7 @@
 //! its event as often as it says, and what each event did is written as soon as it is done: nothing
 //! of it is kept. How a command stands for events is in `Expands` of latch_steps, whose `event_of`,
 //! `most_of` and `ends` are the functions of these names here.
-ghost use Rattle.std.specs.Prelude.{◌≡◌, ◌≤◌, true, false, IfErr, IfOk, OnOk};
+ghost use Rattle.std.specs.Prelude.{◌≡◌, ◌≤◌, false, IfErr, IfOk, OnOk};
 ghost use Rattle.run_files.specs.Trace.{contents_of};
 ghost use Rattle.texts.specs.Output.{has_failed};
 ghost use Rattle.word_layout.specs.Words.{at};
@@ -12,12 +12,12 @@ ghost use Rattle.latch_steps.specs.Expands.{event_of};
 ghost use Rattle.latch_steps.specs.Quiet.{is_flip};
 ghost use Rattle.latch_steps.specs.WorldSteps.{is_refused_for_memory};
 ghost use Rattle.engines.specs.StepRuns.{EndsCommand, IsLoadBy, IsMemoryFault, IsMostOf, IsTold};
-ghost use Rattle.engines.specs.StepRuns.{StopsTelling, TellsCommand};
-ghost use Rattle.engines.specs.StepRuns.{TellsCommands, takes_memory};
+ghost use Rattle.engines.specs.StepRuns.{StopsTelling, TellsCommand, TellsCommands};
 ghost use Rattle.engines.specs.StepTraces.{AnswersSteps, AnswersStepsIn};
 
 use crate::fault::Fault;
-use crate::step_texts::{EventLine, EventPlace, put_event, put_opening};
+use crate::line_rooms::LineRoom;
+use crate::step_texts::{EventPlace, put_event, put_opening};
 use crate::trace::layout_for;
 use latch_steps::{Command, Event, NextLoad, Reply, World};
 use order_laws::{Closed, HalfOpen, Refusal, TreeOrder};
@@ -84,10 +84,10 @@ fn tell_commands<O: TreeOrder<Key = u64>, W: Write>(
     ensures fault { IfErr result (StopsTelling O.order W.contents lines.now commands.now
         world.old writer.old writer.new) }
 {
-    let mut event_line = EventLine::new();
+    let mut room = LineRoom::new();
     for (place, command) in commands.iter().enumerate() {
         let line = line_at(lines, place);
-        tell_command(world, &mut event_line, writer, line, command)?;
+        tell_command(world, &mut room, writer, line, command)?;
         if writer.has_failed() {
             return Err(Fault::Write);
         }
@@ -106,83 +106,56 @@ fn line_at(lines: &[u64], place: usize) -> u64
 /// before, where the writer failed.
 fn tell_command<O: TreeOrder<Key = u64>, W: Write>(
     world: &mut World<O>,
-    event_line: &mut EventLine,
+    room: &mut LineRoom,
     writer: &mut Output<W>,
     line: u64,
     command: &Command<u64>,
 ) -> Result<(), Fault>
     ensures told { OnOk result (TellsCommand O.order W.contents line command.now
         world.old world.new writer.old writer.new) }
-    ensures fault { IfErr result (IsMemoryFault writer.old writer.new) }
+    ensures fault { IfErr result (IsMemoryFault O.order world.old writer.old writer.new) }
 {
     let event = event_of(command)?;
-    match command {
-        Command::Begin(_) | Command::Start(_, _) => {
-            tell_once(world, event_line, writer, line, command, &event)
-        }
-        Command::Write(_) | Command::WriteFlip | Command::WriteEnd | Command::Read(_, _) => {
-            tell_repeated(world, event_line, writer, line, command, &event);
-            Ok(())
-        }
-    }
+    tell_turns(world, room, writer, line, command, &event)
 }
 
-/// Does an event that takes memory, which its command does once, and writes what it did.
-fn tell_once<O: TreeOrder<Key = u64>, W: Write>(
+/// Does this event, which is the command's. One for which memory may run out is done once.
+fn tell_turns<O: TreeOrder<Key = u64>, W: Write>(
     world: &mut World<O>,
-    event_line: &mut EventLine,
+    room: &mut LineRoom,
     writer: &mut Output<W>,
     line: u64,
     command: &Command<u64>,
     event: &Event<u64>,
 ) -> Result<(), Fault>
-    requires same { event.now ≡ event_of command.now }
-    requires memory { takes_memory event.now ≡ true }
+    requires { event.now ≡ event_of command.now }
     ensures told { OnOk result (TellsCommand O.order W.contents line command.now
         world.old world.new writer.old writer.new) }
-    ensures fault { IfErr result (IsMemoryFault writer.old writer.new) }
-{
-    let reply = world.step_from(event);
-    if is_refused_for_memory(&reply) {
-        return Err(Fault::Refused(Refusal::OutOfMemory));
-    }
-    tell(world, event_line, writer, line, None, event, &reply);
-    Ok(())
-}
-
-/// Does an event that takes no memory as often as its command says, and writes what each time did.
-fn tell_repeated<O: TreeOrder<Key = u64>, W: Write>(
-    world: &mut World<O>,
-    event_line: &mut EventLine,
-    writer: &mut Output<W>,
-    line: u64,
-    command: &Command<u64>,
-    event: &Event<u64>,
-)
-    requires same { event.now ≡ event_of command.now }
-    requires memory { takes_memory event.now ≡ false }
-    ensures { TellsCommand O.order W.contents line command.now
-        world.old world.new writer.old writer.new }
+    ensures fault { IfErr result (IsMemoryFault O.order world.old writer.old writer.new) }
 {
     let most = most_of(world, command);
     for _turn in 0..most {
         let load = load_by(world, event);
         let reply = world.step_from(event);
-        tell(world, event_line, writer, line, load, event, &reply);
+        if is_refused_for_memory(&reply) {
+            return Err(Fault::Refused(Refusal::OutOfMemory));
+        }
+        tell(world, room, writer, line, load, event, &reply);
         if ends(world, command, &reply) {
-            return;
+            return Ok(());
         }
         if writer.has_failed() {
-            return;
+            return Ok(());
         }
     }
+    Ok(())
 }
 
 /// Writes what an event did that led to this world.
 #[inline(always)]
 fn tell<O: TreeOrder<Key = u64>, W: Write>(
     world: &World<O>,
-    event_line: &mut EventLine,
+    room: &mut LineRoom,
     writer: &mut Output<W>,
     line: u64,
     load: Option<NextLoad<u64>>,
@@ -197,7 +170,7 @@ fn tell<O: TreeOrder<Key = u64>, W: Write>(
         line,
         sequence: world.sequence(),
     };
-    put_event(event_line, writer, place, load, event, reply);
+    put_event(room, writer, place, load, event, reply);
 }
 
 /// What an event loads, where it is a load.

@@ -1,9 +1,43 @@
-use Rattle.std.proofs.Common.{Some, sym, ap, ◌∙◌, refl}
+use Rattle.std.proofs.Common.{◌≡◌, ℕ, List, [], ◌∷◌, ◌++◌, Some, None, Result, Ok, Err, IfOk, sym, subst, ap, ◌∙◌, refl}
+use Rattle.std.specs.Global.{Vec}
 use Rattle.std.specs.List.{filter_map}
+use Rattle.facts.proofs.Lists.{one_given_more, none_given_more}
+use Rattle.run_files.specs.declared.scripts.ScriptLine.{ScriptLine}
+use Rattle.modules.specs.Entries.{CatalogEntries}
+use Rattle.shared_lookup.specs.declared.changes.Change.{Change}
+use Rattle.run_files.specs.Scripts.{most_writers}
+use Rattle.engines.specs.declared.assignments.Assignments.{Assignments}
+use Rattle.engines.specs.Assignments.{AreListed, IsAssigned, change_in, key_in, name_in}
 use Rattle.shared_lookup.specs.declared.changes.Change.TheVariants.{Load, Unload, DropInit}
-use Rattle.engines.specs.Assignments.{change_in, key_in, name_in}
-use Rattle.engines.proofs.AssignmentLemmas.{changed, looked}
 use Rattle.engines.proofs.assignments.Assignments.add.Goals as goal
+
+module _ {E : Type 0} (c : CatalogEntries) (readers : ℕ) (lines : List ScriptLine) (line : ScriptLine) (old new : Assignments) (were : IsAssigned c readers lines old) where
+  changed : (writer : ℕ) (change : Change) (name : List ℕ) (r : Result (Unit {0}) E)
+      → change_in c line ≡ Some (writer, change) → name_in line ≡ Some (writer, name) → key_in line ≡ None → new.keys ≡ old.keys
+      → IfOk r (λ _. AreListed most_writers (filter_map (change_in c) lines ++ (writer, change) ∷ []) new.changes.items)
+      → IfOk r (λ _. AreListed most_writers (filter_map name_in lines ++ (writer, name) ∷ []) new.names.items)
+      → IfOk r (λ _. IsAssigned c readers (lines ++ line ∷ []) new)
+  changed writer change name (Ok u) is_change is_name is_key kept changes names = record {
+    changes = subst (λ es. AreListed most_writers es new.changes.items) (sym (one_given_more (change_in c) lines line (writer, change) is_change)) changes;
+    names = subst (λ es. AreListed most_writers es new.names.items) (sym (one_given_more name_in lines line (writer, name) is_name)) names;
+    keys = subst (λ es. AreListed readers es new.keys.items) (sym (none_given_more key_in lines line is_key))
+        (subst (λ (ks : Vec (Vec ℕ)). AreListed readers (filter_map key_in lines) ks.items) (sym kept) were.keys);
+  }
+  changed writer change name (Err e) is_change is_name is_key kept changes names = tt
+
+  looked : (reader address : ℕ) (r : Result (Unit {0}) E)
+      → change_in c line ≡ None → name_in line ≡ None → key_in line ≡ Some (reader, address)
+      → new.changes ≡ old.changes → new.names ≡ old.names
+      → IfOk r (λ _. AreListed readers (filter_map key_in lines ++ (reader, address) ∷ []) new.keys.items)
+      → IfOk r (λ _. IsAssigned c readers (lines ++ line ∷ []) new)
+  looked reader address (Ok u) is_change is_name is_key same_changes same_names keys = record {
+    changes = subst (λ es. AreListed most_writers es new.changes.items) (sym (none_given_more (change_in c) lines line is_change))
+        (subst (λ (cs : Vec (Vec Change)). AreListed most_writers (filter_map (change_in c) lines) cs.items) (sym same_changes) were.changes);
+    names = subst (λ es. AreListed most_writers es new.names.items) (sym (none_given_more name_in lines line is_name))
+        (subst (λ (ns : Vec (Vec (List ℕ))). AreListed most_writers (filter_map name_in lines) ns.items) (sym same_names) were.names);
+    keys = subst (λ es. AreListed readers es new.keys.items) (sym (one_given_more key_in lines line (reader, address) is_key)) keys;
+  }
+  looked reader address (Err e) is_change is_name is_key same_changes same_names keys = tt
 
 pub returns-in-Load : goal.returns-in-Load
 returns-in-Load c = λ lines were.
