@@ -1,27 +1,8 @@
 -- What a view is laid out of. Assumes nothing.
 use Rattle.std.proofs.Common.{◌≡◌, ℕ, zero, suc, ◌+◌, ◌-◌, ◌<◌, ◌≤◌, Bool, false, List, [], ◌∷◌, ◌++◌, length, get_or, map, take, Some, None, sym, ap, subst, ◌∙◌, arith, append-nil}
-use Rattle.std.specs.Cmp.{IsStrictWeakOrder}
+use Rattle.latchsym_ffi.proofs.Words.{IsStrictWeakOrder, flat_map, range_with_len, option_map_or, IsNonDecreasingBy, IsPermutation, IsSortedBy, All-append, All-permutation, IsPermutation-map, flat_map-append, slice_get_some, range-append_from_zero, module_of, CatalogEntries, ModuleEntry, SymbolEntry, item_of, items_at, items_below, items_of, one_number_more, comes_before, index_entries_of, IndexEntry, comes_before_weak, entry_at, length-entries_of, rising, AreListed, AreRowsOf, entry_of_row, symbol_of_row, symbols_at, symbols_below, symbols_of, ViewSymbol}
 use Rattle.std.specs.Prelude.{All, slice_get, slice_set}
-use Rattle.std.specs.List.{flat_map, range_with_len}
-use Rattle.std.specs.Option.{option_map_or}
-use Rattle.std.specs.List.Sorted.{IsNonDecreasingBy, IsPermutation, IsSortedBy}
 use Rattle.std.proofs.lemmas.List.{get_or-map, length-append, length-map, map-append, take_more, take_more_set}
-use Rattle.std.proofs.lemmas.List.Elements.{All-append}
-use Rattle.std.proofs.lemmas.List.Sorted.{All-permutation, IsPermutation-map}
-use Rattle.std.proofs.lemmas.Grind.{flat_map-append}
-use Rattle.facts.proofs.Lists.{slice_get_some}
-use Rattle.facts.proofs.Ranges.{range-append_from_zero}
-use Rattle.modules.specs.Catalogs.{module_of}
-use Rattle.modules.specs.Entries.{CatalogEntries, ModuleEntry, SymbolEntry}
-use Rattle.modules.specs.Loads.{item_of}
-use Rattle.modules.specs.Items.{items_at, items_below, items_of}
-use Rattle.modules.proofs.ItemLemmas.{one_number_more}
-use Rattle.modules.specs.Index.{comes_before, index_entries_of}
-use Rattle.modules.specs.declared.symbols.IndexEntry.{IndexEntry}
-use Rattle.modules.proofs.IndexLemmas.{comes_before_weak, entry_at, length-entries_of, rising}
-use Rattle.latchsym_ffi.specs.Flattening.{AreListed}
-use Rattle.latchsym_ffi.specs.Views.{AreRowsOf, entry_of_row, symbol_of_row, symbols_at, symbols_below, symbols_of}
-use Rattle.latchsym_ffi.specs.declared.view_rows.ViewSymbol.{ViewSymbol}
 
 -- ---- rows that are written one after the other
 

@@ -1,3 +1,5 @@
+-- the words that the proofs of this crate use
+mod Words
 -- the kit's words of a walk over raw pointers
 pub mod Walking
 -- the machine values of a box that is out of its place, and of the pointer to content

@@ -5,11 +5,8 @@ use base.Shift.{Keyless}
 use denote.Memory.{lone}
 use denote.Param.Send.{IsSend}
 use denote.RawPtr.{Ptr}
-use Rattle.std.specs.Global.{Global}
+use Rattle.latchsym_ffi.proofs.Words.{Global, lies, owns_content, Content}
 use Rattle.std.proofs.Crossing as heap
-use Rattle.std_alloc.proofs.SendSync.{lies}
-use Rattle.latchsym_ffi.specs.Owning.{owns_content}
-use Rattle.latchsym_ffi.specs.declared.contents.Content.{Content}
 use Rattle.latchsym_ffi.specs.contracts.contents.Content.{the_row}
 
 pub owned_keyless : IsSend the_row → (a : Global) (p : Ptr) (x : Option Content) → Keyless (owns_content a p x)

@@ -1,26 +1,7 @@
 -- What a search of a view's rows finds. Assumes nothing.
 use Rattle.std.proofs.Common.{◌≡◌, ℕ, ◌-◌, ◌<◌, ◌≤◌, List, [], length, get_or, map, Option, Some, None, refl, sym, ap, subst, ◌∙◌, arith}
 use Rattle.std.specs.Prelude.{All, Contains, IfSome, slice_get}
-use Rattle.std.specs.Option.{option_map}
-use Rattle.std.proofs.lemmas.List.{get_or-map, get_or_default, length-map}
-use Rattle.std.proofs.lemmas.List.Elements.{All-contains}
-use Rattle.std.proofs.lemmas.Option.{get_or_from_slice_get, slice_get-map}
-use Rattle.facts.proofs.Lists.{slice_get_some}
-use Rattle.modules.specs.Around.{address_above, symbol_below}
-use Rattle.modules.specs.Entries.{CatalogEntries, SymbolEntry}
-use Rattle.modules.specs.Index.{IsSplit, IsSplitBy}
-use Rattle.modules.specs.Catalogs.{regions_of}
-use Rattle.modules.specs.Items.{item_of_address, items_of}
-use Rattle.modules.proofs.ItemLemmas.{all_regions, region_of}
-use Rattle.modules.specs.RegionIndexes.{IsItemSplit}
-use Rattle.modules.specs.declared.symbols.IndexEntry.{IndexEntry}
-use Rattle.modules.proofs.IndexLemmas.{above_at, last_below, none_below}
-use Rattle.modules.proofs.RegionIndexLemmas.{last_ends_below, last_found, nothing_below}
-use Rattle.order_laws.specs.declared.items.Item.{Item}
-use Rattle.latchsym_ffi.specs.Views.{AreRowsOf, IsRegionRow, IsViewOf, entry_of_row, item_of_row, symbol_of_row}
-use Rattle.latchsym_ffi.specs.declared.view_rows.ViewRegion.{ViewRegion}
-use Rattle.latchsym_ffi.specs.declared.view_rows.ViewSymbol.{ViewSymbol}
-use Rattle.latchsym_ffi.specs.declared.views.SeenRow.{SeenRow}
+use Rattle.latchsym_ffi.proofs.Words.{option_map, get_or-map, get_or_default, length-map, All-contains, get_or_from_slice_get, slice_get-map, slice_get_some, address_above, symbol_below, CatalogEntries, SymbolEntry, IsSplit, IsSplitBy, regions_of, item_of_address, items_of, all_regions, region_of, IsItemSplit, IndexEntry, above_at, last_below, none_below, last_ends_below, last_found, nothing_below, Item, AreRowsOf, IsRegionRow, IsViewOf, entry_of_row, item_of_row, symbol_of_row, ViewRegion, ViewSymbol, SeenRow}
 
 -- a split of the measures of a list is one of the list
 pub split_of_measured : {X : Type 0} (f : X → ℕ) (xs : List X) (addr place : ℕ) → IsSplitBy (λ a. a) (map f xs) addr place → IsSplitBy f xs addr place

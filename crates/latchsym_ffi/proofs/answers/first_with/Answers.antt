@@ -1,6 +1,4 @@
-use Rattle.std.proofs.Common.{◌∙◌, sym}
-use Rattle.latchsym_ffi.specs.declared.answers.Answer.TheVariants.{Done}
-use Rattle.latchsym_ffi.specs.Answers.{has_number}
+use Rattle.latchsym_ffi.proofs.Words.{◌∙◌, sym, Done, has_number}
 use Rattle.latchsym_ffi.proofs.FindLemmas.{found_at, none_more}
 use Rattle.latchsym_ffi.proofs.answers.first_with.Goals as goal
 

@@ -1,6 +1,5 @@
 use Rattle.std.proofs.Common.{◌≡◌, slice_set, get_or, ◌∙◌, ap}
-use Rattle.latchsym_ffi.specs.Finding.{known_at}
-use Rattle.latchsym_ffi.specs.Batches.{told_at, told_of}
+use Rattle.latchsym_ffi.proofs.Words.{known_at, told_at, told_of}
 use Rattle.latchsym_ffi.proofs.MapLemmas.{map_more}
 use Rattle.latchsym_ffi.proofs.batches.tell_all.Goals as goal
 use Rattle.latchsym_ffi.proofs.batches.tell_all.Goals.{then-place-eq0, else-place-eq0}

@@ -1,5 +1,4 @@
-use Rattle.std.proofs.Common.{◌≡◌, ◌++◌, map, take, drop}
-use Rattle.latchsym_ffi.specs.Batches.{told_at}
+use Rattle.latchsym_ffi.proofs.Words.{◌≡◌, ◌++◌, map, take, drop, told_at}
 use Rattle.latchsym_ffi.proofs.batches.tell_all.Given as goal
 
 abbrev pub invariant-loop-place : goal.invariant-loop-place

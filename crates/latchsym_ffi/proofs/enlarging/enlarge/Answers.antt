@@ -1,5 +1,4 @@
-use Rattle.std.proofs.Common.{rules}
-use Rattle.latch_table.specs.Enlarging.{reader_beside}
+use Rattle.latchsym_ffi.proofs.Words.{rules, reader_beside}
 use Rattle.latchsym_ffi.proofs.enlarging.enlarge.Goals as goal
 
 pub returns-in-Ok-clause-enlarged : goal.returns-in-Ok-clause-enlarged

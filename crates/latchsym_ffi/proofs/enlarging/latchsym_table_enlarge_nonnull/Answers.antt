@@ -1,5 +1,4 @@
-use Rattle.std.proofs.Common.{rules, subst}
-use Rattle.latchsym_ffi.specs.Enlarging.{RefusesNodes}
+use Rattle.latchsym_ffi.proofs.Words.{rules, subst, RefusesNodes}
 use Rattle.latchsym_ffi.proofs.enlarging.latchsym_table_enlarge_nonnull.Goals as goal
 
 pub returns-clause-why : goal.returns-clause-why

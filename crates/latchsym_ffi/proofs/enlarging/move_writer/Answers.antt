@@ -1,5 +1,4 @@
-use Rattle.std.proofs.Common.{inr}
-use Rattle.std.proofs.lemmas.Result.{IfErr-weaker, IfOk-weaker}
+use Rattle.latchsym_ffi.proofs.Words.{inr, IfErr-weaker, IfOk-weaker}
 use Rattle.latchsym_ffi.proofs.enlarging.move_writer.Goals as goal
 
 pub returns-clause-moved : goal.returns-clause-moved

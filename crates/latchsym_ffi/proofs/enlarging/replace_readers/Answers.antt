@@ -1,11 +1,6 @@
 use Rattle.std.proofs.Common.{◌≡◌, ◌+◌, ◌<◌, ◌∙◌, List, [], ◌∷◌, Some, ap, length, subst, sym, arith, length-append}
 use Rattle.std.specs.Prelude.{All}
-use Rattle.std.specs.List.{AllWithin}
-use Rattle.std.proofs.lemmas.List.Elements.{All-pop, All-set, AllWithin-more_set}
-use Rattle.latchsym_ffi.specs.declared.contents.Content.TheVariants.{Reader}
-use Rattle.latchsym_ffi.specs.declared.handles.Handle.{Handle}
-use Rattle.latchsym_ffi.specs.Handles.{HoldsReader}
-use Rattle.latchsym_ffi.specs.Kinds.{kind_in, reader_kind}
+use Rattle.latchsym_ffi.proofs.Words.{AllWithin, All-pop, All-set, AllWithin-more_set, Reader, Handle, HoldsReader, kind_in, reader_kind}
 use Rattle.latchsym_ffi.proofs.enlarging.replace_readers.Goals as goal
 use Rattle.latchsym_ffi.proofs.enlarging.replace_readers.Goals.{in-Some, in_default}
 

@@ -1,9 +1,5 @@
-use Rattle.std.proofs.Common.{◌≡◌, ◌+◌, length}
+use Rattle.latchsym_ffi.proofs.Words.{◌≡◌, ◌+◌, length, AllWithin, ReaderState, HoldsReader, reader_kind}
 use Rattle.std.specs.Prelude.{All}
-use Rattle.std.specs.List.{AllWithin}
-use Rattle.latch_table.specs.Readers.{ReaderState}
-use Rattle.latchsym_ffi.specs.Handles.{HoldsReader}
-use Rattle.latchsym_ffi.specs.Kinds.{reader_kind}
 use Rattle.latchsym_ffi.proofs.enlarging.replace_readers.Given as goal
 
 abbrev pub invariant-loop-place : goal.invariant-loop-place

@@ -1,9 +1,4 @@
-use Rattle.std.proofs.Common.{List, map, rules, subst}
-use Rattle.std.specs.List.Sorted.{IsPermutation}
-use Rattle.std.proofs.lemmas.List.Sorted.{All-permutation, IsNonDecreasingBy-from_sort_by_key, IsPermutation-map}
-use Rattle.order_laws.specs.declared.items.Item.{Item}
-use Rattle.latchsym_ffi.specs.Views.{IsRegionRow, item_of_row}
-use Rattle.latchsym_ffi.specs.declared.view_rows.ViewRegion.{ViewRegion}
+use Rattle.latchsym_ffi.proofs.Words.{List, map, rules, subst, IsPermutation, All-permutation, IsNonDecreasingBy-from_sort_by_key, IsPermutation-map, Item, IsRegionRow, item_of_row, ViewRegion}
 use Rattle.latchsym_ffi.proofs.FlatteningLemmas.{rising_shown}
 use Rattle.latchsym_ffi.proofs.flattening.flatten.Goals as goal
 

@@ -1,10 +1,5 @@
-use Rattle.std.proofs.Common.{◌≡◌, rules, ap, ◌∙◌}
-use Rattle.std.specs.Ordering.{is_lt, nat_cmp, ordering_then}
-use Rattle.std.proofs.lemmas.List.Sorted.{answers_always}
-use Rattle.facts.proofs.Numbers.{is_lt-then}
-use Rattle.modules.specs.Index.{comes_before}
+use Rattle.latchsym_ffi.proofs.Words.{◌≡◌, rules, ap, ◌∙◌, is_lt, nat_cmp, ordering_then, answers_always, is_lt-then, comes_before, entry_of_row}
 use Rattle.latchsym_ffi.proofs.FlatteningLemmas.{before_weak, indexed_rows}
-use Rattle.latchsym_ffi.specs.Views.{entry_of_row}
 use Rattle.latchsym_ffi.proofs.flattening.lay_out.Goals as goal
 
 pub returns : goal.returns

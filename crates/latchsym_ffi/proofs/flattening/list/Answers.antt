@@ -1,12 +1,5 @@
 use Rattle.std.proofs.Common.{◌≡◌, ◌<◌, All, Some, ap, arith, length, map, slice_get, subst, sym, ◌∙◌}
-use Rattle.std.proofs.lemmas.List.{length-set, take_all}
-use Rattle.std.proofs.lemmas.Option.{slice_get-get_or}
-use Rattle.modules.specs.Entries.{SymbolEntry}
-use Rattle.modules.specs.Index.{index_entries_of}
-use Rattle.modules.specs.declared.symbols.IndexEntry.{IndexEntry}
-use Rattle.modules.proofs.IndexLemmas.{length-entries_of}
-use Rattle.latchsym_ffi.specs.Views.{entry_of_row, symbol_of_row}
-use Rattle.latchsym_ffi.specs.declared.view_rows.ViewSymbol.{ViewSymbol}
+use Rattle.latchsym_ffi.proofs.Words.{length-set, take_all, slice_get-get_or, SymbolEntry, index_entries_of, IndexEntry, length-entries_of, entry_of_row, symbol_of_row, ViewSymbol}
 use Rattle.latchsym_ffi.proofs.FlatteningLemmas.{all_more, entries_more}
 use Rattle.latchsym_ffi.proofs.flattening.list.Goals as goal
 

@@ -1,6 +1,5 @@
 use Rattle.std.proofs.Common.{◌≡◌, All, Some, length, map, slice_get, take}
-use Rattle.modules.specs.Index.{index_entries_of}
-use Rattle.latchsym_ffi.specs.Views.{entry_of_row, symbol_of_row}
+use Rattle.latchsym_ffi.proofs.Words.{index_entries_of, entry_of_row, symbol_of_row}
 use Rattle.latchsym_ffi.proofs.flattening.list.Given as goal
 
 abbrev pub invariant-loop-place : goal.invariant-loop-place

@@ -1,8 +1,4 @@
-use Rattle.std.proofs.Common.{◌≡◌, ◌+◌, ◌≤◌, ◌∙◌, List, arith, length, subst, take}
-use Rattle.std.proofs.lemmas.List.{take_all}
-use Rattle.modules.specs.Items.{items_below}
-use Rattle.latchsym_ffi.specs.Flattening.{AreRowsBelow}
-use Rattle.latchsym_ffi.specs.declared.view_rows.ViewRegion.{ViewRegion}
+use Rattle.latchsym_ffi.proofs.Words.{◌≡◌, ◌+◌, ◌≤◌, ◌∙◌, List, arith, length, subst, take, take_all, items_below, AreRowsBelow, ViewRegion}
 use Rattle.latchsym_ffi.proofs.FlatteningLemmas.{items_most, more_symbols, symbols_most}
 use Rattle.latchsym_ffi.proofs.flattening.put_all.Goals as goal
 

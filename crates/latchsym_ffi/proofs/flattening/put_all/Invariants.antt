@@ -1,7 +1,4 @@
-use Rattle.std.proofs.Common.{◌≡◌, ◌+◌, length, take}
-use Rattle.modules.specs.Items.{items_below}
-use Rattle.latchsym_ffi.specs.Flattening.{AreRowsBelow}
-use Rattle.latchsym_ffi.specs.Views.{symbols_below, symbols_of}
+use Rattle.latchsym_ffi.proofs.Words.{◌≡◌, ◌+◌, length, take, items_below, AreRowsBelow, symbols_below, symbols_of}
 use Rattle.latchsym_ffi.proofs.flattening.put_all.Given as goal
 
 abbrev pub invariant-loop-number : goal.invariant-loop-number

@@ -1,7 +1,5 @@
 use Rattle.std.proofs.Common.{◌≡◌, ◌∙◌, Bor, None, Option, Some, ap, arith, length, sym}
-use Rattle.std.specs.Option.{option_copied}
-use Rattle.modules.specs.Catalogs.{module_of}
-use Rattle.modules.specs.Entries.{ModuleEntry}
+use Rattle.latchsym_ffi.proofs.Words.{option_copied, module_of, ModuleEntry}
 use Rattle.latchsym_ffi.proofs.FlatteningLemmas.{items_of_module, more_items, no_items_more}
 use Rattle.latchsym_ffi.proofs.flattening.put_module.Goals as goal
 

@@ -1,9 +1,4 @@
-use Rattle.std.proofs.Common.{◌≡◌, ◌≤◌, ◌++◌, ◌∙◌, [], ap, arith, length, map, sym, take}
-use Rattle.std.specs.Option.{option_map_or}
-use Rattle.std.proofs.lemmas.List.{take_all}
-use Rattle.modules.specs.Items.{items_at, items_below}
-use Rattle.modules.specs.Loads.{item_of}
-use Rattle.modules.proofs.ItemLemmas.{one_number_more}
+use Rattle.latchsym_ffi.proofs.Words.{◌≡◌, ◌≤◌, ◌++◌, ◌∙◌, [], ap, arith, length, map, sym, take, option_map_or, take_all, items_at, items_below, item_of, one_number_more}
 use Rattle.latchsym_ffi.proofs.flattening.put_regions.Goals as goal
 
 pub returns-clause-put : goal.returns-clause-put

@@ -1,8 +1,5 @@
 use Rattle.std.proofs.Common.{◌≡◌, ◌+◌, ◌++◌, All, Some, length, map, take}
-use Rattle.modules.specs.Catalogs.{module_of}
-use Rattle.modules.specs.Entries.{CatalogEntries}
-use Rattle.modules.specs.Loads.{item_of}
-use Rattle.latchsym_ffi.specs.Views.{AreRowsOf, IsRegionRow, item_of_row}
+use Rattle.latchsym_ffi.proofs.Words.{module_of, CatalogEntries, item_of, AreRowsOf, IsRegionRow, item_of_row}
 use Rattle.latchsym_ffi.proofs.flattening.put_regions.Given as goal
 
 abbrev pub invariant-loop-region : goal.invariant-loop-region

@@ -1,5 +1,4 @@
-use Rattle.std.proofs.Common.{◌≡◌, length}
-use Rattle.latchsym_ffi.specs.Views.{symbols_below}
+use Rattle.latchsym_ffi.proofs.Words.{◌≡◌, length, symbols_below}
 use Rattle.latchsym_ffi.proofs.flattening.symbols_in.Given as goal
 
 abbrev pub invariant-loop-number : goal.invariant-loop-number

@@ -1,13 +1,5 @@
 use Rattle.std.proofs.Common.{◌≡◌, ◌∙◌, Option, Some, None, [], refl, rules, sym}
-use Rattle.order_laws.specs.Orders.{half_open}
-use Rattle.order_laws.proofs.HalfOpenLemmas.{found_holds}
-use Rattle.table_updates.specs.Updates.{replay}
-use Rattle.latch_table.specs.declared.readers.Try.TheVariants.{Answered}
-use Rattle.latch_table.specs.Readers.{ReaderState}
-use Rattle.latch_table.proofs.MemoryLemmas.{looked_answers}
-use Rattle.latchsym_ffi.specs.declared.contents.Content.{Content}
-use Rattle.latchsym_ffi.specs.declared.contents.Content.TheVariants.{Catalog, Reader, Writer}
-use Rattle.latchsym_ffi.specs.Kinds.{kind_in, reader_kind}
+use Rattle.latchsym_ffi.proofs.Words.{half_open, found_holds, replay, Answered, ReaderState, looked_answers, Content, Catalog, Reader, Writer, kind_in, reader_kind}
 use Rattle.latchsym_ffi.proofs.lookups.latchsym_reader_find_name_nonnull.Goals as goal
 
 reader_of : (held : Option Content) → kind_in held ≡ reader_kind → (r : ReaderState) × (held ≡ Some (Reader r))

@@ -1,9 +1,5 @@
 use Rattle.std.proofs.Common.{◌∙◌, Some, ap, false, subst}
-use Rattle.texts.specs.Lines.{lines_of}
-use Rattle.listing.specs.ModuleListing.{module_counts}
-use Rattle.listing.specs.Opening.{AreOpened, counts_of_texts}
-use Rattle.listing.specs.SymbolListing.{symbol_counts}
-use Rattle.latchsym_ffi.specs.Opening.{counts_in, shown_texts}
+use Rattle.latchsym_ffi.proofs.Words.{lines_of, module_counts, AreOpened, counts_of_texts, symbol_counts, counts_in, shown_texts}
 use Rattle.latchsym_ffi.proofs.opening.catalog_between.Goals as goal
 
 pub returns-clause-opened : goal.returns-clause-opened

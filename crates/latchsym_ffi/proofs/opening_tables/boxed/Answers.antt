@@ -1,9 +1,4 @@
-use Rattle.std.proofs.Common.{◌≡◌, ◌∙◌, ap, map}
-use Rattle.std.specs.Vec.Iter.{into_iter_items}
-use Rattle.std.proofs.lemmas.List.{map-append}
-use Rattle.std.proofs.lemmas.List.Elements.{All-map}
-use Rattle.facts.proofs.Tests.{All-map_same}
-use Rattle.latchsym_ffi.specs.declared.contents.Content.TheVariants.{Reader}
+use Rattle.latchsym_ffi.proofs.Words.{◌≡◌, ◌∙◌, ap, map, into_iter_items, map-append, All-map, All-map_same, Reader}
 use Rattle.latchsym_ffi.proofs.opening_tables.boxed.Goals as goal
 
 pub returns-clause-each : goal.returns-clause-each

@@ -1,6 +1,4 @@
-use Rattle.std.proofs.Common.{◌≡◌, ◌++◌, map}
-use Rattle.std.specs.Vec.Iter.{into_iter_items}
-use Rattle.latchsym_ffi.specs.declared.contents.Content.TheVariants.{Reader}
+use Rattle.latchsym_ffi.proofs.Words.{◌≡◌, ◌++◌, map, into_iter_items, Reader}
 use Rattle.latchsym_ffi.proofs.opening_tables.boxed.Given as goal
 
 abbrev pub invariant-loop-inner : goal.invariant-loop-inner

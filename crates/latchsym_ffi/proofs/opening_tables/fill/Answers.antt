@@ -1,10 +1,5 @@
 use Rattle.std.proofs.Common.{◌≡◌, ◌+◌, ◌<◌, ◌∙◌, List, [], ◌∷◌, Some, ap, length, set, subst, sym, arith, length-append}
-use Rattle.std.specs.List.{AllWithin}
-use Rattle.std.proofs.lemmas.List.{get_or-set_same}
-use Rattle.std.proofs.lemmas.List.Elements.{All-pop, AllWithin-kept, AllWithin-more}
-use Rattle.latchsym_ffi.specs.declared.contents.Content.TheVariants.{Reader}
-use Rattle.latchsym_ffi.specs.declared.handles.Handle.{Handle}
-use Rattle.latchsym_ffi.specs.Handles.{HoldsReader}
+use Rattle.latchsym_ffi.proofs.Words.{AllWithin, get_or-set_same, All-pop, AllWithin-kept, AllWithin-more, Reader, Handle, HoldsReader}
 use Rattle.latchsym_ffi.proofs.opening_tables.fill.Goals as goal
 use Rattle.latchsym_ffi.proofs.opening_tables.fill.Goals.{in-Some, in_default}
 

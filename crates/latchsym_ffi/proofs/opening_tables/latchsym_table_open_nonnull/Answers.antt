@@ -1,7 +1,5 @@
 use Rattle.std.proofs.Common.{◌∙◌, Some, ap, sym}
-use Rattle.latch_table.specs.Writers.{new_writer}
-use Rattle.latchsym_ffi.specs.declared.contents.Content.TheVariants.{Writer}
-use Rattle.latchsym_ffi.specs.Tables.{first_reader}
+use Rattle.latchsym_ffi.proofs.Words.{new_writer, Writer, first_reader}
 use Rattle.latchsym_ffi.proofs.opening_tables.latchsym_table_open_nonnull.Goals as goal
 
 pub returns-in-Ok-open_boxes-clause-opened : goal.returns-in-Ok-open_boxes-clause-opened

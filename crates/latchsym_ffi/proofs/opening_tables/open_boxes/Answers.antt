@@ -1,6 +1,4 @@
-use Rattle.std.proofs.Common.{◌∙◌, ap}
-use Rattle.latchsym_ffi.specs.declared.contents.Content.TheVariants.{Writer}
-use Rattle.latchsym_ffi.specs.Tables.{first_reader}
+use Rattle.latchsym_ffi.proofs.Words.{◌∙◌, ap, Writer, first_reader}
 use Rattle.latchsym_ffi.proofs.opening_tables.open_boxes.Goals as goal
 
 pub returns-clause-opened : goal.returns-clause-opened

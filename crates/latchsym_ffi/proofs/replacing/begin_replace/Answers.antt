@@ -1,7 +1,4 @@
-use Rattle.std.proofs.Common.{◌∙◌, inr, refl, subst}
-use Rattle.order_laws.specs.declared.refusals.Refusal.TheVariants.{OutOfMemory}
-use Rattle.order_laws.specs.Orders.{half_open}
-use Rattle.latch_table.specs.Replacing.{RefusesReplacing}
+use Rattle.latchsym_ffi.proofs.Words.{◌∙◌, inr, refl, subst, OutOfMemory, half_open, RefusesReplacing}
 use Rattle.latchsym_ffi.proofs.replacing.begin_replace.Goals as goal
 
 pub returns-in_default-clause-refused : goal.returns-in_default-clause-refused

@@ -1,6 +1,4 @@
-use Rattle.std.proofs.Common.{map, rules, subst}
-use Rattle.latchsym_ffi.specs.Replacing.{RefusesReplacingAs}
-use Rattle.latchsym_ffi.specs.Updates.{item_from}
+use Rattle.latchsym_ffi.proofs.Words.{map, rules, subst, RefusesReplacingAs, item_from}
 use Rattle.latchsym_ffi.proofs.replacing.latchsym_writer_begin_replace_nonnull.Goals as goal
 
 pub returns-clause-refused : goal.returns-clause-refused

@@ -1,7 +1,5 @@
-use Rattle.std.proofs.Common.{◌∙◌, ap}
+use Rattle.latchsym_ffi.proofs.Words.{◌∙◌, ap, Item, item_told}
 use Rattle.std.specs.Prelude.{slice_index_or, slice_set}
-use Rattle.order_laws.specs.declared.items.Item.{Item}
-use Rattle.latchsym_ffi.specs.Replacing.{item_told}
 use Rattle.latchsym_ffi.proofs.MapLemmas.{map_more}
 use Rattle.latchsym_ffi.proofs.replacing.put_items.Goals as goal
 

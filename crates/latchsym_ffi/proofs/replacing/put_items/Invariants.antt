@@ -1,5 +1,4 @@
-use Rattle.std.proofs.Common.{◌≡◌, ◌++◌, map, take, drop}
-use Rattle.latchsym_ffi.specs.Replacing.{item_told}
+use Rattle.latchsym_ffi.proofs.Words.{◌≡◌, ◌++◌, map, take, drop, item_told}
 use Rattle.latchsym_ffi.proofs.replacing.put_items.Given as goal
 
 abbrev pub invariant-loop-place : goal.invariant-loop-place

@@ -1,10 +1,4 @@
-use Rattle.std.proofs.Common.{◌≡◌, ◌∙◌, List, length, sym}
-use Rattle.std.proofs.lemmas.List.Sorted.{length_permutation}
-use Rattle.order_laws.specs.declared.items.Item.{Item}
-use Rattle.modules.specs.Catalogs.{regions_of}
-use Rattle.modules.specs.Entries.{CatalogEntries}
-use Rattle.modules.specs.Items.{items_of}
-use Rattle.modules.specs.RegionIndexes.{IsIndexOf}
+use Rattle.latchsym_ffi.proofs.Words.{◌≡◌, ◌∙◌, List, length, sym, length_permutation, Item, regions_of, CatalogEntries, items_of, IsIndexOf}
 use Rattle.latchsym_ffi.proofs.ViewLemmas.{as_many_items}
 use Rattle.latchsym_ffi.proofs.replacing.tell_items.Goals as goal
 

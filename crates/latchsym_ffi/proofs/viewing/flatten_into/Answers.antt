@@ -1,5 +1,4 @@
-use Rattle.std.proofs.Common.{◌∙◌, rules}
-use Rattle.latchsym_ffi.specs.Viewing.{AreRooms}
+use Rattle.latchsym_ffi.proofs.Words.{◌∙◌, rules, AreRooms}
 use Rattle.latchsym_ffi.proofs.ViewLemmas.{as_many_items}
 use Rattle.latchsym_ffi.proofs.viewing.flatten_into.Goals as goal
 

@@ -1,6 +1,4 @@
-use Rattle.std.proofs.Common.{◌∙◌, ap, subst}
-use Rattle.latchsym_ffi.specs.Finding.{known_code}
-use Rattle.latchsym_ffi.specs.Named.{IsNamed}
+use Rattle.latchsym_ffi.proofs.Words.{◌∙◌, ap, subst, known_code, IsNamed}
 use Rattle.latchsym_ffi.proofs.ViewLemmas.{row_of_seen}
 use Rattle.latchsym_ffi.proofs.viewing.latchsym_view_find.Goals as goal
 

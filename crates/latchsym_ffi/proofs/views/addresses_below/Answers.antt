@@ -1,6 +1,4 @@
-use Rattle.std.proofs.Common.{ℕ, nat_le, rules}
-use Rattle.std.proofs.lemmas.List.Sorted.{IsPartitionPoint-from_clause, IsPartitionedBy-leb}
-use Rattle.modules.proofs.IndexLemmas.{IsSplitBy-from_partition}
+use Rattle.latchsym_ffi.proofs.Words.{ℕ, nat_le, rules, IsPartitionPoint-from_clause, IsPartitionedBy-leb, IsSplitBy-from_partition}
 use Rattle.latchsym_ffi.proofs.views.addresses_below.Goals as goal
 
 pub returns : goal.returns

@@ -1,6 +1,4 @@
-use Rattle.std.proofs.Common.{◌∙◌, ap, arith, sym}
-use Rattle.std.specs.Option.{option_map}
-use Rattle.latchsym_ffi.specs.Views.{symbol_of_row}
+use Rattle.latchsym_ffi.proofs.Words.{◌∙◌, ap, arith, sym, option_map, symbol_of_row}
 use Rattle.latchsym_ffi.proofs.ViewLemmas.{no_row_below, row_above, row_below}
 use Rattle.latchsym_ffi.proofs.views.around.Goals as goal
 

@@ -1,7 +1,4 @@
-use Rattle.std.proofs.Common.{nat_le, rules}
-use Rattle.std.proofs.lemmas.List.Sorted.{IsPartitionPoint-from_clause, IsPartitionedBy-leb}
-use Rattle.modules.proofs.IndexLemmas.{IsSplitBy-from_partition}
-use Rattle.latchsym_ffi.specs.declared.view_rows.ViewRegion.{ViewRegion}
+use Rattle.latchsym_ffi.proofs.Words.{nat_le, rules, IsPartitionPoint-from_clause, IsPartitionedBy-leb, IsSplitBy-from_partition, ViewRegion}
 use Rattle.latchsym_ffi.proofs.views.regions_below.Goals as goal
 
 pub returns : goal.returns

@@ -1,13 +1,5 @@
 use Rattle.std.proofs.Common.{◌≡◌, ◌∙◌, ℕ, ◌-◌, ◌≤◌, Bor, None, Option, Some, ap, arith, min, refl, rules, sym}
-use Rattle.std.specs.Prelude.{unwrap_or}
-use Rattle.std.specs.Option.{option_copied, option_map}
-use Rattle.modules.specs.Around.{address_above, symbol_below}
-use Rattle.modules.specs.Entries.{SymbolEntry}
-use Rattle.modules.specs.Found.{symbol_found_at, symbols_from}
-use Rattle.modules.proofs.NearestLemmas.{found, found_is}
-use Rattle.modules.proofs.WithinLemmas.{before_within, none_within, reach_within, some_within}
-use Rattle.latchsym_ffi.specs.Views.{shown_row, symbol_of_row}
-use Rattle.latchsym_ffi.specs.declared.view_rows.ViewSymbol.{ViewSymbol}
+use Rattle.latchsym_ffi.proofs.Words.{unwrap_or, option_copied, option_map, address_above, symbol_below, SymbolEntry, symbol_found_at, symbols_from, found, found_is, before_within, none_within, reach_within, some_within, shown_row, symbol_of_row, ViewSymbol}
 use Rattle.latchsym_ffi.proofs.views.symbol_in_rows.Goals as goal
 
 abbrev shown : Option (Bor ViewSymbol) → Option SymbolEntry
