@@ -2,10 +2,12 @@
 
 use crate::tests::ledgers::{START, catalog};
 use follower::Follower;
-use latch_table::Try;
+use latch_table::{Reader, Try};
 use modules::IndexedCatalog;
-use order_laws::Refusal;
+use order_laws::{HalfOpen, Refusal};
 use shared_lookup::Open;
+use std::alloc::Global;
+use std::process::Abort;
 use std::test::Fail;
 use word_layout::Layout;
 
@@ -13,11 +15,39 @@ use word_layout::Layout;
 /// number 1 and so with the same item.
 const SHOWN: [&[&[u8]]; 4] = [&[b"ext4"], &[b"xfs", b"ext4"], &[], &[b"nfs"]];
 
-/// The name of the module that has `START` by the catalog of a generation.
+/// The name of the module that has `START` by the catalog of each generation, if one stands there.
+const NAMED: [(u64, Option<&[u8]>); 6] = [
+    (0, None),
+    (1, Some(b"ext4")),
+    (2, Some(b"xfs")),
+    (3, None),
+    (4, Some(b"nfs")),
+    (9, Some(b"nfs")),
+];
+
 fn name_at(follower: &Follower<'static>, generation: u64) -> Option<&'static [u8]> {
     let catalog = follower.catalog_at(generation)?;
     let item = catalog.find(START)?;
     Some(catalog.catalog().module(item.tag)?.name())
+}
+
+/// Shows the catalog of these modules.
+fn show(
+    rt: &impl Abort,
+    alloc: Global,
+    follower: &mut Follower<'static>,
+    names: &[&'static [u8]],
+) -> Result<u64, Refusal> {
+    let shown = catalog(rt, alloc, names, &[])?;
+    follower.show(&Open, 0, IndexedCatalog::new(alloc, shown)?)
+}
+
+/// What a reader finds at `START`, and at which generation.
+fn found(rt: &impl Abort, reader: &mut Reader<HalfOpen>) -> (bool, u64) {
+    match reader.try_find(START) {
+        Try::Answered(item, generation) => (item.is_some(), generation),
+        _ => panic!(rt; "no answer"),
+    }
 }
 
 // Each answer is named by the catalog of its generation, also once others are shown, until that is
@@ -31,24 +61,17 @@ fn answers_and_their_names(rt: HostRuntime) -> Result<(), Fail> {
     };
     for (before, names) in SHOWN.iter().enumerate() {
         let generation = before as u64 + 1;
-        let shown = IndexedCatalog::new(alloc, catalog(&rt, alloc, names, &[])?)?;
-        assert_eq!(rt; follower.show(&Open, 0, shown), Ok(generation));
-        let Try::Answered(found, at) = reader.try_find(START) else {
-            panic!(rt; "no answer at {generation}")
-        };
-        assert_eq!(rt; (found.is_some(), at), (!names.is_empty(), generation));
+        assert_eq!(rt; show(&rt, alloc, &mut follower, names), Ok(generation));
+        assert_eq!(rt; found(&rt, &mut reader), (!names.is_empty(), generation));
     }
     let many: [&[u8]; 4] = [b"a", b"b", b"c", b"d"];
-    let large = IndexedCatalog::new(alloc, catalog(&rt, alloc, &many, &[])?)?;
-    assert_eq!(rt; follower.show(&Open, 0, large), Err(Refusal::Full));
-    let named = [0, 1, 2, 3, 4, 9].map(|generation| name_at(&follower, generation));
-    let [ext4, xfs, nfs]: [&[u8]; 3] = [b"ext4", b"xfs", b"nfs"];
-    assert_eq!(rt;
-        named,
-        [None, Some(ext4), Some(xfs), None, Some(nfs), Some(nfs)]
-    );
+    assert_eq!(rt; show(&rt, alloc, &mut follower, &many), Err(Refusal::Full));
+    for (generation, name) in NAMED {
+        assert_eq!(rt; name_at(&follower, generation), name);
+    }
     follower.forget_below(3);
-    let left = [1, 2, 3, 4].map(|generation| follower.catalog_at(generation).is_some());
-    assert_eq!(rt; left, [false, false, true, true]);
+    for (generation, stands) in [(1, false), (2, false), (3, true), (4, true)] {
+        assert_eq!(rt; follower.catalog_at(generation).is_some(), stands);
+    }
     Ok(())
 }
