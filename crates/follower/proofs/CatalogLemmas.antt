@@ -3,17 +3,16 @@ use Rattle.std.proofs.Common.{◌≡◌, ℕ, suc, zero, ◌+◌, ◌-◌, ◌<�
 use Rattle.std.proofs.Common.{List, [], ◌∷◌, ◌++◌, length, drop, take, get_or, Option, Some, None}
 use Rattle.std.proofs.Common.{IfSome, refl, sym, ap, subst, ◌∙◌, arith, All}
 use Rattle.std.proofs.Common.{⊎_elim}
-use Rattle.std.proofs.lemmas.Bool.{cases_lt}
+use Rattle.std.proofs.lemmas.Bool.{cases_lt, le-leb, lt-leb}
 use Rattle.std.proofs.lemmas.List.{take-append-drop, drop_more, get_or-drop, length-drop}
 use Rattle.std.proofs.lemmas.List.{get_or-append-add, length-append}
 use Rattle.std.proofs.lemmas.Option.{IfSome_then}
 use Rattle.std.proofs.lemmas.List.Elements.{All-append, All-cons, All-nil}
-use Rattle.std.specs.List.Sorted.{IsNonDecreasingBy}
 use Rattle.std.proofs.Math.Seq.{take-append_seam}
 use Rattle.std.proofs.lemmas.Grind.{get_or_after_one}
 use Rattle.follower.specs.declared.catalogs.DatedCatalog.{DatedCatalog}
 use Rattle.modules.specs.Entries.{CatalogEntries}
-use Rattle.follower.specs.Catalogs.{EachStands, Forgets, IsRising, standing_at}
+use Rattle.follower.specs.Catalogs.{EachStands, Forgets, standing_at}
 use Rattle.modules.specs.Index.{IsSplitBy}
 
 abbrev IsSplit : List DatedCatalog → ℕ → ℕ → Type 0
@@ -34,27 +33,21 @@ none_split d ds g s = record {
   above = λ k e le lt. s.above (suc k) e (omega arith) (omega arith);
 }
 
-begun : (a b : ℕ) → a ≤ b → nat_le a b ≡ true
-begun a b le = grind (arith)
-
-later : (a b : ℕ) → b < a → nat_le a b ≡ false
-later a b lt = grind (arith)
-
 -- none stands where all begin later
 pub none_stands : (ds : List DatedCatalog) (g : ℕ) → IsSplit ds g 0 → standing_at ds g ≡ None
 none_stands [] g s = refl
 none_stands (d ∷ ds) g s =
-    rw (later d.generation g (s.above 0 d (omega arith) (omega arith)))
+    rw (lt-leb d.generation g (s.above 0 d (omega arith) (omega arith)))
     (none_stands ds g (none_split d ds g s))
 
 -- and else the last that does not
 last_stands : (ds : List DatedCatalog) (g p : ℕ) (e : DatedCatalog) → IsSplit ds g (suc p) → standing_at ds g ≡ Some (get_or ds p e).catalog
 last_stands [] g p e s = absurd (omega (arith, s.bound))
 last_stands (d ∷ ds) g zero e s =
-    rw (begun d.generation g (s.below 0 d (omega arith)))
+    rw (le-leb d.generation g (s.below 0 d (omega arith)))
     (rw (none_stands ds g (rest_split d ds g 0 s)) refl)
 last_stands (d ∷ ds) g (suc p) e s =
-    rw (begun d.generation g (s.below 0 d (omega arith)))
+    rw (le-leb d.generation g (s.below 0 d (omega arith)))
     (rw (last_stands ds g p e (rest_split d ds g (suc p) s)) refl)
 
 -- what stands there of the later ones stands there of all
@@ -74,7 +67,7 @@ earlier_stands (d ∷ ds) es g is = rw (earlier_stands ds es g is) refl
 
 -- some catalog stands where the first does
 pub first_stands : (d : DatedCatalog) (ds : List DatedCatalog) (g : ℕ) → d.generation ≤ g → (c : CatalogEntries) × (standing_at (d ∷ ds) g ≡ Some c)
-first_stands d ds g le = rw (begun d.generation g le) (_, refl)
+first_stands d ds g le = rw (le-leb d.generation g le) (_, refl)
 
 module _ (ds : List DatedCatalog) (g p : ℕ) (s : IsSplit ds g p) where
   -- without the catalogs before the last of those that begin up to this generation, the same stands from it on
@@ -111,34 +104,17 @@ module _ (ds : List DatedCatalog) (g p : ℕ) (s : IsSplit ds g p) where
   pub stands_last : (e : DatedCatalog) → 0 < p → standing_at ds g ≡ Some (get_or ds (p - 1) e).catalog
   stands_last e some = last_stands ds g (p - 1) e (subst (IsSplit ds g) (let f : p ≡ suc (p - 1) = omega arith in f) s)
 
--- strictly rising ones do not fall
-pub never_falls : (ds : List DatedCatalog) → IsRising ds → IsNonDecreasingBy (λ d. d.generation) ds
-never_falls ds rises i j d le lt =
-    ⊎_elim
-    (λ less. let r = rises i j d less lt in omega arith)
-    (λ same. subst (λ k. (get_or ds i d).generation ≤ (get_or ds k d).generation) (let e : i ≡ j = omega arith in e) (omega arith))
-    (cases_lt i j)
-
 -- a list that is turned by so many and cut by as many is without its first so many
 pub cut : (ds : List DatedCatalog) (n : ℕ) → n ≤ length ds → take (length ds - n) (drop n ds ++ take n ds) ≡ drop n ds
 cut ds n le = ap (λ k. take k (drop n ds ++ take n ds)) (sym (length-drop n ds)) ∙ take-append_seam (drop n ds) (take n ds)
 
-pub drop_rising : (ds : List DatedCatalog) (n : ℕ) → IsRising ds → IsRising (drop n ds)
-drop_rising ds n rises i j d lt within =
-    let e : get_or (drop n ds) i d ≡ get_or ds (n + i) d = get_or-drop n ds i d in
-    let f : get_or (drop n ds) j d ≡ get_or ds (n + j) d = get_or-drop n ds j d in
-    let r = rises (n + i) (n + j) d (omega arith) (omega (arith, within, length-drop n ds)) in
-    let a : (get_or (drop n ds) i d).generation ≡ (get_or ds (n + i) d).generation = ap (λ x. x.generation) e in
-    let b : (get_or (drop n ds) j d).generation ≡ (get_or ds (n + j) d).generation = ap (λ x. x.generation) f in
-    omega (arith, r, a, b)
-
 -- stands at its own generation and after it
 pub newest_stands : (ds : List DatedCatalog) (e : DatedCatalog) (g : ℕ) → e.generation ≤ g → standing_at (ds ++ e ∷ []) g ≡ Some e.catalog
-newest_stands ds e g le = later_stands ds (e ∷ []) g e.catalog (rw (begun e.generation g le) refl)
+newest_stands ds e g le = later_stands ds (e ∷ []) g e.catalog (rw (le-leb e.generation g le) refl)
 
 -- and not before it
 pub others_stand : (ds : List DatedCatalog) (e : DatedCatalog) (g : ℕ) → g < e.generation → standing_at (ds ++ e ∷ []) g ≡ standing_at ds g
-others_stand ds e g lt = earlier_stands ds (e ∷ []) g (rw (later e.generation g lt) refl)
+others_stand ds e g lt = earlier_stands ds (e ∷ []) g (rw (lt-leb e.generation g lt) refl)
 
 -- what holds of all holds of those behind the first ones
 behind : {X : Type 0} (P : X → Type 0) (xs ys : List X) → All P (xs ++ ys) → All P ys

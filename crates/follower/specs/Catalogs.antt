@@ -1,14 +1,13 @@
 -- Catalogs by generation.
-use Rattle.std.specs.Prelude.{◌≡◌, ℕ, ◌<◌, ◌≤◌, List, [], ◌∷◌, ◌++◌, All, IfSome, drop, length}
-use Rattle.std.specs.Prelude.{if◌then◌else◌, nat_le, slice_index_or, unwrap_or, Option, Some, None}
+use Rattle.std.specs.Prelude.{◌≡◌, ℕ, ◌<◌, ◌≤◌, List, [], ◌∷◌, ◌++◌, All, IfSome, drop}
+use Rattle.std.specs.Prelude.{if◌then◌else◌, nat_le, unwrap_or, Option, Some, None}
+use Rattle.std.specs.List.Sorted.{IsNonDecreasingBy}
 use Rattle.modules.specs.Entries.{CatalogEntries}
 use Rattle.follower.specs.declared.catalogs.DatedCatalog.{DatedCatalog}
 
--- each catalog stands from a later generation on than the one before
+-- the catalogs stand by rising generation
 abbrev pub IsRising : List DatedCatalog → Type 0
-IsRising dated =
-    (i j : ℕ) (d : DatedCatalog) → i < j → j < length dated
-    → (slice_index_or dated i d).generation < (slice_index_or dated j d).generation
+IsRising dated = IsNonDecreasingBy (λ d. d.generation) dated
 
 -- the last of the catalogs that stand from the generation or an earlier one on
 abbrev pub standing_at : List DatedCatalog → ℕ → Option CatalogEntries

@@ -7,12 +7,12 @@
 //! stood then, however many came since:
 //!
 //! ```text
-//!   generation     1        2        3        4
-//!   catalogs       A        B                 C         3 was another update: B stands still
-//!   an answer of generation 3 ----> B
+//!   generation     1        2        3
+//!   catalogs       A        B        C
+//!   an answer of generation 2 ----> B, also once C is shown
 //! ```
 //!
-//! A reader's generations never fall: once each has passed 3, no answer needs A, which
+//! A reader's generations never fall: once each has passed 2, no answer needs A, which
 //! [`Follower::forget_below`] then drops.
 #![tactic(auto)]
 

@@ -1,9 +1,8 @@
-use Rattle.std.proofs.Common.{◌≡◌, ◌∙◌, ℕ, List, nat_le, ap, sym, subst, rules}
+use Rattle.std.proofs.Common.{◌≡◌, ◌∙◌, List, nat_le, ap, sym, subst, rules}
 use Rattle.std.proofs.lemmas.List.Sorted.{IsPartitionPoint-from_clause, IsPartitionedBy-leb}
 use Rattle.follower.specs.declared.catalogs.DatedCatalog.{DatedCatalog}
 use Rattle.follower.specs.Catalogs.{IsRising}
 use Rattle.modules.specs.Index.{IsSplitBy}
-use Rattle.follower.proofs.CatalogLemmas.{never_falls}
 use Rattle.modules.proofs.IndexLemmas.{IsSplitBy-from_partition}
 use Rattle.follower.proofs.catalogs.Catalogs.begun_at.Goals as goal
 
@@ -13,7 +12,6 @@ returns c =
     let inside : dated ≡ c.self.inside.dated.items = c.deref.ensures.value in
     let shown : dated ≡ c.args.self.now.items = inside ∙ ap (λ v. v.items) c.self.view_is in
     let rising : IsRising dated = subst IsRising (sym inside) c.self.invariant in
-    let begins : DatedCatalog → ℕ = λ d. d.generation in
     subst (λ xs. IsSplitBy (λ (d : DatedCatalog). d.generation) xs c.args.generation c.partition_point.result) shown
     (IsSplitBy-from_partition (λ (d : DatedCatalog). d.generation) dated c.args.generation c.partition_point.result c.partition_point.ensures.bound
-    (IsPartitionPoint-from_clause (λ (d : DatedCatalog). nat_le d.generation c.args.generation) dated c.partition_point.result c.partition_point.ensures.partitioned (IsPartitionedBy-leb (λ (d : DatedCatalog). d.generation) dated c.args.generation (never_falls dated rising)) (λ a r q k. search rules)))
+    (IsPartitionPoint-from_clause (λ (d : DatedCatalog). nat_le d.generation c.args.generation) dated c.partition_point.result c.partition_point.ensures.partitioned (IsPartitionedBy-leb (λ (d : DatedCatalog). d.generation) dated c.args.generation rising) (λ a r q k. search rules)))

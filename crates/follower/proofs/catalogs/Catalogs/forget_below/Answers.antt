@@ -1,7 +1,8 @@
 use Rattle.std.proofs.Common.{◌≡◌, ℕ, ◌-◌, List, drop, length, take, ◌++◌, subst, sym, ap, ◌∙◌, arith, rules}
+use Rattle.std.proofs.lemmas.List.Sorted.{IsNonDecreasingBy-drop}
 use Rattle.follower.specs.declared.catalogs.DatedCatalog.{DatedCatalog}
 use Rattle.follower.specs.Catalogs.{Forgets, IsRising}
-use Rattle.follower.proofs.CatalogLemmas.{cut, drop_rising, forgets}
+use Rattle.follower.proofs.CatalogLemmas.{cut, forgets}
 use Rattle.follower.proofs.catalogs.Catalogs.forget_below.Goals as goal
 
 left : (c : goal.After-truncate) → c.truncate.new.self.items ≡ drop (c.begun_at.result - 1) c.args.self.now.items
@@ -22,7 +23,7 @@ left c =
 pub invariant_of-self : goal.invariant_of-self
 invariant_of-self c =
     subst IsRising (sym (left c))
-    (drop_rising c.args.self.now.items (c.begun_at.result - 1) (subst (λ v. IsRising v.items) c.self.view_is c.self.invariant))
+    (IsNonDecreasingBy-drop (λ (d : DatedCatalog). d.generation) (c.begun_at.result - 1) c.args.self.now.items (subst (λ v. IsRising v.items) c.self.view_is c.self.invariant))
 
 pub returns : goal.returns
 returns c =
