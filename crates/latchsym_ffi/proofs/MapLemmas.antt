@@ -1,6 +1,5 @@
 -- A loop that writes f of each element of one list over another. Assumes nothing.
-use Rattle.std.proofs.Common.{◌≡◌, ℕ, ◌+◌, ◌<◌, List, [], ◌∷◌, ◌++◌, map, take, drop, length, get_or, zero, suc, ap, arith, refl, ◌∙◌}
-use Rattle.std.specs.Prelude.{slice_set}
+use Rattle.latchsym_ffi.proofs.Words.{◌≡◌, ℕ, ◌+◌, ◌<◌, List, [], ◌∷◌, ◌++◌, map, take, drop, length, get_or, zero, suc, ap, arith, refl, ◌∙◌, slice_set}
 
 map_next : {X Y : Type 0} (f : X → Y) (xs : List X) (ys : List Y) (n : ℕ) (d : X) → n < length xs → length ys ≡ length xs
     → slice_set (map f (take n xs) ++ drop n ys) n (f (get_or xs n d)) ≡ map f (take (suc n) xs) ++ drop (suc n) ys

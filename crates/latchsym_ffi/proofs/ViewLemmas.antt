@@ -1,7 +1,5 @@
 -- What a search of a view's rows finds. Assumes nothing.
-use Rattle.std.proofs.Common.{◌≡◌, ℕ, ◌-◌, ◌<◌, ◌≤◌, List, [], length, get_or, map, Option, Some, None, refl, sym, ap, subst, ◌∙◌, arith}
-use Rattle.std.specs.Prelude.{All, Contains, IfSome, slice_get}
-use Rattle.latchsym_ffi.proofs.Words.{option_map, get_or-map, get_or_default, length-map, All-contains, get_or_from_slice_get, slice_get-map, slice_get_some, address_above, symbol_below, CatalogEntries, SymbolEntry, IsSplit, IsSplitBy, regions_of, item_of_address, items_of, all_regions, region_of, IsItemSplit, IndexEntry, above_at, last_below, none_below, last_ends_below, last_found, nothing_below, Item, AreRowsOf, IsRegionRow, IsViewOf, entry_of_row, item_of_row, symbol_of_row, ViewRegion, ViewSymbol, SeenRow}
+use Rattle.latchsym_ffi.proofs.Words.{◌≡◌, ℕ, ◌-◌, ◌<◌, ◌≤◌, List, [], length, get_or, map, Option, Some, None, refl, sym, ap, subst, ◌∙◌, arith, All, Contains, IfSome, slice_get, option_map, get_or-map, get_or_default, length-map, All-contains, get_or_from_slice_get, slice_get-map, slice_get_some, address_above, symbol_below, CatalogEntries, SymbolEntry, IsSplit, IsSplitBy, regions_of, item_of_address, items_of, all_regions, region_of, IsItemSplit, IndexEntry, above_at, last_below, none_below, last_ends_below, last_found, nothing_below, Item, AreRowsOf, IsRegionRow, IsViewOf, entry_of_row, item_of_row, symbol_of_row, ViewRegion, ViewSymbol, SeenRow}
 
 -- a split of the measures of a list is one of the list
 pub split_of_measured : {X : Type 0} (f : X → ℕ) (xs : List X) (addr place : ℕ) → IsSplitBy (λ a. a) (map f xs) addr place → IsSplitBy f xs addr place

@@ -1,8 +1,8 @@
 -- The words that the proofs of this crate use, of whatever crate.
-pub use Rattle.std.proofs.Common.{List, [], ap, arith, drop, inr, length, map, nat_le, refl, rules, subst, sym, take, ℕ, ◌++◌, ◌+◌, ◌∙◌, ◌≡◌, ◌≤◌}
+pub use Rattle.std.proofs.Common.{All, Bool, Bor, List, None, Option, Some, [], ap, append-nil, arith, drop, false, get_or, inr, length, length-append, map, min, nat_le, refl, rules, set, slice_get, slice_index_or, slice_set, subst, suc, sym, take, zero, ℕ, ⊎_elim, ◌++◌, ◌+◌, ◌-◌, ◌<◌, ◌^◌, ◌∙◌, ◌∷◌, ◌≡◌, ◌≤◌}
 pub use Rattle.std.proofs.lemmas.Bool.{cases_lt}
 pub use Rattle.std.proofs.lemmas.Grind.{flat_map-append}
-pub use Rattle.std.proofs.lemmas.List.{get_or-map, get_or-set_same, get_or_default, length-map, length-set, map-append, take_all}
+pub use Rattle.std.proofs.lemmas.List.{get_or-map, get_or-set_same, get_or_default, length-map, length-set, map-append, take_all, take_more, take_more_set}
 pub use Rattle.std.proofs.lemmas.List.Elements.{All-append, All-contains, All-map, All-pop, All-set, AllWithin-kept, AllWithin-more, AllWithin-more_set}
 pub use Rattle.std.proofs.lemmas.List.Sorted.{All-permutation, IsNonDecreasingBy-from_sort_by_key, IsPartitionPoint-from_clause, IsPartitionedBy-leb, IsPermutation-map, answers_always, length_permutation}
 pub use Rattle.std.proofs.lemmas.Option.{get_or_from_slice_get, slice_get-get_or, slice_get-map}
@@ -13,7 +13,7 @@ pub use Rattle.std.specs.List.{AllWithin, flat_map, range_with_len}
 pub use Rattle.std.specs.List.Sorted.{IsNonDecreasingBy, IsPermutation, IsSortedBy}
 pub use Rattle.std.specs.Option.{option_copied, option_map, option_map_or}
 pub use Rattle.std.specs.Ordering.{is_lt, nat_cmp, ordering_then}
-pub use Rattle.std.specs.Prelude.{MatchOption, SomeIff, unwrap_or}
+pub use Rattle.std.specs.Prelude.{Contains, IfSome, MatchOption, SomeIff, unwrap_or}
 pub use Rattle.std.specs.Vec.Iter.{into_iter_items}
 pub use Rattle.std_alloc.proofs.SendSync.{lies}
 pub use Rattle.facts.proofs.Lists.{slice_get_some}

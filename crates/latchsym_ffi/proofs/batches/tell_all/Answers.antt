@@ -1,5 +1,4 @@
-use Rattle.std.proofs.Common.{◌≡◌, slice_set, get_or, ◌∙◌, ap}
-use Rattle.latchsym_ffi.proofs.Words.{known_at, told_at, told_of}
+use Rattle.latchsym_ffi.proofs.Words.{◌≡◌, slice_set, get_or, ◌∙◌, ap, known_at, told_at, told_of}
 use Rattle.latchsym_ffi.proofs.MapLemmas.{map_more}
 use Rattle.latchsym_ffi.proofs.batches.tell_all.Goals as goal
 use Rattle.latchsym_ffi.proofs.batches.tell_all.Goals.{then-place-eq0, else-place-eq0}

@@ -1,6 +1,4 @@
-use Rattle.std.proofs.Common.{◌≡◌, ◌+◌, ◌<◌, ◌∙◌, List, [], ◌∷◌, Some, ap, length, subst, sym, arith, length-append}
-use Rattle.std.specs.Prelude.{All}
-use Rattle.latchsym_ffi.proofs.Words.{AllWithin, All-pop, All-set, AllWithin-more_set, Reader, Handle, HoldsReader, kind_in, reader_kind}
+use Rattle.latchsym_ffi.proofs.Words.{◌≡◌, ◌+◌, ◌<◌, ◌∙◌, List, [], ◌∷◌, Some, ap, length, subst, sym, arith, length-append, All, AllWithin, All-pop, All-set, AllWithin-more_set, Reader, Handle, HoldsReader, kind_in, reader_kind}
 use Rattle.latchsym_ffi.proofs.enlarging.replace_readers.Goals as goal
 use Rattle.latchsym_ffi.proofs.enlarging.replace_readers.Goals.{in-Some, in_default}
 

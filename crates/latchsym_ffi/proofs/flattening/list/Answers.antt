@@ -1,5 +1,4 @@
-use Rattle.std.proofs.Common.{◌≡◌, ◌<◌, All, Some, ap, arith, length, map, slice_get, subst, sym, ◌∙◌}
-use Rattle.latchsym_ffi.proofs.Words.{length-set, take_all, slice_get-get_or, SymbolEntry, index_entries_of, IndexEntry, length-entries_of, entry_of_row, symbol_of_row, ViewSymbol}
+use Rattle.latchsym_ffi.proofs.Words.{◌≡◌, ◌<◌, All, Some, ap, arith, length, map, slice_get, subst, sym, ◌∙◌, length-set, take_all, slice_get-get_or, SymbolEntry, index_entries_of, IndexEntry, length-entries_of, entry_of_row, symbol_of_row, ViewSymbol}
 use Rattle.latchsym_ffi.proofs.FlatteningLemmas.{all_more, entries_more}
 use Rattle.latchsym_ffi.proofs.flattening.list.Goals as goal
 

@@ -1,5 +1,4 @@
-use Rattle.std.proofs.Common.{◌≡◌, All, Some, length, map, slice_get, take}
-use Rattle.latchsym_ffi.proofs.Words.{index_entries_of, entry_of_row, symbol_of_row}
+use Rattle.latchsym_ffi.proofs.Words.{◌≡◌, All, Some, length, map, slice_get, take, index_entries_of, entry_of_row, symbol_of_row}
 use Rattle.latchsym_ffi.proofs.flattening.list.Given as goal
 
 abbrev pub invariant-loop-place : goal.invariant-loop-place

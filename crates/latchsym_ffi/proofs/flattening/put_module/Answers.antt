@@ -1,5 +1,4 @@
-use Rattle.std.proofs.Common.{◌≡◌, ◌∙◌, Bor, None, Option, Some, ap, arith, length, sym}
-use Rattle.latchsym_ffi.proofs.Words.{option_copied, module_of, ModuleEntry}
+use Rattle.latchsym_ffi.proofs.Words.{◌≡◌, ◌∙◌, Bor, None, Option, Some, ap, arith, length, sym, option_copied, module_of, ModuleEntry}
 use Rattle.latchsym_ffi.proofs.FlatteningLemmas.{items_of_module, more_items, no_items_more}
 use Rattle.latchsym_ffi.proofs.flattening.put_module.Goals as goal
 

@@ -1,5 +1,4 @@
-use Rattle.std.proofs.Common.{◌≡◌, ◌+◌, ◌++◌, All, Some, length, map, take}
-use Rattle.latchsym_ffi.proofs.Words.{module_of, CatalogEntries, item_of, AreRowsOf, IsRegionRow, item_of_row}
+use Rattle.latchsym_ffi.proofs.Words.{◌≡◌, ◌+◌, ◌++◌, All, Some, length, map, take, module_of, CatalogEntries, item_of, AreRowsOf, IsRegionRow, item_of_row}
 use Rattle.latchsym_ffi.proofs.flattening.put_regions.Given as goal
 
 abbrev pub invariant-loop-region : goal.invariant-loop-region

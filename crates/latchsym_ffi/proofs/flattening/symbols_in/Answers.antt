@@ -1,5 +1,4 @@
-use Rattle.std.proofs.Common.{◌≡◌, ◌+◌, ◌<◌, ◌≤◌, ◌^◌, ◌∙◌, None, Option, Some, ℕ, ⊎_elim, ap, arith, length, rules, subst, sym}
-use Rattle.latchsym_ffi.proofs.Words.{MatchOption, SomeIff, unwrap_or, cases_lt, symbols_below, symbols_of}
+use Rattle.latchsym_ffi.proofs.Words.{◌≡◌, ◌+◌, ◌<◌, ◌≤◌, ◌^◌, ◌∙◌, None, Option, Some, ℕ, ⊎_elim, ap, arith, length, rules, subst, sym, MatchOption, SomeIff, unwrap_or, cases_lt, symbols_below, symbols_of}
 use Rattle.latchsym_ffi.proofs.FlatteningLemmas.{more_symbols, symbols_most}
 use Rattle.latchsym_ffi.proofs.flattening.symbols_in.Goals as goal
 

@@ -1,5 +1,4 @@
-use Rattle.std.proofs.Common.{◌≡◌, ◌∙◌, Option, Some, None, [], refl, rules, sym}
-use Rattle.latchsym_ffi.proofs.Words.{half_open, found_holds, replay, Answered, ReaderState, looked_answers, Content, Catalog, Reader, Writer, kind_in, reader_kind}
+use Rattle.latchsym_ffi.proofs.Words.{◌≡◌, ◌∙◌, Option, Some, None, [], refl, rules, sym, half_open, found_holds, replay, Answered, ReaderState, looked_answers, Content, Catalog, Reader, Writer, kind_in, reader_kind}
 use Rattle.latchsym_ffi.proofs.lookups.latchsym_reader_find_name_nonnull.Goals as goal
 
 reader_of : (held : Option Content) → kind_in held ≡ reader_kind → (r : ReaderState) × (held ≡ Some (Reader r))

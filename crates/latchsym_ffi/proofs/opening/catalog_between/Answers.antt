@@ -1,5 +1,4 @@
-use Rattle.std.proofs.Common.{◌∙◌, Some, ap, false, subst}
-use Rattle.latchsym_ffi.proofs.Words.{lines_of, module_counts, AreOpened, counts_of_texts, symbol_counts, counts_in, shown_texts}
+use Rattle.latchsym_ffi.proofs.Words.{◌∙◌, Some, ap, false, subst, lines_of, module_counts, AreOpened, counts_of_texts, symbol_counts, counts_in, shown_texts}
 use Rattle.latchsym_ffi.proofs.opening.catalog_between.Goals as goal
 
 pub returns-clause-opened : goal.returns-clause-opened

@@ -1,5 +1,4 @@
-use Rattle.std.proofs.Common.{◌≡◌, ◌+◌, ◌<◌, ◌∙◌, List, [], ◌∷◌, Some, ap, length, set, subst, sym, arith, length-append}
-use Rattle.latchsym_ffi.proofs.Words.{AllWithin, get_or-set_same, All-pop, AllWithin-kept, AllWithin-more, Reader, Handle, HoldsReader}
+use Rattle.latchsym_ffi.proofs.Words.{◌≡◌, ◌+◌, ◌<◌, ◌∙◌, List, [], ◌∷◌, Some, ap, length, set, subst, sym, arith, length-append, AllWithin, get_or-set_same, All-pop, AllWithin-kept, AllWithin-more, Reader, Handle, HoldsReader}
 use Rattle.latchsym_ffi.proofs.opening_tables.fill.Goals as goal
 use Rattle.latchsym_ffi.proofs.opening_tables.fill.Goals.{in-Some, in_default}
 

@@ -1,5 +1,4 @@
-use Rattle.latchsym_ffi.proofs.Words.{◌≡◌, ◌+◌, length, AllWithin, ReaderState, HoldsReader, Reader}
-use Rattle.std.specs.Prelude.{All}
+use Rattle.latchsym_ffi.proofs.Words.{All, ◌≡◌, ◌+◌, length, AllWithin, ReaderState, HoldsReader, Reader}
 use Rattle.latchsym_ffi.proofs.opening_tables.fill.Given as goal
 
 abbrev pub invariant-loop-place : goal.invariant-loop-place

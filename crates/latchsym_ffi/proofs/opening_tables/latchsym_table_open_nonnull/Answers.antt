@@ -1,5 +1,4 @@
-use Rattle.std.proofs.Common.{◌∙◌, Some, ap, sym}
-use Rattle.latchsym_ffi.proofs.Words.{new_writer, Writer, first_reader}
+use Rattle.latchsym_ffi.proofs.Words.{◌∙◌, Some, ap, sym, new_writer, Writer, first_reader}
 use Rattle.latchsym_ffi.proofs.opening_tables.latchsym_table_open_nonnull.Goals as goal
 
 pub returns-in-Ok-open_boxes-clause-opened : goal.returns-in-Ok-open_boxes-clause-opened

@@ -1,5 +1,4 @@
-use Rattle.latchsym_ffi.proofs.Words.{◌∙◌, ap, Item, item_told}
-use Rattle.std.specs.Prelude.{slice_index_or, slice_set}
+use Rattle.latchsym_ffi.proofs.Words.{slice_index_or, slice_set, ◌∙◌, ap, Item, item_told}
 use Rattle.latchsym_ffi.proofs.MapLemmas.{map_more}
 use Rattle.latchsym_ffi.proofs.replacing.put_items.Goals as goal
 

@@ -1,5 +1,4 @@
-use Rattle.std.proofs.Common.{◌≡◌, ◌∙◌, ℕ, ◌-◌, ◌≤◌, Bor, None, Option, Some, ap, arith, min, refl, rules, sym}
-use Rattle.latchsym_ffi.proofs.Words.{unwrap_or, option_copied, option_map, address_above, symbol_below, SymbolEntry, symbol_found_at, symbols_from, found, found_is, before_within, none_within, reach_within, some_within, shown_row, symbol_of_row, ViewSymbol}
+use Rattle.latchsym_ffi.proofs.Words.{◌≡◌, ◌∙◌, ℕ, ◌-◌, ◌≤◌, Bor, None, Option, Some, ap, arith, min, refl, rules, sym, unwrap_or, option_copied, option_map, address_above, symbol_below, SymbolEntry, symbol_found_at, symbols_from, found, found_is, before_within, none_within, reach_within, some_within, shown_row, symbol_of_row, ViewSymbol}
 use Rattle.latchsym_ffi.proofs.views.symbol_in_rows.Goals as goal
 
 abbrev shown : Option (Bor ViewSymbol) → Option SymbolEntry
