@@ -105,7 +105,7 @@ if [ -e "$here/bin/latchsym" ]; then
 else
     . "$here/tests/program.sh"
     . "$top/tests/library.sh"
-    if [ -n "$static$processor" ]; then build_static latchsym "$processor"; else build latchsym; fi
+    if [ -n "$static$processor" ]; then build_static latchsym "$processor"; else build_proved latchsym; fi
     build_library "$processor"
 fi
 

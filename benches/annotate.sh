@@ -9,7 +9,7 @@
 set -eu
 megabytes=${1:-100}
 . "$(dirname "$0")/../tests/program.sh"
-build latchsym
+build_proved latchsym
 rustc --edition 2021 -C opt-level=3 -o "$work/peer" "$top/benches/peers/annotate.rs"
 if [ $# -ge 2 ]; then
     cp "$2" "$work/kallsyms"

@@ -6,7 +6,7 @@
 set -eu
 regions=${1:-60000}
 . "$(dirname "$0")/../tests/program.sh"
-build latchsym
+build_proved latchsym
 
 # no symbol reaches the next one
 awk -v regions="$regions" 'BEGIN {

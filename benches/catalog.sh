@@ -8,6 +8,6 @@ modules=${1:-200}
 symbols=${2:-2000000}
 lookups=${3:-10000000}
 . "$(dirname "$0")/../tests/program.sh"
-build measures
+build_proved measures
 
 /usr/bin/time -f 'most memory: %M kB' "$program" build "$modules" "$symbols" "$lookups"

@@ -5,6 +5,6 @@ set -eu
 items=${1:-1000}
 rounds=${2:-500}
 . "$(dirname "$0")/../tests/program.sh"
-build measures
+build_proved measures
 
 /usr/bin/time -f '%e s, most memory: %M kB' "$program" drive "$items" "$rounds"

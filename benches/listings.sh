@@ -6,6 +6,6 @@ set -eu
 modules=${1:-/proc/modules}
 kallsyms=${2:-/proc/kallsyms}
 . "$(dirname "$0")/../tests/program.sh"
-build measures
+build_proved measures
 
 /usr/bin/time -f 'most memory: %M kB' "$program" read "$modules" "$kallsyms"

@@ -11,7 +11,7 @@ set -eu
 folder=$(cd "$1" && pwd)
 peer=${2:+$(realpath "$2")}
 . "$(dirname "$0")/../tests/program.sh"
-build latchsym
+build_proved latchsym
 
 ours() { "$program" lookup --modules "$folder/modules.txt" --kallsyms "$folder/kallsyms.txt" --addresses "$folder/addr.$1"; }
 theirs() { "$peer" "$folder/modules.txt" "$folder/kallsyms.txt" "$folder/addr.$1"; }

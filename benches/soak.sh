@@ -4,7 +4,7 @@
 set -euo pipefail
 seconds=${1:-60}
 . "$(dirname "$0")/../tests/program.sh"
-build measures
+build_proved measures
 
 "$program" soak "$seconds" | tee "$work/seen"
 grep -q ' wrong 0 ' "$work/seen"

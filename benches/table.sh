@@ -11,7 +11,7 @@ set -eu
 repeats=${REPEATS:-7}
 seconds=${SECONDS_A_RUN:-0.2}
 . "$(dirname "$0")/../tests/program.sh"
-build measures
+build_proved measures
 programs=("$@" "$program")
 
 # measure LABEL FIELD MODE ITEMS [READERS]: a line for each program

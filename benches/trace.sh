@@ -5,7 +5,7 @@
 set -eu
 lines=${1:-1000000}
 . "$(dirname "$0")/../tests/program.sh"
-build latchsym
+build_proved latchsym
 rustc --edition 2021 -C opt-level=3 -o "$work/peer" "$top/benches/peers/trace.rs"
 
 # a small table, one update in every thousand lines, and lookups of 4 readers

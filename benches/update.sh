@@ -5,7 +5,7 @@
 set -euo pipefail
 pairs=${1:-2000}
 . "$(dirname "$0")/../tests/program.sh"
-build measures
+build_proved measures
 
 # instructions PAIRS ITEMS: of the whole program; its output is kept
 instructions() {

@@ -5,7 +5,7 @@
 # both programs' user times, which take turns. Needs a C compiler and valgrind.
 set -euo pipefail
 . "$(dirname "$0")/../tests/program.sh"
-build measures
+build_proved measures
 cc -O2 -o "$work/walk" "$top/benches/walk.c"
 TIMEFORMAT=%U
 

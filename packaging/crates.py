@@ -11,16 +11,16 @@ import sys
 TOP = os.path.dirname(os.path.dirname(os.path.abspath(__file__)))
 
 
-def lines_of_crates():
-    """The line of each crate of crates.txt, by its name and in their order."""
-    with open(f"{TOP}/crates.txt", encoding="utf-8") as file:
+def lines_of_crates(file=f"{TOP}/crates.txt"):
+    """The line of each crate of crates.txt, or of another such file, by its name and in their order."""
+    with open(file, encoding="utf-8") as file:
         lines = [line.partition("#")[0].strip() for line in file]
     return {re.match(r"\w+", line)[0]: line for line in lines if line}
 
 
-def uses_of_crates():
-    """What each crate of crates.txt uses."""
-    return {name: line.partition(":")[2].split() for name, line in lines_of_crates().items()}
+def uses_of_crates(file=f"{TOP}/crates.txt"):
+    """What each crate of crates.txt, or of another such file, uses."""
+    return {name: line.partition(":")[2].split() for name, line in lines_of_crates(file).items()}
 
 
 def uses_of_kit_crate(kit, name):

@@ -1,10 +1,14 @@
 #!/usr/bin/env bash
+# tests/arm64.sh [--share]
 # The library and the program for arm64, built from the same proofs by the cross compiler and run by
 # an emulator of that processor: the programs of tests/c and examples/c, so numbers, finds of each
 # kind over the listings of examples/, the table on threads and beside signals; the tests of traces
 # and of annotated logs, over the program; and what a release for arm64 has, its wheel and the
 # packages for Debian among it. Looks at the order of the atomic steps in the machine code. Installs
 # from Debian's packages what is not there, by root, or else ends with a line that says so.
+#
+# The program is proved anew for this processor, which takes minutes: with --share it is looked at on
+# every seventh day, and on the others the library alone.
 set -euo pipefail
 . "$(dirname "$0")/program.sh"
 . "$top/tests/library.sh"
@@ -76,6 +80,11 @@ done
 [ "$loads" -ge 7 ] || fail "an attempt has $loads loads by ldar"
 echo "arm64: an attempt loads by ldar, in $loads places, and a step of the writer stores by stlr"
 
+if [ "${1:-}" = --share ] && [ $(($(date +%s) / 86400 % 7)) != 0 ]; then
+    echo "arm64: the program and its release are not looked at today"
+    exit
+fi
+
 # the program: the tests of its traces and logs, and a release with all that is made of it
 "$top/release.sh" --target aarch64 "$work" >"$work/out" 2>&1 || fail "$(cat "$work/out")"
 version=$(cat "$top/VERSION")
@@ -90,7 +99,7 @@ mkdir "$work/emulated"
 printf '#!/bin/sh\nexec qemu-aarch64 %s "$@"\n' "$release/bin/latchsym" >"$work/emulated/latchsym"
 chmod +x "$work/emulated/latchsym"
 for script in traces annotate; do
-    EMULATED=1 RUNS=20 UNPROVED=$work/emulated "$top/tests/$script.sh"
+    EMULATED=1 RUNS=20 PROGRAMS=$work/emulated "$top/tests/$script.sh"
 done
 timeout 60 "$work/emulated/latchsym" run --modules basic.modules --kallsyms basic.kallsyms --readers 1 \
     ../scripts/loads.script >"$work/lines"

@@ -34,8 +34,8 @@ made_in() {
 
 # build_over_ci CRATE PROCESSOR TO WORD..: proves the crate once more, over the libraries that
 # `rt ci` has proved and left beside it, and compiles it to the file TO; rattle gets the further
-# words. Fails where these libraries are not there, are of another command, or are older than a
-# source
+# words. What it has proved for one processor it need not prove for another. Fails if these libraries
+# are not there, are of another command, or are older than a source
 build_over_ci() {
     local crate=$1 to=$3 kit name rlib words=()
     rlib=$top/crates/order_laws/out/rlib/order_laws.rlib
@@ -57,6 +57,7 @@ build_over_ci() {
     done
     (cd "$top/crates/$crate" && rattle build --crate-name "$crate" "${words[@]}" \
         --antt-project "$kit/rattle/logic/antt-project.json" --logic-built "$kit/logic_built" \
+        --incremental "$top/crates/$crate/out/over_ci" \
         --toolchain "$kit/toolchain" --backend llvm --jobs "$(jobs)" \
         --target "$2-unknown-linux-gnu" "${@:4}" -o "$to")
 }
@@ -75,7 +76,7 @@ build_static() {
     object=$(made_in "$1" "$processor")/$1.o
     tools_of "$processor"
     if [ "$processor" = x86_64 ]; then
-        build "$1"
+        build_proved "$1"
     elif [ -e "$object" ] && is_older "$object" "$top"/crates/*/src; then
         rm "$object"
     fi

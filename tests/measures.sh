@@ -12,11 +12,14 @@ gives() {
 }
 
 build measures
-data=$top/crates/measures/data
+data=$top/tests/crates/measures/data
 gives "items 20 lookups 12288 found 6258 loads 237366 tags 65058" walk 20 3
 gives "items 20 pairs 5 stores 399 words 11067153580527951182" stores 20 5
 gives "items 20 rounds 5 events 536 notes 5 sequence 60" drive 20 5
 gives "60" cw 20 40
+gives "2034 21327" c 20 4096
+"$program" drive 0 5 >"$work/seen" 2>&1
+grep -qx 'refused 10' "$work/seen"
 "$program" soak 0.2 >"$work/seen"
 grep -q ' recalled [1-9].* wrong 0 ' "$work/seen"
 cc -O2 -o "$work/walk" "$top/benches/walk.c"

@@ -129,7 +129,7 @@ done
 for script in "install.sh $work/prefix" tests/cases.sh tests/quick.sh tests/linear.sh tests/bindings.sh 'tests/wrong_bodies.sh --all'; do
     status=0
     # shellcheck disable=SC2086
-    (cd "$top" && env -u UNPROVED PATH="$work/tools" bash $script) >"$work/out" 2>&1 || status=$?
+    (cd "$top" && env -u PROGRAMS PATH="$work/tools" bash $script) >"$work/out" 2>&1 || status=$?
     [ $status = 1 ] && [ "$(wc -l <"$work/out")" = 1 ] && grep -q 'Rattle kit' "$work/out" ||
         fail "$script without the kit: status $status, $(cat "$work/out")"
 done

@@ -1,8 +1,8 @@
 # Read by the scripts that run a program: `top` is the repository, and `work` a folder that is gone
-# when the script ends. Where UNPROVED names a folder, the programs that stand there run, and none is
-# built: tests/quick.sh makes them with no proof.
+# when the script ends. Where PROGRAMS names a folder, the programs that stand there run, and none is
+# built.
 top=$(cd "$(dirname "${BASH_SOURCE[0]}")/.." && pwd)
-[ -n "${UNPROVED:-}" ] || . "$top/tests/needs_kit.sh"
+[ -n "${PROGRAMS:-}" ] || . "$top/tests/needs_kit.sh"
 
 work=$(mktemp -d)
 trap 'rm -rf "$work"' EXIT
@@ -12,15 +12,42 @@ is_older() {
     [ -n "$(find "${@:2}" "$top/crates.txt" -newer "$1" -print -quit)" ]
 }
 
-# build CRATE: makes the crate's program `program`, and builds it where it is missing or older than
-# a source; ends the script where it cannot be built
+# build CRATE: makes the crate's program `program`: the one that was proved or else the one in
+# tests/out, if it is not older than a source; else builds it, without a proof unless PROVED is set.
+# Ends the script if it cannot be built
 build() {
-    if [ -n "${UNPROVED:-}" ]; then
-        program=$(realpath "$UNPROVED")/$1
-        return
-    fi
     program=$top/crates/$1/out/$1
-    if [ ! -x "$program" ] || is_older "$program" "$top"/crates/*/src; then
+    if [ -n "${PROGRAMS:-}" ]; then
+        program=$(realpath "$PROGRAMS")/$1
+    elif [ -n "${PROVED:-}" ] && [ -d "$top/crates/$1" ]; then
+        build_proved "$1"
+    elif [ ! -x "$program" ] || is_older "$program" "$top"/crates/*/src; then
+        build_unproved "$1"
+    fi
+}
+
+# build_proved CRATE: makes the crate's proved program `program`, and proves and builds it if it is
+# missing or older than a source; one of tests/crates over what `rt ci` has proved on this machine
+build_proved() {
+    program=$top/crates/$1/out/$1
+    if [ -d "$top/tests/crates/$1" ]; then
+        program=$top/tests/out/proved/$1
+        if [ ! -x "$program" ] || is_older "$program" "$top"/crates/*/src "$top/tests/crates"; then
+            mkdir -p "$top/tests/out/proved"
+            "$top/tests/build.py" prove "$1" "$program" >&2 || exit 1
+        fi
+    elif [ ! -x "$program" ] || is_older "$program" "$top"/crates/*/src; then
         (cd "$top/crates/$1" && rt run -- --help) >"$work/build" 2>&1 || { cat "$work/build" >&2; exit 1; }
+    fi
+}
+
+# build_unproved CRATE: makes the crate's program in tests/out `program`, and builds it without a
+# proof if it is missing or older than a source
+build_unproved() {
+    program=$top/tests/out/$1
+    if [ ! -x "$program" ] || is_older "$program" "$top"/crates/*/src "$top/tests/crates"; then
+        mkdir -p "$top/tests/out"
+        "$top/tests/build.py" build "$1" "$program.new" >&2 || exit 1
+        mv "$program.new" "$program"
     fi
 }

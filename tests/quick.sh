@@ -1,38 +1,37 @@
 #!/usr/bin/env bash
-# All tests without a proof, in some ten minutes: the tests of the crates by `rt try --test`, and the
-# scripts over programs that are built with no proof. What is left out needs proved work: the library
-# for C with its packages, installing, a release, programs that must not compile, wrong bodies.
+# tests/quick.sh [NAME..]
+# Runs what is named without a proof: a script of tests/ (annotate), a case of tests/cases, or the
+# tests of a crate of tests/crates. What is there of builds and is not older than a source is used;
+# else the program is built, in a minute and a half.
+#
+# Without a name it runs all that needs no proved work, in eight minutes on two processors. What is
+# left out: the library for C with its packages, installing, a release, programs that must not compile,
+# wrong bodies.
 set -euo pipefail
 cd "$(dirname "$0")/.."
 . tests/needs_kit.sh
-work=$(mktemp -d)
-trap 'kill $(jobs -p) 2>/dev/null || true; rm -rf "$work"' EXIT
-failed=()
-
-# programs: builds the programs one after the other
-programs() {
-    local crate
-    for crate in latchsym refused_calls measures; do
-        python3 tests/quick/build.py "$crate" "$work/new" && mv "$work/new" "$work/$crate"
+if [ $# -gt 0 ]; then
+    cases=() crates=() scripts=()
+    for name; do
+        found=${#cases[@]}${#crates[@]}${#scripts[@]}
+        [ ! -d "tests/cases/$name" ] || cases+=("$name")
+        ! grep -qr '#\[test\]' "tests/crates/$name" 2>/dev/null || crates+=("$name")
+        [ ! -f "tests/$name.sh" ] || scripts+=("$name")
+        [ "$found" != "${#cases[@]}${#crates[@]}${#scripts[@]}" ] || {
+            echo "quick.sh: $name is no case, no crate of tests and no script" >&2
+            exit 2
+        }
     done
-}
-
-programs >"$work/built" 2>&1 &
-built=$!
-for crate in $(grep -rl '#\[test\]' crates/*/src | cut -d/ -f2 | sort -u); do
-    echo "== tests of $crate"
-    (cd "crates/$crate" && rt try --test --seconds 300) >"$work/tests" 2>&1 || failed+=("the tests of $crate")
-    grep -E 'FAILED|^test result' "$work/tests" || cat "$work/tests"
-done
-wait "$built" || { cat "$work/built"; exit 1; }
-export UNPROVED=$work
-for script in cases traces lookups lines json annotate checks address runs refusals refused_calls \
-    measures random symbols_alone random_logs devices pages versions; do
-    echo "== tests/$script.sh"
-    "tests/$script.sh" >"$work/said" 2>&1 || { failed+=("tests/$script.sh"); tail -n 40 "$work/said"; }
-done
-if [ ${#failed[@]} -gt 0 ]; then
-    printf 'failed: %s\n' "${failed[@]}"
-    exit 1
+    for script in "${scripts[@]}"; do "tests/$script.sh"; done
+    [ ${#cases[@]} = 0 ] || tests/cases.sh "${cases[@]}"
+    [ ${#crates[@]} = 0 ] || tests/crates.sh "${crates[@]}"
+    exit
 fi
+times=$(mktemp)
+trap 'sort -rn "$times"; rm -f "$times"' EXIT
+# (cases.sh builds the program, so it comes first, beside what needs none)
+tests/lanes.py "$times" 'tests/cases.sh annotated_log_stays_as_it_is' tests/refused_calls.sh
+tests/lanes.py "$times" tests/crates.sh tests/random_logs.sh tests/random.sh tests/measures.sh \
+    tests/{refusals,devices,memory,runs}.sh \
+    tests/{cases,traces,lookups,lines,json,annotate,checks,address,symbols_alone,pages,versions}.sh
 echo "all passed; nothing of it was proved"

@@ -1,15 +1,19 @@
 # Read after program.sh by the scripts that use what a machine may lack.
 
 # has TEST PACKAGE..: whether the test holds, once Debian's packages are there, if they can be had;
-# a line says what is installed, by root, or what is passed over
+# a line says what is installed, by root, or what is passed over. Of scripts that run side by side one
+# installs at a time
 has() {
     local name=${0##*/}
     name=${name%.sh}
     if ! eval "$1" >/dev/null 2>&1 && [ "$(id -u)" = 0 ] && command -v apt-get >/dev/null; then
         echo "$name: installing ${*:2}"
-        timeout 60 apt-get -qq update >/dev/null 2>&1 || true
-        DEBIAN_FRONTEND=noninteractive timeout 300 \
-            apt-get -qq install -y --no-install-recommends "${@:2}" </dev/null >/dev/null 2>&1 || true
+        (
+            flock 9
+            timeout 60 apt-get -qq update >/dev/null 2>&1 || true
+            DEBIAN_FRONTEND=noninteractive timeout 300 \
+                apt-get -qq install -y --no-install-recommends "${@:2}" </dev/null >/dev/null 2>&1 || true
+        ) 9>"${TMPDIR:-/tmp}/latchsym-installs"
     fi
     eval "$1" >/dev/null 2>&1 || {
         echo "$name: passed over, since Debian's ${*:2} are not there"

@@ -3,24 +3,18 @@
 # what is drawn after each step is compared with a plain replay of the steps (tests/steps/replay.py).
 # Tries keys, files, addresses and words, and in a frame of 390 x 844 that a phone has both trees in
 # sight of its buttons. The examples in the page are those of examples/traces. With --pictures it also
-# makes the pictures of docs/watch/ again. Debian's chromium is installed where it is missing and this is root; where no
-# browser can be had, one line says that it is passed over.
+# makes the pictures of docs/watch/ again. Debian's chromium is installed if it is missing and this is
+# root; if no browser can be had, one line says that it is passed over.
 set -eu
 top=$(cd "$(dirname "$0")/.." && pwd)
 work=$(mktemp -d)
 trap 'rm -rf "$work"' EXIT
+. "$top/tests/tools.sh"
 
 python3 "$top/docs/watch/examples.py" --check
 
-browser=$(command -v chromium || command -v chromium-browser || true)
-if [ -z "$browser" ] && [ "$(id -u)" = 0 ]; then
-    (apt-get update && apt-get install -y --no-install-recommends chromium fonts-dejavu-core) >"$work/apt" 2>&1 || true
-    browser=$(command -v chromium || true)
-fi
-if [ -z "$browser" ]; then
-    echo "watch: passed over, since there is no chromium"
-    exit 0
-fi
+has 'command -v chromium || command -v chromium-browser' chromium fonts-dejavu-core || exit 0
+browser=$(command -v chromium || command -v chromium-browser)
 
 # browse ARG..: the browser without a window, with a profile of its own
 browse() {

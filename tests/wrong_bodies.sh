@@ -2,10 +2,11 @@
 # tests/wrong_bodies.sh --all | --share [NUMBER] | CRATE..
 # Tries wrong bodies of tests/wrong_bodies: each is an edit of a crate that its contracts must
 # refuse, as those of crates/CRATE/must-fail, which the gate tries. Those are of the promises by
-# name; these stand beside them, or are of a program that measures or tests.
+# name; these stand beside them. One with a line `test: COMMAND` no contract can refuse, or it is of a
+# crate that the gate does not prove: this command must fail over it.
 #
-# --share tries one share, at most 24 of one crate's: that of the day, or the one with this number,
-# so that `.ci/run` comes to all of them in turn. --all is for a release. What was tried, with which
+# --share tries one share of at most eight minutes: that of the day, or the one with this number, so
+# that `.ci/run` comes to all of them in turn. --all is for a release. What was tried, with which
 # result and at which commit, is written to tests/wrong_bodies/TRIED.
 #
 # It works on a copy of their crates and those below, over what `rt ci` has proved of the same files
@@ -14,13 +15,24 @@ set -euo pipefail
 top=$(cd "$(dirname "$0")/.." && pwd)
 . "$top/tests/needs_kit.sh"
 tried=$top/tests/wrong_bodies/TRIED
-most=24
+
+# most CRATE: how many edits of the crate make a share; fewer of one that takes minutes to prove
+most() {
+    case $1 in
+        latchsym | modules | engines) echo 8 ;;
+        listing | shared_lookup | latchsym_ffi) echo 12 ;;
+        workloads | refused_calls) echo 4 ;;
+        *) echo 20 ;;
+    esac
+}
 
 # shares: a line CRATE EDIT.. for each share
 shares() {
     local crate
     for crate in "$top"/tests/wrong_bodies/*/; do
-        (cd "$crate" && printf '%s\n' *.edit) | xargs -n "$most" echo "$(basename "$crate")"
+        crate=$(basename "$crate")
+        (cd "$top/tests/wrong_bodies/$crate" && printf '%s\n' *.edit) |
+            xargs -n "$(most "$crate")" echo "$crate"
     done
 }
 
@@ -37,21 +49,51 @@ esac
 
 work=$(mktemp -d)
 trap 'rm -rf "$work"' EXIT
-mkdir -p "$work/repo/crates"
 cd "$top"
-packaging/crates.py $(printf '%s\n' "${chosen[@]%% *}" | sort -u) >"$work/repo/crates.txt"
-cp HANDLES "$work/repo"
-git init -q "$work/repo"
-grep -oE '^[a-z_]+' "$work/repo/crates.txt" | sed 's|^|crates/|' |
-    tar --exclude=must-fail --exclude=out -cf - -T - | tar -C "$work/repo" -xf -
+: >"$work/said"
+status=0
+
+# by_test CRATE EDIT COMMAND: says whether the command fails over a copy of the repository with the
+# edit; a body that does not compile says nothing
+by_test() {
+    local repo=$work/tested verdict='refused, as it must be'
+    mkdir "$repo"
+    git ls-files -z --cached --others --exclude-standard |
+        tar --null --ignore-failed-read -cf - -T - 2>"$work/seen" | tar -C "$repo" -xf -
+    if ! tests/edits.py --apply "$repo" "$1" "tests/wrong_bodies/$1/$2"; then
+        verdict='BAD EDIT: it does not fit its file'
+    elif (cd "$repo" && bash -c "$3") >"$work/seen" 2>&1; then
+        verdict='NOT REFUSED'
+        status=1
+    elif grep -qE 'is not compiled|^run=none' "$work/seen"; then
+        verdict="BAD EDIT: $(grep -m 1 'error\[' "$work/seen" || true)"
+    fi
+    echo "rt: must-fail $1/$2: $verdict" | tee -a "$work/said"
+    rm -rf "$repo"
+}
+
+proved=()
 for share in "${chosen[@]}"; do
     read -r crate edits <<<"$share"
-    mkdir -p "$work/repo/crates/$crate/must-fail"
-    (cd "tests/wrong_bodies/$crate" && cp $edits "$work/repo/crates/$crate/must-fail")
+    for edit in $edits; do
+        command=$(sed -n 's/^test: //p' "tests/wrong_bodies/$crate/$edit")
+        if [ -n "$command" ]; then
+            by_test "$crate" "$edit" "$command"
+        else
+            proved+=("$crate")
+            mkdir -p "$work/edits/$crate"
+            cp "tests/wrong_bodies/$crate/$edit" "$work/edits/$crate"
+        fi
+    done
 done
-
-status=0
-(cd "$work/repo" && rt ci) >"$work/said" 2>&1 || status=$?
+if [ ${#proved[@]} -gt 0 ]; then
+    tests/build.py lay-out "$work/repo" "${proved[@]}"
+    git init -q "$work/repo"
+    for crate in "$work"/edits/*; do
+        cp -r "$crate" "$work/repo/crates/$(basename "$crate")/must-fail"
+    done
+    (cd "$work/repo" && rt ci) >>"$work/said" 2>&1 || status=$?
+fi
 grep -E '^(rt: must-fail |rt: FAILED|rt: .* NOT PROVED)|BAD EDIT' "$work/said" | cut -c1-160 || true
 tail -n 1 "$work/said"
 
