@@ -20,9 +20,9 @@
  * - Calls that are not marked "handler" are not made in the forked child of a process with threads.
  *
  * A closed handle where an open one is wanted is no fault: the call returns LATCHSYM_BAD_HANDLE.
- * So is an open one where a closed one is wanted, and, past a cast, one that holds something else
- * than the call is of. A second close does nothing. A call that is refused changes nothing but what
- * is said of it here.
+ * It returns the same for an open handle where a closed one is wanted and, past a cast, for a handle
+ * of another kind. A second close does nothing. A call that is refused changes nothing but what is
+ * said of it here.
  *
  * From a signal handler only the calls marked "handler" may be made, each with handles that no call
  * which the signal interrupts has: they take no memory. It is proved that they return rightly where
@@ -89,11 +89,12 @@ enum {
     LATCHSYM_BAD_LISTINGS = 103 /* of a struct of listings: not as this version has it */
 };
 
-/* How many lines of each listing went where, as `latchsym lookup` prints them. Without a listing of
- * modules: how many modules and regions of these the symbols have, and 0 of what is said of lines
- * of modules and of regions. And what `latchsym lookup` notes of each listing, so that one of which
- * nothing is of use does not look like a success: the number of a note, whose text is read behind
- * the listing's name, or LATCHSYM_NOTHING. */
+/* How many lines of each listing went where, as `latchsym lookup` prints them, but that mapping
+ * symbols are stray with a listing of modules too, and the kernel's bounds are those given below.
+ * Without a listing of modules: how many modules and regions of these the symbols have, and 0 of
+ * what is said of lines of modules and of regions. And what `latchsym lookup` would note of each
+ * listing by these counts, so that one of which nothing is of use does not look like a success: the
+ * number of a note, whose text is read after the listing's name, or LATCHSYM_NOTHING. */
 struct latchsym_counts {
     uint64_t modules, modules_hidden, modules_empty, modules_wraps, modules_overlap, modules_double,
         modules_long, modules_malformed;
@@ -421,8 +422,8 @@ static inline uint32_t latchsym_writer_begin_batch(struct latchsym_writer *write
 
 /* Begins the update after which the table has just these items: it takes the others out and puts the
  * new ones in, at once, and leaves those alone that the table has already. Each is to lie below the
- * next, else LATCHSYM_OVERLAP. Takes memory for what differs. 0, one of the refusals 1, 2 and 4 to 7,
- * or LATCHSYM_BAD_HANDLE. */
+ * next, else LATCHSYM_OVERLAP. Takes memory for a copy of the items, and for what differs. 0, one of
+ * the refusals 1, 2 and 4 to 7, or LATCHSYM_BAD_HANDLE. */
 uint32_t latchsym_writer_begin_replace_nonnull(struct latchsym_writer *,
                                                const struct latchsym_item *items, size_t items_len);
 static inline uint32_t latchsym_writer_begin_replace(struct latchsym_writer *writer,
