@@ -35,8 +35,7 @@ MayRun c readers = HasFewRegions c × (0 < readers) × (readers ≤ most_readers
 -- What writers and readers may come back with for what they were assigned. The changes of each
 -- writer follow the log of a table with 64-bit sequences; no list of addresses ended early; each
 -- answer is what its address lies in at its generation; and some readers, whose loads these are,
--- would have looked for the answers. That the readers of a run made such loads, `serve` says of what
--- it gives back.
+-- looked for the answers. That those of a run did, `serve` says of what it gives back.
 pub record IsServed (c : CatalogEntries) (a : Assignments) (s : Served) : Type 0 where
   pub outcomes : EachHasOutcome c a.changes.items s.changes.items
   pub follow : FollowServed c s.log.items a.changes.items s.changes.items

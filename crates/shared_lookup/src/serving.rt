@@ -180,8 +180,8 @@ fn readers_beside(
     Ok(readers)
 }
 
-/// The layout of a table for all regions of a catalog, with 64-bit sequences. Refused by [`Refusal::BadCapacity`] where
-/// they are more than a table can have.
+/// The layout of a table for all regions of a catalog, with 64-bit sequences. Refused by
+/// [`Refusal::BadCapacity`] where they are more than a table can have.
 fn layout_for(c: &Catalog<'_>) -> Result<Layout, Refusal>
     ensures may { IfOk result (λ _. length (regions_of c.now) ≤ most_nodes) }
     ensures room { IfOk result (λ l. length (regions_of c.now) ≤ capacity_of l) }
