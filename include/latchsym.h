@@ -422,8 +422,8 @@ static inline uint32_t latchsym_writer_begin_batch(struct latchsym_writer *write
 
 /* Begins the update after which the table has just these items: it takes the others out and puts the
  * new ones in, at once, and leaves those alone that the table has already. Each is to lie below the
- * next, else LATCHSYM_OVERLAP. Takes memory for a copy of the items, and for what differs. 0, one of
- * the refusals 1, 2 and 4 to 7, or LATCHSYM_BAD_HANDLE. */
+ * next, else LATCHSYM_OVERLAP. Takes memory for a copy of all items first, and then for what
+ * differs. 0, one of the refusals 1, 2 and 4 to 7, or LATCHSYM_BAD_HANDLE. */
 uint32_t latchsym_writer_begin_replace_nonnull(struct latchsym_writer *,
                                                const struct latchsym_item *items, size_t items_len);
 static inline uint32_t latchsym_writer_begin_replace(struct latchsym_writer *writer,

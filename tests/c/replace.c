@@ -1,5 +1,6 @@
 /* The items of a table replaced by others as one update: at each stop of its writer a reader finds what the table had
- * before or what it has after, an item of both is never missing, and the items are those of a catalog. */
+ * before or what it has after, an item of both is never missing, long lists are not refused, and the items are those of a
+ * catalog. */
 #include <latchsym.h>
 #include <stdint.h>
 #include <stdio.h>
@@ -8,7 +9,7 @@
 
 #define CHECK(so) ((so) ? (void)0 : (fprintf(stderr, "replace.c:%d: not so: %s\n", __LINE__, #so), exit(1)))
 
-enum { PLACES = 200, DIFFERENT = 5 };
+enum { PLACES = 200, DIFFERENT = 5, LONG = 40000 };
 
 static struct latchsym_writer writer;
 static struct latchsym_reader reader;
@@ -60,6 +61,25 @@ static void refusals(void) {
     CHECK(!latchsym_writer_finish(&writer, &generation) && generation == 4);
 }
 
+/* Long lists: memory is there, so that none is refused. */
+static void long_lists(void) {
+    static struct latchsym_item items[LONG];
+    struct latchsym_writer writer = {0};
+    struct latchsym_reader reader = {0};
+    struct latchsym_found found;
+    uint64_t generation;
+    for (int place = 0; place < LONG; place++) items[place] = item(place, place);
+    CHECK(!latchsym_table_open(LONG, &writer, &reader, 1));
+    for (int count = 1; count < 2 * LONG; count *= 2) {
+        int length = count < LONG ? count : LONG;
+        CHECK(!latchsym_writer_begin_replace(&writer, items, length) && !latchsym_writer_finish(&writer, &generation));
+        CHECK(!latchsym_reader_try_find(&reader, items[length - 1].a, &found) && found.tag == items[length - 1].tag);
+        CHECK(length == LONG || latchsym_reader_try_find(&reader, items[length].a, &found) == LATCHSYM_NOTHING);
+    }
+    latchsym_writer_close(&writer);
+    latchsym_reader_close(&reader);
+}
+
 static int open_catalog(struct latchsym_catalog *catalog, const char *text) {
     struct latchsym_listings listings = LATCHSYM_LISTINGS_INIT;
     struct latchsym_counts counts;
@@ -96,6 +116,7 @@ int main(void) {
     CHECK(!latchsym_table_open(2 * PLACES, &writer, &reader, 1));
     steps_of_a_replacement();
     refusals();
+    long_lists();
     items_of_a_catalog();
     latchsym_writer_close(&writer);
     latchsym_reader_close(&reader);

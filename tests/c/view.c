@@ -112,6 +112,30 @@ static void refusals(struct latchsym_catalog *catalog, struct latchsym_sizes siz
     CHECK(latchsym_catalog_sizes(&closed, &same) == LATCHSYM_BAD_HANDLE && same.regions == 5 && same.symbols == 6);
 }
 
+/* The same of the export, which the header's function calls only with rooms that fit. It takes rooms with rows in them. */
+static void refusals_of_the_export(struct latchsym_catalog *catalog, struct latchsym_sizes sizes, struct latchsym_view_region *rows,
+                                   struct latchsym_view_symbol *symbols, uint64_t *starts) {
+    static const struct latchsym_view_symbol symbol = LATCHSYM_VIEW_SYMBOL_INIT;
+    static const uint64_t start = 0;
+    const size_t of_rows = sizes.regions * sizeof *rows, of_symbols = sizes.symbols * sizeof *symbols, of_starts = sizes.symbols * sizeof *starts;
+    struct latchsym_view_region *same_rows = malloc(of_rows);
+    struct latchsym_view_symbol *same_symbols = malloc(of_symbols);
+    uint64_t *same_starts = malloc(of_starts);
+    struct latchsym_view view = {rows, 0};
+    struct latchsym_catalog closed = {0};
+    CHECK(same_rows && same_symbols && same_starts);
+    for (size_t i = 0; i < sizes.regions; i++) rows[i] = (struct latchsym_view_region){77 - i, 7, 7, LATCHSYM_PLACE_INIT, &symbol, 0, &start, 0};
+    for (size_t i = 0; i < sizes.symbols; i++) symbols[i] = symbol, symbols[i].addr = starts[i] = 77 - i;
+    memcpy(same_rows, rows, of_rows), memcpy(same_symbols, symbols, of_symbols), memcpy(same_starts, starts, of_starts);
+    CHECK(latchsym_catalog_flatten_nonnull(catalog, rows, sizes.regions - 1, symbols, sizes.symbols, starts, sizes.symbols, &view) == LATCHSYM_BAD_LENGTH);
+    CHECK(latchsym_catalog_flatten_nonnull(catalog, rows, sizes.regions, symbols, sizes.symbols - 1, starts, sizes.symbols, &view) == LATCHSYM_BAD_LENGTH);
+    CHECK(latchsym_catalog_flatten_nonnull(catalog, rows, sizes.regions, symbols, sizes.symbols, starts, sizes.symbols - 1, &view) == LATCHSYM_BAD_LENGTH);
+    CHECK(latchsym_catalog_flatten_nonnull(&closed, rows, sizes.regions, symbols, sizes.symbols, starts, sizes.symbols, &view) == LATCHSYM_BAD_HANDLE);
+    CHECK(view.regions == rows && !view.regions_len);
+    CHECK(!memcmp(rows, same_rows, of_rows) && !memcmp(symbols, same_symbols, of_symbols) && !memcmp(starts, same_starts, of_starts));
+    free(same_rows), free(same_symbols), free(same_starts);
+}
+
 static void see(struct latchsym_listings listings) {
     struct latchsym_catalog catalog = {0};
     struct latchsym_counts counts;
@@ -125,6 +149,7 @@ static void see(struct latchsym_listings listings) {
     uint64_t *starts = malloc(sizes.symbols * sizeof *starts);
     CHECK(rows && symbols && starts);
     refusals(&catalog, sizes, rows, symbols, starts);
+    refusals_of_the_export(&catalog, sizes, rows, symbols, starts);
     CHECK(!latchsym_catalog_flatten(&catalog, rows, sizes.regions, symbols, sizes.symbols, starts, sizes.symbols, &view));
     CHECK(view.regions == rows && view.regions_len == sizes.regions);
     find_by_catalog(&catalog);

@@ -32,9 +32,10 @@ use Rattle.engines.specs.declared.runs.RunReaders.{RunReaders}
 abbrev pub MayRun : CatalogEntries → ℕ → Type 0
 MayRun c readers = HasFewRegions c × (0 < readers) × (readers ≤ most_readers)
 
--- What the writers and readers came back with for what they were assigned. The changes of each
--- writer follow the log; no list of addresses ended early; and each answer is what its address lies
--- in at its generation, for which its reader looked.
+-- What writers and readers may come back with for what they were assigned. The changes of each
+-- writer follow the log of a table with 64-bit sequences; no list of addresses ended early; each
+-- answer is what its address lies in at its generation; and some readers, whose loads these are,
+-- looked for the answers. That those of a run did, `serve` says of what it gives back.
 pub record IsServed (c : CatalogEntries) (a : Assignments) (s : Served) : Type 0 where
   pub outcomes : EachHasOutcome c a.changes.items s.changes.items
   pub follow : FollowServed c s.log.items a.changes.items s.changes.items
@@ -61,8 +62,8 @@ TellsServed contents c names s w w' (Err Write) =
     (list_any (λ e. e) s.ended.items ≡ false) × WrotePart contents w w' (run_text c names s)
 TellsServed contents c names s w w' (Err _) = ⊥
 
--- The text of what came back for these lines was written as far as this says, and the status says
--- whether something is wrong.
+-- The text of something that writers and readers may come back with for these lines was written as
+-- far as this says, and the status says whether something of it is wrong.
 abbrev pub IsRun : (List ℕ → Type 0) → CatalogEntries → ℕ → List ScriptLine → ℕ → Type 0
 IsRun Wrote c readers lines status =
     (a : Assignments) × IsAssigned c readers lines a

@@ -1,7 +1,8 @@
 -- A table whose regions are those of the catalog that was shown last.
-use Rattle.std.specs.Prelude.{◌≡◌, ℕ, ◌-◌, List, [], ◌∷◌, ◌++◌}
+use Rattle.std.specs.Prelude.{◌≡◌, ◌⊎◌, ℕ, ◌-◌, List, [], ◌∷◌, ◌++◌}
 use Rattle.order_laws.specs.declared.items.Item.{Item}
 use Rattle.order_laws.specs.declared.refusals.Refusal.{Refusal}
+use Rattle.order_laws.specs.declared.refusals.Refusal.TheVariants.{OutOfMemory}
 use Rattle.order_laws.specs.Orders.{half_open}
 use Rattle.order_laws.specs.Tables.{look}
 use Rattle.modules.specs.Entries.{CatalogEntries}
@@ -43,4 +44,4 @@ pub record Shows (c : CatalogEntries) (old new : Followed) (generation : ℕ) : 
 pub record RefusesToShow (c : CatalogEntries) (old : Followed) (why : Refusal) : Type 0 where
   pub items : List Item
   pub indexed : IsIndexOf c items
-  pub refuses : RefusesReplacement items old.ledger why
+  pub refuses : RefusesReplacement items old.ledger why ⊎ (why ≡ OutOfMemory)

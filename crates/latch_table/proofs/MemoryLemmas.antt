@@ -87,6 +87,8 @@ module _ {K : Type 0} (o : Order K) where
   recalls law k e s known last looks m None h = record {
     sequence = s;
     seen = refl;
+    once = refl;
+    last = refl;
     more = loads_more o e s known looks;
     floored = looks.floored;
     recalled = h;
@@ -96,6 +98,8 @@ module _ {K : Type 0} (o : Order K) where
       let there : Remembers o e r.0 r.1 = subst (MemoryHolds o e) h.0 m in record {
         sequence = s;
         seen = refl;
+        once = refl;
+        last = refl;
         more = loads_more o e s known looks;
         floored = looks.floored;
         recalled = h;

@@ -41,11 +41,14 @@ IsRecalled o k g memory (Some r) = (memory ≡ Some r) × (r.1 ≡ g) × (o.comp
 IsRecalled o k g memory None =
     (r : Item × ℕ) → memory ≡ Some r → r.1 ≡ g → o.comp k r.0 ≢ Equal
 
--- one load of the sequence, and what memory gives at its generation, which is the answer
+-- one load of the sequence and of no other word, and what memory gives at its generation, which is
+-- the answer
 pub record Recalled {K : Type 0} (o : Order K) (k : K) (memory : Option (Item × ℕ))
     (e e' : ReaderKnowledge) (r : Option (Item × ℕ)) : Type 0 where
   pub sequence : ℕ
   pub seen : e'.seen ≡ e.seen ++ sequence ∷ []
+  pub once : e'.ended ≡ e.loads ++ (0, sequence) ∷ []
+  pub last : e'.loads ≡ (0, sequence) ∷ []
   pub more : KnowsMore e e'
   pub floored : KnowsFloor e'
   pub recalled : IsRecalled o k (generation_of sequence) memory r

@@ -1,12 +1,13 @@
 -- A table whose items are replaced by others, as one update.
-use Rattle.std.specs.Prelude.{◌≡◌, ◌⊎◌, ◌≤◌, ℕ, true, List, length, Some, None, is_some}
+use Rattle.std.specs.Prelude.{◌≡◌, ◌⊎◌, ◌≤◌, ℕ, true, not, List, [], ◌∷◌, length, Option, Some}
+use Rattle.std.specs.Prelude.{None, is_some}
 use Rattle.order_laws.specs.declared.items.Item.{Item}
 use Rattle.order_laws.specs.declared.refusals.Refusal.{Refusal}
-use Rattle.order_laws.specs.declared.refusals.Refusal.TheVariants.{OutOfMemory}
+use Rattle.order_laws.specs.declared.refusals.Refusal.TheVariants.{OutOfMemory, Overlap, UpdateInHand}
 use Rattle.order_laws.specs.Orders.{Order}
 use Rattle.word_layout.specs.Words.{at, Nodes, listed, items, Leads}
 use Rattle.table_updates.specs.declared.updates.Update.{Update}
-use Rattle.table_updates.specs.Updates.{after}
+use Rattle.table_updates.specs.Updates.{after, first_that_holds}
 use Rattle.latch_core.specs.declared.replacements.Difference.{Difference}
 use Rattle.latch_core.specs.Replacements.{replacement, is_rising, replacing_refusal, Tells}
 use Rattle.latch_table.specs.Writers.{WriterState, writer_refusal, Begins}
@@ -35,10 +36,22 @@ pub record BeginsReplacing {K : Type 0} (o : Order K) (w : WriterState) (list : 
   pub begins : Begins o w (replacement w.latch.newest_table list) w'
   pub newest : w'.latch.newest_table ≡ list
 
--- what stands against a table of these items, or out of memory
+-- why no update is made of these items, or none: one is pending, or the items do not rise
+abbrev pub list_refusal : {K : Type 0} → Order K → WriterState → List Item → Option Refusal
+list_refusal o w list =
+    first_that_holds
+    ((is_some w.latch.pending, UpdateInHand) ∷ (not (is_rising o list), Overlap) ∷ [])
+
+-- no update is made of these items for that reason; and else because memory ran out
+abbrev pub RefusesList : {K : Type 0} → Order K → WriterState → List Item → Refusal → Type 0
+RefusesList o w list e =
+    (list_refusal o w list ≡ Some e) ⊎ ((list_refusal o w list ≡ None) × (e ≡ OutOfMemory))
+
+-- what stands against a table of these items; or memory ran out, where no update is pending and the
+-- items rise
 abbrev pub RefusesReplacing : {K : Type 0} → Order K → WriterState → List Item → Refusal → Type 0
 RefusesReplacing o w list e =
     (replacing_refusal o w.capacity w.limit (is_some w.latch.pending) w.latch.newest_table
     (at w.latch.words 0) list
     ≡ Some e)
-    ⊎ (e ≡ OutOfMemory)
+    ⊎ ((list_refusal o w list ≡ None) × (e ≡ OutOfMemory))

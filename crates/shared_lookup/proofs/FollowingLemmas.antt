@@ -221,6 +221,7 @@ served_now c log now l o fresh is logged = record {
   logged = logged;
   base = ap (λ (x : LedgerState). x.base) is ∙ fresh.base;
   room = (let e = ap (λ (x : LedgerState). x.capacity) is in let r = fresh.room in omega (arith, e, r));
+  limit = ap (λ (x : LedgerState). x.limit) is ∙ fresh.limit;
 }
 
 -- a ledger with other readers, and with others again

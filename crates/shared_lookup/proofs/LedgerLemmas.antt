@@ -1,22 +1,22 @@
 -- A writer at rest, before an update and after it.
-use Rattle.std.proofs.Common.{◌≡◌, ℕ, ◌+◌, ◌*◌, false, cond, List, [], ◌∷◌, ◌++◌, length, take, Option, Some, None, inl, inr, sym, ◌∙◌, ap, subst, ⊎_elim, arith}
-use Rattle.std.specs.Prelude.{IfOk, OnErr, is_some, not, Result, Ok, Err}
+use Rattle.std.proofs.Common.{◌≡◌, ℕ, ◌+◌, ◌*◌, true, false, cond, List, [], ◌∷◌, ◌++◌, length, take, Option, Some, None, inl, inr, refl, sym, ◌∙◌, ap, subst, ⊎_elim, arith}
+use Rattle.std.specs.Prelude.{IfOk, OnErr, ◌⊎◌, Bool, is_some, not, Result, Ok, Err}
 use Rattle.std.proofs.lemmas.List.{take-append-le, take_all}
 use Rattle.order_laws.specs.declared.items.Item.{Item}
 use Rattle.order_laws.specs.declared.refusals.Refusal.{Refusal}
-use Rattle.order_laws.specs.declared.refusals.Refusal.TheVariants.{Overlap}
+use Rattle.order_laws.specs.declared.refusals.Refusal.TheVariants.{OutOfMemory, Overlap, UpdateInHand}
 use Rattle.order_laws.specs.Orders.{half_open}
 use Rattle.facts.proofs.Lists.{slice_get-push_cases}
 use Rattle.word_layout.specs.Words.{at}
 use Rattle.table_updates.specs.declared.updates.Update.{Update}
-use Rattle.table_updates.specs.Updates.{refusal_for}
-use Rattle.latch_core.specs.Replacements.{replacement, replacing_refusal}
+use Rattle.table_updates.specs.Updates.{first_that_holds, refusal_for}
+use Rattle.latch_core.specs.Replacements.{is_rising, replacement, replacing_refusal}
 use Rattle.latch_core.proofs.StepLemmas.{replay_push}
 use Rattle.latch_core.specs.Latches.{PendingUpdate}
 use Rattle.latch_core.specs.Invariants.{IsSound, IsPendingOf}
 use Rattle.latch_table.specs.Writers.{WriterState, writer_refusal}
-use Rattle.latch_table.specs.Replacing.{RefusesReplacing}
-use Rattle.shared_lookup.specs.Replacing.{IsReplacementOf, Replaces, RefusesReplacement}
+use Rattle.latch_table.specs.Replacing.{RefusesList}
+use Rattle.shared_lookup.specs.Replacing.{IsReplacementOf, Replaces, RefusesItems, RefusesReplacement}
 use Rattle.shared_lookup.specs.Ledgers.{LedgerState, Applies, AreAccepted, CarriesOut, HasNothingPending, RefusesEntry, ledger_of, ledger_sequence, ledger_table, refusal_at, with_entry}
 
 -- a log stays accepted with an update that nothing stands against
@@ -32,6 +32,16 @@ accepted_entry l u all none j v e =
     subst (λ (us : List Update). refusal_at (record l { log = us }) v ≡ None) (sym first) (subst (λ (x : Update). refusal_at l x ≡ None) k.1 none))
     (slice_get-push_cases l.log u v j e)
 
+-- with no update pending, items are refused because they do not rise, or memory ran out
+abbrev RefusesBy : Bool → Bool → Refusal → Type 0
+RefusesBy busy rising e =
+    (first_that_holds ((busy, UpdateInHand) ∷ (not rising, Overlap) ∷ []) ≡ Some e)
+    ⊎ ((first_that_holds ((busy, UpdateInHand) ∷ (not rising, Overlap) ∷ []) ≡ None) × (e ≡ OutOfMemory))
+
+items_refused : (rising : Bool) (e : Refusal) → RefusesBy false rising e → ((rising ≡ false) × (e ≡ Overlap)) ⊎ ((rising ≡ true) × (e ≡ OutOfMemory))
+items_refused true e why = ⊎_elim (λ r. absurd (let h = r in cc)) (λ m. inr (refl, m.1)) why
+items_refused false e why = ⊎_elim (λ r. inl (refl, (let h = r in cc))) (λ m. absurd (let h = m.0 in cc)) why
+
 module _ (w : WriterState) (resting : HasNothingPending w) (sound : IsSound half_open w.capacity (2 * w.base) w.history w.latch) where
   sequence_is : at w.latch.words 0 ≡ ledger_sequence (ledger_of w)
   sequence_is =
@@ -44,15 +54,9 @@ module _ (w : WriterState) (resting : HasNothingPending w) (sound : IsSound half
   same_why u = λ i.
       refusal_for half_open w.capacity w.limit (is_some (resting.rests i)) (sound.table_is i) (sequence_is i) u
 
-  -- and against a table of other items
-  pub same_why_replacing : (list : List Item)
-      → replacing_refusal half_open w.capacity w.limit (is_some w.latch.pending) w.latch.newest_table (at w.latch.words 0) list
-      ≡ replacing_refusal half_open w.capacity w.limit false (ledger_table (ledger_of w)) (ledger_sequence (ledger_of w)) list
-  same_why_replacing list = λ i.
-      replacing_refusal half_open w.capacity w.limit (is_some (resting.rests i)) (sound.table_is i) (sequence_is i) list
-
-  pub refuses_replacing : (list : List Item) (e : Refusal) → RefusesReplacing half_open w list e → RefusesReplacement list (ledger_of w) e
-  refuses_replacing list e why = ⊎_elim (λ r. inl (sym (same_why_replacing list) ∙ r)) (λ m. inr m) why
+  -- why no update makes the table other items
+  pub refuses_items : (list : List Item) (e : Refusal) → RefusesList half_open w list e → RefusesItems list e
+  refuses_items list e why = items_refused (is_rising half_open list) e (subst (λ h. RefusesBy (is_some h) (is_rising half_open list) e) resting.rests why)
 
   -- a writer at rest that makes an update rests again
   pub rests_after : (w' : WriterState) (u : Update) (r : Result ℕ Refusal) → IfOk r (CarriesOut w u w') → OnErr r (w' ≡ w) → HasNothingPending w'
@@ -65,6 +69,11 @@ module _ (w : WriterState) (resting : HasNothingPending w) (sound : IsSound half
   rests_after w' u (Err e) ok err = subst HasNothingPending (sym err) resting
 
 -- ---- a ledger whose table is replaced
+
+-- items of which no update is made
+pub refused_items : (l : LedgerState) (list : List Item) (e : Refusal) → RefusesItems list e → RefusesReplacement list l e
+refused_items l list e why =
+    ⊎_elim (λ f. inl (ap (λ b. cond (not b) (Some Overlap) (refusal_for half_open l.capacity l.limit false (ledger_table l) (ledger_sequence l) (replacement (ledger_table l) list))) f.0 ∙ ap (λ x. Some x) (sym f.1))) (λ m. inr m) why
 
 module _ (l : LedgerState) (list : List Item) (u : Update) (is : IsReplacementOf list l u) where
   pub replaces : (l' : LedgerState) (g : ℕ) → Applies u l l' g → Replaces list l l' g
@@ -80,4 +89,4 @@ module _ (l : LedgerState) (list : List Item) (u : Update) (is : IsReplacementOf
       ∙ ap (refusal_at l) (sym is.1)
 
   pub refuses_replacement : (e : Refusal) → RefusesEntry u l e → RefusesReplacement list l e
-  refuses_replacement e why = ⊎_elim (λ r. inl (why_is ∙ r)) (λ m. inr m) why
+  refuses_replacement e why = ⊎_elim (λ r. inl (why_is ∙ r)) (λ m. inr (is.0, m)) why

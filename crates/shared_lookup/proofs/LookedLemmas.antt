@@ -1,5 +1,5 @@
 -- What a reader loaded for its answers.
-use Rattle.std.proofs.Common.{◌≡◌, ◌≢◌, ◌⊎◌, ℕ, List, [], ◌∷◌, ◌++◌, length, Option, Some, None, refl, sym, ◌∙◌, ap, subst, inl, inr, ⊎_elim, append_assoc, append-nil, ◌+◌, length-append}
+use Rattle.std.proofs.Common.{◌≡◌, ℕ, List, [], ◌∷◌, ◌++◌, Option, Some, None, refl, sym, ◌∙◌, ap, subst, inl, inr, ⊎_elim, append_assoc, append-nil, ◌+◌, length-append}
 use Rattle.std.specs.Global.{Vec}
 use Rattle.facts.proofs.Pairs.{both_pushed}
 use Rattle.order_laws.specs.declared.items.Item.{Item}
@@ -8,7 +8,7 @@ use Rattle.table_updates.specs.declared.updates.Update.{Update}
 use Rattle.latch_table.specs.declared.knowledge.ReaderKnowledge.{ReaderKnowledge}
 use Rattle.latch_table.specs.declared.readers.Try.TheVariants.{Answered, Retry}
 use Rattle.latch_table.specs.Memory.{memory_after, Looked}
-use Rattle.latch_table.specs.Readers.{ReaderState, AreRetries, Met, Searched}
+use Rattle.latch_table.specs.Readers.{ReaderState, Searched}
 use Rattle.shared_lookup.specs.declared.served.Answer.{Answer}
 use Rattle.shared_lookup.specs.Readers.{AreLookedUp, EachHasLooked, HasLooked, HasMet, IsLookedUp, seen_by}
 

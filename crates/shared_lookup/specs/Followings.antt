@@ -5,6 +5,7 @@ use Rattle.std.specs.Option.{ForSome}
 use Rattle.std.specs.Global.{Vec}
 use mathlib.Core.List.{IsPrefix}
 use Rattle.atomic_table.specs.Seated.{TableId}
+use Rattle.word_layout.specs.Limits.{greatest_wide_sequence}
 use Rattle.table_updates.specs.declared.updates.Update.{Update}
 use Rattle.modules.specs.Catalogs.{regions_of}
 use Rattle.modules.specs.Entries.{CatalogEntries}
@@ -67,13 +68,14 @@ pub record EachFollowsLog (c : CatalogEntries) (l : LedgerState) (changes : List
       → slice_get changes writer ≡ Some list → slice_get outcomes writer ≡ Some made
       → FollowLog c l 0 list.items made.items ⊎ AreNotMade list.items made.items
 
--- a ledger with this log, of a table that has room for all regions of the catalog, whose updates
--- are counted from 0
+-- a ledger with this log, of a table that has room for all regions of the catalog and sequences of
+-- 64 bits, whose updates are counted from 0
 pub record IsServedLedger (c : CatalogEntries) (log : List Update) (l : LedgerState)
     : Type 0 where
   pub logged : l.log ≡ log
   pub base : l.base ≡ 0
   pub room : length (regions_of c) ≤ l.capacity
+  pub limit : l.limit ≡ greatest_wide_sequence
 
 -- the changes of each list follow the log of such a ledger
 abbrev pub FollowServed : CatalogEntries → List Update → List (Vec Change)

@@ -5,8 +5,6 @@ pub mod Ledgers
 pub mod Logs
 -- a ledger that goes on with more nodes
 pub mod Enlarging
--- a ledger whose table is replaced by other items
-pub mod Replacing
 -- what a load, an unload and the end of a module's start do to it
 pub mod Changes
 -- how many entries of a list a property holds of
@@ -19,5 +17,7 @@ pub mod Readers
 pub mod Checks
 -- what became of the changes of a list, in the order of a log
 pub mod Followings
+-- a ledger whose table is replaced by other items
+pub mod Replacing
 -- what their threads are given
 pub mod Threads

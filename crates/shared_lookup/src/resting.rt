@@ -10,7 +10,7 @@ ghost use Rattle.latch_table.specs.Seats.{first_knowledge};
 ghost use Rattle.latch_table.specs.Writers.{MayOpenWith, OnTheWay, Refuses, RefusesOpening};
 ghost use Rattle.shared_lookup.specs.Enlarging.{AreLedgerReaders, EnlargesLedger};
 ghost use Rattle.shared_lookup.specs.Enlarging.{RefusesEnlargingLedger};
-ghost use Rattle.shared_lookup.specs.Replacing.{IsReplacementOf, RefusesReplacement};
+ghost use Rattle.shared_lookup.specs.Replacing.{IsReplacementOf, RefusesItems};
 ghost use Rattle.shared_lookup.specs.Ledgers.{Applies, AreAccepted, CarriesOut, RefusesUpdate};
 ghost use Rattle.shared_lookup.specs.Ledgers.{new_ledger, ledger_table};
 
@@ -108,7 +108,7 @@ impl RestingWriter {
     pub(crate) fn replacement(&mut self, list: &[Item]) -> Result<Update, Refusal>
         ensures same { self.new ≡ self.old }
         ensures found { IfOk result (IsReplacementOf list.now self.old) }
-        ensures refused { IfErr result (RefusesReplacement list.now self.old) }
+        ensures refused { IfErr result (RefusesItems list.now) }
     {
         // Its clause `sound` says that the writer's table is that of its history.
         let _generation = self.writer.generation();

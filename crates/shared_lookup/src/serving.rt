@@ -3,8 +3,8 @@
 ghost use Rattle.std.specs.Prelude.{◌≡◌, ◌<◌, ◌≤◌, length, All, Some, IfOk, IfErr, vec_len};
 ghost use Rattle.order_laws.specs.declared.refusals.Refusal.TheVariants.{OutOfMemory};
 ghost use Rattle.modules.specs.Catalogs.{regions_of};
-ghost use Rattle.word_layout.specs.Layouts.{capacity_of};
-ghost use Rattle.word_layout.specs.Limits.{most_nodes};
+ghost use Rattle.word_layout.specs.Layouts.{capacity_of, limit_of};
+ghost use Rattle.word_layout.specs.Limits.{greatest_wide_sequence, most_nodes};
 ghost use Rattle.latch_table.specs.Limits.{most_readers};
 ghost use Rattle.shared_lookup.specs.Followings.{FollowServed, IsServedLedger};
 ghost use Rattle.shared_lookup.specs.Readers.{EachHasLooked, IsNewReaderOf};
@@ -180,11 +180,12 @@ fn readers_beside(
     Ok(readers)
 }
 
-/// The layout of a table for all regions of a catalog. Refused by [`Refusal::BadCapacity`] where
-/// they are more than a table can have.
+/// The layout of a table for all regions of a catalog, with 64-bit sequences. Refused by
+/// [`Refusal::BadCapacity`] where they are more than a table can have.
 fn layout_for(c: &Catalog<'_>) -> Result<Layout, Refusal>
     ensures may { IfOk result (λ _. length (regions_of c.now) ≤ most_nodes) }
     ensures room { IfOk result (λ l. length (regions_of c.now) ≤ capacity_of l) }
+    ensures limit { IfOk result (λ l. limit_of l ≡ greatest_wide_sequence) }
     ensures refused { IfErr result (λ e. (e ≡ Refusal.BadCapacity)
         × (length (regions_of c.now) ≤ most_nodes → ⊥)) }
 {

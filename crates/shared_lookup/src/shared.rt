@@ -4,7 +4,8 @@ ghost use Rattle.std.specs.Prelude.{◌≡◌, None, Some};
 ghost use Rattle.shared_lookup.specs.Changes.{IsOutcomeOf};
 ghost use Rattle.shared_lookup.specs.Followings.{IsMadeBeside, IsOpenedAs};
 ghost use Rattle.shared_lookup.specs.Ledgers.{IsNamed};
-ghost use Rattle.shared_lookup.specs.Replacing.{IsOutcomeOfReplacing};
+ghost use Rattle.shared_lookup.specs.Replacing.{IsOutcomeOfReplacing, IsReplacedBeside};
+ghost use Rattle.shared_lookup.specs.Replacing.{ReplacesHeld};
 
 use crate::changes::Change;
 use crate::gates::Gate;
@@ -99,12 +100,38 @@ impl<K: NamesTable> NamedLedger<K> {
 
     /// One [`Ledger::replace`].
     fn replace<G: Gate>(&mut self, g: &G, who: u32, list: &[Item]) -> Result<u64, Refusal>
-        ensures { IsOutcomeOfReplacing list.now result }
+        ensures { ReplacesHeld list.now self.old self.new result }
     {
-        let Some(ledger) = &mut self.ledger else {
+        let Some(mut ledger) = self.ledger.take() else {
             unreachable!()
         };
-        ledger.replace(g, who, list)
+        let replaced = ledger.replace(g, who, list);
+        self.ledger = Some(ledger);
+        replaced
+    }
+
+    /// One [`Ledger::replace`] beside a reader of the table, which meets the writer before and after
+    /// it.
+    fn replace_beside<G: Gate>(
+        &mut self,
+        g: &G,
+        who: u32,
+        seat: Reader<HalfOpen>,
+        list: &[Item],
+    ) -> (Result<u64, Refusal>, Reader<HalfOpen>)
+        requires { K.table ≡ Some seat.place }
+        ensures place { result.1.place ≡ seat.place }
+        ensures replaced { IsReplacedBeside K.opened list.now seat.knowledge.known
+            result.1.knowledge.known result.0 }
+    {
+        let Some(ledger) = self.ledger.take() else {
+            unreachable!()
+        };
+        let (mut ledger, seat) = ledger.meet(seat);
+        let outcome = ledger.replace(g, who, list);
+        let (ledger, seat) = ledger.meet(seat);
+        self.ledger = Some(ledger);
+        (outcome, seat)
     }
 }
 
@@ -163,7 +190,7 @@ impl<K: NamesTable> SharedWriter<K> {
     }
 
     /// One [`Ledger::replace`] in one taking of the lock: what it returns, the replacement returns
-    /// at some ledger.
+    /// at some ledger. [`SharedWriter::replace_beside`] tells what it leaves.
     pub fn replace<R: Wait, G: Gate>(
         &self,
         rt: &R,
@@ -174,6 +201,25 @@ impl<K: NamesTable> SharedWriter<K> {
         ensures { IsOutcomeOfReplacing list.now result }
     {
         self.ledger.lock(rt).replace(g, who, list)
+    }
+
+    /// One [`Ledger::replace`] in one taking of the lock, beside a reader of the table, which meets
+    /// the writer before and after it. The reader comes back and knows the log that the replacement
+    /// left: at `Ok` what was shown before and the replacement, at `Err` what was shown before.
+    pub fn replace_beside<R: Wait, G: Gate>(
+        &self,
+        rt: &R,
+        g: &G,
+        who: u32,
+        seat: Reader<HalfOpen>,
+        list: &[Item],
+    ) -> (Result<u64, Refusal>, Reader<HalfOpen>)
+        requires { K.table ≡ Some seat.place }
+        ensures place { result.1.place ≡ seat.place }
+        ensures replaced { IsReplacedBeside K.opened list.now seat.knowledge.known
+            result.1.knowledge.known result.0 }
+    {
+        self.ledger.lock(rt).replace_beside(g, who, seat, list)
     }
 
     /// The ledger, where nobody else shares it.

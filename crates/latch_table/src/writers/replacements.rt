@@ -12,7 +12,7 @@ ghost use Rattle.latch_core.specs.Replacements.{is_rising};
 ghost use Rattle.latch_table.specs.contracts.writers.Writer.{the_row};
 ghost use Rattle.latch_table.specs.Seats.{writer_of, writer_knowledge};
 ghost use Rattle.latch_table.specs.Replacing.{LeadsToFew, TellsTree, IsReplacement};
-ghost use Rattle.latch_table.specs.Replacing.{BeginsReplacing, RefusesReplacing};
+ghost use Rattle.latch_table.specs.Replacing.{BeginsReplacing, RefusesList, RefusesReplacing};
 
 use super::{InHand, Writer};
 use crate::knowledge::TableSeat;
@@ -95,7 +95,7 @@ impl<O: TreeOrder> Writer<O> {
     /// Nothing changes.
     pub fn replacement(&mut self, list: &[Item]) -> Result<Update, Refusal>
         ensures found { IfOk result (IsReplacement O.order self.old list.now) }
-        ensures refused { IfErr result (RefusesReplacing O.order self.old list.now) }
+        ensures refused { IfErr result (RefusesList O.order self.old list.now) }
         ensures unchanged { self.new ≡ self.old }
     {
         if self.core.remaining() > 0 {

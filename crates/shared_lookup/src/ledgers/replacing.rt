@@ -13,9 +13,9 @@ impl Ledger {
     /// the table ([`latch_table::Writer::replacement`]). The gate is told of each step as a step of
     /// the writer `who`. Returns the new generation.
     ///
-    /// Refused by [`Refusal::Overlap`] where the items do not rise, each less than the next, and
-    /// else as [`Ledger::apply`] refuses the update. A refusal changes nothing. It waits where the
-    /// gate waits.
+    /// Refused by [`Refusal::Overlap`] if the items do not rise, each less than the next, and else
+    /// as [`Ledger::apply`] refuses the update; by [`Refusal::OutOfMemory`] only if they rise. A
+    /// refusal changes nothing. It waits where the gate waits.
     pub fn replace<G: Gate>(&mut self, g: &G, who: u32, list: &[Item]) -> Result<u64, Refusal>
         ensures replaced { IfOk result (Replaces list.now self.old self.new) }
         ensures unchanged { OnErr result (self.new ≡ self.old) }

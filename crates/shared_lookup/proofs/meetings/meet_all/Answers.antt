@@ -1,4 +1,4 @@
-use Rattle.std.proofs.Common.{◌≡◌, ◌∙◌, ◌++◌, ◌∷◌, [], Bool, List, length, length-append, take, Option, sym, subst, ap, append_assoc, arith, refl, Some}
+use Rattle.std.proofs.Common.{◌≡◌, ◌∙◌, ◌++◌, ◌∷◌, [], Bool, List, length, take, Option, sym, subst, ap, append_assoc, arith, refl, Some}
 use Rattle.std.specs.Global.{Vec}
 use Rattle.std.specs.Prelude.{IfSome}
 use Rattle.std.specs.Vec.Iter.{into_iter_items}

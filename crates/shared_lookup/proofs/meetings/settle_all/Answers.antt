@@ -1,12 +1,11 @@
-use Rattle.std.proofs.Common.{◌≡◌, ◌∙◌, ◌++◌, ◌∷◌, [], List, length, take, sym, subst, ap, arith, Some}
-use Rattle.std.specs.Global.{Vec}
+use Rattle.std.proofs.Common.{◌≡◌, ◌∙◌, ◌++◌, ◌∷◌, [], length, take, sym, subst, ap, arith, Some}
 use Rattle.std.specs.Prelude.{IfSome}
 use Rattle.std.specs.Vec.Iter.{into_iter_items}
 use mathlib.Core.List.{IsPrefix}
 use Rattle.shared_lookup.specs.Followings.{EachFollowsLog}
 use Rattle.shared_lookup.specs.Ledgers.{LedgerState}
 use Rattle.shared_lookup.specs.Readers.{known_by}
-use Rattle.shared_lookup.specs.Servings.{ChangeOutcome, EachHasOutcome}
+use Rattle.shared_lookup.specs.Servings.{EachHasOutcome}
 use Rattle.shared_lookup.specs.Threads.{AreAllMade}
 use Rattle.shared_lookup.proofs.FollowingLemmas.{beside_here, follow_met}
 use Rattle.shared_lookup.proofs.ThreadLemmas.{follow_so_far, made_here, next_yielded, of_changes, one_yielded, outcomes_so_far, room_left}

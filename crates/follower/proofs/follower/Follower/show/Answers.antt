@@ -1,4 +1,4 @@
-use Rattle.std.proofs.Common.{◌≡◌, ◌<◌, ◌∙◌, ◌++◌, ◌∷◌, [], All, ap, sym, subst, rules}
+use Rattle.std.proofs.Common.{◌≡◌, ◌<◌, ◌∙◌, ◌++◌, ◌∷◌, [], All, ap, inl, sym, subst, rules}
 use Rattle.modules.specs.Catalogs.{IsSoundCatalog}
 use Rattle.modules.specs.RegionIndexes.{IsIndexOf}
 use Rattle.shared_lookup.specs.Replacing.{Replaces, RefusesReplacement}
@@ -12,7 +12,7 @@ returns-in_err-generation-clause-refused g c =
     let refused : RefusesToShow c.args.catalog c.args.self.now c.in_err-generation.field-0.0 = record {
       items = c.items.result.now;
       indexed = c.items.ensures;
-      refuses = subst (λ (f : Followed). RefusesReplacement c.items.result.now f.ledger c.in_err-generation.field-0.0) c.self.view_is c.in_err-generation.ensures.refused;
+      refuses = inl (subst (λ (f : Followed). RefusesReplacement c.items.result.now f.ledger c.in_err-generation.field-0.0) c.self.view_is c.in_err-generation.ensures.refused);
     } in
     search rules
 
