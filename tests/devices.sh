@@ -3,7 +3,8 @@
 # a run meets no failure. A
 # read that fails is told as that of its file, with status 1 and nothing on standard output, where a
 # beginning of an annotated log may stand; a write that fails is told, and a beginning was written.
-# Then reads logs and listings a few bytes at a time.
+# Calls fail with several errors: of a broken pipe `annotate` says nothing. A write that takes a few
+# bytes alone is no failed one. Then reads logs and listings a few bytes at a time.
 #
 # The program is linked to the C library dynamically, so a library in front of it can fail a call.
 # Needs a C compiler.
@@ -34,6 +35,45 @@ is_begun() {
     [ ! -s out ] || cmp -s -n "$(stat -c %s out)" out ample
 }
 
+# pieces ARGUMENT..: what goes out a few bytes at a time is what goes out in one piece
+pieces() {
+    local most
+    for most in 1 10 4095; do
+        once LONGEST_WRITE=$most "$@"
+        [ $status = 0 ] && [ ! -s err ] && cmp -s out ample ||
+            fail "latchsym $*: $most bytes are written at a time: status $status, $(cat err)"
+    done
+}
+
+declare -A said=([4]='Interrupted system call' [28]='No space left on device' [32]='Broken pipe')
+
+# reasons ARGUMENT..: the first read, and all writes, fail with an error of each kind, of which std
+# calls a write that was interrupted again where there is a buffer
+reasons() {
+    local error name wanted
+    for error in "${!said[@]}"; do
+        if [ $error != 4 ] || [ "$1" = annotate ]; then
+            FAILURE=$error once FAILED_WRITES=1 "$@"
+            case $1 in
+                annotate | address | check) wanted="latchsym: cannot write (${said[$error]})" ;;
+                *) wanted='latchsym: cannot write' ;;
+            esac
+            [ "$1" != annotate ] || [ $error != 32 ] || wanted=
+            [ $status = 1 ] && [ "$(cat err)" = "$wanted" ] && [ ! -s out ] ||
+                fail "latchsym $*: all writes fail with error $error: status $status, $(cat err)"
+        fi
+        FAILURE=$error once FAILED_READ=1 "$@"
+        name=$(basename "$(cat mark)")
+        [ "$name" != input ] || name=-
+        wanted="latchsym: $name: cannot be read"
+        case $1 in
+            annotate | address | check) wanted+=" (${said[$error]})" ;;
+        esac
+        [ $status = 1 ] && [ "$(cat err)" = "$wanted" ] && [ ! -s out ] ||
+            fail "latchsym $*: the first read fails with error $error: status $status, $(cat err)"
+    done
+}
+
 # tried READS WRITES ARGUMENT..: each call of the run is failed; so many reads and writes there are at
 # least
 tried() {
@@ -43,6 +83,8 @@ tried() {
         annotate | address | check) reason=' (Input/output error)' ;;
     esac
     "$program" "$@" <input >ample 2>err && [ ! -s err ] || fail "latchsym $*: $(cat err)"
+    pieces "$@"
+    reasons "$@"
     for ((call = 1; ; call++)); do
         once FAILED_READ=$call "$@"
         [ -e mark ] || break

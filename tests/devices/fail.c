@@ -5,9 +5,11 @@
  *   FAILED_WRITE   the number of the write to standard output that fails
  *   FAILED_WRITES  the number of the write to standard output from which on each fails
  *   FAILURE_MARK   a file that is made where the call came, with the path of what was read or written
+ *   FAILURE        the number of the error that a call which fails says, EIO if there is none
  *   LONGEST_READ   the most bytes that a read gives
+ *   LONGEST_WRITE  the most bytes that a write to standard output takes
  *
- * A call that fails does nothing, and says EIO. */
+ * A call that fails does nothing else. */
 #include <errno.h>
 #include <fcntl.h>
 #include <stdio.h>
@@ -15,7 +17,8 @@
 #include <sys/syscall.h>
 #include <unistd.h>
 
-static long failed_read, failed_write, failed_writes, longest_read, reads, writes;
+static long failed_read, failed_write, failed_writes, failure, longest_read, longest_write;
+static long reads, writes;
 
 static long number(const char *name) {
     const char *text = getenv(name);
@@ -29,7 +32,7 @@ static ssize_t fail(int file) {
     ssize_t length = readlink(link, path, sizeof path);
     if (length > 0) syscall(SYS_write, mark, path, (size_t)length);
     close(mark);
-    errno = EIO;
+    errno = failure > 0 ? (int)failure : EIO;
     return -1;
 }
 
@@ -43,6 +46,7 @@ ssize_t write(int file, const void *bytes, size_t count) {
     if (file != 1) return syscall(SYS_write, file, bytes, count);
     long call = __atomic_add_fetch(&writes, 1, __ATOMIC_SEQ_CST);
     if (call == failed_write || (failed_writes > 0 && call >= failed_writes)) return fail(file);
+    if (longest_write > 0 && count > (size_t)longest_write) count = (size_t)longest_write;
     return syscall(SYS_write, file, bytes, count);
 }
 
@@ -50,5 +54,7 @@ __attribute__((constructor)) static void begin(void) {
     failed_read = number("FAILED_READ");
     failed_write = number("FAILED_WRITE");
     failed_writes = number("FAILED_WRITES");
+    failure = number("FAILURE");
     longest_read = number("LONGEST_READ");
+    longest_write = number("LONGEST_WRITE");
 }

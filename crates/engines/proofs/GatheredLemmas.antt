@@ -24,7 +24,7 @@ use Rattle.run_files.specs.declared.header.Header.{Header}
 use Rattle.run_files.specs.CommandLines.{IsUnderstood, LinesLeft}
 use Rattle.texts.specs.Counted.{NoneFailed, device_of}
 use Rattle.texts.specs.declared.output.Output.{Output}
-use Rattle.texts.specs.Output.{WroteAll, WrotePart}
+use Rattle.texts.specs.Output.{Delivered, WrotePart}
 use Rattle.texts.proofs.ReadLemmas.{of_read}
 use Rattle.texts.specs.Said.{entries_after}
 use Rattle.texts.proofs.SaidLemmas.{all_said, none_before, one_more}
@@ -158,7 +158,7 @@ module _ {R W : Type 0} (remaining : R → Option (List ℕ)) (contents : W → 
       let (c, reads, opens, (text, runs, wrote)) = a in (
         none,
         wrote.1,
-        held (λ read. (t : List ℕ) × IsTraceText read t × WroteAll contents w w' t) (text, record { said = c; reads = reads; opens = opens; runs = runs }, wrote),
+        held (λ read. (t : List ℕ) × IsTraceText read t × Delivered contents w w' t) (text, record { said = c; reads = reads; opens = opens; runs = runs }, wrote),
       )
   answers_read (Err (Refused refusal.OutOfMemory)) a = (none, a)
   answers_read (Err (Refused refusal.BadCapacity)) a =

@@ -1,5 +1,5 @@
 -- The same answer, where more is known of what was read: of the engines of lookup and symbol_lookup.
-use Rattle.std.proofs.Common.{◌≡◌, ℕ, zero, suc, [], ◌∷◌, Option, Result, Ok, Err, ⊎_elim, arith}
+use Rattle.std.proofs.Common.{◌≡◌, ℕ, zero, suc, [], ◌∷◌, Option, Result, Ok, Err, arith}
 use Rattle.std.specs.Prelude.{IfSome}
 use Rattle.texts.specs.Counted.{Rose}
 use Rattle.texts.specs.declared.output.Output.{Output}
@@ -9,7 +9,7 @@ use Rattle.engines.specs.declared.fault.Fault.TheVariants.{Refused, BadLine, Rea
 use Rattle.engines.specs.Readings.{AnswersInputs, Failures, HoldsOf, NoReaderFailed, OnlyFailed, last_failures}
 
 no_rise : Rose 0 0 → ⊥
-no_rise rose = ⊎_elim (λ less. omega (arith, less)) (λ most. omega (arith, most)) rose
+no_rise rose = grind (arith, rose)
 
 -- the same answer, where more is known of the inputs and of which reader failed
 module _ {I V W : Type 0} (Says : I → Result V Fault → Type 0) (inner known : Option (Result I (ℕ × ℕ))) (all : (P : Result I (ℕ × ℕ) → Type 0) → IfSome inner P → IfSome known P) (had counts : Failures) (none : NoReaderFailed had → NoReaderFailed counts) (only : (place : ℕ) → OnlyFailed place had → OnlyFailed place counts) (w w' : Output W) where

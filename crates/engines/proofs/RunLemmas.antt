@@ -3,7 +3,7 @@
 use Rattle.std.proofs.Common.{◌≡◌, ◌<◌, ◌≤◌, ℕ, List, [], Option, Some, Result, Ok, Err, true, refl, sym, subst}
 use Rattle.std.specs.Prelude.{IfSome}
 use Rattle.texts.specs.declared.output.Output.{Output}
-use Rattle.texts.specs.Output.{WroteAll, WrotePart}
+use Rattle.texts.specs.Output.{Delivered, WrotePart}
 use Rattle.latch_table.specs.Limits.{most_readers}
 use Rattle.run_files.specs.declared.scripts.ScriptLine.{ScriptLine}
 use Rattle.run_files.specs.Scripts.{script_of}
@@ -54,7 +54,7 @@ module _ {W : Type 0} (contents : W → Option (List ℕ)) (i : Inputs) (readers
       → (r : Result ℕ Fault) → AnswersLines contents c readers lines w w' r → AnswersRun contents readers known [] w w' (with_notes notes r)
   script_answered c notes few is noted (Ok status) h =
       let fits : FitsRun readers (record { listings = i; lines = lines }) = (few, subst (λ c. MayRun c readers) is h.0) in
-      (tt, h.1.2.3.1, holds (λ j. IsRunOf contents readers w w' j (Ok (record { status = status; notes = notes }))) (fits, subst (λ c. IsRun (WroteAll contents w w') c readers lines status) is h.1, noted))
+      (tt, h.1.2.3.1, holds (λ j. IsRunOf contents readers w w' j (Ok (record { status = status; notes = notes }))) (fits, subst (λ c. IsRun (Delivered contents w w') c readers lines status) is h.1, noted))
   script_answered c notes few is noted (Err (Refused refusal.OutOfMemory)) h = (tt, h)
   script_answered c notes few is noted (Err (Refused refusal.BadCapacity)) h = (tt, h.0, holds _ (few, subst (λ c. MayRun c readers → ⊥) is h.1))
   script_answered c notes few is noted (Err Write) h =

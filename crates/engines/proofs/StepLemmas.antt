@@ -6,8 +6,8 @@ use Rattle.facts.proofs.Lists.{take_push}
 use Rattle.std.proofs.Math.Seq.{take-length}
 use Rattle.std.proofs.lemmas.Option.{slice_get_read}
 use Rattle.texts.specs.declared.output.Output.{Output}
-use Rattle.texts.specs.Output.{Says, has_failed}
-use Rattle.texts.proofs.OutputLemmas.{all_written, nothing_said, part_written, same_text, then}
+use Rattle.texts.specs.Output.{Delivers, Says, has_failed}
+use Rattle.texts.proofs.OutputLemmas.{all_delivered, all_written, nothing_said, part_written, same_text, then, then_flushed}
 use Rattle.run_files.specs.Trace.{Contents}
 use Rattle.order_laws.specs.Orders.{Order}
 use Rattle.word_layout.specs.Words.{at}
@@ -247,13 +247,13 @@ module _ {O W : Type 0} (o : Order ℕ) (contents : W → Option (List ℕ)) (sa
         then first told.said,
       )
 
-  pub steps_answered : (last : World O ℕ) (d : Output W) → TellsCommands o contents lines said.commands world last b c → Says contents c d [] → has_failed d ≡ false → AnswersStepsIn o contents said lines a d (Ok tt)
+  pub steps_answered : (last : World O ℕ) (d : Output W) → TellsCommands o contents lines said.commands world last b c → Delivers contents c d [] → has_failed d ≡ false → AnswersStepsIn o contents said lines a d (Ok tt)
   steps_answered last d told flushed sound =
       let whole = steps_said said.commands last c (told _ begins) in
-      (opens, (whole.0, whole.1, all_written (same_text (append-nil whole.0) (then whole.2 flushed)) sound))
+      (opens, (whole.0, whole.1, all_delivered (then_flushed whole.2 flushed) sound))
 
   -- the flush failed, or what stood before it
-  pub steps_unflushed : (last : World O ℕ) (d : Output W) → TellsCommands o contents lines said.commands world last b c → Says contents c d [] → has_failed d ≡ true → AnswersStepsIn o contents said lines a d (Err WriteFault)
+  pub steps_unflushed : (last : World O ℕ) (d : Output W) → TellsCommands o contents lines said.commands world last b c → Delivers contents c d [] → has_failed d ≡ true → AnswersStepsIn o contents said lines a d (Err WriteFault)
   steps_unflushed last d told flushed failed =
       let whole = steps_said said.commands last c (told _ begins) in
       let all : said.commands ≡ take (length said.commands) said.commands = sym (take-length said.commands) in (
@@ -271,7 +271,7 @@ module _ {O W : Type 0} (o : Order ℕ) (contents : W → Option (List ℕ)) (sa
             steps = tt;
             whole = sym (append-nil whole.0);
           },
-          part_written (same_text (append-nil whole.0) (then whole.2 flushed)) failed,
+          part_written (then_flushed whole.2 flushed).0 failed,
         ),
       )
 

@@ -6,7 +6,7 @@ use Rattle.std.specs.Option.{option_map}
 use Rattle.texts.specs.Counted.{Rose, failures_of}
 use Rattle.texts.specs.Lines.{lines_of}
 use Rattle.texts.specs.declared.output.Output.{Output}
-use Rattle.texts.specs.Output.{WroteAll, WrotePart}
+use Rattle.texts.specs.Output.{Delivered, WrotePart}
 use Rattle.order_laws.specs.declared.refusals.Refusal.TheVariants as refusal
 use Rattle.modules.specs.Entries.{CatalogEntries}
 use Rattle.modules.specs.Listed.{ListedRegion}
@@ -58,7 +58,7 @@ AreListingsOf i =
 -- failed write leaves the writer as it was, and a call of it failed then alone.
 abbrev pub WritesLookup : {W : Type 0} → (W → Option (List ℕ)) → CatalogEntries → List ℕ
     → Output W → Output W → Result (Unit {0}) Fault → Type 0
-WritesLookup contents c text w w' (Ok _) = HasFewRegions c × WroteAll contents w w' text
+WritesLookup contents c text w w' (Ok _) = HasFewRegions c × Delivered contents w w' text
 WritesLookup contents c text w w' (Err (Refused refusal.OutOfMemory)) = w' ≡ w
 WritesLookup contents c text w w' (Err (Refused refusal.BadCapacity)) =
     (w' ≡ w) × HasManyRegions c
@@ -91,7 +91,7 @@ GivesAddresses given known before after (Err _) = ⊥
 abbrev pub IsLookupOf : {W : Type 0} → (W → Option (List ℕ)) → AnswerForm → Output W → Output W
     → Inputs → Result ListingNotes Fault → Type 0
 IsLookupOf contents form w w' i (Ok notes) =
-    IsWritten (WroteAll contents w w') form i × (notes ≡ notes_of i)
+    IsWritten (Delivered contents w w') form i × (notes ≡ notes_of i)
 IsLookupOf contents form w w' i (Err (Refused refusal.BadCapacity)) = HasTooManyRegions i
 IsLookupOf contents form w w' i (Err (Refused refusal.TooManyRegions)) = HasTooManyOfOne i
 IsLookupOf contents form w w' i (Err Write) = IsWritten (WrotePart contents w w') form i

@@ -5,7 +5,7 @@ use Rattle.std.specs.Global.{Vec}
 use Rattle.std.specs.List.{list_any}
 use Rattle.texts.specs.Counted.{failures_of}
 use Rattle.texts.specs.declared.output.Output.{Output}
-use Rattle.texts.specs.Output.{WroteAll, WrotePart}
+use Rattle.texts.specs.Output.{Delivered, WrotePart}
 use Rattle.latch_table.specs.Limits.{most_readers}
 use Rattle.run_files.specs.declared.scripts.ScriptLine.{ScriptLine}
 use Rattle.modules.specs.Entries.{CatalogEntries}
@@ -55,7 +55,7 @@ abbrev pub TellsServed : {W : Type 0} → (W → Option (List ℕ)) → CatalogE
     → Output W → Output W → Result ℕ Fault → Type 0
 TellsServed contents c names s w w' (Ok status) =
     (list_any (λ e. e) s.ended.items ≡ false) × (status ≡ status_of s.wrong)
-    × WroteAll contents w w' (run_text c names s)
+    × Delivered contents w w' (run_text c names s)
 TellsServed contents c names s w w' (Err (Refused refusal.OutOfMemory)) =
     (w' ≡ w) × (list_any (λ e. e) s.ended.items ≡ true)
 TellsServed contents c names s w w' (Err Write) =
@@ -76,7 +76,7 @@ abbrev pub AnswersLines : {W : Type 0} → (W → Option (List ℕ)) → Catalog
     → List ScriptLine
     → Output W → Output W → Result ℕ Fault → Type 0
 AnswersLines contents c readers lines w w' (Ok status) =
-    MayRun c readers × IsRun (WroteAll contents w w') c readers lines status
+    MayRun c readers × IsRun (Delivered contents w w') c readers lines status
 AnswersLines contents c readers lines w w' (Err (Refused refusal.OutOfMemory)) = w' ≡ w
 AnswersLines contents c readers lines w w' (Err (Refused refusal.BadCapacity)) =
     (w' ≡ w) × (MayRun c readers → ⊥)
@@ -100,7 +100,7 @@ abbrev pub IsRunOf : {W : Type 0} → (W → Option (List ℕ)) → ℕ → Outp
     → RunInputs → Result Finished Fault → Type 0
 IsRunOf contents readers w w' i (Ok finished) =
     FitsRun readers i
-    × IsRun (WroteAll contents w w') (catalog_in i.listings) readers i.lines finished.status
+    × IsRun (Delivered contents w w') (catalog_in i.listings) readers i.lines finished.status
     × (finished.notes ≡ notes_of i.listings)
 IsRunOf contents readers w w' i (Err (Refused refusal.BadCapacity)) = FitsNoRun readers i
 IsRunOf contents readers w w' i (Err (Refused refusal.TooManyRegions)) = HasTooManyOfOne i.listings

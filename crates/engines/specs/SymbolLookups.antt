@@ -6,7 +6,7 @@ use Rattle.listing.specs.declared.address_rules.AddressRule.{AddressRule}
 use Rattle.texts.specs.Counted.{device_of, failures_of}
 use Rattle.texts.specs.Lines.{lines_of}
 use Rattle.texts.specs.declared.output.Output.{Output}
-use Rattle.texts.specs.Output.{WroteAll, WrotePart}
+use Rattle.texts.specs.Output.{Delivered, WrotePart}
 use Rattle.listing.specs.Opening.{SaysOfModules, kept_in_text, listed, notes_with, symbol_note}
 use Rattle.listing.specs.SymbolListing.{symbol_counts}
 use Rattle.listing.specs.Tallies.{Tallies, symbol_tallies_by}
@@ -102,7 +102,7 @@ IsWrittenBySymbols Wrote form i notes =
 abbrev pub IsSymbolLookupOf : {W : Type 0} → (W → Option (List ℕ)) → AnswerForm → Output W
     → Output W → SymbolInputs → Result ListingNotes Fault → Type 0
 IsSymbolLookupOf contents form w w' i (Ok notes) =
-    IsWrittenBySymbols (WroteAll contents w w') form i notes
+    IsWrittenBySymbols (Delivered contents w w') form i notes
 IsSymbolLookupOf contents form w w' i (Err (Refused refusal.BadCapacity)) =
     HoldsOfCatalog HasManyRegions i
 IsSymbolLookupOf contents form w w' i (Err (Refused refusal.TooManyRegions)) = ⊥

@@ -4,7 +4,7 @@ use Rattle.std.specs.Prelude.{Ok, Err, IfSome, flat_map, if◌then◌else◌}
 use Rattle.texts.specs.declared.counted.Counted.{Counted}
 use Rattle.texts.specs.Counted.{NoneFailed, Rose, device_of, failures_of}
 use Rattle.texts.specs.declared.output.Output.{Output}
-use Rattle.texts.specs.Output.{WroteAll, WrotePart, has_failed}
+use Rattle.texts.specs.Output.{Delivered, WrotePart, has_failed}
 use Rattle.order_laws.specs.Orders.{Order, closed, half_open}
 use Rattle.order_laws.specs.declared.refusals.Refusal.TheVariants as refusal
 use Rattle.word_layout.specs.Limits.{most_nodes, greatest_sequence, greatest_wide_sequence}
@@ -82,7 +82,7 @@ pub record IsTraceWith (P : Header → Type 0) (read : List ℕ) : Type 0 where
 abbrev pub AnswersBy : {W : Type 0} → (List ℕ → Type 0) → (List ℕ → Type 0) → (Output W → Output W → Type 0)
     → (W → Option (List ℕ)) → Header → Output W → Output W → Result (Unit {0}) Fault → Type 0
 AnswersBy IsText IsBegun IsRefused contents header w w' (Ok _) =
-    HeaderMayOpen header × ((text : List ℕ) × IsText text × WroteAll contents w w' text)
+    HeaderMayOpen header × ((text : List ℕ) × IsText text × Delivered contents w w' text)
 AnswersBy IsText IsBegun IsRefused contents header w w' (Err (Refused refusal.OutOfMemory)) = IsRefused w w'
 AnswersBy IsText IsBegun IsRefused contents header w w' (Err (Refused refusal.BadCapacity)) =
     (w' ≡ w) × HeaderMayNotOpen header
@@ -98,7 +98,7 @@ abbrev pub AnswersReadBy : {R W : Type 0} → (List ℕ → List ℕ → Type 0)
 AnswersReadBy IsText IsBegun IsRefused remaining contents r r' w w' (Ok _) =
     NoneFailed r r' × (has_failed w' ≡ false)
     × IfSome (remaining (device_of r)) (λ read. (text : List ℕ) × IsText read text
-    × WroteAll contents w w' text)
+    × Delivered contents w w' text)
 AnswersReadBy IsText IsBegun IsRefused remaining contents r r' w w' (Err (Refused refusal.OutOfMemory)) =
     NoneFailed r r' × IsRefused w w'
 AnswersReadBy IsText IsBegun IsRefused remaining contents r r' w w' (Err (Refused refusal.BadCapacity)) =
@@ -126,7 +126,7 @@ abbrev pub AnswersSaid : {W : Type 0} → (W → Option (List ℕ)) → Result C
 AnswersSaid contents said w w' (Ok _) =
     (c : Contents) × (said ≡ Ok c) × HeaderMayOpen c.header
     × ((text : List ℕ) × IsRunText (order_by c.header.closed) c text
-    × WroteAll contents w w' text)
+    × Delivered contents w w' text)
 AnswersSaid contents said w w' (Err (Refused refusal.OutOfMemory)) = w' ≡ w
 AnswersSaid contents said w w' (Err (Refused refusal.BadCapacity)) =
     (w' ≡ w) × ((c : Contents) × (said ≡ Ok c) × HeaderMayNotOpen c.header)

@@ -1,6 +1,6 @@
 //! The lines that a lookup of addresses writes, byte for byte, with no memory taken.
 ghost use Rattle.std.specs.Prelude.{◌++◌, flat_map};
-ghost use Rattle.texts.specs.Output.{Says};
+ghost use Rattle.texts.specs.Output.{Delivers, Says};
 ghost use Rattle.engines.specs.LookupTexts.{answer_line, count_text, counts_by};
 ghost use Rattle.engines.specs.LookupTexts.{known_line, line_by};
 
@@ -22,7 +22,7 @@ pub fn put_lookup<W: Write>(
     answers: &[AddressAnswer],
     tallies: &LineTallies,
 )
-    ensures { Says W.contents writer.old writer.new
+    ensures { Delivers W.contents writer.old writer.new
         (flat_map (line_by form catalog.now rule) answers.now ++ counts_by form tallies.now) }
 {
     put_answers(writer, catalog, rule, form, answers);

@@ -6,7 +6,7 @@ ghost use Rattle.std.specs.Prelude.{◌++◌, ◌+◌, ◌≡◌, IfOk, codes, d
 ghost use Rattle.std.specs.Prelude.{sum_by, vec_len};
 ghost use Rattle.std.specs.List.{zip};
 ghost use Rattle.texts.specs.Exact.{hexadecimal};
-ghost use Rattle.texts.specs.Output.{Says};
+ghost use Rattle.texts.specs.Output.{Delivers, Says};
 ghost use Rattle.engines.specs.LookupTexts.{count_text};
 ghost use Rattle.engines.specs.RunTexts.{answered_text, answers_text, change_text};
 ghost use Rattle.engines.specs.RunTexts.{count_of_answers, refusals_text, run_text, totals_text};
@@ -35,7 +35,7 @@ pub fn put_run<W: Write>(
     names: &[Vec<ModuleName<'_>>],
     served: &Served,
 )
-    ensures { Says W.contents writer.old writer.new
+    ensures { Delivers W.contents writer.old writer.new
         (run_text catalog.now names.now served.now) }
 {
     put_refusals(writer, names, &served.changes);

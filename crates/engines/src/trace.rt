@@ -6,7 +6,7 @@
 ghost use Rattle.std.specs.Prelude.{◌≡◌, ◌<◌, ◌++◌, ◌↔◌, ◌⊎◌, [], IfErr, IfOk, IsErr, OnOk};
 ghost use Rattle.std.specs.Prelude.{flat_map};
 ghost use Rattle.run_files.specs.CommandLines.{IsUnderstood};
-ghost use Rattle.texts.specs.Output.{Says};
+ghost use Rattle.texts.specs.Output.{Delivers};
 ghost use Rattle.run_files.specs.Trace.{trace_of, with_header};
 ghost use Rattle.word_layout.specs.Layouts.{capacity_of, limit_of};
 ghost use Rattle.word_layout.specs.Limits.{most_nodes};
@@ -170,7 +170,7 @@ fn gather_notes(notes: &[Note<u64>], text: &mut Vec<u8>) -> Result<(), AllocErro
 
 /// Writes the text, and lets the writer keep nothing back.
 fn put_text<W: Write>(writer: &mut Output<W>, text: &[u8])
-    ensures { Says W.contents writer.old writer.new text.now }
+    ensures { Delivers W.contents writer.old writer.new text.now }
 {
     writer.put(text);
     writer.flush();

@@ -40,11 +40,11 @@ pub use Rattle.memchr.specs.Find.{Nowhere, Passes, is_byte}
 pub use Rattle.facts.proofs.Lists.{map-insert, moved_over}
 pub use Rattle.facts.proofs.Options.{Some-from_parts}
 pub use Rattle.order_laws.specs.declared.items.Item.{Item}
-pub use Rattle.texts.proofs.OutputLemmas.{all_written, part_written, piece_said, same_text, then}
+pub use Rattle.texts.proofs.OutputLemmas.{all_delivered, part_written, piece_said, same_text, then, then_flushed}
 pub use Rattle.texts.specs.Exact.{hexadecimal}
 pub use Rattle.texts.specs.Lines.{lines_of}
 pub use Rattle.texts.specs.Numbers.{number_of}
-pub use Rattle.texts.specs.Output.{Says, WroteAll, WrotePart, has_failed}
+pub use Rattle.texts.specs.Output.{Delivered, Delivers, Says, WrotePart, has_failed}
 pub use Rattle.texts.specs.declared.counted.Counted.{Counted}
 pub use Rattle.texts.specs.declared.output.Output.{Output}
 pub use Rattle.modules.proofs.FindLemmas.{found_by_place}

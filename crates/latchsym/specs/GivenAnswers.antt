@@ -1,7 +1,7 @@
 -- What an engine returns that reads listings, and then writes a text about them.
 use Rattle.std.specs.Prelude.{◌≡◌, ℕ, List, Option, Result, Ok, Err, IfSome, is_some, true, false}
 use Rattle.texts.specs.declared.output.Output.{Output}
-use Rattle.texts.specs.Output.{WroteAll, WrotePart, has_failed}
+use Rattle.texts.specs.Output.{Delivered, WrotePart, has_failed}
 use Rattle.order_laws.specs.declared.refusals.Refusal.TheVariants as refusal
 use Rattle.engines.specs.OpenedCatalogs.{Given, HasBadRegion, HasCrowdedRegions}
 use Rattle.engines.specs.Readings.{Failures, NoReaderFailed, OnlyFailed}
@@ -21,7 +21,7 @@ IsTextWritten Wrote Is v = (text : List ℕ) × Is text v × Wrote text
 -- and a call of it failed then alone.
 abbrev pub AnswersGiven : {V W : Type 0} → (W → Option (List ℕ)) → (Given → List ℕ → V → Type 0)
     → Given → Output W → Output W → Result V Fault → Type 0
-AnswersGiven contents Is g w w' (Ok v) = IsTextWritten (WroteAll contents w w') (Is g) v
+AnswersGiven contents Is g w w' (Ok v) = IsTextWritten (Delivered contents w w') (Is g) v
 AnswersGiven contents Is g w w' (Err (Refused refusal.OutOfMemory)) = w' ≡ w
 AnswersGiven contents Is g w w' (Err (Refused refusal.TooManyRegions)) =
     (w' ≡ w) × HoldsOfRegions HasCrowdedRegions g
@@ -38,7 +38,7 @@ abbrev pub AnswersListings : {V W : Type 0} → (W → Option (List ℕ))
     → Result V Fault → Type 0
 AnswersListings contents Is known counts w w' (Ok v) =
     NoReaderFailed counts × (has_failed w' ≡ false)
-    × IfSome known (λ g. IsTextWritten (WroteAll contents w w') (Is g) v)
+    × IfSome known (λ g. IsTextWritten (Delivered contents w w') (Is g) v)
 AnswersListings contents Is known counts w w' (Err (Refused refusal.OutOfMemory)) =
     NoReaderFailed counts × (w' ≡ w)
 AnswersListings contents Is known counts w w' (Err (Refused refusal.TooManyRegions)) =

@@ -4,7 +4,7 @@
 //! they are its answer it writes them.
 ghost use Rattle.std.specs.Prelude.{◌≡◌, None, Some};
 ghost use Rattle.std.specs.Option.{option_copied};
-ghost use Rattle.texts.specs.Output.{Says};
+ghost use Rattle.texts.specs.Output.{Delivers, Says};
 ghost use Rattle.texts.specs.Lines.{lines_of};
 ghost use Rattle.listing.specs.Looks.{are_modules_hidden, are_symbols_hidden};
 ghost use Rattle.latchsym.specs.Checks.{IsChecked, listings_report, modules_name, status_of_kept};
@@ -135,7 +135,7 @@ fn put_listings<W: Write>(
         ≡ are_modules_hidden (lines_of inputs.now.modules.now) }
     requires symbols { listings.now.symbols_hidden
         ≡ are_symbols_hidden (lines_of inputs.now.kallsyms.now) }
-    ensures { Says W.contents writer.old writer.new
+    ensures { Delivers W.contents writer.old writer.new
         (listings_report files.now (inputs_in inputs.now) listings.now) }
 {
     let names = &inputs.options.kernel;
@@ -177,7 +177,7 @@ fn put_symbol_listing<W: Write>(
     listing: &SymbolListing,
 )
     requires { listing.now.hidden ≡ are_symbols_hidden (lines_of kallsyms.now) }
-    ensures { Says W.contents writer.old writer.new
+    ensures { Delivers W.contents writer.old writer.new
         (symbol_listing_report names.now file.now kallsyms.now listing.now) }
 {
     put_symbol_notes(

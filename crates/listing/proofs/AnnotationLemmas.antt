@@ -11,7 +11,7 @@ use Rattle.texts.specs.Output.{WrotePart, has_failed, writer_of}
 use Rattle.listing.specs.AnnotatedLogs.{Answering, annotated, context_behind}
 use Rattle.listing.specs.LogContexts.{annotated_from, context_over, first_context, kept_in}
 use Rattle.listing.specs.Insertions.{IsWaiting}
-use Rattle.listing.specs.Annotation.{Annotates, IsCutOff, IsFollowing, IsUnderWay, PutsMore, PutsRest, owed, owed_count, owed_names}
+use Rattle.listing.specs.Annotation.{Annotates, IsCutOff, IsFollowing, IsUnderWay, KeepsNothingBack, PutsMore, PutsRest, owed, owed_count, owed_names}
 use Rattle.listing.specs.LogNames.{counted, names_of_log, no_names}
 use Rattle.listing.specs.LogTallies.{count_in, names_from, open_names}
 use Rattle.listing.proofs.LogNameLemmas.{names_are, names_with}
@@ -26,6 +26,7 @@ use Rattle.listing.proofs.LogContextLemmas.{from_begin, from_behind, kept_behind
 pub record IsOn {R W : Type 0} (remaining : R → Option (List ℕ)) (contents : W → Option (List ℕ)) (answer : Answering) (r r' : Counted R) (w w' : Output W) (a : Annotator) (turns : ℕ) : Type 0 where
   pub read_all : NoneFailed r r'
   pub written_all : has_failed w' ≡ has_failed w
+  pub kept_back : KeepsNothingBack w w'
   pub read : List ℕ
   pub many : turns ≤ length read
   pub written : List ℕ
@@ -67,6 +68,7 @@ module _ {R W : Type 0} (remaining : R → Option (List ℕ)) (contents : W → 
   begun a first none names places = record {
     read_all = refl;
     written_all = refl;
+    kept_back = inl refl;
     read = [];
     many = omega arith;
     written = [];
@@ -113,14 +115,14 @@ module _ {R W : Type 0} (remaining : R → Option (List ℕ)) (contents : W → 
   -- a read failed
   pub not_read : (r' r'' : Counted R) (w' : Output W) (a : Annotator) (n : ℕ) → IsOn remaining contents answer r r' w w' a n → Rose (failures_of r') (failures_of r'') → Keeps (remaining (device_of r')) (remaining (device_of r''))
       → Annotates remaining contents answer r r'' w w' (Err fault.Read)
-  not_read r' r'' w' a n on rose keeps = (subst (λ n. Rose n (failures_of r'')) on.read_all rose, on.written_all, following r' r'' w' a n on keeps)
+  not_read r' r'' w' a n on rose keeps = (subst (λ n. Rose n (failures_of r'')) on.read_all rose, on.written_all, on.kept_back, following r' r'' w' a n on keeps)
 
   -- no block is left to be read
   pub too_long : (r' : Counted R) (w' : Output W) (a : Annotator) (n : ℕ) → IsOn remaining contents answer r r' w w' a n → 2 ^ 64 - 1 ≤ n → Annotates remaining contents answer r r' w w' (Err fault.TooLong)
   unfolding following
   too_long r' w' a n on last =
       let f = following r' r' w' a n on (Keeps-refl _) in
-      (on.read_all, on.written_all, (f.0, f.1, f.2, f.3, f.4, omega (arith, on.many, last)))
+      (on.read_all, on.written_all, on.kept_back, (f.0, f.1, f.2, f.3, f.4, omega (arith, on.many, last)))
 
   -- a block more
   pub one_more : (r' r'' : Counted R) (w' w'' : Output W) (a a' : Annotator) (n : ℕ) (bytes : List ℕ) (u : Unit {0}) → 0 < length bytes → IsOn remaining contents answer r r' w w' a n → NoneFailed r' r'' → Consumes (remaining (device_of r')) (remaining (device_of r'')) bytes
@@ -128,6 +130,7 @@ module _ {R W : Type 0} (remaining : R → Option (List ℕ)) (contents : W → 
   one_more r' r'' w' w'' a a' n bytes u some on all took (text, put, decides) = record {
     read_all = all ∙ on.read_all;
     written_all = put.1 ∙ sym put.0 ∙ on.written_all;
+    kept_back = inr put.3;
     read = on.read ++ bytes;
     many = omega (arith, on.many, some, length-append on.read bytes);
     written = on.written ++ text;
@@ -171,9 +174,9 @@ module _ {R W : Type 0} (remaining : R → Option (List ℕ)) (contents : W → 
   pub not_put : (r' r'' : Counted R) (w' w'' : Output W) (a a' : Annotator) (n : ℕ) (bytes : List ℕ) (e : LogFault) → IsOn remaining contents answer r r' w w' a n → NoneFailed r' r'' → Consumes (remaining (device_of r')) (remaining (device_of r'')) bytes
       → PutsMore contents answer a a' bytes w' w'' (Err e) → Annotates remaining contents answer r r'' w w'' (Err e)
   not_put r' r'' w' w'' a a' n bytes fault.OutOfMemory on all took puts =
-      subst (λ x. Annotates remaining contents answer r r'' w x (Err fault.OutOfMemory)) (sym puts) (all ∙ on.read_all, on.written_all, under_way r' r'' w' a n bytes on took)
-  not_put r' r'' w' w'' a a' n bytes fault.Write on all took (text, put, decides) = stopped r' r'' w' w'' a a' n bytes text on all took put decides.same
-  not_put r' r'' w' w'' a a' n bytes fault.Closed on all took (text, put, decides) = stopped r' r'' w' w'' a a' n bytes text on all took put decides.same
+      subst (λ x. Annotates remaining contents answer r r'' w x (Err fault.OutOfMemory)) (sym puts) (all ∙ on.read_all, on.written_all, on.kept_back, under_way r' r'' w' a n bytes on took)
+  not_put r' r'' w' w'' a a' n bytes fault.Write on all took ((text, put, decides), why) = (stopped r' r'' w' w'' a a' n bytes text on all took put decides.same, why)
+  not_put r' r'' w' w'' a a' n bytes fault.Closed on all took ((text, put, decides), why) = (stopped r' r'' w' w'' a a' n bytes text on all took put decides.same, why)
   not_put r' r'' w' w'' a a' n bytes fault.Read on all took puts = absurd puts
   not_put r' r'' w' w'' a a' n bytes fault.TooLong on all took puts = absurd puts
 
@@ -205,6 +208,7 @@ module _ {R W : Type 0} (remaining : R → Option (List ℕ)) (contents : W → 
   ended r' r'' w' w'' a n (Ok names) on all took at_end (put, told) = (
     all ∙ on.read_all,
     put.1,
+    put.3,
     (
       on.read ++ [],
       Consumes-trans _ _ _ on.read [] on.consumed took,
@@ -214,8 +218,8 @@ module _ {R W : Type 0} (remaining : R → Option (List ℕ)) (contents : W → 
     ),
   )
   ended r' r'' w' w'' a n (Err fault.OutOfMemory) on all took at_end puts =
-      subst (λ x. Annotates remaining contents answer r r'' w x (Err fault.OutOfMemory)) (sym puts) (all ∙ on.read_all, on.written_all, under_way r' r'' w' a n [] on took)
-  ended r' r'' w' w'' a n (Err fault.Write) on all took at_end puts = cut_off r' r'' w' w'' a n on all took at_end puts
-  ended r' r'' w' w'' a n (Err fault.Closed) on all took at_end puts = cut_off r' r'' w' w'' a n on all took at_end puts
+      subst (λ x. Annotates remaining contents answer r r'' w x (Err fault.OutOfMemory)) (sym puts) (all ∙ on.read_all, on.written_all, on.kept_back, under_way r' r'' w' a n [] on took)
+  ended r' r'' w' w'' a n (Err fault.Write) on all took at_end (put, why) = (cut_off r' r'' w' w'' a n on all took at_end put, why)
+  ended r' r'' w' w'' a n (Err fault.Closed) on all took at_end (put, why) = (cut_off r' r'' w' w'' a n on all took at_end put, why)
   ended r' r'' w' w'' a n (Err fault.Read) on all took at_end puts = absurd puts
   ended r' r'' w' w'' a n (Err fault.TooLong) on all took at_end puts = absurd puts

@@ -6,7 +6,9 @@ use Rattle.std.specs.Io.KnownBytes.{Appends, Consumes, IsAtEnd}
 use Rattle.texts.specs.declared.counted.Counted.{Counted}
 use Rattle.texts.specs.Counted.{NoneFailed, Rose, device_of, failures_of}
 use Rattle.texts.specs.declared.output.Output.{Output}
-use Rattle.texts.specs.Output.{WroteAll, WrotePart, has_failed, writer_of}
+use Rattle.std.specs.declared.io.Error.{Error}
+use Rattle.texts.specs.Output.{Delivered, WrotePart, error_in, has_failed, is_flushed, writer_of}
+use Rattle.texts.specs.Output.{IsBrokenPipe, IsNoBrokenPipe}
 use Rattle.listing.specs.AnnotatedLogs.{Answering, annotated, annotated_behind, context_behind}
 use Rattle.listing.specs.LogContexts.{annotated_from, context_over, kept_in}
 use Rattle.listing.specs.Insertions.{IsWaiting}
@@ -45,30 +47,36 @@ pub record Decides (answer : Answering) (a a' : Annotator) (bytes text : List �
   pub names : (wanted : Bool) (more : List ℕ)
       → owed_count wanted answer a' more ≡ owed_count wanted answer a (bytes ++ more)
 
--- the fault that a failed write is: nobody reads any more, or another one
-abbrev pub IsWriteFault : LogFault → Type 0
-IsWriteFault f = (f ≡ fault.Write) ⊎ (f ≡ fault.Closed)
+-- the fault that a failed write is with this error: nobody reads any more exactly where it says so
+abbrev pub IsWriteFault : Option Error → LogFault → Type 0
+IsWriteFault error fault.Write = IsNoBrokenPipe error
+IsWriteFault error fault.Closed = IsBrokenPipe error
+IsWriteFault error _ = ⊥
 
--- the text was written and these are the names, or nothing was done, or a call failed and a
--- beginning of the text was written
+-- the text was written, nothing is kept back, and these are the names; or nothing was done; or a
+-- call failed and a beginning of the text was written
 abbrev pub PutsRest : {W : Type 0} → (W → Option (List ℕ)) → List ℕ → LogNames → Output W
     → Output W → Result LogNames LogFault → Type 0
-PutsRest contents text names w w' (Ok told) = WroteAll contents w w' text × (told ≡ names)
+PutsRest contents text names w w' (Ok told) = Delivered contents w w' text × (told ≡ names)
 PutsRest contents text names w w' (Err fault.OutOfMemory) = w' ≡ w
-PutsRest contents text names w w' (Err fault.Write) = WrotePart contents w w' text
-PutsRest contents text names w w' (Err fault.Closed) = WrotePart contents w w' text
+PutsRest contents text names w w' (Err fault.Write) =
+    WrotePart contents w w' text × IsNoBrokenPipe (error_in w')
+PutsRest contents text names w w' (Err fault.Closed) =
+    WrotePart contents w w' text × IsBrokenPipe (error_in w')
 PutsRest contents text names w w' (Err _) = ⊥
 
 -- the same of a text that is decided by these bytes, where more may come
 abbrev pub PutsMore : {W : Type 0} → (W → Option (List ℕ)) → Answering → Annotator → Annotator
     → List ℕ → Output W → Output W → Result (Unit {0}) LogFault → Type 0
 PutsMore contents answer a a' bytes w w' (Ok _) =
-    (text : List ℕ) × WroteAll contents w w' text × Decides answer a a' bytes text
+    (text : List ℕ) × Delivered contents w w' text × Decides answer a a' bytes text
 PutsMore contents answer a a' bytes w w' (Err fault.OutOfMemory) = w' ≡ w
 PutsMore contents answer a a' bytes w w' (Err fault.Write) =
-    (text : List ℕ) × WrotePart contents w w' text × Decides answer a a' bytes text
+    ((text : List ℕ) × WrotePart contents w w' text × Decides answer a a' bytes text)
+    × IsNoBrokenPipe (error_in w')
 PutsMore contents answer a a' bytes w w' (Err fault.Closed) =
-    (text : List ℕ) × WrotePart contents w w' text × Decides answer a a' bytes text
+    ((text : List ℕ) × WrotePart contents w w' text × Decides answer a a' bytes text)
+    × IsBrokenPipe (error_in w')
 PutsMore contents answer a a' bytes w w' (Err _) = ⊥
 
 -- the annotated log begins with what was written, whatever comes behind what was read
@@ -142,22 +150,26 @@ IsWhole remaining contents answer r r' w w' names =
     × Appends (contents (writer_of w)) (contents (writer_of w')) (annotated answer log)
     × (names ≡ names_of_log answer log)
 
+-- the writer was not called, or a flush was its last call
+abbrev pub KeepsNothingBack : {W : Type 0} → Output W → Output W → Type 0
+KeepsNothingBack w w' = (w' ≡ w) ⊎ (is_flushed w' ≡ true)
+
 -- what is returned
 abbrev pub Annotates : {R W : Type 0} → (R → Option (List ℕ)) → (W → Option (List ℕ)) → Answering
     → Counted R → Counted R → Output W → Output W → Result LogNames LogFault → Type 0
 Annotates remaining contents answer r r' w w' (Ok names) =
-    NoneFailed r r' × (has_failed w' ≡ false)
+    NoneFailed r r' × (has_failed w' ≡ false) × (is_flushed w' ≡ true)
     × IsWhole remaining contents answer r r' w w' names
 Annotates remaining contents answer r r' w w' (Err fault.OutOfMemory) =
-    NoneFailed r r' × (has_failed w' ≡ has_failed w)
+    NoneFailed r r' × (has_failed w' ≡ has_failed w) × KeepsNothingBack w w'
     × IsUnderWay remaining contents answer r r' w w'
 Annotates remaining contents answer r r' w w' (Err fault.TooLong) =
-    NoneFailed r r' × (has_failed w' ≡ has_failed w)
+    NoneFailed r r' × (has_failed w' ≡ has_failed w) × KeepsNothingBack w w'
     × IsTooLong remaining contents answer r r' w w'
 Annotates remaining contents answer r r' w w' (Err fault.Read) =
-    Rose (failures_of r) (failures_of r') × (has_failed w' ≡ has_failed w)
+    Rose (failures_of r) (failures_of r') × (has_failed w' ≡ has_failed w) × KeepsNothingBack w w'
     × IsFollowing remaining contents answer r r' w w'
 Annotates remaining contents answer r r' w w' (Err fault.Write) =
-    IsCutOff remaining contents answer r r' w w'
+    IsCutOff remaining contents answer r r' w w' × IsNoBrokenPipe (error_in w')
 Annotates remaining contents answer r r' w w' (Err fault.Closed) =
-    IsCutOff remaining contents answer r r' w w'
+    IsCutOff remaining contents answer r r' w w' × IsBrokenPipe (error_in w')

@@ -10,7 +10,7 @@
 //!     held                          ^^^^^^^^^^
 //! ```
 ghost use Rattle.std.specs.Prelude.{◌≡◌, [], IfErr, IfOk, OnErr};
-ghost use Rattle.texts.specs.Output.{WroteAll, WrotePart};
+ghost use Rattle.texts.specs.Output.{Delivered, WrotePart, error_in};
 ghost use Rattle.listing.specs.AnnotatedLogs.{answered_by};
 ghost use Rattle.listing.specs.LogContexts.{first_context, kept_in};
 ghost use Rattle.listing.specs.Insertions.{answering_of};
@@ -120,8 +120,8 @@ impl Annotator {
 
 /// Writes the bytes, and lets the writer keep nothing back.
 fn put_now<W: Write>(writer: &mut Output<W>, bytes: &[u8]) -> Result<(), LogFault>
-    ensures written { IfOk result (λ _. WroteAll W.contents writer.old writer.new bytes.now) }
-    ensures fault { IfErr result IsWriteFault }
+    ensures written { IfOk result (λ _. Delivered W.contents writer.old writer.new bytes.now) }
+    ensures fault { IfErr result (IsWriteFault (error_in writer.new)) }
     ensures begun { OnErr result (WrotePart W.contents writer.old writer.new bytes.now) }
 {
     writer.put(bytes);
@@ -132,9 +132,9 @@ fn put_now<W: Write>(writer: &mut Output<W>, bytes: &[u8]) -> Result<(), LogFaul
     Ok(())
 }
 
-/// The fault that a failed write is.
+/// The fault that a failed write is with this error.
 fn fault_of(error: Option<io::Error>) -> LogFault
-    ensures { IsWriteFault result }
+    ensures { IsWriteFault error result }
 {
     match error {
         Some(error) if error.kind() == io::ErrorKind::BrokenPipe => LogFault::Closed,

@@ -7,12 +7,12 @@ use Rattle.facts.proofs.Pairs.{flat_map-zip_more, zip-past}
 use Rattle.std.specs.Io.KnownBytes.{Appends, Keeps}
 use Rattle.std.proofs.KnownBytes.{Appends-nil, Appends-trans}
 use Rattle.texts.specs.declared.output.Output.{Output}
-use Rattle.texts.specs.Output.{Awaits, Says, WroteAll, WrotePart, has_failed, writer_of}
+use Rattle.texts.specs.Output.{Awaits, Says, Delivered, Delivers, WroteAll, WrotePart, error_in, has_failed, is_flushed, writer_of}
 
 -- where nothing failed, what the writer took was said
-pub taken_is_said : {W : Type 0} {contents : W → Option (List ℕ)} {old new : Output W} {text : List ℕ} → has_failed old ≡ false
+pub taken_is_said : {W : Type 0} {contents : W → Option (List ℕ)} {old new : Output W} {text : List ℕ} → has_failed old ≡ false → (has_failed new ≡ false → error_in new ≡ error_in old)
     → Appends (contents (writer_of old)) (contents (writer_of new)) text → Says contents old new text
-taken_is_said {W} {contents} {old} {new} {text} sound took = record {
+taken_is_said {W} {contents} {old} {new} {text} sound no_error took = record {
   next = λ opened whole rest h. record {
     taken = h.taken ++ text;
     lost = [];
@@ -20,9 +20,14 @@ taken_is_said {W} {contents} {old} {new} {text} sound took = record {
         ∙ sym (append_assoc h.taken text rest) ∙ ap (λ l. l ++ rest) (sym (append-nil (h.taken ++ text)));
     holds = Appends-trans _ _ _ _ _ h.holds took;
     none_lost = λ _. refl;
+    no_error = λ still. no_error still ∙ h.no_error sound;
+    uncalled = λ failed. absurd (not_both (has_failed old) (ap has_failed (h.uncalled failed) ∙ failed) sound);
   };
   stays = λ failed. grind (arith, sound, failed);
 }
+  where
+    not_both : (b : Bool) → b ≡ true → b ≡ false → ⊥
+    not_both b is_so is_not = grind (arith, is_so, is_not)
 
 -- where a call failed, whatever comes is said
 pub lost_is_said : {W : Type 0} {contents : W → Option (List ℕ)} {old new : Output W} {part : List ℕ} → (more : List ℕ) → has_failed new ≡ true → Says contents old new part
@@ -36,6 +41,8 @@ lost_is_said {W} {contents} {old} {new} {part} more failed said = record {
         parts = mid.parts ∙ sym (append_assoc (mid.taken ++ mid.lost) more rest) ∙ ap (λ l. l ++ rest) (append_assoc mid.taken mid.lost more);
         holds = mid.holds;
         none_lost = λ sound. absurd (grind (arith, sound, failed));
+        no_error = mid.no_error;
+        uncalled = mid.uncalled;
       };
   stays = said.stays;
 }
@@ -62,13 +69,15 @@ piece_said {W} {X} {contents} {old} {mid} {new} f xs i x within is first second 
     let split : take (i + 1) xs ≡ take i xs ++ x ∷ [] = take_more xs i x within ∙ ap (λ y. take i xs ++ y ∷ []) (sym is) in
     same_text (sym (ap (flat_map f) split ∙ flat_map-append f (take i xs) (x ∷ []) ∙ ap (λ l. flat_map f (take i xs) ++ l) (append-nil (f x)))) (then first second)
 
-awaited : {W : Type 0} {contents : W → Option (List ℕ)} {old new : Output W} {text : List ℕ} → Says contents old new text → Awaits contents (contents (writer_of old)) text [] new
-awaited {W} {contents} {old} {new} {text} said = said.next (contents (writer_of old)) text [] (record {
+awaited : {W : Type 0} {contents : W → Option (List ℕ)} {old new : Output W} {text : List ℕ} → Says contents old new text → Awaits contents old text [] new
+awaited {W} {contents} {old} {new} {text} said = said.next old text [] (record {
   taken = [];
   lost = [];
   parts = sym (append-nil text);
   holds = Appends-nil (contents (writer_of old));
   none_lost = λ _. refl;
+  no_error = λ _. refl;
+  uncalled = λ _. refl;
 })
 
 was_sound : (before after : Bool) → (before ≡ true → after ≡ true) → after ≡ false → before ≡ false
@@ -92,6 +101,22 @@ all_written {W} {contents} {old} {new} {text} said sound =
     let whole : a.taken ≡ text = sym (a.parts ∙ append-nil (a.taken ++ a.lost) ∙ ap (λ l. a.taken ++ l) (a.none_lost sound) ∙ append-nil a.taken) in
     (was_sound (has_failed old) (has_failed new) said.stays sound, sound, subst (λ l. Appends (contents (writer_of old)) (contents (writer_of new)) l) whole a.holds)
 
+-- and is delivered, where the device was flushed behind it
+pub all_delivered : {W : Type 0} {contents : W → Option (List ℕ)} {old new : Output W} {text : List ℕ} → Delivers contents old new text → has_failed new ≡ false → Delivered contents old new text
+all_delivered delivers sound =
+    let wrote = all_written delivers.0 sound in
+    (wrote.0, wrote.1, wrote.2, delivers.1 sound)
+
+-- a text, and then one behind which the device was flushed
+pub then_delivered : {W : Type 0} {contents : W → Option (List ℕ)} {old mid new : Output W} {t more : List ℕ} → Says contents old mid t → Delivers contents mid new more
+    → Delivers contents old new (t ++ more)
+then_delivered first second = (then first second.0, second.1)
+
+-- a text, and then the device was flushed
+pub then_flushed : {W : Type 0} {contents : W → Option (List ℕ)} {old mid new : Output W} {t : List ℕ} → Says contents old mid t → Delivers contents mid new []
+    → Delivers contents old new t
+then_flushed first second = (same_text (append-nil _) (then first second.0), second.1)
+
 -- and else a beginning of it is
 pub part_written : {W : Type 0} {contents : W → Option (List ℕ)} {old new : Output W} {text : List ℕ} → Says contents old new text → has_failed new ≡ true → WrotePart contents old new text
 part_written {W} {contents} {old} {new} {text} said failed =
@@ -106,13 +131,15 @@ appends_nothing (Some x) (Some y) kept = kept ∙ sym (append-nil x)
 -- what a call that failed does not take is said, and lost
 pub failed_is_said : {W : Type 0} {contents : W → Option (List ℕ)} {old new : Output W} {text : List ℕ} → has_failed old ≡ false → has_failed new ≡ true
     → Keeps (contents (writer_of old)) (contents (writer_of new)) → Says contents old new text
-failed_is_said {W} {contents} {old} {new} {text} sound failed kept = lost_is_said text failed (taken_is_said sound (appends_nothing _ _ kept))
+failed_is_said {W} {contents} {old} {new} {text} sound failed kept =
+    lost_is_said text failed (taken_is_said sound (λ still. absurd (grind (arith, still, failed))) (appends_nothing _ _ kept))
 
 -- the same where the call took nothing
 pub untaken_is_said : {W : Type 0} {contents : W → Option (List ℕ)} {old new : Output W} {text : List ℕ} → has_failed old ≡ false → has_failed new ≡ true → (n : ℕ) (bytes : List ℕ) → n ≡ 0
     → Appends (contents (writer_of old)) (contents (writer_of new)) (take n bytes) → Says contents old new text
 untaken_is_said {W} {contents} {old} {new} sound failed n bytes none took =
-    lost_is_said _ failed (taken_is_said sound (subst (λ k. Appends (contents (writer_of old)) (contents (writer_of new)) (take k bytes)) none took))
+    lost_is_said _ failed (taken_is_said sound (λ still. absurd (grind (arith, still, failed)))
+    (subst (λ k. Appends (contents (writer_of old)) (contents (writer_of new)) (take k bytes)) none took))
 
 -- the bytes that were taken move to those that are said
 pub moved_front : (all done rest : List ℕ) (n : ℕ) → all ≡ done ++ rest → all ≡ (done ++ take n rest) ++ take (length rest - n) (drop n rest)

@@ -1,5 +1,5 @@
 -- What a clause reads of a counted reader, and how its count moves.
-use Rattle.std.specs.Prelude.{◌≡◌, ℕ, ◌+◌, ◌-◌, ◌^◌, ◌<◌, ◌⊎◌, min}
+use Rattle.std.specs.Prelude.{◌≡◌, ℕ, ◌+◌, ◌-◌, ◌^◌, min}
 use Rattle.std.specs.Prelude.{Option, Result, Ok, Err}
 use Rattle.std.specs.declared.io.Error.{Error}
 use Rattle.texts.specs.declared.counted.Counted.{Counted}
@@ -29,6 +29,6 @@ after_call n (Err _) = one_failure_more n
 abbrev pub NoneFailed : {D : Type 0} → Counted D → Counted D → Type 0
 NoneFailed old new = failures_of new ≡ failures_of old
 
--- a failed call was counted between the two, or no more can be counted
+-- one failed call was counted between the two, unless no more can be counted
 abbrev pub Rose : ℕ → ℕ → Type 0
-Rose before after = (before < after) ⊎ (after ≡ 2 ^ 64 - 1)
+Rose before after = after ≡ one_failure_more before

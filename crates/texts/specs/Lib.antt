@@ -5,6 +5,8 @@ pub mod Counted
 pub mod Exact
 -- what a clause reads of a device that fails at one call
 pub mod FailAt
+-- what a clause reads of a writer whose calls tell what they came to
+pub mod Device
 -- what is said to an output, and what its device takes of it
 pub mod Output
 -- the lines of a text and the words of a line

@@ -9,6 +9,7 @@
 #![tactic(auto)]
 
 mod counted;
+mod device;
 mod exact;
 mod fail_at;
 mod faults;

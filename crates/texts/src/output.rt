@@ -7,9 +7,10 @@
 //! ```
 //!
 //! It takes no memory.
-ghost use Rattle.std.specs.Prelude.{◌≡◌, ◌≤◌, ◌<◌, [], None, decimal, false, length, take};
+ghost use Rattle.std.specs.Prelude.{◌≡◌, ◌≤◌, ◌<◌, [], None, decimal, false, true, length, take};
 ghost use Rattle.texts.specs.Exact.{hexadecimal};
 
+use crate::device::Device;
 use crate::exact::write_hexadecimal;
 use crate::gathered::LONGEST_HEXADECIMAL;
 use itoa::Buffer;
@@ -19,54 +20,53 @@ use std::io::Write;
 /// A writer, and whether a call of it failed.
 ///
 /// A failed call is an error of any kind, one that was interrupted too, or a write of at least one
-/// byte that takes none. After it the writer is not called again.
+/// byte that takes none. After it the writer is not called again. Whether a call failed, and with
+/// which error, is what the device inside knows: nothing else has a say in it.
 #[derive(Drop)]
 pub struct Output<W> {
-    device: W,
-    failed: bool,
-    error: Option<io::Error>,
+    device: Device<W>,
 }
 
 impl<W> Output<W> {
-    ghost use Rattle.texts.specs.Output.{error_in, has_failed, writer_of};
+    ghost use Rattle.texts.specs.Output.{error_in, has_failed, is_flushed, writer_of};
 
     /// The writer, with no call made.
     pub fn new(device: W) -> Output<W>
         ensures writer { writer_of result ≡ device }
         ensures sound { has_failed result ≡ false }
         ensures no_error { error_in result ≡ None }
+        ensures flushed { is_flushed result ≡ true }
     {
         Output {
-            device,
-            failed: false,
-            error: None,
+            device: Device::new(device),
         }
     }
 
     /// Whether a call of the writer failed.
+    #[inline(always)]
     pub fn has_failed(&self) -> bool
         ensures { result ≡ has_failed self.now }
     {
-        self.failed
+        self.device.has_failed()
     }
 
     /// The error that the failed call gave. A write that takes nothing gives none.
     pub fn error(&self) -> Option<io::Error>
         ensures { result ≡ error_in self.now }
     {
-        self.error
+        self.device.error()
     }
 
     /// The writer alone.
     pub fn into_inner(self) -> W
         ensures { result ≡ writer_of self }
     {
-        self.device
+        self.device.into_inner()
     }
 }
 
 impl<W: Write> Output<W> {
-    ghost use Rattle.texts.specs.Output.{Awaits, Says, has_failed};
+    ghost use Rattle.texts.specs.Output.{Awaits, Delivers, Says, has_failed};
 
     /// Says bytes. Mostly a buffer takes all at once: what comes else stands apart, so that this is
     /// inlined.
@@ -74,7 +74,7 @@ impl<W: Write> Output<W> {
     pub fn put(&mut self, bytes: &[u8])
         ensures { Says W.contents self.old self.new bytes.now }
     {
-        if self.failed || bytes.is_empty() {
+        if self.has_failed() || bytes.is_empty() {
             return;
         }
         let taken = self.write_some(bytes);
@@ -91,7 +91,7 @@ impl<W: Write> Output<W> {
     {
         let mut rest = bytes;
         while !rest.is_empty() {
-            if self.failed {
+            if self.has_failed() {
                 return;
             }
             rest = &rest[self.write_some(rest)..];
@@ -109,27 +109,21 @@ impl<W: Write> Output<W> {
         ensures said { Says W.contents self.old self.new (take result bytes.now) }
     {
         match self.device.write(bytes) {
-            Ok(0) => self.failed = true,
+            Ok(0) => {}
             Ok(taken) => return taken,
-            Err(error) => {
-                self.failed = true;
-                self.error = Some(error);
-            }
+            Err(_) => {}
         }
         bytes.len()
     }
 
     /// Lets the writer keep nothing back.
     pub fn flush(&mut self)
-        ensures { Says W.contents self.old self.new [] }
+        ensures { Delivers W.contents self.old self.new [] }
     {
-        if self.failed {
+        if self.has_failed() {
             return;
         }
-        if let Err(error) = self.device.flush() {
-            self.failed = true;
-            self.error = Some(error);
-        }
+        let _ = self.device.flush();
     }
 
     /// Says `0x` and the number in lower case hexadecimal without leading zeros, `0x0` for zero.

@@ -1,7 +1,7 @@
 use Rattle.std.proofs.Common.{◌≡◌, ◌∙◌, ℕ, List, [], Option, Some, Result, Ok, Err, ap, is_some, subst, sym}
 use Rattle.texts.specs.Lines.{lines_of}
 use Rattle.texts.specs.declared.output.Output.{Output}
-use Rattle.texts.specs.Output.{WroteAll, WrotePart}
+use Rattle.texts.specs.Output.{Delivered, WrotePart}
 use Rattle.listing.specs.ModuleListing.{module_counts}
 use Rattle.listing.specs.SymbolListing.{symbol_counts}
 use Rattle.listing.specs.Tallies.{Tallies, tallies_by, tallies_of}
@@ -32,7 +32,7 @@ module _ {W : Type 0} (contents : W → Option (List ℕ)) (form : AnswerForm) (
 
   answered : (r : Result (Unit {0}) Fault) → WritesLookup contents l.catalog (lookup_lines form l.catalog i.options.rule i.addresses (tallies_of l)) w w' r
       → AnswersLookup contents form (Some (Ok i)) [] w w' (noted l.notes r)
-  answered (Ok _) h = (tt, h.1.1, (((are.few, subst HasFewRegions are.catalog h.0), subst (WroteAll contents w w') text_is h.1), are.notes))
+  answered (Ok _) h = (tt, h.1.1, (((are.few, subst HasFewRegions are.catalog h.0), subst (Delivered contents w w') text_is h.1), are.notes))
   answered (Err (Refused refusal.OutOfMemory)) h = (tt, h)
   answered (Err (Refused refusal.BadCapacity)) h = (tt, h.0, (are.few, subst HasManyRegions are.catalog h.1))
   answered (Err Write) h = (tt, h.1.0, ((are.few, subst HasFewRegions are.catalog h.0), subst (WrotePart contents w w') text_is h.1))

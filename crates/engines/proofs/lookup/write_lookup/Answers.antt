@@ -16,5 +16,5 @@ returns g c =
     let is = ap (λ x. flat_map (line_by a.form catalog a.rule) x ++ counts_by a.form a.tallies.now) (c.deref.ensures.value ∙ c.in_ok-answers.ensures.answers) in
     let few = c.in_ok-answers.ensures.fits in
     let written = c.all_written.ensures in
-    said_written contents w w' text (same_text is c.put_lookup.ensures) (WritesLookup contents catalog text w w') (λ u all. (few, all)) (λ part. (few, part))
+    said_written contents w w' text (same_text is c.put_lookup.ensures.0, c.put_lookup.ensures.1) (WritesLookup contents catalog text w w') (λ u all. (few, all)) (λ part. (few, part))
     c.all_written.result written.written written.failed written.fault

@@ -1,7 +1,7 @@
 use Rattle.std.proofs.Common.{◌≡◌, ◌∙◌, rules, ℕ, List, [], Option, Some, Result, Ok, Err, ap, refl, subst, sym}
 use Rattle.std.specs.Option.{option_copied}
 use Rattle.texts.specs.declared.output.Output.{Output}
-use Rattle.texts.specs.Output.{WroteAll, WrotePart}
+use Rattle.texts.specs.Output.{Delivered, WrotePart}
 use Rattle.listing.specs.Opening.{IsSymbolListing, kept_in_text, listed, notes_with}
 use Rattle.listing.specs.Tallies.{Tallies, symbol_tallies_by, symbol_tallies_of}
 use Rattle.listing.specs.declared.listing_notes.ListingNotes.{ListingNotes}
@@ -29,7 +29,7 @@ module _ {W : Type 0} (contents : W → Option (List ℕ)) (form : AnswerForm) (
 
   answered : (r : Result (Unit {0}) Fault) → WritesLookup contents l.catalog (lookup_lines form l.catalog i.rule i.addresses (symbol_tallies_of l)) w w' r
       → AnswersSymbolLookup contents form (Some (Ok i)) [] w w' (noted (notes_with l.note) r)
-  answered (Ok _) h = (tt, h.1.1, (is.modules, is.said, subst HasFewRegions is.catalog h.0, subst (WroteAll contents w w') text_is h.1, ap notes_with is.note))
+  answered (Ok _) h = (tt, h.1.1, (is.modules, is.said, subst HasFewRegions is.catalog h.0, subst (Delivered contents w w') text_is h.1, ap notes_with is.note))
   answered (Err (Refused refusal.OutOfMemory)) h = (tt, h)
   answered (Err (Refused refusal.BadCapacity)) h = (tt, h.0, (is.modules, is.said, subst HasManyRegions is.catalog h.1))
   answered (Err Write) h = (tt, h.1.0, (_, (is.modules, is.said, subst HasFewRegions is.catalog h.0, subst (WrotePart contents w w') text_is h.1, refl)))

@@ -1,5 +1,5 @@
 use Rattle.std.proofs.Common.{rules, ◌++◌}
-use Rattle.texts.specs.Output.{Says, WroteAll, WrotePart}
+use Rattle.texts.specs.Output.{Delivered, Delivers, WrotePart}
 use Rattle.run_files.specs.Trace.{with_header}
 use Rattle.engines.specs.TraceTexts.{end_text}
 use Rattle.engines.specs.Traces.{AnswersSaid}
@@ -19,10 +19,10 @@ returns g c =
     let w' = c.put_text.new.writer in
     let text = c.gather_lines.new.text.items in
     let whole = text ++ end_text c.in_ok-left.left.sequence in
-    let said : Says contents w w' whole = search rules in
+    let delivers : Delivers contents w w' whole = search rules in
     let answer = answered contents c.args.header c.args.lines.now.said w w' g.O.TreeOrder.order c.requires
     c.in-Ok.driver c.gather_lines.new.driver c.new-text.result.items text c.new-text.ensures.items c.in-Ok.ensures.opened c.in_ok-gather_lines.ensures.gathered
     c.in_ok-left.left c.in_ok-left.ensures.notes c.in_ok-left.ensures.left in
-    said_written contents w w' whole said (AnswersSaid contents (with_header c.args.header c.args.lines.now.said) w w')
-    (λ u all. answer (WroteAll contents w w') all) (λ part. answer (WrotePart contents w w') part)
+    said_written contents w w' whole delivers (AnswersSaid contents (with_header c.args.header c.args.lines.now.said) w w')
+    (λ u all. answer (Delivered contents w w') all) (λ part. answer (WrotePart contents w w') part)
     c.all_written.result c.all_written.ensures.written c.all_written.ensures.failed c.all_written.ensures.fault

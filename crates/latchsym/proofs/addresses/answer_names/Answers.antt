@@ -1,4 +1,4 @@
-use Rattle.latchsym.proofs.Words.{[], map, subst, sym, unwrap_or, option_copied, IsAddressed, words_text, AnswersGiven, IsSought, found_by, kept_symbols, IsCatalogOf, given_in, symbols_in, lines_of, append-nil, same_text, then}
+use Rattle.latchsym.proofs.Words.{[], map, subst, sym, unwrap_or, option_copied, IsAddressed, words_text, AnswersGiven, IsSought, found_by, kept_symbols, IsCatalogOf, given_in, symbols_in, lines_of, then_flushed}
 use Rattle.latchsym.proofs.FaultLemmas.{handed_on}
 use Rattle.latchsym.proofs.GivenLemmas.{not_opened, said_or_not}
 use Rattle.latchsym.proofs.SoughtLemmas.{text_by_map}
@@ -28,4 +28,4 @@ returns g c =
     let has = subst (λ text. IsSought words (kept_symbols index (symbols_in (lines_of text))) m) c.deref.ensures.value c.in_ok-sought.ensures in
     said_or_not g.W.Write.contents (IsAddressed a.form kernel words) given a.writer.now c.flush.new.self notes
     (words_text a.form (λ name. unwrap_or (found_by m name) []) words) (index, says, text_by_map a.form words kept m has)
-    (same_text (append-nil _) (then c.put_words.ensures c.flush.ensures)) c.unless_failed.result c.unless_failed.ensures
+    (then_flushed c.put_words.ensures c.flush.ensures) c.unless_failed.result c.unless_failed.ensures

@@ -1,11 +1,11 @@
-use Rattle.std.proofs.Common.{◌++◌, sym, take}
+use Rattle.std.proofs.Common.{◌++◌, ◌∙◌, sym, take}
 use Rattle.texts.proofs.OutputLemmas.{lost_is_said, moved_front, same_text, then}
 use Rattle.texts.proofs.output.Output.put_rest.Goals as goal
 
-pub returns-then-self : goal.returns-then-self
-returns-then-self g c =
+pub returns-then-has_failed : goal.returns-then-has_failed
+returns-then-has_failed g c =
     let (done, split, said) = c.loop-rest.invariant in
-    same_text (sym split) (lost_is_said c.loop-rest.rest.now c.if-self.true said)
+    same_text (sym split) (lost_is_said c.loop-rest.rest.now (sym c.has_failed.ensures ∙ c.if-has_failed.true) said)
 
 pub loop-rest-preserved : goal.loop-rest-preserved
 loop-rest-preserved g c =
