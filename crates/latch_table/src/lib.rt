@@ -62,7 +62,7 @@
 //!
 //! **Other items** ([`Writer::begin_replace`]) come as a list in order. The writer goes once over
 //! the table and the list, and begins the batch of what differs. So readers find the old table or
-//! the list, whole, and an item of both is neither erased nor inserted: it keeps its node.
+//! the list, whole, and an item of both is neither erased nor inserted.
 //!
 //! **Not promised:** that [`Reader::find`] returns beside a writer that never rests; an order
 //! between readers that met nobody; anything of weak memory orders: each step is sequentially
