@@ -1,5 +1,5 @@
 #!/usr/bin/env bash
-# tests/wrong_bodies.sh --all | --share [NUMBER] | CRATE..
+# tests/wrong_bodies.sh --all | --share [NUMBER] | CRATE[/EDIT]..
 # Tries wrong bodies of tests/wrong_bodies: each is an edit of a crate that its contracts must
 # refuse, as those of crates/CRATE/must-fail, which the gate tries. Those are of the promises by
 # name; these stand beside them. One with a line `test: COMMAND` no contract can refuse, or it is of a
@@ -36,6 +36,7 @@ shares() {
     done
 }
 
+chosen=()
 case ${1:-} in
 --all) mapfile -t chosen < <(shares) ;;
 --share)
@@ -44,7 +45,14 @@ case ${1:-} in
     chosen=("${chosen[number % ${#chosen[@]}]}")
     ;;
 "" | -*) sed -n '2s/^# /usage: /p' "$0" >&2; exit 2 ;;
-*) mapfile -t chosen < <(shares | grep -E "^($(IFS='|'; echo "$*")) ") ;;
+*)
+    for name; do
+        case $name in
+        */*) chosen+=("${name%/*} ${name#*/}.edit") ;;
+        *) mapfile -t -O "${#chosen[@]}" chosen < <(shares | grep "^$name ") ;;
+        esac
+    done
+    ;;
 esac
 
 work=$(mktemp -d)
@@ -68,7 +76,7 @@ by_test() {
     elif grep -qE 'is not compiled|^run=none' "$work/seen"; then
         verdict="BAD EDIT: $(grep -m 1 'error\[' "$work/seen" || true)"
     fi
-    echo "rt: must-fail $1/$2: $verdict" | tee -a "$work/said"
+    echo "rt: must-fail $1/$2: $verdict" >>"$work/said"
     rm -rf "$repo"
 }
 
