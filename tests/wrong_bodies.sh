@@ -19,10 +19,10 @@ tried=$top/tests/wrong_bodies/TRIED
 # most CRATE: how many edits of the crate make a share; fewer of one that takes minutes to prove
 most() {
     case $1 in
-        latchsym | modules | engines) echo 8 ;;
-        listing | shared_lookup | latchsym_ffi) echo 12 ;;
-        workloads | refused_calls) echo 4 ;;
-        *) echo 20 ;;
+        latchsym | modules | engines) echo 4 ;;
+        listing | shared_lookup | latchsym_ffi) echo 6 ;;
+        workloads | refused_calls | measures) echo 4 ;;
+        *) echo 16 ;;
     esac
 }
 
