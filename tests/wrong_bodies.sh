@@ -68,7 +68,7 @@ by_test() {
     elif grep -qE 'is not compiled|^run=none' "$work/seen"; then
         verdict="BAD EDIT: $(grep -m 1 'error\[' "$work/seen" || true)"
     fi
-    echo "rt: must-fail $1/$2: $verdict" | tee -a "$work/said"
+    echo "rt: must-fail $1/$2: $verdict" >>"$work/said"
     rm -rf "$repo"
 }
 
