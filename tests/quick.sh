@@ -4,7 +4,7 @@
 # tests of a crate of tests/crates. What is there of builds and is not older than a source is used;
 # else the program is built, in a minute and a half.
 #
-# Without a name it runs all that needs no proved work, in eight minutes on two processors. What is
+# Without a name it runs all that needs no proved work, in some ten minutes on two processors. What is
 # left out: the library for C with its packages, installing, a release, programs that must not compile,
 # wrong bodies.
 set -euo pipefail
