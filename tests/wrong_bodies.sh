@@ -73,7 +73,7 @@ by_test() {
     elif (cd "$repo" && bash -c "$3") >"$work/seen" 2>&1; then
         verdict='NOT REFUSED'
         status=1
-    elif grep -qE 'is not compiled|^run=none' "$work/seen"; then
+    elif grep -q 'is not compiled' "$work/seen"; then
         verdict="BAD EDIT: $(grep -m 1 'error\[' "$work/seen" || true)"
     fi
     echo "rt: must-fail $1/$2: $verdict" >>"$work/said"
