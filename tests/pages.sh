@@ -126,10 +126,11 @@ mkdir "$work/tools"
 for tool in bash cat cp cut date dirname find grep mktemp realpath rm sed tr; do
     ln -s "$(command -v $tool)" "$work/tools"
 done
-for script in "install.sh $work/prefix" tests/cases.sh tests/quick.sh tests/linear.sh tests/bindings.sh 'tests/wrong_bodies.sh --all'; do
+for script in "bash install.sh $work/prefix" "bash "tests/{cases,quick,linear,bindings}.sh \
+    "$(command -v python3) tests/wrong_bodies.py --all"; do
     status=0
     # shellcheck disable=SC2086
-    (cd "$top" && env -u PROGRAMS PATH="$work/tools" bash $script) >"$work/out" 2>&1 || status=$?
+    (cd "$top" && env -u PROGRAMS PATH="$work/tools" $script) >"$work/out" 2>&1 || status=$?
     [ $status = 1 ] && [ "$(wc -l <"$work/out")" = 1 ] && grep -q 'Rattle kit' "$work/out" ||
         fail "$script without the kit: status $status, $(cat "$work/out")"
 done
