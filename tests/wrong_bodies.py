@@ -47,7 +47,8 @@ SHARES = {"latchsym": 4, "modules": 4, "engines": 4, "listing": 6, "shared_looku
 SHARE, SHARE_OF_TESTS = 16, 4
 
 # (antt could not read the edited text, or it names what is not there)
-UNREAD = re.compile(r"(?:\./)?(?:src|specs)/\S+:\d+:\d+: error: (?!`)|.*: error: .*(is not in scope|has no field)")
+SOURCE = r"(?:\./)?(?:src|specs)/\S+:\d+:\d+: error: "
+UNREAD = re.compile(rf"{SOURCE}(?!`[^`]*`: )|{SOURCE}.*(is not in scope|has no field)")
 RECORD = threading.Lock()
 
 
