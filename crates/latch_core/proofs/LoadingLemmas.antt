@@ -1,6 +1,9 @@
 -- An attempt whose loads are steps of somebody who learns by them, load by load.
 use Rattle.std.proofs.Common.{◌≡◌, ◌≢◌, ℕ, zero, suc, ◌+◌, ◌-◌, ◌*◌, ◌<◌, ◌≤◌, ◌⊎◌, inl, inr, ⊎_elim, false, List, [], ◌∷◌, ◌++◌, Some, refl, sym, ◌∙◌, ap, subst, arith, append_assoc, append-nil, length-append}
 use Rattle.std.specs.declared.cmp.Ordering.{Ordering}
+use Rattle.std.specs.declared.cmp.Ordering.TheVariants.{Less, Equal, Greater}
+use Rattle.word_layout.specs.Words.{left_word}
+use Rattle.latch_core.specs.Sequences.{stable_copy_of}
 use Rattle.std.specs.Prelude.{nat_lt}
 use Rattle.std.proofs.lemmas.Bool.{le-ltb}
 use Rattle.order_laws.specs.declared.items.Item.{Item}
@@ -101,6 +104,13 @@ module _ {S : Type 0} (gives : S → ℕ → ℕ → S → Type 0) where
     pub turns : (m : S) (loads i : ℕ) (x : Item) (go : ℕ → Reading) (c c' : Ordering) → c ≡ c'
         → HasLoaded gives s (attempt_after o n k first) m (after_item first i x go c) loads → HasLoaded gives s (attempt_after o n k first) m (after_item first i x go c') loads
     turns m loads i x go c c' is h = subst (λ d. HasLoaded gives s (attempt_after o n k first) m (after_item first i x go d) loads) is h
+
+-- where a walk goes on from an item that the key is not in
+pub goes_aside : (first i : ℕ) (x : Item) (go : ℕ → Reading) (c : Ordering) (aside : ℕ) → (c ≢ Equal) → (c ≡ Less → aside ≡ 0) → (c ≡ Greater → aside ≡ 1)
+    → after_item first i x go c ≡ Load (left_word (stable_copy_of first) i + aside) go
+goes_aside first i x go Less aside not less greater = let e = less refl in ap (λ w. Load w go) (omega arith)
+goes_aside first i x go Equal aside not less greater = absurd (not refl)
+goes_aside first i x go Greater aside not less greater = let e = greater refl in ap (λ w. Load w go) (omega arith)
 
 -- the values of a reading so far
 leads_rest : {S : Type 0} (gives : S → ℕ → ℕ → S → Type 0) (s : S) (r : Reading) (v : List ℕ) (m : S) (r' : Reading) → Leads gives s r v m r' → rest_after r v ≡ Some r'

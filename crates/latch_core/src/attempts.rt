@@ -13,7 +13,8 @@
 //!                  no node, or more visits than nodes: failed
 //! ```
 
-ghost use Rattle.std.specs.Prelude.{◌≡◌, ℕ, ◌+◌, ◌^◌, ◌<◌, length};
+ghost use Rattle.std.specs.Prelude.{◌≡◌, ◌↔◌, ◌⊎◌, ℕ, ◌+◌, ◌^◌, ◌<◌, IsTrue, length};
+ghost use Rattle.std.specs.declared.cmp.Ordering.TheVariants.{Less, Equal, Greater};
 ghost use Rattle.word_layout.specs.Layouts.{capacity_of};
 ghost use Rattle.word_layout.specs.Words.{at, words_for};
 ghost use Rattle.latch_core.specs.Attempts.{attempt, attempt_after, last_load};
@@ -78,6 +79,32 @@ pub trait Loads {
         ensures { end_gives self.now seat.old result seat.new };
 }
 
+/// How many words behind the left link stands the link that a walk follows from an item that the
+/// key is not in. It is a number, since the processor would mispredict a branch at every other node.
+#[inline(always)]
+fn words_aside(compared: Ordering) -> usize
+    ensures less { compared ≡ Less → result ≡ 0 }
+    ensures other { (compared ≡ Equal) ⊎ (compared ≡ Greater) → result ≡ 1 }
+{
+    match compared {
+        Ordering::Less => 0,
+        Ordering::Equal | Ordering::Greater => 1,
+    }
+}
+
+/// Whether the key is in the item, by a sum: for two comparisons the compiler would make two
+/// branches, and the first would be mispredicted at every other node.
+#[inline(always)]
+fn is_equal(compared: Ordering) -> bool
+    ensures { IsTrue result ↔ (compared ≡ Equal) }
+{
+    let above = match compared {
+        Ordering::Less | Ordering::Equal => 0,
+        Ordering::Greater => 1,
+    };
+    2 * words_aside(compared) - above == 2
+}
+
 /// Walks the copy that is stable at the first reading of the sequence, and counts the loads.
 #[inline(always)]
 fn walk<O: TreeOrder, W: Loads>(
@@ -95,23 +122,24 @@ fn walk<O: TreeOrder, W: Loads>(
         (last_load first (found_by result.0)) result.1 }
 {
     let copy = stable_copy(first);
-    let (left, right) = (places::left_of(copy, 0), places::right_of(copy, 0));
+    let left = places::left_of(copy, 0);
     let mut link = words.load(seat, places::root_of(copy), 0);
     let mut loads = 2;
     // Link 0 wraps round to a number that no node has, so one comparison tells a node.
     while link.wrapping_sub(1) < l.capacity() as u64 && loads < 4 * l.capacity() + 2 {
-        // Node 0's words, and as many further as the nodes before this one have.
-        let skipped = places::words_before((link - 1) as u32);
+        // Node 0's words, and as many further as the nodes before this one have: those of as many
+        // nodes as its link counts, but for its own.
+        let skipped = places::WORDS_PER_NODE * link as usize - places::WORDS_PER_NODE;
         let a = words.load(seat, places::a_of(0), skipped);
         let b = words.load(seat, places::b_of(0), skipped);
         let tag = words.load(seat, places::tag_of(0), skipped);
         let item = Item { a, b, tag };
         loads += 4;
-        link = match O::comp(key, &item) {
-            Ordering::Less => words.load(seat, left, skipped),
-            Ordering::Greater => words.load(seat, right, skipped),
-            Ordering::Equal => return (Walked::At(item), loads - 1),
-        };
+        let compared = O::comp(key, &item);
+        if is_equal(compared) {
+            return (Walked::At(item), loads - 1);
+        }
+        link = words.load(seat, left + words_aside(compared), skipped);
     }
     if link == 0 {
         (Walked::Nowhere, loads)

@@ -1,21 +1,21 @@
 //! What a call does with the content of a handle.
 //!
 //! The content is taken out of the handle, the call is made with it, and it is put back: the kit
-//! lends no borrow through the handle's raw pointer. What is to be done with a writer or a reader
-//! comes as a closure. No closure takes a catalog, which has names of lifetime `'static`, so that is
-//! a macro.
+//! lends no borrow through the handle's raw pointer. What is to be done with a writer comes as a
+//! closure. No closure takes a catalog, which has names of lifetime `'static`, so that is a macro. A
+//! lookup of a reader does the same by itself, as the compiler keeps a closure a function of its own.
 
 ghost use Rattle.std.specs.Prelude.{◌≡◌, ◌≢◌, IfNone, IfSome, Some};
 ghost use Rattle.std.specs.Fn.{CalledAtMut};
 ghost use Rattle.latchsym_ffi.specs.declared.contents.Content.TheVariants as content;
-ghost use Rattle.latchsym_ffi.specs.Handles.{ReaderGoes, WriterGoes};
-ghost use Rattle.latchsym_ffi.specs.Kinds.{catalog_kind, kind_of, reader_kind, writer_kind};
+ghost use Rattle.latchsym_ffi.specs.Handles.{WriterGoes};
+ghost use Rattle.latchsym_ffi.specs.Kinds.{catalog_kind, kind_of, writer_kind};
 
 use crate::answers::BAD_HANDLE;
-use crate::contents::{CATALOG, Content, READER, WRITER};
+use crate::contents::{CATALOG, Content, WRITER};
 use crate::handles::Handle;
 use crate::open_catalogs::OpenCatalog;
-use latch_table::{Reader, Writer};
+use latch_table::Writer;
 use modules::IndexedCatalog;
 use order_laws::HalfOpen;
 use std::alloc::Global;
@@ -107,30 +107,6 @@ impl Handle {
         let mut content = self.take();
         let result = match &mut *content {
             Content::Writer(writer) => call(writer),
-            _ => BAD_HANDLE,
-        };
-        self.put(content);
-        result
-    }
-
-    /// Calls with the reader that the handle holds; a handle with none is a bad one.
-    #[inline(always)]
-    pub(crate) fn with_reader<F: FnMut(&mut Reader<HalfOpen>) -> u32>(
-        &mut self,
-        call: &mut F,
-    ) -> u32
-        requires { F.IsAlwaysCallable call.old }
-        ensures called { ReaderGoes (λ r r'. CalledAtMut F.FnMut call.old r result call.new r')
-            self.old self.new }
-        ensures other { self.old.kind ≢ reader_kind
-            → (result ≡ 101) × (self.new ≡ self.old) × (call.new ≡ call.old) }
-    {
-        if self.kind != READER {
-            return BAD_HANDLE;
-        }
-        let mut content = self.take();
-        let result = match &mut *content {
-            Content::Reader(reader) => call(reader),
             _ => BAD_HANDLE,
         };
         self.put(content);

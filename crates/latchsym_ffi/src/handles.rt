@@ -51,11 +51,14 @@ impl Handle {
         pointer.into_box()
     }
 
-    /// Puts content into the handle.
+    /// Puts content into the handle: its pointer, and then its kind, so that a signal handler of the
+    /// thread meets a closed handle or a whole one.
     pub(crate) fn put(&mut self, content: Box<Content, Global>)
         ensures { self.new.pointer.content ≡ Some content.value }
     {
-        *self = Handle::open(self.alloc, content);
+        let kind = content.kind();
+        self.pointer = ContentPointer::from_box(content);
+        self.kind = kind;
     }
 
     /// Closes the handle, and drops what it held.

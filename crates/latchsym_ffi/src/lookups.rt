@@ -16,7 +16,7 @@ ghost use Rattle.latchsym_ffi.specs.Lookups.{found_code, name_code, try_code};
 
 use crate::answers::{BAD_HANDLE, DONE, NOTHING, RETRY};
 use crate::calls::with_catalog;
-use crate::contents::{CATALOG, READER};
+use crate::contents::{CATALOG, Content, READER};
 use crate::finding::{CatalogAnswer, copy_names, seen_in};
 use crate::handles::Handle;
 use latch_table::{Try, Writer};
@@ -85,15 +85,19 @@ pub extern "C" fn latchsym_writer_find(writer: &mut Handle, addr: u64, out: &mut
 }
 
 /// What the reader that a handle holds remembers of an address, or else one attempt with it.
+///
+/// It is compiled into its callers, so that no answer is handed on through memory.
+#[inline(always)]
 fn try_find(reader: &mut Handle, addr: u64) -> Try
     requires { reader.old.kind ≡ reader_kind }
     ensures { ReaderGoes (λ r r'. LooksUp addr r r' result) reader.old reader.new }
 {
-    let mut tried = Try::Retry;
-    reader.with_reader(&mut |inner| {
-        tried = inner.look(addr);
-        DONE
-    });
+    let mut content = reader.take();
+    let tried = match &mut *content {
+        Content::Reader(inner) => inner.look(addr),
+        _ => Try::Retry,
+    };
+    reader.put(content);
     tried
 }
 

@@ -126,6 +126,9 @@ impl<O: TreeOrder> Reader<O> {
 
     /// What a key lies in: recalled, or else sought by one attempt, which begins with the same
     /// load.
+    ///
+    /// It is compiled into its callers: an answer of 48 bytes would be handed on through memory.
+    #[inline(always)]
     pub fn look(&mut self, k: O::Key) -> Try
         ensures place { self.new.place ≡ self.old.place }
         ensures memory { self.new.memory ≡ memory_after self.old.memory result }

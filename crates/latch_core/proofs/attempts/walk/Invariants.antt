@@ -1,6 +1,6 @@
 use Rattle.std.proofs.Common.{◌≡◌, ◌+◌, ◌-◌, ◌*◌}
 use Rattle.word_layout.specs.Layouts.{capacity_of}
-use Rattle.word_layout.specs.Words.{left_word, right_word}
+use Rattle.word_layout.specs.Words.{left_word}
 use Rattle.latch_core.specs.Sequences.{stable_copy_of}
 use Rattle.latch_core.proofs.LoadingLemmas.{IsOn}
 use Rattle.latch_core.proofs.attempts.walk.Given as goal
@@ -9,7 +9,6 @@ abbrev pub invariant-loop-link : goal.invariant-loop-link
 invariant-loop-link g l =
     record {
       left : l.left ≡ left_word (stable_copy_of l.first) 0;
-      right : l.right ≡ right_word (stable_copy_of l.first) 0;
       on : IsOn (g.W.Loads.load_gives l.words) g.O.TreeOrder.order (capacity_of l.fn.l) l.fn.key l.first l.fn.seat l.seat l.loads l.link;
     }
 
