@@ -298,9 +298,6 @@ fn begins_user(bytes: &[u8]) -> bool
 fn tells_place(line: &[u8]) -> bool
     ensures { result ≡ tells_place line.now }
 {
-    if !has_capital(line) {
-        return false;
-    }
     has_words(b"RIP", line) || has_words(b"EIP", line) || has_words(b"NIP", line)
 }
 
@@ -365,15 +362,15 @@ fn begins_apart(bytes: &[u8]) -> bool
 }
 
 /// How the next first frame is taken, behind a line with a frame or without one.
-fn next_first(first: First, has_frame: bool, line: &[u8]) -> First
-    ensures { result ≡ next_first first has_frame (tells_place line.now) }
+fn next_first(first: First, has_frame: bool, tells: bool) -> First
+    ensures { result ≡ next_first first has_frame tells }
 {
     if has_frame {
         return First::Frame;
     }
     match first {
         First::Kept => First::Kept,
-        First::Frame | First::Exact => first_behind(tells_place(line)),
+        First::Frame | First::Exact => first_behind(tells),
     }
 }
 
@@ -390,8 +387,15 @@ pub(crate) fn held_after(held: Held, line: &[u8], has_frame: bool, names: LogNam
     ensures user { result.is_user ≡ (is_user_line held line.now || begins_user line.now) }
     ensures names { result.names ≡ names }
 {
+    if !has_capital(line) {
+        return Held {
+            first: next_first(held.first, has_frame, false),
+            is_user: is_user_line(held, line),
+            names,
+        };
+    }
     Held {
-        first: next_first(held.first, has_frame, line),
+        first: next_first(held.first, has_frame, tells_place(line)),
         is_user: is_user_line(held, line) || begins_user(line),
         names,
     }

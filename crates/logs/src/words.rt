@@ -1,21 +1,22 @@
 //! The words of a line.
 //!
-//! An address word has eleven bytes at least (eight in a log of a 32-bit kernel). So the bytes are
-//! passed in leaps of so many: the last of them that is of no word says that none before it is long
-//! enough, and the next leap begins behind it. Where each of them is of a word, it is gone through to
-//! its end:
+//! An address word has eleven bytes at least (eight in a log of a 32-bit kernel), each of which is a
+//! hexadecimal digit or an `x`. So the bytes are passed in leaps of so many: the last of them that is
+//! neither says that no address word has one before it, and the next leap begins behind it:
 //!
 //! ```text
 //!     at 3 of 77 pages [<ffffffff81000108>] ? do_one
-//!      |--------|                                       up to the blank behind `77`
-//!                |------|                               up to the `<`
+//!      |---------|                                      up to the `p`
+//!                 |-----|                               up to the `<`
 //!                        |--------------|==             the word, and the closers behind it
 //! ```
+//!
+//! A word that is met behind one of its bytes is none.
 ghost use Rattle.std.specs.Prelude.{◌≡◌, ◌≤◌, ◌<◌, ◌+◌, ◌++◌, ◌∷◌, [], false, true, length, drop};
 ghost use Rattle.std.specs.Prelude.{nat_eq, slice_index_or};
 ghost use Rattle.std.specs.List.{starts_with};
 ghost use Rattle.std.specs.Prelude.{IfNone, IfSome, MatchOption};
-ghost use Rattle.logs.specs.Progress.{fewest, long_words};
+ghost use Rattle.logs.specs.Progress.{address_words, fewest, is_address_byte};
 ghost use Rattle.logs.specs.Words.{address_of_word, digits_between, has_prefix};
 ghost use Rattle.logs.specs.Words.{is_closer, is_word_byte, run_of, words_behind};
 
@@ -40,12 +41,32 @@ static WORD_BYTES: [u8; 256] = [
     0, 0, 0, 0, 0, 0, 0, 0, 0, 0, 0, 0, 0, 0, 0, 0, 0, 0, 0, 0, 0, 0, 0, 0, 0, 0, 0, 0, 0, 0, 0, 0,
 ];
 
+/// 1 for each byte of an address word, else 0.
+static ADDRESS_BYTES: [u8; 256] = [
+    0, 0, 0, 0, 0, 0, 0, 0, 0, 0, 0, 0, 0, 0, 0, 0, 0, 0, 0, 0, 0, 0, 0, 0, 0, 0, 0, 0, 0, 0, 0, 0,
+    0, 0, 0, 0, 0, 0, 0, 0, 0, 0, 0, 0, 0, 0, 0, 0, 1, 1, 1, 1, 1, 1, 1, 1, 1, 1, 0, 0, 0, 0, 0, 0,
+    0, 1, 1, 1, 1, 1, 1, 0, 0, 0, 0, 0, 0, 0, 0, 0, 0, 0, 0, 0, 0, 0, 0, 0, 1, 0, 0, 0, 0, 0, 0, 0,
+    0, 1, 1, 1, 1, 1, 1, 0, 0, 0, 0, 0, 0, 0, 0, 0, 0, 0, 0, 0, 0, 0, 0, 0, 1, 0, 0, 0, 0, 0, 0, 0,
+    0, 0, 0, 0, 0, 0, 0, 0, 0, 0, 0, 0, 0, 0, 0, 0, 0, 0, 0, 0, 0, 0, 0, 0, 0, 0, 0, 0, 0, 0, 0, 0,
+    0, 0, 0, 0, 0, 0, 0, 0, 0, 0, 0, 0, 0, 0, 0, 0, 0, 0, 0, 0, 0, 0, 0, 0, 0, 0, 0, 0, 0, 0, 0, 0,
+    0, 0, 0, 0, 0, 0, 0, 0, 0, 0, 0, 0, 0, 0, 0, 0, 0, 0, 0, 0, 0, 0, 0, 0, 0, 0, 0, 0, 0, 0, 0, 0,
+    0, 0, 0, 0, 0, 0, 0, 0, 0, 0, 0, 0, 0, 0, 0, 0, 0, 0, 0, 0, 0, 0, 0, 0, 0, 0, 0, 0, 0, 0, 0, 0,
+];
+
 /// Whether the byte is a letter, a digit or `_`.
 #[inline]
 pub(crate) fn is_word_byte(byte: u8) -> bool
     ensures { result ≡ is_word_byte byte }
 {
     WORD_BYTES[usize::from(byte)] == 1
+}
+
+/// Whether the byte is a hexadecimal digit, `x` or `X`.
+#[inline]
+fn is_address_byte(byte: u8) -> bool
+    ensures { result ≡ is_address_byte byte }
+{
+    ADDRESS_BYTES[usize::from(byte)] == 1
 }
 
 /// Whether the byte is `)`, `>` or `]`.
@@ -63,48 +84,54 @@ pub(crate) fn fewest(narrow: bool) -> usize
     if narrow { 8 } else { 11 }
 }
 
-/// The first word, from a place on at which none goes on, that is long enough for an address.
-#[tactic(auto, using(crate::proofs::WordLemmas::is_long_word, crate::proofs::WordLemmas::is_short_word))]
-pub(crate) fn next_long_word(narrow: bool, line: &[u8], at: usize) -> Option<Word>
+/// The next word that may be an address, from a place on at which no word goes on.
+pub(crate) fn next_candidate(narrow: bool, line: &[u8], at: usize) -> Option<Word>
     requires { at ≤ length line.now }
-    ensures words { MatchOption result (long_words narrow (words_behind line.now at) ≡ [])
-        (λ w. long_words narrow (words_behind line.now at)
-        ≡ w ∷ long_words narrow (words_behind line.now w.end)) }
+    ensures words { MatchOption result
+        (address_words narrow line.now (words_behind line.now at) ≡ [])
+        (λ w. address_words narrow line.now (words_behind line.now at)
+        ≡ address_words narrow line.now (w ∷ words_behind line.now w.end)) }
     ensures from { IfSome result (λ w. at ≤ w.start) }
     ensures some { IfSome result (λ w. w.start < w.end) }
     ensures within { IfSome result (λ w. w.end ≤ length line.now) }
 {
     let fewest = fewest(narrow);
     let mut start = at;
+    let mut within = false;
     while line.len() - start >= fewest {
-        match last_gap(line, start, start + fewest) {
-            Some(place) => start = place + 1,
+        match last_other(line, start, start + fewest) {
+            Some(place) => {
+                within = is_word_byte(line[place]);
+                start = place + 1;
+            }
             None => {
                 let end = behind_word(line, start);
-                if end - start >= fewest {
+                if !within {
                     return Some(Word { start, end });
                 }
                 start = end;
+                within = false;
             }
         }
     }
     None
 }
 
-/// The last of the places from `start` up to `stop` that holds no byte of a word.
+/// The last of the places from `start` up to `stop` that holds no byte of an address word.
 #[inline]
-fn last_gap(line: &[u8], start: usize, stop: usize) -> Option<usize>
+fn last_other(line: &[u8], start: usize, stop: usize) -> Option<usize>
     requires order { start ≤ stop }
     requires within { stop ≤ length line.now }
     ensures from { IfSome result (λ p. start ≤ p) }
     ensures below { IfSome result (λ p. p < stop) }
-    ensures gap { IfSome result (λ p. is_word_byte (slice_index_or line.now p 0) ≡ false) }
+    ensures other { IfSome result
+        (λ p. is_address_byte (slice_index_or line.now p 0) ≡ false) }
     ensures none { IfNone result (start < stop
-        → is_word_byte (slice_index_or line.now start 0) ≡ true) }
+        → is_address_byte (slice_index_or line.now start 0) ≡ true) }
 {
     let mut place = stop;
     while place > start {
-        if !is_word_byte(line[place - 1]) {
+        if !is_address_byte(line[place - 1]) {
             return Some(place - 1);
         }
         place -= 1;
