@@ -194,122 +194,97 @@ module _ (answer : Answering) where
   then_adds a a' a'' bytes more out out' out'' (text, put, first) (text', put', second) =
       (text ++ text', put' ∙ ap (λ l. l ++ text') put ∙ append_assoc out text text', then_passes a a' a'' bytes more text text' first second)
 
-  -- a line ends that is open: a long one
-  pub long_ends : (a a' : Annotator) (bytes out out' : List ℕ) → a.is_long ≡ true → IsLine bytes → a'.held ≡ a.held → a'.is_long ≡ false → a'.begun.items ≡ a.begun.items → out' ≡ out ++ bytes → Adds out out' (Passes answer a a' bytes)
-  long_ends a a' bytes out out' long (front, unended, is) held short' kept put = (bytes, put, passes)
+  -- a line ends that is open, with this text
+  line_ends : (a a' : Annotator) (bytes text out out' : List ℕ) → IsLine bytes → a'.is_long ≡ false → out' ≡ out ++ text
+      → ((line : List ℕ) → IsOpen a line
+      → (a'.begun.items ≡ []) × (held_in a' ≡ held_behind answer (held_in a) (line ++ bytes)) × (put_of line ++ text ≡ annotated_line answer (held_in a) (line ++ bytes)))
+      → Adds out out' (Passes answer a a' bytes)
+  line_ends a a' bytes text out out' (front, unended, is) short' put each = (text, put, passes)
     where
-      passes : Passes answer a a' bytes bytes
+      passes : Passes answer a a' bytes text
       passes line is_open =
-          let line_long : is_long line ≡ true = sym is_open.long ∙ long in
+          let (none, held, same) = each line is_open in
           let whole = line ++ bytes in
           let ended : whole ≡ (line ++ front) ++ 10 ∷ [] = ap (λ l. line ++ l) is ∙ sym (append_assoc line front (10 ∷ [])) in
           let unended' = no_end_behind line front is_open.no_end unended in
           let alone : lines whole ≡ whole ∷ [] = ended_line (line ++ front) whole unended' ended in
-          let whole_long = long_more line bytes line_long in
           record {
             passed = whole;
             line' = [];
             parts = sym (append-nil whole);
             whole = whole_line (line ++ front) whole unended' ended;
-            is_open = nothing_open a' short' (kept ∙ is_open.kept ∙ kept_long line line_long);
-            held = held ∙ sym (ap (held_over answer (held_in a)) alone ∙ passed_by (held_in a) whole whole_long);
-            put =
-                ap (λ l. l ++ bytes) (put_long line line_long)
-                ∙ sym (append-nil _ ∙ ap (annotated_lines answer (held_in a)) alone ∙ line_alone (held_in a) whole ∙ stays (held_in a) whole whole_long);
-          }
-
-  -- and another one
-  pub short_ends : (a a' : Annotator) (bytes whole out out' : List ℕ) → a.is_long ≡ false → IsLine bytes → whole ≡ a.begun.items ++ bytes → a'.held ≡ held_behind answer a.held whole → a'.is_long ≡ false → a'.begun.items ≡ []
-      → out' ≡ out ++ annotated_line answer a.held whole → Adds out out' (Passes answer a a' bytes)
-  short_ends a a' bytes whole out out' short (front, unended, is) all held short' none put = (annotated_line answer a.held whole, put, passes)
-    where
-      passes : Passes answer a a' bytes (annotated_line answer a.held whole)
-      passes line is_open =
-          let line_short : is_long line ≡ false = sym is_open.long ∙ short in
-          let same : whole ≡ line ++ bytes = all ∙ ap (λ l. l ++ bytes) (is_open.kept ∙ kept_short line line_short) in
-          let ended : whole ≡ (line ++ front) ++ 10 ∷ [] = same ∙ ap (λ l. line ++ l) is ∙ sym (append_assoc line front (10 ∷ [])) in
-          let unended' = no_end_behind line front is_open.no_end unended in
-          let alone : lines whole ≡ whole ∷ [] = ended_line (line ++ front) whole unended' ended in
-          record {
-            passed = whole;
-            line' = [];
-            parts = sym same ∙ sym (append-nil whole);
-            whole = whole_line (line ++ front) whole unended' ended;
             is_open = nothing_open a' short' none;
             held = held ∙ sym (ap (held_over answer (held_in a)) alone);
-            put =
-                ap (λ l. l ++ annotated_line answer a.held whole) (put_short line line_short)
-                ∙ sym (append-nil _ ∙ ap (annotated_lines answer (held_in a)) alone ∙ line_alone (held_in a) whole);
+            put = same ∙ sym (append-nil _ ∙ ap (annotated_lines answer (held_in a)) alone ∙ line_alone (held_in a) whole);
           }
 
-  -- bytes without an end of a line, behind a long one
-  pub long_goes_on : (a : Annotator) (bytes out out' : List ℕ) → a.is_long ≡ true → has_end bytes ≡ false → out' ≡ out ++ bytes → Adds out out' (Passes answer a a bytes)
-  long_goes_on a bytes out out' long unended put = (bytes, put, passes)
+  pub long_ends : (a a' : Annotator) (bytes out out' : List ℕ) → a.is_long ≡ true → IsLine bytes → a'.held ≡ a.held → a'.is_long ≡ false → a'.begun.items ≡ a.begun.items → out' ≡ out ++ bytes → Adds out out' (Passes answer a a' bytes)
+  long_ends a a' bytes out out' long is_line held short' kept put =
+      line_ends a a' bytes bytes out out' is_line short' put (λ line is_open.
+      let line_long : is_long line ≡ true = sym is_open.long ∙ long in
+      let whole_long = long_more line bytes line_long in (
+        kept ∙ is_open.kept ∙ kept_long line line_long,
+        held ∙ sym (passed_by (held_in a) (line ++ bytes) whole_long),
+        ap (λ l. l ++ bytes) (put_long line line_long) ∙ sym (stays (held_in a) (line ++ bytes) whole_long),
+      ))
+
+  pub short_ends : (a a' : Annotator) (bytes whole out out' : List ℕ) → a.is_long ≡ false → IsLine bytes → whole ≡ a.begun.items ++ bytes → a'.held ≡ held_behind answer a.held whole → a'.is_long ≡ false → a'.begun.items ≡ []
+      → out' ≡ out ++ annotated_line answer a.held whole → Adds out out' (Passes answer a a' bytes)
+  short_ends a a' bytes whole out out' short is_line all held short' none put =
+      line_ends a a' bytes (annotated_line answer a.held whole) out out' is_line short' put (λ line is_open.
+      let line_short : is_long line ≡ false = sym is_open.long ∙ short in
+      let same : whole ≡ line ++ bytes = all ∙ ap (λ l. l ++ bytes) (is_open.kept ∙ kept_short line line_short) in (
+        none,
+        held ∙ ap (held_behind answer a.held) same,
+        ap (λ l. l ++ annotated_line answer a.held whole) (put_short line line_short) ∙ ap (annotated_line answer a.held) same,
+      ))
+
+  -- a line goes on with bytes that have no end, and this text
+  line_goes_on : (a a' : Annotator) (bytes text out out' : List ℕ) → has_end bytes ≡ false → a'.held ≡ a.held → out' ≡ out ++ text
+      → ((line : List ℕ) → IsOpen a line → (a'.is_long ≡ is_long (line ++ bytes)) × (a'.begun.items ≡ kept_of (line ++ bytes)) × (put_of line ++ text ≡ put_of (line ++ bytes)))
+      → Adds out out' (Passes answer a a' bytes)
+  line_goes_on a a' bytes text out out' unended held put each = (text, put, passes)
     where
-      passes : Passes answer a a bytes bytes
+      passes : Passes answer a a' bytes text
       passes line is_open =
-          let line_long : is_long line ≡ true = sym is_open.long ∙ long in
-          let whole_long = long_more line bytes line_long in
+          let (long, kept, same) = each line is_open in
           record {
             passed = [];
             line' = line ++ bytes;
             parts = refl;
             whole = whole_nothing;
-            is_open = record {
-              no_end = no_end_behind line bytes is_open.no_end unended;
-              long = long ∙ sym whole_long;
-              kept = is_open.kept ∙ kept_long line line_long ∙ sym (kept_long (line ++ bytes) whole_long);
-            };
-            held = refl;
-            put = ap (λ l. l ++ bytes) (put_long line line_long) ∙ sym (put_long (line ++ bytes) whole_long);
-          }
-
-  -- behind another one, which stays so
-  pub is_held : (a a' : Annotator) (bytes out : List ℕ) → a.is_long ≡ false → has_end bytes ≡ false → a'.held ≡ a.held → a'.is_long ≡ false → a'.begun.items ≡ a.begun.items ++ bytes → length a'.begun.items ≤ longest → Adds out out (Passes answer a a' bytes)
-  is_held a a' bytes out short unended held short' more low = ([], sym (append-nil out), passes)
-    where
-      passes : Passes answer a a' bytes []
-      passes line is_open =
-          let line_short : is_long line ≡ false = sym is_open.long ∙ short in
-          let same : a'.begun.items ≡ line ++ bytes = more ∙ ap (λ l. l ++ bytes) (is_open.kept ∙ kept_short line line_short) in
-          let whole_short : is_long (line ++ bytes) ≡ false = ap is_long (sym same) ∙ not_long a'.begun.items low in
-          record {
-            passed = [];
-            line' = line ++ bytes;
-            parts = refl;
-            whole = whole_nothing;
-            is_open = record {
-              no_end = no_end_behind line bytes is_open.no_end unended;
-              long = short' ∙ sym whole_short;
-              kept = same ∙ sym (kept_short (line ++ bytes) whole_short);
-            };
+            is_open = record { no_end = no_end_behind line bytes is_open.no_end unended; long = long; kept = kept };
             held = held;
-            put = ap (λ l. l ++ []) (put_short line line_short) ∙ sym (put_short (line ++ bytes) whole_short);
+            put = same;
           }
 
-  -- and which gets too long
+  pub long_goes_on : (a : Annotator) (bytes out out' : List ℕ) → a.is_long ≡ true → has_end bytes ≡ false → out' ≡ out ++ bytes → Adds out out' (Passes answer a a bytes)
+  long_goes_on a bytes out out' long unended put =
+      line_goes_on a a bytes bytes out out' unended refl put (λ line is_open.
+      let line_long : is_long line ≡ true = sym is_open.long ∙ long in
+      let whole_long = long_more line bytes line_long in (
+        long ∙ sym whole_long,
+        is_open.kept ∙ kept_long line line_long ∙ sym (kept_long (line ++ bytes) whole_long),
+        ap (λ l. l ++ bytes) (put_long line line_long) ∙ sym (put_long (line ++ bytes) whole_long),
+      ))
+
+  -- one that stays short, and one that gets too long
+  pub is_held : (a a' : Annotator) (bytes out : List ℕ) → a.is_long ≡ false → has_end bytes ≡ false → a'.held ≡ a.held → a'.is_long ≡ false → a'.begun.items ≡ a.begun.items ++ bytes → length a'.begun.items ≤ longest → Adds out out (Passes answer a a' bytes)
+  is_held a a' bytes out short unended held short' more low =
+      line_goes_on a a' bytes [] out out unended held (sym (append-nil out)) (λ line is_open.
+      let line_short : is_long line ≡ false = sym is_open.long ∙ short in
+      let same : a'.begun.items ≡ line ++ bytes = more ∙ ap (λ l. l ++ bytes) (is_open.kept ∙ kept_short line line_short) in
+      let whole_short : is_long (line ++ bytes) ≡ false = ap is_long (sym same) ∙ not_long a'.begun.items low in
+      (short' ∙ sym whole_short, same ∙ sym (kept_short (line ++ bytes) whole_short), ap (λ l. l ++ []) (put_short line line_short) ∙ sym (put_short (line ++ bytes) whole_short)))
+
   pub gets_long : (a a' : Annotator) (bytes whole out out' : List ℕ) → a.is_long ≡ false → has_end bytes ≡ false → whole ≡ a.begun.items ++ bytes → longest < length whole → a'.held ≡ a.held → a'.is_long ≡ true → a'.begun.items ≡ []
       → out' ≡ out ++ whole → Adds out out' (Passes answer a a' bytes)
-  gets_long a a' bytes whole out out' short unended all long held long' none put = (whole, put, passes)
-    where
-      passes : Passes answer a a' bytes whole
-      passes line is_open =
-          let line_short : is_long line ≡ false = sym is_open.long ∙ short in
-          let same : whole ≡ line ++ bytes = all ∙ ap (λ l. l ++ bytes) (is_open.kept ∙ kept_short line line_short) in
-          let whole_long : is_long (line ++ bytes) ≡ true = ap is_long (sym same) ∙ lt-ltb longest (length whole) long in
-          record {
-            passed = [];
-            line' = line ++ bytes;
-            parts = refl;
-            whole = whole_nothing;
-            is_open = record {
-              no_end = no_end_behind line bytes is_open.no_end unended;
-              long = long' ∙ sym whole_long;
-              kept = none ∙ sym (kept_long (line ++ bytes) whole_long);
-            };
-            held = held;
-            put = ap (λ l. l ++ whole) (put_short line line_short) ∙ same ∙ sym (put_long (line ++ bytes) whole_long);
-          }
+  gets_long a a' bytes whole out out' short unended all long held long' none put =
+      line_goes_on a a' bytes whole out out' unended held put (λ line is_open.
+      let line_short : is_long line ≡ false = sym is_open.long ∙ short in
+      let same : whole ≡ line ++ bytes = all ∙ ap (λ l. l ++ bytes) (is_open.kept ∙ kept_short line line_short) in
+      let whole_long : is_long (line ++ bytes) ≡ true = ap is_long (sym same) ∙ lt-ltb longest (length whole) long in
+      (long' ∙ sym whole_long, none ∙ sym (kept_long (line ++ bytes) whole_long), ap (λ l. l ++ whole) (put_short line line_short) ∙ same ∙ sym (put_long (line ++ bytes) whole_long)))
 
   -- no more bytes come behind a line of which nothing is kept
   pub nothing_is_left : (a : Annotator) (out : List ℕ) → a.begun.items ≡ [] → Adds out out (Ends answer a a.held.names)

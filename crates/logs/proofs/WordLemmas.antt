@@ -15,48 +15,29 @@ use Rattle.logs.specs.declared.held.Held.{Held}
 use Rattle.logs.specs.declared.taken.Taken.{Taken}
 use Rattle.logs.specs.declared.words.Word.{Word}
 
--- ---- a short word is no address
+-- ---- words that are too short, or have another byte
+
+abbrev is_other : ℕ → Bool
+is_other b = not (is_address_byte b)
+
+none_either : (t : Bool) → cond {A = Option ℕ} t None None ≡ None
+none_either true = refl
+none_either false = refl
 
 few_digits : (least most : ℕ) (digits : List ℕ) → length digits < least → digits_between least most digits ≡ None
 few_digits least most digits few =
     ap (λ t. cond (t && nat_le (length digits) most) (numeral 16 16 digits) None)
     (false_from_ne_true (nat_le least (length digits)) (λ e. let enough = leb-true least (length digits) e in absurd (omega (arith, enough, few))))
 
-short_word : (narrow : Bool) (word : List ℕ) → length word < fewest narrow → address_of_word narrow word ≡ None
-short_word true word short = either (has_prefix word)
-  where
-    either : (t : Bool) → digits_between 8 8 (cond t (drop 2 word) word) ≡ None
-    either true = few_digits 8 8 (drop 2 word) (omega (arith, length-drop 2 word, short))
-    either false = few_digits 8 8 word short
-short_word false word short = either (has_prefix word)
-  where
-    either : (t : Bool) → cond t (digits_between 9 16 (drop 2 word)) (digits_between 16 16 word) ≡ None
-    either true = few_digits 9 16 (drop 2 word) (omega (arith, length-drop 2 word, short))
-    either false = few_digits 16 16 word (omega (arith, short))
-
--- ---- nor is one with another byte
-
-abbrev is_other : ℕ → Bool
-is_other b = not (is_address_byte b)
+not_all : (digits : List ℕ) → list_any is_other digits ≡ true → list_all (λ c. is_digit c 16) digits ≡ false
+not_all [] other = absurd (true≢false (sym other))
+not_all (d ∷ digits) other = grind (arith, other, not_all digits)
 
 no_digits : (least most : ℕ) (digits : List ℕ) → list_any is_other digits ≡ true → digits_between least most digits ≡ None
-no_digits least most digits other = ap (λ o. cond (nat_le least (length digits) && nat_le (length digits) most) o None) none ∙ both (nat_le least (length digits) && nat_le (length digits) most)
+no_digits least most digits other = ap (λ o. cond (nat_le least (length digits) && nat_le (length digits) most) o None) none ∙ none_either (nat_le least (length digits) && nat_le (length digits) most)
   where
-    not_all : (digits : List ℕ) → list_any is_other digits ≡ true → list_all (λ c. is_digit c 16) digits ≡ false
-    not_all [] other = absurd (true≢false (sym other))
-    not_all (d ∷ digits) other = grind (arith, other, not_all digits)
-
-    and_false : (a b d : Bool) → (a && b && false && d) ≡ false
-    and_false true true d = refl
-    and_false true false d = refl
-    and_false false b d = refl
-
     none : numeral 16 16 digits ≡ None
     none = grind (arith, not_all digits other)
-
-    both : (t : Bool) → cond {A = Option ℕ} t None None ≡ None
-    both true = refl
-    both false = refl
 
 behind_two : (word : List ℕ) → has_prefix word ≡ true → list_any is_other word ≡ true → list_any is_other (drop 2 word) ≡ true
 behind_two [] prefix other = other
@@ -77,17 +58,21 @@ behind_two (a ∷ b ∷ word) prefix other = told (which (nat_eq 48 a) (nat_eq 1
     told (is, inl x) = subst (λ b. (is_other 48 || (is_other b || list_any is_other word)) ≡ true) (sym (eqb-true 120 b x)) (subst (λ a. (is_other a || (is_other b || list_any is_other word)) ≡ true) (sym (eqb-true 48 a is)) other)
     told (is, inr x) = subst (λ b. (is_other 48 || (is_other b || list_any is_other word)) ≡ true) (sym (eqb-true 88 b x)) (subst (λ a. (is_other a || (is_other b || list_any is_other word)) ≡ true) (sym (eqb-true 48 a is)) other)
 
-other_word : (narrow : Bool) (word : List ℕ) → list_any is_other word ≡ true → address_of_word narrow word ≡ None
-other_word true word other = either (has_prefix word) refl
+no_word : (narrow : Bool) (word : List ℕ) → (length word < fewest narrow) ⊎ (list_any is_other word ≡ true) → address_of_word narrow word ≡ None
+no_word true word why = either (has_prefix word) refl why
   where
-    either : (t : Bool) → has_prefix word ≡ t → digits_between 8 8 (cond t (drop 2 word) word) ≡ None
-    either true prefix = no_digits 8 8 (drop 2 word) (behind_two word prefix other)
-    either false prefix = no_digits 8 8 word other
-other_word false word other = either (has_prefix word) refl
+    either : (t : Bool) → has_prefix word ≡ t → (length word < 8) ⊎ (list_any is_other word ≡ true) → digits_between 8 8 (cond t (drop 2 word) word) ≡ None
+    either true prefix (inl few) = few_digits 8 8 (drop 2 word) (omega (arith, length-drop 2 word, few))
+    either true prefix (inr other) = no_digits 8 8 (drop 2 word) (behind_two word prefix other)
+    either false prefix (inl few) = few_digits 8 8 word few
+    either false prefix (inr other) = no_digits 8 8 word other
+no_word false word why = either (has_prefix word) refl why
   where
-    either : (t : Bool) → has_prefix word ≡ t → cond t (digits_between 9 16 (drop 2 word)) (digits_between 16 16 word) ≡ None
-    either true prefix = no_digits 9 16 (drop 2 word) (behind_two word prefix other)
-    either false prefix = no_digits 16 16 word other
+    either : (t : Bool) → has_prefix word ≡ t → (length word < 11) ⊎ (list_any is_other word ≡ true) → cond t (digits_between 9 16 (drop 2 word)) (digits_between 16 16 word) ≡ None
+    either true prefix (inl few) = few_digits 9 16 (drop 2 word) (omega (arith, length-drop 2 word, few))
+    either true prefix (inr other) = no_digits 9 16 (drop 2 word) (behind_two word prefix other)
+    either false prefix (inl few) = few_digits 16 16 word (omega (arith, few))
+    either false prefix (inr other) = no_digits 16 16 word other
 
 any_at : (bytes : List ℕ) (n k : ℕ) → k < n → k < length bytes → is_address_byte (get_or bytes k 0) ≡ false → list_any is_other (take n bytes) ≡ true
 any_at [] n k below within other = absurd (omega arith)
@@ -100,15 +85,11 @@ no_address : (narrow : Bool) (line : List ℕ) (at n : ℕ) → (n < fewest narr
 no_address narrow line at n why =
     let w : Word = record { start = at; end = at + n } in
     let all : (at + n) - at ≡ n = omega arith in
-    ap (λ o. cond (is_joined line w) None o) (ap (λ m. address_of_word narrow (take m (drop at line))) all ∙ none why) ∙ both (is_joined line w)
+    ap (λ o. cond (is_joined line w) None o) (ap (λ m. address_of_word narrow (take m (drop at line))) all ∙ no_word narrow (take n (drop at line)) (of_take why)) ∙ none_either (is_joined line w)
   where
-    none : (n < fewest narrow) ⊎ (list_any is_other (take n (drop at line)) ≡ true) → address_of_word narrow (take n (drop at line)) ≡ None
-    none (inl few) = short_word narrow (take n (drop at line)) (omega (arith, length-take n (drop at line), few))
-    none (inr other) = other_word narrow (take n (drop at line)) other
-
-    both : (t : Bool) → cond {A = Option ℕ} t None None ≡ None
-    both true = refl
-    both false = refl
+    of_take : (n < fewest narrow) ⊎ (list_any is_other (take n (drop at line)) ≡ true) → (length (take n (drop at line)) < fewest narrow) ⊎ (list_any is_other (take n (drop at line)) ≡ true)
+    of_take (inl few) = inl (omega (arith, length-take n (drop at line), few))
+    of_take (inr other) = inr other
 
 module _ (narrow : Bool) (held : Held) (line : List ℕ) where
   abbrev with_next : Option Taken → Word → Option ℕ → List Word → List Taken
