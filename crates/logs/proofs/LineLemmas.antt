@@ -286,7 +286,7 @@ module _ (answer : Answering) where
       let whole_long : is_long (line ++ bytes) ≡ true = ap is_long (sym same) ∙ lt-ltb longest (length whole) long in
       (long' ∙ sym whole_long, none ∙ sym (kept_long (line ++ bytes) whole_long), ap (λ l. l ++ whole) (put_short line line_short) ∙ same ∙ sym (put_long (line ++ bytes) whole_long)))
 
-  -- no more bytes come behind a line of which nothing is kept
+  -- no more bytes come behind a line that keeps nothing
   pub nothing_is_left : (a : Annotator) (out : List ℕ) → a.begun.items ≡ [] → Adds out out (Ends answer a a.held.names)
   nothing_is_left a out none = ([], sym (append-nil out), λ line is_open. either line is_open (is_long line) refl)
     where

@@ -80,7 +80,7 @@ any_at (b ∷ bytes) zero k below within other = absurd (omega arith)
 any_at (b ∷ bytes) (suc n) zero below within other = ap (λ t. not t || list_any is_other (take n bytes)) other
 any_at (b ∷ bytes) (suc n) (suc k) below within other = grind (arith, any_at bytes n k (omega arith) (omega arith) other)
 
--- a word of so many bytes, with such a byte or too short
+-- a word of this length, with such a byte or too short
 no_address : (narrow : Bool) (line : List ℕ) (at n : ℕ) → (n < fewest narrow) ⊎ (list_any is_other (take n (drop at line)) ≡ true) → address_at narrow line (record { start = at; end = at + n }) ≡ None
 no_address narrow line at n why =
     let w : Word = record { start = at; end = at + n } in

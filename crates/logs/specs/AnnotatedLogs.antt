@@ -1,4 +1,4 @@
--- A log with the text of the answer behind each address that stands in it, line by line.
+-- A log with the text of the answer behind each of its addresses, line by line.
 use Rattle.std.specs.Prelude.{ℕ, ◌+◌, ◌-◌, ◌||◌, Bool, false, if◌then◌else◌, nat_eq}
 use Rattle.std.specs.Prelude.{List, [], ◌∷◌, ◌++◌, length, take, drop, codes, Option, None, Some}
 use Rattle.std.specs.List.{ends_with, list_any, starts_with}
@@ -22,7 +22,8 @@ abbrev pub without_bracket : List ℕ → List ℕ
 without_bracket text =
     if ends_with nat_eq text (codes "]") then take (length text - 1) text else text
 
--- A blank and the text stand there already, perhaps with `? ` or `(` between, up to a `]` at its end.
+-- The bytes begin with a blank and the text, perhaps with `? ` or `(` between, up to a `]` at its
+-- end.
 abbrev pub says_itself : List ℕ → List ℕ → Bool
 says_itself rest text =
     let said = drop 1 (without_bracket text) in
@@ -33,7 +34,7 @@ says_itself rest text =
 abbrev pub place_behind : List ℕ → Taken → ℕ
 place_behind line t = t.word.end + run_of is_closer (drop t.word.end line)
 
--- the text, unless it stands there already
+-- the text, unless these bytes say it already
 abbrev pub unless_said : List ℕ → Option (List ℕ) → Option (List ℕ)
 unless_said rest None = None
 unless_said rest (Some text) = if says_itself rest text then None else Some text

@@ -30,7 +30,7 @@ kept_of line = if is_long line then [] else line
 abbrev pub held_in : Annotator → Held
 held_in a = a.held
 
--- Behind the lines that were put stands this one, which has no end yet.
+-- This line, which has no end yet, follows the lines that were put.
 pub record IsOpen (a : Annotator) (line : List ℕ) : Type 0 where
   pub no_end : has_end line ≡ false
   pub long : a.is_long ≡ is_long line
@@ -62,7 +62,7 @@ Ends answer a names text = (line : List ℕ) → IsOpen a line → Ended answer 
 
 -- ---- what is written
 
--- to bytes a text was added of which this holds
+-- A text was added to bytes, and this holds of it.
 abbrev pub Adds : List ℕ → List ℕ → (List ℕ → Type 0) → Type 0
 Adds out out' P = (text : List ℕ) × (out' ≡ out ++ text) × P text
 
@@ -72,8 +72,8 @@ IsWriteFault error fault.Write = IsNoBrokenPipe error
 IsWriteFault error fault.Closed = IsBrokenPipe error
 IsWriteFault error _ = ⊥
 
--- A text was written, and nothing is kept back; or nothing was done; or a call failed, and a beginning
--- of a text was written. This holds of what is returned and of the text.
+-- A text was written, and nothing is kept back; or nothing was done; or a call failed, and a
+-- beginning of a text was written. This holds of what is returned and of the text.
 abbrev pub Puts : {W X : Type 0} → (W → Option (List ℕ)) → (X → List ℕ → Type 0) → Output W
     → Output W → Result X LogFault → Type 0
 Puts contents P w w' (Ok x) = (text : List ℕ) × Delivered contents w w' text × P x text
@@ -93,8 +93,8 @@ abbrev pub Begins : Answering → List ℕ → List ℕ → Type 0
 Begins answer written read =
     (more : List ℕ) → (rest : List ℕ) × (annotated answer (read ++ more) ≡ written ++ rest)
 
--- What was written are the whole lines that were read, annotated, and the line behind them as far as
--- it was read, if it is too long to be annotated.
+-- What was written are the whole lines that were read, annotated, and the line behind them as far
+-- as it was read, if it is too long to be annotated.
 pub record IsUpToDate (answer : Answering) (written read : List ℕ) : Type 0 where
   pub passed : List ℕ
   pub line : List ℕ
@@ -110,7 +110,7 @@ pub record Moves {R W : Type 0} (remaining : R → Option (List ℕ)) (contents 
   pub consumed : Consumes (remaining (device_of r)) (remaining (device_of r')) read
   pub appended : Appends (contents (writer_of w)) (contents (writer_of w')) written
 
--- Some bytes were read and written, of which this holds.
+-- Some bytes were read and written, and this holds of them.
 abbrev pub MovesSome : {R W : Type 0} → (R → Option (List ℕ)) → (W → Option (List ℕ))
     → Counted R → Counted R → Output W → Output W → (List ℕ → List ℕ → Type 0) → Type 0
 MovesSome remaining contents r r' w w' P =

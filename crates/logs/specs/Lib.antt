@@ -4,7 +4,7 @@ pub mod Answering
 pub mod Lines
 -- the words of a line, and the addresses that words are
 pub mod Words
--- where an address word stands in its line
+-- the place of an address word in its line
 pub mod Places
 -- how the address words of a line are taken
 pub mod TakenWords

@@ -3,8 +3,8 @@ use Rattle.std.specs.Prelude.{◌≡◌, ℕ, Bool, List, [], ◌∷◌, ◌++�
 use Rattle.std.specs.Prelude.{false, length, nat_lt}
 use Rattle.std.specs.List.{list_any, onto_first}
 
--- A line has the byte 10 that ends it. What stands behind the last of these is a line too, unless it
--- is nothing.
+-- A line has the byte 10 that ends it. The bytes behind the last end, if there are any, are a line
+-- too.
 abbrev pub lines : List ℕ → List (List ℕ)
 lines [] = []
 lines (b ∷ bytes) = if b == 10 then (b ∷ []) ∷ lines bytes else onto_first b (lines bytes)

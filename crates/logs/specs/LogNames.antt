@@ -12,7 +12,7 @@ use Rattle.logs.specs.declared.taken.Taken.{Taken}
 
 -- ---- a text of the form `NAME+0xOFF/0xSIZE`
 
--- `0xSIZE`, of which one digit is looked at
+-- `/0xSIZE`, with one digit at least
 abbrev pub begins_size : List ℕ → Bool
 begins_size text =
     starts_with nat_eq text (codes "/0x") && nat_lt 0 (first_of kind.Hexadecimal (drop 3 text))
@@ -53,7 +53,7 @@ one_more n = if nat_lt n 18446744073709551615 then n + 1 else 184467440737095516
 abbrev pub no_names : LogNames
 no_names = record { addresses = 0; named = 0; agreeing = 0; disagreeing = 0 }
 
--- The text of the answer has the name, or it is another name at the same address.
+-- The text of the answer has the name, or another symbol at its address has it.
 abbrev pub agrees : Answering → Taken → List ℕ → List ℕ → Bool
 agrees answer t text name =
     starts_with nat_eq text (codes " " ++ name ++ codes "+")

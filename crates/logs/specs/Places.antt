@@ -1,12 +1,13 @@
--- Where an address word stands in its line.
+-- The place of an address word in its line.
 --
--- Before it stand a prefix, as a time stamp, then what may begin a line, then its marks:
+-- Before it come a prefix, as a time stamp, then what may begin a line, then its marks:
 --
 --     [   52.104290] [T123]  <IRQ>  [<ffffffff81000108>] ? do_one
 --     ~~~~~~~~~~~~~~===============^^                             prefix, lead, marks
 --
 -- Behind another address word of the line only the bytes between the two are looked at.
-use Rattle.std.specs.Prelude.{ℕ, suc, zero, ◌+◌, ◌-◌, ◌==◌, ◌||◌, ◌&&◌, not, Bool, true, false, if◌then◌else◌}
+use Rattle.std.specs.Prelude.{ℕ, suc, zero, ◌+◌, ◌-◌, ◌==◌, ◌||◌, ◌&&◌, not, Bool, true, false}
+use Rattle.std.specs.Prelude.{if◌then◌else◌}
 use Rattle.std.specs.Prelude.{List, [], ◌∷◌, length, drop, take, codes, nat_eq, nat_lt, reverse}
 use Rattle.std.specs.List.{list_any, starts_with, ends_with}
 use Rattle.std.specs.Char.{is_digit}
@@ -15,7 +16,7 @@ use Rattle.logs.specs.Words.{is_word_byte, run_of}
 use Rattle.logs.specs.declared.places.Kind.{Kind}
 use Rattle.logs.specs.declared.places.Kind.TheVariants as kind
 
--- `(`, `<` and `[`, and what may stand between a label and its address
+-- `(`, `<` and `[`; and with these what may separate a label from its address
 abbrev pub is_mark : ℕ → Bool
 is_mark b = b == 40 || b == 60 || b == 91
 
@@ -68,15 +69,16 @@ end_of k bytes = drop (length bytes - last_of k bytes) bytes
 abbrev pub ends_in_label : List ℕ → Bool
 ends_in_label bytes =
     let word = end_of kind.Word bytes in
-    bytes_eq word (codes "ra") || bytes_eq word (codes "lr") || bytes_eq word (codes "LR") || bytes_eq word (codes "from")
+    bytes_eq word (codes "ra") || bytes_eq word (codes "lr") || bytes_eq word (codes "LR")
+    || bytes_eq word (codes "from")
 
 -- It is `at` or `in`.
 abbrev pub ends_in_at : List ℕ → Bool
 ends_in_at bytes =
     let word = end_of kind.Word bytes in bytes_eq word (codes "at") || bytes_eq word (codes "in")
 
--- A `<-` stands directly before the address; or behind the last word only blanks, `:`, `=` and marks
--- stand, and it is a label, or one and ` is at`, or `at` or `in` with a `:` directly behind.
+-- A `<-` comes directly before the address; or only blanks, `:`, `=` and marks come behind the last
+-- word, and it is a label, or one and ` is at`, or `at` or `in` with a `:` directly behind.
 abbrev pub has_label : List ℕ → Bool
 has_label before =
     let head = without_end kind.LabelGap before in
@@ -95,7 +97,7 @@ abbrev pub has_point : List ℕ → Bool
 has_point [] = false
 has_point (b ∷ bytes) = begins_point (b ∷ bytes) || has_point bytes
 
--- the bytes begin with seconds, behind which no `:` stands
+-- the bytes begin with seconds, and no `:` follows them
 abbrev pub begins_seconds : List ℕ → Bool
 begins_seconds (a ∷ b ∷ more) =
     is_digit a 10 && is_digit b 10 && not (starts_with nat_eq more (codes ":"))
@@ -110,7 +112,7 @@ abbrev pub begins_time : List ℕ → Bool
 begins_time (a ∷ b ∷ c ∷ more) = is_digit a 10 && is_digit b 10 && c == 58 && begins_minutes more
 begins_time bytes = false
 
--- one stands in them, before which no digit or `:` stands
+-- the bytes have one with no digit or `:` before it
 abbrev pub has_time : Bool → List ℕ → Bool
 has_time within [] = false
 has_time within (b ∷ bytes) =
@@ -120,7 +122,8 @@ has_time within (b ∷ bytes) =
 abbrev pub ends_in_stamp : List ℕ → Bool
 ends_in_stamp bytes =
     let head = take (length bytes - 1) bytes in
-    ends_with nat_eq bytes (codes "]") && ends_with nat_eq (without_end kind.NoBracket head) (codes "[")
+    ends_with nat_eq bytes (codes "]")
+    && ends_with nat_eq (without_end kind.NoBracket head) (codes "[")
     && has_point (end_of kind.NoBracket head)
 
 -- nothing, or a blank or tab first
@@ -128,8 +131,8 @@ abbrev pub begins_blank : List ℕ → Bool
 begins_blank [] = true
 begins_blank (b ∷ bytes) = is_blank b
 
--- A prefix may end between these bytes: behind `;`, `kernel:`, such a group, or a time of day and what
--- is glued to it.
+-- A prefix may end between these bytes: behind `;`, `kernel:`, such a group, or a time of day and
+-- what is glued to it.
 abbrev pub ends_prefix : List ℕ → List ℕ → Bool
 ends_prefix front behind =
     ends_with nat_eq front (codes ";")
@@ -138,13 +141,13 @@ ends_prefix front behind =
     || ends_in_stamp front
     || (begins_blank behind && has_time false (end_of kind.NoBlank front))
 
--- the last place, up to this one, where the prefix ends
+-- the last place, up to this one, at which a prefix ends
 abbrev pub prefix_up_to : List ℕ → ℕ → ℕ
 prefix_up_to bytes zero = zero
 prefix_up_to bytes (suc p) =
     if ends_prefix (take (suc p) bytes) (drop (suc p) bytes) then suc p else prefix_up_to bytes p
 
--- where the prefix ends, or 0 where there is none; and what stands behind it
+-- the place of the prefix's end, or 0 without a prefix; and the bytes behind it
 abbrev pub prefix_end : List ℕ → ℕ
 prefix_end bytes = prefix_up_to bytes (length bytes)
 
@@ -169,9 +172,9 @@ group bytes =
     then n + 2
     else 0
 
--- How long the thing is that may stand before the first address of a line, with which these bytes
--- begin: a blank, tab, CR or `?`; `=>`; `#` and digits; a word in `<` and `>`; such a group in
--- brackets. 0 where they begin with none.
+-- The length of the item that may come before the first address of a line, if the bytes begin with
+-- one: a blank, tab, CR or `?`; `=>`; `#` and digits; a word in `<` and `>`; such a group in
+-- brackets. 0 if they begin with none.
 abbrev pub lead_item : List ℕ → ℕ
 lead_item [] = 0
 lead_item (b ∷ bytes) =
@@ -182,7 +185,7 @@ lead_item (b ∷ bytes) =
     else if b == 91 then group bytes
     else 0
 
--- The bytes, but for so many, are such things, one behind the other.
+-- The bytes behind this many are such items.
 abbrev pub is_lead : ℕ → List ℕ → Bool
 is_lead skipped [] = nat_eq skipped 0
 is_lead (suc n) (b ∷ bytes) = is_lead n bytes

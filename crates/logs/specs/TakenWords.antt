@@ -15,7 +15,7 @@ use Rattle.logs.specs.declared.taken.Place.{Place}
 use Rattle.logs.specs.declared.taken.Taken.{Taken}
 use Rattle.logs.specs.declared.words.Word.{Word}
 
--- ---- where a word stands
+-- ---- the place of a word
 
 -- the bytes between the address word before, or the line's begin, and a word
 abbrev pub gap_start : Option Taken → ℕ
@@ -25,15 +25,15 @@ gap_start (Some t) = t.word.end
 abbrev pub gap_before : List ℕ → Option Taken → Word → List ℕ
 gap_before line last w = part line (gap_start last) w.start
 
--- Behind a prefix a word begins its line where nothing but what may begin one stands between.
+-- Behind a prefix a word begins its line if only items that may begin one come between.
 abbrev pub place_behind_prefix : List ℕ → Place
 place_behind_prefix lead = record {
   begins_line = is_lead 0 lead;
   is_numbered = begins_numbered lead;
 }
 
--- The same of a word with these bytes before its marks. Behind another address word there has to be
--- a prefix.
+-- The place of a word with these bytes before its marks. Behind another address word there has to
+-- be a prefix.
 abbrev pub place_of : Option Taken → List ℕ → Place
 place_of None head = place_behind_prefix (behind_prefix head)
 place_of (Some t) head =
@@ -50,7 +50,7 @@ is_marked gap word =
     ends_with nat_eq (end_of kind.Mark gap) (codes "[<") || has_prefix word
     || ends_with nat_eq gap (9 ∷ [])
 
--- It is the second of `[ADDRESS] [ADDRESS]`, of which the first begins the line.
+-- It is the second of `[ADDRESS] [ADDRESS]`, and the first begins the line.
 abbrev pub ends_pair : Option Taken → List ℕ → Bool
 ends_pair None gap = false
 ends_pair (Some t) gap =
@@ -63,7 +63,7 @@ is_frame place last gap word =
 
 -- ---- how it is taken
 
--- What stands before it says that it is a caller's: a label, or `at` in a line whose text begins with
+-- The bytes before it say that it is a caller's: a label, or `at` in a line whose text begins with
 -- `#` and a digit.
 abbrev pub says_caller : Place → List ℕ → Bool
 says_caller place gap =
@@ -77,12 +77,12 @@ is_exact first.Exact = true
 is_exact first.Frame = false
 is_exact first.Kept = false
 
--- The address before it in its line is the same, and no `:` or `=` stands between.
+-- The address before it in its line is this number, with no `:` or `=` between.
 abbrev pub repeats : Taken → List ℕ → ℕ → Bool
 repeats t gap value = t.value == value && not (list_any (λ b. b == 58 || b == 61) gap)
 
--- As a caller's it is taken where its place says so, where it repeats one that is, or where it is a
--- frame that is not the first of its trace.
+-- It is taken as a caller's if its place says so, if it repeats one that is, or if it is a frame
+-- and not the first of its trace.
 abbrev pub is_caller : First → Option Taken → List ℕ → Bool → Bool → ℕ → Bool
 is_caller next None gap says is_frame value = says || (is_frame && not (is_exact next))
 is_caller next (Some t) gap says is_frame value =
@@ -95,7 +95,7 @@ abbrev pub begins_apart : List ℕ → Bool
 begins_apart [] = true
 begins_apart (b ∷ bytes) = not (is_word_byte b)
 
--- these words stand among the bytes, behind one of a word or not
+-- the bytes, behind one of a word or not, have these words
 abbrev pub has_words : List ℕ → Bool → List ℕ → Bool
 has_words words within [] = false
 has_words words within (b ∷ bytes) =
@@ -114,7 +114,7 @@ begins_user bytes = has_words (codes "User PSW") false bytes
 abbrev pub is_user_line : Held → List ℕ → Bool
 is_user_line held line = held.is_user && not (ends_user line)
 
--- `Code:` stands among the bytes
+-- the bytes have `Code:`
 abbrev pub has_code : List ℕ → Bool
 has_code [] = false
 has_code (b ∷ bytes) = starts_with nat_eq (b ∷ bytes) (codes "Code:") || has_code bytes
@@ -162,16 +162,17 @@ taken_in narrow held line = taken_among narrow held line None (words_behind line
 
 -- ---- what a line says of the next first frame
 
--- the line says where the processor was
+-- the line has the word `RIP`, `EIP` or `NIP`
 abbrev pub tells_place : List ℕ → Bool
 tells_place line =
     has_words (codes "RIP") false line || has_words (codes "EIP") false line
     || has_words (codes "NIP") false line
 
--- how the next first frame is taken, behind a line with a frame or without one
+-- how the next first frame is taken behind a line without a frame, with such a word or without it
 abbrev pub first_behind : Bool → First
 first_behind tells = if tells then first.Kept else first.Exact
 
+-- and behind any line: with a frame, or with such a word
 abbrev pub next_first : First → Bool → Bool → First
 next_first held true tells = first.Frame
 next_first first.Kept false tells = first.Kept

@@ -35,13 +35,13 @@ impl From<AllocError> for LogFault {
 }
 
 /// Writes a log again, with a blank and the text of the answer behind each address word and the
-/// closers that follow it, where the answer is not `-` and does not stand there already. At its end
-/// it is told what was found of its addresses.
+/// closers that follow it, if the answer is not `-` and the log does not have it there already.
+/// Returns what was found of its addresses.
 ///
-/// After each block that was read each line is written that has its end, and the writer flushed. A
-/// line without an end is kept until it has one, or no more comes; a line of more than 65536 bytes is
-/// written as it is, as it comes. Whatever ends it, what was written is a beginning of the annotated
-/// log.
+/// After each block that was read each line is written that has its end, and the writer flushed.
+/// A line without an end is kept until it has one, or no more comes; a line of more than 65536
+/// bytes is written as it is, as it comes. Whatever ends it, what was written is a beginning of
+/// the annotated log.
 pub fn annotate<A: Answers, R: Read, W: Write>(
     alloc: Global,
     answers: &A,

@@ -10,7 +10,8 @@
 //! ```
 //!
 //! So each line is named as a whole, by what answers when its end comes.
-ghost use Rattle.std.specs.Prelude.{◌≡◌, ◌<◌, ◌++◌, [], false, length, IfErr, IfNone, IfOk, IfSome, OnErr};
+ghost use Rattle.std.specs.Prelude.{◌≡◌, ◌<◌, ◌++◌, [], false, length};
+ghost use Rattle.std.specs.Prelude.{IfErr, IfNone, IfOk, IfSome, OnErr};
 ghost use Rattle.texts.specs.Output.{Delivered, WrotePart, error_in};
 ghost use Rattle.logs.specs.Answering.{Answering};
 ghost use Rattle.logs.specs.AnnotatedLogs.{first_held};
@@ -69,7 +70,8 @@ impl Annotator {
         put_now(writer, &out)
     }
 
-    /// Writes the last line, which has no end, and gives the names of the log. The writer is flushed.
+    /// Writes the last line, which has no end, and returns the names of the log. The writer is
+    /// flushed.
     pub fn end<A: Answers, W: Write>(
         self,
         alloc: Global,
@@ -136,7 +138,7 @@ impl Annotator {
         Ok(())
     }
 
-    /// Keeps bytes of a line that has no end yet, or puts them where it is too long.
+    /// Keeps bytes of a line that has no end yet, or puts them if it is too long.
     fn hold(&mut self, bytes: &[u8], out: &mut Vec<u8>) -> Result<(), AllocError>
         requires { has_end bytes.now ≡ false }
         ensures { IfOk result (λ _. (answer : Answering) → Adds out.old.items out.new.items
@@ -155,7 +157,7 @@ impl Annotator {
         Ok(())
     }
 
-    /// Puts the last line, which has no end, and gives the names of the log.
+    /// Puts the last line, which has no end, and returns the names of the log.
     fn put_last<A: Answers>(&self, answers: &A, out: &mut Vec<u8>) -> Result<LogNames, AllocError>
         ensures { IfOk result (λ names. Adds out.old.items out.new.items
             (Ends (A.answering answers.now) self.now names)) }

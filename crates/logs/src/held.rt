@@ -8,7 +8,7 @@ pub enum First {
     Exact,
     /// As a caller: the line before has a frame.
     Frame,
-    /// As a caller: a line since the last frame told where the processor was.
+    /// As a caller: a line since the last frame has the word `RIP`, `EIP` or `NIP`.
     Kept,
 }
 

@@ -21,9 +21,9 @@ pub(crate) const LONGEST: usize = 1 << 16;
 /// How far a line was put, and what its words so far say.
 #[derive(Drop)]
 pub(crate) struct Progress {
-    /// Where the next word is sought.
+    /// The place from which the next word is sought.
     pub(crate) at: usize,
-    /// Up to where the line was put.
+    /// The place up to which the line was put.
     pub(crate) put: usize,
     /// The last address word.
     pub(crate) last: Option<Taken>,
@@ -49,7 +49,7 @@ pub(crate) fn put_line<A: Answers>(
     put_short(answers, held, line, out)
 }
 
-/// The same of one that is annotated.
+/// Puts a line of at most `LONGEST` bytes with the texts of its answers.
 fn put_short<A: Answers>(
     answers: &A,
     held: &mut Held,
@@ -66,7 +66,7 @@ fn put_short<A: Answers>(
     Ok(())
 }
 
-/// Puts the line, and says what its words are.
+/// Puts the line with the texts of its answers, and returns what its words say.
 fn put_words<A: Answers>(
     answers: &A,
     held: Held,
@@ -78,7 +78,8 @@ fn put_words<A: Answers>(
         (taken_in (A.answering answers.now).is_narrow held line.now)) }
     ensures frame { IfOk result (λ p. p.has_frame ≡ list_any (λ t. t.is_frame)
         (taken_in (A.answering answers.now).is_narrow held line.now)) }
-    ensures names { IfOk result (λ p. p.names ≡ counted (A.answering answers.now) line.now held.names
+    ensures names { IfOk result (λ p. p.names
+        ≡ counted (A.answering answers.now) line.now held.names
         (taken_in (A.answering answers.now).is_narrow held line.now)) }
 {
     let mut progress = Progress {
@@ -99,7 +100,7 @@ fn put_words<A: Answers>(
     }
 }
 
-/// Puts what stands before a word, and what is inserted behind it, if anything is.
+/// Puts the bytes before a word, and the text that is inserted behind it, if there is one.
 fn put_word<A: Answers>(
     answers: &A,
     held: Held,
@@ -165,7 +166,7 @@ fn text_for<A: Answers>(answers: &A, taken: Taken) -> Result<Option<Vec<u8>>, Al
     answers.text_of(taken.is_caller, taken.value)
 }
 
-/// The text, unless it stands there already.
+/// The text, unless these bytes say it already.
 fn unless_said(rest: &[u8], text: Option<Vec<u8>>) -> Option<Vec<u8>>
     ensures { option_map (λ v. v.items) result
         ≡ unless_said rest.now (option_map (λ v. v.items) text) }
@@ -176,8 +177,8 @@ fn unless_said(rest: &[u8], text: Option<Vec<u8>>) -> Option<Vec<u8>>
     }
 }
 
-/// Whether a blank and the text stand at the begin of the bytes, perhaps with `? ` or `(` between, up
-/// to a `]` at its end.
+/// Whether the bytes begin with a blank and the text, perhaps with `? ` or `(` between, up to a
+/// `]` at its end.
 fn says_itself(rest: &[u8], text: &[u8]) -> bool
     ensures { result ≡ says_itself rest.now text.now }
 {

@@ -11,7 +11,8 @@ ghost use Rattle.std.specs.Prelude.{◌≡◌, ◌++◌, codes, nat_eq};
 ghost use Rattle.std.specs.List.{starts_with};
 ghost use Rattle.std.specs.Option.{option_copied};
 ghost use Rattle.logs.specs.LogNames.{agrees, begins_offset, begins_size, begins_sized};
-ghost use Rattle.logs.specs.LogNames.{is_of_another_boot, is_unnamed, name_behind, name_in, no_names, one_more};
+ghost use Rattle.logs.specs.LogNames.{is_of_another_boot, is_unnamed, name_behind, name_in};
+ghost use Rattle.logs.specs.LogNames.{no_names, one_more};
 ghost use Rattle.logs.specs.LogNames.{with_address, with_name, with_verdict, without_doubt};
 
 use crate::answers::Answers;
@@ -19,17 +20,17 @@ use crate::places::{Kind, first_of};
 use crate::taken::Taken;
 use crate::words::begins_with;
 
-/// How many addresses a log has, and what was found of them. Each count stays at the greatest `u64`.
+/// How many addresses a log has, and what was found of them. Each count stays at the greatest
+/// `u64`.
 #[derive(Clone, Copy, Debug, PartialEq, Eq, Drop)]
 pub struct LogNames {
     /// The address words of the log.
     pub addresses: u64,
     /// Those that have an answer.
     pub named: u64,
-    /// Those of the latter behind which the log has the answer's symbol itself, or another one at the
-    /// same address.
+    /// Those that have one, and behind them in the log its symbol or another one at that address.
     pub agreeing: u64,
-    /// Those behind which it has another name.
+    /// Those that have one, and behind them in the log another name.
     pub disagreeing: u64,
 }
 
@@ -61,7 +62,7 @@ impl LogNames {
         self.addresses >= 5 && self.named == 0
     }
 
-    /// One more that agrees, or that does not.
+    /// One name more that agrees, or that does not.
     fn with_name(self, agrees: bool) -> LogNames
         ensures { result ≡ with_name agrees self }
     {
@@ -78,7 +79,7 @@ impl LogNames {
         }
     }
 
-    /// An address more, with its answer's text if it has one, before the rest of its line.
+    /// One address more, with its answer's text if it has one, before the rest of its line.
     pub(crate) fn with_address<A: Answers>(
         self,
         answers: &A,
@@ -103,7 +104,7 @@ impl LogNames {
         }
     }
 
-    /// The name that the log has itself behind an address with this text as its answer, if it has one.
+    /// One name more, if the log has one itself behind an address with this text as its answer.
     fn with_verdict<A: Answers>(
         self,
         answers: &A,
@@ -121,7 +122,7 @@ impl LogNames {
     }
 }
 
-/// The count and one more, where a count goes so far.
+/// The count and one more, or the greatest `u64`.
 fn one_more(count: u64) -> u64
     ensures { result ≡ one_more count }
 {
@@ -170,7 +171,7 @@ fn without_doubt(text: &[u8]) -> &[u8]
     }
 }
 
-/// The name of a text of the form `NAME+0xOFF/0xSIZE`, whatever stands behind it.
+/// The name of a text that begins with `NAME+0xOFF/0xSIZE`.
 fn name_in(text: &[u8]) -> Option<&[u8]>
     ensures { option_copied result ≡ name_in text.now }
 {
@@ -189,7 +190,7 @@ fn begins_offset(text: &[u8]) -> bool
     text.starts_with(b"+0x") && begins_sized(&text[3..])
 }
 
-/// Whether it begins with hexadecimal digits and `/0xSIZE`.
+/// Whether the text begins with hexadecimal digits and `/0xSIZE`.
 fn begins_sized(text: &[u8]) -> bool
     ensures { result ≡ begins_sized text.now }
 {

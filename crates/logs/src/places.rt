@@ -1,4 +1,4 @@
-//! Where an address word stands in its line.
+//! The place of an address word in its line.
 //!
 //! ```text
 //! [   52.104290] [T123]  <IRQ>  [<ffffffff81000108>] ? do_one
@@ -17,23 +17,23 @@ ghost use Rattle.logs.specs.Places.{without_end};
 use crate::words::is_word_byte;
 use texts::digit_of;
 
-/// The kinds of bytes of which runs are sought.
+/// A kind of bytes. Runs of each kind are sought.
 #[derive(Clone, Copy, Debug, Drop)]
 pub(crate) enum Kind {
     Word,
     Digit,
     /// `(`, `<` and `[`.
     Mark,
-    /// What may stand between a label and its address.
+    /// A blank, `:`, `=` or a mark: these may separate a label from its address.
     LabelGap,
     /// A blank or a tab.
     Blank,
     NoBlank,
     Space,
     NoBracket,
-    /// What may stand in a group in brackets: no bracket, `<` or `>`.
+    /// A byte of a group in brackets: no bracket, `<` or `>`.
     Group,
-    /// What may stand in a symbol's name, which `+` ends: no blank or control byte.
+    /// A byte of a symbol's name, which `+` ends: no blank or control byte.
     Name,
     Hexadecimal,
 }
@@ -82,7 +82,7 @@ pub(crate) fn first_of(kind: Kind, bytes: &[u8]) -> usize
     i
 }
 
-/// How many bytes of a kind they end in.
+/// How many bytes of a kind the bytes end in.
 #[tactic(auto, using(crate::proofs::PlaceLemmas::last_step, crate::proofs::PlaceLemmas::last_stop))]
 fn last_of(kind: Kind, bytes: &[u8]) -> usize
     ensures within { result ≤ length bytes.now }
@@ -105,7 +105,7 @@ pub(crate) fn without_end(kind: Kind, bytes: &[u8]) -> &[u8]
     &bytes[..bytes.len() - last_of(kind, bytes)]
 }
 
-/// Those that they end in.
+/// The bytes of a kind that the bytes end in.
 pub(crate) fn end_of(kind: Kind, bytes: &[u8]) -> &[u8]
     ensures { result.now ≡ end_of kind bytes.now }
 {
@@ -142,7 +142,7 @@ fn ends_in_at(bytes: &[u8]) -> bool
     word == b"at".as_slice() || word == b"in".as_slice()
 }
 
-/// Whether a label stands before an address, behind these bytes of its line.
+/// Whether these bytes before an address end in a label.
 pub(crate) fn has_label(before: &[u8]) -> bool
     ensures { result ≡ has_label before.now }
 {
@@ -163,7 +163,7 @@ fn begins_point(bytes: &[u8]) -> bool
     }
 }
 
-/// Whether these follow each other somewhere.
+/// Whether a digit, `.` or `:`, and a digit follow each other in the bytes.
 fn has_point(bytes: &[u8]) -> bool
     ensures { result ≡ has_point bytes.now }
 {
@@ -177,7 +177,7 @@ fn has_point(bytes: &[u8]) -> bool
     false
 }
 
-/// Whether the bytes begin with a time of day, behind which no `:` stands.
+/// Whether the bytes begin with a time of day and no `:` follows it.
 fn begins_time(bytes: &[u8]) -> bool
     ensures { result ≡ begins_time bytes.now }
 {
@@ -189,7 +189,7 @@ fn begins_time(bytes: &[u8]) -> bool
     }
 }
 
-/// The same of what stands behind the hours.
+/// Whether the bytes begin with minutes and seconds, and no `:` follows them.
 fn begins_minutes(bytes: &[u8]) -> bool
     ensures { result ≡ begins_minutes bytes.now }
 {
@@ -201,7 +201,7 @@ fn begins_minutes(bytes: &[u8]) -> bool
     }
 }
 
-/// The same of what stands behind the minutes.
+/// Whether the bytes begin with seconds, and no `:` follows them.
 fn begins_seconds(bytes: &[u8]) -> bool
     ensures { result ≡ begins_seconds bytes.now }
 {
@@ -211,7 +211,7 @@ fn begins_seconds(bytes: &[u8]) -> bool
     }
 }
 
-/// Whether one stands among them, before which no digit or `:` stands.
+/// Whether the bytes have a time of day with no digit or `:` before it.
 fn has_time(bytes: &[u8]) -> bool
     ensures { result ≡ has_time false bytes.now }
 {
@@ -258,8 +258,8 @@ fn ends_prefix(front: &[u8], behind: &[u8]) -> bool
         || (begins_blank(behind) && has_time(end_of(Kind::NoBlank, front)))
 }
 
-/// Where the prefix ends, or 0 where there is none.
-#[tactic(auto, using(crate::proofs::PlaceLemmas::prefix_here, crate::proofs::PlaceLemmas::prefix_before))]
+/// The place of the prefix's end, or 0 without a prefix.
+#[tactic(auto, using(crate::proofs::PlaceLemmas::prefix_before))]
 pub(crate) fn prefix_end(bytes: &[u8]) -> usize
     ensures is { result ≡ prefix_end bytes.now }
     ensures within { result ≤ length bytes.now }
@@ -313,7 +313,7 @@ fn group(bytes: &[u8]) -> usize
     }
 }
 
-/// How long the thing is that may stand before the first address, with which the bytes begin.
+/// The length of the item that the bytes begin with, if such items may begin a line, or 0.
 fn lead_item(bytes: &[u8]) -> usize
     ensures { result ≡ lead_item bytes.now }
 {
@@ -328,7 +328,7 @@ fn lead_item(bytes: &[u8]) -> usize
     }
 }
 
-/// Whether the bytes are such things, one behind the other.
+/// Whether the bytes are items that may come before a line's first address.
 #[tactic(auto, using(crate::proofs::PlaceLemmas::lead_step, crate::proofs::PlaceLemmas::lead_none, crate::proofs::PlaceLemmas::lead_over))]
 pub(crate) fn is_lead(bytes: &[u8]) -> bool
     ensures { result ≡ is_lead 0 bytes.now }

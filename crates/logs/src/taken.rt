@@ -2,8 +2,9 @@
 ghost use Rattle.std.specs.Prelude.{◌≡◌, ◌≤◌, ◌<◌, ◌||◌, ◌==◌, false, length, reverse, take, drop};
 ghost use Rattle.std.specs.List.{list_any};
 ghost use Rattle.logs.specs.Places.{prefix_end, without_end};
-ghost use Rattle.logs.specs.TakenWords.{begins_apart, begins_user, ends_pair, ends_user, gap_before};
-ghost use Rattle.logs.specs.TakenWords.{first_behind, gap_start, has_bracket, has_code, has_words, is_caller};
+ghost use Rattle.logs.specs.TakenWords.{begins_apart, begins_user, ends_pair, ends_user};
+ghost use Rattle.logs.specs.TakenWords.{first_behind, gap_before, gap_start, has_bracket};
+ghost use Rattle.logs.specs.TakenWords.{has_code, has_words, is_caller};
 ghost use Rattle.logs.specs.TakenWords.{is_exact, is_foreign, is_frame, is_marked, is_user_line};
 ghost use Rattle.logs.specs.TakenWords.{next_first, place_behind_prefix, place_of, repeats};
 ghost use Rattle.logs.specs.TakenWords.{says_caller, taken_at, tells_place, was_foreign};
@@ -18,10 +19,10 @@ use crate::places::{
 use crate::words::{Word, address_of_word, has_prefix, is_word_byte};
 use memchr::{memchr, memmem};
 
-/// Where an address word stands in its line.
+/// The place of an address word in its line.
 #[derive(Clone, Copy, Debug, Drop)]
 pub struct Place {
-    /// Whether nothing stands before it but what may begin a line.
+    /// Whether only items that may begin a line come before it.
     pub begins_line: bool,
     /// Whether the line's text behind the prefix begins with `#` and a digit.
     pub is_numbered: bool,
@@ -74,7 +75,7 @@ fn begins_joint(bytes: &[u8]) -> bool
     }
 }
 
-/// Whether they end in one of a word and a `-`.
+/// Whether the bytes end in one of a word and a `-`.
 fn ends_in_joint(bytes: &[u8]) -> bool
     ensures { result ≡ begins_joint (reverse bytes.now) }
 {
@@ -84,7 +85,7 @@ fn ends_in_joint(bytes: &[u8]) -> bool
     }
 }
 
-/// An address word, behind another one or as the first of its line.
+/// How an address word is taken, behind another one or as the first of its line.
 pub(crate) fn taken_at(
     narrow: bool,
     held: Held,
@@ -120,7 +121,7 @@ fn gap_before(line: &[u8], last: Option<Taken>, word: Word) -> &[u8]
     between(line, gap_start(last), word.start)
 }
 
-/// Where these bytes begin.
+/// The place where the bytes between the address word before and a word begin.
 fn gap_start(last: Option<Taken>) -> usize
     ensures { result ≡ gap_start last }
 {
@@ -130,7 +131,7 @@ fn gap_start(last: Option<Taken>) -> usize
     }
 }
 
-/// Where a word stands in its line, with these bytes before its marks.
+/// The place of a word in its line, with these bytes before its marks.
 fn place_of(last: Option<Taken>, head: &[u8]) -> Place
     ensures { result ≡ place_of last head.now }
 {
@@ -149,7 +150,7 @@ fn place_of(last: Option<Taken>, head: &[u8]) -> Place
     }
 }
 
-/// Where it stands behind a prefix, and these bytes.
+/// The place of a word behind a prefix and these bytes.
 fn place_behind_prefix(lead: &[u8]) -> Place
     ensures { result ≡ place_behind_prefix lead.now }
 {
@@ -173,7 +174,7 @@ fn is_marked(gap: &[u8], word: &[u8]) -> bool
     end_of(Kind::Mark, gap).ends_with(b"[<") || has_prefix(word) || gap.ends_with(b"\t")
 }
 
-/// Whether a word is the second of `[ADDRESS] [ADDRESS]`, of which the first begins the line.
+/// Whether a word is the second of `[ADDRESS] [ADDRESS]`, and the first begins the line.
 fn ends_pair(last: Option<Taken>, gap: &[u8]) -> bool
     ensures { result ≡ ends_pair last gap.now }
 {
@@ -192,7 +193,7 @@ fn is_frame(place: Place, last: Option<Taken>, gap: &[u8], word: &[u8]) -> bool
     (place.begins_line && is_marked(gap, word)) || ends_pair(last, gap)
 }
 
-/// Whether what stands before a word says that it is a caller's.
+/// Whether the bytes before a word say that it is a caller's.
 fn says_caller(place: Place, gap: &[u8]) -> bool
     ensures { result ≡ says_caller place gap.now }
 {
@@ -221,14 +222,14 @@ fn is_caller(
     }
 }
 
-/// Whether the address before is the same, and no `:` or `=` stands between.
+/// Whether the address before is this number, with no `:` or `=` between.
 fn repeats(last: Taken, gap: &[u8], value: u64) -> bool
     ensures { result ≡ repeats last gap.now value }
 {
     last.value == value && !has_sign(gap)
 }
 
-/// The bytes from a place up to another one, if it is behind it.
+/// The bytes from a place up to another one, or none if that is not behind it.
 fn between(line: &[u8], start: usize, end: usize) -> &[u8]
     requires { end ≤ length line.now }
     ensures { result.now ≡ part line.now start end }
@@ -284,7 +285,7 @@ fn ends_user(line: &[u8]) -> bool
     has_words(b"Krnl", line) || has_words(b"Call Trace", line)
 }
 
-/// Whether the bytes begin them.
+/// Whether the bytes begin the registers of a program.
 fn begins_user(bytes: &[u8]) -> bool
     ensures { result ≡ begins_user bytes.now }
 {
@@ -294,7 +295,7 @@ fn begins_user(bytes: &[u8]) -> bool
     has_words(b"User PSW", bytes)
 }
 
-/// Whether the line says where the processor was.
+/// Whether the line has the word `RIP`, `EIP` or `NIP`.
 fn tells_place(line: &[u8]) -> bool
     ensures { result ≡ tells_place line.now }
 {
@@ -311,7 +312,7 @@ fn has_capital(bytes: &[u8]) -> bool
     }
 }
 
-/// Whether `Code:` stands among the bytes.
+/// Whether the bytes have `Code:`.
 fn has_code(bytes: &[u8]) -> bool
     ensures { result ≡ has_code bytes.now }
 {
@@ -325,7 +326,7 @@ fn has_code(bytes: &[u8]) -> bool
     false
 }
 
-/// Whether these words stand among the bytes.
+/// Whether the bytes have these words.
 fn has_words(words: &[u8], bytes: &[u8]) -> bool
     ensures { result ≡ has_words words.now false bytes.now }
 {
@@ -335,7 +336,7 @@ fn has_words(words: &[u8], bytes: &[u8]) -> bool
     }
 }
 
-/// The same, gone through byte by byte.
+/// Whether the bytes have these words, found byte by byte.
 fn has_words_apart(words: &[u8], bytes: &[u8]) -> bool
     ensures { result ≡ has_words words.now false bytes.now }
 {
@@ -374,7 +375,7 @@ fn next_first(first: First, has_frame: bool, tells: bool) -> First
     }
 }
 
-/// The same behind a line without a frame, where none before it told where the processor was.
+/// How the next first frame is taken behind a line with `RIP`, `EIP` or `NIP`, or without it.
 fn first_behind(tells: bool) -> First
     ensures { result ≡ first_behind tells }
 {

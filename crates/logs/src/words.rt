@@ -1,8 +1,8 @@
 //! The words of a line.
 //!
-//! An address word has eleven bytes at least (eight in a log of a 32-bit kernel), each of which is a
-//! hexadecimal digit or an `x`. So the bytes are passed in leaps of so many: the last of them that is
-//! neither says that no address word has one before it, and the next leap begins behind it:
+//! An address word has eleven bytes at least (eight in a log of a 32-bit kernel), and each is a
+//! hexadecimal digit or an `x`. So the bytes are passed in leaps of eleven: the last of them that
+//! is neither says that no address word has one before it, and the next leap begins behind it:
 //!
 //! ```text
 //!     at 3 of 77 pages [<ffffffff81000108>] ? do_one
@@ -158,7 +158,7 @@ fn behind_word(line: &[u8], start: usize) -> usize
     i
 }
 
-/// The end of the closers that stand at a place.
+/// The end of the closers at a place.
 pub(crate) fn behind_closers(line: &[u8], end: usize) -> usize
     requires { end ≤ length line.now }
     ensures is { result ≡ end + run_of is_closer (drop end line.now) }
@@ -176,8 +176,8 @@ pub(crate) fn behind_closers(line: &[u8], end: usize) -> usize
     i
 }
 
-/// The address that a word is: `0x` or `0X` and 9 to 16 hexadecimal digits, or just 16 of them. In a
-/// log of a 32-bit kernel it has just 8, with the prefix or without it.
+/// The address that a word is: `0x` or `0X` and 9 to 16 hexadecimal digits, or just 16 of them.
+/// In a log of a 32-bit kernel it has just 8, with the prefix or without it.
 pub(crate) fn address_of_word(is_narrow: bool, word: &[u8]) -> Option<u64>
     ensures { result ≡ address_of_word is_narrow word.now }
 {
@@ -196,7 +196,7 @@ pub(crate) fn has_prefix(word: &[u8]) -> bool
     word.starts_with(b"0x") || word.starts_with(b"0X")
 }
 
-/// The number that so many hexadecimal digits at least, and so many at most, write.
+/// The number that hexadecimal digits write, if there are as many as asked for.
 fn digits_between(least: usize, most: usize, digits: &[u8]) -> Option<u64>
     ensures { result ≡ digits_between least most digits.now }
 {
