@@ -65,7 +65,8 @@ impl Annotator {
             (λ _. Passes (A.answering answers.now) self.old self.new bytes.now)
             writer.old writer.new result }
     {
-        let mut out = Vec::with_capacity(alloc, bytes.len())?;
+        let room = self.begun.len().saturating_add(bytes.len());
+        let mut out = Vec::with_capacity(alloc, room)?;
         self.pass_bytes(answers, bytes, &mut out)?;
         put_now(writer, &out)
     }
