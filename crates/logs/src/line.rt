@@ -1,4 +1,13 @@
 //! A line of a log with the texts of its answers.
+//!
+//! The line is gone through from one word to the next that may be an address. The bytes up to an
+//! insertion are put at once, and so is the rest:
+//!
+//! ```text
+//!     at [<ffffffff81000108>] of 3 pages
+//!     |---------------------|                       put, and then ` do_one+0x8/0x1f00`
+//!                            |----------|           put at the end
+//! ```
 ghost use Rattle.std.specs.Prelude.{◌≡◌, ◌≤◌, ◌<◌, ◌++◌, ◌∷◌, length, option_map, IfOk};
 ghost use Rattle.std.specs.List.{list_any};
 ghost use Rattle.logs.specs.TakenWords.{taken_in};

@@ -1,4 +1,13 @@
 //! How the address words of a line are taken.
+//!
+//! A word is taken by the gap before it, which begins behind the address word before, or with the
+//! line. So each byte is looked at once, however many addresses a line has:
+//!
+//! ```text
+//!     [   52.1]  [<ffffffff81000108>] from 0xffffffff81000110
+//!     |----------|                                            prefix and marks: a frame
+//!                                   |------|                  a label: a caller's
+//! ```
 ghost use Rattle.std.specs.Prelude.{◌≡◌, ◌≤◌, ◌<◌, ◌||◌, ◌==◌, false, length, reverse, take, drop};
 ghost use Rattle.std.specs.List.{list_any};
 ghost use Rattle.logs.specs.Places.{prefix_end, without_end};
