@@ -2,7 +2,7 @@
 use Rattle.std.proofs.Common.{◌≡◌, ◌∙◌, ℕ, ◌+◌, ◌<◌, ◌≤◌, Bool, true, false, cond, ◌||◌, ◌==◌, List, [], ◌∷◌, ◌++◌, length, take, get_or, length-append, refl, sym, ap, subst, append_assoc, append-nil, arith, true≢false}
 use Rattle.std.specs.List.{onto_first}
 use Rattle.std.proofs.lemmas.Bool.{eq-eqb, eqb-true, false_from_ne_true, lt-ltb, ltb-true}
-use Rattle.logs.proofs.TextLemmas.{at_default, none_up_to}
+use Rattle.logs.proofs.TextLemmas.{at_default, none_up_to, or_left, or_right}
 use Rattle.std.proofs.lemmas.List.{take_more}
 use Rattle.memchr.specs.Find.{Nowhere, Passes as HasByte, is_byte}
 use Rattle.logs.specs.Answering.{Answering}
@@ -11,14 +11,6 @@ use Rattle.logs.specs.AnnotatedLogs.{annotated_line, annotated_lines, annotated_
 use Rattle.logs.specs.Annotation.{Adds, Ended, Ends, IsOpen, Passes, held_in, kept_of, put_of}
 use Rattle.logs.specs.declared.annotator.Annotator.{Annotator}
 use Rattle.logs.specs.declared.held.Held.{Held}
-
-or_left : (a b : Bool) → (a || b) ≡ false → a ≡ false
-or_left false b e = refl
-or_left true b e = e
-
-or_right : (a b : Bool) → (a || b) ≡ false → b ≡ false
-or_right false b e = e
-or_right true b e = absurd (true≢false e)
 
 no_end_behind : (xs ys : List ℕ) → has_end xs ≡ false → has_end ys ≡ false → has_end (xs ++ ys) ≡ false
 no_end_behind [] ys p q = q

@@ -20,6 +20,10 @@ fewest narrow = if narrow then 8 else 11
 abbrev pub is_address_byte : ℕ → Bool
 is_address_byte b = is_digit b 16 || b == 120 || b == 88
 
+-- a `P` is among the bytes, as it is in `RIP`, `EIP`, `NIP` and `PSW`
+abbrev pub has_capital : List ℕ → Bool
+has_capital bytes = list_any (λ b. b == 80) bytes
+
 -- the words that are addresses
 abbrev pub address_words : Bool → List ℕ → List Word → List Word
 address_words narrow line [] = []

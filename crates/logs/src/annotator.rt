@@ -10,13 +10,14 @@
 //! ```
 //!
 //! So each line is named as a whole, by what answers when its end comes.
-ghost use Rattle.std.specs.Prelude.{◌≡◌, ◌<◌, ◌++◌, [], false, length};
+ghost use Rattle.std.specs.Prelude.{◌≡◌, ◌<◌, ◌++◌, [], false, length, take};
 ghost use Rattle.std.specs.Prelude.{IfErr, IfNone, IfOk, IfSome, OnErr};
 ghost use Rattle.texts.specs.Output.{Delivered, WrotePart, error_in};
 ghost use Rattle.logs.specs.Answering.{Answering};
 ghost use Rattle.logs.specs.AnnotatedLogs.{first_held};
 ghost use Rattle.logs.specs.Annotation.{Adds, Ends, IsOpen, IsWriteFault, Passes, Puts, held_in};
 ghost use Rattle.logs.specs.Lines.{IsLine, has_end};
+ghost use Rattle.logs.specs.Progress.{has_capital};
 
 use crate::annotation::LogFault;
 use crate::answers::Answers;
@@ -99,10 +100,13 @@ impl Annotator {
             (Passes (A.answering answers.now) self.old self.new bytes.now)) }
     {
         let mut rest = bytes;
+        let mut clear = 0;
         loop {
             match cut_line(rest) {
                 Some((line, more)) => {
-                    self.pass_line(answers, line, out)?;
+                    let without = clear_bytes(rest, clear, line.len());
+                    self.pass_line(answers, line, line.len() > without, out)?;
+                    clear = without.saturating_sub(line.len());
                     rest = more;
                 }
                 None => {
@@ -113,14 +117,16 @@ impl Annotator {
         }
     }
 
-    /// Puts the line that these bytes end.
+    /// Puts the line that these bytes end. It is known whether they may have a `P`.
     fn pass_line<A: Answers>(
         &mut self,
         answers: &A,
         line: &[u8],
+        may_tell: bool,
         out: &mut Vec<u8>,
     ) -> Result<(), AllocError>
-        requires { IsLine line.now }
+        requires line { IsLine line.now }
+        requires sign { may_tell ≡ false → has_capital line.now ≡ false }
         ensures { IfOk result (λ _. Adds out.old.items out.new.items
             (Passes (A.answering answers.now) self.old self.new line.now)) }
     {
@@ -130,11 +136,11 @@ impl Annotator {
             return Ok(());
         }
         if self.begun.is_empty() {
-            put_line(answers, &mut self.held, line, out)?;
+            put_line(answers, &mut self.held, line, may_tell, out)?;
             return Ok(());
         }
         self.begun.extend_from_slice(line)?;
-        put_line(answers, &mut self.held, &self.begun, out)?;
+        put_line(answers, &mut self.held, &self.begun, true, out)?;
         self.begun.clear();
         Ok(())
     }
@@ -167,7 +173,7 @@ impl Annotator {
         if self.begun.is_empty() {
             return Ok(held.names);
         }
-        put_line(answers, &mut held, &self.begun, out)?;
+        put_line(answers, &mut held, &self.begun, true, out)?;
         Ok(held.names)
     }
 }
@@ -182,6 +188,21 @@ fn cut_line(bytes: &[u8]) -> Option<(&[u8], &[u8])>
     match memchr(b'\n', bytes) {
         Some(end) => Some((&bytes[..end + 1], &bytes[end + 1..])),
         None => None,
+    }
+}
+
+/// How many bytes the bytes begin with that have no `P`: as many as are known, if these are as many as
+/// are wanted.
+fn clear_bytes(bytes: &[u8], known: usize, wanted: usize) -> usize
+    requires { has_capital (take known bytes.now) ≡ false }
+    ensures { has_capital (take result bytes.now) ≡ false }
+{
+    if wanted <= known {
+        return known;
+    }
+    match memchr(b'P', bytes) {
+        Some(place) => place,
+        None => bytes.len(),
     }
 }
 

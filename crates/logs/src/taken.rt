@@ -12,6 +12,7 @@ ghost use Rattle.std.specs.Prelude.{◌≡◌, ◌≤◌, ◌<◌, ◌||◌, ◌
 ghost use Rattle.std.specs.List.{list_any};
 ghost use Rattle.logs.specs.Places.{prefix_end, without_end};
 ghost use Rattle.logs.specs.TakenWords.{begins_apart, begins_user, ends_pair, ends_user};
+ghost use Rattle.logs.specs.Progress.{has_capital};
 ghost use Rattle.logs.specs.TakenWords.{first_behind, gap_before, gap_start, has_bracket};
 ghost use Rattle.logs.specs.TakenWords.{has_code, has_words, is_caller};
 ghost use Rattle.logs.specs.TakenWords.{is_exact, is_foreign, is_frame, is_marked, is_user_line};
@@ -313,7 +314,7 @@ fn tells_place(line: &[u8]) -> bool
 
 /// Whether a `P` is among the bytes, as it is in `RIP`, `EIP`, `NIP` and `PSW`. Mostly it is not.
 fn has_capital(bytes: &[u8]) -> bool
-    ensures { result ≡ list_any (λ b. b == 80) bytes.now }
+    ensures { result ≡ has_capital bytes.now }
 {
     match memchr(b'P', bytes) {
         Some(_) => true,
@@ -391,13 +392,21 @@ fn first_behind(tells: bool) -> First
     if tells { First::Kept } else { First::Exact }
 }
 
-/// What is carried on behind a line with a frame or without one, and these names.
-pub(crate) fn held_after(held: Held, line: &[u8], has_frame: bool, names: LogNames) -> Held
+/// What is carried on behind a line with a frame or without one, and these names. It is known whether
+/// the line may have a `P`.
+pub(crate) fn held_after(
+    held: Held,
+    line: &[u8],
+    may_tell: bool,
+    has_frame: bool,
+    names: LogNames,
+) -> Held
+    requires { may_tell ≡ false → has_capital line.now ≡ false }
     ensures first { result.first ≡ next_first held.first has_frame (tells_place line.now) }
     ensures user { result.is_user ≡ (is_user_line held line.now || begins_user line.now) }
     ensures names { result.names ≡ names }
 {
-    if !has_capital(line) {
+    if !may_tell {
         return Held {
             first: next_first(held.first, has_frame, false),
             is_user: is_user_line(held, line),
