@@ -1,0 +1,14 @@
+-- lines that are cut off
+pub mod LineLemmas
+-- blocks that are read and written one after the other
+pub mod AnnotationLemmas
+-- texts that begin bytes
+pub mod TextLemmas
+-- the things that begin a line
+pub mod PlaceLemmas
+-- a table of the bytes of words
+pub mod TableLemmas
+-- words that are too short, and leaps over them
+pub mod WordLemmas
+-- what a failed write leaves
+pub mod PutLemmas
