@@ -14,10 +14,11 @@ import random
 import subprocess
 import sys
 
+sys.path.insert(0, os.path.join(os.path.dirname(os.path.abspath(__file__)), "..", "symbols_alone"))
+from expected import asked, random_bounds, random_listing, read
 from logs import kernel_log, random_log
 from plain import ByModules, BySymbols, Rule
 from rules import LONGEST, annotated, note_of
-from expected import asked, random_bounds, random_listing, read
 
 TWICE = 1000
 

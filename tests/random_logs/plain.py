@@ -1,11 +1,6 @@
 """How the addresses of a log are answered, by plain slow programs: by a listing of symbols alone, or
 with one of modules beside it; as they are, moved, and as those of callers."""
 
-import os
-import re
-import sys
-
-sys.path.insert(0, os.path.join(os.path.dirname(os.path.abspath(__file__)), "..", "symbols_alone"))
 from expected import LINE, LONGEST, Plain
 
 
