@@ -1,0 +1,12 @@
+-- lines that are cut off
+pub mod LineLemmas
+-- blocks that are read and written one after the other
+pub mod AnnotationLemmas
+-- texts that begin bytes
+pub mod TextLemmas
+-- the things that begin a line
+pub mod PlaceLemmas
+-- a table of the bytes of words
+pub mod TableLemmas
+-- what a failed write leaves
+pub mod PutLemmas

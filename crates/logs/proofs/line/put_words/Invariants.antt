@@ -1,0 +1,20 @@
+use Rattle.std.proofs.Common.{◌≡◌, ◌≤◌, ◌-◌, ◌++◌, length}
+use Rattle.std.specs.List.{list_any}
+use Rattle.logs.specs.AnnotatedLogs.{counted, woven}
+use Rattle.logs.specs.Progress.{framed, owed, tallied}
+use Rattle.logs.specs.TakenWords.{taken_in}
+use Rattle.logs.specs.Words.{words_behind}
+use Rattle.logs.proofs.line.put_words.Given as goal
+
+-- what is put, and what is still owed, is the line with what is inserted
+abbrev pub invariant-loop-word : goal.invariant-loop-word
+invariant-loop-word g l = record {
+  text : l.out.items ++ owed (g.A.Answers.answering l.fn.answers) l.held l.line l.progress (words_behind l.line l.progress.at) ≡ l.fn.out.items ++ woven (g.A.Answers.answering l.fn.answers) l.line 0 (taken_in (g.A.Answers.answering l.fn.answers).is_narrow l.held l.line);
+  frame : framed (g.A.Answers.answering l.fn.answers) l.held l.line l.progress (words_behind l.line l.progress.at) ≡ list_any (λ t. t.is_frame) (taken_in (g.A.Answers.answering l.fn.answers).is_narrow l.held l.line);
+  names : tallied (g.A.Answers.answering l.fn.answers) l.held l.line l.progress (words_behind l.line l.progress.at) ≡ counted (g.A.Answers.answering l.fn.answers) l.line l.held.names (taken_in (g.A.Answers.answering l.fn.answers).is_narrow l.held l.line);
+  within : l.progress.at ≤ length l.line;
+  put : l.progress.put ≤ l.progress.at;
+}
+
+abbrev pub decreases-loop-word : goal.decreases-loop-word
+decreases-loop-word g l = length l.line - l.progress.at

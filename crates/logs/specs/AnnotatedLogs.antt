@@ -1,0 +1,104 @@
+-- A log with the text of the answer behind each address that stands in it, line by line.
+use Rattle.std.specs.Prelude.{ℕ, ◌+◌, ◌-◌, ◌||◌, Bool, false, if◌then◌else◌, nat_eq}
+use Rattle.std.specs.Prelude.{List, [], ◌∷◌, ◌++◌, length, take, drop, codes, Option, None, Some}
+use Rattle.std.specs.List.{ends_with, list_any, starts_with}
+use Rattle.std.specs.Option.{option_map_or}
+use Rattle.logs.specs.Answering.{Answering}
+use Rattle.logs.specs.Lines.{is_long, lines}
+use Rattle.logs.specs.LogNames.{no_names, with_address}
+use Rattle.logs.specs.TakenWords.{begins_user, is_user_line, next_first, taken_in, tells_place}
+use Rattle.logs.specs.Words.{is_closer, part, run_of}
+use Rattle.logs.specs.declared.held.Held.{Held}
+use Rattle.logs.specs.declared.held.First.TheVariants as first
+use Rattle.logs.specs.declared.log_names.LogNames.{LogNames}
+use Rattle.logs.specs.declared.taken.Taken.{Taken}
+
+-- nothing was seen
+abbrev pub first_held : Held
+first_held = record { first = first.Exact; is_user = false; names = no_names }
+
+-- the bytes without a `]` at their end
+abbrev pub without_bracket : List ℕ → List ℕ
+without_bracket text =
+    if ends_with nat_eq text (codes "]") then take (length text - 1) text else text
+
+-- A blank and the text stand there already, perhaps with `? ` or `(` between, up to a `]` at its end.
+abbrev pub says_itself : List ℕ → List ℕ → Bool
+says_itself rest text =
+    let said = drop 1 (without_bracket text) in
+    starts_with nat_eq rest (codes " " ++ said) || starts_with nat_eq rest (codes " ? " ++ said)
+    || starts_with nat_eq rest (codes " (" ++ said)
+
+-- the place behind the closers of a word
+abbrev pub place_behind : List ℕ → Taken → ℕ
+place_behind line t = t.word.end + run_of is_closer (drop t.word.end line)
+
+-- the text, unless it stands there already
+abbrev pub unless_said : List ℕ → Option (List ℕ) → Option (List ℕ)
+unless_said rest None = None
+unless_said rest (Some text) = if says_itself rest text then None else Some text
+
+-- the text of the answer, if it has one and the address is of this kernel
+abbrev pub text_for : Answering → Taken → Option (List ℕ)
+text_for answer t = if t.is_foreign then None else answer.text t.is_caller t.value
+
+-- what is inserted: the text of the answer, unless the log says it itself
+abbrev pub inserted : Answering → List ℕ → Taken → Option (List ℕ)
+inserted answer line t = unless_said (drop (place_behind line t) line) (text_for answer t)
+
+-- the line from a place on, with what is inserted behind its address words
+abbrev pub woven : Answering → List ℕ → ℕ → List Taken → List ℕ
+woven answer line at [] = drop at line
+woven answer line at (t ∷ more) =
+    option_map_or
+    (λ text. part line at (place_behind line t) ++ text
+    ++ woven answer line (place_behind line t) more)
+    (inserted answer line t) (woven answer line at more)
+
+-- what is counted, behind these address words more
+abbrev pub counted : Answering → List ℕ → LogNames → List Taken → LogNames
+counted answer line names [] = names
+counted answer line names (t ∷ more) =
+    counted answer line
+    (with_address answer t (drop (place_behind line t) line) (text_for answer t) names) more
+
+-- a line of at most `longest` bytes
+unfoldable pub annotated_short : Answering → Held → List ℕ → List ℕ
+annotated_short answer held line = woven answer line 0 (taken_in answer.is_narrow held line)
+
+-- what is carried on behind it
+unfoldable pub held_short : Answering → Held → List ℕ → Held
+held_short answer held line =
+    let taken = taken_in answer.is_narrow held line in
+    record {
+      first = next_first held.first (list_any (λ t. t.is_frame) taken) (tells_place line);
+      is_user = is_user_line held line || begins_user line;
+      names = counted answer line held.names taken;
+    }
+
+-- A line with the texts of its answers. A longer one stays as it is.
+abbrev pub annotated_line : Answering → Held → List ℕ → List ℕ
+annotated_line answer held line =
+    if is_long line then line else annotated_short answer held line
+
+-- what is carried on behind a line: nothing of a longer one
+abbrev pub held_behind : Answering → Held → List ℕ → Held
+held_behind answer held line =
+    if is_long line then held else held_short answer held line
+
+-- lines with their texts; and what is carried on behind them
+abbrev pub annotated_lines : Answering → Held → List (List ℕ) → List ℕ
+annotated_lines answer held [] = []
+annotated_lines answer held (line ∷ more) =
+    annotated_line answer held line ++ annotated_lines answer (held_behind answer held line) more
+
+abbrev pub held_over : Answering → Held → List (List ℕ) → Held
+held_over answer held [] = held
+held_over answer held (line ∷ more) = held_over answer (held_behind answer held line) more
+
+-- a whole log; and its names
+abbrev pub annotated : Answering → List ℕ → List ℕ
+annotated answer log = annotated_lines answer first_held (lines log)
+
+abbrev pub names_of : Answering → List ℕ → LogNames
+names_of answer log = (held_over answer first_held (lines log)).names

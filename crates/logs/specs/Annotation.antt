@@ -1,0 +1,165 @@
+-- What was read of a log, and what was written for it.
+use Rattle.std.specs.Prelude.{◌≡◌, ℕ, ◌-◌, ◌^◌, ◌≤◌, ◌⊎◌, true, false, List, [], ◌++◌}
+use Rattle.std.specs.Prelude.{if◌then◌else◌, length, Option, Result, Ok, Err}
+use Rattle.std.specs.Io.KnownBytes.{Appends, Consumes, IsAtEnd}
+use Rattle.std.specs.declared.io.Error.{Error}
+use Rattle.texts.specs.declared.counted.Counted.{Counted}
+use Rattle.texts.specs.Counted.{NoneFailed, Rose, device_of, failures_of}
+use Rattle.texts.specs.declared.output.Output.{Output}
+use Rattle.texts.specs.Output.{Delivered, WrotePart, error_in, has_failed, is_flushed, writer_of}
+use Rattle.texts.specs.Output.{IsBrokenPipe, IsNoBrokenPipe}
+use Rattle.logs.specs.Answering.{Answering}
+use Rattle.logs.specs.AnnotatedLogs.{annotated, annotated_lines, held_over, names_of}
+use Rattle.logs.specs.Lines.{AreWhole, has_end, is_long, lines}
+use Rattle.logs.specs.declared.annotation.LogFault.{LogFault}
+use Rattle.logs.specs.declared.annotation.LogFault.TheVariants as fault
+use Rattle.logs.specs.declared.annotator.Annotator.{Annotator}
+use Rattle.logs.specs.declared.held.Held.{Held}
+use Rattle.logs.specs.declared.log_names.LogNames.{LogNames}
+
+-- ---- the lines of a log as its blocks come
+
+-- of a line without an end: what is put already, all of one that is too long; and what is kept
+abbrev pub put_of : List ℕ → List ℕ
+put_of line = if is_long line then line else []
+
+abbrev pub kept_of : List ℕ → List ℕ
+kept_of line = if is_long line then [] else line
+
+-- what is carried on behind the lines that were put
+abbrev pub held_in : Annotator → Held
+held_in a = a.held
+
+-- Behind the lines that were put stands this one, which has no end yet.
+pub record IsOpen (a : Annotator) (line : List ℕ) : Type 0 where
+  pub no_end : has_end line ≡ false
+  pub long : a.is_long ≡ is_long line
+  pub kept : a.begun.items ≡ kept_of line
+
+-- With these bytes, behind an open line, the lines that have their end now are put, each annotated,
+-- and what is put of the line that is open behind them.
+pub record Passed (answer : Answering) (a a' : Annotator) (line bytes text : List ℕ) : Type 0 where
+  pub passed : List ℕ
+  pub line' : List ℕ
+  pub parts : line ++ bytes ≡ passed ++ line'
+  pub whole : AreWhole passed
+  pub is_open : IsOpen a' line'
+  pub held : held_in a' ≡ held_over answer (held_in a) (lines passed)
+  pub put : put_of line ++ text ≡ annotated_lines answer (held_in a) (lines passed) ++ put_of line'
+
+abbrev pub Passes : Answering → Annotator → Annotator → List ℕ → List ℕ → Type 0
+Passes answer a a' bytes text =
+    (line : List ℕ) → IsOpen a line → Passed answer a a' line bytes text
+
+-- Where no more bytes come, the open line is put as the last one, and these are the names.
+pub record Ended (answer : Answering) (a : Annotator) (line : List ℕ) (names : LogNames)
+    (text : List ℕ) : Type 0 where
+  pub names_are : names ≡ (held_over answer (held_in a) (lines line)).names
+  pub put : put_of line ++ text ≡ annotated_lines answer (held_in a) (lines line)
+
+abbrev pub Ends : Answering → Annotator → LogNames → List ℕ → Type 0
+Ends answer a names text = (line : List ℕ) → IsOpen a line → Ended answer a line names text
+
+-- ---- what is written
+
+-- to bytes a text was added of which this holds
+abbrev pub Adds : List ℕ → List ℕ → (List ℕ → Type 0) → Type 0
+Adds out out' P = (text : List ℕ) × (out' ≡ out ++ text) × P text
+
+-- the fault that a failed write is with this error: nobody reads any more exactly where it says so
+abbrev pub IsWriteFault : Option Error → LogFault → Type 0
+IsWriteFault error fault.Write = IsNoBrokenPipe error
+IsWriteFault error fault.Closed = IsBrokenPipe error
+IsWriteFault error _ = ⊥
+
+-- A text was written, and nothing is kept back; or nothing was done; or a call failed, and a beginning
+-- of a text was written. This holds of what is returned and of the text.
+abbrev pub Puts : {W X : Type 0} → (W → Option (List ℕ)) → (X → List ℕ → Type 0) → Output W
+    → Output W → Result X LogFault → Type 0
+Puts contents P w w' (Ok x) = (text : List ℕ) × Delivered contents w w' text × P x text
+Puts {W} {X} contents P w w' (Err fault.OutOfMemory) = w' ≡ w
+Puts {W} {X} contents P w w' (Err fault.Write) =
+    ((text : List ℕ) × (x : X) × WrotePart contents w w' text × P x text)
+    × IsNoBrokenPipe (error_in w')
+Puts {W} {X} contents P w w' (Err fault.Closed) =
+    ((text : List ℕ) × (x : X) × WrotePart contents w w' text × P x text)
+    × IsBrokenPipe (error_in w')
+Puts contents P w w' (Err _) = ⊥
+
+-- ---- a whole log
+
+-- the annotated log begins with what was written, whatever comes behind what was read
+abbrev pub Begins : Answering → List ℕ → List ℕ → Type 0
+Begins answer written read =
+    (more : List ℕ) → (rest : List ℕ) × (annotated answer (read ++ more) ≡ written ++ rest)
+
+-- What was written are the whole lines that were read, annotated, and the line behind them as far as
+-- it was read, if it is too long to be annotated.
+pub record IsUpToDate (answer : Answering) (written read : List ℕ) : Type 0 where
+  pub passed : List ℕ
+  pub line : List ℕ
+  pub parts : read ≡ passed ++ line
+  pub whole : AreWhole passed
+  pub no_end : has_end line ≡ false
+  pub is_written : written ≡ annotated answer passed ++ put_of line
+  pub begins : Begins answer written read
+
+-- The reader gave these bytes, and this was written.
+pub record Moves {R W : Type 0} (remaining : R → Option (List ℕ)) (contents : W → Option (List ℕ))
+    (r r' : Counted R) (w w' : Output W) (read written : List ℕ) : Type 0 where
+  pub consumed : Consumes (remaining (device_of r)) (remaining (device_of r')) read
+  pub appended : Appends (contents (writer_of w)) (contents (writer_of w')) written
+
+-- Some bytes were read and written, of which this holds.
+abbrev pub MovesSome : {R W : Type 0} → (R → Option (List ℕ)) → (W → Option (List ℕ))
+    → Counted R → Counted R → Output W → Output W → (List ℕ → List ℕ → Type 0) → Type 0
+MovesSome remaining contents r r' w w' P =
+    (read : List ℕ) × (written : List ℕ) × Moves remaining contents r r' w w' read written
+    × P written read
+
+-- The log was read to its end, and what was written is a beginning of the annotated log.
+abbrev pub IsEnding : {R : Type 0} → (R → Option (List ℕ)) → Answering → Counted R → List ℕ
+    → List ℕ → Type 0
+IsEnding remaining answer r' written log =
+    IsAtEnd (remaining (device_of r'))
+    × (rest : List ℕ) × (annotated answer log ≡ written ++ rest)
+
+-- A call of the writer failed, and what was written until then is a beginning of the annotated log.
+abbrev pub IsCutOff : {R W : Type 0} → (R → Option (List ℕ)) → (W → Option (List ℕ)) → Answering
+    → Counted R → Counted R → Output W → Output W → Type 0
+IsCutOff remaining contents answer r r' w w' =
+    NoneFailed r r' × (has_failed w' ≡ true)
+    × (MovesSome remaining contents r r' w w' (Begins answer)
+    ⊎ MovesSome remaining contents r r' w w' (IsEnding remaining answer r'))
+
+-- the writer was not called, or a flush was its last call
+abbrev pub KeepsNothingBack : {W : Type 0} → Output W → Output W → Type 0
+KeepsNothingBack w w' = (w' ≡ w) ⊎ (is_flushed w' ≡ true)
+
+-- No call of the writer failed, it keeps nothing back, and this was read and written.
+abbrev pub IsSound : {R W : Type 0} → (R → Option (List ℕ)) → (W → Option (List ℕ))
+    → Counted R → Counted R → Output W → Output W → (List ℕ → List ℕ → Type 0) → Type 0
+IsSound remaining contents r r' w w' P =
+    (has_failed w' ≡ has_failed w) × KeepsNothingBack w w'
+    × MovesSome remaining contents r r' w w' P
+
+-- what is returned
+abbrev pub Annotates : {R W : Type 0} → (R → Option (List ℕ)) → (W → Option (List ℕ)) → Answering
+    → Counted R → Counted R → Output W → Output W → Result LogNames LogFault → Type 0
+Annotates remaining contents answer r r' w w' (Ok names) =
+    NoneFailed r r' × (has_failed w' ≡ false) × (is_flushed w' ≡ true)
+    × MovesSome remaining contents r r' w w' (λ written log.
+    IsAtEnd (remaining (device_of r')) × (written ≡ annotated answer log)
+    × (names ≡ names_of answer log))
+Annotates remaining contents answer r r' w w' (Err fault.OutOfMemory) =
+    NoneFailed r r' × IsSound remaining contents r r' w w' (Begins answer)
+Annotates remaining contents answer r r' w w' (Err fault.TooLong) =
+    NoneFailed r r' × IsSound remaining contents r r' w w' (λ written read.
+    IsUpToDate answer written read × (2 ^ 64 - 1 ≤ length read))
+Annotates remaining contents answer r r' w w' (Err fault.Read) =
+    Rose (failures_of r) (failures_of r')
+    × IsSound remaining contents r r' w w' (IsUpToDate answer)
+Annotates remaining contents answer r r' w w' (Err fault.Write) =
+    IsCutOff remaining contents answer r r' w w' × IsNoBrokenPipe (error_in w')
+Annotates remaining contents answer r r' w w' (Err fault.Closed) =
+    IsCutOff remaining contents answer r r' w w' × IsBrokenPipe (error_in w')

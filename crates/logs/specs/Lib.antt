@@ -1,0 +1,18 @@
+-- how the addresses of a log are answered
+pub mod Answering
+-- the lines of a log
+pub mod Lines
+-- the words of a line, and the addresses that words are
+pub mod Words
+-- where an address word stands in its line
+pub mod Places
+-- how the address words of a line are taken
+pub mod TakenWords
+-- the names that a log has itself, and how many there are
+pub mod LogNames
+-- what is carried from line to line, and a log with the answers' texts
+pub mod AnnotatedLogs
+-- what was read of a log, and what was written for it
+pub mod Annotation
+-- a line that is put word by word
+pub mod Progress

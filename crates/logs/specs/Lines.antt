@@ -1,0 +1,29 @@
+-- The lines of a log.
+use Rattle.std.specs.Prelude.{◌≡◌, ℕ, Bool, List, [], ◌∷◌, ◌++◌, ◌==◌, if◌then◌else◌}
+use Rattle.std.specs.Prelude.{false, length, nat_lt}
+use Rattle.std.specs.List.{list_any, onto_first}
+
+-- A line has the byte 10 that ends it. What stands behind the last of these is a line too, unless it
+-- is nothing.
+abbrev pub lines : List ℕ → List (List ℕ)
+lines [] = []
+lines (b ∷ bytes) = if b == 10 then (b ∷ []) ∷ lines bytes else onto_first b (lines bytes)
+
+-- the most bytes of a line that is annotated, and whether a line has more
+abbrev pub longest : ℕ
+longest = 65536
+
+abbrev pub is_long : List ℕ → Bool
+is_long line = nat_lt longest (length line)
+
+-- whether a line ends among the bytes
+abbrev pub has_end : List ℕ → Bool
+has_end bytes = list_any (λ b. b == 10) bytes
+
+-- The bytes are whole lines: what comes behind them is other lines.
+abbrev pub AreWhole : List ℕ → Type 0
+AreWhole bytes = (rest : List ℕ) → lines (bytes ++ rest) ≡ lines bytes ++ lines rest
+
+-- the bytes have one end of a line, at their end
+abbrev pub IsLine : List ℕ → Type 0
+IsLine bytes = (front : List ℕ) × (has_end front ≡ false) × (bytes ≡ front ++ 10 ∷ [])

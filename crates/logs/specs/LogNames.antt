@@ -1,0 +1,90 @@
+-- How many addresses a log has, how many of them have a name, and how often the names that it has
+-- itself behind them are those of the answers.
+use Rattle.std.specs.Prelude.{ℕ, ◌+◌, ◌==◌, ◌&&◌, ◌||◌, Bool, true, false, if◌then◌else◌}
+use Rattle.std.specs.Prelude.{List, [], ◌∷◌, ◌++◌, codes, drop, take, nat_eq, nat_le, nat_lt}
+use Rattle.std.specs.Prelude.{Option, Some, None}
+use Rattle.std.specs.List.{starts_with}
+use Rattle.logs.specs.Answering.{Answering}
+use Rattle.logs.specs.Places.{first_of}
+use Rattle.logs.specs.declared.log_names.LogNames.{LogNames}
+use Rattle.logs.specs.declared.places.Kind.TheVariants as kind
+use Rattle.logs.specs.declared.taken.Taken.{Taken}
+
+-- ---- a text of the form `NAME+0xOFF/0xSIZE`
+
+-- `0xSIZE`, of which one digit is looked at
+abbrev pub begins_size : List ℕ → Bool
+begins_size text =
+    starts_with nat_eq text (codes "/0x") && nat_lt 0 (first_of kind.Hexadecimal (drop 3 text))
+
+-- hexadecimal digits and it; and `+0xOFF/0xSIZE`
+abbrev pub begins_sized : List ℕ → Bool
+begins_sized text =
+    let n = first_of kind.Hexadecimal text in nat_lt 0 n && begins_size (drop n text)
+
+abbrev pub begins_offset : List ℕ → Bool
+begins_offset text = starts_with nat_eq text (codes "+0x") && begins_sized (drop 3 text)
+
+-- the name of such a text
+abbrev pub name_in : List ℕ → Option (List ℕ)
+name_in text =
+    let n = first_of kind.Name text in
+    if nat_lt 0 n && begins_offset (drop n text) then Some (take n text) else None
+
+-- a text without a `? ` or `(` that it begins with
+abbrev pub without_doubt : List ℕ → List ℕ
+without_doubt text =
+    if starts_with nat_eq text (codes "? ") then drop 2 text
+    else if starts_with nat_eq text (codes "(") then drop 1 text
+    else text
+
+-- the name that the log has itself at a place behind an address: behind a blank
+abbrev pub name_behind : List ℕ → Option (List ℕ)
+name_behind [] = None
+name_behind (b ∷ text) = if b == 32 then name_in (without_doubt text) else None
+
+-- ---- how many there are
+
+-- a count and one more, which stays at the greatest u64
+abbrev pub one_more : ℕ → ℕ
+one_more n = if nat_lt n 18446744073709551615 then n + 1 else 18446744073709551615
+
+-- nothing is counted
+abbrev pub no_names : LogNames
+no_names = record { addresses = 0; named = 0; agreeing = 0; disagreeing = 0 }
+
+-- The text of the answer has the name, or it is another name at the same address.
+abbrev pub agrees : Answering → Taken → List ℕ → List ℕ → Bool
+agrees answer t text name =
+    starts_with nat_eq text (codes " " ++ name ++ codes "+")
+    || answer.is_alias t.is_caller t.value name
+
+-- a name more that agrees, or that does not
+abbrev pub with_name : Bool → LogNames → LogNames
+with_name true names = record names { agreeing = one_more names.agreeing }
+with_name false names = record names { disagreeing = one_more names.disagreeing }
+
+-- the name that the log has itself, if it has one
+abbrev pub with_verdict : Answering → Taken → List ℕ → Option (List ℕ) → LogNames → LogNames
+with_verdict answer t text None names = names
+with_verdict answer t text (Some name) names = with_name (agrees answer t text name) names
+
+-- An address more, with its answer's text if it has one, before the rest of its line.
+abbrev pub with_address : Answering → Taken → List ℕ → Option (List ℕ) → LogNames → LogNames
+with_address answer t rest None names =
+    record names { addresses = one_more names.addresses }
+with_address answer t rest (Some text) names =
+    with_verdict answer t text (name_behind rest)
+    (record names { addresses = one_more names.addresses; named = one_more names.named })
+
+-- ---- what they say of the listing
+
+-- The log is of another boot than the listing: five names or more do not agree, and these are more
+-- than those that do.
+abbrev pub is_of_another_boot : LogNames → Bool
+is_of_another_boot names =
+    nat_le 5 names.disagreeing && nat_lt names.agreeing names.disagreeing
+
+-- It has five addresses or more, and none has a name.
+abbrev pub is_unnamed : LogNames → Bool
+is_unnamed names = nat_le 5 names.addresses && nat_eq names.named 0

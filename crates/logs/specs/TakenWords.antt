@@ -1,0 +1,177 @@
+-- How the address words of a line are taken.
+use Rattle.std.specs.Prelude.{ℕ, ◌==◌, ◌||◌, ◌&&◌, not, Bool, true, false, if◌then◌else◌}
+use Rattle.std.specs.Prelude.{List, [], ◌∷◌, length, drop, codes, Option, None, Some, nat_eq}
+use Rattle.std.specs.List.{ends_with, list_any, starts_with}
+use Rattle.std.specs.Option.{option_map_or}
+use Rattle.std.specs.Str.{bytes_eq}
+use Rattle.logs.specs.Places.{begins_numbered, behind_prefix, end_of, has_label, is_closed, is_lead}
+use Rattle.logs.specs.Places.{prefix_end, without_end}
+use Rattle.logs.specs.Words.{address_at, has_prefix, is_word_byte, part, words_behind}
+use Rattle.logs.specs.declared.held.Held.{Held}
+use Rattle.logs.specs.declared.held.First.{First}
+use Rattle.logs.specs.declared.held.First.TheVariants as first
+use Rattle.logs.specs.declared.places.Kind.TheVariants as kind
+use Rattle.logs.specs.declared.taken.Place.{Place}
+use Rattle.logs.specs.declared.taken.Taken.{Taken}
+use Rattle.logs.specs.declared.words.Word.{Word}
+
+-- ---- where a word stands
+
+-- the bytes between the address word before, or the line's begin, and a word
+abbrev pub gap_start : Option Taken → ℕ
+gap_start None = 0
+gap_start (Some t) = t.word.end
+
+abbrev pub gap_before : List ℕ → Option Taken → Word → List ℕ
+gap_before line last w = part line (gap_start last) w.start
+
+-- Behind a prefix a word begins its line where nothing but what may begin one stands between.
+abbrev pub place_behind_prefix : List ℕ → Place
+place_behind_prefix lead = record {
+  begins_line = is_lead 0 lead;
+  is_numbered = begins_numbered lead;
+}
+
+-- The same of a word with these bytes before its marks. Behind another address word there has to be
+-- a prefix.
+abbrev pub place_of : Option Taken → List ℕ → Place
+place_of None head = place_behind_prefix (behind_prefix head)
+place_of (Some t) head =
+    if prefix_end head == 0 then record { begins_line = false; is_numbered = t.place.is_numbered }
+    else place_behind_prefix (behind_prefix head)
+
+-- its one mark is `[`
+abbrev pub has_bracket : List ℕ → Bool
+has_bracket gap = bytes_eq (end_of kind.Mark gap) (codes "[")
+
+-- It has the mark `[<`, a tab directly before it, or `0x`.
+abbrev pub is_marked : List ℕ → List ℕ → Bool
+is_marked gap word =
+    ends_with nat_eq (end_of kind.Mark gap) (codes "[<") || has_prefix word
+    || ends_with nat_eq gap (9 ∷ [])
+
+-- It is the second of `[ADDRESS] [ADDRESS]`, of which the first begins the line.
+abbrev pub ends_pair : Option Taken → List ℕ → Bool
+ends_pair None gap = false
+ends_pair (Some t) gap =
+    t.begins_pair && has_bracket gap && is_closed (without_end kind.Mark gap)
+
+-- it is a frame
+abbrev pub is_frame : Place → Option Taken → List ℕ → List ℕ → Bool
+is_frame place last gap word =
+    (place.begins_line && is_marked gap word) || ends_pair last gap
+
+-- ---- how it is taken
+
+-- What stands before it says that it is a caller's: a label, or `at` in a line whose text begins with
+-- `#` and a digit.
+abbrev pub says_caller : Place → List ℕ → Bool
+says_caller place gap =
+    has_label gap
+    || (place.is_numbered
+    && bytes_eq (end_of kind.Word (without_end kind.LabelGap gap)) (codes "at"))
+
+-- a first frame is taken as it is
+abbrev pub is_exact : First → Bool
+is_exact first.Exact = true
+is_exact first.Frame = false
+is_exact first.Kept = false
+
+-- The address before it in its line is the same, and no `:` or `=` stands between.
+abbrev pub repeats : Taken → List ℕ → ℕ → Bool
+repeats t gap value = t.value == value && not (list_any (λ b. b == 58 || b == 61) gap)
+
+-- As a caller's it is taken where its place says so, where it repeats one that is, or where it is a
+-- frame that is not the first of its trace.
+abbrev pub is_caller : First → Option Taken → List ℕ → Bool → Bool → ℕ → Bool
+is_caller next None gap says is_frame value = says || (is_frame && not (is_exact next))
+is_caller next (Some t) gap says is_frame value =
+    says || (if repeats t gap value then t.is_caller else is_frame && not (is_exact next))
+
+-- ---- words that are not of this kernel
+
+-- the bytes do not begin with one of a word
+abbrev pub begins_apart : List ℕ → Bool
+begins_apart [] = true
+begins_apart (b ∷ bytes) = not (is_word_byte b)
+
+-- these words stand among the bytes, behind one of a word or not
+abbrev pub has_words : List ℕ → Bool → List ℕ → Bool
+has_words words within [] = false
+has_words words within (b ∷ bytes) =
+    (not within && starts_with nat_eq (b ∷ bytes) words
+    && begins_apart (drop (length words) (b ∷ bytes)))
+    || has_words words (is_word_byte b) bytes
+
+-- the line ends the registers of a program; and these bytes begin them
+abbrev pub ends_user : List ℕ → Bool
+ends_user line = has_words (codes "Krnl") false line || has_words (codes "Call Trace") false line
+
+abbrev pub begins_user : List ℕ → Bool
+begins_user bytes = has_words (codes "User PSW") false bytes
+
+-- a program's registers were begun before the line, and it does not end them
+abbrev pub is_user_line : Held → List ℕ → Bool
+is_user_line held line = held.is_user && not (ends_user line)
+
+-- `Code:` stands among the bytes
+abbrev pub has_code : List ℕ → Bool
+has_code [] = false
+has_code (b ∷ bytes) = starts_with nat_eq (b ∷ bytes) (codes "Code:") || has_code bytes
+
+-- none before the word was of this kernel
+abbrev pub was_foreign : Held → List ℕ → Option Taken → Bool
+was_foreign held line None = is_user_line held line
+was_foreign held line (Some t) = t.is_foreign
+
+-- The word is not of this kernel: it is one of a program, or, of 32 bits, a part of its code.
+abbrev pub is_foreign : Bool → Held → List ℕ → Option Taken → List ℕ → Bool
+is_foreign narrow held line last gap =
+    was_foreign held line last || begins_user gap || (narrow && has_code gap)
+
+-- ---- the words of a line
+
+-- an address word, behind another one or as the first of its line
+abbrev pub taken_at : Bool → Held → List ℕ → Option Taken → Word → ℕ → Taken
+taken_at narrow held line last w value =
+    let gap = gap_before line last w in
+    let place = place_of last (without_end kind.Mark gap) in
+    let is_frame = is_frame place last gap (part line w.start w.end) in
+    record {
+      word = w;
+      value = value;
+      place = place;
+      begins_pair = place.begins_line && has_bracket gap;
+      is_frame = is_frame;
+      is_caller = is_caller held.first last gap (says_caller place gap) is_frame value;
+      is_foreign = is_foreign narrow held line last gap;
+    }
+
+-- the address words among the words of a line
+abbrev pub taken_among : Bool → Held → List ℕ → Option Taken → List Word → List Taken
+taken_among narrow held line last [] = []
+taken_among narrow held line last (w ∷ words) =
+    option_map_or
+    (λ value. let t = taken_at narrow held line last w value in
+    t ∷ taken_among narrow held line (Some t) words)
+    (address_at narrow line w) (taken_among narrow held line last words)
+
+-- those of a line
+abbrev pub taken_in : Bool → Held → List ℕ → List Taken
+taken_in narrow held line = taken_among narrow held line None (words_behind line 0)
+
+-- ---- what a line says of the next first frame
+
+-- the line says where the processor was
+abbrev pub tells_place : List ℕ → Bool
+tells_place line =
+    has_words (codes "RIP") false line || has_words (codes "EIP") false line
+    || has_words (codes "NIP") false line
+
+-- how the next first frame is taken, behind a line with a frame or without one
+abbrev pub next_first : First → Bool → Bool → First
+next_first held true tells = first.Frame
+next_first held false true = first.Kept
+next_first first.Frame false false = first.Exact
+next_first first.Exact false false = first.Exact
+next_first first.Kept false false = first.Kept

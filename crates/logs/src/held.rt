@@ -1,0 +1,38 @@
+//! What is carried from one line of a log to the next.
+use crate::log_names::LogNames;
+
+/// How the first frame of the next trace is taken.
+#[derive(Clone, Copy, Debug, Drop)]
+pub enum First {
+    /// As it is: it is the place itself.
+    Exact,
+    /// As a caller: the line before has a frame.
+    Frame,
+    /// As a caller: a line since the last frame told where the processor was.
+    Kept,
+}
+
+/// What is carried from one line of a log to the next.
+#[derive(Clone, Copy, Debug, Drop)]
+pub struct Held {
+    pub first: First,
+    /// Whether the registers of a program were begun.
+    pub is_user: bool,
+    pub names: LogNames,
+}
+
+impl Held {
+    ghost use Rattle.std.specs.Prelude.{◌≡◌};
+    ghost use Rattle.logs.specs.AnnotatedLogs.{first_held};
+
+    /// That of the beginning of a log.
+    pub(crate) fn new() -> Held
+        ensures { result ≡ first_held }
+    {
+        Held {
+            first: First::Exact,
+            is_user: false,
+            names: LogNames::none(),
+        }
+    }
+}

@@ -1,0 +1,205 @@
+//! Names that a log has itself behind its addresses, as `NAME+0xOFF/0xSIZE`.
+//!
+//! The kernel that wrote the log knew its own symbols. So where many of its names are not those of
+//! the answers, the listing is one of another boot:
+//!
+//! ```text
+//! [<ffffffff81000108>] ? do_one+0x8/0x1f00
+//!                     ~~~^^^^^^
+//! ```
+ghost use Rattle.std.specs.Prelude.{◌≡◌, ◌++◌, codes, nat_eq};
+ghost use Rattle.std.specs.List.{starts_with};
+ghost use Rattle.std.specs.Option.{option_copied};
+ghost use Rattle.logs.specs.LogNames.{agrees, begins_offset, begins_size, begins_sized};
+ghost use Rattle.logs.specs.LogNames.{is_of_another_boot, is_unnamed, name_behind, name_in, no_names, one_more};
+ghost use Rattle.logs.specs.LogNames.{with_address, with_name, with_verdict, without_doubt};
+
+use crate::answers::Answers;
+use crate::places::{Kind, first_of};
+use crate::taken::Taken;
+use crate::words::begins_with;
+
+/// How many addresses a log has, and what was found of them. Each count stays at the greatest `u64`.
+#[derive(Clone, Copy, Debug, PartialEq, Eq, Drop)]
+pub struct LogNames {
+    /// The address words of the log.
+    pub addresses: u64,
+    /// Those that have an answer.
+    pub named: u64,
+    /// Those of the latter behind which the log has the answer's symbol itself, or another one at the
+    /// same address.
+    pub agreeing: u64,
+    /// Those behind which it has another name.
+    pub disagreeing: u64,
+}
+
+impl LogNames {
+    /// Nothing is counted.
+    pub(crate) fn none() -> LogNames
+        ensures { result ≡ no_names }
+    {
+        LogNames {
+            addresses: 0,
+            named: 0,
+            agreeing: 0,
+            disagreeing: 0,
+        }
+    }
+
+    /// Whether the log is of another boot than the listing: five names or more do not agree, and
+    /// these are more than those that do.
+    pub fn is_of_another_boot(self) -> bool
+        ensures { result ≡ is_of_another_boot self }
+    {
+        self.disagreeing >= 5 && self.disagreeing > self.agreeing
+    }
+
+    /// Whether the log has five addresses or more, and none of them has a name.
+    pub fn is_unnamed(self) -> bool
+        ensures { result ≡ is_unnamed self }
+    {
+        self.addresses >= 5 && self.named == 0
+    }
+
+    /// One more that agrees, or that does not.
+    fn with_name(self, agrees: bool) -> LogNames
+        ensures { result ≡ with_name agrees self }
+    {
+        if agrees {
+            LogNames {
+                agreeing: one_more(self.agreeing),
+                ..self
+            }
+        } else {
+            LogNames {
+                disagreeing: one_more(self.disagreeing),
+                ..self
+            }
+        }
+    }
+
+    /// An address more, with its answer's text if it has one, before the rest of its line.
+    pub(crate) fn with_address<A: Answers>(
+        self,
+        answers: &A,
+        taken: Taken,
+        rest: &[u8],
+        text: Option<&[u8]>,
+    ) -> LogNames
+        ensures { result ≡ with_address (A.answering answers.now) taken rest.now
+            (option_copied text.entry) self }
+    {
+        let addresses = one_more(self.addresses);
+        match text {
+            None => LogNames { addresses, ..self },
+            Some(text) => {
+                let names = LogNames {
+                    addresses,
+                    named: one_more(self.named),
+                    ..self
+                };
+                names.with_verdict(answers, taken, text, name_behind(rest))
+            }
+        }
+    }
+
+    /// The name that the log has itself behind an address with this text as its answer, if it has one.
+    fn with_verdict<A: Answers>(
+        self,
+        answers: &A,
+        taken: Taken,
+        text: &[u8],
+        name: Option<&[u8]>,
+    ) -> LogNames
+        ensures { result ≡ with_verdict (A.answering answers.now) taken text.now
+            (option_copied name.entry) self }
+    {
+        match name {
+            None => self,
+            Some(name) => self.with_name(agrees(answers, taken, text, name)),
+        }
+    }
+}
+
+/// The count and one more, where a count goes so far.
+fn one_more(count: u64) -> u64
+    ensures { result ≡ one_more count }
+{
+    if count < u64::MAX {
+        count + 1
+    } else {
+        u64::MAX
+    }
+}
+
+/// Whether a name agrees with the answer, which has this text.
+fn agrees<A: Answers>(answers: &A, taken: Taken, text: &[u8], name: &[u8]) -> bool
+    ensures { result ≡ agrees (A.answering answers.now) taken text.now name.now }
+{
+    tells(text, name) || answers.is_alias(taken.is_caller, taken.value, name)
+}
+
+/// Whether the text of an answer begins with a blank, the name and `+`.
+#[tactic(auto, using(crate::proofs::TextLemmas::starts_with_both))]
+fn tells(text: &[u8], name: &[u8]) -> bool
+    ensures { result ≡ starts_with nat_eq text.now (codes " " ++ name.now ++ codes "+") }
+{
+    text.starts_with(b" ") && begins_with(&text[1..], name, b"+")
+}
+
+/// The name that the log itself has before these bytes, at a place behind an address.
+pub(crate) fn name_behind(rest: &[u8]) -> Option<&[u8]>
+    ensures { option_copied result ≡ name_behind rest.now }
+{
+    match rest {
+        [b' ', text @ ..] => name_in(without_doubt(text)),
+        _ => None,
+    }
+}
+
+/// The text without a `? ` or `(` that it begins with.
+fn without_doubt(text: &[u8]) -> &[u8]
+    ensures { result.now ≡ without_doubt text.now }
+{
+    if text.starts_with(b"? ") {
+        &text[2..]
+    } else if text.starts_with(b"(") {
+        &text[1..]
+    } else {
+        text
+    }
+}
+
+/// The name of a text of the form `NAME+0xOFF/0xSIZE`, whatever stands behind it.
+fn name_in(text: &[u8]) -> Option<&[u8]>
+    ensures { option_copied result ≡ name_in text.now }
+{
+    let length = first_of(Kind::Name, text);
+    if length > 0 && begins_offset(&text[length..]) {
+        Some(&text[..length])
+    } else {
+        None
+    }
+}
+
+/// Whether the text begins with `+0xOFF/0xSIZE`.
+fn begins_offset(text: &[u8]) -> bool
+    ensures { result ≡ begins_offset text.now }
+{
+    text.starts_with(b"+0x") && begins_sized(&text[3..])
+}
+
+/// Whether it begins with hexadecimal digits and `/0xSIZE`.
+fn begins_sized(text: &[u8]) -> bool
+    ensures { result ≡ begins_sized text.now }
+{
+    let count = first_of(Kind::Hexadecimal, text);
+    count > 0 && begins_size(&text[count..])
+}
+
+/// Whether the text begins with `/0xSIZE`.
+fn begins_size(text: &[u8]) -> bool
+    ensures { result ≡ begins_size text.now }
+{
+    text.starts_with(b"/0x") && first_of(Kind::Hexadecimal, &text[3..]) > 0
+}

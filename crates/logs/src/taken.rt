@@ -1,0 +1,384 @@
+//! How the address words of a line are taken.
+ghost use Rattle.std.specs.Prelude.{◌≡◌, ◌≤◌, ◌<◌, ◌||◌, ◌==◌, false, length, reverse, take, drop};
+ghost use Rattle.std.specs.List.{list_any};
+ghost use Rattle.logs.specs.Places.{prefix_end, without_end};
+ghost use Rattle.logs.specs.TakenWords.{begins_apart, begins_user, ends_pair, ends_user, gap_before};
+ghost use Rattle.logs.specs.TakenWords.{gap_start, has_bracket, has_code, has_words, is_caller};
+ghost use Rattle.logs.specs.TakenWords.{is_exact, is_foreign, is_frame, is_marked, is_user_line};
+ghost use Rattle.logs.specs.TakenWords.{next_first, place_behind_prefix, place_of, repeats};
+ghost use Rattle.logs.specs.TakenWords.{says_caller, taken_at, tells_place, was_foreign};
+ghost use Rattle.logs.specs.Words.{address_at, begins_joint, is_joined, part};
+ghost use Rattle.logs.specs.declared.places.Kind.TheVariants as kind;
+
+use crate::held::{First, Held};
+use crate::log_names::LogNames;
+use crate::places::{
+    Kind, begins_numbered, end_of, has_label, is_closed, is_lead, prefix_end, without_end,
+};
+use crate::words::{Word, address_of_word, has_prefix, is_word_byte};
+use memchr::memmem;
+
+/// Where an address word stands in its line.
+#[derive(Clone, Copy, Debug, Drop)]
+pub struct Place {
+    /// Whether nothing stands before it but what may begin a line.
+    pub begins_line: bool,
+    /// Whether the line's text behind the prefix begins with `#` and a digit.
+    pub is_numbered: bool,
+}
+
+/// An address word, and how it is taken.
+#[derive(Clone, Copy, Debug, Drop)]
+pub struct Taken {
+    pub word: Word,
+    pub value: u64,
+    pub place: Place,
+    /// Whether it begins its line with the mark `[`.
+    pub begins_pair: bool,
+    /// Whether it is a frame.
+    pub is_frame: bool,
+    /// Whether it is taken as a caller's.
+    pub is_caller: bool,
+    /// Whether it is not of this kernel: one of a program, or a part of its code.
+    pub is_foreign: bool,
+}
+
+/// The fewest bytes of an address word.
+const FEWEST: usize = 8;
+
+/// The address that a word of the line is.
+pub(crate) fn address_at(narrow: bool, line: &[u8], word: Word) -> Option<u64>
+    requires word { word.start < word.end }
+    requires within { word.end ≤ length line.now }
+    ensures { result ≡ address_at narrow line.now word }
+{
+    if word.end - word.start < FEWEST {
+        return None;
+    }
+    if is_joined(line, word) {
+        return None;
+    }
+    address_of_word(narrow, &line[word.start..word.end])
+}
+
+/// Whether one `-` joins the word to another one.
+fn is_joined(line: &[u8], word: Word) -> bool
+    requires word { word.start < word.end }
+    requires within { word.end ≤ length line.now }
+    ensures { result ≡ is_joined line.now word }
+{
+    ends_in_joint(&line[..word.start]) || begins_joint(&line[word.end..])
+}
+
+/// Whether the bytes begin with a `-` and one of a word.
+fn begins_joint(bytes: &[u8]) -> bool
+    ensures { result ≡ begins_joint bytes.now }
+{
+    match bytes {
+        [first, second, ..] => *first == b'-' && is_word_byte(*second),
+        _ => false,
+    }
+}
+
+/// Whether they end in one of a word and a `-`.
+fn ends_in_joint(bytes: &[u8]) -> bool
+    ensures { result ≡ begins_joint (reverse bytes.now) }
+{
+    match bytes {
+        [.., second, first] => *first == b'-' && is_word_byte(*second),
+        _ => false,
+    }
+}
+
+/// An address word, behind another one or as the first of its line.
+pub(crate) fn taken_at(
+    narrow: bool,
+    held: Held,
+    line: &[u8],
+    last: Option<Taken>,
+    word: Word,
+    value: u64,
+) -> Taken
+    requires word { word.start < word.end }
+    requires within { word.end ≤ length line.now }
+    ensures { result ≡ taken_at narrow held line.now last word value }
+{
+    let gap = gap_before(line, last, word);
+    let place = place_of(last, without_end(Kind::Mark, gap));
+    let is_frame = is_frame(place, last, gap, &line[word.start..word.end]);
+    let says = says_caller(place, gap);
+    Taken {
+        word,
+        value,
+        place,
+        begins_pair: place.begins_line && has_bracket(gap),
+        is_frame,
+        is_caller: is_caller(held.first, last, gap, says, is_frame, value),
+        is_foreign: is_foreign(narrow, held, line, last, gap),
+    }
+}
+
+/// The bytes between the address word before, or the line's begin, and a word.
+fn gap_before(line: &[u8], last: Option<Taken>, word: Word) -> &[u8]
+    requires { word.start ≤ length line.now }
+    ensures { result.now ≡ gap_before line.now last word }
+{
+    between(line, gap_start(last), word.start)
+}
+
+/// Where these bytes begin.
+fn gap_start(last: Option<Taken>) -> usize
+    ensures { result ≡ gap_start last }
+{
+    match last {
+        None => 0,
+        Some(last) => last.word.end,
+    }
+}
+
+/// Where a word stands in its line, with these bytes before its marks.
+fn place_of(last: Option<Taken>, head: &[u8]) -> Place
+    ensures { result ≡ place_of last head.now }
+{
+    let end = prefix_end(head);
+    match last {
+        None => place_behind_prefix(&head[end..]),
+        Some(last) => {
+            if end == 0 {
+                return Place {
+                    begins_line: false,
+                    is_numbered: last.place.is_numbered,
+                };
+            }
+            place_behind_prefix(&head[end..])
+        }
+    }
+}
+
+/// Where it stands behind a prefix, and these bytes.
+fn place_behind_prefix(lead: &[u8]) -> Place
+    ensures { result ≡ place_behind_prefix lead.now }
+{
+    Place {
+        begins_line: is_lead(lead),
+        is_numbered: begins_numbered(lead),
+    }
+}
+
+/// Whether the one mark of a word is `[`.
+fn has_bracket(gap: &[u8]) -> bool
+    ensures { result ≡ has_bracket gap.now }
+{
+    end_of(Kind::Mark, gap) == b"[".as_slice()
+}
+
+/// Whether a word has the mark `[<`, a tab directly before it, or `0x`.
+fn is_marked(gap: &[u8], word: &[u8]) -> bool
+    ensures { result ≡ is_marked gap.now word.now }
+{
+    end_of(Kind::Mark, gap).ends_with(b"[<") || has_prefix(word) || gap.ends_with(b"\t")
+}
+
+/// Whether a word is the second of `[ADDRESS] [ADDRESS]`, of which the first begins the line.
+fn ends_pair(last: Option<Taken>, gap: &[u8]) -> bool
+    ensures { result ≡ ends_pair last gap.now }
+{
+    match last {
+        None => false,
+        Some(last) => {
+            last.begins_pair && has_bracket(gap) && is_closed(without_end(Kind::Mark, gap))
+        }
+    }
+}
+
+/// Whether a word is a frame.
+fn is_frame(place: Place, last: Option<Taken>, gap: &[u8], word: &[u8]) -> bool
+    ensures { result ≡ is_frame place last gap.now word.now }
+{
+    (place.begins_line && is_marked(gap, word)) || ends_pair(last, gap)
+}
+
+/// Whether what stands before a word says that it is a caller's.
+fn says_caller(place: Place, gap: &[u8]) -> bool
+    ensures { result ≡ says_caller place gap.now }
+{
+    has_label(gap)
+        || (place.is_numbered
+            && end_of(Kind::Word, without_end(Kind::LabelGap, gap)) == b"at".as_slice())
+}
+
+/// Whether a word is taken as a caller's.
+fn is_caller(
+    next: First,
+    last: Option<Taken>,
+    gap: &[u8],
+    says: bool,
+    is_frame: bool,
+    value: u64,
+) -> bool
+    ensures { result ≡ is_caller next last gap.now says is_frame value }
+{
+    if says {
+        return true;
+    }
+    match last {
+        Some(last) if repeats(last, gap, value) => last.is_caller,
+        _ => is_frame && !is_exact(next),
+    }
+}
+
+/// Whether the address before is the same, and no `:` or `=` stands between.
+fn repeats(last: Taken, gap: &[u8], value: u64) -> bool
+    ensures { result ≡ repeats last gap.now value }
+{
+    last.value == value && !has_sign(gap)
+}
+
+/// The bytes from a place up to another one, if it is behind it.
+fn between(line: &[u8], start: usize, end: usize) -> &[u8]
+    requires { end ≤ length line.now }
+    ensures { result.now ≡ part line.now start end }
+{
+    if start < end { &line[start..end] } else { &[] }
+}
+
+/// Whether a `:` or `=` is among the bytes.
+fn has_sign(bytes: &[u8]) -> bool
+    ensures { result ≡ list_any (λ b. b == 58 || b == 61) bytes.now }
+{
+    bytes.iter().any(|byte| *byte == b':' || *byte == b'=')
+}
+
+/// Whether a first frame is taken as it is.
+fn is_exact(first: First) -> bool
+    ensures { result ≡ is_exact first }
+{
+    match first {
+        First::Exact => true,
+        First::Frame | First::Kept => false,
+    }
+}
+
+/// Whether a word is not of this kernel: one of a program, or a part of its code.
+fn is_foreign(narrow: bool, held: Held, line: &[u8], last: Option<Taken>, gap: &[u8]) -> bool
+    ensures { result ≡ is_foreign narrow held line.now last gap.now }
+{
+    was_foreign(held, line, last) || begins_user(gap) || (narrow && has_code(gap))
+}
+
+/// Whether none before the word was of this kernel.
+fn was_foreign(held: Held, line: &[u8], last: Option<Taken>) -> bool
+    ensures { result ≡ was_foreign held line.now last }
+{
+    match last {
+        None => is_user_line(held, line),
+        Some(last) => last.is_foreign,
+    }
+}
+
+/// Whether a program's registers were begun before the line, and it does not end them.
+fn is_user_line(held: Held, line: &[u8]) -> bool
+    ensures { result ≡ is_user_line held line.now }
+{
+    held.is_user && !ends_user(line)
+}
+
+/// Whether the line ends the registers of a program.
+fn ends_user(line: &[u8]) -> bool
+    ensures { result ≡ ends_user line.now }
+{
+    has_words(b"Krnl", line) || has_words(b"Call Trace", line)
+}
+
+/// Whether the bytes begin them.
+fn begins_user(bytes: &[u8]) -> bool
+    ensures { result ≡ begins_user bytes.now }
+{
+    has_words(b"User PSW", bytes)
+}
+
+/// Whether the line says where the processor was.
+fn tells_place(line: &[u8]) -> bool
+    ensures { result ≡ tells_place line.now }
+{
+    has_words(b"RIP", line) || has_words(b"EIP", line) || has_words(b"NIP", line)
+}
+
+/// Whether `Code:` stands among the bytes.
+fn has_code(bytes: &[u8]) -> bool
+    ensures { result ≡ has_code bytes.now }
+{
+    let mut rest = bytes;
+    while !rest.is_empty() {
+        if rest.starts_with(b"Code:") {
+            return true;
+        }
+        rest = &rest[1..];
+    }
+    false
+}
+
+/// Whether these words stand among the bytes.
+fn has_words(words: &[u8], bytes: &[u8]) -> bool
+    ensures { result ≡ has_words words.now false bytes.now }
+{
+    match memmem::find(bytes, words) {
+        Some(_) => has_words_apart(words, bytes),
+        None => false,
+    }
+}
+
+/// The same, gone through byte by byte.
+fn has_words_apart(words: &[u8], bytes: &[u8]) -> bool
+    ensures { result ≡ has_words words.now false bytes.now }
+{
+    let mut within = false;
+    let mut rest = bytes;
+    while let [byte, more @ ..] = rest {
+        if !within && rest.starts_with(words) && begins_apart(&rest[words.len()..]) {
+            return true;
+        }
+        within = is_word_byte(*byte);
+        rest = more;
+    }
+    false
+}
+
+/// Whether the bytes do not begin with one of a word.
+fn begins_apart(bytes: &[u8]) -> bool
+    ensures { result ≡ begins_apart bytes.now }
+{
+    match bytes {
+        [] => true,
+        [byte, ..] => !is_word_byte(*byte),
+    }
+}
+
+/// How the next first frame is taken, behind a line with a frame or without one.
+fn next_first(first: First, has_frame: bool, tells: bool) -> First
+    ensures { result ≡ next_first first has_frame tells }
+{
+    if has_frame {
+        return First::Frame;
+    }
+    if tells {
+        return First::Kept;
+    }
+    match first {
+        First::Kept => First::Kept,
+        First::Frame | First::Exact => First::Exact,
+    }
+}
+
+/// What is carried on behind a line with a frame or without one, and these names.
+pub(crate) fn held_after(held: Held, line: &[u8], has_frame: bool, names: LogNames) -> Held
+    ensures first { result.first ≡ next_first held.first has_frame (tells_place line.now) }
+    ensures user { result.is_user ≡ (is_user_line held line.now || begins_user line.now) }
+    ensures names { result.names ≡ names }
+{
+    Held {
+        first: next_first(held.first, has_frame, tells_place(line)),
+        is_user: is_user_line(held, line) || begins_user(line),
+        names,
+    }
+}
