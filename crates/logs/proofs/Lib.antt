@@ -8,5 +8,7 @@ pub mod TextLemmas
 pub mod PlaceLemmas
 -- a table of the bytes of words
 pub mod TableLemmas
+-- words that are too short, and leaps over them
+pub mod WordLemmas
 -- what a failed write leaves
 pub mod PutLemmas

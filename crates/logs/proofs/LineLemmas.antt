@@ -1,8 +1,9 @@
 -- The lines that bytes are, and what is put for them.
-use Rattle.std.proofs.Common.{◌≡◌, ◌∙◌, ℕ, zero, suc, ◌+◌, ◌<◌, ◌≤◌, Bool, true, false, cond, ◌||◌, ◌==◌, List, [], ◌∷◌, ◌++◌, length, take, get_or, length-append, refl, sym, ap, subst, append_assoc, append-nil, arith, true≢false}
+use Rattle.std.proofs.Common.{◌≡◌, ◌∙◌, ℕ, ◌+◌, ◌<◌, ◌≤◌, Bool, true, false, cond, ◌||◌, ◌==◌, List, [], ◌∷◌, ◌++◌, length, take, get_or, length-append, refl, sym, ap, subst, append_assoc, append-nil, arith, true≢false}
 use Rattle.std.specs.List.{onto_first}
 use Rattle.std.proofs.lemmas.Bool.{eq-eqb, eqb-true, false_from_ne_true, lt-ltb, ltb-true}
-use Rattle.std.proofs.lemmas.List.{take_all, take_more}
+use Rattle.logs.proofs.TextLemmas.{at_default, none_up_to}
+use Rattle.std.proofs.lemmas.List.{take_more}
 use Rattle.memchr.specs.Find.{Nowhere, Passes as HasByte, is_byte}
 use Rattle.logs.specs.Answering.{Answering}
 use Rattle.logs.specs.Lines.{AreWhole, IsLine, has_end, is_long, lines, longest}
@@ -83,22 +84,9 @@ whole_then xs ys first second = λ rest.
     ∙ sym (append_assoc (lines xs) (lines ys) (lines rest)) ∙ ap (λ l. l ++ lines rest) (sym (first ys))
 
 -- what a search for an end says
-pub none_up_to : (xs : List ℕ) (n : ℕ) → n ≤ length xs → Nowhere (HasByte (is_byte 10) xs) 0 n → has_end (take n xs) ≡ false
-none_up_to xs zero low none = refl
-none_up_to [] (suc n) low none = refl
-none_up_to (x ∷ xs) (suc n) low none =
-    ap (λ t. t || has_end (take n xs)) (false_from_ne_true (x == 10) (none 0 (omega arith) (omega arith)))
-    ∙ none_up_to xs n (omega arith) (λ k low' high passes. none (suc k) (omega arith) (omega arith) passes)
-
-at_default : (xs : List ℕ) (n : ℕ) → n < length xs → HasByte (is_byte 10) xs n → (get_or xs n 0 == 10) ≡ true
-at_default xs n below here = here
-
 pub line_found : (xs : List ℕ) (n : ℕ) → n < length xs → HasByte (is_byte 10) xs n → Nowhere (HasByte (is_byte 10) xs) 0 n → IsLine (take (n + 1) xs)
 line_found xs n below here none =
-    (take n xs, none_up_to xs n (omega arith) none, take_more xs n 0 below ∙ ap (λ b. take n xs ++ b ∷ []) (eqb-true (get_or xs n 0) 10 (at_default xs n below here)))
-
-pub none_found : (xs : List ℕ) → Nowhere (HasByte (is_byte 10) xs) 0 (length xs) → has_end xs ≡ false
-none_found xs none = ap has_end (sym (take_all (length xs) xs (omega arith))) ∙ none_up_to xs (length xs) (omega arith) none
+    (take n xs, none_up_to 10 xs n (omega arith) none, take_more xs n 0 below ∙ ap (λ b. take n xs ++ b ∷ []) (eqb-true (get_or xs n 0) 10 (at_default 10 xs n below here)))
 
 -- ---- long lines
 

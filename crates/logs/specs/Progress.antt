@@ -1,5 +1,5 @@
 -- A line that is put word by word.
-use Rattle.std.specs.Prelude.{ℕ, ◌||◌, Bool, List}
+use Rattle.std.specs.Prelude.{ℕ, ◌-◌, ◌||◌, Bool, List, [], ◌∷◌, if◌then◌else◌, nat_le}
 use Rattle.std.specs.List.{list_any}
 use Rattle.logs.specs.AnnotatedLogs.{counted, woven}
 use Rattle.logs.specs.Answering.{Answering}
@@ -9,6 +9,16 @@ use Rattle.logs.specs.declared.line.Progress.{Progress}
 use Rattle.logs.specs.declared.log_names.LogNames.{LogNames}
 use Rattle.logs.specs.declared.taken.Taken.{Taken}
 use Rattle.logs.specs.declared.words.Word.{Word}
+
+-- the fewest bytes of an address word; and the words that have as many
+abbrev pub fewest : Bool → ℕ
+fewest narrow = if narrow then 8 else 11
+
+abbrev pub long_words : Bool → List Word → List Word
+long_words narrow [] = []
+long_words narrow (w ∷ words) =
+    if nat_le (fewest narrow) (w.end - w.start) then w ∷ long_words narrow words
+    else long_words narrow words
 
 -- the address words among those that are still to come
 abbrev pub left_of : Answering → Held → List ℕ → Progress → List Word → List Taken

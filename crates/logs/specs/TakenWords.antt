@@ -169,9 +169,11 @@ tells_place line =
     || has_words (codes "NIP") false line
 
 -- how the next first frame is taken, behind a line with a frame or without one
+abbrev pub first_behind : Bool → First
+first_behind tells = if tells then first.Kept else first.Exact
+
 abbrev pub next_first : First → Bool → Bool → First
 next_first held true tells = first.Frame
-next_first held false true = first.Kept
-next_first first.Frame false false = first.Exact
-next_first first.Exact false false = first.Exact
-next_first first.Kept false false = first.Kept
+next_first first.Kept false tells = first.Kept
+next_first first.Frame false tells = first_behind tells
+next_first first.Exact false tells = first_behind tells

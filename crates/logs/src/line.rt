@@ -12,7 +12,7 @@ use crate::answers::Answers;
 use crate::held::Held;
 use crate::log_names::LogNames;
 use crate::taken::{Taken, address_at, held_after, taken_at};
-use crate::words::{Word, begins_with, behind_closers, next_word};
+use crate::words::{Word, begins_with, behind_closers, next_long_word};
 use std::alloc::AllocError;
 
 /// The most bytes of a line that is annotated.
@@ -89,7 +89,7 @@ fn put_words<A: Answers>(
         names: held.names,
     };
     loop {
-        match next_word(line, progress.at) {
+        match next_long_word(answers.is_narrow(), line, progress.at) {
             Some(word) => put_word(answers, held, line, &mut progress, word, out)?,
             None => {
                 out.extend_from_slice(&line[progress.put..])?;

@@ -3,7 +3,7 @@ ghost use Rattle.std.specs.Prelude.{◌≡◌, ◌≤◌, ◌<◌, ◌||◌, ◌
 ghost use Rattle.std.specs.List.{list_any};
 ghost use Rattle.logs.specs.Places.{prefix_end, without_end};
 ghost use Rattle.logs.specs.TakenWords.{begins_apart, begins_user, ends_pair, ends_user, gap_before};
-ghost use Rattle.logs.specs.TakenWords.{gap_start, has_bracket, has_code, has_words, is_caller};
+ghost use Rattle.logs.specs.TakenWords.{first_behind, gap_start, has_bracket, has_code, has_words, is_caller};
 ghost use Rattle.logs.specs.TakenWords.{is_exact, is_foreign, is_frame, is_marked, is_user_line};
 ghost use Rattle.logs.specs.TakenWords.{next_first, place_behind_prefix, place_of, repeats};
 ghost use Rattle.logs.specs.TakenWords.{says_caller, taken_at, tells_place, was_foreign};
@@ -16,7 +16,7 @@ use crate::places::{
     Kind, begins_numbered, end_of, has_label, is_closed, is_lead, prefix_end, without_end,
 };
 use crate::words::{Word, address_of_word, has_prefix, is_word_byte};
-use memchr::memmem;
+use memchr::{memchr, memmem};
 
 /// Where an address word stands in its line.
 #[derive(Clone, Copy, Debug, Drop)]
@@ -43,18 +43,12 @@ pub struct Taken {
     pub is_foreign: bool,
 }
 
-/// The fewest bytes of an address word.
-const FEWEST: usize = 8;
-
 /// The address that a word of the line is.
 pub(crate) fn address_at(narrow: bool, line: &[u8], word: Word) -> Option<u64>
     requires word { word.start < word.end }
     requires within { word.end ≤ length line.now }
     ensures { result ≡ address_at narrow line.now word }
 {
-    if word.end - word.start < FEWEST {
-        return None;
-    }
     if is_joined(line, word) {
         return None;
     }
@@ -294,6 +288,9 @@ fn ends_user(line: &[u8]) -> bool
 fn begins_user(bytes: &[u8]) -> bool
     ensures { result ≡ begins_user bytes.now }
 {
+    if !has_capital(bytes) {
+        return false;
+    }
     has_words(b"User PSW", bytes)
 }
 
@@ -301,7 +298,20 @@ fn begins_user(bytes: &[u8]) -> bool
 fn tells_place(line: &[u8]) -> bool
     ensures { result ≡ tells_place line.now }
 {
+    if !has_capital(line) {
+        return false;
+    }
     has_words(b"RIP", line) || has_words(b"EIP", line) || has_words(b"NIP", line)
+}
+
+/// Whether a `P` is among the bytes, as it is in `RIP`, `EIP`, `NIP` and `PSW`. Mostly it is not.
+fn has_capital(bytes: &[u8]) -> bool
+    ensures { result ≡ list_any (λ b. b == 80) bytes.now }
+{
+    match memchr(b'P', bytes) {
+        Some(_) => true,
+        None => false,
+    }
 }
 
 /// Whether `Code:` stands among the bytes.
@@ -355,19 +365,23 @@ fn begins_apart(bytes: &[u8]) -> bool
 }
 
 /// How the next first frame is taken, behind a line with a frame or without one.
-fn next_first(first: First, has_frame: bool, tells: bool) -> First
-    ensures { result ≡ next_first first has_frame tells }
+fn next_first(first: First, has_frame: bool, line: &[u8]) -> First
+    ensures { result ≡ next_first first has_frame (tells_place line.now) }
 {
     if has_frame {
         return First::Frame;
     }
-    if tells {
-        return First::Kept;
-    }
     match first {
         First::Kept => First::Kept,
-        First::Frame | First::Exact => First::Exact,
+        First::Frame | First::Exact => first_behind(tells_place(line)),
     }
+}
+
+/// The same behind a line without a frame, where none before it told where the processor was.
+fn first_behind(tells: bool) -> First
+    ensures { result ≡ first_behind tells }
+{
+    if tells { First::Kept } else { First::Exact }
 }
 
 /// What is carried on behind a line with a frame or without one, and these names.
@@ -377,7 +391,7 @@ pub(crate) fn held_after(held: Held, line: &[u8], has_frame: bool, names: LogNam
     ensures names { result.names ≡ names }
 {
     Held {
-        first: next_first(held.first, has_frame, tells_place(line)),
+        first: next_first(held.first, has_frame, line),
         is_user: is_user_line(held, line) || begins_user(line),
         names,
     }

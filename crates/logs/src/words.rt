@@ -1,15 +1,23 @@
 //! The words of a line.
 //!
+//! An address word has eleven bytes at least (eight in a log of a 32-bit kernel). So the bytes are
+//! passed in leaps of so many: the last of them that is of no word says that none before it is long
+//! enough, and the next leap begins behind it. Where each of them is of a word, it is gone through to
+//! its end:
+//!
 //! ```text
-//!     RIP: 0010:[<ffffffff81000108>] ? do_one
-//!     ~~~  ~~~~   ~~~~~~~~~~~~~~~~ ==  ~~~~~~    words, and the closers behind an address
+//!     at 3 of 77 pages [<ffffffff81000108>] ? do_one
+//!      |--------|                                       up to the blank behind `77`
+//!                |------|                               up to the `<`
+//!                        |--------------|==             the word, and the closers behind it
 //! ```
-ghost use Rattle.std.specs.Prelude.{◌≡◌, ◌≤◌, ◌<◌, ◌+◌, ◌++◌, ◌∷◌, [], true, length, drop, nat_eq};
-ghost use Rattle.std.specs.Prelude.{slice_index_or};
+ghost use Rattle.std.specs.Prelude.{◌≡◌, ◌≤◌, ◌<◌, ◌+◌, ◌++◌, ◌∷◌, [], false, true, length, drop};
+ghost use Rattle.std.specs.Prelude.{nat_eq, slice_index_or};
 ghost use Rattle.std.specs.List.{starts_with};
-ghost use Rattle.std.specs.Prelude.{IfSome, MatchOption};
+ghost use Rattle.std.specs.Prelude.{IfNone, IfSome, MatchOption};
+ghost use Rattle.logs.specs.Progress.{fewest, long_words};
 ghost use Rattle.logs.specs.Words.{address_of_word, digits_between, has_prefix};
-ghost use Rattle.logs.specs.Words.{is_closer, is_word_byte, run_of, words_behind, words_from};
+ghost use Rattle.logs.specs.Words.{is_closer, is_word_byte, run_of, words_behind};
 
 use texts::hexadecimal;
 
@@ -48,39 +56,60 @@ pub(crate) fn is_closer(byte: u8) -> bool
     byte == b')' || byte == b'>' || byte == b']'
 }
 
-/// The first word from a place on at which none goes on.
-pub(crate) fn next_word(line: &[u8], at: usize) -> Option<Word>
+/// The fewest bytes of an address word.
+pub(crate) fn fewest(narrow: bool) -> usize
+    ensures { result ≡ fewest narrow }
+{
+    if narrow { 8 } else { 11 }
+}
+
+/// The first word, from a place on at which none goes on, that is long enough for an address.
+#[tactic(auto, using(crate::proofs::WordLemmas::is_long_word, crate::proofs::WordLemmas::is_short_word))]
+pub(crate) fn next_long_word(narrow: bool, line: &[u8], at: usize) -> Option<Word>
     requires { at ≤ length line.now }
-    ensures words { MatchOption result (words_behind line.now at ≡ [])
-        (λ w. words_behind line.now at ≡ w ∷ words_behind line.now w.end) }
+    ensures words { MatchOption result (long_words narrow (words_behind line.now at) ≡ [])
+        (λ w. long_words narrow (words_behind line.now at)
+        ≡ w ∷ long_words narrow (words_behind line.now w.end)) }
     ensures from { IfSome result (λ w. at ≤ w.start) }
     ensures some { IfSome result (λ w. w.start < w.end) }
     ensures within { IfSome result (λ w. w.end ≤ length line.now) }
 {
-    let start = behind_gap(line, at);
-    if start == line.len() {
-        return None;
+    let fewest = fewest(narrow);
+    let mut start = at;
+    while line.len() - start >= fewest {
+        match last_gap(line, start, start + fewest) {
+            Some(place) => start = place + 1,
+            None => {
+                let end = behind_word(line, start);
+                if end - start >= fewest {
+                    return Some(Word { start, end });
+                }
+                start = end;
+            }
+        }
     }
-    let end = behind_word(line, start);
-    Some(Word { start, end })
+    None
 }
 
-/// The place of the first byte of a word from a place on, or the end of the line.
-fn behind_gap(line: &[u8], at: usize) -> usize
-    requires { at ≤ length line.now }
-    ensures from { at ≤ result }
-    ensures within { result ≤ length line.now }
-    ensures gap { words_behind line.now at ≡ words_behind line.now result }
-    ensures word { result < length line.now → is_word_byte (slice_index_or line.now result 0) ≡ true }
+/// The last of the places from `start` up to `stop` that holds no byte of a word.
+#[inline]
+fn last_gap(line: &[u8], start: usize, stop: usize) -> Option<usize>
+    requires order { start ≤ stop }
+    requires within { stop ≤ length line.now }
+    ensures from { IfSome result (λ p. start ≤ p) }
+    ensures below { IfSome result (λ p. p < stop) }
+    ensures gap { IfSome result (λ p. is_word_byte (slice_index_or line.now p 0) ≡ false) }
+    ensures none { IfNone result (start < stop
+        → is_word_byte (slice_index_or line.now start 0) ≡ true) }
 {
-    let mut i = at;
-    while i < line.len() {
-        if is_word_byte(line[i]) {
-            return i;
+    let mut place = stop;
+    while place > start {
+        if !is_word_byte(line[place - 1]) {
+            return Some(place - 1);
         }
-        i += 1;
+        place -= 1;
     }
-    i
+    None
 }
 
 /// The end of the word that begins at a place.
