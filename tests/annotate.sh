@@ -171,9 +171,6 @@ printf 'ffffffff82000000 %s\n' 1 2 3 4 | noted ''
 printf 'ffffffff82000000 %s\n' 1 2 3 4 5 | noted "$none 5 addresses has a name in the listing"
 printf 'ffffffff82000000 %s\n' 1 2 3 4 'User PSW 00000000000000ff' | noted "$none 6 addresses has a name in the listing"
 printf 'ffffffff82000000 %s\n' 1 2 3 4 5 ffffffff81000108 | noted ''
-printf '\037\213 ffffffff82000000\n' | noted 'latchsym: note: -: is compressed by gzip; unpack it first'
-printf '\377\376f\0f\0' | noted 'latchsym: note: -: is UTF-16; convert it first'
-printf '\376\377\0f\0f' | noted 'latchsym: note: -: is UTF-16; convert it first'
 printf '\377' | noted ''
 
 # refused STATUS LINE ARGUMENT..: nothing on standard output, this line on standard error (any,
