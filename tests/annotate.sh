@@ -1,8 +1,9 @@
 #!/usr/bin/env bash
-# Annotates the logs of examples/logs/, and compares what is written with the logs beside them; looks
-# that what is decided is written while a log goes on, and what is noted before it is begun; and
-# tries what may be wrong with the command line and the files. With EMULATED, large logs are left out,
-# for which an emulator takes minutes, and more memory than they leave.
+# Annotates the logs of examples/logs/, and compares what is written with the logs beside them, which
+# annotated once more stay as they are; looks that each line is written as soon as it has been read,
+# and what is noted before a log is begun and behind it; and tries what may be wrong with the command
+# line and the files. With EMULATED, large logs are left out, for which an emulator takes minutes, and
+# more memory than they leave.
 set -euo pipefail
 . "$(dirname "$0")/program.sh"
 build latchsym
@@ -35,6 +36,9 @@ for log in *.log; do
     writes "$name.callers" --callers "${options[@]}" "$log"
     writes "$name.expected" "${options[@]}" <"$log"
     writes "$name.expected" "${options[@]}" - <"$log"
+    writes "$name.expected" "${options[@]}" "$name.expected"
+    writes "$name.exact" "${options[@]}" --exact "$name.exact"
+    writes "$name.callers" "${options[@]}" --callers "$name.callers"
 done
 
 # by the symbols alone; between other bounds; of a kernel that was moved
@@ -56,27 +60,29 @@ writes "$work/moved" --offset 0x10000000 --kallsyms "$work/kallsyms" "$work/high
 : >"$work/none"
 writes "$work/none" --kallsyms "$work/kallsyms" "$work/none"
 
-# a line of a program's registers has no answer behind `User PSW`, however addresses are taken; the
-# next line has
-printf 'ffffffff81000100 User PSW : 0xffffffff81000100 lr: ffffffff81000100\n[<ffffffff81000101>]\nUser  PSW ffffffff81000108' >"$work/log"
-printf 'ffffffff81000100 do_one+0x0/0x1f00 User PSW : 0xffffffff81000100 lr: ffffffff81000100\n[<ffffffff81000101>] do_one+0x1/0x1f00\nUser  PSW ffffffff81000108 do_one+0x8/0x1f00' >"$work/wanted"
+# registers of a program have no answers behind `User PSW`, however addresses are taken, up to a line
+# of the kernel's
+printf 'ffffffff81000100 User PSW : 0xffffffff81000100 lr: ffffffff81000100\n[<ffffffff81000101>]\n Call Trace:\nUser  PSW ffffffff81000108' >"$work/log"
+sed '1s/ffffffff81000100 /&do_one+0x0\/0x1f00 /; 4s/$/ do_one+0x8\/0x1f00/' "$work/log" >"$work/wanted"
 writes "$work/wanted" --kallsyms "$work/kallsyms" "$work/log"
 writes "$work/wanted" --kallsyms "$work/kallsyms" --exact "$work/log"
 sed '1s/do_one+0x0\/0x1f00/_stext+0x100\/0x100/' "$work/wanted" >"$work/moved"
 writes "$work/moved" --kallsyms "$work/kallsyms" --callers "$work/log"
 
-# addresses of 8 digits, and no others, where the listing has none above 4294967295
+# addresses of 8 digits, and no others, where the listing writes none with more
 printf 'c0000000 T _stext\nc0000100 T do_one\nc0001000 T _etext\nbf000010 t ext4_a\t[ext4]\n' >"$work/narrow"
 printf 'c0000108 0xc0000108 0XC0000108 c000010 0c0000108 0x0c0000108 00000000c0000108 0x00000000c0000108 bf000018' >"$work/log"
 sed -E 's/^c0000108 0xc0000108 0XC0000108/c0000108 do_one+0x8\/0xf00 0xc0000108 do_one+0x8\/0xf00 0XC0000108 do_one+0x8\/0xf00/; s/bf000018/& ext4_a+0x8\/0xff0 [ext4]/' \
     "$work/log" >"$work/wanted"
 writes "$work/wanted" --kallsyms "$work/narrow" "$work/log"
-# with one above, those of 9 to 16
-{ cat "$work/narrow"; echo '100000000 t far'; } >"$work/wide"
-sed -E 's/(0x0c0000108|00000000c0000108|0x00000000c0000108)\>/& do_one+0x8\/0xf00/g' "$work/log" | sed 's/0x00000000c0000108 do_one+0x8\/0xf00 do_one+0x8\/0xf00/0x00000000c0000108 do_one+0x8\/0xf00/' >"$work/wanted"
-writes "$work/wanted" --exact --kallsyms "$work/wide" "$work/log"
+# where it writes one with more, those of 9 to 16; so also one that is 0
+for far in '100000000 t far' '0000000000000000 t hidden' '00000000c0000000 t near'; do
+    { cat "$work/narrow"; echo "$far"; } >"$work/wide"
+    sed -E 's/(0x0c0000108|00000000c0000108|0x00000000c0000108)\>/& do_one+0x8\/0xf00/g' "$work/log" | sed 's/0x00000000c0000108 do_one+0x8\/0xf00 do_one+0x8\/0xf00/0x00000000c0000108 do_one+0x8\/0xf00/' >"$work/wanted"
+    writes "$work/wanted" --exact --kallsyms "$work/wide" "$work/log"
+done
 
-# words and lines of any length, and bytes of any value
+# words of any length, bytes of any value, and a line of more than 65536 bytes, which stays as it is
 {
     printf ffffffffc0000018
     head -c 100000 /dev/zero | tr '\0' f
@@ -84,8 +90,14 @@ writes "$work/wanted" --exact --kallsyms "$work/wide" "$work/log"
     printf ' ffffffffc0000018 '
     head -c 10000000 /dev/zero | tr '\0' ' '
     printf "(0xffffffffc0000018)$(printf '\\%03o' $(seq 0 255))ffffffffc0000018\n"
+    printf ffffffffc0000018
+    head -c 50000 /dev/zero | tr '\0' f
+    printf ffffffffc0000018
+    printf ' ffffffffc0000018 '
+    head -c 15469 /dev/zero | tr '\0' ' '
+    printf 'ffffffffc0000018\n'
 } >"$work/log"
-sed 's/ \(ffffffffc0000018\) / \1 ext4_a+0x8\/0xff0 [ext4] /; s/18)/& ext4_a+0x8\/0xff0 [ext4]/; s/18$/& ext4_a+0x8\/0xff0 [ext4]/' \
+sed '2,$s/ \(ffffffffc0000018\) / \1 ext4_a+0x8\/0xff0 [ext4] /; 2,$s/18$/& ext4_a+0x8\/0xff0 [ext4]/' \
     <"$work/log" >"$work/wanted"
 writes "$work/wanted" --kallsyms "$work/kallsyms" "$work/log"
 
@@ -136,20 +148,30 @@ wait $reader || fail "a log that went on: status $?"
 yes 'at ffffffffc0000018' | timeout 60 "$program" annotate --kallsyms "$work/kallsyms" 2>"$work/err" | head -n 1 >"$work/out" || true
 echo 'at ffffffffc0000018 ext4_a+0x8/0xff0 [ext4]' | cmp -s - "$work/out" || fail "the first line of a log without an end"
 
-# told LINE NAME..: behind a log with these names of its own for an address of do_one stands this line
-told() {
+# noted LINE: behind the log of the standard input this line is noted
+noted() {
+    "$program" annotate --kallsyms ../listings/basic.kallsyms >"$work/out" 2>"$work/err" &&
+        [ "$(cat "$work/err")" = "$1" ] || fail "a log is noted by $(cat "$work/err"), not by $1"
+}
+# named LINE NAME..: so is a log with these names of its own for an address of do_one
+named() {
     local line=$1
     shift
-    printf '[<ffffffff81000108>] %s+0x8/0x1f00\n' "$@" | "$program" annotate --kallsyms ../listings/basic.kallsyms >"$work/out" 2>"$work/err" &&
-        [ "$(cat "$work/err")" = "$line" ] || fail "the names $*: $(cat "$work/err")"
+    printf '[<ffffffff81000108>] %s+0x8/0x1f00\n' "$@" | noted "$line"
 }
 other='latchsym: note: -: its own names disagree with the listing'
-told '' do_one a b c d
-told "$other (5 of 6); is the listing of this boot?" do_one a b c d e
-told "$other (6 of 11); is the listing of this boot?" do_one do_one a do_one b do_one c do_one d e f
-told '' do_one do_one a do_one b do_one c do_one d e
-told '' '? do_one' '? do_one' a '? do_one' b do_one c do_one d e
-told "$other (5 of 5); is the listing of this boot?" '? a' b c d e
+named '' do_one a b c d
+named "$other (5 of 6); is the listing of this boot?" do_one a b c d e
+named "$other (6 of 11); is the listing of this boot?" do_one do_one a do_one b do_one c do_one d e f
+named '' do_one do_one a do_one b do_one c do_one d e
+named '' '? do_one' '(do_one' a '? do_one' b do_one c do_one d
+named "$other (5 of 5); is the listing of this boot?" '? a' '(b' c d e
+none='latchsym: note: -: none of its'
+printf 'ffffffff82000000 %s\n' 1 2 3 4 | noted ''
+printf 'ffffffff82000000 %s\n' 1 2 3 4 5 | noted "$none 5 addresses has a name in the listing"
+printf 'ffffffff82000000 %s\n' 1 2 3 4 'User PSW 00000000000000ff' | noted "$none 6 addresses has a name in the listing"
+printf 'ffffffff82000000 %s\n' 1 2 3 4 5 ffffffff81000108 | noted ''
+printf '\377' | noted ''
 
 # refused STATUS LINE ARGUMENT..: nothing on standard output, this line on standard error (any,
 # where it is empty), and this status

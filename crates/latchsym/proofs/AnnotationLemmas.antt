@@ -1,5 +1,5 @@
 -- From what came of a log by the catalog of listings to what the engine returns.
-use Rattle.latchsym.proofs.Words.{◌≡◌, ℕ, List, [], Option, Some, Result, Ok, Err, refl, inl, inr, ⊎_elim, IfSome, Counted, Output, answered_by, HoldsOfRegions, AnnotatesBy, AnnotatesLog, IsTold, AreReadAs, Given, HasBadRegion, HasCrowdedRegions, IsCatalogOf, OpensCatalog, Failures, NoReaderFailed, Fault, Refused, BadLine, Read, TooLong, Write, GivenTexts, Annotate, Request, is_narrow, symbols_in, lines_of}
+use Rattle.latchsym.proofs.Words.{◌≡◌, ℕ, List, [], Option, Some, Result, Ok, Err, refl, inl, inr, ⊎_elim, IfSome, Counted, Output, answered_by, HoldsOfRegions, AnnotatesBy, AnnotatesLog, IsTold, AreReadAs, Given, HasBadRegion, HasCrowdedRegions, IsCatalogOf, OpensCatalog, Failures, NoReaderFailed, Fault, Refused, BadLine, Read, TooLong, Write, GivenTexts, Annotate, Request, is_narrow, lines_of}
 use Rattle.order_laws.specs.declared.refusals.Refusal.TheVariants as refusal
 use Rattle.latchsym.proofs.GivenLemmas.{known_too}
 
@@ -41,7 +41,7 @@ module _ {L W E : Type 0} (remaining : L → Option (List ℕ)) (contents : W �
         narrow = t.narrow;
         notes = t.notes;
         noted = t.noted;
-        sized = known_too (λ x. t.narrow ≡ is_narrow (symbols_in (lines_of x.kallsyms))) g known is t.sized;
+        sized = known_too (λ x. t.narrow ≡ is_narrow (lines_of x.kallsyms)) g known is t.sized;
         said = known_too (λ x. IsCatalogOf q.kernel x t.catalog t.notes) g known is t.said;
         told = t.told;
         holds = t.holds;

@@ -6,6 +6,8 @@ mod ParseLemmas
 mod AddressLemmas
 -- a fault that a function hands on
 mod FaultLemmas
+-- symbols that a search by address leaves out
+mod AliasLemmas
 -- from what came of a log to what the engine returns
 mod AnnotationLemmas
 -- the kept symbols of the names that words ask for, symbol by symbol

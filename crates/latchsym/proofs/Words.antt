@@ -58,11 +58,11 @@ pub use Rattle.modules.specs.Regions.{holds}
 pub use Rattle.modules.specs.declared.catalog.BuildCounts.{BuildCounts}
 pub use Rattle.modules.specs.declared.catalog.KeptCounts.{KeptCounts}
 pub use Rattle.listing.proofs.ListingNoteLemmas.{bounds_are, given_or}
-pub use Rattle.listing.specs.AnnotatedLogs.{answered_by}
+pub use Rattle.listing.specs.Looks.{is_narrow}
 pub use Rattle.listing.specs.ListingNotes.{is_of_kallsyms, is_of_modules, is_some_noted}
 pub use Rattle.listing.specs.ModuleListing.{module_counts, modules_in}
 pub use Rattle.listing.specs.Opening.{IsSymbolListing, catalog_of_texts, counts_of_texts, kept_in_text, listed}
-pub use Rattle.listing.specs.SymbolListing.{is_mapping, is_narrow, symbol_counts, symbol_of, symbols_in, symbols_with}
+pub use Rattle.listing.specs.SymbolListing.{is_mapping, symbol_counts, symbol_of, symbols_in, symbols_with}
 pub use Rattle.listing.specs.Tallies.{Tallies, counts_text, symbol_tallies_by, tallies_by, tallies_of}
 pub use Rattle.listing.specs.declared.opening.Listings.{Listings}
 pub use Rattle.listing.specs.declared.opening.SymbolListing.{SymbolListing}
@@ -80,6 +80,7 @@ pub use Rattle.engines.specs.declared.fault.Fault.TheVariants.{BadLine, Read, Re
 pub use Rattle.engines.specs.declared.lookup.LookupOptions.{LookupOptions}
 pub use Rattle.engines.specs.declared.opened_catalogs.GivenTexts.{GivenTexts}
 pub use Rattle.engines.specs.declared.symbol_lookup.SymbolLookupOptions.{SymbolLookupOptions}
+pub use Rattle.latchsym.specs.LogAnswers.{answered_by}
 pub use Rattle.latchsym.specs.AddressTexts.{address_line, address_object, is_told, owner_member, owner_text, symbols_text, told_line, told_lines, word_text, words_text}
 pub use Rattle.latchsym.specs.Addresses.{IsAddressed}
 pub use Rattle.latchsym.specs.Annotations.{AnnotatesBy, AnnotatesLog, IsTold}

@@ -1,22 +1,22 @@
 -- What is written for a log, and told of the listings that say what its addresses are.
 use Rattle.std.specs.Prelude.{◌≡◌, ◌⊎◌, ℕ, Bool, List, Option, Result, Ok, Err, IfSome}
-use Rattle.listing.specs.declared.annotation.LogFault.TheVariants as log_fault
+use Rattle.logs.specs.declared.annotation.LogFault.TheVariants as log_fault
 use Rattle.texts.specs.declared.counted.Counted.{Counted}
 use Rattle.texts.specs.declared.output.Output.{Output}
-use Rattle.listing.specs.AnnotatedLogs.{Answering, answered_by}
-use Rattle.listing.specs.Annotation.{Annotates}
+use Rattle.logs.specs.Answering.{Answering}
+use Rattle.logs.specs.Annotation.{Annotates}
 use Rattle.modules.specs.Entries.{CatalogEntries}
 use Rattle.modules.specs.Listed.{BoundNames}
 use Rattle.order_laws.specs.declared.refusals.Refusal.TheVariants as refusal
 use Rattle.latchsym.specs.GivenAnswers.{HoldsOfRegions}
 use Rattle.latchsym.specs.Reports.{IsNoted}
 use Rattle.listing.specs.ListingNotes.{is_some_noted}
-use Rattle.latchsym.specs.NoteTexts.{note_lines, other_boot_line}
-use Rattle.listing.specs.LogNames.{is_of_another_boot}
-use Rattle.listing.specs.declared.log_names.LogNames.{LogNames}
+use Rattle.latchsym.specs.LogAnswers.{answered_by}
+use Rattle.latchsym.specs.NoteTexts.{is_log_noted, log_line, note_lines}
+use Rattle.logs.specs.declared.log_names.LogNames.{LogNames}
 use Rattle.clap.specs.Words.{Text}
 use Rattle.engines.specs.OpenedCatalogs.{Given, HasBadRegion, HasCrowdedRegions, IsCatalogOf}
-use Rattle.listing.specs.SymbolListing.{is_narrow, symbols_in}
+use Rattle.listing.specs.Looks.{is_narrow}
 use Rattle.texts.specs.Lines.{lines_of}
 use Rattle.engines.specs.Readings.{Failures, NoReaderFailed, OnlyFailed}
 use Rattle.latchsym.specs.declared.requests.ListingFiles.{ListingFiles}
@@ -26,14 +26,14 @@ use Rattle.listing.specs.declared.listing_notes.ListingNotes.{ListingNotes}
 use Rattle.latchsym.specs.declared.requests.Annotate.{Annotate}
 use Rattle.latchsym.specs.declared.requests.Request.{Request}
 
--- the log was annotated to its end, and where its own names tell that it is of another boot than the
--- listing, this is noted behind it
+-- The log was annotated to its end, and if what was found of its addresses tells that the listing is
+-- another one, this is noted behind it.
 abbrev pub IsAnnotatedLog : {L W E : Type 0} → (L → Option (List ℕ)) → (W → Option (List ℕ))
     → (E → Option (List ℕ)) → Text → Answering → Counted L → Counted L → Output W → Output W
     → Output E → Output E → Type 0
 IsAnnotatedLog remaining contents errors log answer l l' w w' e e' =
     (names : LogNames) × Annotates remaining contents answer l l' w w' (Ok names)
-    × IsNoted errors e e' (is_of_another_boot names) (other_boot_line log names)
+    × IsNoted errors e e' (is_log_noted names) (log_line log names)
 
 -- How the end of the log in this file is told. A status of 1 stands for a reader of the output that
 -- is gone, of which nothing is said. The log is the file at place 3.
@@ -66,7 +66,7 @@ pub record IsTold {E : Type 0} (contents : E → Option (List ℕ)) (kernel : Op
   pub notes : ListingNotes
   pub noted : Output E
   pub said : IfSome known (λ g. IsCatalogOf kernel g catalog notes)
-  pub sized : IfSome known (λ g. narrow ≡ is_narrow (symbols_in (lines_of g.kallsyms)))
+  pub sized : IfSome known (λ g. narrow ≡ is_narrow (lines_of g.kallsyms))
   pub told : IsNoted contents e noted (is_some_noted notes) (note_lines kernel files notes)
   pub holds : P catalog narrow noted
 

@@ -15,6 +15,10 @@ pub mod Reports
 pub mod Misuses
 -- what an engine returns that reads listings, and then writes a text about them
 pub mod GivenAnswers
+-- how the addresses of a log are answered
+pub mod LogAnswers
+-- what is known of the order of the symbols that a log is answered from
+pub mod LogIndexes
 -- what is written for a log, and told of its listings
 pub mod Annotations
 -- what is written of listings that are checked

@@ -1,5 +1,5 @@
 -- The lines that say what is noted of listings.
-use Rattle.std.specs.Prelude.{ℕ, Bool, List, [], ◌++◌, codes, flat_map, if◌then◌else◌, Option}
+use Rattle.std.specs.Prelude.{ℕ, Bool, true, false, ◌||◌, List, [], ◌++◌, codes, flat_map, if◌then◌else◌, Option}
 use Rattle.std.specs.Prelude.{Some, None, unwrap_or, decimal, min, ◌+◌, ◌-◌, ◌^◌}
 use Rattle.std.specs.Borrow.{Bor}
 use Rattle.std.specs.Option.{option_map_or}
@@ -9,8 +9,11 @@ use Rattle.modules.specs.Lines.{usual_bounds}
 use Rattle.modules.specs.Listed.{BoundNames}
 use Rattle.listing.specs.ListingNotes.{all_notes}
 use Rattle.latchsym.specs.declared.requests.Job.{Job}
-use Rattle.latchsym.specs.declared.requests.Job.TheVariants.{Request}
+use Rattle.latchsym.specs.declared.requests.Job.TheVariants as job
 use Rattle.latchsym.specs.declared.requests.ListingFiles.{ListingFiles}
+use Rattle.latchsym.specs.declared.requests.Request.{Request}
+use Rattle.latchsym.specs.declared.requests.Subcommand.{Subcommand}
+use Rattle.latchsym.specs.declared.requests.Subcommand.TheVariants.{Run}
 use Rattle.listing.specs.declared.listing_notes.ListingNote.{ListingNote}
 use Rattle.listing.specs.declared.listing_notes.ListingNote.TheVariants.{Gzip, AllHidden}
 use Rattle.listing.specs.declared.listing_notes.ListingNote.TheVariants.{LooksLikeSymbols}
@@ -20,7 +23,8 @@ use Rattle.listing.specs.declared.listing_notes.ListingNote.TheVariants.{NoEnd, 
 use Rattle.listing.specs.declared.listing_notes.ListingNote.TheVariants.{ModulesOverlap, NoModuleLine}
 use Rattle.listing.specs.declared.listing_notes.ListingNote.TheVariants.{NoSymbolLine}
 use Rattle.listing.specs.declared.listing_notes.ListingNotes.{ListingNotes}
-use Rattle.listing.specs.declared.log_names.LogNames.{LogNames}
+use Rattle.logs.specs.LogNames.{is_of_another_boot, is_unnamed}
+use Rattle.logs.specs.declared.log_names.LogNames.{LogNames}
 
 -- what to try where a name is missing: many kernels list no `_end`
 abbrev pub remedy_text : List ℕ → List ℕ
@@ -60,6 +64,21 @@ other_boot_line log names =
     ++ decimal (min (names.agreeing + names.disagreeing) (2 ^ 64 - 1))
     ++ codes "); is the listing of this boot?\n"
 
+-- the line that says that no address of the log in this file has a name
+abbrev pub unnamed_line : Text → LogNames → List ℕ
+unnamed_line log names =
+    codes "latchsym: note: " ++ log ++ codes ": none of its " ++ decimal names.addresses
+    ++ codes " addresses has a name in the listing\n"
+
+-- what was found of a log's addresses tells that the listing is another one
+abbrev pub is_log_noted : LogNames → Bool
+is_log_noted names = is_of_another_boot names || is_unnamed names
+
+-- the line that says so
+abbrev pub log_line : Text → LogNames → List ℕ
+log_line log names =
+    if is_of_another_boot names then other_boot_line log names else unnamed_line log names
+
 -- the line of what may be noted of a file
 abbrev pub line_if_noted : BoundNames → Text → Option ListingNote → List ℕ
 line_if_noted names file note = option_map_or (note_line names file) note []
@@ -91,7 +110,40 @@ lines_by kernel None kallsyms notes = line_if_noted (noted_bounds kernel) kallsy
 abbrev pub note_lines : Option BoundNames → ListingFiles → ListingNotes → List ℕ
 note_lines kernel files notes = lines_by kernel files.modules files.kallsyms.now notes
 
--- the lines of a job, by the names of its files
+-- ---- of a run, which needs the listing of modules
+
+-- it is noted that modules overlap
+abbrev pub is_overlap : Option ListingNote → Bool
+is_overlap (Some ModulesOverlap) = true
+is_overlap _ = false
+
+-- the line that says so
+abbrev pub overlap_line : Text → List ℕ
+overlap_line modules =
+    codes "latchsym: note: " ++ modules
+    ++ codes ": modules overlap, as sizes do from Linux 6.4 on; give --regions\n"
+
+-- the line of what may be noted of that listing
+abbrev pub run_line : BoundNames → Text → Option ListingNote → List ℕ
+run_line names modules note =
+    if is_overlap note then overlap_line modules else line_if_noted names modules note
+
+-- the lines of a run
+abbrev pub run_lines : BoundNames → Text → Text → ListingNotes → List ℕ
+run_lines names modules kallsyms notes =
+    run_line names modules notes.modules ++ line_if_noted names kallsyms notes.kallsyms
+
+-- ---- of a job, by the names of its files
+
+abbrev pub lines_of_run : Option BoundNames → Option (Bor Text) → Text → ListingNotes → List ℕ
+lines_of_run kernel (Some modules) kallsyms notes =
+    run_lines (unwrap_or kernel usual_bounds) modules.now kallsyms notes
+lines_of_run kernel None kallsyms notes = []
+
+abbrev pub lines_asked : Request → Subcommand → ListingNotes → List ℕ
+lines_asked q (Run r) notes = lines_of_run q.kernel q.files.modules q.files.kallsyms.now notes
+lines_asked q _ notes = note_lines q.kernel q.files notes
+
 abbrev pub notes_text : Job → ListingNotes → List ℕ
-notes_text (Request q) notes = note_lines q.kernel q.files notes
+notes_text (job.Request q) notes = lines_asked q q.subcommand notes
 notes_text _ notes = []

@@ -2,16 +2,18 @@
 //! address.
 //!
 //! The listings are read whole, and what is noted of them is told, before the log is begun: it may
-//! have no end. The log itself goes through block by block.
+//! have no end. The log itself goes through line by line.
 ghost use Rattle.std.specs.Prelude.{◌≡◌, [], Some};
-ghost use Rattle.listing.specs.AnnotatedLogs.{answered_by};
 ghost use Rattle.latchsym.specs.Annotations.{AnnotatesBy, AnnotatesLog};
+ghost use Rattle.latchsym.specs.LogAnswers.{answered_by};
 ghost use Rattle.engines.specs.OpenedCatalogs.{given_in, known_given, listing_failures};
 
+use crate::log_answers::CatalogAnswers;
 use crate::reports::{note_listings, note_log};
 use crate::requests::{Annotate, Request};
 use engines::{FAILED, Fault, GivenTexts, ListingReaders, SUCCEEDED, open_catalog, read_given};
-use listing::{LogFault, LogRule, annotate, is_narrow};
+use listing::is_narrow;
+use logs::{LogFault, annotate};
 use modules::IndexedCatalog;
 use order_laws::Refusal;
 use std::alloc::Global;
@@ -35,12 +37,12 @@ const LOG_PLACE: u64 = 3;
 /// are taken; the listing of symbols says whether the log is of a 32-bit kernel.
 ///
 /// What is noted of the listings is told to `errors` before the log is begun. Every
-/// fault that comes before that leaves the log, the writer and `errors` as they were. Of the log
-/// all that is decided is written, and the writer flushed, after each block that was read; so
+/// fault that comes before that leaves the log, the writer and `errors` as they were. Each line of
+/// the log is written, and the writer flushed, after the block that its end is in was read; so
 /// whatever ends it, what was written is a beginning of the annotated log. The status is 1 where
 /// nobody reads any more what is written, as before `head`. Behind a log that was annotated to its
-/// end it is noted where the names that it has itself are not those of the listing. docs/FORMATS.md
-/// has the listings, and says what is inserted.
+/// end it is noted if the names that it has itself are not those of the listing, or none of its
+/// addresses has a name. docs/FORMATS.md has the listings, and says what is inserted.
 pub fn annotate_engine<M: Read, K: Read, R: Read, L: Read, E: Write, W: Write>(
     alloc: Global,
     readers: &mut AnnotateReaders<M, K, R, L>,
@@ -80,27 +82,24 @@ fn annotate_over<L: Read, E: Write, W: Write>(
     let index = IndexedCatalog::new(alloc, opened.catalog)?;
     note_listings(&notes, kernel, &request.files, errors);
     let is_narrow = is_narrow(&texts.kallsyms);
-    annotate_by(
-        alloc, &index, job.rule, is_narrow, job.log, errors, log, writer,
-    )
+    let answers = CatalogAnswers::new(alloc, &index, job.rule, is_narrow);
+    annotate_by(alloc, &answers, job.log, errors, log, writer)
 }
 
-/// Writes the log again by this catalog, and notes where it is of another boot.
+/// Writes the log again by these answers, and notes if its addresses tell of another listing.
 fn annotate_by<L: Read, E: Write, W: Write>(
     alloc: Global,
-    index: &IndexedCatalog<'_>,
-    rule: LogRule,
-    is_narrow: bool,
+    answers: &CatalogAnswers<'_, '_>,
     name: &str,
     errors: &mut Output<E>,
     log: &mut Counted<L>,
     writer: &mut Output<W>,
 ) -> Result<u8, Fault>
     ensures { AnnotatesBy L.remaining W.contents E.contents name.now
-        (answered_by index.now rule is_narrow)
+        (answered_by answers.now.index answers.now.rule answers.now.is_narrow)
         log.old log.new writer.old writer.new errors.old errors.new result }
 {
-    match annotate(alloc, index, rule, is_narrow, log, writer) {
+    match annotate(alloc, answers, log, writer) {
         Ok(names) => {
             note_log(names, name, errors);
             Ok(SUCCEEDED)

@@ -2,12 +2,15 @@
 ghost use Rattle.std.specs.Prelude.{◌≡◌};
 ghost use Rattle.std.specs.Option.{option_copied};
 ghost use Rattle.texts.specs.Output.{Says};
-ghost use Rattle.latchsym.specs.NoteTexts.{line_if_noted, line_where, lines_for, message_of};
+ghost use Rattle.latchsym.specs.NoteTexts.{is_overlap, line_if_noted, line_where, lines_asked};
+ghost use Rattle.latchsym.specs.NoteTexts.{lines_for, lines_of_run, log_line, message_of};
 ghost use Rattle.latchsym.specs.NoteTexts.{missing_text, note_line, note_lines, noted_bounds};
-ghost use Rattle.latchsym.specs.NoteTexts.{notes_text, other_boot_line, remedy_text};
+ghost use Rattle.latchsym.specs.NoteTexts.{notes_text, other_boot_line, overlap_line, remedy_text};
+ghost use Rattle.latchsym.specs.NoteTexts.{run_line, run_lines, unnamed_line};
 
-use crate::requests::{Job, ListingFiles};
-use listing::{ListingNote, ListingNotes, LogNames};
+use crate::requests::{Job, ListingFiles, Request, Subcommand};
+use listing::{ListingNote, ListingNotes};
+use logs::LogNames;
 use modules::KernelBounds;
 use std::io::Write;
 use texts::Output;
@@ -18,10 +21,105 @@ pub fn put_job_notes<W: Write>(writer: &mut Output<W>, job: &Job<'_>, notes: &Li
 {
     match job {
         Job::Trace { .. } | Job::Steps { .. } => {}
-        Job::Request(request) => {
-            put_notes_of(writer, request.kernel.as_ref(), &request.files, notes)
-        }
+        Job::Request(request) => put_notes_asked(writer, request, notes),
     }
+}
+
+/// Writes the lines of what is noted of the listings of a request.
+fn put_notes_asked<W: Write>(writer: &mut Output<W>, request: &Request<'_>, notes: &ListingNotes)
+    ensures { Says W.contents writer.old writer.new
+        (lines_asked request.now request.now.subcommand notes.now) }
+{
+    let kernel = request.kernel.as_ref();
+    let files = &request.files;
+    match &request.subcommand {
+        Subcommand::Run(_) => put_notes_of_run(writer, kernel, files, notes),
+        Subcommand::Lookup(_)
+        | Subcommand::Annotate(_)
+        | Subcommand::Check
+        | Subcommand::Address(_) => put_notes_of(writer, kernel, files, notes),
+    }
+}
+
+/// Writes what is noted of the listings of a run, which needs that of modules.
+fn put_notes_of_run<W: Write>(
+    writer: &mut Output<W>,
+    kernel: Option<&KernelBounds>,
+    files: &ListingFiles<'_>,
+    notes: &ListingNotes,
+)
+    ensures { Says W.contents writer.old writer.new
+        (lines_of_run (option_copied kernel.entry) files.now.modules files.now.kallsyms.now
+        notes.now) }
+{
+    let Some(modules) = files.modules else {
+        return;
+    };
+    let usual = KernelBounds::usual();
+    let names = kernel.unwrap_or(&usual);
+    put_run_notes(writer, names, modules, files.kallsyms, notes)
+}
+
+/// The same, where these names bound the kernel.
+fn put_run_notes<W: Write>(
+    writer: &mut Output<W>,
+    names: &KernelBounds,
+    modules: &str,
+    kallsyms: &str,
+    notes: &ListingNotes,
+)
+    ensures { Says W.contents writer.old writer.new
+        (run_lines names.now modules.now kallsyms.now notes.now) }
+{
+    put_run_note(writer, names, modules.as_bytes(), notes.modules);
+    put_if_noted(writer, names, kallsyms.as_bytes(), notes.kallsyms);
+}
+
+/// Writes what is noted of the listing of modules of a run, if something is.
+fn put_run_note<W: Write>(
+    writer: &mut Output<W>,
+    names: &KernelBounds,
+    file: &[u8],
+    note: Option<ListingNote>,
+)
+    ensures { Says W.contents writer.old writer.new (run_line names.now file.now note) }
+{
+    if is_overlap(note) {
+        put_overlap(writer, file);
+    } else {
+        put_if_noted(writer, names, file, note);
+    }
+}
+
+/// Whether it is noted that modules overlap.
+fn is_overlap(note: Option<ListingNote>) -> bool
+    ensures { result ≡ is_overlap note }
+{
+    match note {
+        Some(ListingNote::ModulesOverlap) => true,
+        None
+        | Some(
+            ListingNote::Gzip
+            | ListingNote::AllHidden
+            | ListingNote::LooksLikeSymbols
+            | ListingNote::LooksLikeModules
+            | ListingNote::LinesEndInCrLf
+            | ListingNote::NoStart
+            | ListingNote::NoEnd
+            | ListingNote::OtherBoot
+            | ListingNote::NoModuleLine
+            | ListingNote::NoSymbolLine,
+        ) => false,
+    }
+}
+
+/// Writes that modules overlap, and what a run is to be given.
+fn put_overlap<W: Write>(writer: &mut Output<W>, file: &[u8])
+    ensures { Says W.contents writer.old writer.new (overlap_line file.now) }
+{
+    writer.put(b"latchsym: note: ");
+    writer.put(file);
+    writer.put(b": modules overlap, as sizes do from Linux 6.4 on; give --regions\n");
 }
 
 /// Writes what is noted of the listings in these files, where these names are given for the kernel's
@@ -124,8 +222,30 @@ fn put_note<W: Write>(writer: &mut Output<W>, names: &KernelBounds, file: &[u8],
     writer.put(b"\n");
 }
 
+/// Writes what the addresses of the log in this file tell of the listing.
+pub fn put_log_note<W: Write>(writer: &mut Output<W>, log: &str, names: LogNames)
+    ensures { Says W.contents writer.old writer.new (log_line log.now names) }
+{
+    if names.is_of_another_boot() {
+        put_other_boot(writer, log, names);
+    } else {
+        put_unnamed(writer, log, names);
+    }
+}
+
+/// Writes that no address of the log in this file has a name.
+fn put_unnamed<W: Write>(writer: &mut Output<W>, log: &str, names: LogNames)
+    ensures { Says W.contents writer.old writer.new (unnamed_line log.now names) }
+{
+    writer.put(b"latchsym: note: ");
+    writer.put(log.as_bytes());
+    writer.put(b": none of its ");
+    writer.put_decimal(names.addresses);
+    writer.put(b" addresses has a name in the listing\n");
+}
+
 /// Writes that the names which the log in this file has itself are not those of the listing.
-pub fn put_other_boot<W: Write>(writer: &mut Output<W>, log: &str, names: LogNames)
+fn put_other_boot<W: Write>(writer: &mut Output<W>, log: &str, names: LogNames)
     ensures { Says W.contents writer.old writer.new (other_boot_line log.now names) }
 {
     writer.put(b"latchsym: note: ");

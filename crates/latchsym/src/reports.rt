@@ -8,14 +8,14 @@ ghost use Rattle.latchsym.specs.Reports.{IsConcluded, IsFaultTold, IsNoted};
 ghost use Rattle.latchsym.specs.Reports.{bad_line_text, fault_text, file_of, message_text};
 ghost use Rattle.latchsym.specs.Reports.{unread_text, unwritten_text};
 ghost use Rattle.listing.specs.ListingNotes.{is_some_noted};
-ghost use Rattle.listing.specs.LogNames.{is_of_another_boot};
-ghost use Rattle.latchsym.specs.NoteTexts.{note_lines, notes_text, other_boot_line};
+ghost use Rattle.latchsym.specs.NoteTexts.{is_log_noted, log_line, note_lines, notes_text};
 
-use crate::note_texts::{put_job_notes, put_notes_of, put_other_boot};
+use crate::note_texts::{put_job_notes, put_log_note, put_notes_of};
 use crate::requests::{Job, ListingFiles};
 use arrayvec::ArrayString;
 use engines::{FAILED, Fault, Finished, put_refused};
-use listing::{ListingNotes, LogNames};
+use listing::ListingNotes;
+use logs::LogNames;
 use modules::KernelBounds;
 use std::fmt::Write as _;
 use std::io;
@@ -68,14 +68,22 @@ pub fn note_listings<W: Write>(
     }
 }
 
-/// Writes that the log in this file is of another boot than the listing, where its own names tell so.
+/// Writes what is noted of the log in this file, if what was found of its addresses tells that the
+/// listing is another one.
 pub fn note_log<W: Write>(names: LogNames, log: &str, writer: &mut Output<W>)
-    ensures { IsNoted W.contents writer.old writer.new (is_of_another_boot names)
-        (other_boot_line log.now names) }
+    ensures { IsNoted W.contents writer.old writer.new (is_log_noted names)
+        (log_line log.now names) }
 {
-    if names.is_of_another_boot() {
-        put_other_boot(writer, log, names);
+    if is_log_noted(names) {
+        put_log_note(writer, log, names);
     }
+}
+
+/// Whether what was found of a log's addresses tells that the listing is another one.
+fn is_log_noted(names: LogNames) -> bool
+    ensures { result ≡ is_log_noted names }
+{
+    names.is_of_another_boot() || names.is_unnamed()
 }
 
 /// Writes the line that says why the job failed, and returns the program's status. Where the writer

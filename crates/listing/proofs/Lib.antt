@@ -24,19 +24,3 @@ pub mod ListingNoteLemmas
 pub mod OverlapLemmas
 -- a listed module that a catalog lacks was kept out
 pub mod OverlapLawLemmas
--- what is kept of the bytes before a place of a log is enough
-pub mod LogContextLemmas
--- what is inserted at a place, whatever comes behind the bytes that are there
-pub mod InsertionLemmas
--- blocks of a log that are read and written one after the other
-pub mod AnnotationLemmas
--- how far nothing is inserted between the bytes of a log
-pub mod LogPlainLemmas
--- bytes of a log that are passed together
-pub mod LogPassLemmas
--- names that a log has itself behind its addresses
-pub mod LogNameLemmas
--- symbols that a search by address leaves out
-pub mod AliasLemmas
--- names of a log that are counted while it is read
-pub mod LogTallyLemmas

@@ -21,23 +21,5 @@ pub mod RegionListing
 pub mod Opening
 -- where the lines of listings went
 pub mod Tallies
--- the words of a log, and the addresses that words are
-pub mod LogWords
 -- what a file of addresses says
 pub mod Addresses
--- where an address word stands in its line
-pub mod LogPlaces
--- a log with the text of the answer behind each address that stands in it
-pub mod AnnotatedLogs
--- names that a log has itself behind its addresses
-pub mod LogNames
--- what is kept of the bytes before a place of a log
-pub mod LogContexts
--- what is known of the order of the symbols that a log is answered from
-pub mod LogIndexes
--- what is inserted while a log is read
-pub mod Insertions
--- what is kept of the names of a log while it is read
-pub mod LogTallies
--- what was read of a log, and what was written for it
-pub mod Annotation

@@ -1,8 +1,9 @@
 -- What a listing looks like of which no line is of use.
 use Rattle.std.specs.Prelude.{◌≡◌, ℕ, Bool, true, false, not, ◌||◌, ◌&&◌, nat_eq, nat_lt, is_none, find}
-use Rattle.std.specs.Prelude.{length}
+use Rattle.std.specs.Prelude.{length, take}
+use Rattle.std.specs.Char.{is_digit}
 use Rattle.std.specs.Prelude.{List, [], ◌∷◌, Result, Ok, Err}
-use Rattle.std.specs.List.{ends_with, list_any, starts_with}
+use Rattle.std.specs.List.{ends_with, list_all, list_any, starts_with}
 use Rattle.std.specs.Option.{option_map_or}
 use Rattle.std.specs.Str.{bytes_eq}
 use Rattle.texts.specs.Lines.{lines_of}
@@ -63,6 +64,17 @@ is_module_line line =
 
 abbrev pub is_symbol_line : List ℕ → Bool
 is_symbol_line line = is_hidden_symbol (symbol_of line) || is_shown_symbol (symbol_of line)
+
+-- the line begins with more than 8 hexadecimal digits
+abbrev pub begins_wide : List ℕ → Bool
+begins_wide line = nat_lt 8 (length line) && list_all (λ b. is_digit b 16) (take 9 line)
+
+-- The listing is that of a 32-bit kernel: a line is well formed, and none of these has an address that
+-- is written with more than 8 digits.
+abbrev pub is_narrow : List (List ℕ) → Bool
+is_narrow lines =
+    list_any is_symbol_line lines
+    && not (list_any (λ l. is_symbol_line l && begins_wide l) lines)
 
 -- the first line that is well formed in either listing is one of the listing of modules
 abbrev pub looks_like_modules : List (List ℕ) → Bool

@@ -92,10 +92,6 @@ abbrev pub symbols_with : Bool → List ListedSymbol → List ListedSymbol
 symbols_with true symbols = symbols
 symbols_with false symbols = filter (λ s. not (is_mapping s.name)) symbols
 
--- some symbols are listed, and all below 4294967296, as those of a 32-bit kernel
-abbrev pub is_narrow : List ListedSymbol → Bool
-is_narrow symbols = nat_lt 0 (length symbols) && list_all (λ s. nat_lt s.addr (2 ^ 32)) symbols
-
 -- the symbols that the lines are, in their order
 abbrev pub symbols_in : List (List ℕ) → List ListedSymbol
 symbols_in lines = taken_by symbol_of lines

@@ -60,7 +60,7 @@ pub struct LogRule {
 impl LogRule {
     /// The rule for an address whose place in its line says that it is a return address, or does
     /// not.
-    pub(crate) fn rule_at(self, says_so: bool) -> AddressRule
+    pub fn rule_at(self, says_so: bool) -> AddressRule
         ensures { result ≡ rule_at self says_so }
     {
         AddressRule {

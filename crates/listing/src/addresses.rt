@@ -5,12 +5,11 @@ ghost use Rattle.std.specs.Prelude.{◌≡◌, ◌≢◌, ◌≤◌, ◌<◌, Er
 ghost use Rattle.texts.specs.Counted.{device_of, failures_of, Rose};
 ghost use Rattle.texts.specs.Said.{Gives};
 ghost use Rattle.listing.specs.Addresses.{address_in_line, addresses_of, is_blank_end};
-ghost use Rattle.listing.specs.Addresses.{without_blank_end};
+ghost use Rattle.listing.specs.Addresses.{sixteen_digits, without_blank_end};
 
-use crate::log_words::sixteen_digits;
 use std::alloc::{AllocError, Global};
 use std::io::Read;
-use texts::{Counted, Form, LineFault, entries_in, number, read_whole};
+use texts::{Counted, Form, LineFault, entries_in, hexadecimal, number, read_whole};
 
 /// The form of a line that is an address.
 #[derive(Drop)]
@@ -35,6 +34,19 @@ fn address_in_line(line: &[u8]) -> Option<u64>
         Some(addr) => Some(addr),
         None => number(text),
     }
+}
+
+/// The hexadecimal digits of an address without `0x`: those that the kernel writes.
+const DIGITS: usize = 16;
+
+/// The number that just 16 hexadecimal digits write.
+fn sixteen_digits(text: &[u8]) -> Option<u64>
+    ensures { result ≡ sixteen_digits text.now }
+{
+    if text.len() != DIGITS {
+        return None;
+    }
+    hexadecimal(text)
 }
 
 /// The text without the blanks, tabs and carriage returns that it ends in.

@@ -83,7 +83,7 @@ fn held_at(item: Option<Item>, addr: u64) -> Option<(Item, u64)>
 
 /// The item that was found for the address that the rule looks up, and this address, where the item
 /// holds it.
-pub(crate) fn sought(rule: AddressRule, item: Option<Item>, addr: u64) -> Option<(Item, u64)>
+pub fn sought(rule: AddressRule, item: Option<Item>, addr: u64) -> Option<(Item, u64)>
     ensures is { result ≡ sought rule item addr }
     ensures holds { IfSome result (λ s. (s.0.a ≤ s.1) × (s.1 < s.0.b)) }
 {

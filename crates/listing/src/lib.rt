@@ -1,23 +1,13 @@
-//! The grammars of the listings and of logs, the notes on listings, and the text of an answer.
+//! The grammars of the listings, the notes on them, and the text of an answer.
 #![tactic(auto)]
 
 mod address_rules;
 mod addresses;
-mod annotation;
 mod answers;
 mod causes;
 mod gaps;
-mod insertions;
 mod laws;
 mod listing_notes;
-mod log_blocks;
-mod log_contexts;
-mod log_index;
-mod log_names;
-mod log_places;
-mod log_tallies;
-mod log_verdicts;
-mod log_words;
 mod looks;
 mod module_listing;
 mod opening;
@@ -28,8 +18,7 @@ mod tallies;
 
 pub use address_rules::{AddressRule, Callers, LogRule};
 pub use addresses::read_addresses;
-pub use annotation::{LogFault, annotate};
-pub use answers::{Answer, answer_of, farther, put_answer};
+pub use answers::{Answer, answer_of, farther, put_answer, sought};
 pub use causes::{Cause, Counts, each_line_is_counted_once};
 pub use laws::{
     addresses_by_their_lines, each_listed_line_is_counted_once, left_out_modules_overlap,
@@ -38,13 +27,11 @@ pub use laws::{
 pub use listing_notes::{
     ListingNote, ListingNotes, SymbolFacts, applies_to_kallsyms, applies_to_modules,
 };
-pub use log_names::LogNames;
-pub use looks::{are_modules_hidden, are_symbols_hidden};
+pub use looks::{are_modules_hidden, are_symbols_hidden, is_narrow};
 pub use module_listing::{ModuleCounts, SkippedModule, read_modules};
 pub use opening::{Listings, SymbolListing, open_listings, open_symbols};
 pub use region_listing::read_regions;
 pub use symbol_listing::{
-    SkippedSymbol, SymbolCounts, cut, cut_tabbed_line, is_mapping, is_narrow, read_kallsyms,
-    symbol_of_line,
+    SkippedSymbol, SymbolCounts, cut, cut_tabbed_line, is_mapping, read_kallsyms, symbol_of_line,
 };
 pub use tallies::{LineTallies, LineTally, Row, put_counts};

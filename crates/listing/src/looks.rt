@@ -2,11 +2,13 @@
 //! reader, one of another kind, or one whose lines end as another system ends them.
 ghost use Rattle.std.specs.Prelude.{◌≡◌, ◌∷◌, ◌&&◌, ◌||◌, [], List, ℕ, find, length, nat_lt, not};
 ghost use Rattle.std.specs.Prelude.{option_map};
-ghost use Rattle.std.specs.List.{list_any};
+ghost use Rattle.std.specs.Char.{is_digit};
+ghost use Rattle.std.specs.List.{list_all, list_any};
 ghost use Rattle.texts.specs.Lines.{lines_of};
 ghost use Rattle.listing.specs.Looks.{AreKernelSymbols, are_modules_hidden, are_symbols_hidden};
-ghost use Rattle.listing.specs.Looks.{first_ends_in_cr, is_gzip, is_kernel_symbol, is_module_line};
-ghost use Rattle.listing.specs.Looks.{is_of_kernel, is_symbol_line, lacks_lines};
+ghost use Rattle.listing.specs.Looks.{begins_wide, first_ends_in_cr, is_gzip, is_kernel_symbol};
+ghost use Rattle.listing.specs.Looks.{is_module_line, is_narrow, is_of_kernel, is_symbol_line};
+ghost use Rattle.listing.specs.Looks.{lacks_lines};
 ghost use Rattle.listing.specs.Looks.{looks_like_modules, looks_like_symbols};
 ghost use Rattle.listing.specs.ModuleListing.{module_counts, modules_in};
 ghost use Rattle.listing.specs.SymbolListing.{symbol_counts, symbols_in};
@@ -16,7 +18,7 @@ use crate::module_listing::{ModuleCounts, SkippedModule, module_in};
 use crate::symbol_listing::{SkippedSymbol, SymbolCounts, cut_tabbed_line, symbol_of_line};
 use memchr::memchr;
 use modules::{KernelBounds, SymbolLine, SymbolLines};
-use texts::cut_line;
+use texts::{cut_line, digit_of};
 
 /// Whether the first two bytes are those of a file that gzip made.
 pub fn is_gzip(text: &[u8]) -> bool
@@ -85,6 +87,43 @@ fn is_symbol_line(line: &[u8]) -> bool
         Ok(_) | Err(SkippedSymbol::Hidden) => true,
         Err(SkippedSymbol::Long | SkippedSymbol::Malformed) => false,
     }
+}
+
+/// The most digits that a 32-bit kernel writes of an address.
+const NARROW_DIGITS: usize = 8;
+
+/// Whether a listing of symbols is that of a 32-bit kernel: it has a well-formed line, and none whose
+/// address is written with more than 8 digits. It is read up to the first that is.
+pub fn is_narrow(text: &[u8]) -> bool
+    ensures { result ≡ is_narrow (lines_of text.now) }
+{
+    let mut any = false;
+    let mut rest = text;
+    while !rest.is_empty() {
+        let (line, after) = cut_line(rest);
+        if is_symbol_line(line) {
+            if begins_wide(line) {
+                return false;
+            }
+            any = true;
+        }
+        rest = after;
+    }
+    any
+}
+
+/// Whether the line begins with more than 8 hexadecimal digits.
+fn begins_wide(line: &[u8]) -> bool
+    ensures { result ≡ begins_wide line.now }
+{
+    line.len() > NARROW_DIGITS && are_digits(&line[..NARROW_DIGITS + 1])
+}
+
+/// Whether all of the bytes are hexadecimal digits.
+fn are_digits(bytes: &[u8]) -> bool
+    ensures { result ≡ list_all (λ b. is_digit b 16) bytes.now }
+{
+    bytes.iter().all(|byte| digit_of(*byte) < 16)
 }
 
 /// The first line that is well formed in a listing of either kind.

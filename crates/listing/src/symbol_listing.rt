@@ -13,7 +13,7 @@ ghost use Rattle.std.specs.Prelude.{◌≡◌, ◌<◌, ◌∷◌, ◌++◌, [],
 ghost use Rattle.memchr.specs.Find.{IsFirst, IsFirstByte, Passes, is_byte};
 ghost use Rattle.std.specs.Option.{option_copied, option_map};
 ghost use Rattle.texts.specs.Lines.{lines_of};
-ghost use Rattle.listing.specs.SymbolListing.{address_in, bracketed, cut_at, is_mapping, is_narrow};
+ghost use Rattle.listing.specs.SymbolListing.{address_in, bracketed, cut_at, is_mapping};
 ghost use Rattle.listing.specs.SymbolListing.{symbol_before, symbol_cause_name, symbol_causes};
 ghost use Rattle.listing.specs.SymbolListing.{symbol_counts, symbol_of, symbol_of_text};
 ghost use Rattle.listing.specs.SymbolListing.{symbol_place, symbols_in, symbols_with};
@@ -72,9 +72,6 @@ impl Cause<3> for SkippedSymbol {
 
     ghost in_order = { refl };
 }
-
-/// The greatest address of a 32-bit kernel.
-const GREATEST_NARROW: u64 = 4294967295;
 
 /// How many lines of a listing of symbols were skipped, by cause.
 pub type SymbolCounts = Counts<SkippedSymbol, 3>;
@@ -279,24 +276,4 @@ pub fn read_kallsyms<'a>(
         listed,
         skipped,
     })
-}
-
-/// Whether a listing of symbols has one, and none above 4294967295, as that of a 32-bit kernel. It
-/// is read up to the first that is.
-pub fn is_narrow(text: &[u8]) -> bool
-    ensures { result ≡ is_narrow (symbols_in (lines_of text.now)) }
-{
-    let mut any = false;
-    let mut rest = text;
-    while !rest.is_empty() {
-        let (line, tab, after) = cut_tabbed_line(rest);
-        if let Ok(symbol) = symbol_of_line(line, tab) {
-            if symbol.addr > GREATEST_NARROW {
-                return false;
-            }
-            any = true;
-        }
-        rest = after;
-    }
-    any
 }

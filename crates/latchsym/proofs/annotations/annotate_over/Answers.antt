@@ -1,4 +1,4 @@
-use Rattle.latchsym.proofs.Words.{[], ◌∙◌, ap, Err, Some, inl, refl, subst, sym, IsNoted, is_some_noted, note_lines, is_narrow, symbols_in, lines_of, IsCatalogOf, OpensCatalog, given_in, Refused, AnnotatesLog}
+use Rattle.latchsym.proofs.Words.{[], ◌∙◌, ap, Err, Some, inl, refl, subst, sym, IsNoted, is_some_noted, note_lines, is_narrow, lines_of, IsCatalogOf, OpensCatalog, given_in, Refused, AnnotatesBy, AnnotatesLog, answered_by}
 use Rattle.order_laws.specs.declared.refusals.Refusal.TheVariants as refusal
 use Rattle.latchsym.proofs.FaultLemmas.{handed_on}
 use Rattle.latchsym.proofs.AnnotationLemmas.{log_annotated, not_opened}
@@ -27,13 +27,17 @@ returns g c =
     let opened = c.in_ok-opened.opened in
     log_annotated g.L.Read.remaining g.W.Write.contents g.E.Write.contents a.request.now a.job.now a.log.now c.annotate_by.new.log a.writer.now c.annotate_by.new.writer a.errors.now c.annotate_by.new.errors
     (Some given) c.annotate_by.result (record {
-      catalog = c.in_ok-index.index;
-      narrow = c.is_narrow-is_narrow.result;
+      catalog = c.new-answers.result.index;
+      narrow = c.new-answers.result.is_narrow;
       notes = opened.notes;
       noted = c.note_listings.new.writer;
-      sized = c.is_narrow-is_narrow.ensures ∙ ap (λ t. is_narrow (symbols_in (lines_of t))) c.deref.ensures.value;
-      said = subst (λ x. IsCatalogOf a.request.now.kernel given x opened.notes) (sym c.in_ok-index.ensures)
+      sized = c.new-answers.ensures.narrow ∙ c.is_narrow-is_narrow.ensures ∙ ap (λ t. is_narrow (lines_of t)) c.deref.ensures.value;
+      said = subst (λ x. IsCatalogOf a.request.now.kernel given x opened.notes) (sym (c.new-answers.ensures.index ∙ c.in_ok-index.ensures))
           (subst (λ k. IsCatalogOf k given opened.catalog opened.notes) c.as_ref-kernel.ensures.value c.in_ok-opened.ensures);
       told = subst (λ k. IsNoted g.E.Write.contents a.errors.now c.note_listings.new.writer (is_some_noted opened.notes) (note_lines k a.request.now.files opened.notes)) c.as_ref-kernel.ensures.value c.note_listings.ensures;
-      holds = c.annotate_by.ensures;
+      holds = subst
+          (λ rule. AnnotatesBy g.L.Read.remaining g.W.Write.contents g.E.Write.contents a.job.now.log.now
+          (answered_by c.new-answers.result.index rule c.new-answers.result.is_narrow)
+          a.log.now c.annotate_by.new.log a.writer.now c.annotate_by.new.writer c.note_listings.new.writer c.annotate_by.new.errors c.annotate_by.result)
+          c.new-answers.ensures.rule c.annotate_by.ensures;
     })
