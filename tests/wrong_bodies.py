@@ -114,7 +114,7 @@ def record(edit, verdict, why=""):
     with RECORD:
         print(f"{edit}: {verdict}{why}", flush=True)
         lines = open(TRIED, encoding="utf-8").read().splitlines() if os.path.exists(TRIED) else []
-        lines = [it for it in lines if it.split()[:2] != [edit.crate, edit.name]]
+        lines = [it for it in lines if it.split()[:2] != [edit.crate, edit.name] and os.path.exists("/".join([FOLDER, *it.split()[:2]]) + ".edit")]
         with open(TRIED, "w", encoding="utf-8") as file:
             print(*sorted([*lines, f"{edit.crate} {edit.name} {verdict} at {commit}"]), sep="\n", file=file)
     return verdict == REFUSED
