@@ -26,6 +26,14 @@ static struct latchsym_place read_file(const char *path) {
     return (struct latchsym_place){bytes, len};
 }
 
+static int is_of_word(char c) { return isalnum((unsigned char)c) || c == '_'; }
+
+/* whether one - joins the word in these places of a line to another one, as in a range */
+static int is_joined(const char *line, size_t len, size_t at, size_t end) {
+    return (at > 1 && line[at - 1] == '-' && is_of_word(line[at - 2])) ||
+           (end + 1 < len && line[end] == '-' && is_of_word(line[end + 1]));
+}
+
 /* whether a word is an address: 0x and 9 to 16 hexadecimal digits, or 16 of them */
 static int is_address(const char *word, size_t len, uint64_t *addr) {
     int has_head = len > 2 && word[0] == '0' && (word[1] | 32) == 'x';
@@ -58,6 +66,19 @@ static void write_text(FILE *out, struct latchsym_catalog *catalog, uint64_t add
     }
 }
 
+/* whether the rest of a line says the text itself: perhaps behind a ? or a (, and with a build id */
+static int says_itself(const char *rest, size_t len, const char *text, size_t text_len) {
+    static const char *const heads[] = {" ", " ? ", " ("};
+    size_t said = text_len - 1 - (text[text_len - 1] == ']');
+    for (size_t i = 0; i < sizeof heads / sizeof *heads; i++) {
+        size_t head = strlen(heads[i]);
+        if (len >= head + said && !memcmp(rest, heads[i], head) &&
+            !memcmp(rest + head, text + 1, said))
+            return 1;
+    }
+    return 0;
+}
+
 int main(int argc, char **argv) {
     struct latchsym_listings listings = LATCHSYM_LISTINGS_INIT;
     struct latchsym_catalog catalog = {0};
@@ -79,8 +100,8 @@ int main(int argc, char **argv) {
         size_t len = (size_t)got, end;
         for (size_t at = 0; at < len; at = end) {
             for (end = at; end < len; end++)
-                if (!isalnum((unsigned char)line[end]) && line[end] != '_') break;
-            int is_one = is_address(line + at, end - at, &addr);
+                if (!is_of_word(line[end])) break;
+            int is_one = is_address(line + at, end - at, &addr) && !is_joined(line, len, at, end);
             if (end == at) end++;
             while (is_one && end < len && memchr(">])", line[end], 3)) end++;
             fwrite(line + at, 1, end - at, stdout);
@@ -88,8 +109,7 @@ int main(int argc, char **argv) {
             rewind(texts);
             write_text(texts, &catalog, addr);
             fflush(texts);
-            /* a log that has the text already keeps it as it is */
-            if (len - end < text_len || memcmp(line + end, text, text_len))
+            if (text_len && !says_itself(line + end, len - end, text, text_len))
                 fwrite(text, 1, text_len, stdout);
         }
     }
