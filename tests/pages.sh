@@ -127,7 +127,7 @@ for tool in bash cat cp cut date dirname find grep mktemp realpath rm sed tr; do
     ln -s "$(command -v $tool)" "$work/tools"
 done
 for script in "bash install.sh $work/prefix" "bash "tests/{cases,quick,linear,bindings}.sh \
-    "$(command -v python3) tests/wrong_bodies.py --all"; do
+    "$(python3 -c 'import sys; print(sys.executable)') tests/wrong_bodies.py --all"; do
     status=0
     # shellcheck disable=SC2086
     (cd "$top" && env -u PROGRAMS PATH="$work/tools" $script) >"$work/out" 2>&1 || status=$?
