@@ -125,11 +125,12 @@ class Round:
 
     def __init__(self, folder, some):
         self.some, self.is_read, crate = some, True, f"{folder}/crates/{some[0].crate}"
-        kept = {}
+        self.files, kept = {}, {}
         try:
             for edit in some:
                 texts, _ = edits.edited(crate, edit.path)
                 self.is_read = self.is_read and texts is not None
+                self.files[edit] = {os.path.relpath(it, crate) for it in texts or {}}
                 for path, text in (texts or {}).items():
                     with open(path, encoding="utf-8") as file:
                         kept.setdefault(path, file.read())
@@ -151,6 +152,12 @@ class Round:
         own = [it for it in said if it != "proved" and not re.match(r"no proof: it (calls|passes|waits)", it)]
         return REFUSED if self.is_read and own else None
 
+    def unread(self):
+        """The edits of a file of which something was not read; the latter half if none tells."""
+        files = set(re.findall(r"^(?:\./)?(\S+?):\d+:\d+: error", self.said, re.M))
+        found = [it for it in self.some if self.files.get(it, set()) & files]
+        return found if 0 < len(found) < len(self.some) else self.some[len(self.some) // 2 :]
+
     def waits(self, edit):
         """Whether the edit's function has no proof only since another has none."""
         module, name = edit.function
@@ -165,10 +172,10 @@ def check(folder):
 
 def try_in_rounds(folder, some):
     """Tries these edits of a crate that is laid out in the folder, and returns how many are refused."""
-    refused, waiting = 0, []
+    refused, waiting, alone = 0, [], {it for it in some if not it.function}
     while some:
-        chosen = waiting or [next(it for it in some if it.function == key) for key in dict.fromkeys(it.function for it in some)]
-        chosen = [it for it in chosen if it.function] or chosen[:1]
+        together = [it for it in some if it not in alone]
+        chosen = waiting or [next(it for it in together if it.function == key) for key in dict.fromkeys(it.function for it in together)] or some[:1]
         waiting = []
         while chosen:
             tried = Round(folder, chosen)
@@ -178,8 +185,9 @@ def try_in_rounds(folder, some):
             some = [it for it in some if it not in done]
             left = [it for it in chosen if it not in done]
             if not tried.is_read and len(chosen) > 1:
-                # one of them is not read: half of them, and the others in a later round
-                chosen = chosen[: len(chosen) // 2]
+                unread = tried.unread()
+                alone.update(unread)
+                chosen = [it for it in chosen if it not in unread]
                 continue
             waiting = [it for it in left if tried.waits(it)] if done else []
             chosen = [] if waiting or done and not left else left[:1]
