@@ -2,8 +2,9 @@
 """edits.py: whether each edit that must fail fits its file: each `old:` text stands there once, after
 the earlier ones were put in.
 
-    edits.py [EDIT..]                       looks at these, or at all of crates/*/must-fail and tests/wrong_bodies
-    edits.py --apply FOLDER CRATE EDIT      puts the edit of a crate into a copy of the repository
+    edits.py [EDIT..]      looks at these, or at all of crates/*/must-fail and tests/wrong_bodies
+
+As a module: puts an edit into a copy of its crate.
 """
 import glob
 import os
@@ -47,16 +48,25 @@ def edited(folder, edit):
     return (texts, None) if old is not None else (None, "it has no line 'old:'")
 
 
+def write(texts):
+    """Writes these texts to the files of these paths."""
+    for path, text in texts.items():
+        with open(path, "w", encoding="utf-8") as file:
+            file.write(text)
+
+
+def put_in(folder, edit):
+    """Puts an edit into the crate in this folder: what its files held before, by their paths; or else what is wrong."""
+    texts, why = edited(folder, edit)
+    before = {}
+    for path in texts or {}:
+        with open(path, encoding="utf-8") as file:
+            before[path] = file.read()
+    write(texts or {})
+    return before, why
+
+
 def main(words):
-    if words[:1] == ["--apply"]:
-        top, crate, edit = words[1:]
-        texts, why = edited(folder_of(top, crate), edit)
-        if why:
-            sys.exit(f"{edit}: {why}")
-        for path, text in texts.items():
-            with open(path, "w", encoding="utf-8") as it:
-                it.write(text)
-        return 0
     edits = words or sorted(glob.glob(f"{TOP}/crates/*/must-fail/*.edit") + glob.glob(f"{TOP}/tests/wrong_bodies/*/*.edit"))
     bad = 0
     for edit in edits:

@@ -113,10 +113,12 @@ def record(edit, verdict, why=""):
     commit = subprocess.check_output(["git", "-C", TOP, "rev-parse", "--short=8", "HEAD"], text=True).strip()
     with RECORD:
         print(f"{edit}: {verdict}{why}", flush=True)
-        lines = open(TRIED, encoding="utf-8").read().splitlines() if os.path.exists(TRIED) else []
-        lines = [it for it in lines if it.split()[:2] != [edit.crate, edit.name] and os.path.exists("/".join([FOLDER, *it.split()[:2]]) + ".edit")]
+        with open(TRIED, encoding="utf-8") as file:
+            tried = {tuple(it.split()[:2]): it for it in file.read().splitlines()}
+        tried[edit.crate, edit.name] = f"{edit.crate} {edit.name} {verdict} at {commit}"
+        lines = (it for (crate, name), it in tried.items() if os.path.exists(f"{FOLDER}/{crate}/{name}.edit"))
         with open(TRIED, "w", encoding="utf-8") as file:
-            print(*sorted([*lines, f"{edit.crate} {edit.name} {verdict} at {commit}"]), sep="\n", file=file)
+            print(*sorted(lines), sep="\n", file=file)
     return verdict == REFUSED
 
 
@@ -128,19 +130,13 @@ class Round:
         self.files, kept = {}, {}
         try:
             for edit in some:
-                texts, _ = edits.edited(crate, edit.path)
-                self.is_read = self.is_read and texts is not None
-                self.files[edit] = {os.path.relpath(it, crate) for it in texts or {}}
-                for path, text in (texts or {}).items():
-                    with open(path, encoding="utf-8") as file:
-                        kept.setdefault(path, file.read())
-                    with open(path, "w", encoding="utf-8") as file:
-                        file.write(text)
+                before, why = edits.put_in(crate, edit.path)
+                self.is_read = self.is_read and not why
+                self.files[edit] = {os.path.relpath(it, crate) for it in before}
+                kept = {**before, **kept}
             self.said = check(crate) if self.is_read else ""
         finally:
-            for path, text in kept.items():
-                with open(path, "w", encoding="utf-8") as file:
-                    file.write(text)
+            edits.write(kept)
         self.is_read = self.is_read and "\nlogic=" in self.said and not any(map(UNREAD.match, self.said.splitlines()))
 
     def verdict(self, edit):
@@ -217,12 +213,9 @@ def try_by_test(edit):
             if os.path.isfile(f"{TOP}/{it}"):
                 os.makedirs(os.path.dirname(f"{folder}/{it}"), exist_ok=True)
                 shutil.copy(f"{TOP}/{it}", f"{folder}/{it}")
-        texts, why = edits.edited(edits.folder_of(folder, edit.crate), edit.path)
+        _, why = edits.put_in(edits.folder_of(folder, edit.crate), edit.path)
         if why:
             return record(edit, BAD, f": {why}")
-        for path, text in texts.items():
-            with open(path, "w", encoding="utf-8") as file:
-                file.write(text)
         ran = subprocess.run(["bash", "-c", edit.test], cwd=folder, stdin=subprocess.DEVNULL, stdout=subprocess.PIPE, stderr=subprocess.STDOUT, text=True, errors="replace")
         if "is not compiled" in ran.stdout:
             return record(edit, BAD, next((f": {it}" for it in ran.stdout.splitlines() if "error[" in it), ""))
