@@ -24,10 +24,11 @@
  * of another kind. A second close does nothing. A call that is refused changes nothing but what is
  * said of it here.
  *
- * From a signal handler only the calls marked "handler" may be made, each with handles that no call
- * which the signal interrupts has: they take no memory. It is proved that they return rightly where
- * the signal comes between two calls on the table (block the signal during the writer's calls). A
- * handler that interrupts a running call of the writer is tested, and not proved.
+ * From a signal handler only the calls marked "handler" may be made: they take no memory. To one a
+ * handle is closed while a call has it which the signal interrupts, and so is, to one in a forked
+ * child, a handle that a call of another thread had. It is proved that they return rightly where the
+ * signal comes between two calls on the table (block the signal during the writer's calls). A handler
+ * inside a running call is tested, and not proved.
  */
 #ifndef LATCHSYM_H
 #define LATCHSYM_H
