@@ -182,6 +182,8 @@ pub enum JobFault<'a> {
     BadReaders(&'a str),
     /// The words pass, and still name no job.
     NoJob,
+    /// A word of the command line is not valid UTF-8.
+    NoText,
 }
 
 impl<T: Drop> From<AllocFailed<T>> for JobFault<'_> {
