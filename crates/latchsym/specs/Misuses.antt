@@ -15,7 +15,7 @@ use Rattle.latchsym.specs.declared.requests.JobFault.TheVariants.{OutOfMemory, C
 use Rattle.latchsym.specs.declared.requests.JobFault.TheVariants.{BadAddress, NoAddress}
 use Rattle.latchsym.specs.declared.requests.JobFault.TheVariants.{BadEnd, BadOffset}
 use Rattle.latchsym.specs.declared.requests.JobFault.TheVariants.{BadReaders, NoJob, NoText}
-use Rattle.latchsym.specs.declared.requests.JobFault.TheVariants.{NoModules, ModulesTwice}
+use Rattle.latchsym.specs.declared.requests.JobFault.TheVariants.{ModulesTwice}
 use Rattle.latchsym.specs.declared.requests.JobFault.TheVariants.{RegionsAlone, TakenTwice}
 use Rattle.engines.specs.declared.fault.Fault.TheVariants.{Refused, Write}
 
@@ -74,10 +74,8 @@ IsNoJob contents errors w w' e e' (BadAddress word) status =
     IsMisusedAlone errors w w' e e' (codes "bad address ") word.now status
 IsNoJob contents errors w w' e e' NoAddress status =
     IsMisusedAlone errors w w' e e' (codes "no address is given") [] status
-IsNoJob contents errors w w' e e' NoModules status =
-    IsMisusedAlone errors w w' e e' (codes "a lookup needs --modules FILE or --modules-from-symbols") [] status
 IsNoJob contents errors w w' e e' ModulesTwice status =
-    IsMisusedAlone errors w w' e e' (codes "--modules-from-symbols stands in place of --modules and --regions") [] status
+    IsMisusedAlone errors w w' e e' (codes "--modules-from-symbols cannot be used with --modules or --regions") [] status
 IsNoJob contents errors w w' e e' RegionsAlone status =
     IsMisusedAlone errors w w' e e' (codes "--regions needs --modules") [] status
 IsNoJob contents errors w w' e e' TakenTwice status =
@@ -89,6 +87,6 @@ IsNoJob contents errors w w' e e' (BadEnd word) status =
 IsNoJob contents errors w w' e e' (BadReaders word) status =
     IsMisusedAlone errors w w' e e' (codes "bad number of readers ") word.now status
 IsNoJob contents errors w w' e e' NoJob status =
-    IsMisusedAlone errors w w' e e' (codes "the command line names no job") [] status
+    IsMisusedAlone errors w w' e e' (codes "no command") [] status
 IsNoJob contents errors w w' e e' NoText status =
-    IsMisusedAlone errors w w' e e' (codes "a word of the command line is no text") [] status
+    IsMisusedAlone errors w w' e e' (codes "an argument is not valid UTF-8") [] status

@@ -32,13 +32,8 @@ pub fn refuse<W: Write, E: Write>(
         JobFault::CommandLine(error) => explain(alloc, &error, writer, errors),
         JobFault::BadAddress(word) => misused(b"bad address ", word, errors),
         JobFault::NoAddress => misused(b"no address is given", "", errors),
-        JobFault::NoModules => misused(
-            b"a lookup needs --modules FILE or --modules-from-symbols",
-            "",
-            errors,
-        ),
         JobFault::ModulesTwice => misused(
-            b"--modules-from-symbols stands in place of --modules and --regions",
+            b"--modules-from-symbols cannot be used with --modules or --regions",
             "",
             errors,
         ),
@@ -51,8 +46,8 @@ pub fn refuse<W: Write, E: Write>(
             errors,
         ),
         JobFault::BadReaders(word) => misused(b"bad number of readers ", word, errors),
-        JobFault::NoJob => misused(b"the command line names no job", "", errors),
-        JobFault::NoText => misused(b"a word of the command line is no text", "", errors),
+        JobFault::NoJob => misused(b"no command", "", errors),
+        JobFault::NoText => misused(b"an argument is not valid UTF-8", "", errors),
     }
 }
 
