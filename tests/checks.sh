@@ -64,6 +64,10 @@ faulty() {
     "$program" check "$@" >"$work/out" 2>"$work/err" || status=$?
     [ $status = "$want" ] && [ ! -s "$work/out" ] && [ "$(cat "$work/err")" = "$line" ] || fail "check $*: status $status, $(cat "$work/err")"
 }
+if [ -r /proc/kallsyms ]; then
+    "$program" check >"$work/alone" 2>&1 || true
+    "$program" check --kallsyms /proc/kallsyms 2>&1 | cmp -s - "$work/alone" || fail "no options: $(head -n 2 "$work/alone")"
+fi
 faulty 1 'latchsym: nowhere: cannot be read (No such file or directory)' --kallsyms nowhere
 faulty 1 'latchsym: nowhere: cannot be read (No such file or directory)' --modules nowhere --kallsyms basic.kallsyms
 faulty 1 "latchsym: basic.modules: line 1 is not understood" --modules basic.modules --kallsyms basic.kallsyms --regions basic.modules

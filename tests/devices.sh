@@ -47,12 +47,21 @@ pieces() {
 
 declare -A said=([4]='Interrupted system call' [28]='No space left on device' [32]='Broken pipe')
 
-# reasons ARGUMENT..: the first read, and all writes, fail with an error of each kind, of which std
-# calls a write that was interrupted again where there is a buffer
+# reasons ARGUMENT..: the first read, and all writes, fail with an error of each kind. std makes a write
+# again that was interrupted, but one that is too large for its buffer.
 reasons() {
     local error name wanted
     for error in "${!said[@]}"; do
-        if [ $error != 4 ] || [ "$1" = annotate ]; then
+        if [ $error = 4 ]; then
+            FAILURE=4 once FAILED_WRITE=1 "$@"
+            wanted="latchsym: cannot write"
+            case $1 in
+                annotate | address | check) wanted+=" (${said[4]})" ;;
+            esac
+            { [ $status = 0 ] && [ ! -s err ] && cmp -s out ample; } ||
+                { [ $status = 1 ] && [ "$(cat err)" = "$wanted" ] && [ ! -s out ]; } ||
+                fail "latchsym $*: the first write is interrupted: status $status, $(cat err)"
+        else
             FAILURE=$error once FAILED_WRITES=1 "$@"
             case $1 in
                 annotate | address | check) wanted="latchsym: cannot write (${said[$error]})" ;;

@@ -305,6 +305,9 @@ if [ -r /proc/kallsyms ] && ! head -n 1 /proc/kallsyms | grep -q '^0* '; then
     "$program" lookup --modules-from-symbols --kallsyms /proc/kallsyms "0x$(grep -m 1 ' _stext$' /proc/kallsyms | cut -d' ' -f1)" >"$work/out" 2>"$work/err" && [ ! -s "$work/err" ] ||
         fail "the symbols of this machine alone: $(cat "$work/err")"
     head -n 1 "$work/out" | grep -q '+0x0/' || fail "the symbols of this machine alone: $(head -n 1 "$work/out")"
+    # an address alone is enough, as the kernel writes it
+    "$program" lookup "$(grep -m 1 ' _stext$' /proc/kallsyms | cut -d' ' -f1)" 2>"$work/err" | cmp -s - "$work/out" ||
+        fail "an address alone: $(cat "$work/err")"
 fi
 noted 'latchsym: note: basic.modules: looks like a listing of modules\n' --modules-from-symbols --kallsyms basic.modules 1
 noted 'latchsym: note: hidden.kallsyms: every address is 0; read it as root (kernel.kptr_restrict)\n' --modules-from-symbols --kallsyms hidden.kallsyms 1
@@ -393,10 +396,10 @@ refused 2 "bad address 16x" --modules no_such --kallsyms no_such 16 16x y
 refused 2 "bad address 18446744073709551616" --modules no_such --kallsyms no_such 18446744073709551616
 refused 2 "no address is given" --modules no_such --kallsyms no_such
 refused 2 "no address is given" "${basic[@]}" --kernel _stext _etext
-refused 2 "" --modules basic.modules 1
-refused 2 "a lookup needs --modules FILE or --modules-from-symbols" --kallsyms basic.kallsyms 1
-refused 2 "--modules-from-symbols stands in place of --modules and --regions" "${alone[@]}" --modules basic.modules 1
-refused 2 "--modules-from-symbols stands in place of --modules and --regions" "${alone[@]}" --regions regions.regions 1
+refused 2 "" --modules 1
+refused 2 "--regions needs --modules" --kallsyms basic.kallsyms --regions regions.regions 1
+refused 2 "--modules-from-symbols cannot be used with --modules or --regions" "${alone[@]}" --modules basic.modules 1
+refused 2 "--modules-from-symbols cannot be used with --modules or --regions" "${alone[@]}" --regions regions.regions 1
 refused 2 "--kernel takes two names of symbols, and its END is 0x10" "${alone[@]}" --kernel _stext 0x10
 refused 2 "no address is given" "${alone[@]}"
 refused 2 "bad address 16x" "${alone[@]}" 16x

@@ -284,7 +284,7 @@ expect 2 trace && [ ! -s "$work/out" ] && [ -s "$work/err" ] || fail "no file: n
 expect 2 lock both_ends.trace && [ ! -s "$work/out" ] && [ -s "$work/err" ] || fail "no subcommand: not on standard error"
 for words in $'\xff' $'trace \xff' $'trace both_ends.trace \xff' $'lookup --modules \xff' $'--help \xff'; do
     # shellcheck disable=SC2086
-    expect 2 $words && [ ! -s "$work/out" ] && [ "$(cat "$work/err")" = "latchsym: a word of the command line is no text" ] || fail "a word that is no text: $(cat "$work/err")"
+    expect 2 $words && [ ! -s "$work/out" ] && [ "$(cat "$work/err")" = "latchsym: an argument is not valid UTF-8" ] || fail "a word that is no text: $(cat "$work/err")"
 done
 expect 2 trace both_ends.trace both_ends.trace && [ ! -s "$work/out" ] && [ -s "$work/err" ] || fail "two files: not on standard error"
 expect 1 trace no_such.trace && [ "$(cat "$work/err")" = "latchsym: no_such.trace: cannot be read" ] || fail "no such file"

@@ -43,7 +43,7 @@ pub use Rattle.order_laws.specs.declared.items.Item.{Item}
 pub use Rattle.texts.proofs.OutputLemmas.{all_delivered, part_written, piece_said, same_text, then, then_flushed}
 pub use Rattle.texts.specs.Exact.{hexadecimal}
 pub use Rattle.texts.specs.Lines.{lines_of}
-pub use Rattle.texts.specs.Numbers.{number_of}
+pub use Rattle.listing.specs.Addresses.{address_of_text}
 pub use Rattle.texts.specs.Output.{Delivered, Delivers, Says, WrotePart, has_failed}
 pub use Rattle.texts.specs.declared.counted.Counted.{Counted}
 pub use Rattle.texts.specs.declared.output.Output.{Output}
@@ -88,7 +88,7 @@ pub use Rattle.latchsym.specs.AskedNames.{AskedSymbols, asked_of, cut_at_last, c
 pub use Rattle.latchsym.specs.Checks.{IsChecked, IsModulesReport, IsSymbolsReport, listings_report, modules_name, symbol_listing_report, with_modules}
 pub use Rattle.latchsym.specs.CommandLine.{IsCommand, IsPlainArg, latchsym_app, top_app}
 pub use Rattle.latchsym.specs.GivenAnswers.{AnswersGiven, AnswersListings, HoldsOfRegions, IsTextWritten}
-pub use Rattle.latchsym.specs.Jobs.{AnswersMatches, AnswersWords, Gives, IsAddressIn, IsAnnotateIn, IsFaultOf, IsLookupIn, IsRequestIn, IsUnparsed, is_no_number}
+pub use Rattle.latchsym.specs.Jobs.{AnswersMatches, AnswersWords, Gives, IsAddressIn, IsAnnotateIn, IsFaultOf, IsLookupIn, IsRequestIn, IsUnparsed, is_no_address}
 pub use Rattle.latchsym.specs.KeptSymbols.{IsSought, Kept, end_of, found_by, is_owner, is_sought, kept_at_its_address, kept_in, kept_line, kept_symbol, kept_symbols, named, sought}
 pub use Rattle.latchsym.specs.NoteTexts.{applying_lines, line_if_noted, line_where, message_of, note_line, note_lines, noted_bounds, notes_text}
 pub use Rattle.latchsym.specs.Operands.{ends_options, is_kernel_name, operand_place}

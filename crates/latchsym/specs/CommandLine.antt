@@ -60,14 +60,14 @@ with_listings app one two =
     with_rules app
     (one ∷ two ∷ optional_rule (codes "regions") ∷ pair_rule (codes "kernel") ∷ [])
 
--- lookup [--modules FILE] --kallsyms FILE [--regions FILE] [--kernel START END]
+-- lookup [--modules FILE] [--kallsyms FILE] [--regions FILE] [--kernel START END]
 -- [--modules-from-symbols] [--addresses FILE] [--callers] [--offset N] [--json] [--no-counts]
 -- [ADDR]..
 abbrev pub lookup_app : App
 lookup_app =
     with_rules
     (with_listings (new_app (codes "lookup")) (optional_rule (codes "modules"))
-    (option_rule (codes "kallsyms")))
+    (optional_rule (codes "kallsyms")))
     (flag_rule (codes "modules-from-symbols") ∷ optional_rule (codes "addresses")
     ∷ flag_rule (codes "callers") ∷ optional_rule (codes "offset") ∷ flag_rule (codes "json")
     ∷ flag_rule (codes "no-counts") ∷ words_rule (codes "address") ∷ [])
@@ -90,11 +90,11 @@ annotate_app =
     (flag_rule (codes "callers") ∷ flag_rule (codes "exact") ∷ optional_rule (codes "offset")
     ∷ optional_word_rule (codes "log") ∷ [])
 
--- check [--modules FILE] --kallsyms FILE [--regions FILE] [--kernel START END]
+-- check [--modules FILE] [--kallsyms FILE] [--regions FILE] [--kernel START END]
 abbrev pub check_app : App
 check_app =
     with_listings (new_app (codes "check")) (optional_rule (codes "modules"))
-    (option_rule (codes "kallsyms"))
+    (optional_rule (codes "kallsyms"))
 
 -- address [--kallsyms FILE] [--modules FILE] [--regions FILE] [--kernel START END] [--offset N]
 -- [--json] [--no-counts] NAME..

@@ -4,7 +4,7 @@ use Rattle.std.specs.Prelude.{Option, Some, None, Result, Ok, Err, codes, find, 
 use Rattle.std.specs.Prelude.{unwrap_or, if◌then◌else◌}
 use Rattle.std.specs.Global.{Vec}
 use Rattle.std.specs.List.{filter_map, list_any, starts_with}
-use Rattle.std.specs.Option.{option_map, option_map_or}
+use Rattle.std.specs.Option.{option_map, option_map_or, option_or}
 use Rattle.std.specs.Str.{bytes_eq}
 use Rattle.clap.specs.Words.{IsAmong, Row, Text, all_of, fault_of, first_of, found_of, kind_of}
 use Rattle.clap.specs.Words.{rows_of, subcommand_of}
@@ -16,6 +16,7 @@ use Rattle.listing.specs.declared.address_rules.Callers.{Callers}
 use Rattle.listing.specs.declared.address_rules.Callers.TheVariants.{ByPlace, Every, Never}
 use Rattle.latch_table.specs.Limits.{most_readers}
 use Rattle.texts.specs.Numbers.{between, number_of}
+use Rattle.listing.specs.Addresses.{address_of_text}
 use Rattle.modules.specs.Listed.{BoundNames}
 use Rattle.latchsym.specs.CommandLine.{latchsym_app}
 use Rattle.latchsym.specs.declared.requests.Address.{Address}
@@ -26,7 +27,7 @@ use Rattle.latchsym.specs.declared.requests.JobFault.{JobFault}
 use Rattle.latchsym.specs.declared.requests.JobFault.TheVariants.{BadAddress, BadEnd, BadOffset}
 use Rattle.latchsym.specs.declared.requests.JobFault.TheVariants.{BadReaders, CommandLine}
 use Rattle.latchsym.specs.declared.requests.JobFault.TheVariants.{ModulesTwice, NoAddress, NoJob}
-use Rattle.latchsym.specs.declared.requests.JobFault.TheVariants.{NoModules, OutOfMemory}
+use Rattle.latchsym.specs.declared.requests.JobFault.TheVariants.{OutOfMemory}
 use Rattle.latchsym.specs.declared.requests.JobFault.TheVariants.{RegionsAlone, TakenTwice}
 use Rattle.latchsym.specs.declared.requests.ListingFiles.{ListingFiles}
 use Rattle.latchsym.specs.declared.requests.Lookup.{Lookup}
@@ -51,14 +52,13 @@ has_flag id rows = option_map_or (λ text. bytes_eq text (codes "true")) (first_
 
 -- ---- options that do not go together
 
--- the modules of a lookup come from two places, or from none
+-- the modules of a lookup come from two places
 abbrev pub source_clash : List Row → Option JobFault
 source_clash rows =
     let listed = is_some (first_of (codes "modules") rows) in
     let regions = is_some (first_of (codes "regions") rows) in
-    if has_flag (codes "modules-from-symbols") rows
-    then if listed || regions then Some ModulesTwice else None
-    else if listed then None else Some NoModules
+    if has_flag (codes "modules-from-symbols") rows && (listed || regions) then Some ModulesTwice
+    else None
 
 -- regions are named without modules, or callers are asked for in two ways
 abbrev pub option_clash : List Row → Option JobFault
@@ -71,7 +71,8 @@ option_clash rows =
 -- what is wrong with the options of a subcommand of this name beside one another, if something is
 abbrev pub clash_in : Text → List Row → Option JobFault
 clash_in name rows =
-    if bytes_eq name (codes "lookup") then source_clash rows else option_clash rows
+    if bytes_eq name (codes "lookup") then option_or (source_clash rows) (option_clash rows)
+    else option_clash rows
 
 -- ---- the listings
 
@@ -130,9 +131,9 @@ form_in rows = record {
   counts = not (has_flag (codes "no-counts") rows);
 }
 
--- the word is no number
-abbrev pub is_no_number : Text → Bool
-is_no_number word = is_none (number_of word)
+-- the word is no address
+abbrev pub is_no_address : Text → Bool
+is_no_address word = is_none (address_of_text word)
 
 -- no address is given in any place
 abbrev pub lacks_addresses : List Row → Bool
@@ -140,10 +141,10 @@ lacks_addresses rows =
     nat_eq (length (values_in (codes "address") rows)) 0
     && is_none (first_of (codes "addresses") rows)
 
--- the addresses of the command line are these numbers
+-- the words of the command line are these addresses
 pub record AreNumbersIn (rows : List Row) (numbers : Vec ℕ) : Type 0 where
-  pub none_bad : find is_no_number (values_in (codes "address") rows) ≡ None
-  pub items : numbers.items ≡ filter_map number_of (values_in (codes "address") rows)
+  pub none_bad : find is_no_address (values_in (codes "address") rows) ≡ None
+  pub items : numbers.items ≡ filter_map address_of_text (values_in (codes "address") rows)
 
 -- some address is given, and these are what the values say of them
 pub record IsLookupIn (rows : List Row) (lookup : Lookup) : Type 0 where
@@ -248,7 +249,7 @@ HasBadValue name rows (BadOffset word) = HasBadOffset rows word.now
 HasBadValue name rows NoAddress = (name ≡ codes "lookup") × (lacks_addresses rows ≡ true)
 HasBadValue name rows (BadAddress word) =
     (name ≡ codes "lookup")
-    × (find is_no_number (values_in (codes "address") rows) ≡ Some word.now)
+    × (find is_no_address (values_in (codes "address") rows) ≡ Some word.now)
 HasBadValue name rows (BadReaders word) =
     (name ≡ codes "run") × HasBadReaders rows word.now
 HasBadValue name rows NoJob = IsIncomplete name rows

@@ -37,3 +37,5 @@ pub mod Addresses
 pub mod Files
 -- what comes of a job: that of its engine over the job's own readers
 pub mod Outcomes
+-- what the whole program does, from its words and files to its outputs and its status
+pub mod Programs

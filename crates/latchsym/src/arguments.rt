@@ -17,7 +17,7 @@ use clap::error::ErrorKind;
 use clap::{ArgMatches, Error};
 use engines::AnswerForm;
 use latch_table::MOST_READERS;
-use listing::{AddressRule, Callers, LogRule};
+use listing::{AddressRule, Callers, LogRule, address_of_text};
 use modules::KernelBounds;
 use std::alloc::Global;
 use std::convert::AsStr;
@@ -84,21 +84,21 @@ fn clash_in<'a>(name: &str, found: &ArgMatches<'_>) -> Option<JobFault<'a>>
     ensures { result ≡ clash_in name.now (rows_in found.now) }
 {
     match name {
-        "lookup" => source_clash(found),
+        "lookup" => source_clash(found).or(option_clash(found)),
         _ => option_clash(found),
     }
 }
 
-/// A lookup has its modules from one place.
+/// A lookup whose modules come from the symbols is given no other place of them.
 fn source_clash<'a>(found: &ArgMatches<'_>) -> Option<JobFault<'a>>
     ensures { result ≡ source_clash (rows_in found.now) }
 {
     let is_listed = value_of(found, "modules").is_some();
     let has_regions = value_of(found, "regions").is_some();
-    match is_given(found, "modules-from-symbols") {
-        true if is_listed || has_regions => Some(JobFault::ModulesTwice),
-        false if !is_listed => Some(JobFault::NoModules),
-        _ => None,
+    if is_given(found, "modules-from-symbols") && (is_listed || has_regions) {
+        Some(JobFault::ModulesTwice)
+    } else {
+        None
     }
 }
 
@@ -207,7 +207,7 @@ fn lookup_in<'a>(alloc: Global, found: &ArgMatches<'a>) -> Result<Lookup<'a>, Jo
     if words.is_empty() && file.is_none() {
         return Err(JobFault::NoAddress);
     }
-    let addresses = numbers_of(alloc, words)?;
+    let addresses = addresses_of(alloc, words)?;
     Ok(Lookup {
         addresses,
         file,
@@ -229,19 +229,19 @@ fn form_in(found: &ArgMatches<'_>) -> AnswerForm
     }
 }
 
-/// The numbers that words are.
-fn numbers_of<'a>(alloc: Global, words: &[&'a str]) -> Result<Vec<u64>, JobFault<'a>>
+/// The addresses that words are.
+fn addresses_of<'a>(alloc: Global, words: &[&'a str]) -> Result<Vec<u64>, JobFault<'a>>
     ensures { (rows : List Row) → map (λ w. w.now) words.now ≡ values_in (codes "address") rows
         → Gives AreNumbersIn (codes "lookup") rows result }
 {
-    let mut numbers = Vec::new(alloc);
+    let mut addresses = Vec::new(alloc);
     for word in words {
-        match number(word.as_bytes()) {
-            Some(number) => numbers.push(number)?,
+        match address_of_text(word.as_bytes()) {
+            Some(addr) => addresses.push(addr)?,
             None => return Err(JobFault::BadAddress(word)),
         }
     }
-    Ok(numbers)
+    Ok(addresses)
 }
 
 /// The script that is run, over modules that are listed.

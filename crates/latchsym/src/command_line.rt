@@ -108,19 +108,19 @@ fn with_listings<'a>(
 fn lookup_command<'a>(alloc: Global) -> Result<Command<'a>, AllocError>
     ensures { IfOk result (IsCommand lookup_app) }
 {
-    let symbols_help = "Find the modules from their symbols, instead of --modules and --regions";
+    let symbols_help = "Find the modules from their symbols, as without --modules";
     let file_help = "More addresses, one per line; - is standard input";
     let callers_help = "Take the addresses as return addresses, and name the callers";
     let json_help = "Write answers and counts as JSON, one object per line";
-    let address_help = "The addresses, decimal, or hexadecimal after 0x";
+    let address_help = "The addresses: 16 hexadecimal digits, hexadecimal after 0x, or decimal";
     let command = described(
         alloc,
         "lookup",
         "Say which module and symbol hold an address",
     );
-    let modules = optional_option(alloc, "modules", "FILE", MODULES_HELP);
-    let kallsyms = required_option(alloc, "kallsyms", "FILE", KALLSYMS_HELP);
-    with_listings(alloc, command, modules, kallsyms, BOUNDS_HELP)?
+    let modules = optional_option(alloc, "modules", "FILE", GIVEN_MODULES_HELP);
+    let kallsyms = optional_option(alloc, "kallsyms", "FILE", GIVEN_KALLSYMS_HELP);
+    with_listings(alloc, command, modules, kallsyms, GIVEN_BOUNDS_HELP)?
         .arg(flag(alloc, "modules-from-symbols", symbols_help))?
         .arg(optional_option(alloc, "addresses", "FILE", file_help))?
         .arg(flag(alloc, "callers", callers_help))?
@@ -177,7 +177,7 @@ fn check_command<'a>(alloc: Global) -> Result<Command<'a>, AllocError>
         "Say what is wrong with listings, and how many of their lines are usable",
     );
     let modules = optional_option(alloc, "modules", "FILE", GIVEN_MODULES_HELP);
-    let kallsyms = required_option(alloc, "kallsyms", "FILE", KALLSYMS_HELP);
+    let kallsyms = optional_option(alloc, "kallsyms", "FILE", GIVEN_KALLSYMS_HELP);
     with_listings(alloc, command, modules, kallsyms, GIVEN_BOUNDS_HELP)
 }
 

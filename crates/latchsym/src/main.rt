@@ -30,36 +30,37 @@ mod log_index;
 mod misuse;
 mod note_texts;
 mod operands;
+mod programs;
 mod reports;
 mod requests;
 
-use arguments::job_of;
 use engines::Fault;
 use input::FileSystem;
-use jobs::{do_job, open_job};
-use misuse::{misused, refuse};
-use operands::with_operands;
 use order_laws::Refusal;
-use reports::{conclude, report_before_job};
-use requests::{Job, JobFault, Subcommand};
+use programs::program;
+use reports::report_before_job;
+use requests::JobFault;
 use std::env;
-use std::io::{BufWriter, ErrorKind, Stderr, Write};
+use std::io::{BufWriter, ErrorKind};
 use std::process::ExitCode;
-use std::sync::Wait;
-use std::thread::Threads;
 use texts::{BLOCK, Output};
 
-/// Memory ran out before there was a job to do.
-const NO_MEMORY: Fault = Fault::Refused(Refusal::OutOfMemory);
-
+/// Runs the program over the words, the files and the outputs of the process.
 fn main(rt: HostRuntime) -> ExitCode {
     let mut errors = Output::new(rt.stderr());
-    let status = match words_of(&rt) {
-        Ok(words) => answer(&rt, &rt, words.as_slice(), &mut errors),
-        Err(ErrorKind::OutOfMemory) => refuse(&rt, JobFault::OutOfMemory, &mut errors),
-        Err(_) => misused(b"a word of the command line is no text", "", &mut errors),
+    let Ok(buffer) = BufWriter::with_capacity(rt.alloc(), BLOCK, rt.stdout()) else {
+        let no_memory = Fault::Refused(Refusal::OutOfMemory);
+        return ExitCode::from(report_before_job(&no_memory, &mut errors));
     };
-    ExitCode::from(status)
+    let mut writer = Output::new(buffer);
+    let words = words_of(&rt);
+    let words = match &words {
+        Ok(words) => Ok(words.as_slice()),
+        Err(ErrorKind::OutOfMemory) => Err(JobFault::OutOfMemory),
+        Err(_) => Err(JobFault::NoText),
+    };
+    let files = FileSystem { rt: &rt };
+    ExitCode::from(program(&rt, rt.alloc(), words, &files, &mut writer, &mut errors))
 }
 
 /// The words of the command line, the first of which is the program's name.
@@ -68,77 +69,4 @@ fn words_of(rt: &HostRuntime) -> Result<Vec<String>, ErrorKind> {
     words
         .collect(rt.alloc())
         .map_err(|_| ErrorKind::OutOfMemory)
-}
-
-/// Does what the words ask for, and returns the program's status.
-fn answer<T: Threads + Wait + Sync>(
-    rt: &HostRuntime,
-    threads: &T,
-    words: &[String],
-    errors: &mut Output<Stderr>,
-) -> u8 {
-    let Ok(words) = with_operands(rt.alloc(), words) else {
-        return refuse(rt, JobFault::OutOfMemory, errors);
-    };
-    match job_of(rt.alloc(), words.as_slice()) {
-        Ok(job) => run(rt, threads, &job, errors),
-        Err(fault) => refuse(rt, fault, errors),
-    }
-}
-
-/// Does the job, and returns the program's status.
-fn run<T: Threads + Wait + Sync>(
-    rt: &HostRuntime,
-    threads: &T,
-    job: &Job<'_>,
-    errors: &mut Output<Stderr>,
-) -> u8 {
-    if writes_blocks(job) {
-        let mut writer = Output::new(rt.stdout());
-        return run_to(rt, threads, job, &mut writer, errors);
-    }
-    match BufWriter::with_capacity(rt.alloc(), BLOCK, rt.stdout()) {
-        Ok(buffer) => {
-            let mut writer = Output::new(buffer);
-            run_to(rt, threads, job, &mut writer, errors)
-        }
-        Err(_) => report_before_job(&NO_MEMORY, errors),
-    }
-}
-
-/// Whether the engine of the job writes blocks, so that nothing has to gather its output; for the
-/// others there is a buffer before anything is read.
-fn writes_blocks(job: &Job<'_>) -> bool {
-    match job {
-        Job::Trace { .. } => true,
-        Job::Steps { .. } => false,
-        Job::Request(request) => match request.subcommand {
-            Subcommand::Annotate(_) => true,
-            Subcommand::Lookup(_)
-            | Subcommand::Run(_)
-            | Subcommand::Check
-            | Subcommand::Address(_) => false,
-        },
-    }
-}
-
-/// Opens the files of the job, does it, and says how it ended. The host that may start threads and
-/// wait for them is taken beside the one that reads and writes, since a script alone needs it.
-fn run_to<T: Threads + Wait + Sync, W: Write>(
-    rt: &HostRuntime,
-    threads: &T,
-    job: &Job<'_>,
-    writer: &mut Output<W>,
-    errors: &mut Output<Stderr>,
-) -> u8 {
-    let files = FileSystem { rt };
-    let Ok(mut opened) = open_job(&files, job) else {
-        return report_before_job(&NO_MEMORY, errors);
-    };
-    let outcome = do_job(threads, rt.alloc(), &mut opened, writer, errors);
-    let error = match &outcome {
-        Ok(_) => None,
-        Err(fault) => opened.error_behind(fault, writer),
-    };
-    conclude(outcome, job, error, errors)
 }

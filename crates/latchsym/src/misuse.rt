@@ -1,7 +1,7 @@
 //! What is said of a command line that gives no job, and the program's status.
 ghost use Rattle.std.specs.Prelude.{◌≡◌};
 ghost use Rattle.texts.specs.Output.{Says};
-ghost use Rattle.latchsym.specs.Misuses.{IsExplained, IsMisused, IsNoJob, misuse_text};
+ghost use Rattle.latchsym.specs.Misuses.{IsExplained, IsHelped, IsMisused, IsNoJob, misuse_text};
 ghost use Rattle.latchsym.specs.Misuses.{offset_message};
 
 use crate::reports::report_before_job;
@@ -9,32 +9,31 @@ use crate::requests::JobFault;
 use clap::Error;
 use engines::{Fault, SUCCEEDED};
 use order_laws::Refusal;
+use std::alloc::Global;
 use std::io::Write;
 use texts::{Output, hexadecimal};
 
 /// The program's status where the command line is at fault.
 const MISUSED: u8 = 2;
 
-/// Says why the command line gives no job, and returns the program's status.
-pub fn refuse<P: Print + Eprint, E: Write>(
-    rt: &P,
+/// Says why the command line gives no job, and returns the program's status. Help that was asked for
+/// goes to the writer.
+pub fn refuse<W: Write, E: Write>(
+    alloc: Global,
     fault: JobFault<'_>,
+    writer: &mut Output<W>,
     errors: &mut Output<E>,
 ) -> u8
-    ensures { IsNoJob E.contents errors.old errors.new fault.entry result }
+    ensures { IsNoJob W.contents E.contents writer.old writer.new errors.old errors.new fault.entry
+        result }
 {
     match fault {
         JobFault::OutOfMemory => report_before_job(&Fault::Refused(Refusal::OutOfMemory), errors),
-        JobFault::CommandLine(error) => explain(rt, &error, errors),
+        JobFault::CommandLine(error) => explain(alloc, &error, writer, errors),
         JobFault::BadAddress(word) => misused(b"bad address ", word, errors),
         JobFault::NoAddress => misused(b"no address is given", "", errors),
-        JobFault::NoModules => misused(
-            b"a lookup needs --modules FILE or --modules-from-symbols",
-            "",
-            errors,
-        ),
         JobFault::ModulesTwice => misused(
-            b"--modules-from-symbols stands in place of --modules and --regions",
+            b"--modules-from-symbols cannot be used with --modules or --regions",
             "",
             errors,
         ),
@@ -47,7 +46,8 @@ pub fn refuse<P: Print + Eprint, E: Write>(
             errors,
         ),
         JobFault::BadReaders(word) => misused(b"bad number of readers ", word, errors),
-        JobFault::NoJob => misused(b"the command line names no job", "", errors),
+        JobFault::NoJob => misused(b"no command", "", errors),
+        JobFault::NoText => misused(b"an argument is not valid UTF-8", "", errors),
     }
 }
 
@@ -63,24 +63,43 @@ fn offset_message(word: &str) -> &'static [u8]
     }
 }
 
-/// Prints what the parser of the command line has to say: help on the standard output, a fault on
-/// the standard error.
-fn explain<P: Print + Eprint, E: Write>(rt: &P, error: &Error, errors: &mut Output<E>) -> u8
-    ensures { IsExplained E.contents errors.old errors.new error.now result }
+/// Says what the parser of the command line has to say, and returns the program's status: help goes
+/// to the writer, a fault to `errors`.
+fn explain<W: Write, E: Write>(
+    alloc: Global,
+    error: &Error,
+    writer: &mut Output<W>,
+    errors: &mut Output<E>,
+) -> u8
+    ensures { IsExplained W.contents E.contents writer.old writer.new errors.old errors.new
+        error.now result }
 {
-    let printed = error.print(rt);
+    let Ok(text) = format!(in alloc; "{error}") else {
+        return report_before_job(&Fault::Refused(Refusal::OutOfMemory), errors);
+    };
     if error.use_stderr() {
+        errors.put(text.as_bytes());
         return MISUSED;
     }
-    match printed {
-        Ok(()) => SUCCEEDED,
-        Err(_) => report_before_job(&Fault::Write, errors),
+    help(&text, writer, errors)
+}
+
+/// Writes help that was asked for, and returns the program's status.
+fn help<W: Write, E: Write>(text: &str, writer: &mut Output<W>, errors: &mut Output<E>) -> u8
+    ensures { IsHelped W.contents E.contents writer.old writer.new errors.old errors.new text.now
+        result }
+{
+    writer.put(text.as_bytes());
+    writer.flush();
+    if writer.has_failed() {
+        return report_before_job(&Fault::Write, errors);
     }
+    SUCCEEDED
 }
 
 /// Says what is wrong with the command line, and with which word. Where the writer fails, the
 /// status is all that there is to tell.
-pub fn misused<E: Write>(message: &[u8], word: &str, errors: &mut Output<E>) -> u8
+fn misused<E: Write>(message: &[u8], word: &str, errors: &mut Output<E>) -> u8
     ensures { IsMisused E.contents errors.old errors.new message.now word.now result }
 {
     put_misuse(message, word, errors);

@@ -162,12 +162,10 @@ pub enum JobFault<'a> {
     /// Help that was asked for, or words that the command line does not have. The error holds the
     /// text for the user.
     CommandLine(Error),
-    /// The first address that is no number.
+    /// The first address that is none.
     BadAddress(&'a str),
     /// A lookup without an address.
     NoAddress,
-    /// A lookup that does not say where its modules come from.
-    NoModules,
     /// A lookup whose modules come both from the symbols and from a file.
     ModulesTwice,
     /// Regions of modules, and no listing of these.
@@ -180,8 +178,10 @@ pub enum JobFault<'a> {
     BadEnd(&'a str),
     /// A value of `--readers` that is no NUMBER from 1 to 64.
     BadReaders(&'a str),
-    /// The words pass, and still name no job.
+    /// No command was given, or one without what it needs.
     NoJob,
+    /// An argument is not valid UTF-8.
+    NoText,
 }
 
 impl<T: Drop> From<AllocFailed<T>> for JobFault<'_> {

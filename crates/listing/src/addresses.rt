@@ -4,7 +4,8 @@
 ghost use Rattle.std.specs.Prelude.{◌≡◌, ◌≢◌, ◌≤◌, ◌<◌, Err, IfSome, IsErrOf};
 ghost use Rattle.texts.specs.Counted.{device_of, failures_of, Rose};
 ghost use Rattle.texts.specs.Said.{Gives};
-ghost use Rattle.listing.specs.Addresses.{address_in_line, addresses_of, is_blank_end};
+ghost use Rattle.listing.specs.Addresses.{address_in_line, address_of_text, addresses_of};
+ghost use Rattle.listing.specs.Addresses.{is_blank_end};
 ghost use Rattle.listing.specs.Addresses.{sixteen_digits, without_blank_end};
 
 use std::alloc::{AllocError, Global};
@@ -29,7 +30,14 @@ impl<'a> Form<'a> for AddressForm {
 fn address_in_line(line: &[u8]) -> Option<u64>
     ensures { result ≡ address_in_line line.now }
 {
-    let text = without_blank_end(line);
+    address_of_text(without_blank_end(line))
+}
+
+/// The address that a text is: what just 16 hexadecimal digits write, as the kernel does, or else a
+/// number, decimal or hexadecimal behind `0x`.
+pub fn address_of_text(text: &[u8]) -> Option<u64>
+    ensures { result ≡ address_of_text text.now }
+{
     match sixteen_digits(text) {
         Some(addr) => Some(addr),
         None => number(text),

@@ -17,7 +17,7 @@ mod symbol_listing;
 mod tallies;
 
 pub use address_rules::{AddressRule, Callers, LogRule};
-pub use addresses::read_addresses;
+pub use addresses::{address_of_text, read_addresses};
 pub use answers::{Answer, answer_of, farther, put_answer, sought};
 pub use causes::{Cause, Counts, each_line_is_counted_once};
 pub use laws::{

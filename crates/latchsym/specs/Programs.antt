@@ -1,0 +1,75 @@
+-- What the whole program does: from the words of its command line and the files that they name to
+-- both of its outputs and its status.
+use Rattle.std.specs.Prelude.{◌≡◌, ◌⊎◌, ℕ, List, map, Option, None, Result, Ok, Err}
+use Rattle.std.specs.Borrow.{Bor}
+use Rattle.std.specs.declared.io.Error.{Error}
+use Rattle.clap.specs.Words.{Text}
+use Rattle.texts.specs.declared.output.Output.{Output}
+use Rattle.texts.specs.Output.{error_in}
+use Rattle.latchsym.specs.Files.{Held, IsOpenedFor}
+use Rattle.latchsym.specs.Jobs.{AnswersWords}
+use Rattle.latchsym.specs.Misuses.{IsNoJob}
+use Rattle.latchsym.specs.Operands.{with_operands}
+use Rattle.latchsym.specs.Outcomes.{IsOutcome}
+use Rattle.latchsym.specs.Reasons.{error_behind}
+use Rattle.latchsym.specs.Reports.{IsConcluded}
+use Rattle.latchsym.specs.declared.jobs.OpenedJob.{OpenedJob}
+use Rattle.latchsym.specs.declared.requests.Job.{Job}
+use Rattle.latchsym.specs.declared.requests.JobFault.{JobFault}
+use Rattle.latchsym.specs.declared.requests.JobFault.TheVariants.{OutOfMemory}
+use Rattle.engines.specs.declared.fault.Fault.{Fault}
+use Rattle.engines.specs.declared.fault.Finished.{Finished}
+
+-- the error behind what a job came to, if it failed
+abbrev pub error_of_outcome : {R : Type 0} → OpenedJob R → Option Error → Result Finished Fault
+    → Option Error
+error_of_outcome job written (Ok finished) = None
+error_of_outcome job written (Err fault) = error_behind job written fault
+
+-- The job was opened over the readers of its own files, its engine came to this outcome over them,
+-- and that was told, with the status that it stands for.
+pub record IsJobDone {F W E : Type 0} (remaining : F → Option (List ℕ)) (held : Held)
+    (standard : Option (List ℕ)) (contents : W → Option (List ℕ)) (errors : E → Option (List ℕ))
+    (job : Job) (w w' : Output W) (e e' : Output E) (status : ℕ) : Type 0 where
+  pub opened : OpenedJob F
+  pub done : OpenedJob F
+  pub told : Output E
+  pub outcome : Result Finished Fault
+  pub is_opened : IsOpenedFor remaining held standard job opened
+  pub is_done : IsOutcome remaining contents errors opened done w w' e told outcome
+  pub is_told : IsConcluded errors job (error_of_outcome done (error_in w') outcome) told e' outcome
+      status
+
+-- What comes of a job: it is done, or memory ran out before it was begun.
+abbrev pub ComesOf : {F W E : Type 0} → (F → Option (List ℕ)) → Held → Option (List ℕ)
+    → (W → Option (List ℕ)) → (E → Option (List ℕ)) → Job → Output W → Output W → Output E
+    → Output E → ℕ → Type 0
+ComesOf remaining held standard contents errors job w w' e e' status =
+    IsJobDone remaining held standard contents errors job w w' e e' status
+    ⊎ IsNoJob contents errors w w' e e' OutOfMemory status
+
+-- What comes of the answer to words: of their job, or of why they ask for none.
+abbrev pub ComesOfAnswer : {F W E : Type 0} → (F → Option (List ℕ)) → Held → Option (List ℕ)
+    → (W → Option (List ℕ)) → (E → Option (List ℕ)) → Result Job JobFault → Output W → Output W
+    → Output E → Output E → ℕ → Type 0
+ComesOfAnswer remaining held standard contents errors (Ok job) w w' e e' status =
+    ComesOf remaining held standard contents errors job w w' e e' status
+ComesOfAnswer remaining held standard contents errors (Err fault) w w' e e' status =
+    IsNoJob contents errors w w' e e' fault status
+
+-- The words of a command line were answered, and that came of it.
+abbrev pub AnswersArguments : {F W E : Type 0} → (F → Option (List ℕ)) → Held → Option (List ℕ)
+    → (W → Option (List ℕ)) → (E → Option (List ℕ)) → List Text → Output W → Output W
+    → Output E → Output E → ℕ → Type 0
+AnswersArguments remaining held standard contents errors words w w' e e' status =
+    (answer : Result Job JobFault) × AnswersWords (with_operands words) answer
+    × ComesOfAnswer remaining held standard contents errors answer w w' e e' status
+
+-- The program's words, where it has them, were answered; else why it has none was told.
+abbrev pub AnswersCommand : {S F W E : Type 0} → (S → Text) → (F → Option (List ℕ)) → Held
+    → Option (List ℕ) → (W → Option (List ℕ)) → (E → Option (List ℕ))
+    → Result (Bor (List S)) JobFault → Output W → Output W → Output E → Output E → ℕ → Type 0
+AnswersCommand text remaining held standard contents errors (Ok words) w w' e e' status =
+    AnswersArguments remaining held standard contents errors (map text words.now) w w' e e' status
+AnswersCommand text remaining held standard contents errors (Err fault) w w' e e' status =
+    IsNoJob contents errors w w' e e' fault status

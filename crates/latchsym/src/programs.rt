@@ -1,0 +1,94 @@
+//! The program: from the words of its command line and the files that they name to what it writes,
+//! what it says of that, and its status.
+//!
+//! ```text
+//!     words --job_of--> job --open_job--> job over its files --do_job--> output
+//!              |                                                 |
+//!            fault                                            outcome
+//!              |                                                 |
+//!              +--refuse----------> errors, status <---conclude--+
+//! ```
+//!
+//! `main` adds the words, the files and the outputs of the process.
+ghost use Rattle.std.specs.Prelude.{map};
+ghost use Rattle.latchsym.specs.Programs.{AnswersArguments, AnswersCommand, ComesOf};
+
+use crate::arguments::job_of;
+use crate::jobs::{FileSource, do_job, open_job};
+use crate::misuse::refuse;
+use crate::operands::with_operands;
+use crate::reports::conclude;
+use crate::requests::{Job, JobFault};
+use std::alloc::Global;
+use std::convert::AsStr;
+use std::io::Write;
+use std::sync::Wait;
+use std::thread::Threads;
+use texts::Output;
+
+/// Does what the words of a command line ask for, the first of which is the program's name, and
+/// returns the program's status: 0, 1 where something failed, 2 where the words ask for nothing. What
+/// was asked for goes to the writer, what is said of it to `errors`.
+///
+/// Words that are not there, since memory ran out or one is no text, are a fault as well.
+pub fn program<T: Threads + Wait + Sync, S: AsStr, F: FileSource, W: Write, E: Write>(
+    threads: &T,
+    alloc: Global,
+    words: Result<&[S], JobFault<'_>>,
+    files: &F,
+    writer: &mut Output<W>,
+    errors: &mut Output<E>,
+) -> u8
+    ensures { AnswersCommand S.text F.File.remaining (F.held files.now) (F.standard files.now)
+        W.contents E.contents words writer.old writer.new errors.old errors.new result }
+{
+    match words {
+        Ok(words) => answer(threads, alloc, words, files, writer, errors),
+        Err(fault) => refuse(alloc, fault, writer, errors),
+    }
+}
+
+/// Does what these words ask for, and returns the program's status.
+fn answer<T: Threads + Wait + Sync, S: AsStr, F: FileSource, W: Write, E: Write>(
+    threads: &T,
+    alloc: Global,
+    words: &[S],
+    files: &F,
+    writer: &mut Output<W>,
+    errors: &mut Output<E>,
+) -> u8
+    ensures { AnswersArguments F.File.remaining (F.held files.now) (F.standard files.now)
+        W.contents E.contents (map S.text words.now) writer.old writer.new
+        errors.old errors.new result }
+{
+    let Ok(words) = with_operands(alloc, words) else {
+        return refuse(alloc, JobFault::OutOfMemory, writer, errors);
+    };
+    match job_of(alloc, words.as_slice()) {
+        Ok(job) => do_whole(threads, alloc, &job, files, writer, errors),
+        Err(fault) => refuse(alloc, fault, writer, errors),
+    }
+}
+
+/// Opens the files of a job, does it, says how it ended, and returns the program's status.
+fn do_whole<T: Threads + Wait + Sync, F: FileSource, W: Write, E: Write>(
+    threads: &T,
+    alloc: Global,
+    job: &Job<'_>,
+    files: &F,
+    writer: &mut Output<W>,
+    errors: &mut Output<E>,
+) -> u8
+    ensures { ComesOf F.File.remaining (F.held files.now) (F.standard files.now)
+        W.contents E.contents job.now writer.old writer.new errors.old errors.new result }
+{
+    let Ok(mut opened) = open_job(files, job) else {
+        return refuse(alloc, JobFault::OutOfMemory, writer, errors);
+    };
+    let outcome = do_job(threads, alloc, &mut opened, writer, errors);
+    let error = match &outcome {
+        Ok(_) => None,
+        Err(fault) => opened.error_behind(fault, writer),
+    };
+    conclude(outcome, job, error, errors)
+}
