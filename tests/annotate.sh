@@ -172,6 +172,27 @@ printf 'ffffffff82000000 %s\n' 1 2 3 4 5 | noted "$none 5 addresses has a name i
 printf 'ffffffff82000000 %s\n' 1 2 3 4 'User PSW 00000000000000ff' | noted "$none 6 addresses has a name in the listing"
 printf 'ffffffff82000000 %s\n' 1 2 3 4 5 ffffffff81000108 | noted ''
 printf '\377' | noted ''
+# a packed log and one in UTF-16, also where they come byte by byte; of no others, and nothing more
+gzip='latchsym: note: -: is compressed by gzip; unpack it first'
+wide='latchsym: note: -: is UTF-16; convert it first'
+# slowly BYTE..: these bytes, in octal, each in a block of its own
+slowly() {
+    local byte
+    for byte; do
+        printf "\\$byte"
+        sleep 0.2
+    done
+}
+printf '\037\213' | noted "$gzip"
+slowly 037 213 010 | noted "$gzip"
+printf '\377\376h\0' | noted "$wide"
+printf '\376\377\0h' | noted "$wide"
+slowly 376 377 0 | noted "$wide"
+printf '\037' | noted ''
+slowly 377 377 376 | noted ''
+printf ' \037\213\n\377\376\n' | noted ''
+{ printf '\037\213\n' && printf 'ffffffff82000000 %s\n' 1 2 3 4 5; } | noted "$gzip"
+{ printf '\376\377\n' && printf '[<ffffffff81000108>] %s+0x8/0x1f00\n' a b c d e; } | noted "$wide"
 
 # refused STATUS LINE ARGUMENT..: nothing on standard output, this line on standard error (any,
 # where it is empty), and this status

@@ -123,6 +123,9 @@ def random_log(draw, plain, rule, addresses):
         length = LONGEST - len(rest) + draw.choice([-1, 0, 0, 1, 100, LONGEST])
         lines.insert(at, draw.choice([b"a", b" ", b"a ", b"0x ", b"1: "]) * length)
         lines[at] = lines[at][: max(length, 0)]
+    if draw.randrange(50) == 0:
+        # as a packed log, or one in UTF-16, begins
+        lines.insert(0, draw.choice([b"\x1f\x8b", b"\xff\xfe", b"\xfe\xff", b"\x1f\n\x8b", b"\xff\xff"]))
     log = b"".join(lines)
     return log[:-1] if draw.randrange(4) == 0 else log
 

@@ -162,7 +162,12 @@ def annotated(log, plain, rule):
 
 
 def note_of(written):
-    """What is noted of the log behind it."""
+    """What is noted of the log behind it: the first that applies."""
+    head = b"".join(written.lines)[:2]
+    if head == b"\x1f\x8b":
+        return [b"latchsym: note: log: is compressed by gzip; unpack it first"]
+    if head in (b"\xff\xfe", b"\xfe\xff"):
+        return [b"latchsym: note: log: is UTF-16; convert it first"]
     if written.disagreeing >= 5 and written.disagreeing > written.agreeing:
         names = written.agreeing + written.disagreeing
         told = b"its own names disagree with the listing (%d of %d); is the listing of this boot?"

@@ -13,7 +13,7 @@ use Rattle.latchsym.specs.Reports.{IsNoted}
 use Rattle.listing.specs.ListingNotes.{is_some_noted}
 use Rattle.latchsym.specs.LogAnswers.{answered_by}
 use Rattle.latchsym.specs.NoteTexts.{is_log_noted, log_line, note_lines}
-use Rattle.logs.specs.declared.log_names.LogNames.{LogNames}
+use Rattle.logs.specs.declared.annotation.Findings.{Findings}
 use Rattle.clap.specs.Words.{Text}
 use Rattle.engines.specs.OpenedCatalogs.{Given, HasBadRegion, HasCrowdedRegions, IsCatalogOf}
 use Rattle.listing.specs.Looks.{is_narrow}
@@ -26,14 +26,15 @@ use Rattle.listing.specs.declared.listing_notes.ListingNotes.{ListingNotes}
 use Rattle.latchsym.specs.declared.requests.Annotate.{Annotate}
 use Rattle.latchsym.specs.declared.requests.Request.{Request}
 
--- The log was annotated to its end, and if what was found of its addresses tells that the listing is
--- another one, this is noted behind it.
+-- The log was annotated to its end, and if what was found of it tells that it is packed, or that the
+-- listing is another one, this is noted behind it.
 abbrev pub IsAnnotatedLog : {L W E : Type 0} → (L → Option (List ℕ)) → (W → Option (List ℕ))
     → (E → Option (List ℕ)) → Text → Answering → Counted L → Counted L → Output W → Output W
     → Output E → Output E → Type 0
 IsAnnotatedLog remaining contents errors log answer l l' w w' e e' =
-    (names : LogNames) × Annotates remaining contents answer l l' w w' (Ok names)
-    × IsNoted errors e e' (is_log_noted names) (log_line log names)
+    (found : Findings) × Annotates remaining contents answer l l' w w' (Ok found)
+    × IsNoted errors e e' (is_log_noted found.head.items found.names)
+    (log_line log found.head.items found.names)
 
 -- How the end of the log in this file is told. A status of 1 stands for a reader of the output that
 -- is gone, of which nothing is said. The log is the file at place 3.

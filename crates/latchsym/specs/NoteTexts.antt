@@ -1,13 +1,15 @@
 -- The lines that say what is noted of listings.
 use Rattle.std.specs.Prelude.{ℕ, Bool, true, false, ◌||◌, List, [], ◌++◌, codes, flat_map, if◌then◌else◌, Option}
-use Rattle.std.specs.Prelude.{Some, None, unwrap_or, decimal, min, ◌+◌, ◌-◌, ◌^◌}
+use Rattle.std.specs.Prelude.{Some, None, unwrap_or, decimal, min, nat_eq, ◌∷◌, ◌+◌, ◌-◌, ◌^◌}
 use Rattle.std.specs.Borrow.{Bor}
+use Rattle.std.specs.List.{starts_with}
 use Rattle.std.specs.Option.{option_map_or}
 use Rattle.std.specs.Str.{bytes_eq}
 use Rattle.clap.specs.Words.{Text}
 use Rattle.modules.specs.Lines.{usual_bounds}
 use Rattle.modules.specs.Listed.{BoundNames}
 use Rattle.listing.specs.ListingNotes.{all_notes}
+use Rattle.listing.specs.Looks.{is_gzip}
 use Rattle.latchsym.specs.declared.requests.Job.{Job}
 use Rattle.latchsym.specs.declared.requests.Job.TheVariants as job
 use Rattle.latchsym.specs.declared.requests.ListingFiles.{ListingFiles}
@@ -70,14 +72,27 @@ unnamed_line log names =
     codes "latchsym: note: " ++ log ++ codes ": none of its " ++ decimal names.addresses
     ++ codes " addresses has a name in the listing\n"
 
--- what was found of a log's addresses tells that the listing is another one
-abbrev pub is_log_noted : LogNames → Bool
-is_log_noted names = is_of_another_boot names || is_unnamed names
+-- the first two bytes are those of a text in UTF-16; and the line that says it of the log in this file
+abbrev pub is_utf_16 : List ℕ → Bool
+is_utf_16 head =
+    starts_with nat_eq head (255 ∷ 254 ∷ []) || starts_with nat_eq head (254 ∷ 255 ∷ [])
 
--- the line that says so
-abbrev pub log_line : Text → LogNames → List ℕ
-log_line log names =
-    if is_of_another_boot names then other_boot_line log names else unnamed_line log names
+abbrev pub utf_16_line : Text → List ℕ
+utf_16_line log = codes "latchsym: note: " ++ log ++ codes ": is UTF-16; convert it first\n"
+
+-- the first two bytes of a log tell that it is packed or of wide characters, or what was found of its
+-- addresses tells that the listing is another one
+abbrev pub is_log_noted : List ℕ → LogNames → Bool
+is_log_noted head names =
+    is_gzip head || is_utf_16 head || is_of_another_boot names || is_unnamed names
+
+-- the line that says so: the first that applies
+abbrev pub log_line : Text → List ℕ → LogNames → List ℕ
+log_line log head names =
+    if is_gzip head then note_line usual_bounds log Gzip
+    else if is_utf_16 head then utf_16_line log
+    else if is_of_another_boot names then other_boot_line log names
+    else unnamed_line log names
 
 -- the line of what may be noted of a file
 abbrev pub line_if_noted : BoundNames → Text → Option ListingNote → List ℕ

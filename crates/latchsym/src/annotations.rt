@@ -41,8 +41,9 @@ const LOG_PLACE: u64 = 3;
 /// the log is written, and the writer flushed, after the block that its end is in was read; so
 /// whatever ends it, what was written is a beginning of the annotated log. The status is 1 where
 /// nobody reads any more what is written, as before `head`. Behind a log that was annotated to its
-/// end it is noted if the names that it has itself are not those of the listing, or none of its
-/// addresses has a name. docs/FORMATS.md has the listings, and says what is inserted.
+/// end it is noted if it is packed or of wide characters, if the names that it has itself are not those
+/// of the listing, or if none of its addresses has a name. docs/FORMATS.md has the listings, and says
+/// what is inserted.
 pub fn annotate_engine<M: Read, K: Read, R: Read, L: Read, E: Write, W: Write>(
     alloc: Global,
     readers: &mut AnnotateReaders<M, K, R, L>,
@@ -86,7 +87,7 @@ fn annotate_over<L: Read, E: Write, W: Write>(
     annotate_by(alloc, &answers, job.log, errors, log, writer)
 }
 
-/// Writes the log again by these answers, and notes if its addresses tell of another listing.
+/// Writes the log again by these answers, and notes if it is packed, or tells of another listing.
 fn annotate_by<L: Read, E: Write, W: Write>(
     alloc: Global,
     answers: &CatalogAnswers<'_, '_>,
@@ -100,8 +101,8 @@ fn annotate_by<L: Read, E: Write, W: Write>(
         log.old log.new writer.old writer.new errors.old errors.new result }
 {
     match annotate(alloc, answers, log, writer) {
-        Ok(names) => {
-            note_log(names, name, errors);
+        Ok(found) => {
+            note_log(&found, name, errors);
             Ok(SUCCEEDED)
         }
         Err(LogFault::Closed) => Ok(FAILED),

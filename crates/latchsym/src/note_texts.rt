@@ -1,7 +1,11 @@
-//! The lines that say what is noted of listings, byte for byte, with no memory taken.
+//! The lines that say what is noted of listings and of a log, byte for byte, with no memory taken.
 ghost use Rattle.std.specs.Prelude.{◌≡◌};
 ghost use Rattle.std.specs.Option.{option_copied};
 ghost use Rattle.texts.specs.Output.{Says};
+ghost use Rattle.listing.specs.Looks.{is_gzip};
+ghost use Rattle.listing.specs.declared.listing_notes.ListingNote.TheVariants.{Gzip};
+ghost use Rattle.modules.specs.Lines.{usual_bounds};
+ghost use Rattle.latchsym.specs.NoteTexts.{is_utf_16, utf_16_line};
 ghost use Rattle.latchsym.specs.NoteTexts.{is_overlap, line_if_noted, line_where, lines_asked};
 ghost use Rattle.latchsym.specs.NoteTexts.{lines_for, lines_of_run, log_line, message_of};
 ghost use Rattle.latchsym.specs.NoteTexts.{missing_text, note_line, note_lines, noted_bounds};
@@ -222,15 +226,51 @@ fn put_note<W: Write>(writer: &mut Output<W>, names: &KernelBounds, file: &[u8],
     writer.put(b"\n");
 }
 
-/// Writes what the addresses of the log in this file tell of the listing.
-pub fn put_log_note<W: Write>(writer: &mut Output<W>, log: &str, names: LogNames)
-    ensures { Says W.contents writer.old writer.new (log_line log.now names) }
+/// Whether the first two bytes are those of a file that gzip made.
+pub(crate) fn is_gzip(head: &[u8]) -> bool
+    ensures { result ≡ is_gzip head.now }
 {
-    if names.is_of_another_boot() {
+    head.starts_with(b"\x1f\x8b")
+}
+
+/// Whether the first two bytes are those of a text in UTF-16.
+pub(crate) fn is_utf_16(head: &[u8]) -> bool
+    ensures { result ≡ is_utf_16 head.now }
+{
+    head.starts_with(b"\xff\xfe") || head.starts_with(b"\xfe\xff")
+}
+
+/// Writes what is noted of the log in this file, by its first two bytes and what its addresses tell of
+/// the listing.
+pub fn put_log_note<W: Write>(writer: &mut Output<W>, log: &str, head: &[u8], names: LogNames)
+    ensures { Says W.contents writer.old writer.new (log_line log.now head.now names) }
+{
+    if is_gzip(head) {
+        put_gzip(writer, log.as_bytes());
+    } else if is_utf_16(head) {
+        put_utf_16(writer, log.as_bytes());
+    } else if names.is_of_another_boot() {
         put_other_boot(writer, log, names);
     } else {
         put_unnamed(writer, log, names);
     }
+}
+
+/// Writes that this file is compressed by gzip.
+fn put_gzip<W: Write>(writer: &mut Output<W>, file: &[u8])
+    ensures { Says W.contents writer.old writer.new (note_line usual_bounds file.now Gzip) }
+{
+    let usual = KernelBounds::usual();
+    put_note(writer, &usual, file, ListingNote::Gzip);
+}
+
+/// Writes that this file is UTF-16.
+fn put_utf_16<W: Write>(writer: &mut Output<W>, file: &[u8])
+    ensures { Says W.contents writer.old writer.new (utf_16_line file.now) }
+{
+    writer.put(b"latchsym: note: ");
+    writer.put(file);
+    writer.put(b": is UTF-16; convert it first\n");
 }
 
 /// Writes that no address of the log in this file has a name.

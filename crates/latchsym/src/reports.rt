@@ -10,12 +10,12 @@ ghost use Rattle.latchsym.specs.Reports.{unread_text, unwritten_text};
 ghost use Rattle.listing.specs.ListingNotes.{is_some_noted};
 ghost use Rattle.latchsym.specs.NoteTexts.{is_log_noted, log_line, note_lines, notes_text};
 
-use crate::note_texts::{put_job_notes, put_log_note, put_notes_of};
+use crate::note_texts::{is_gzip, is_utf_16, put_job_notes, put_log_note, put_notes_of};
 use crate::requests::{Job, ListingFiles};
 use arrayvec::ArrayString;
 use engines::{FAILED, Fault, Finished, put_refused};
 use listing::ListingNotes;
-use logs::LogNames;
+use logs::{Findings, LogNames};
 use modules::KernelBounds;
 use std::fmt::Write as _;
 use std::io;
@@ -68,22 +68,31 @@ pub fn note_listings<W: Write>(
     }
 }
 
-/// Writes what is noted of the log in this file, if what was found of its addresses tells that the
-/// listing is another one.
-pub fn note_log<W: Write>(names: LogNames, log: &str, writer: &mut Output<W>)
-    ensures { IsNoted W.contents writer.old writer.new (is_log_noted names)
-        (log_line log.now names) }
+/// Writes what is noted of the log in this file, if something is, where this was found of it.
+pub fn note_log<W: Write>(found: &Findings, log: &str, writer: &mut Output<W>)
+    ensures { IsNoted W.contents writer.old writer.new
+        (is_log_noted found.now.head.items found.now.names)
+        (log_line log.now found.now.head.items found.now.names) }
 {
-    if is_log_noted(names) {
-        put_log_note(writer, log, names);
+    note_log_by(&found.head, found.names, log, writer)
+}
+
+/// The same, where its first two bytes may tell that it is packed or of wide characters, and what was
+/// found of its addresses that the listing is another one.
+fn note_log_by<W: Write>(head: &[u8], names: LogNames, log: &str, writer: &mut Output<W>)
+    ensures { IsNoted W.contents writer.old writer.new (is_log_noted head.now names)
+        (log_line log.now head.now names) }
+{
+    if is_log_noted(head, names) {
+        put_log_note(writer, log, head, names);
     }
 }
 
-/// Whether what was found of a log's addresses tells that the listing is another one.
-fn is_log_noted(names: LogNames) -> bool
-    ensures { result ≡ is_log_noted names }
+/// Whether something is noted of a log with these first two bytes, of which this was found.
+fn is_log_noted(head: &[u8], names: LogNames) -> bool
+    ensures { result ≡ is_log_noted head.now names }
 {
-    names.is_of_another_boot() || names.is_unnamed()
+    is_gzip(head) || is_utf_16(head) || names.is_of_another_boot() || names.is_unnamed()
 }
 
 /// Writes the line that says why the job failed, and returns the program's status. Where the writer

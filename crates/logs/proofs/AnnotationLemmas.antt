@@ -1,16 +1,17 @@
 -- Blocks that are read and written one after the other.
-use Rattle.std.proofs.Common.{◌≡◌, ◌∙◌, ℕ, ◌+◌, ◌<◌, ◌≤◌, inl, inr, List, [], ◌++◌, length, length-append, arith, refl, sym, ap, subst, Option, Result, Ok, Err, append_assoc, append-nil}
-use Rattle.std.specs.Prelude.{◌-◌, ◌^◌, IsErrAnd}
-use Rattle.std.specs.Io.KnownBytes.{Consumes, IsAtEnd, Keeps}
+use Rattle.std.proofs.Common.{◌≡◌, ◌∙◌, ℕ, ◌+◌, ◌<◌, ◌≤◌, inl, inr, List, [], ◌∷◌, ◌++◌, length, length-append, arith, refl, sym, ap, subst, Option, Ok, Err, take, append_assoc, append-nil}
+use Rattle.std.specs.Prelude.{◌-◌, ◌^◌}
+use Rattle.std.specs.Io.KnownBytes.{Appends, Consumes, IsAtEnd, Keeps}
 use Rattle.std.proofs.KnownBytes.{Appends-nil, Appends-trans, Consumes-kept, Consumes-nil, Consumes-trans}
 use Rattle.texts.specs.declared.counted.Counted.{Counted}
 use Rattle.texts.specs.Counted.{NoneFailed, Rose, device_of, failures_of}
 use Rattle.texts.specs.declared.output.Output.{Output}
-use Rattle.texts.specs.Output.{WrotePart, has_failed}
+use Rattle.texts.specs.Output.{WrotePart, has_failed, writer_of}
 use Rattle.logs.specs.Answering.{Answering}
 use Rattle.logs.specs.Lines.{lines}
 use Rattle.logs.specs.AnnotatedLogs.{annotated, annotated_lines, first_held, held_over}
-use Rattle.logs.specs.Annotation.{Annotates, Begins, Ends, IsCutOff, IsOpen, IsUpToDate, KeepsNothingBack, Moves, Passes, Puts, held_in, put_of}
+use Rattle.logs.specs.Annotation.{Annotates, Begins, Ends, IsCutOff, IsOpen, IsUpToDate, KeepsNothingBack, Passes, Puts, held_in, put_of}
+use Rattle.logs.specs.declared.annotation.Findings.{Findings}
 use Rattle.logs.specs.declared.annotation.LogFault.{LogFault}
 use Rattle.logs.specs.declared.annotation.LogFault.TheVariants as fault
 use Rattle.logs.specs.declared.annotator.Annotator.{Annotator}
@@ -84,68 +85,77 @@ module _ (answer : Answering) where
             ∙ ap (λ h. h.names) (sym (ap (held_over answer first_held) all ∙ held_then answer first_held (lines p.passed) (lines p.line'))),
       )
 
+-- the first two bytes, of what was read and of bytes more
+pub head_more : (head bytes read : List ℕ) → head ≡ take 2 read → head ++ take (2 - length head) bytes ≡ take 2 (read ++ bytes)
+head_more head bytes [] is = ap (λ h. h ++ take (2 - length h) bytes) is
+head_more head bytes (a ∷ []) is = ap (λ h. h ++ take (2 - length h) bytes) is
+head_more head bytes (a ∷ b ∷ read) is = ap (λ h. h ++ take (2 - length h) bytes) is
+
 -- So much was read and written, and nothing failed. Each turn read a byte at least.
-pub record IsOn {R W : Type 0} (remaining : R → Option (List ℕ)) (contents : W → Option (List ℕ)) (answer : Answering) (r r' : Counted R) (w w' : Output W) (a : Annotator) (turns : ℕ) : Type 0 where
+pub record IsOn {R W : Type 0} (remaining : R → Option (List ℕ)) (contents : W → Option (List ℕ)) (answer : Answering) (r r' : Counted R) (w w' : Output W) (a : Annotator) (head : List ℕ) (turns : ℕ) : Type 0 where
   pub read_all : NoneFailed r r'
   pub written_all : has_failed w' ≡ has_failed w
   pub none_back : KeepsNothingBack w w'
   pub read : List ℕ
   pub written : List ℕ
   pub many : turns ≤ length read
-  pub moves : Moves remaining contents r r' w w' read written
+  pub consumed : Consumes (remaining (device_of r)) (remaining (device_of r')) read
+  pub appended : Appends (contents (writer_of w)) (contents (writer_of w')) written
   pub came : Came answer a written read
+  pub head_is : head ≡ take 2 read
 
 module _ {R W : Type 0} (remaining : R → Option (List ℕ)) (contents : W → Option (List ℕ)) (answer : Answering) (r : Counted R) (w : Output W) where
-  pub begun : (a : Annotator) → held_in a ≡ first_held → IsOpen a [] → (passes : Passes answer a a [] []) → IsOn remaining contents answer r r w w a 0
-  begun a held is_open passes = record {
+  pub begun : (a : Annotator) (h : List ℕ) → held_in a ≡ first_held → IsOpen a [] → Passes answer a a [] [] → h ≡ [] → IsOn remaining contents answer r r w w a h 0
+  begun a h held is_open passes none = record {
     read_all = refl;
     written_all = refl;
     none_back = inl refl;
     read = [];
     written = [];
     many = omega arith;
-    moves = record { consumed = Consumes-nil _; appended = Appends-nil _ };
+    consumed = Consumes-nil _;
+    appended = Appends-nil _;
     came = record { first = a; is_open = is_open; held = held; passes = passes };
+    head_is = none;
   }
 
   -- a block more
-  pub one_more : (r' r'' : Counted R) (w' w'' : Output W) (a a' : Annotator) (n : ℕ) (bytes : List ℕ) (u : Unit {0}) → 0 < length bytes → IsOn remaining contents answer r r' w w' a n → NoneFailed r' r'' → Consumes (remaining (device_of r')) (remaining (device_of r'')) bytes
-      → Puts contents (λ (u : Unit {0}). Passes answer a a' bytes) w' w'' (Ok u) → IsOn remaining contents answer r r'' w w'' a' (n + 1)
-  one_more r' r'' w' w'' a a' n bytes u some on all took (text, put, passes) = record {
+  pub one_more : (r' r'' : Counted R) (w' w'' : Output W) (a a' : Annotator) (h h' : List ℕ) (n : ℕ) (bytes : List ℕ) (u : Unit {0}) → 0 < length bytes → ((read : List ℕ) → h ≡ take 2 read → h' ≡ take 2 (read ++ bytes)) → IsOn remaining contents answer r r' w w' a h n → NoneFailed r' r'' → Consumes (remaining (device_of r')) (remaining (device_of r'')) bytes
+      → Puts contents (λ (u : Unit {0}). Passes answer a a' bytes) w' w'' (Ok u) → IsOn remaining contents answer r r'' w w'' a' h' (n + 1)
+  one_more r' r'' w' w'' a a' h h' n bytes u some keeps on all took (text, put, passes) = record {
     read_all = all ∙ on.read_all;
     written_all = put.1 ∙ sym put.0 ∙ on.written_all;
     none_back = inr put.3;
     read = on.read ++ bytes;
     written = on.written ++ text;
     many = omega (arith, on.many, some, length-append on.read bytes);
-    moves = record {
-      consumed = Consumes-trans _ _ _ on.read bytes on.moves.consumed took;
-      appended = Appends-trans _ _ _ on.written text on.moves.appended put.2;
-    };
+    consumed = Consumes-trans _ _ _ on.read bytes on.consumed took;
+    appended = Appends-trans _ _ _ on.written text on.appended put.2;
     came = came_more answer a a' on.written on.read bytes text on.came passes;
+    head_is = keeps on.read on.head_is;
   }
 
   -- a read failed
-  pub not_read : (r' r'' : Counted R) (w' : Output W) (a : Annotator) (n : ℕ) → IsOn remaining contents answer r r' w w' a n → Rose (failures_of r') (failures_of r'') → Keeps (remaining (device_of r')) (remaining (device_of r''))
+  pub not_read : (r' r'' : Counted R) (w' : Output W) (a : Annotator) (h : List ℕ) (n : ℕ) → IsOn remaining contents answer r r' w w' a h n → Rose (failures_of r') (failures_of r'') → Keeps (remaining (device_of r')) (remaining (device_of r''))
       → Annotates remaining contents answer r r'' w w' (Err fault.Read)
-  not_read r' r'' w' a n on rose keeps = (
+  not_read r' r'' w' a h n on rose keeps = (
     subst (λ n. Rose n (failures_of r'')) on.read_all rose,
     (
       on.written_all,
       on.none_back,
-      (on.read, on.written, record { consumed = Consumes-kept _ _ _ on.read on.moves.consumed keeps; appended = on.moves.appended }, up_to_date answer a on.written on.read on.came),
+      (on.read, on.written, Consumes-kept _ _ _ on.read on.consumed keeps, on.appended, up_to_date answer a on.written on.read on.came),
     ),
   )
 
   -- no block is left to be read
-  pub too_long : (r' : Counted R) (w' : Output W) (a : Annotator) (n : ℕ) → IsOn remaining contents answer r r' w w' a n → 2 ^ 64 - 1 ≤ n → Annotates remaining contents answer r r' w w' (Err fault.TooLong)
-  too_long r' w' a n on last =
-      (on.read_all, (on.written_all, on.none_back, (on.read, on.written, on.moves, (up_to_date answer a on.written on.read on.came, omega (arith, on.many, last)))))
+  pub too_long : (r' : Counted R) (w' : Output W) (a : Annotator) (h : List ℕ) (n : ℕ) → IsOn remaining contents answer r r' w w' a h n → 2 ^ 64 - 1 ≤ n → Annotates remaining contents answer r r' w w' (Err fault.TooLong)
+  too_long r' w' a h n on last =
+      (on.read_all, (on.written_all, on.none_back, (on.read, on.written, on.consumed, on.appended, (up_to_date answer a on.written on.read on.came, omega (arith, on.many, last)))))
 
   -- nothing more was put
-  not_more : (r' r'' : Counted R) (w' w'' : Output W) (a : Annotator) (n : ℕ) (bytes : List ℕ) → IsOn remaining contents answer r r' w w' a n → NoneFailed r' r'' → Consumes (remaining (device_of r')) (remaining (device_of r'')) bytes → w'' ≡ w'
+  pub not_more : (r' r'' : Counted R) (w' w'' : Output W) (a : Annotator) (h : List ℕ) (n : ℕ) (bytes : List ℕ) → IsOn remaining contents answer r r' w w' a h n → NoneFailed r' r'' → Consumes (remaining (device_of r')) (remaining (device_of r'')) bytes → w'' ≡ w'
       → Annotates remaining contents answer r r'' w w'' (Err fault.OutOfMemory)
-  not_more r' r'' w' w'' a n bytes on all took same =
+  not_more r' r'' w' w'' a h n bytes on all took same =
       subst (λ x. Annotates remaining contents answer r r'' w x (Err fault.OutOfMemory)) (sym same) (
         all ∙ on.read_all,
         (
@@ -154,52 +164,50 @@ module _ {R W : Type 0} (remaining : R → Option (List ℕ)) (contents : W → 
           (
             on.read ++ bytes,
             on.written,
-            record { consumed = Consumes-trans _ _ _ on.read bytes on.moves.consumed took; appended = on.moves.appended },
+            Consumes-trans _ _ _ on.read bytes on.consumed took,
+            on.appended,
             begins_more answer on.written on.read bytes (begins_at answer a on.written on.read on.came),
           ),
         ),
       )
 
   -- a beginning of the block was put
-  stopped : (r' r'' : Counted R) (w' w'' : Output W) (a a' : Annotator) (n : ℕ) (bytes text : List ℕ) → IsOn remaining contents answer r r' w w' a n → NoneFailed r' r'' → Consumes (remaining (device_of r')) (remaining (device_of r'')) bytes
+  pub stopped : (r' r'' : Counted R) (w' w'' : Output W) (a a' : Annotator) (h : List ℕ) (n : ℕ) (bytes : List ℕ) (u : Unit {0}) (text : List ℕ) → IsOn remaining contents answer r r' w w' a h n → NoneFailed r' r'' → Consumes (remaining (device_of r')) (remaining (device_of r'')) bytes
       → WrotePart contents w' w'' text → Passes answer a a' bytes text → IsCutOff remaining contents answer r r'' w w''
-  stopped r' r'' w' w'' a a' n bytes text on all took (failed, part, lost, parts, put) passes = (
+  stopped r' r'' w' w'' a a' h n bytes u text on all took (failed, part, lost, parts, put) passes = (
     all ∙ on.read_all,
     failed,
-    inl (
+    (
       on.read ++ bytes,
       on.written ++ part,
-      record { consumed = Consumes-trans _ _ _ on.read bytes on.moves.consumed took; appended = Appends-trans _ _ _ on.written part on.moves.appended put },
-      begins_less answer on.written part lost text (on.read ++ bytes) parts
-          (begins_at answer a' (on.written ++ text) (on.read ++ bytes) (came_more answer a a' on.written on.read bytes text on.came passes)),
+      Consumes-trans _ _ _ on.read bytes on.consumed took,
+      Appends-trans _ _ _ on.written part on.appended put,
+      inl (begins_less answer on.written part lost text (on.read ++ bytes) parts
+          (begins_at answer a' (on.written ++ text) (on.read ++ bytes) (came_more answer a a' on.written on.read bytes text on.came passes))),
     ),
   )
 
-  -- the block could not be put
-  pub not_put : (r' r'' : Counted R) (w' w'' : Output W) (a a' : Annotator) (n : ℕ) (bytes : List ℕ) (e : LogFault) → IsOn remaining contents answer r r' w w' a n → NoneFailed r' r'' → Consumes (remaining (device_of r')) (remaining (device_of r'')) bytes
-      → Puts contents (λ (u : Unit {0}). Passes answer a a' bytes) w' w'' (Err e) → Annotates remaining contents answer r r'' w w'' (Err e)
-  not_put r' r'' w' w'' a a' n bytes fault.OutOfMemory on all took puts = not_more r' r'' w' w'' a n bytes on all took puts
-  not_put r' r'' w' w'' a a' n bytes fault.Write on all took ((text, u, put, passes), error) = (stopped r' r'' w' w'' a a' n bytes text on all took put passes, error)
-  not_put r' r'' w' w'' a a' n bytes fault.Closed on all took ((text, u, put, passes), error) = (stopped r' r'' w' w'' a a' n bytes text on all took put passes, error)
-  not_put r' r'' w' w'' a a' n bytes fault.Read on all took puts = absurd puts
-  not_put r' r'' w' w'' a a' n bytes fault.TooLong on all took puts = absurd puts
-
-  -- a fault is told as it came
-  pub passed_on : (r' : Counted R) (w' : Output W) (result : Result LogNames LogFault) (e : LogFault) → IsErrAnd result (λ f. f ≡ e) → Annotates remaining contents answer r r' w w' (Err e) → Annotates remaining contents answer r r' w w' result
-  passed_on r' w' (Ok u) e is told = absurd is
-  passed_on r' w' (Err f) e is told = subst (λ x. Annotates remaining contents answer r r' w w' (Err x)) (sym is) told
+  -- what was to be put for bytes could not be
+  pub not_put : {X : Type 0} (P : X → List ℕ → Type 0) (r' r'' : Counted R) (w' w'' : Output W) (a : Annotator) (h : List ℕ) (n : ℕ) (bytes : List ℕ) (e : LogFault) → IsOn remaining contents answer r r' w w' a h n → NoneFailed r' r'' → Consumes (remaining (device_of r')) (remaining (device_of r'')) bytes
+      → ((x : X) (text : List ℕ) → WrotePart contents w' w'' text → P x text → IsCutOff remaining contents answer r r'' w w'') → Puts contents P w' w'' (Err e) → Annotates remaining contents answer r r'' w w'' (Err e)
+  not_put P r' r'' w' w'' a h n bytes fault.OutOfMemory on all took cut puts = not_more r' r'' w' w'' a h n bytes on all took puts
+  not_put P r' r'' w' w'' a h n bytes fault.Write on all took cut ((text, x, put, holds), error) = (cut x text put holds, error)
+  not_put P r' r'' w' w'' a h n bytes fault.Closed on all took cut ((text, x, put, holds), error) = (cut x text put holds, error)
+  not_put P r' r'' w' w'' a h n bytes fault.Read on all took cut puts = absurd puts.1
+  not_put P r' r'' w' w'' a h n bytes fault.TooLong on all took cut puts = absurd puts.1
 
   -- the log is at its end, and a beginning of its last line was put
-  cut_off : (r' r'' : Counted R) (w' w'' : Output W) (a : Annotator) (n : ℕ) (text : List ℕ) (names : LogNames) → IsOn remaining contents answer r r' w w' a n → NoneFailed r' r'' → Consumes (remaining (device_of r')) (remaining (device_of r'')) [] → IsAtEnd (remaining (device_of r''))
+  pub cut_off : (r' r'' : Counted R) (w' w'' : Output W) (a : Annotator) (h : List ℕ) (n : ℕ) (names : LogNames) (text : List ℕ) → IsOn remaining contents answer r r' w w' a h n → NoneFailed r' r'' → Consumes (remaining (device_of r')) (remaining (device_of r'')) [] → IsAtEnd (remaining (device_of r''))
       → WrotePart contents w' w'' text → Ends answer a names text → IsCutOff remaining contents answer r r'' w w''
-  cut_off r' r'' w' w'' a n text names on all took at_end (failed, part, lost, parts, put) ends = (
+  cut_off r' r'' w' w'' a h n names text on all took at_end (failed, part, lost, parts, put) ends = (
     all ∙ on.read_all,
     failed,
-    inr (
+    (
       on.read ++ [],
       on.written ++ part,
-      record { consumed = Consumes-trans _ _ _ on.read [] on.moves.consumed took; appended = Appends-trans _ _ _ on.written part on.moves.appended put },
-      (
+      Consumes-trans _ _ _ on.read [] on.consumed took,
+      Appends-trans _ _ _ on.written part on.appended put,
+      inr (
         at_end,
         lost,
         ap (annotated answer) (append-nil on.read) ∙ sym (whole_at answer a on.written on.read text names on.came ends).0 ∙ ap (λ l. on.written ++ l) parts ∙ sym (append_assoc on.written part lost),
@@ -207,11 +215,11 @@ module _ {R W : Type 0} (remaining : R → Option (List ℕ)) (contents : W → 
     ),
   )
 
-  -- the log is at its end
-  pub ended : (r' r'' : Counted R) (w' w'' : Output W) (a : Annotator) (n : ℕ) (result : Result LogNames LogFault) → IsOn remaining contents answer r r' w w' a n → NoneFailed r' r'' → Consumes (remaining (device_of r')) (remaining (device_of r'')) []
-      → IsAtEnd (remaining (device_of r'')) → Puts contents (Ends answer a) w' w'' result → Annotates remaining contents answer r r'' w w'' result
-  ended r' r'' w' w'' a n (Ok names) on all took at_end (text, put, ends) =
-      let (is_annotated, are_names) = whole_at answer a on.written on.read text names on.came ends in
+  -- the log is at its end, and is written to its end
+  pub ended : (r' r'' : Counted R) (w' w'' : Output W) (a : Annotator) (h : List ℕ) (n : ℕ) (found : Findings) → IsOn remaining contents answer r r' w w' a h n → NoneFailed r' r'' → Consumes (remaining (device_of r')) (remaining (device_of r'')) []
+      → IsAtEnd (remaining (device_of r'')) → found.head.items ≡ h → Puts contents (Ends answer a) w' w'' (Ok found.names) → Annotates remaining contents answer r r'' w w'' (Ok found)
+  ended r' r'' w' w'' a h n found on all took at_end head (text, put, ends) =
+      let (is_annotated, are_names) = whole_at answer a on.written on.read text found.names on.came ends in
       let same = sym (append-nil on.read) in (
         all ∙ on.read_all,
         put.1,
@@ -219,12 +227,8 @@ module _ {R W : Type 0} (remaining : R → Option (List ℕ)) (contents : W → 
         (
           on.read ++ [],
           on.written ++ text,
-          record { consumed = Consumes-trans _ _ _ on.read [] on.moves.consumed took; appended = Appends-trans _ _ _ on.written text on.moves.appended put.2 },
-          (at_end, is_annotated ∙ ap (annotated answer) same, are_names ∙ ap (λ l. (held_over answer first_held (lines l)).names) same),
+          Consumes-trans _ _ _ on.read [] on.consumed took,
+          Appends-trans _ _ _ on.written text on.appended put.2,
+          (at_end, is_annotated ∙ ap (annotated answer) same, are_names ∙ ap (λ l. (held_over answer first_held (lines l)).names) same, head ∙ on.head_is ∙ ap (take 2) same),
         ),
       )
-  ended r' r'' w' w'' a n (Err fault.OutOfMemory) on all took at_end puts = not_more r' r'' w' w'' a n [] on all took puts
-  ended r' r'' w' w'' a n (Err fault.Write) on all took at_end ((text, names, put, ends), error) = (cut_off r' r'' w' w'' a n text names on all took at_end put ends, error)
-  ended r' r'' w' w'' a n (Err fault.Closed) on all took at_end ((text, names, put, ends), error) = (cut_off r' r'' w' w'' a n text names on all took at_end put ends, error)
-  ended r' r'' w' w'' a n (Err fault.Read) on all took at_end puts = absurd puts
-  ended r' r'' w' w'' a n (Err fault.TooLong) on all took at_end puts = absurd puts

@@ -6,8 +6,6 @@ pub mod AnnotationLemmas
 pub mod TextLemmas
 -- the things that begin a line
 pub mod PlaceLemmas
--- a table of the bytes of words
-pub mod TableLemmas
 -- words that are too short, and leaps over them
 pub mod WordLemmas
 -- what a failed write leaves

@@ -1,13 +1,13 @@
 -- The lines that bytes are, and what is put for them.
-use Rattle.std.proofs.Common.{◌≡◌, ◌∙◌, ℕ, ◌+◌, ◌<◌, ◌≤◌, Bool, true, false, cond, ◌||◌, ◌==◌, List, [], ◌∷◌, ◌++◌, length, take, get_or, length-append, refl, sym, ap, subst, append_assoc, append-nil, arith, true≢false}
+use Rattle.std.proofs.Common.{◌≡◌, ◌∙◌, ℕ, ◌+◌, ◌<◌, ◌≤◌, Bool, true, false, cond, ◌||◌, ◌==◌, List, [], ◌∷◌, ◌++◌, length, take, get_or, length-append, refl, sym, ap, append_assoc, append-nil, arith, true≢false}
 use Rattle.std.specs.List.{onto_first}
-use Rattle.std.proofs.lemmas.Bool.{eq-eqb, eqb-true, false_from_ne_true, lt-ltb, ltb-true}
+use Rattle.std.proofs.lemmas.Bool.{eqb-true, false_from_ne_true, lt-ltb, ltb-true}
 use Rattle.logs.proofs.TextLemmas.{at_default, none_up_to, or_left, or_right}
 use Rattle.std.proofs.lemmas.List.{take_more}
 use Rattle.memchr.specs.Find.{Nowhere, Passes as HasByte, is_byte}
 use Rattle.logs.specs.Answering.{Answering}
-use Rattle.logs.specs.Lines.{AreWhole, IsLine, has_end, is_long, lines, longest}
-use Rattle.logs.specs.AnnotatedLogs.{annotated_line, annotated_lines, annotated_short, held_behind, held_over, held_short}
+use Rattle.logs.specs.Lines.{AreWhole, IsLine, has_end, is_long, lines}
+use Rattle.logs.specs.AnnotatedLogs.{annotated_line, annotated_lines, held_behind, held_over}
 use Rattle.logs.specs.Annotation.{Adds, Ended, Ends, IsOpen, Passes, held_in, kept_of, put_of}
 use Rattle.logs.specs.declared.annotator.Annotator.{Annotator}
 use Rattle.logs.specs.declared.held.Held.{Held}
@@ -20,10 +20,6 @@ no_end_behind (x ∷ xs) ys p q = ap (λ t. t || has_end (xs ++ ys)) (or_left _ 
 pub none_in : (l : List ℕ) (n : ℕ) → n ≡ length l → (n == 0) ≡ true → l ≡ []
 none_in [] n is none = refl
 none_in (x ∷ l) n is none = let zero_is = eqb-true n 0 none in absurd (omega (arith, zero_is, is))
-
-pub some_in : (l : List ℕ) (n : ℕ) → n ≡ length l → (n == 0) ≡ false → 0 < length l
-some_in [] n is some = absurd (true≢false (sym (eq-eqb n 0 is) ∙ some))
-some_in (x ∷ l) n is some = omega arith
 
 -- ---- lines
 
@@ -83,10 +79,10 @@ line_found xs n below here none =
 -- ---- long lines
 
 long_more : (xs ys : List ℕ) → is_long xs ≡ true → is_long (xs ++ ys) ≡ true
-long_more xs ys long = let more = ltb-true longest (length xs) long in lt-ltb longest (length (xs ++ ys)) (omega (arith, more, length-append xs ys))
+long_more xs ys long = let more = ltb-true 65536 (length xs) long in lt-ltb 65536 (length (xs ++ ys)) (omega (arith, more, length-append xs ys))
 
-not_long : (xs : List ℕ) → length xs ≤ longest → is_long xs ≡ false
-not_long xs low = false_from_ne_true (is_long xs) (λ e. let high = ltb-true longest (length xs) e in absurd (omega (arith, low, high)))
+not_long : (xs : List ℕ) → length xs ≤ 65536 → is_long xs ≡ false
+not_long xs low = false_from_ne_true (is_long xs) (λ e. let high = ltb-true 65536 (length xs) e in absurd (omega (arith, low, high)))
 
 put_long : (line : List ℕ) → is_long line ≡ true → put_of line ≡ line
 put_long line long = ap (λ t. cond t line []) long
@@ -105,10 +101,12 @@ nothing_open a short none = record { no_end = refl; long = short; kept = none }
 
 module _ (answer : Answering) where
   stays : (held : Held) (line : List ℕ) → is_long line ≡ true → annotated_line answer held line ≡ line
-  stays held line long = ap (λ t. cond t line (annotated_short answer held line)) long
+  unfolding annotated_line
+  stays held line long = rw long
 
   passed_by : (held : Held) (line : List ℕ) → is_long line ≡ true → held_behind answer held line ≡ held
-  passed_by held line long = ap (λ t. cond t held (held_short answer held line)) long
+  unfolding held_behind
+  passed_by held line long = rw long
 
   -- lines, and then more
   pub lines_then : (held : Held) (xs ys : List (List ℕ)) → annotated_lines answer held (xs ++ ys) ≡ annotated_lines answer held xs ++ annotated_lines answer (held_over answer held xs) ys
@@ -261,7 +259,7 @@ module _ (answer : Answering) where
       ))
 
   -- one that stays short, and one that gets too long
-  pub is_held : (a a' : Annotator) (bytes out : List ℕ) → a.is_long ≡ false → has_end bytes ≡ false → a'.held ≡ a.held → a'.is_long ≡ false → a'.begun.items ≡ a.begun.items ++ bytes → length a'.begun.items ≤ longest → Adds out out (Passes answer a a' bytes)
+  pub is_held : (a a' : Annotator) (bytes out : List ℕ) → a.is_long ≡ false → has_end bytes ≡ false → a'.held ≡ a.held → a'.is_long ≡ false → a'.begun.items ≡ a.begun.items ++ bytes → length a'.begun.items ≤ 65536 → Adds out out (Passes answer a a' bytes)
   is_held a a' bytes out short unended held short' more low =
       line_goes_on a a' bytes [] out out unended held (sym (append-nil out)) (λ line is_open.
       let line_short : is_long line ≡ false = sym is_open.long ∙ short in
@@ -269,53 +267,45 @@ module _ (answer : Answering) where
       let whole_short : is_long (line ++ bytes) ≡ false = ap is_long (sym same) ∙ not_long a'.begun.items low in
       (short' ∙ sym whole_short, same ∙ sym (kept_short (line ++ bytes) whole_short), ap (λ l. l ++ []) (put_short line line_short) ∙ sym (put_short (line ++ bytes) whole_short)))
 
-  pub gets_long : (a a' : Annotator) (bytes whole out out' : List ℕ) → a.is_long ≡ false → has_end bytes ≡ false → whole ≡ a.begun.items ++ bytes → longest < length whole → a'.held ≡ a.held → a'.is_long ≡ true → a'.begun.items ≡ []
+  pub gets_long : (a a' : Annotator) (bytes whole out out' : List ℕ) → a.is_long ≡ false → has_end bytes ≡ false → whole ≡ a.begun.items ++ bytes → 65536 < length whole → a'.held ≡ a.held → a'.is_long ≡ true → a'.begun.items ≡ []
       → out' ≡ out ++ whole → Adds out out' (Passes answer a a' bytes)
   gets_long a a' bytes whole out out' short unended all long held long' none put =
       line_goes_on a a' bytes whole out out' unended held put (λ line is_open.
       let line_short : is_long line ≡ false = sym is_open.long ∙ short in
       let same : whole ≡ line ++ bytes = all ∙ ap (λ l. l ++ bytes) (is_open.kept ∙ kept_short line line_short) in
-      let whole_long : is_long (line ++ bytes) ≡ true = ap is_long (sym same) ∙ lt-ltb longest (length whole) long in
+      let whole_long : is_long (line ++ bytes) ≡ true = ap is_long (sym same) ∙ lt-ltb 65536 (length whole) long in
       (long' ∙ sym whole_long, none ∙ sym (kept_long (line ++ bytes) whole_long), ap (λ l. l ++ whole) (put_short line line_short) ∙ same ∙ sym (put_long (line ++ bytes) whole_long)))
 
-  -- no more bytes come behind a line that keeps nothing
-  pub nothing_is_left : (a : Annotator) (out : List ℕ) → a.begun.items ≡ [] → Adds out out (Ends answer a a.held.names)
-  nothing_is_left a out none = ([], sym (append-nil out), λ line is_open. either line is_open (is_long line) refl)
+  -- nothing is put for no bytes
+  nothing_put : (held : Held) → (annotated_line answer held [] ≡ []) × ((held_behind answer held []).names ≡ held.names)
+  unfolding annotated_line held_behind
+  nothing_put held = (refl, refl)
+
+  -- no more bytes come
+  pub last_is_put : (a : Annotator) (held : Held) (begun text : List ℕ) → begun ≡ a.begun.items → held ≡ held_behind answer a.held begun → text ≡ annotated_line answer a.held begun → Ends answer a held.names text
+  last_is_put a held begun text kept held_is put = λ line is_open. ended line is_open (is_long line) refl
     where
-      of_long : (line : List ℕ) → has_end line ≡ false → is_long line ≡ true → lines line ≡ line ∷ []
-      of_long [] unended long = absurd (true≢false (sym long))
-      of_long (b ∷ line) unended long = last_line b line unended
+      -- of what is kept
+      behind : (line : List ℕ) → begun ≡ line → (held.names ≡ (held_behind answer a.held line).names) × (text ≡ annotated_line answer a.held line)
+      behind line same = (ap (λ h. h.names) (held_is ∙ ap (held_behind answer a.held) same), put ∙ ap (annotated_line answer a.held) same)
 
-      either : (line : List ℕ) → IsOpen a line → (t : Bool) → is_long line ≡ t → Ended answer a line a.held.names []
-      either line is_open true long =
-          let alone = of_long line is_open.no_end long in
+      ended : (line : List ℕ) → IsOpen a line → (t : Bool) → is_long line ≡ t → Ended answer a line held.names text
+      ended [] is_open t long =
+          let (names, is) = behind [] (kept ∙ is_open.kept) in
+          record { names_are = names ∙ (nothing_put a.held).1; put = is ∙ (nothing_put a.held).0 }
+      ended (b ∷ line) is_open true long =
+          let one = last_line b line is_open.no_end in
+          let (names, is) = behind [] (kept ∙ is_open.kept ∙ kept_long (b ∷ line) long) in
           record {
-            names_are = ap (λ h. h.names) (sym (ap (held_over answer (held_in a)) alone ∙ passed_by (held_in a) line long));
-            put = append-nil (put_of line) ∙ put_long line long ∙ sym (ap (annotated_lines answer (held_in a)) alone ∙ line_alone (held_in a) line ∙ stays (held_in a) line long);
-          }
-      either line is_open false short =
-          let nothing : line ≡ [] = sym (kept_short line short) ∙ sym is_open.kept ∙ none in
-          record {
-            names_are = ap (λ l. (held_over answer (held_in a) (lines l)).names) (sym nothing);
-            put = append-nil (put_of line) ∙ put_short line short ∙ ap (λ l. annotated_lines answer (held_in a) (lines l)) (sym nothing);
-          }
-
-  -- or behind one that is kept
-  pub last_is_put : (a : Annotator) (held : Held) (out out' : List ℕ) → 0 < length a.begun.items → held ≡ held_behind answer a.held a.begun.items → out' ≡ out ++ annotated_line answer a.held a.begun.items → Adds out out' (Ends answer a held.names)
-  last_is_put a held out out' some held_is put = (annotated_line answer a.held a.begun.items, put, λ line is_open. ended line is_open (is_long line) refl)
-    where
-      alone : (bytes : List ℕ) → has_end bytes ≡ false → 0 < length bytes → lines bytes ≡ bytes ∷ []
-      alone [] unended some = absurd (omega arith)
-      alone (b ∷ bytes) unended some = last_line b bytes unended
-
-      ended : (line : List ℕ) → IsOpen a line → (t : Bool) → is_long line ≡ t → Ended answer a line held.names (annotated_line answer a.held a.begun.items)
-      ended line is_open true long = absurd (omega (arith, some, ap length (is_open.kept ∙ kept_long line long)))
-      ended line is_open false short =
-          let same : a.begun.items ≡ line = is_open.kept ∙ kept_short line short in
-          let one = alone line is_open.no_end (subst (λ l. 0 < length l) same some) in
-          record {
-            names_are = ap (λ h. h.names) (held_is ∙ ap (held_behind answer a.held) same ∙ sym (ap (held_over answer (held_in a)) one));
+            names_are = names ∙ (nothing_put a.held).1 ∙ ap (λ h. h.names) (sym (ap (held_over answer (held_in a)) one ∙ passed_by (held_in a) (b ∷ line) long));
             put =
-                ap (λ l. l ++ annotated_line answer a.held a.begun.items) (put_short line short) ∙ ap (annotated_line answer a.held) same
-                ∙ sym (ap (annotated_lines answer (held_in a)) one ∙ line_alone (held_in a) line);
+                ap (λ l. put_of (b ∷ line) ++ l) (is ∙ (nothing_put a.held).0) ∙ append-nil (put_of (b ∷ line)) ∙ put_long (b ∷ line) long
+                ∙ sym (ap (annotated_lines answer (held_in a)) one ∙ line_alone (held_in a) (b ∷ line) ∙ stays (held_in a) (b ∷ line) long);
+          }
+      ended (b ∷ line) is_open false short =
+          let one = last_line b line is_open.no_end in
+          let (names, is) = behind (b ∷ line) (kept ∙ is_open.kept ∙ kept_short (b ∷ line) short) in
+          record {
+            names_are = names ∙ ap (λ h. h.names) (sym (ap (held_over answer (held_in a)) one));
+            put = ap (λ l. l ++ text) (put_short (b ∷ line) short) ∙ is ∙ sym (ap (annotated_lines answer (held_in a)) one ∙ line_alone (held_in a) (b ∷ line));
           }

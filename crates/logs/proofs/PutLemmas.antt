@@ -11,6 +11,11 @@ use Rattle.logs.specs.declared.annotation.LogFault.TheVariants as fault
 pub added : (out out' text : List ℕ) (P : List ℕ → Type 0) → out ≡ [] → text ≡ out' → Adds out out' P → P text
 added out out' text P none same (more, put, holds) = subst P (sym (same ∙ put ∙ ap (λ o. o ++ more) none)) holds
 
+-- a fault is told as it came
+pub told : {X E : Type 0} (P : Result X E → Type 0) (result : Result X E) (e : E) → IsErrAnd result (λ f. f ≡ e) → P (Err e) → P result
+told P (Ok x) e is holds = absurd is
+told P (Err f) e is holds = subst (λ f. P (Err f)) (sym is) holds
+
 module _ {W X : Type 0} (contents : W → Option (List ℕ)) (P : X → List ℕ → Type 0) (w w' : Output W) where
   pub fault_puts : (x : X) (text : List ℕ) (e : LogFault) → P x text → IsWriteFault (error_in w') e → WrotePart contents w w' text → Puts contents P w w' (Err e)
   fault_puts x text fault.Write holds is part = ((text, x, part, holds), is)
@@ -18,11 +23,6 @@ module _ {W X : Type 0} (contents : W → Option (List ℕ)) (P : X → List ℕ
   fault_puts x text fault.OutOfMemory holds is part = absurd is
   fault_puts x text fault.Read holds is part = absurd is
   fault_puts x text fault.TooLong holds is part = absurd is
-
-  -- a fault is told as it came
-  pub told_puts : (result : Result X LogFault) (e : LogFault) → IsErrAnd result (λ f. f ≡ e) → Puts contents P w w' (Err e) → Puts contents P w w' result
-  told_puts (Ok x) e is puts = absurd is
-  told_puts (Err f) e is puts = subst (λ f. Puts contents P w w' (Err f)) (sym is) puts
 
 pub puts : {W : Type 0} (contents : W → Option (List ℕ)) (P : List ℕ → Type 0) (w w' : Output W) (text : List ℕ) (result : Result (Unit {0}) LogFault) → P text → IfOk result (λ _. Delivered contents w w' text) → IfErr result (IsWriteFault (error_in w')) → OnErr result (WrotePart contents w w' text)
     → Puts contents (λ (u : Unit {0}). P) w w' result

@@ -1,16 +1,16 @@
 -- Words that are no addresses, and the bytes that are leapt over.
 use Rattle.std.proofs.Common.{◌≡◌, ◌∙◌, ◌⊎◌, inl, inr, ℕ, zero, suc, ◌+◌, ◌-◌, ◌<◌, ◌≤◌, Bool, true, false, cond, not, ◌&&◌, ◌||◌, ◌==◌, List, [], ◌∷◌, length, take, get_or, refl, sym, ap, subst, arith, true≢false}
-use Rattle.std.specs.Prelude.{None, Option, Some, drop, nat_eq, nat_le, nat_lt}
+use Rattle.std.specs.Prelude.{None, Option, Some, drop, nat_eq, nat_le, nat_lt, reverse}
 use Rattle.std.proofs.Common.{length-drop}
-use Rattle.std.specs.Char.{is_digit}
+use Rattle.std.specs.Char.{digit_value, is_digit}
 use Rattle.std.specs.List.{list_all, list_any}
 use Rattle.std.proofs.lemmas.Bool.{eqb-true, false_from_ne_true, leb-false, leb-true, lt-ltb, ltb-true, or_cases}
 use Rattle.std.proofs.lemmas.List.{drop_more, get_or-drop, length-take}
-use Rattle.std.specs.Option.{is_some, option_map_or}
+use Rattle.std.specs.Option.{option_map_or}
 use Rattle.texts.specs.Numbers.{numeral}
-use Rattle.logs.specs.Progress.{address_words, fewest, is_address_byte}
+use Rattle.logs.specs.Progress.{fewest, is_address_byte, is_begun}
 use Rattle.logs.specs.TakenWords.{taken_among, taken_at}
-use Rattle.logs.specs.Words.{address_at, address_of_word, digits_between, has_prefix, is_joined, is_word_byte, run_of, words_behind, words_from}
+use Rattle.logs.specs.Words.{address_at, address_of_word, digits_between, begins_joint, has_prefix, is_word_byte, run_of, words_behind, words_from}
 use Rattle.logs.specs.declared.held.Held.{Held}
 use Rattle.logs.specs.declared.taken.Taken.{Taken}
 use Rattle.logs.specs.declared.words.Word.{Word}
@@ -83,33 +83,13 @@ any_at (b ∷ bytes) (suc n) (suc k) below within other = grind (arith, any_at b
 -- a word of this length, with such a byte or too short
 no_address : (narrow : Bool) (line : List ℕ) (at n : ℕ) → (n < fewest narrow) ⊎ (list_any is_other (take n (drop at line)) ≡ true) → address_at narrow line (record { start = at; end = at + n }) ≡ None
 no_address narrow line at n why =
-    let w : Word = record { start = at; end = at + n } in
+    let joined : Bool = begins_joint (reverse (take at line)) || begins_joint (drop (at + n) line) in
     let all : (at + n) - at ≡ n = omega arith in
-    ap (λ o. cond (is_joined line w) None o) (ap (λ m. address_of_word narrow (take m (drop at line))) all ∙ no_word narrow (take n (drop at line)) (of_take why)) ∙ none_either (is_joined line w)
+    ap (λ o. cond joined None o) (ap (λ m. address_of_word narrow (take m (drop at line))) all ∙ no_word narrow (take n (drop at line)) (of_take why)) ∙ none_either joined
   where
     of_take : (n < fewest narrow) ⊎ (list_any is_other (take n (drop at line)) ≡ true) → (length (take n (drop at line)) < fewest narrow) ⊎ (list_any is_other (take n (drop at line)) ≡ true)
     of_take (inl few) = inl (omega (arith, length-take n (drop at line), few))
     of_take (inr other) = inr other
-
-module _ (narrow : Bool) (held : Held) (line : List ℕ) where
-  abbrev with_next : Option Taken → Word → Option ℕ → List Word → List Taken
-  with_next last w o more =
-      option_map_or (λ value. let t = taken_at narrow held line last w value in t ∷ taken_among narrow held line (Some t) more) o (taken_among narrow held line last more)
-
-  -- only address words count
-  taken_only : (words : List Word) (last : Option Taken) → taken_among narrow held line last (address_words narrow line words) ≡ taken_among narrow held line last words
-  taken_only [] last = refl
-  taken_only (w ∷ words) last = either (address_at narrow line w) refl (taken_only words)
-    where
-      either : (o : Option ℕ) → address_at narrow line w ≡ o → ((last : Option Taken) → taken_among narrow held line last (address_words narrow line words) ≡ taken_among narrow held line last words)
-          → taken_among narrow held line last (cond (is_some o) (w ∷ address_words narrow line words) (address_words narrow line words)) ≡ with_next last w o words
-      either None is later = later last
-      either (Some value) is later =
-          let t = taken_at narrow held line last w value in
-          ap (λ o. with_next last w o (address_words narrow line words)) is ∙ ap (λ l. t ∷ l) (later (Some t))
-
-  pub taken_same : (last : Option Taken) (words words' : List Word) → address_words narrow line words ≡ address_words narrow line words' → taken_among narrow held line last words ≡ taken_among narrow held line last words'
-  taken_same last words words' e = sym (taken_only words last) ∙ ap (taken_among narrow held line last) e ∙ taken_only words' last
 
 -- ---- leaps
 
@@ -122,16 +102,18 @@ run_within (b ∷ bytes) = one_more_at_most (is_word_byte b) (run_of is_word_byt
     one_more_at_most false n k low = omega arith
 
 -- a byte more, where no address begins with it
-over_one : (narrow : Bool) (line : List ℕ) (at : ℕ) (within : Bool) (b : ℕ) (bytes : List ℕ) → address_at narrow line (record { start = at; end = at + run_of is_word_byte (b ∷ bytes) }) ≡ None
-    → address_words narrow line (words_from at within (b ∷ bytes)) ≡ address_words narrow line (words_from (at + 1) (is_word_byte b) bytes)
-over_one narrow line at within b bytes none = either within (is_word_byte b)
+over_one : (narrow : Bool) (held : Held) (line : List ℕ) (last : Option Taken) (at : ℕ) (within : Bool) (b : ℕ) (bytes : List ℕ) → address_at narrow line (record { start = at; end = at + run_of is_word_byte (b ∷ bytes) }) ≡ None
+    → taken_among narrow held line last (words_from at within (b ∷ bytes)) ≡ taken_among narrow held line last (words_from (at + 1) (is_word_byte b) bytes)
+over_one narrow held line last at within b bytes none = either within (is_word_byte b)
   where
-    either : (w t : Bool) → address_words narrow line (cond t (cond w (words_from (at + 1) true bytes) (record { start = at; end = at + run_of is_word_byte (b ∷ bytes) } ∷ words_from (at + 1) true bytes)) (words_from (at + 1) false bytes))
-        ≡ address_words narrow line (words_from (at + 1) t bytes)
-    either w false = refl
+    w : Word
+    w = record { start = at; end = at + run_of is_word_byte (b ∷ bytes) }
+
+    either : (i t : Bool) → taken_among narrow held line last (cond t (cond i (words_from (at + 1) true bytes) (w ∷ words_from (at + 1) true bytes)) (words_from (at + 1) false bytes)) ≡ taken_among narrow held line last (words_from (at + 1) t bytes)
+    either i false = refl
     either true true = refl
     either false true =
-        ap (λ o. cond (is_some o) (record { start = at; end = at + run_of is_word_byte (b ∷ bytes) } ∷ address_words narrow line (words_from (at + 1) true bytes)) (address_words narrow line (words_from (at + 1) true bytes))) none
+        ap (λ o. option_map_or (λ value. let t = taken_at narrow held line last w value in t ∷ taken_among narrow held line (Some t) (words_from (at + 1) true bytes)) o (taken_among narrow held line last (words_from (at + 1) true bytes))) none
 
 behind_one : (line : List ℕ) (at b : ℕ) (bytes : List ℕ) → (b ∷ bytes) ≡ drop at line → bytes ≡ drop (at + 1) line
 behind_one line at b bytes is = ap (drop 1) is ∙ drop_both at line
@@ -142,11 +124,11 @@ behind_one line at b bytes is = ap (drop 1) is ∙ drop_both at line
     drop_both (suc n) (x ∷ l) = let one : suc n + 1 ≡ suc (n + 1) = omega arith in drop_both n l ∙ sym (ap (λ m. drop m (x ∷ l)) one)
 
 -- bytes up to one of no address, and no more than an address has
-leap_from : (narrow : Bool) (line : List ℕ) (at : ℕ) (within : Bool) (bytes : List ℕ) (k : ℕ) → bytes ≡ drop at line → k < length bytes → k < fewest narrow → is_address_byte (get_or bytes k 0) ≡ false
-    → address_words narrow line (words_from at within bytes) ≡ address_words narrow line (words_from (at + k + 1) (is_word_byte (get_or bytes k 0)) (drop (at + k + 1) line))
-leap_from narrow line at within [] k is below few other = absurd (omega arith)
-leap_from narrow line at within (b ∷ bytes) k is below few other =
-    over_one narrow line at within b bytes (no_address narrow line at n (why (nat_le n k) refl)) ∙ on k below few other (λ j is' below few other. leap_from narrow line (at + 1) (is_word_byte b) bytes j is' below few other)
+leap_from : (narrow : Bool) (held : Held) (line : List ℕ) (last : Option Taken) (at : ℕ) (within : Bool) (bytes : List ℕ) (k : ℕ) → bytes ≡ drop at line → k < length bytes → k < fewest narrow → is_address_byte (get_or bytes k 0) ≡ false
+    → taken_among narrow held line last (words_from at within bytes) ≡ taken_among narrow held line last (words_from (at + k + 1) (is_word_byte (get_or bytes k 0)) (drop (at + k + 1) line))
+leap_from narrow held line last at within [] k is below few other = absurd (omega arith)
+leap_from narrow held line last at within (b ∷ bytes) k is below few other =
+    over_one narrow held line last at within b bytes (no_address narrow line at n (why (nat_le n k) refl)) ∙ on k below few other (λ j is' below few other. leap_from narrow held line last (at + 1) (is_word_byte b) bytes j is' below few other)
   where
     n : ℕ
     n = run_of is_word_byte (b ∷ bytes)
@@ -156,34 +138,45 @@ leap_from narrow line at within (b ∷ bytes) k is below few other =
     why false high = inr (subst (λ l. list_any is_other (take n l) ≡ true) is (any_at (b ∷ bytes) n k (leb-false n k high) below other))
 
     on : (k : ℕ) → k < length (b ∷ bytes) → k < fewest narrow → is_address_byte (get_or (b ∷ bytes) k 0) ≡ false
-        → ((j : ℕ) → bytes ≡ drop (at + 1) line → j < length bytes → j < fewest narrow → is_address_byte (get_or bytes j 0) ≡ false → address_words narrow line (words_from (at + 1) (is_word_byte b) bytes) ≡ address_words narrow line (words_from (at + 1 + j + 1) (is_word_byte (get_or bytes j 0)) (drop (at + 1 + j + 1) line)))
-        → address_words narrow line (words_from (at + 1) (is_word_byte b) bytes) ≡ address_words narrow line (words_from (at + k + 1) (is_word_byte (get_or (b ∷ bytes) k 0)) (drop (at + k + 1) line))
+        → ((j : ℕ) → bytes ≡ drop (at + 1) line → j < length bytes → j < fewest narrow → is_address_byte (get_or bytes j 0) ≡ false → taken_among narrow held line last (words_from (at + 1) (is_word_byte b) bytes) ≡ taken_among narrow held line last (words_from (at + 1 + j + 1) (is_word_byte (get_or bytes j 0)) (drop (at + 1 + j + 1) line)))
+        → taken_among narrow held line last (words_from (at + 1) (is_word_byte b) bytes) ≡ taken_among narrow held line last (words_from (at + k + 1) (is_word_byte (get_or (b ∷ bytes) k 0)) (drop (at + k + 1) line))
     on zero below few other later =
         let place : at + 1 ≡ at + 0 + 1 = omega arith in
-        ap (λ l. address_words narrow line (words_from (at + 1) (is_word_byte b) l)) (behind_one line at b bytes is) ∙ ap (λ m. address_words narrow line (words_from m (is_word_byte b) (drop m line))) place
+        ap (λ l. taken_among narrow held line last (words_from (at + 1) (is_word_byte b) l)) (behind_one line at b bytes is) ∙ ap (λ m. taken_among narrow held line last (words_from m (is_word_byte b) (drop m line))) place
     on (suc j) below few other later =
         let place : at + 1 + j + 1 ≡ at + suc j + 1 = omega arith in
-        later j (behind_one line at b bytes is) (omega arith) (omega arith) other ∙ ap (λ m. address_words narrow line (words_from m (is_word_byte (get_or bytes j 0)) (drop m line))) place
+        later j (behind_one line at b bytes is) (omega arith) (omega arith) other ∙ ap (λ m. taken_among narrow held line last (words_from m (is_word_byte (get_or bytes j 0)) (drop m line))) place
 
-pub leap : (narrow : Bool) (line : List ℕ) (start place : ℕ) (within : Bool) → start ≤ place → place < length line → place < start + fewest narrow → is_address_byte (get_or line place 0) ≡ false
-    → address_words narrow line (words_from start within (drop start line)) ≡ address_words narrow line (words_from (place + 1) (is_word_byte (get_or line place 0)) (drop (place + 1) line))
-leap narrow line start place within from below few other =
+pub leap : (narrow : Bool) (held : Held) (line : List ℕ) (last : Option Taken) (start place : ℕ) (within : Bool) → start ≤ place → place < length line → place < start + fewest narrow → is_address_byte (get_or line place 0) ≡ false
+    → taken_among narrow held line last (words_from start within (drop start line)) ≡ taken_among narrow held line last (words_from (place + 1) (is_word_byte (get_or line place 0)) (drop (place + 1) line))
+leap narrow held line last start place within from below few other =
     let k = place - start in
     let at : start + k ≡ place = omega arith in
     let same : get_or (drop start line) k 0 ≡ get_or line place 0 = get_or-drop start line k 0 ∙ ap (λ n. get_or line n 0) at in
-    leap_from narrow line start within (drop start line) k refl (omega (arith, length-drop start line)) (omega arith) (ap is_address_byte same ∙ other)
-    ∙ ap (λ b. address_words narrow line (words_from (start + k + 1) (is_word_byte b) (drop (start + k + 1) line))) same
-    ∙ ap (λ n. address_words narrow line (words_from (n + 1) (is_word_byte (get_or line place 0)) (drop (n + 1) line))) at
+    leap_from narrow held line last start within (drop start line) k refl (omega (arith, length-drop start line)) (omega arith) (ap is_address_byte same ∙ other)
+    ∙ ap (λ b. taken_among narrow held line last (words_from (start + k + 1) (is_word_byte b) (drop (start + k + 1) line))) same
+    ∙ ap (λ n. taken_among narrow held line last (words_from (n + 1) (is_word_byte (get_or line place 0)) (drop (n + 1) line))) at
+
+-- a word goes on behind it if it is one of a word
+pub begun_behind : (line : List ℕ) (from place : ℕ) → from ≤ place → is_begun line from (place + 1) ≡ is_word_byte (get_or line place 0)
+begun_behind line from place low =
+    let same : (place + 1) - 1 ≡ place = omega arith in
+    ap (λ t. t && is_word_byte (get_or line ((place + 1) - 1) 0)) (lt-ltb from (place + 1) (omega arith)) ∙ ap (λ n. is_word_byte (get_or line n 0)) same
+
+-- and none where none did
+pub not_begun : (line : List ℕ) (place : ℕ) → is_begun line place place ≡ false
+not_begun line place =
+    ap (λ t. t && is_word_byte (get_or line (place - 1) 0)) (false_from_ne_true (nat_lt place place) (λ e. let low = ltb-true place place e in absurd (omega (arith, low))))
 
 -- too few bytes are left
-few_from : (narrow : Bool) (line : List ℕ) (at : ℕ) (within : Bool) (bytes : List ℕ) → length bytes < fewest narrow → address_words narrow line (words_from at within bytes) ≡ []
-few_from narrow line at within [] few = refl
-few_from narrow line at within (b ∷ bytes) few =
-    over_one narrow line at within b bytes (no_address narrow line at (run_of is_word_byte (b ∷ bytes)) (inl (omega (arith, few, run_within (b ∷ bytes)))))
-    ∙ few_from narrow line (at + 1) (is_word_byte b) bytes (omega (arith, few))
+few_from : (narrow : Bool) (held : Held) (line : List ℕ) (last : Option Taken) (at : ℕ) (within : Bool) (bytes : List ℕ) → length bytes < fewest narrow → taken_among narrow held line last (words_from at within bytes) ≡ []
+few_from narrow held line last at within [] few = refl
+few_from narrow held line last at within (b ∷ bytes) few =
+    over_one narrow held line last at within b bytes (no_address narrow line at (run_of is_word_byte (b ∷ bytes)) (inl (omega (arith, few, run_within (b ∷ bytes)))))
+    ∙ few_from narrow held line last (at + 1) (is_word_byte b) bytes (omega (arith, few))
 
-pub few_left : (narrow : Bool) (line : List ℕ) (start : ℕ) (within : Bool) → length line - start < fewest narrow → address_words narrow line (words_from start within (drop start line)) ≡ []
-few_left narrow line start within few = few_from narrow line start within (drop start line) (omega (arith, few, length-drop start line))
+pub few_left : (narrow : Bool) (held : Held) (line : List ℕ) (last : Option Taken) (start : ℕ) (within : Bool) → length line - start < fewest narrow → taken_among narrow held line last (words_from start within (drop start line)) ≡ []
+few_left narrow held line last start within few = few_from narrow held line last start within (drop start line) (omega (arith, few, length-drop start line))
 
 -- the rest of a word
 pub goes_on : (line : List ℕ) (start end : ℕ) (w : Word) → start < length line → is_word_byte (get_or line start 0) ≡ true → words_behind line start ≡ w ∷ words_behind line end → words_from start true (drop start line) ≡ words_behind line end
@@ -199,18 +192,11 @@ goes_on line start end w below is words =
 
 -- bytes of address words are bytes of words
 pub is_word : (b : ℕ) → is_address_byte b ≡ true → is_word_byte b ≡ true
-is_word b is = either (or_cases (is_digit b 16 || b == 120) (b == 88) is)
+is_word b is = ap (λ t. t || b == 95) (lt-ltb (digit_value b) 36 (low (or_cases (is_digit b 16) (digit_value b == 33) is)))
   where
-    wider : (v : ℕ) → nat_lt v 16 ≡ true → nat_lt v 36 ≡ true
-    wider v low = let low' = ltb-true v 16 low in lt-ltb v 36 (omega (arith, low'))
-
-    first : (is_digit b 16 ≡ true) ⊎ ((b == 120) ≡ true) → is_word_byte b ≡ true
-    first (inl digit) = ap (λ t. t || b == 95) (wider _ digit)
-    first (inr x) = ap is_word_byte (eqb-true b 120 x)
-
-    either : ((is_digit b 16 || b == 120) ≡ true) ⊎ ((b == 88) ≡ true) → is_word_byte b ≡ true
-    either (inl is) = first (or_cases (is_digit b 16) (b == 120) is)
-    either (inr x) = ap is_word_byte (eqb-true b 88 x)
+    low : (is_digit b 16 ≡ true) ⊎ ((digit_value b == 33) ≡ true) → digit_value b < 36
+    low (inl digit) = let low' = ltb-true (digit_value b) 16 digit in omega (arith, low')
+    low (inr x) = let same = eqb-true (digit_value b) 33 x in omega (arith, same)
 
 pub some_fewest : (narrow : Bool) → 0 < fewest narrow
 some_fewest true = omega arith

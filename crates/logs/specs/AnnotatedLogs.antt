@@ -22,8 +22,7 @@ abbrev pub without_bracket : List ℕ → List ℕ
 without_bracket text =
     if ends_with nat_eq text (codes "]") then take (length text - 1) text else text
 
--- The bytes begin with a blank and the text, perhaps with `? ` or `(` between, up to a `]` at its
--- end.
+-- the bytes begin with a blank, perhaps `? ` or `(`, and the text, up to a `]` at its end
 abbrev pub says_itself : List ℕ → List ℕ → Bool
 says_itself rest text =
     let said = drop 1 (without_bracket text) in
@@ -43,18 +42,13 @@ unless_said rest (Some text) = if says_itself rest text then None else Some text
 abbrev pub text_for : Answering → Taken → Option (List ℕ)
 text_for answer t = if t.is_foreign then None else answer.text t.is_caller t.value
 
--- what is inserted: the text of the answer, unless the log says it itself
-abbrev pub inserted : Answering → List ℕ → Taken → Option (List ℕ)
-inserted answer line t = unless_said (drop (place_behind line t) line) (text_for answer t)
-
--- the line from a place on, with what is inserted behind its address words
+-- the line from a place on, with the texts behind its address words that it does not say itself
 abbrev pub woven : Answering → List ℕ → ℕ → List Taken → List ℕ
 woven answer line at [] = drop at line
 woven answer line at (t ∷ more) =
-    option_map_or
-    (λ text. part line at (place_behind line t) ++ text
-    ++ woven answer line (place_behind line t) more)
-    (inserted answer line t) (woven answer line at more)
+    let place = place_behind line t in
+    option_map_or (λ text. part line at place ++ text ++ woven answer line place more)
+    (unless_said (drop place line) (text_for answer t)) (woven answer line at more)
 
 -- what is counted, behind these address words more
 abbrev pub counted : Answering → List ℕ → LogNames → List Taken → LogNames
@@ -63,29 +57,21 @@ counted answer line names (t ∷ more) =
     counted answer line
     (with_address answer t (drop (place_behind line t) line) (text_for answer t) names) more
 
--- a line of at most `longest` bytes
-unfoldable pub annotated_short : Answering → Held → List ℕ → List ℕ
-annotated_short answer held line = woven answer line 0 (taken_in answer.is_narrow held line)
+-- A line with the texts of its answers. A long one stays as it is.
+unfoldable pub annotated_line : Answering → Held → List ℕ → List ℕ
+annotated_line answer held line =
+    if is_long line then line else woven answer line 0 (taken_in answer.is_narrow held line)
 
--- what is carried on behind it
-unfoldable pub held_short : Answering → Held → List ℕ → Held
-held_short answer held line =
+-- what is carried on behind a line: nothing of a long one
+unfoldable pub held_behind : Answering → Held → List ℕ → Held
+held_behind answer held line =
     let taken = taken_in answer.is_narrow held line in
-    record {
+    if is_long line then held
+    else record {
       first = next_first held.first (list_any (λ t. t.is_frame) taken) (tells_place line);
       is_user = is_user_line held line || begins_user line;
       names = counted answer line held.names taken;
     }
-
--- A line with the texts of its answers. A longer one stays as it is.
-abbrev pub annotated_line : Answering → Held → List ℕ → List ℕ
-annotated_line answer held line =
-    if is_long line then line else annotated_short answer held line
-
--- what is carried on behind a line: nothing of a longer one
-abbrev pub held_behind : Answering → Held → List ℕ → Held
-held_behind answer held line =
-    if is_long line then held else held_short answer held line
 
 -- lines with their texts; and what is carried on behind them
 abbrev pub annotated_lines : Answering → Held → List (List ℕ) → List ℕ

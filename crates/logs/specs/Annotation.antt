@@ -1,23 +1,20 @@
 -- What was read of a log, and what was written for it.
-use Rattle.std.specs.Prelude.{◌≡◌, ℕ, ◌-◌, ◌^◌, ◌≤◌, ◌⊎◌, true, false, List, [], ◌++◌}
-use Rattle.std.specs.Prelude.{if◌then◌else◌, length, Option, Result, Ok, Err}
+use Rattle.std.specs.Prelude.{◌≡◌, ℕ, ◌-◌, ◌^◌, ◌≤◌, ◌⊎◌, true, false, List, [], ◌++◌, if◌then◌else◌, length, take, Option, Result, Ok, Err}
 use Rattle.std.specs.Io.KnownBytes.{Appends, Consumes, IsAtEnd}
 use Rattle.std.specs.declared.io.Error.{Error}
 use Rattle.texts.specs.declared.counted.Counted.{Counted}
 use Rattle.texts.specs.Counted.{NoneFailed, Rose, device_of, failures_of}
 use Rattle.texts.specs.declared.output.Output.{Output}
-use Rattle.texts.specs.Output.{Delivered, WrotePart, error_in, has_failed, is_flushed, writer_of}
-use Rattle.texts.specs.Output.{IsBrokenPipe, IsNoBrokenPipe}
+use Rattle.texts.specs.Output.{Delivered, WrotePart, error_in, has_failed, is_flushed, writer_of, IsBrokenPipe, IsNoBrokenPipe}
 use Rattle.logs.specs.Answering.{Answering}
 use Rattle.logs.specs.AnnotatedLogs.{annotated, annotated_lines, held_over, names_of}
 use Rattle.logs.specs.Lines.{AreWhole, has_end, is_long, lines}
+use Rattle.logs.specs.declared.annotation.Findings.{Findings}
 use Rattle.logs.specs.declared.annotation.LogFault.{LogFault}
 use Rattle.logs.specs.declared.annotation.LogFault.TheVariants as fault
 use Rattle.logs.specs.declared.annotator.Annotator.{Annotator}
 use Rattle.logs.specs.declared.held.Held.{Held}
 use Rattle.logs.specs.declared.log_names.LogNames.{LogNames}
-
--- ---- the lines of a log as its blocks come
 
 -- of a line without an end: what is put already, all of one that is too long; and what is kept
 abbrev pub put_of : List ℕ → List ℕ
@@ -60,8 +57,6 @@ pub record Ended (answer : Answering) (a : Annotator) (line : List ℕ) (names :
 abbrev pub Ends : Answering → Annotator → LogNames → List ℕ → Type 0
 Ends answer a names text = (line : List ℕ) → IsOpen a line → Ended answer a line names text
 
--- ---- what is written
-
 -- A text was added to bytes, and this holds of it.
 abbrev pub Adds : List ℕ → List ℕ → (List ℕ → Type 0) → Type 0
 Adds out out' P = (text : List ℕ) × (out' ≡ out ++ text) × P text
@@ -72,21 +67,16 @@ IsWriteFault error fault.Write = IsNoBrokenPipe error
 IsWriteFault error fault.Closed = IsBrokenPipe error
 IsWriteFault error _ = ⊥
 
--- A text was written, and nothing is kept back; or nothing was done; or a call failed, and a
--- beginning of a text was written. This holds of what is returned and of the text.
-abbrev pub Puts : {W X : Type 0} → (W → Option (List ℕ)) → (X → List ℕ → Type 0) → Output W
-    → Output W → Result X LogFault → Type 0
-Puts contents P w w' (Ok x) = (text : List ℕ) × Delivered contents w w' text × P x text
-Puts {W} {X} contents P w w' (Err fault.OutOfMemory) = w' ≡ w
-Puts {W} {X} contents P w w' (Err fault.Write) =
-    ((text : List ℕ) × (x : X) × WrotePart contents w w' text × P x text)
-    × IsNoBrokenPipe (error_in w')
-Puts {W} {X} contents P w w' (Err fault.Closed) =
-    ((text : List ℕ) × (x : X) × WrotePart contents w w' text × P x text)
-    × IsBrokenPipe (error_in w')
-Puts contents P w w' (Err _) = ⊥
-
--- ---- a whole log
+module _ {W X : Type 0} (contents : W → Option (List ℕ)) (P : X → List ℕ → Type 0)
+    (w w' : Output W) where
+  -- A text was written, and nothing is kept back; or nothing was done; or a call failed, and a
+  -- beginning of a text was written. This holds of what is returned and of the text.
+  abbrev pub Puts : Result X LogFault → Type 0
+  Puts (Ok x) = (text : List ℕ) × Delivered contents w w' text × P x text
+  Puts (Err fault.OutOfMemory) = w' ≡ w
+  Puts (Err f) =
+      ((text : List ℕ) × (x : X) × WrotePart contents w w' text × P x text)
+      × IsWriteFault (error_in w') f
 
 -- the annotated log begins with what was written, whatever comes behind what was read
 abbrev pub Begins : Answering → List ℕ → List ℕ → Type 0
@@ -104,62 +94,43 @@ pub record IsUpToDate (answer : Answering) (written read : List ℕ) : Type 0 wh
   pub is_written : written ≡ annotated answer passed ++ put_of line
   pub begins : Begins answer written read
 
--- The reader gave these bytes, and this was written.
-pub record Moves {R W : Type 0} (remaining : R → Option (List ℕ)) (contents : W → Option (List ℕ))
-    (r r' : Counted R) (w w' : Output W) (read written : List ℕ) : Type 0 where
-  pub consumed : Consumes (remaining (device_of r)) (remaining (device_of r')) read
-  pub appended : Appends (contents (writer_of w)) (contents (writer_of w')) written
-
--- Some bytes were read and written, and this holds of them.
-abbrev pub MovesSome : {R W : Type 0} → (R → Option (List ℕ)) → (W → Option (List ℕ))
-    → Counted R → Counted R → Output W → Output W → (List ℕ → List ℕ → Type 0) → Type 0
-MovesSome remaining contents r r' w w' P =
-    (read : List ℕ) × (written : List ℕ) × Moves remaining contents r r' w w' read written
-    × P written read
-
--- The log was read to its end, and what was written is a beginning of the annotated log.
-abbrev pub IsEnding : {R : Type 0} → (R → Option (List ℕ)) → Answering → Counted R → List ℕ
-    → List ℕ → Type 0
-IsEnding remaining answer r' written log =
-    IsAtEnd (remaining (device_of r'))
-    × (rest : List ℕ) × (annotated answer log ≡ written ++ rest)
-
--- A call of the writer failed, and what was written until then is a beginning of the annotated log.
-abbrev pub IsCutOff : {R W : Type 0} → (R → Option (List ℕ)) → (W → Option (List ℕ)) → Answering
-    → Counted R → Counted R → Output W → Output W → Type 0
-IsCutOff remaining contents answer r r' w w' =
-    NoneFailed r r' × (has_failed w' ≡ true)
-    × (MovesSome remaining contents r r' w w' (Begins answer)
-    ⊎ MovesSome remaining contents r r' w w' (IsEnding remaining answer r'))
-
 -- the writer was not called, or a flush was its last call
 abbrev pub KeepsNothingBack : {W : Type 0} → Output W → Output W → Type 0
 KeepsNothingBack w w' = (w' ≡ w) ⊎ (is_flushed w' ≡ true)
 
--- No call of the writer failed, it keeps nothing back, and this was read and written.
-abbrev pub IsSound : {R W : Type 0} → (R → Option (List ℕ)) → (W → Option (List ℕ))
-    → Counted R → Counted R → Output W → Output W → (List ℕ → List ℕ → Type 0) → Type 0
-IsSound remaining contents r r' w w' P =
-    (has_failed w' ≡ has_failed w) × KeepsNothingBack w w'
-    × MovesSome remaining contents r r' w w' P
+module _ {R W : Type 0} (remaining : R → Option (List ℕ)) (contents : W → Option (List ℕ))
+    (answer : Answering) (r r' : Counted R) (w w' : Output W) where
+  -- The reader gave some bytes, and some were written, and this holds of them.
+  abbrev pub MovesSome : (List ℕ → List ℕ → Type 0) → Type 0
+  MovesSome P =
+      (read : List ℕ) × (written : List ℕ)
+      × Consumes (remaining (device_of r)) (remaining (device_of r')) read
+      × Appends (contents (writer_of w)) (contents (writer_of w')) written × P written read
 
--- what is returned
-abbrev pub Annotates : {R W : Type 0} → (R → Option (List ℕ)) → (W → Option (List ℕ)) → Answering
-    → Counted R → Counted R → Output W → Output W → Result LogNames LogFault → Type 0
-Annotates remaining contents answer r r' w w' (Ok names) =
-    NoneFailed r r' × (has_failed w' ≡ false) × (is_flushed w' ≡ true)
-    × MovesSome remaining contents r r' w w' (λ written log.
-    IsAtEnd (remaining (device_of r')) × (written ≡ annotated answer log)
-    × (names ≡ names_of answer log))
-Annotates remaining contents answer r r' w w' (Err fault.OutOfMemory) =
-    NoneFailed r r' × IsSound remaining contents r r' w w' (Begins answer)
-Annotates remaining contents answer r r' w w' (Err fault.TooLong) =
-    NoneFailed r r' × IsSound remaining contents r r' w w' (λ written read.
-    IsUpToDate answer written read × (2 ^ 64 - 1 ≤ length read))
-Annotates remaining contents answer r r' w w' (Err fault.Read) =
-    Rose (failures_of r) (failures_of r')
-    × IsSound remaining contents r r' w w' (IsUpToDate answer)
-Annotates remaining contents answer r r' w w' (Err fault.Write) =
-    IsCutOff remaining contents answer r r' w w' × IsNoBrokenPipe (error_in w')
-Annotates remaining contents answer r r' w w' (Err fault.Closed) =
-    IsCutOff remaining contents answer r r' w w' × IsBrokenPipe (error_in w')
+  -- A call of the writer failed, and what was written until then is a beginning of the annotated
+  -- log, which may be at its end.
+  abbrev pub IsCutOff : Type 0
+  IsCutOff =
+      NoneFailed r r' × (has_failed w' ≡ true)
+      × MovesSome (λ written read. Begins answer written read
+      ⊎ (IsAtEnd (remaining (device_of r'))
+      × (rest : List ℕ) × (annotated answer read ≡ written ++ rest)))
+
+  -- No call of the writer failed, it keeps nothing back, and this was read and written.
+  abbrev pub IsSound : (List ℕ → List ℕ → Type 0) → Type 0
+  IsSound P = (has_failed w' ≡ has_failed w) × KeepsNothingBack w w' × MovesSome P
+
+  -- what is returned
+  abbrev pub Annotates : Result Findings LogFault → Type 0
+  Annotates (Ok found) =
+      NoneFailed r r' × (has_failed w' ≡ false) × (is_flushed w' ≡ true)
+      × MovesSome (λ written log.
+      IsAtEnd (remaining (device_of r')) × (written ≡ annotated answer log)
+      × (found.names ≡ names_of answer log) × (found.head.items ≡ take 2 log))
+  Annotates (Err fault.OutOfMemory) = NoneFailed r r' × IsSound (Begins answer)
+  Annotates (Err fault.TooLong) =
+      NoneFailed r r' × IsSound (λ written read.
+      IsUpToDate answer written read × (2 ^ 64 - 1 ≤ length read))
+  Annotates (Err fault.Read) =
+      Rose (failures_of r) (failures_of r') × IsSound (IsUpToDate answer)
+  Annotates (Err f) = IsCutOff × IsWriteFault (error_in w') f

@@ -1,6 +1,5 @@
 -- The lines of a log.
-use Rattle.std.specs.Prelude.{◌≡◌, ℕ, Bool, List, [], ◌∷◌, ◌++◌, ◌==◌, if◌then◌else◌}
-use Rattle.std.specs.Prelude.{false, length, nat_lt}
+use Rattle.std.specs.Prelude.{◌≡◌, ℕ, Bool, List, [], ◌∷◌, ◌++◌, ◌==◌, if◌then◌else◌, false, length, nat_lt}
 use Rattle.std.specs.List.{list_any, onto_first}
 
 -- A line has the byte 10 that ends it. The bytes behind the last end, if there are any, are a line
@@ -9,12 +8,9 @@ abbrev pub lines : List ℕ → List (List ℕ)
 lines [] = []
 lines (b ∷ bytes) = if b == 10 then (b ∷ []) ∷ lines bytes else onto_first b (lines bytes)
 
--- the most bytes of a line that is annotated, and whether a line has more
-abbrev pub longest : ℕ
-longest = 65536
-
+-- a line has more bytes than one that is annotated
 abbrev pub is_long : List ℕ → Bool
-is_long line = nat_lt longest (length line)
+is_long line = nat_lt 65536 (length line)
 
 -- whether a line ends among the bytes
 abbrev pub has_end : List ℕ → Bool

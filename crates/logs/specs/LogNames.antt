@@ -1,23 +1,19 @@
--- How many addresses a log has, how many of them have a name, and how often the names that it has
--- itself behind them are those of the answers.
-use Rattle.std.specs.Prelude.{ℕ, ◌+◌, ◌==◌, ◌&&◌, ◌||◌, Bool, true, false, if◌then◌else◌}
-use Rattle.std.specs.Prelude.{List, [], ◌∷◌, ◌++◌, codes, drop, take, nat_eq, nat_le, nat_lt}
-use Rattle.std.specs.Prelude.{Option, Some, None}
+-- The addresses of a log that have a name, and the names that it has itself behind them.
+use Rattle.std.specs.Prelude.{ℕ, ◌+◌, ◌-◌, ◌^◌, ◌==◌, ◌&&◌, ◌||◌, min, Bool, true, false, List}
+use Rattle.std.specs.Prelude.{if◌then◌else◌, [], ◌∷◌, ◌++◌, codes, drop, take, nat_eq, nat_le, nat_lt, Option, Some, None}
 use Rattle.std.specs.List.{starts_with}
+use Rattle.std.specs.Option.{option_map_or}
 use Rattle.logs.specs.Answering.{Answering}
 use Rattle.logs.specs.Places.{first_of}
 use Rattle.logs.specs.declared.log_names.LogNames.{LogNames}
 use Rattle.logs.specs.declared.places.Kind.TheVariants as kind
 use Rattle.logs.specs.declared.taken.Taken.{Taken}
 
--- ---- a text of the form `NAME+0xOFF/0xSIZE`
-
--- `/0xSIZE`, with one digit at least
+-- `/0xSIZE`, digits and it, and `+0xOFF/0xSIZE` as behind a name, with one digit at least
 abbrev pub begins_size : List ℕ → Bool
 begins_size text =
     starts_with nat_eq text (codes "/0x") && nat_lt 0 (first_of kind.Hexadecimal (drop 3 text))
 
--- hexadecimal digits and it; and `+0xOFF/0xSIZE`
 abbrev pub begins_sized : List ℕ → Bool
 begins_sized text =
     let n = first_of kind.Hexadecimal text in nat_lt 0 n && begins_size (drop n text)
@@ -43,11 +39,9 @@ abbrev pub name_behind : List ℕ → Option (List ℕ)
 name_behind [] = None
 name_behind (b ∷ text) = if b == 32 then name_in (without_doubt text) else None
 
--- ---- how many there are
-
 -- a count and one more, which stays at the greatest u64
 abbrev pub one_more : ℕ → ℕ
-one_more n = if nat_lt n 18446744073709551615 then n + 1 else 18446744073709551615
+one_more n = min (n + 1) (2 ^ 64 - 1)
 
 -- nothing is counted
 abbrev pub no_names : LogNames
@@ -64,26 +58,16 @@ abbrev pub with_name : Bool → LogNames → LogNames
 with_name true names = record names { agreeing = one_more names.agreeing }
 with_name false names = record names { disagreeing = one_more names.disagreeing }
 
--- the name that the log has itself, if it has one
-abbrev pub with_verdict : Answering → Taken → List ℕ → Option (List ℕ) → LogNames → LogNames
-with_verdict answer t text None names = names
-with_verdict answer t text (Some name) names = with_name (agrees answer t text name) names
-
 -- An address more, with its answer's text if it has one, before the rest of its line.
 abbrev pub with_address : Answering → Taken → List ℕ → Option (List ℕ) → LogNames → LogNames
-with_address answer t rest None names =
-    record names { addresses = one_more names.addresses }
+with_address answer t rest None names = record names { addresses = one_more names.addresses }
 with_address answer t rest (Some text) names =
-    with_verdict answer t text (name_behind rest)
-    (record names { addresses = one_more names.addresses; named = one_more names.named })
+    let more = record names { addresses = one_more names.addresses; named = one_more names.named } in
+    option_map_or (λ name. with_name (agrees answer t text name) more) (name_behind rest) more
 
--- ---- what they say of the listing
-
--- The log is of another boot than the listing: five names or more do not agree, and these are more
--- than those that do.
+-- of another boot than the listing: five names or more do not agree, and more than those that do
 abbrev pub is_of_another_boot : LogNames → Bool
-is_of_another_boot names =
-    nat_le 5 names.disagreeing && nat_lt names.agreeing names.disagreeing
+is_of_another_boot names = nat_le 5 names.disagreeing && nat_lt names.agreeing names.disagreeing
 
 -- It has five addresses or more, and none has a name.
 abbrev pub is_unnamed : LogNames → Bool

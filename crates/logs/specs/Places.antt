@@ -1,14 +1,8 @@
 -- The place of an address word in its line.
---
--- Before it come a prefix, as a time stamp, then what may begin a line, then its marks:
---
---     [   52.104290] [T123]  <IRQ>  [<ffffffff81000108>] ? do_one
---     ~~~~~~~~~~~~~~===============^^                             prefix, lead, marks
---
--- Behind another address word of the line only the bytes between the two are looked at.
+-- Before it come a prefix, as a time stamp, then what may begin a line, then its marks. Behind another
+-- address word of the line only the bytes between the two are looked at.
 use Rattle.std.specs.Prelude.{ℕ, suc, zero, ◌+◌, ◌-◌, ◌==◌, ◌||◌, ◌&&◌, not, Bool, true, false}
-use Rattle.std.specs.Prelude.{if◌then◌else◌}
-use Rattle.std.specs.Prelude.{List, [], ◌∷◌, length, drop, take, codes, nat_eq, nat_lt, reverse}
+use Rattle.std.specs.Prelude.{if◌then◌else◌, List, [], ◌∷◌, length, drop, take, codes, nat_eq, nat_lt, reverse}
 use Rattle.std.specs.List.{list_any, starts_with, ends_with}
 use Rattle.std.specs.Char.{is_digit}
 use Rattle.std.specs.Str.{bytes_eq}
@@ -16,39 +10,18 @@ use Rattle.logs.specs.Words.{is_word_byte, run_of}
 use Rattle.logs.specs.declared.places.Kind.{Kind}
 use Rattle.logs.specs.declared.places.Kind.TheVariants as kind
 
--- `(`, `<` and `[`; and with these what may separate a label from its address
-abbrev pub is_mark : ℕ → Bool
-is_mark b = b == 40 || b == 60 || b == 91
-
-abbrev pub is_label_gap : ℕ → Bool
-is_label_gap b = b == 32 || b == 58 || b == 61 || is_mark b
-
-abbrev pub is_bracket : ℕ → Bool
-is_bracket b = b == 91 || b == 93
-
-abbrev pub is_blank : ℕ → Bool
-is_blank b = b == 32 || b == 9
-
--- a byte of a group: no bracket, `<` or `>`
-abbrev pub is_group_byte : ℕ → Bool
-is_group_byte b = not (is_bracket b || b == 60 || b == 62)
-
--- a byte of a symbol's name, which `+` ends: no blank or control byte
-abbrev pub is_name_byte : ℕ → Bool
-is_name_byte b = nat_lt 32 b && not (b == 43)
-
 -- a byte is of a kind
 abbrev pub is_of : Kind → ℕ → Bool
 is_of kind.Word b = is_word_byte b
 is_of kind.Digit b = is_digit b 10
-is_of kind.Mark b = is_mark b
-is_of kind.LabelGap b = is_label_gap b
-is_of kind.Blank b = is_blank b
-is_of kind.NoBlank b = not (is_blank b)
+is_of kind.Mark b = b == 40 || b == 60 || b == 91
+is_of kind.LabelGap b = b == 32 || b == 58 || b == 61 || b == 40 || b == 60 || b == 91
+is_of kind.Blank b = b == 32 || b == 9
+is_of kind.NoBlank b = not (b == 32 || b == 9)
 is_of kind.Space b = b == 32
-is_of kind.NoBracket b = not (is_bracket b)
-is_of kind.Group b = is_group_byte b
-is_of kind.Name b = is_name_byte b
+is_of kind.NoBracket b = not (b == 91 || b == 93)
+is_of kind.Group b = not (b == 91 || b == 93 || b == 60 || b == 62)
+is_of kind.Name b = nat_lt 32 b && not (b == 43)
 is_of kind.Hexadecimal b = is_digit b 16
 
 -- how many bytes of a kind the bytes begin with, and how many they end in
@@ -72,51 +45,39 @@ ends_in_label bytes =
     bytes_eq word (codes "ra") || bytes_eq word (codes "lr") || bytes_eq word (codes "LR")
     || bytes_eq word (codes "from")
 
--- It is `at` or `in`.
-abbrev pub ends_in_at : List ℕ → Bool
-ends_in_at bytes =
-    let word = end_of kind.Word bytes in bytes_eq word (codes "at") || bytes_eq word (codes "in")
-
 -- A `<-` comes directly before the address; or only blanks, `:`, `=` and marks come behind the last
 -- word, and it is a label, or one and ` is at`, or `at` or `in` with a `:` directly behind.
 abbrev pub has_label : List ℕ → Bool
 has_label before =
     let head = without_end kind.LabelGap before in
+    let word = end_of kind.Word head in
     ends_with nat_eq before (codes "<-")
     || ends_in_label head
     || (ends_with nat_eq head (codes " is at") && ends_in_label (take (length head - 6) head))
-    || (ends_in_at head && starts_with nat_eq (drop (length head) before) (codes ":"))
+    || ((bytes_eq word (codes "at") || bytes_eq word (codes "in"))
+    && starts_with nat_eq (drop (length head) before) (codes ":"))
 
--- a digit, `.` or `:`, and a digit follow each other at the begin
-abbrev pub begins_point : List ℕ → Bool
-begins_point (a ∷ b ∷ d ∷ more) = is_digit a 10 && (b == 46 || b == 58) && is_digit d 10
-begins_point bytes = false
+-- the bytes begin with a shape, in which `0` stands for any digit
+abbrev pub begins_like : List ℕ → List ℕ → Bool
+begins_like [] bytes = true
+begins_like (sign ∷ shape) [] = false
+begins_like (sign ∷ shape) (b ∷ bytes) =
+    (if sign == 48 then is_digit b 10 else b == sign) && begins_like shape bytes
 
--- or somewhere
+-- a digit, `.` or `:`, and a digit follow each other in the bytes
 abbrev pub has_point : List ℕ → Bool
 has_point [] = false
-has_point (b ∷ bytes) = begins_point (b ∷ bytes) || has_point bytes
+has_point (b ∷ bytes) =
+    begins_like (codes "0.0") (b ∷ bytes) || begins_like (codes "0:0") (b ∷ bytes)
+    || has_point bytes
 
--- the bytes begin with seconds, and no `:` follows them
-abbrev pub begins_seconds : List ℕ → Bool
-begins_seconds (a ∷ b ∷ more) =
-    is_digit a 10 && is_digit b 10 && not (starts_with nat_eq more (codes ":"))
-begins_seconds bytes = false
-
--- with minutes before these, and with a time of day, as 10:11:12
-abbrev pub begins_minutes : List ℕ → Bool
-begins_minutes (a ∷ b ∷ c ∷ more) = is_digit a 10 && is_digit b 10 && c == 58 && begins_seconds more
-begins_minutes bytes = false
-
-abbrev pub begins_time : List ℕ → Bool
-begins_time (a ∷ b ∷ c ∷ more) = is_digit a 10 && is_digit b 10 && c == 58 && begins_minutes more
-begins_time bytes = false
-
--- the bytes have one with no digit or `:` before it
+-- the bytes have a time of day with no digit or `:` before it and no `:` behind it
 abbrev pub has_time : Bool → List ℕ → Bool
 has_time within [] = false
 has_time within (b ∷ bytes) =
-    (not within && begins_time (b ∷ bytes)) || has_time (is_digit b 10 || b == 58) bytes
+    (not within && begins_like (codes "00:00:00") (b ∷ bytes)
+    && not (begins_like (codes "00:00:00:") (b ∷ bytes)))
+    || has_time (is_digit b 10 || b == 58) bytes
 
 -- bytes end in a group in brackets in which a digit, `.` or `:`, and a digit follow each other
 abbrev pub ends_in_stamp : List ℕ → Bool
@@ -129,7 +90,7 @@ ends_in_stamp bytes =
 -- nothing, or a blank or tab first
 abbrev pub begins_blank : List ℕ → Bool
 begins_blank [] = true
-begins_blank (b ∷ bytes) = is_blank b
+begins_blank (b ∷ bytes) = is_of kind.Blank b
 
 -- A prefix may end between these bytes: behind `;`, `kernel:`, such a group, or a time of day and
 -- what is glued to it.
@@ -147,42 +108,27 @@ prefix_up_to bytes zero = zero
 prefix_up_to bytes (suc p) =
     if ends_prefix (take (suc p) bytes) (drop (suc p) bytes) then suc p else prefix_up_to bytes p
 
--- the place of the prefix's end, or 0 without a prefix; and the bytes behind it
+-- the place of the prefix's end, or 0 without a prefix
 abbrev pub prefix_end : List ℕ → ℕ
 prefix_end bytes = prefix_up_to bytes (length bytes)
 
-abbrev pub behind_prefix : List ℕ → List ℕ
-behind_prefix bytes = drop (prefix_end bytes) bytes
+-- how long a run of a kind is with the byte before it and the one that closes it, or 0 without these
+abbrev pub closed : Kind → List ℕ → List ℕ → ℕ
+closed k close bytes =
+    let n = first_of k bytes in
+    if not (n == 0) && starts_with nat_eq (drop n bytes) close then n + 2 else 0
 
--- digits, and the byte before them
-abbrev pub numbered : List ℕ → ℕ
-numbered bytes = let n = first_of kind.Digit bytes in if n == 0 then 0 else n + 1
-
--- a word, the byte before it and the `>` behind it
-abbrev pub angled : List ℕ → ℕ
-angled bytes =
-    let n = first_of kind.Word bytes in
-    if not (n == 0) && starts_with nat_eq (drop n bytes) (codes ">") then n + 2 else 0
-
--- a group with a digit, the byte before it and the `]` behind it
-abbrev pub group : List ℕ → ℕ
-group bytes =
-    let n = first_of kind.Group bytes in
-    if starts_with nat_eq (drop n bytes) (codes "]") && list_any (λ b. is_digit b 10) (take n bytes)
-    then n + 2
-    else 0
-
--- The length of the item that may come before the first address of a line, if the bytes begin with
--- one: a blank, tab, CR or `?`; `=>`; `#` and digits; a word in `<` and `>`; such a group in
--- brackets. 0 if they begin with none.
+-- The length of the item that may come before the first address of a line, or 0: a blank, tab, CR or
+-- `?`; `=>`; `#` and digits; a word in `<` and `>`; a group in brackets with a digit.
 abbrev pub lead_item : List ℕ → ℕ
 lead_item [] = 0
 lead_item (b ∷ bytes) =
-    if is_blank b || b == 13 || b == 63 then 1
+    if b == 32 || b == 9 || b == 13 || b == 63 then 1
     else if b == 61 && starts_with nat_eq bytes (codes ">") then 2
-    else if b == 35 then numbered bytes
-    else if b == 60 then angled bytes
-    else if b == 91 then group bytes
+    else if b == 35 && begins_like (codes "0") bytes then first_of kind.Digit bytes + 1
+    else if b == 60 then closed kind.Word (codes ">") bytes
+    else if b == 91 && list_any (λ b. is_digit b 10) (take (first_of kind.Group bytes) bytes)
+    then closed kind.Group (codes "]") bytes
     else 0
 
 -- The bytes behind this many are such items.
@@ -192,16 +138,6 @@ is_lead (suc n) (b ∷ bytes) = is_lead n bytes
 is_lead zero (b ∷ bytes) =
     not (lead_item (b ∷ bytes) == 0) && is_lead (lead_item (b ∷ bytes) - 1) bytes
 
--- `#` and a digit begin the bytes
-abbrev pub begins_number : List ℕ → Bool
-begins_number [] = false
-begins_number (b ∷ bytes) = b == 35 && not (first_of kind.Digit bytes == 0)
-
--- and so behind blanks
+-- blanks, `#` and a digit begin the bytes
 abbrev pub begins_numbered : List ℕ → Bool
-begins_numbered bytes = begins_number (drop (first_of kind.Blank bytes) bytes)
-
--- `]` and blanks
-abbrev pub is_closed : List ℕ → Bool
-is_closed [] = false
-is_closed (b ∷ bytes) = b == 93 && first_of kind.Space bytes == length bytes
+begins_numbered bytes = begins_like (codes "#0") (drop (first_of kind.Blank bytes) bytes)

@@ -1,12 +1,11 @@
 -- A line that is put word by word.
-use Rattle.std.specs.Prelude.{ℕ, ◌==◌, ◌||◌, Bool, List, [], ◌∷◌, if◌then◌else◌}
-use Rattle.std.specs.Char.{is_digit}
+use Rattle.std.specs.Prelude.{◌≡◌, ℕ, ◌-◌, ◌==◌, ◌||◌, ◌&&◌, Bool, List, Option, if◌then◌else◌, nat_lt, slice_index_or}
+use Rattle.std.specs.Char.{digit_value, is_digit}
 use Rattle.std.specs.List.{list_any}
-use Rattle.std.specs.Option.{is_some}
 use Rattle.logs.specs.AnnotatedLogs.{counted, woven}
 use Rattle.logs.specs.Answering.{Answering}
 use Rattle.logs.specs.TakenWords.{taken_among}
-use Rattle.logs.specs.Words.{address_at}
+use Rattle.logs.specs.Words.{is_word_byte}
 use Rattle.logs.specs.declared.held.Held.{Held}
 use Rattle.logs.specs.declared.line.Progress.{Progress}
 use Rattle.logs.specs.declared.log_names.LogNames.{LogNames}
@@ -18,33 +17,29 @@ abbrev pub fewest : Bool → ℕ
 fewest narrow = if narrow then 8 else 11
 
 abbrev pub is_address_byte : ℕ → Bool
-is_address_byte b = is_digit b 16 || b == 120 || b == 88
+is_address_byte b = is_digit b 16 || digit_value b == 33
 
--- a `P` is among the bytes, as it is in `RIP`, `EIP`, `NIP` and `PSW`
-abbrev pub has_capital : List ℕ → Bool
-has_capital bytes = list_any (λ b. b == 80) bytes
+-- a word goes on at a place, where none does at an earlier one
+abbrev pub is_begun : List ℕ → ℕ → ℕ → Bool
+is_begun line from start = nat_lt from start && is_word_byte (slice_index_or line (start - 1) 0)
 
--- the words that are addresses
-abbrev pub address_words : Bool → List ℕ → List Word → List Word
-address_words narrow line [] = []
-address_words narrow line (w ∷ words) =
-    if is_some (address_at narrow line w) then w ∷ address_words narrow line words
-    else address_words narrow line words
+-- these words of a line have the same addresses
+abbrev pub SameAddresses : Bool → List ℕ → List Word → List Word → Type 0
+SameAddresses narrow line words words' =
+    (held : Held) (last : Option Taken)
+    → taken_among narrow held line last words ≡ taken_among narrow held line last words'
 
--- the address words among those that are still to come
+-- the address words that are still to come; what is still to be put; whether there is a frame; and
+-- what is counted
 abbrev pub left_of : Answering → Held → List ℕ → Progress → List Word → List Taken
 left_of answer held line p words = taken_among answer.is_narrow held line p.last words
 
--- what is still to be put
 abbrev pub owed : Answering → Held → List ℕ → Progress → List Word → List ℕ
 owed answer held line p words = woven answer line p.put (left_of answer held line p words)
 
--- whether there is a frame
 abbrev pub framed : Answering → Held → List ℕ → Progress → List Word → Bool
 framed answer held line p words =
     p.has_frame || list_any (λ t. t.is_frame) (left_of answer held line p words)
 
--- what is counted
 abbrev pub tallied : Answering → Held → List ℕ → Progress → List Word → LogNames
-tallied answer held line p words =
-    counted answer line p.names (left_of answer held line p words)
+tallied answer held line p words = counted answer line p.names (left_of answer held line p words)

@@ -1,11 +1,10 @@
 -- How the address words of a line are taken.
-use Rattle.std.specs.Prelude.{ℕ, ◌==◌, ◌||◌, ◌&&◌, not, Bool, true, false, if◌then◌else◌}
-use Rattle.std.specs.Prelude.{List, [], ◌∷◌, length, drop, codes, Option, None, Some, nat_eq}
+use Rattle.std.specs.Prelude.{ℕ, ◌==◌, ◌||◌, ◌&&◌, not, Bool, true, false, if◌then◌else◌, List}
+use Rattle.std.specs.Prelude.{[], ◌∷◌, length, drop, codes, Option, None, Some, nat_eq}
 use Rattle.std.specs.List.{ends_with, list_any, starts_with}
 use Rattle.std.specs.Option.{option_map_or}
 use Rattle.std.specs.Str.{bytes_eq}
-use Rattle.logs.specs.Places.{begins_numbered, behind_prefix, end_of, has_label, is_closed, is_lead}
-use Rattle.logs.specs.Places.{prefix_end, without_end}
+use Rattle.logs.specs.Places.{begins_numbered, end_of, first_of, has_label, is_lead, prefix_end, without_end}
 use Rattle.logs.specs.Words.{address_at, has_prefix, is_word_byte, part, words_behind}
 use Rattle.logs.specs.declared.held.Held.{Held}
 use Rattle.logs.specs.declared.held.First.{First}
@@ -18,27 +17,22 @@ use Rattle.logs.specs.declared.words.Word.{Word}
 -- ---- the place of a word
 
 -- the bytes between the address word before, or the line's begin, and a word
-abbrev pub gap_start : Option Taken → ℕ
-gap_start None = 0
-gap_start (Some t) = t.word.end
-
 abbrev pub gap_before : List ℕ → Option Taken → Word → List ℕ
-gap_before line last w = part line (gap_start last) w.start
+gap_before line last w = part line (option_map_or (λ t. t.word.end) last 0) w.start
 
--- Behind a prefix a word begins its line if only items that may begin one come between.
+-- the place of a word behind these bytes: between their prefix and it only items may come
 abbrev pub place_behind_prefix : List ℕ → Place
-place_behind_prefix lead = record {
-  begins_line = is_lead 0 lead;
-  is_numbered = begins_numbered lead;
-}
+place_behind_prefix head =
+    let lead = drop (prefix_end head) head in
+    record { begins_line = is_lead 0 lead; is_numbered = begins_numbered lead }
 
 -- The place of a word with these bytes before its marks. Behind another address word there has to
 -- be a prefix.
 abbrev pub place_of : Option Taken → List ℕ → Place
-place_of None head = place_behind_prefix (behind_prefix head)
+place_of None head = place_behind_prefix head
 place_of (Some t) head =
     if prefix_end head == 0 then record { begins_line = false; is_numbered = t.place.is_numbered }
-    else place_behind_prefix (behind_prefix head)
+    else place_behind_prefix head
 
 -- its one mark is `[`
 abbrev pub has_bracket : List ℕ → Bool
@@ -54,12 +48,12 @@ is_marked gap word =
 abbrev pub ends_pair : Option Taken → List ℕ → Bool
 ends_pair None gap = false
 ends_pair (Some t) gap =
-    t.begins_pair && has_bracket gap && is_closed (without_end kind.Mark gap)
+    t.begins_pair && has_bracket gap
+    && bytes_eq (without_end kind.Space (without_end kind.Mark gap)) (codes "]")
 
 -- it is a frame
 abbrev pub is_frame : Place → Option Taken → List ℕ → List ℕ → Bool
-is_frame place last gap word =
-    (place.begins_line && is_marked gap word) || ends_pair last gap
+is_frame place last gap word = (place.begins_line && is_marked gap word) || ends_pair last gap
 
 -- ---- how it is taken
 
@@ -74,8 +68,7 @@ says_caller place gap =
 -- a first frame is taken as it is
 abbrev pub is_exact : First → Bool
 is_exact first.Exact = true
-is_exact first.Frame = false
-is_exact first.Kept = false
+is_exact _ = false
 
 -- The address before it in its line is this number, with no `:` or `=` between.
 abbrev pub repeats : Taken → List ℕ → ℕ → Bool
@@ -90,17 +83,12 @@ is_caller next (Some t) gap says is_frame value =
 
 -- ---- words that are not of this kernel
 
--- the bytes do not begin with one of a word
-abbrev pub begins_apart : List ℕ → Bool
-begins_apart [] = true
-begins_apart (b ∷ bytes) = not (is_word_byte b)
-
 -- the bytes, behind one of a word or not, have these words
 abbrev pub has_words : List ℕ → Bool → List ℕ → Bool
 has_words words within [] = false
 has_words words within (b ∷ bytes) =
     (not within && starts_with nat_eq (b ∷ bytes) words
-    && begins_apart (drop (length words) (b ∷ bytes)))
+    && first_of kind.Word (drop (length words) (b ∷ bytes)) == 0)
     || has_words words (is_word_byte b) bytes
 
 -- the line ends the registers of a program; and these bytes begin them
@@ -119,17 +107,12 @@ abbrev pub has_code : List ℕ → Bool
 has_code [] = false
 has_code (b ∷ bytes) = starts_with nat_eq (b ∷ bytes) (codes "Code:") || has_code bytes
 
--- none before the word was of this kernel
-abbrev pub was_foreign : Held → List ℕ → Option Taken → Bool
-was_foreign held line None = is_user_line held line
-was_foreign held line (Some t) = t.is_foreign
-
--- The word is not of this kernel: it is one of a program, or, of 32 bits, a part of its code.
+-- The word is not of this kernel: the one before it is none, or else the line is a program's; or it
+-- is one of a program, or, of 32 bits, a part of its code.
 abbrev pub is_foreign : Bool → Held → List ℕ → Option Taken → List ℕ → Bool
 is_foreign narrow held line last gap =
-    was_foreign held line last || begins_user gap || (narrow && has_code gap)
-
--- ---- the words of a line
+    option_map_or (λ t. t.is_foreign) last (is_user_line held line)
+    || begins_user gap || (narrow && has_code gap)
 
 -- an address word, behind another one or as the first of its line
 abbrev pub taken_at : Bool → Held → List ℕ → Option Taken → Word → ℕ → Taken
@@ -160,21 +143,14 @@ taken_among narrow held line last (w ∷ words) =
 abbrev pub taken_in : Bool → Held → List ℕ → List Taken
 taken_in narrow held line = taken_among narrow held line None (words_behind line 0)
 
--- ---- what a line says of the next first frame
-
 -- the line has the word `RIP`, `EIP` or `NIP`
 abbrev pub tells_place : List ℕ → Bool
 tells_place line =
     has_words (codes "RIP") false line || has_words (codes "EIP") false line
     || has_words (codes "NIP") false line
 
--- how the next first frame is taken behind a line without a frame, with such a word or without it
-abbrev pub first_behind : Bool → First
-first_behind tells = if tells then first.Kept else first.Exact
-
--- and behind any line: with a frame, or with such a word
+-- how the next first frame is taken behind a line with a frame, or with such a word
 abbrev pub next_first : First → Bool → Bool → First
 next_first held true tells = first.Frame
 next_first first.Kept false tells = first.Kept
-next_first first.Frame false tells = first_behind tells
-next_first first.Exact false tells = first_behind tells
+next_first _ false tells = if tells then first.Kept else first.Exact

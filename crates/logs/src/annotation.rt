@@ -1,5 +1,5 @@
 //! A log that is written again with the text of the answer behind each address.
-ghost use Rattle.std.specs.Prelude.{◌≡◌};
+ghost use Rattle.std.specs.Prelude.{◌≡◌, ◌++◌, List, ℕ, IfOk, take};
 ghost use Rattle.logs.specs.Annotation.{Annotates};
 
 use crate::annotator::Annotator;
@@ -34,9 +34,27 @@ impl From<AllocError> for LogFault {
     }
 }
 
+/// What was found of a log.
+#[derive(Drop)]
+pub struct Findings {
+    pub names: LogNames,
+    /// Its first two bytes, which tell a packed one, or fewer of a shorter one.
+    pub head: Vec<u8>,
+}
+
+/// Keeps the first two bytes of a log, whose blocks come one after the other.
+pub fn keep_head(head: &mut Vec<u8>, block: &[u8]) -> Result<(), AllocError>
+    ensures { IfOk result (λ _. (read : List ℕ) → head.old.items ≡ take 2 read
+        → head.new.items ≡ take 2 (read ++ block.now)) }
+{
+    let missing = 2usize.saturating_sub(head.len());
+    head.extend_from_slice(&block[..missing.min(block.len())])?;
+    Ok(())
+}
+
 /// Writes a log again, with a blank and the text of the answer behind each address word and the
 /// closers that follow it, if the answer is not `-` and the log does not have it there already.
-/// Returns what was found of its addresses.
+/// Returns what was found of it.
 ///
 /// After each block that was read each line is written that has its end, and the writer flushed.
 /// A line without an end is kept until it has one, or no more comes; a line of more than 65536
@@ -47,7 +65,7 @@ pub fn annotate<A: Answers, R: Read, W: Write>(
     answers: &A,
     reader: &mut Counted<R>,
     writer: &mut Output<W>,
-) -> Result<LogNames, LogFault>
+) -> Result<Findings, LogFault>
     ensures { Annotates R.remaining W.contents (A.answering answers.now)
         reader.old reader.new writer.old writer.new result }
 {
@@ -55,13 +73,16 @@ pub fn annotate<A: Answers, R: Read, W: Write>(
     room.resize(BLOCK, 0)?;
     let block = room.as_mut_slice();
     let mut annotator = Annotator::new(alloc);
+    let mut head = Vec::new(alloc);
     for turn in 0..u64::MAX {
         let Ok(count) = reader.read(block) else {
             return Err(LogFault::Read);
         };
         if count == 0 {
-            return annotator.end(alloc, answers, writer);
+            let names = annotator.end(alloc, answers, writer)?;
+            return Ok(Findings { names, head });
         }
+        keep_head(&mut head, &block[..count])?;
         annotator.pass(alloc, answers, &block[..count], writer)?;
     }
     Err(LogFault::TooLong)

@@ -10,14 +10,13 @@
 //! ```
 //!
 //! So each line is named as a whole, by what answers when its end comes.
-ghost use Rattle.std.specs.Prelude.{◌≡◌, ◌<◌, ◌++◌, [], false, length, take};
+ghost use Rattle.std.specs.Prelude.{◌≡◌, ◌<◌, ◌++◌, [], false, length};
 ghost use Rattle.std.specs.Prelude.{IfErr, IfNone, IfOk, IfSome, OnErr};
 ghost use Rattle.texts.specs.Output.{Delivered, WrotePart, error_in};
 ghost use Rattle.logs.specs.Answering.{Answering};
 ghost use Rattle.logs.specs.AnnotatedLogs.{first_held};
 ghost use Rattle.logs.specs.Annotation.{Adds, Ends, IsOpen, IsWriteFault, Passes, Puts, held_in};
 ghost use Rattle.logs.specs.Lines.{IsLine, has_end};
-ghost use Rattle.logs.specs.Progress.{has_capital};
 
 use crate::annotation::LogFault;
 use crate::answers::Answers;
@@ -83,10 +82,11 @@ impl Annotator {
         ensures { Puts W.contents (Ends (A.answering answers.now) self)
             writer.old writer.new result }
     {
+        let mut held = self.held;
         let mut out = Vec::new(alloc);
-        let names = self.put_last(answers, &mut out)?;
+        put_line(answers, &mut held, &self.begun, &mut out)?;
         put_now(writer, &out)?;
-        Ok(names)
+        Ok(held.names)
     }
 
     /// Takes bytes in, and puts each line that has its end now.
@@ -100,13 +100,10 @@ impl Annotator {
             (Passes (A.answering answers.now) self.old self.new bytes.now)) }
     {
         let mut rest = bytes;
-        let mut clear = 0;
         loop {
             match cut_line(rest) {
                 Some((line, more)) => {
-                    let without = clear_bytes(rest, clear, line.len());
-                    self.pass_line(answers, line, line.len() > without, out)?;
-                    clear = without.saturating_sub(line.len());
+                    self.pass_line(answers, line, out)?;
                     rest = more;
                 }
                 None => {
@@ -117,16 +114,14 @@ impl Annotator {
         }
     }
 
-    /// Puts the line that these bytes end. It is known whether they may have a `P`.
+    /// Puts the line that these bytes end.
     fn pass_line<A: Answers>(
         &mut self,
         answers: &A,
         line: &[u8],
-        may_tell: bool,
         out: &mut Vec<u8>,
     ) -> Result<(), AllocError>
-        requires line { IsLine line.now }
-        requires sign { may_tell ≡ false → has_capital line.now ≡ false }
+        requires { IsLine line.now }
         ensures { IfOk result (λ _. Adds out.old.items out.new.items
             (Passes (A.answering answers.now) self.old self.new line.now)) }
     {
@@ -136,11 +131,11 @@ impl Annotator {
             return Ok(());
         }
         if self.begun.is_empty() {
-            put_line(answers, &mut self.held, line, may_tell, out)?;
+            put_line(answers, &mut self.held, line, out)?;
             return Ok(());
         }
         self.begun.extend_from_slice(line)?;
-        put_line(answers, &mut self.held, &self.begun, true, out)?;
+        put_line(answers, &mut self.held, &self.begun, out)?;
         self.begun.clear();
         Ok(())
     }
@@ -163,19 +158,6 @@ impl Annotator {
         }
         Ok(())
     }
-
-    /// Puts the last line, which has no end, and returns the names of the log.
-    fn put_last<A: Answers>(&self, answers: &A, out: &mut Vec<u8>) -> Result<LogNames, AllocError>
-        ensures { IfOk result (λ names. Adds out.old.items out.new.items
-            (Ends (A.answering answers.now) self.now names)) }
-    {
-        let mut held = self.held;
-        if self.begun.is_empty() {
-            return Ok(held.names);
-        }
-        put_line(answers, &mut held, &self.begun, true, out)?;
-        Ok(held.names)
-    }
 }
 
 /// Cuts off the first line of the bytes, with its end, if it has one.
@@ -188,21 +170,6 @@ fn cut_line(bytes: &[u8]) -> Option<(&[u8], &[u8])>
     match memchr(b'\n', bytes) {
         Some(end) => Some((&bytes[..end + 1], &bytes[end + 1..])),
         None => None,
-    }
-}
-
-/// How many bytes the bytes begin with that have no `P`: as many as are known, if these are as many as
-/// are wanted.
-fn clear_bytes(bytes: &[u8], known: usize, wanted: usize) -> usize
-    requires { has_capital (take known bytes.now) ≡ false }
-    ensures { has_capital (take result bytes.now) ≡ false }
-{
-    if wanted <= known {
-        return known;
-    }
-    match memchr(b'P', bytes) {
-        Some(place) => place,
-        None => bytes.len(),
     }
 }
 

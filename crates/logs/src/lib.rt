@@ -11,7 +11,7 @@ mod places;
 mod taken;
 mod words;
 
-pub use annotation::{LogFault, annotate};
+pub use annotation::{Findings, LogFault, annotate, keep_head};
 pub use annotator::Annotator;
 pub use answers::Answers;
 pub use held::{First, Held};

@@ -8,13 +8,12 @@
 //!     |---------------------|                       put, and then ` do_one+0x8/0x1f00`
 //!                            |----------|           put at the end
 //! ```
-ghost use Rattle.std.specs.Prelude.{◌≡◌, ◌≤◌, ◌<◌, ◌++◌, ◌∷◌, false, length, option_map, IfOk};
+ghost use Rattle.std.specs.Prelude.{◌≡◌, ◌≤◌, ◌<◌, ◌++◌, ◌∷◌, length, option_map, IfOk};
 ghost use Rattle.std.specs.List.{list_any};
 ghost use Rattle.logs.specs.TakenWords.{taken_in};
-ghost use Rattle.logs.specs.AnnotatedLogs.{annotated_line, annotated_short, counted, held_behind};
-ghost use Rattle.logs.specs.AnnotatedLogs.{held_short, says_itself, text_for, unless_said};
-ghost use Rattle.logs.specs.AnnotatedLogs.{without_bracket, woven};
-ghost use Rattle.logs.specs.Progress.{framed, has_capital, owed, tallied};
+ghost use Rattle.logs.specs.AnnotatedLogs.{annotated_line, counted, held_behind, says_itself};
+ghost use Rattle.logs.specs.AnnotatedLogs.{text_for, unless_said, without_bracket, woven};
+ghost use Rattle.logs.specs.Progress.{framed, owed, tallied};
 ghost use Rattle.logs.specs.Words.{words_behind};
 
 use crate::answers::Answers;
@@ -40,15 +39,14 @@ pub(crate) struct Progress {
     pub(crate) names: LogNames,
 }
 
-/// Puts a line with the texts of its answers. It is known whether it may have a `P`.
+/// Puts a line with the texts of its answers.
+#[tactic(auto, unfolding(crate::specs::AnnotatedLogs::annotated_line, crate::specs::AnnotatedLogs::held_behind))]
 pub(crate) fn put_line<A: Answers>(
     answers: &A,
     held: &mut Held,
     line: &[u8],
-    may_tell: bool,
     out: &mut Vec<u8>,
 ) -> Result<(), AllocError>
-    requires { may_tell ≡ false → has_capital line.now ≡ false }
     ensures text { IfOk result (λ _. out.new.items
         ≡ out.old.items ++ annotated_line (A.answering answers.now) held.old line.now) }
     ensures held { IfOk result (λ _. held.new
@@ -57,25 +55,8 @@ pub(crate) fn put_line<A: Answers>(
     if line.len() > LONGEST {
         return out.extend_from_slice(line);
     }
-    put_short(answers, held, line, may_tell, out)
-}
-
-/// Puts a line of at most `LONGEST` bytes with the texts of its answers.
-fn put_short<A: Answers>(
-    answers: &A,
-    held: &mut Held,
-    line: &[u8],
-    may_tell: bool,
-    out: &mut Vec<u8>,
-) -> Result<(), AllocError>
-    requires { may_tell ≡ false → has_capital line.now ≡ false }
-    ensures text { IfOk result (λ _. out.new.items
-        ≡ out.old.items ++ annotated_short (A.answering answers.now) held.old line.now) }
-    ensures held { IfOk result (λ _. held.new
-        ≡ held_short (A.answering answers.now) held.old line.now) }
-{
     let progress = put_words(answers, *held, line, out)?;
-    *held = held_after(*held, line, may_tell, progress.has_frame, progress.names);
+    *held = held_after(*held, line, progress.has_frame, progress.names);
     Ok(())
 }
 

@@ -12,8 +12,7 @@ ghost use Rattle.std.specs.List.{starts_with};
 ghost use Rattle.std.specs.Option.{option_copied};
 ghost use Rattle.logs.specs.LogNames.{agrees, begins_offset, begins_size, begins_sized};
 ghost use Rattle.logs.specs.LogNames.{is_of_another_boot, is_unnamed, name_behind, name_in};
-ghost use Rattle.logs.specs.LogNames.{no_names, one_more};
-ghost use Rattle.logs.specs.LogNames.{with_address, with_name, with_verdict, without_doubt};
+ghost use Rattle.logs.specs.LogNames.{no_names, with_address, with_name, without_doubt};
 
 use crate::answers::Answers;
 use crate::places::{Kind, first_of};
@@ -68,12 +67,12 @@ impl LogNames {
     {
         if agrees {
             LogNames {
-                agreeing: one_more(self.agreeing),
+                agreeing: self.agreeing.saturating_add(1),
                 ..self
             }
         } else {
             LogNames {
-                disagreeing: one_more(self.disagreeing),
+                disagreeing: self.disagreeing.saturating_add(1),
                 ..self
             }
         }
@@ -90,46 +89,21 @@ impl LogNames {
         ensures { result ≡ with_address (A.answering answers.now) taken rest.now
             (option_copied text.entry) self }
     {
-        let addresses = one_more(self.addresses);
+        let addresses = self.addresses.saturating_add(1);
         match text {
             None => LogNames { addresses, ..self },
             Some(text) => {
                 let names = LogNames {
                     addresses,
-                    named: one_more(self.named),
+                    named: self.named.saturating_add(1),
                     ..self
                 };
-                names.with_verdict(answers, taken, text, name_behind(rest))
+                match name_behind(rest) {
+                    None => names,
+                    Some(name) => names.with_name(agrees(answers, taken, text, name)),
+                }
             }
         }
-    }
-
-    /// One name more, if the log has one itself behind an address with this text as its answer.
-    fn with_verdict<A: Answers>(
-        self,
-        answers: &A,
-        taken: Taken,
-        text: &[u8],
-        name: Option<&[u8]>,
-    ) -> LogNames
-        ensures { result ≡ with_verdict (A.answering answers.now) taken text.now
-            (option_copied name.entry) self }
-    {
-        match name {
-            None => self,
-            Some(name) => self.with_name(agrees(answers, taken, text, name)),
-        }
-    }
-}
-
-/// The count and one more, or the greatest `u64`.
-fn one_more(count: u64) -> u64
-    ensures { result ≡ one_more count }
-{
-    if count < u64::MAX {
-        count + 1
-    } else {
-        u64::MAX
     }
 }
 

@@ -4,15 +4,13 @@
 //! [   52.104290] [T123]  <IRQ>  [<ffffffff81000108>] ? do_one
 //! ~~~~~~~~~~~~~~===============^^                             prefix, lead, marks
 //! ```
-ghost use Rattle.std.specs.Prelude.{◌≡◌, ◌≤◌, ◌-◌, false, length, take};
+ghost use Rattle.std.specs.Prelude.{◌≡◌, ◌≤◌, ◌-◌, ◌==◌, false, if◌then◌else◌, length, take};
 ghost use Rattle.std.specs.List.{list_any};
 ghost use Rattle.std.specs.Char.{is_digit};
-ghost use Rattle.logs.specs.Places.{angled, begins_blank, begins_minutes, begins_number};
-ghost use Rattle.logs.specs.Places.{begins_numbered, begins_point, begins_seconds, begins_time};
-ghost use Rattle.logs.specs.Places.{end_of, ends_in_at, ends_in_label, ends_in_stamp, ends_prefix};
-ghost use Rattle.logs.specs.Places.{first_of, group, has_label, has_point, has_time, is_closed};
-ghost use Rattle.logs.specs.Places.{is_lead, is_of, last_of, lead_item, numbered, prefix_end};
-ghost use Rattle.logs.specs.Places.{without_end};
+ghost use Rattle.logs.specs.Places.{begins_blank, begins_like, begins_numbered, closed, end_of};
+ghost use Rattle.logs.specs.Places.{ends_in_label, ends_in_stamp, ends_prefix, first_of, has_label};
+ghost use Rattle.logs.specs.Places.{has_point, has_time, is_lead, is_of, last_of, lead_item};
+ghost use Rattle.logs.specs.Places.{prefix_end, without_end};
 
 use crate::words::is_word_byte;
 use texts::digit_of;
@@ -134,32 +132,46 @@ fn ends_in_label(bytes: &[u8]) -> bool
         || word == b"from".as_slice()
 }
 
-/// Whether the last word is `at` or `in`.
-fn ends_in_at(bytes: &[u8]) -> bool
-    ensures { result ≡ ends_in_at bytes.now }
-{
-    let word = end_of(Kind::Word, bytes);
-    word == b"at".as_slice() || word == b"in".as_slice()
-}
-
 /// Whether these bytes before an address end in a label.
 pub(crate) fn has_label(before: &[u8]) -> bool
     ensures { result ≡ has_label before.now }
 {
     let head = without_end(Kind::LabelGap, before);
+    let word = end_of(Kind::Word, head);
     before.ends_with(b"<-")
         || ends_in_label(head)
         || (head.ends_with(b" is at") && ends_in_label(&head[..head.len() - 6]))
-        || (ends_in_at(head) && before[head.len()..].starts_with(b":"))
+        || ((word == b"at".as_slice() || word == b"in".as_slice())
+            && before[head.len()..].starts_with(b":"))
 }
 
-/// Whether the bytes begin with a digit, `.` or `:`, and a digit.
-fn begins_point(bytes: &[u8]) -> bool
-    ensures { result ≡ begins_point bytes.now }
+/// Whether the bytes begin with a shape, in which `0` stands for any digit.
+fn begins_like(shape: &[u8], bytes: &[u8]) -> bool
+    ensures { result ≡ begins_like shape.now bytes.now }
 {
-    match bytes {
-        [a, b, d, ..] => a.is_ascii_digit() && (*b == b'.' || *b == b':') && d.is_ascii_digit(),
-        _ => false,
+    let mut signs = shape;
+    let mut rest = bytes;
+    while let [sign, later @ ..] = signs {
+        let [byte, more @ ..] = rest else {
+            return false;
+        };
+        if !is_like(*sign, *byte) {
+            return false;
+        }
+        signs = later;
+        rest = more;
+    }
+    true
+}
+
+/// Whether the byte is the sign of a shape, or a digit where that is `0`.
+fn is_like(sign: u8, byte: u8) -> bool
+    ensures { result ≡ (if sign == 48 then is_digit byte 10 else byte == sign) }
+{
+    if sign == b'0' {
+        byte.is_ascii_digit()
+    } else {
+        byte == sign
     }
 }
 
@@ -169,7 +181,7 @@ fn has_point(bytes: &[u8]) -> bool
 {
     let mut rest = bytes;
     while !rest.is_empty() {
-        if begins_point(rest) {
+        if begins_like(b"0.0", rest) || begins_like(b"0:0", rest) {
             return true;
         }
         rest = &rest[1..];
@@ -177,48 +189,14 @@ fn has_point(bytes: &[u8]) -> bool
     false
 }
 
-/// Whether the bytes begin with a time of day and no `:` follows it.
-fn begins_time(bytes: &[u8]) -> bool
-    ensures { result ≡ begins_time bytes.now }
-{
-    match bytes {
-        [a, b, c, more @ ..] => {
-            a.is_ascii_digit() && b.is_ascii_digit() && *c == b':' && begins_minutes(more)
-        }
-        _ => false,
-    }
-}
-
-/// Whether the bytes begin with minutes and seconds, and no `:` follows them.
-fn begins_minutes(bytes: &[u8]) -> bool
-    ensures { result ≡ begins_minutes bytes.now }
-{
-    match bytes {
-        [a, b, c, more @ ..] => {
-            a.is_ascii_digit() && b.is_ascii_digit() && *c == b':' && begins_seconds(more)
-        }
-        _ => false,
-    }
-}
-
-/// Whether the bytes begin with seconds, and no `:` follows them.
-fn begins_seconds(bytes: &[u8]) -> bool
-    ensures { result ≡ begins_seconds bytes.now }
-{
-    match bytes {
-        [a, b, more @ ..] => a.is_ascii_digit() && b.is_ascii_digit() && !more.starts_with(b":"),
-        _ => false,
-    }
-}
-
-/// Whether the bytes have a time of day with no digit or `:` before it.
+/// Whether the bytes have a time of day with no digit or `:` before it and no `:` behind it.
 fn has_time(bytes: &[u8]) -> bool
     ensures { result ≡ has_time false bytes.now }
 {
     let mut within = false;
     let mut rest = bytes;
     while let [byte, more @ ..] = rest {
-        if !within && begins_time(rest) {
+        if !within && begins_like(b"00:00:00", rest) && !begins_like(b"00:00:00:", rest) {
             return true;
         }
         within = byte.is_ascii_digit() || *byte == b':';
@@ -281,32 +259,12 @@ fn has_digit(bytes: &[u8]) -> bool
     bytes.iter().any(|byte| byte.is_ascii_digit())
 }
 
-/// How long digits and a byte before them are, or 0 without digits.
-fn numbered(bytes: &[u8]) -> usize
-    ensures { result ≡ numbered bytes.now }
+/// How long a run of a kind is with the byte before it and the one that closes it, or 0 without these.
+fn closed(kind: Kind, close: &[u8], bytes: &[u8]) -> usize
+    ensures { result ≡ closed kind close.now bytes.now }
 {
-    let n = first_of(Kind::Digit, bytes);
-    if n == 0 { 0 } else { n + 1 }
-}
-
-/// How long a word, the byte before it and the `>` behind it are, or 0 without these.
-fn angled(bytes: &[u8]) -> usize
-    ensures { result ≡ angled bytes.now }
-{
-    let n = first_of(Kind::Word, bytes);
-    if n != 0 && bytes[n..].starts_with(b">") {
-        n + 2
-    } else {
-        0
-    }
-}
-
-/// How long a group with a digit and its brackets are, or 0 without one.
-fn group(bytes: &[u8]) -> usize
-    ensures { result ≡ group bytes.now }
-{
-    let n = first_of(Kind::Group, bytes);
-    if bytes[n..].starts_with(b"]") && has_digit(&bytes[..n]) {
+    let n = first_of(kind, bytes);
+    if n != 0 && bytes[n..].starts_with(close) {
         n + 2
     } else {
         0
@@ -321,9 +279,11 @@ fn lead_item(bytes: &[u8]) -> usize
         [] => 0,
         [b' ' | b'\t' | b'\r' | b'?', ..] => 1,
         [b'=', more @ ..] if more.starts_with(b">") => 2,
-        [b'#', more @ ..] => numbered(more),
-        [b'<', more @ ..] => angled(more),
-        [b'[', more @ ..] => group(more),
+        [b'#', more @ ..] if begins_like(b"0", more) => first_of(Kind::Digit, more) + 1,
+        [b'<', more @ ..] => closed(Kind::Word, b">", more),
+        [b'[', more @ ..] if has_digit(&more[..first_of(Kind::Group, more)]) => {
+            closed(Kind::Group, b"]", more)
+        }
         _ => 0,
     }
 }
@@ -347,29 +307,9 @@ pub(crate) fn is_lead(bytes: &[u8]) -> bool
     true
 }
 
-/// Whether bytes are `]` and blanks.
-pub(crate) fn is_closed(bytes: &[u8]) -> bool
-    ensures { result ≡ is_closed bytes.now }
-{
-    match bytes {
-        [b']', more @ ..] => first_of(Kind::Space, more) == more.len(),
-        _ => false,
-    }
-}
-
 /// Whether blanks, `#` and a digit begin the bytes.
 pub(crate) fn begins_numbered(bytes: &[u8]) -> bool
     ensures { result ≡ begins_numbered bytes.now }
 {
-    begins_number(&bytes[first_of(Kind::Blank, bytes)..])
-}
-
-/// Whether `#` and a digit begin the bytes.
-fn begins_number(bytes: &[u8]) -> bool
-    ensures { result ≡ begins_number bytes.now }
-{
-    match bytes {
-        [b'#', more @ ..] => first_of(Kind::Digit, more) != 0,
-        _ => false,
-    }
+    begins_like(b"#0", &bytes[first_of(Kind::Blank, bytes)..])
 }

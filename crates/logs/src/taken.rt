@@ -8,23 +8,19 @@
 //!     |----------|                                            prefix and marks: a frame
 //!                                   |------|                  a label: a caller's
 //! ```
-ghost use Rattle.std.specs.Prelude.{◌≡◌, ◌≤◌, ◌<◌, ◌||◌, ◌==◌, false, length, reverse, take, drop};
+ghost use Rattle.std.specs.Prelude.{◌≡◌, ◌≤◌, ◌<◌, ◌||◌, ◌==◌, drop, false, length, reverse, take};
 ghost use Rattle.std.specs.List.{list_any};
-ghost use Rattle.logs.specs.Places.{prefix_end, without_end};
-ghost use Rattle.logs.specs.TakenWords.{begins_apart, begins_user, ends_pair, ends_user};
-ghost use Rattle.logs.specs.Progress.{has_capital};
-ghost use Rattle.logs.specs.TakenWords.{first_behind, gap_before, gap_start, has_bracket};
-ghost use Rattle.logs.specs.TakenWords.{has_code, has_words, is_caller};
-ghost use Rattle.logs.specs.TakenWords.{is_exact, is_foreign, is_frame, is_marked, is_user_line};
-ghost use Rattle.logs.specs.TakenWords.{next_first, place_behind_prefix, place_of, repeats};
-ghost use Rattle.logs.specs.TakenWords.{says_caller, taken_at, tells_place, was_foreign};
-ghost use Rattle.logs.specs.Words.{address_at, begins_joint, is_joined, part};
-ghost use Rattle.logs.specs.declared.places.Kind.TheVariants as kind;
+ghost use Rattle.std.specs.Option.{option_map_or};
+ghost use Rattle.logs.specs.TakenWords.{begins_user, ends_pair, ends_user, gap_before, has_bracket};
+ghost use Rattle.logs.specs.TakenWords.{has_code, has_words, is_caller, is_exact, is_foreign};
+ghost use Rattle.logs.specs.TakenWords.{is_frame, is_marked, is_user_line, next_first, place_of};
+ghost use Rattle.logs.specs.TakenWords.{repeats, says_caller, taken_at, tells_place};
+ghost use Rattle.logs.specs.Words.{address_at, begins_joint, part};
 
 use crate::held::{First, Held};
 use crate::log_names::LogNames;
 use crate::places::{
-    Kind, begins_numbered, end_of, has_label, is_closed, is_lead, prefix_end, without_end,
+    Kind, begins_numbered, end_of, first_of, has_label, is_lead, prefix_end, without_end,
 };
 use crate::words::{Word, address_of_word, has_prefix, is_word_byte};
 use memchr::{memchr, memmem};
@@ -70,7 +66,8 @@ pub(crate) fn address_at(narrow: bool, line: &[u8], word: Word) -> Option<u64>
 fn is_joined(line: &[u8], word: Word) -> bool
     requires word { word.start < word.end }
     requires within { word.end ≤ length line.now }
-    ensures { result ≡ is_joined line.now word }
+    ensures { result ≡ (begins_joint (reverse (take word.start line.now))
+        || begins_joint (drop word.end line.now)) }
 {
     ends_in_joint(&line[..word.start]) || begins_joint(&line[word.end..])
 }
@@ -128,16 +125,9 @@ fn gap_before(line: &[u8], last: Option<Taken>, word: Word) -> &[u8]
     requires { word.start ≤ length line.now }
     ensures { result.now ≡ gap_before line.now last word }
 {
-    between(line, gap_start(last), word.start)
-}
-
-/// The place where the bytes between the address word before and a word begin.
-fn gap_start(last: Option<Taken>) -> usize
-    ensures { result ≡ gap_start last }
-{
     match last {
-        None => 0,
-        Some(last) => last.word.end,
+        None => &line[..word.start],
+        Some(last) => between(line, last.word.end, word.start),
     }
 }
 
@@ -147,26 +137,14 @@ fn place_of(last: Option<Taken>, head: &[u8]) -> Place
 {
     let end = prefix_end(head);
     match last {
-        None => place_behind_prefix(&head[end..]),
-        Some(last) => {
-            if end == 0 {
-                return Place {
-                    begins_line: false,
-                    is_numbered: last.place.is_numbered,
-                };
-            }
-            place_behind_prefix(&head[end..])
-        }
-    }
-}
-
-/// The place of a word behind a prefix and these bytes.
-fn place_behind_prefix(lead: &[u8]) -> Place
-    ensures { result ≡ place_behind_prefix lead.now }
-{
-    Place {
-        begins_line: is_lead(lead),
-        is_numbered: begins_numbered(lead),
+        Some(last) if end == 0 => Place {
+            begins_line: false,
+            is_numbered: last.place.is_numbered,
+        },
+        _ => Place {
+            begins_line: is_lead(&head[end..]),
+            is_numbered: begins_numbered(&head[end..]),
+        },
     }
 }
 
@@ -191,7 +169,9 @@ fn ends_pair(last: Option<Taken>, gap: &[u8]) -> bool
     match last {
         None => false,
         Some(last) => {
-            last.begins_pair && has_bracket(gap) && is_closed(without_end(Kind::Mark, gap))
+            last.begins_pair
+                && has_bracket(gap)
+                && without_end(Kind::Space, without_end(Kind::Mark, gap)) == b"]".as_slice()
         }
     }
 }
@@ -273,7 +253,7 @@ fn is_foreign(narrow: bool, held: Held, line: &[u8], last: Option<Taken>, gap: &
 
 /// Whether none before the word was of this kernel.
 fn was_foreign(held: Held, line: &[u8], last: Option<Taken>) -> bool
-    ensures { result ≡ was_foreign held line.now last }
+    ensures { result ≡ option_map_or (λ t. t.is_foreign) last (is_user_line held line.now) }
 {
     match last {
         None => is_user_line(held, line),
@@ -295,14 +275,14 @@ fn ends_user(line: &[u8]) -> bool
     has_words(b"Krnl", line) || has_words(b"Call Trace", line)
 }
 
-/// Whether the bytes begin the registers of a program.
+/// Whether the bytes begin the registers of a program. Mostly they have no `P` at all.
 fn begins_user(bytes: &[u8]) -> bool
     ensures { result ≡ begins_user bytes.now }
 {
-    if !has_capital(bytes) {
-        return false;
+    match memchr(b'P', bytes) {
+        Some(_) => has_words(b"User PSW", bytes),
+        None => false,
     }
-    has_words(b"User PSW", bytes)
 }
 
 /// Whether the line has the word `RIP`, `EIP` or `NIP`.
@@ -310,16 +290,6 @@ fn tells_place(line: &[u8]) -> bool
     ensures { result ≡ tells_place line.now }
 {
     has_words(b"RIP", line) || has_words(b"EIP", line) || has_words(b"NIP", line)
-}
-
-/// Whether a `P` is among the bytes, as it is in `RIP`, `EIP`, `NIP` and `PSW`. Mostly it is not.
-fn has_capital(bytes: &[u8]) -> bool
-    ensures { result ≡ has_capital bytes.now }
-{
-    match memchr(b'P', bytes) {
-        Some(_) => true,
-        None => false,
-    }
 }
 
 /// Whether the bytes have `Code:`.
@@ -353,23 +323,13 @@ fn has_words_apart(words: &[u8], bytes: &[u8]) -> bool
     let mut within = false;
     let mut rest = bytes;
     while let [byte, more @ ..] = rest {
-        if !within && rest.starts_with(words) && begins_apart(&rest[words.len()..]) {
+        if !within && rest.starts_with(words) && first_of(Kind::Word, &rest[words.len()..]) == 0 {
             return true;
         }
         within = is_word_byte(*byte);
         rest = more;
     }
     false
-}
-
-/// Whether the bytes do not begin with one of a word.
-fn begins_apart(bytes: &[u8]) -> bool
-    ensures { result ≡ begins_apart bytes.now }
-{
-    match bytes {
-        [] => true,
-        [byte, ..] => !is_word_byte(*byte),
-    }
 }
 
 /// How the next first frame is taken, behind a line with a frame or without one.
@@ -381,41 +341,27 @@ fn next_first(first: First, has_frame: bool, tells: bool) -> First
     }
     match first {
         First::Kept => First::Kept,
-        First::Frame | First::Exact => first_behind(tells),
+        First::Frame | First::Exact => { if tells { First::Kept } else { First::Exact } }
     }
 }
 
-/// How the next first frame is taken behind a line with `RIP`, `EIP` or `NIP`, or without it.
-fn first_behind(tells: bool) -> First
-    ensures { result ≡ first_behind tells }
-{
-    if tells { First::Kept } else { First::Exact }
-}
-
-/// What is carried on behind a line with a frame or without one, and these names. It is known whether
-/// the line may have a `P`.
-pub(crate) fn held_after(
-    held: Held,
-    line: &[u8],
-    may_tell: bool,
-    has_frame: bool,
-    names: LogNames,
-) -> Held
-    requires { may_tell ≡ false → has_capital line.now ≡ false }
+/// What is carried on behind a line with a frame or without one, and these names. Mostly the line
+/// has no `P` at all.
+pub(crate) fn held_after(held: Held, line: &[u8], has_frame: bool, names: LogNames) -> Held
     ensures first { result.first ≡ next_first held.first has_frame (tells_place line.now) }
     ensures user { result.is_user ≡ (is_user_line held line.now || begins_user line.now) }
     ensures names { result.names ≡ names }
 {
-    if !may_tell {
-        return Held {
+    match memchr(b'P', line) {
+        Some(_) => Held {
+            first: next_first(held.first, has_frame, tells_place(line)),
+            is_user: is_user_line(held, line) || begins_user(line),
+            names,
+        },
+        None => Held {
             first: next_first(held.first, has_frame, false),
             is_user: is_user_line(held, line),
             names,
-        };
-    }
-    Held {
-        first: next_first(held.first, has_frame, tells_place(line)),
-        is_user: is_user_line(held, line) || begins_user(line),
-        names,
+        },
     }
 }

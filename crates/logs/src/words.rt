@@ -16,11 +16,11 @@ ghost use Rattle.std.specs.Prelude.{◌≡◌, ◌≤◌, ◌<◌, ◌+◌, ◌+
 ghost use Rattle.std.specs.Prelude.{nat_eq, slice_index_or};
 ghost use Rattle.std.specs.List.{starts_with};
 ghost use Rattle.std.specs.Prelude.{IfNone, IfSome, MatchOption};
-ghost use Rattle.logs.specs.Progress.{address_words, fewest, is_address_byte};
+ghost use Rattle.logs.specs.Progress.{SameAddresses, fewest, is_address_byte, is_begun};
 ghost use Rattle.logs.specs.Words.{address_of_word, digits_between, has_prefix};
 ghost use Rattle.logs.specs.Words.{is_closer, is_word_byte, run_of, words_behind};
 
-use texts::hexadecimal;
+use texts::{digit_of, hexadecimal};
 
 /// Where a word begins and ends in its line.
 #[derive(Clone, Copy, Debug, Drop)]
@@ -29,44 +29,21 @@ pub struct Word {
     pub end: usize,
 }
 
-/// 1 for each byte of a word, else 0. A table costs less than comparisons.
-static WORD_BYTES: [u8; 256] = [
-    0, 0, 0, 0, 0, 0, 0, 0, 0, 0, 0, 0, 0, 0, 0, 0, 0, 0, 0, 0, 0, 0, 0, 0, 0, 0, 0, 0, 0, 0, 0, 0,
-    0, 0, 0, 0, 0, 0, 0, 0, 0, 0, 0, 0, 0, 0, 0, 0, 1, 1, 1, 1, 1, 1, 1, 1, 1, 1, 0, 0, 0, 0, 0, 0,
-    0, 1, 1, 1, 1, 1, 1, 1, 1, 1, 1, 1, 1, 1, 1, 1, 1, 1, 1, 1, 1, 1, 1, 1, 1, 1, 1, 0, 0, 0, 0, 1,
-    0, 1, 1, 1, 1, 1, 1, 1, 1, 1, 1, 1, 1, 1, 1, 1, 1, 1, 1, 1, 1, 1, 1, 1, 1, 1, 1, 0, 0, 0, 0, 0,
-    0, 0, 0, 0, 0, 0, 0, 0, 0, 0, 0, 0, 0, 0, 0, 0, 0, 0, 0, 0, 0, 0, 0, 0, 0, 0, 0, 0, 0, 0, 0, 0,
-    0, 0, 0, 0, 0, 0, 0, 0, 0, 0, 0, 0, 0, 0, 0, 0, 0, 0, 0, 0, 0, 0, 0, 0, 0, 0, 0, 0, 0, 0, 0, 0,
-    0, 0, 0, 0, 0, 0, 0, 0, 0, 0, 0, 0, 0, 0, 0, 0, 0, 0, 0, 0, 0, 0, 0, 0, 0, 0, 0, 0, 0, 0, 0, 0,
-    0, 0, 0, 0, 0, 0, 0, 0, 0, 0, 0, 0, 0, 0, 0, 0, 0, 0, 0, 0, 0, 0, 0, 0, 0, 0, 0, 0, 0, 0, 0, 0,
-];
-
-/// 1 for each byte of an address word, else 0.
-static ADDRESS_BYTES: [u8; 256] = [
-    0, 0, 0, 0, 0, 0, 0, 0, 0, 0, 0, 0, 0, 0, 0, 0, 0, 0, 0, 0, 0, 0, 0, 0, 0, 0, 0, 0, 0, 0, 0, 0,
-    0, 0, 0, 0, 0, 0, 0, 0, 0, 0, 0, 0, 0, 0, 0, 0, 1, 1, 1, 1, 1, 1, 1, 1, 1, 1, 0, 0, 0, 0, 0, 0,
-    0, 1, 1, 1, 1, 1, 1, 0, 0, 0, 0, 0, 0, 0, 0, 0, 0, 0, 0, 0, 0, 0, 0, 0, 1, 0, 0, 0, 0, 0, 0, 0,
-    0, 1, 1, 1, 1, 1, 1, 0, 0, 0, 0, 0, 0, 0, 0, 0, 0, 0, 0, 0, 0, 0, 0, 0, 1, 0, 0, 0, 0, 0, 0, 0,
-    0, 0, 0, 0, 0, 0, 0, 0, 0, 0, 0, 0, 0, 0, 0, 0, 0, 0, 0, 0, 0, 0, 0, 0, 0, 0, 0, 0, 0, 0, 0, 0,
-    0, 0, 0, 0, 0, 0, 0, 0, 0, 0, 0, 0, 0, 0, 0, 0, 0, 0, 0, 0, 0, 0, 0, 0, 0, 0, 0, 0, 0, 0, 0, 0,
-    0, 0, 0, 0, 0, 0, 0, 0, 0, 0, 0, 0, 0, 0, 0, 0, 0, 0, 0, 0, 0, 0, 0, 0, 0, 0, 0, 0, 0, 0, 0, 0,
-    0, 0, 0, 0, 0, 0, 0, 0, 0, 0, 0, 0, 0, 0, 0, 0, 0, 0, 0, 0, 0, 0, 0, 0, 0, 0, 0, 0, 0, 0, 0, 0,
-];
-
 /// Whether the byte is a letter, a digit or `_`.
 #[inline]
 pub(crate) fn is_word_byte(byte: u8) -> bool
     ensures { result ≡ is_word_byte byte }
 {
-    WORD_BYTES[usize::from(byte)] == 1
+    digit_of(byte) < 36 || byte == b'_'
 }
 
-/// Whether the byte is a hexadecimal digit, `x` or `X`.
+/// Whether the byte is a hexadecimal digit, or `x` or `X`, which are the digit 33.
 #[inline]
 fn is_address_byte(byte: u8) -> bool
     ensures { result ≡ is_address_byte byte }
 {
-    ADDRESS_BYTES[usize::from(byte)] == 1
+    let digit = digit_of(byte);
+    digit < 16 || digit == 33
 }
 
 /// Whether the byte is `)`, `>` or `]`.
@@ -88,33 +65,38 @@ pub(crate) fn fewest(narrow: bool) -> usize
 pub(crate) fn next_candidate(narrow: bool, line: &[u8], at: usize) -> Option<Word>
     requires { at ≤ length line.now }
     ensures words { MatchOption result
-        (address_words narrow line.now (words_behind line.now at) ≡ [])
-        (λ w. address_words narrow line.now (words_behind line.now at)
-        ≡ address_words narrow line.now (w ∷ words_behind line.now w.end)) }
+        (SameAddresses narrow line.now (words_behind line.now at) [])
+        (λ w. SameAddresses narrow line.now (words_behind line.now at)
+        (w ∷ words_behind line.now w.end)) }
     ensures from { IfSome result (λ w. at ≤ w.start) }
     ensures some { IfSome result (λ w. w.start < w.end) }
     ensures within { IfSome result (λ w. w.end ≤ length line.now) }
 {
     let fewest = fewest(narrow);
+    let mut from = at;
     let mut start = at;
-    let mut within = false;
     while line.len() - start >= fewest {
         match last_other(line, start, start + fewest) {
-            Some(place) => {
-                within = is_word_byte(line[place]);
-                start = place + 1;
-            }
+            Some(place) => start = place + 1,
             None => {
                 let end = behind_word(line, start);
-                if !within {
+                if !is_begun(line, from, start) {
                     return Some(Word { start, end });
                 }
+                from = end;
                 start = end;
-                within = false;
             }
         }
     }
     None
+}
+
+/// Whether a word goes on at a place, where none does at an earlier one.
+fn is_begun(line: &[u8], from: usize, start: usize) -> bool
+    requires { start ≤ length line.now }
+    ensures { result ≡ is_begun line.now from start }
+{
+    start > from && is_word_byte(line[start - 1])
 }
 
 /// The last of the places from `start` up to `stop` that holds no byte of an address word.

@@ -1,6 +1,6 @@
-use Rattle.std.proofs.Common.{◌∙◌, sym}
-use Rattle.logs.proofs.TextLemmas.{no_user}
+use Rattle.std.proofs.Common.{sym}
+use Rattle.logs.proofs.TextLemmas.{no_user, nowhere}
 use Rattle.logs.proofs.taken.begins_user.Goals as goal
 
-pub returns-then-not-has_capital : goal.returns-then-not-has_capital
-returns-then-not-has_capital c = sym (no_user c.args.bytes.now (sym c.has_capital.ensures ∙ c.if-not-has_capital.true))
+pub returns-in-None : goal.returns-in-None
+returns-in-None c = sym (no_user c.args.bytes.now (nowhere 80 c.args.bytes.now c.in-None.ensures))

@@ -1,39 +1,50 @@
 use Rattle.std.proofs.Common.{◌∙◌, ◌+◌, Bool, ap, arith, drop, get_or, sym}
-use Rattle.logs.specs.Progress.{address_words}
+use Rattle.logs.specs.TakenWords.{taken_among}
 use Rattle.logs.specs.Words.{words_from}
-use Rattle.logs.proofs.WordLemmas.{few_left, goes_on, is_word, leap, some_fewest}
+use Rattle.logs.proofs.WordLemmas.{begun_behind, few_left, goes_on, is_word, leap, not_begun, some_fewest}
 use Rattle.logs.proofs.words.next_candidate.Goals as goal
 
 pub loop-start-preserved-in-Some : goal.loop-start-preserved-in-Some
 loop-start-preserved-in-Some c =
-    let narrow = c.args.narrow in
     let line = c.args.line.now in
     let place = c.in-Some.place in
     record {
+      low = c.loop-start.invariant.low;
       from = omega (arith, c.loop-start.invariant.from, c.in-Some.ensures.from);
       within = omega (arith, c.loop-start.invariant.within, c.in-Some.ensures.below, c.loop-start-test.true);
-      left =
-          c.loop-start.invariant.left
-          ∙ leap narrow line c.loop-start.start place c.loop-start.within c.in-Some.ensures.from (omega (arith, c.loop-start.invariant.within, c.in-Some.ensures.below, c.loop-start-test.true))
+      left = λ held last.
+          c.loop-start.invariant.left held last
+          ∙ leap c.args.narrow held line last c.loop-start.start place _ c.in-Some.ensures.from (omega (arith, c.loop-start.invariant.within, c.in-Some.ensures.below, c.loop-start-test.true))
           (omega (arith, c.in-Some.ensures.below, c.fewest-fewest.ensures)) c.in-Some.ensures.other
-          ∙ ap (λ (t : Bool). address_words narrow line (words_from (place + 1) t (drop (place + 1) line))) (sym c.is_word_byte-within.ensures);
+          ∙ ap (λ (t : Bool). taken_among c.args.narrow held line last (words_from (place + 1) t (drop (place + 1) line)))
+          (sym (begun_behind line c.loop-start.from place (omega (arith, c.loop-start.invariant.from, c.in-Some.ensures.from))));
     }
 
 pub loop-start-preserved : goal.loop-start-preserved
 loop-start-preserved c =
-    let narrow = c.args.narrow in
     let line = c.args.line.now in
     let start = c.loop-start.start in
-    let some = some_fewest narrow in
+    let end = c.behind_word-end.result in
+    let some = some_fewest c.args.narrow in
     record {
-      from = omega (arith, c.loop-start.invariant.from, c.behind_word-end.ensures.from);
+      low = omega (arith, c.loop-start.invariant.low, c.loop-start.invariant.from, c.behind_word-end.ensures.from);
+      from = omega arith;
       within = c.behind_word-end.ensures.within;
-      left =
-          c.loop-start.invariant.left ∙ ap (λ (t : Bool). address_words narrow line (words_from start t (drop start line))) c.if-not-within.false
-          ∙ ap (address_words narrow line) (goes_on line start c.behind_word-end.result _ (omega (arith, c.loop-start.invariant.within, c.loop-start-test.true, some, c.fewest-fewest.ensures))
-          (is_word (get_or line start 0) (c.in-None.ensures.none (omega (arith, some, c.fewest-fewest.ensures)))) c.behind_word-end.ensures.words);
+      left = λ held last.
+          c.loop-start.invariant.left held last ∙ ap (λ (t : Bool). taken_among c.args.narrow held line last (words_from start t (drop start line))) (sym c.is_begun.ensures ∙ c.if-not-is_begun.false)
+          ∙ ap (taken_among c.args.narrow held line last) (goes_on line start end _ (omega (arith, c.loop-start.invariant.within, c.loop-start-test.true, some, c.fewest-fewest.ensures))
+          (is_word (get_or line start 0) (c.in-None.ensures.none (omega (arith, some, c.fewest-fewest.ensures)))) c.behind_word-end.ensures.words)
+          ∙ ap (λ (t : Bool). taken_among c.args.narrow held line last (words_from end t (drop end line))) (sym (not_begun line end));
     }
 
+pub loop-start-init : goal.loop-start-init
+loop-start-init c = record {
+  low = omega arith;
+  from = omega arith;
+  within = omega arith;
+  left = λ held last. ap (λ (t : Bool). taken_among c.args.narrow held c.args.line.now last (words_from c.args.at t (drop c.args.at c.args.line.now))) (sym (not_begun c.args.line.now c.args.at));
+}
+
 pub returns-clause-words : goal.returns-clause-words
-returns-clause-words c =
-    c.loop-start.invariant.left ∙ few_left c.args.narrow c.args.line.now c.loop-start.start c.loop-start.within (omega (arith, c.loop-start-test.false, c.fewest-fewest.ensures))
+returns-clause-words c = λ held last.
+    c.loop-start.invariant.left held last ∙ few_left c.args.narrow held c.args.line.now last c.loop-start.start _ (omega (arith, c.loop-start-test.false, c.fewest-fewest.ensures))

@@ -1,13 +1,24 @@
-use Rattle.logs.specs.Annotation.{Ends}
-use Rattle.logs.proofs.PutLemmas.{added, fault_puts, told_puts}
+use Rattle.std.proofs.Common.{◌∙◌, ◌++◌, ℕ, List, ap}
+use Rattle.logs.specs.AnnotatedLogs.{annotated_line}
+use Rattle.logs.specs.Annotation.{Ends, Puts}
+use Rattle.logs.proofs.LineLemmas.{last_is_put}
+use Rattle.logs.proofs.PutLemmas.{fault_puts, told}
 use Rattle.logs.proofs.annotator.Annotator.end.Goals as goal
 
 pub returns-in_err-put_now : goal.returns-in_err-put_now
 returns-in_err-put_now g c =
-    let ends = Ends (g.A.Answers.answering c.args.answers.now) c.args.self in
-    let names = c.in_ok-names.names in
+    let answer = g.A.Answers.answering c.args.answers.now in
     let fault = c.in_err-put_now.field-0.0 in
-    told_puts g.W.Write.contents ends c.args.writer.now c.put_now.new.writer c.from_residual-in_err-put_now.result fault c.from_residual-in_err-put_now.ensures.1
-    (fault_puts g.W.Write.contents ends c.args.writer.now c.put_now.new.writer names c.deref.result.now fault
-    (added c.new-out.result.items c.put_last.new.out.items c.deref.result.now (ends names) c.new-out.ensures.items c.deref.ensures.value c.in_ok-names.ensures) c.in_err-put_now.ensures.fault
-    c.in_err-put_now.ensures.begun)
+    told (Puts g.W.Write.contents (Ends answer c.args.self) c.args.writer.now c.put_now.new.writer) c.from_residual-in_err-put_now.result fault c.from_residual-in_err-put_now.ensures.1
+    (fault_puts g.W.Write.contents (Ends answer c.args.self) c.args.writer.now c.put_now.new.writer c.put_line.new.held.names c.deref-2.result.now fault
+    (last_is_put answer c.args.self c.put_line.new.held c.deref.result.now c.deref-2.result.now c.deref.ensures.value c.in_ok-put_line.ensures.held
+    (c.deref-2.ensures.value ∙ c.in_ok-put_line.ensures.text ∙ ap (λ (l : List ℕ). l ++ annotated_line answer c.args.self.held c.deref.result.now) c.new-out.ensures.items)) c.in_err-put_now.ensures.fault c.in_err-put_now.ensures.begun)
+
+pub returns : goal.returns
+returns g c =
+    let answer = g.A.Answers.answering c.args.answers.now in (
+      c.deref-2.result.now,
+      c.in_ok-put_now.ensures.written,
+      last_is_put answer c.args.self c.put_line.new.held c.deref.result.now c.deref-2.result.now c.deref.ensures.value c.in_ok-put_line.ensures.held
+          (c.deref-2.ensures.value ∙ c.in_ok-put_line.ensures.text ∙ ap (λ (l : List ℕ). l ++ annotated_line answer c.args.self.held c.deref.result.now) c.new-out.ensures.items),
+    )

@@ -1,13 +1,10 @@
-use Rattle.std.proofs.Common.{◌≡◌, ◌++◌, false, List, ℕ, length, take}
-use Rattle.logs.specs.Progress.{has_capital}
+use Rattle.std.proofs.Common.{◌≡◌, ◌++◌, List, ℕ, length}
 use Rattle.logs.specs.Annotation.{Adds, Passes}
 use Rattle.logs.proofs.annotator.Annotator.pass_bytes.Given as goal
 
 abbrev pub invariant-loop-line : goal.invariant-loop-line
-invariant-loop-line g l = record {
-  adds : (done : List ℕ) × (l.bytes ≡ done ++ l.rest) × Adds l.fn.out.items l.out.items (Passes (g.A.Answers.answering l.fn.answers) l.fn.self l.self done);
-  clear : has_capital (take l.clear l.rest) ≡ false;
-}
+invariant-loop-line g l =
+    (done : List ℕ) × (l.bytes ≡ done ++ l.rest) × Adds l.fn.out.items l.out.items (Passes (g.A.Answers.answering l.fn.answers) l.fn.self l.self done)
 
 abbrev pub decreases-loop-line : goal.decreases-loop-line
 decreases-loop-line g l = length l.rest

@@ -1,0 +1,9 @@
+use Rattle.std.proofs.Common.{◌≡◌, length}
+use Rattle.logs.specs.Places.{begins_like}
+use Rattle.logs.proofs.places.begins_like.Given as goal
+
+abbrev pub invariant-loop-signs : goal.invariant-loop-signs
+invariant-loop-signs l = begins_like l.shape l.bytes ≡ begins_like l.signs l.rest
+
+abbrev pub decreases-loop-signs : goal.decreases-loop-signs
+decreases-loop-signs l = length l.signs
