@@ -26,19 +26,25 @@ abbrev pub error_of_outcome : {R : Type 0} → OpenedJob R → Option Error → 
 error_of_outcome job written (Ok finished) = None
 error_of_outcome job written (Err fault) = error_behind job written fault
 
--- The job was opened over the readers of its own files, its engine came to this outcome over them,
--- and that was told, with the status that it stands for.
-pub record IsJobDone {F W E : Type 0} (remaining : F → Option (List ℕ)) (held : Held)
-    (standard : Option (List ℕ)) (contents : W → Option (List ℕ)) (errors : E → Option (List ℕ))
-    (job : Job) (w w' : Output W) (e e' : Output E) (status : ℕ) : Type 0 where
-  pub opened : OpenedJob F
-  pub done : OpenedJob F
+-- The engine of a job came to this outcome over the readers of its files, and that was told, with the
+-- status that it stands for.
+pub record IsDoneOver {R W E : Type 0} (remaining : R → Option (List ℕ))
+    (contents : W → Option (List ℕ)) (errors : E → Option (List ℕ)) (job : Job)
+    (opened done : OpenedJob R) (w w' : Output W) (e e' : Output E) (status : ℕ) : Type 0 where
   pub told : Output E
   pub outcome : Result Finished Fault
-  pub is_opened : IsOpenedFor remaining held standard job opened
   pub is_done : IsOutcome remaining contents errors opened done w w' e told outcome
   pub is_told : IsConcluded errors job (error_of_outcome done (error_in w') outcome) told e' outcome
       status
+
+-- The job was opened over the readers of its own files, and done over them.
+abbrev pub IsJobDone : {F W E : Type 0} → (F → Option (List ℕ)) → Held → Option (List ℕ)
+    → (W → Option (List ℕ)) → (E → Option (List ℕ)) → Job → Output W → Output W → Output E
+    → Output E → ℕ → Type 0
+IsJobDone {F} {W} {E} remaining held standard contents errors job w w' e e' status =
+    (opened : OpenedJob F) × (done : OpenedJob F)
+    × IsOpenedFor remaining held standard job opened
+    × IsDoneOver remaining contents errors job opened done w w' e e' status
 
 -- What comes of a job: it is done, or memory ran out before it was begun.
 abbrev pub ComesOf : {F W E : Type 0} → (F → Option (List ℕ)) → Held → Option (List ℕ)

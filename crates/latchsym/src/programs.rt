@@ -10,18 +10,22 @@
 //! ```
 //!
 //! `main` adds the words, the files and the outputs of the process.
-ghost use Rattle.std.specs.Prelude.{map};
-ghost use Rattle.latchsym.specs.Programs.{AnswersArguments, AnswersCommand, ComesOf};
+ghost use Rattle.std.specs.Prelude.{◌≡◌, map};
+ghost use Rattle.texts.specs.Output.{error_in};
+ghost use Rattle.latchsym.specs.Programs.{AnswersArguments, AnswersCommand, ComesOf, IsDoneOver};
+ghost use Rattle.latchsym.specs.Programs.{error_of_outcome};
 
 use crate::arguments::job_of;
-use crate::jobs::{FileSource, do_job, open_job};
+use crate::jobs::{FileSource, OpenedJob, do_job, open_job};
 use crate::misuse::refuse;
 use crate::operands::with_operands;
 use crate::reports::conclude;
 use crate::requests::{Job, JobFault};
+use engines::{Fault, Finished};
 use std::alloc::Global;
 use std::convert::AsStr;
-use std::io::Write;
+use std::io;
+use std::io::{Read, Write};
 use std::sync::Wait;
 use std::thread::Threads;
 use texts::Output;
@@ -40,7 +44,8 @@ pub fn program<T: Threads + Wait + Sync, S: AsStr, F: FileSource, W: Write, E: W
     errors: &mut Output<E>,
 ) -> u8
     ensures { AnswersCommand S.text F.File.remaining (F.held files.now) (F.standard files.now)
-        W.contents E.contents words writer.old writer.new errors.old errors.new result }
+        W.contents E.contents words.entry writer.old writer.new errors.old
+        errors.new result }
 {
     match words {
         Ok(words) => answer(threads, alloc, words, files, writer, errors),
@@ -85,10 +90,36 @@ fn do_whole<T: Threads + Wait + Sync, F: FileSource, W: Write, E: Write>(
     let Ok(mut opened) = open_job(files, job) else {
         return refuse(alloc, JobFault::OutOfMemory, writer, errors);
     };
-    let outcome = do_job(threads, alloc, &mut opened, writer, errors);
-    let error = match &outcome {
-        Ok(_) => None,
-        Err(fault) => opened.error_behind(fault, writer),
-    };
+    do_opened(threads, alloc, job, &mut opened, writer, errors)
+}
+
+/// Does a job over the readers of its files, says how it ended, and returns the program's status.
+fn do_opened<T: Threads + Wait + Sync, R: Read, W: Write, E: Write>(
+    threads: &T,
+    alloc: Global,
+    job: &Job<'_>,
+    opened: &mut OpenedJob<'_, '_, R>,
+    writer: &mut Output<W>,
+    errors: &mut Output<E>,
+) -> u8
+    ensures { IsDoneOver R.remaining W.contents E.contents job.now opened.old opened.new
+        writer.old writer.new errors.old errors.new result }
+{
+    let outcome = do_job(threads, alloc, opened, writer, errors);
+    let error = error_of_outcome(opened, writer, &outcome);
     conclude(outcome, job, error, errors)
+}
+
+/// The error behind what a job came to, if it failed.
+fn error_of_outcome<R, W>(
+    job: &OpenedJob<'_, '_, R>,
+    writer: &Output<W>,
+    outcome: &Result<Finished, Fault>,
+) -> Option<io::Error>
+    ensures { result ≡ error_of_outcome job.now (error_in writer.now) outcome.now }
+{
+    match outcome {
+        Ok(_) => None,
+        Err(fault) => job.error_behind(fault, writer),
+    }
 }
