@@ -18,7 +18,7 @@ _latchsym() {
         trace) options='--steps -h --help' ;;
         lookup) options='--modules --kallsyms --regions --kernel --modules-from-symbols --addresses --callers --offset --json --no-counts -h --help' ;;
         run) options='--modules --kallsyms --regions --kernel --readers -h --help' ;;
-        annotate) options='--kallsyms --modules --regions --kernel --callers --exact --offset -h --help' ;;
+        annotate) options='--kallsyms --modules --regions --kernel --callers --exact --offset --follow -h --help' ;;
         check) options='--modules --kallsyms --regions --kernel -h --help' ;;
         address) options='--kallsyms --modules --regions --kernel --offset --json --no-counts -h --help' ;;
         help)

@@ -20,6 +20,7 @@ complete -c latchsym -n '__fish_seen_subcommand_from lookup' -l addresses -r -F 
 complete -c latchsym -n '__fish_seen_subcommand_from lookup annotate' -l callers -d 'Take the addresses as return addresses'
 complete -c latchsym -n '__fish_seen_subcommand_from annotate' -l exact -d 'Take no address as a return address'
 complete -c latchsym -n '__fish_seen_subcommand_from lookup annotate' -l offset -x -d 'Subtract N before the lookup'
+complete -c latchsym -n '__fish_seen_subcommand_from annotate' -l follow -d 'Read the listings again as the log grows'
 complete -c latchsym -n '__fish_seen_subcommand_from address' -l offset -x -d 'Add N to each address'
 complete -c latchsym -n '__fish_seen_subcommand_from lookup address' -l json -d 'Write JSON, one object per line'
 complete -c latchsym -n '__fish_seen_subcommand_from lookup address' -l no-counts -d 'Leave out the counts'

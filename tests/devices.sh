@@ -153,6 +153,8 @@ tried 12 1 run "${both[@]}" --readers 1 script
 tried 6 2 annotate --kallsyms kallsyms log
 tried 12 2 annotate "${both[@]}" log
 tried 5 1 annotate --kallsyms kallsyms -
+tried 12 2 annotate --follow --kallsyms kallsyms log
+tried 24 2 annotate --follow "${both[@]}" log
 tried 9 1 check "${both[@]}"
 tried 3 1 check --kallsyms kallsyms
 tried 9 1 address "${both[@]}" a:a_run none
@@ -173,6 +175,7 @@ cp "$cases"/a_log_by_listed_modules/{modules,kallsyms,log} .
 cp log input
 portions annotate --kallsyms kallsyms --kernel _stext _end log
 portions annotate --modules modules --kallsyms kallsyms
+portions annotate --follow --kallsyms kallsyms log
 portions check --modules modules --kallsyms kallsyms
 portions address --kallsyms kallsyms do_one ext4_b
 portions lookup --modules modules --kallsyms kallsyms 0xffffffffc0000018

@@ -33,5 +33,5 @@ trap 'sort -rn "$times"; rm -f "$times"' EXIT
 tests/lanes.py "$times" 'tests/cases.sh annotated_log_stays_as_it_is' tests/refused_calls.sh
 tests/lanes.py "$times" tests/crates.sh tests/random_logs.sh tests/random.sh tests/measures.sh \
     tests/{refusals,devices,memory,runs}.sh \
-    tests/{cases,traces,lookups,lines,json,annotate,checks,address,symbols_alone,pages,versions}.sh
+    tests/{cases,traces,lookups,lines,json,annotate,follow,checks,address,symbols_alone,pages,versions}.sh
 echo "all passed; nothing of it was proved"

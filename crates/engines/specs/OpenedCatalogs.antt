@@ -6,15 +6,13 @@ use Rattle.texts.specs.Counted.{device_of, failures_of}
 use Rattle.modules.specs.Accepted.{Accepted}
 use Rattle.modules.specs.Catalogs.{catalog_with}
 use Rattle.modules.specs.Entries.{CatalogEntries}
-use Rattle.modules.specs.Lines.{usual_bounds}
 use Rattle.modules.specs.Listed.{BoundNames, ListedRegion}
 use Rattle.modules.specs.Placed.{are_few}
 use Rattle.order_laws.specs.declared.refusals.Refusal.TheVariants as refusal
-use Rattle.engines.specs.LookupInputs.{Inputs, catalog_in, known_text, notes_of, region_lines}
+use Rattle.engines.specs.LookupInputs.{known_text, region_lines}
 use Rattle.engines.specs.Readings.{Failures, NoReaderFailed, OnlyFailed, failures_in}
-use Rattle.engines.specs.declared.lookup.LookupOptions.{LookupOptions}
-use Rattle.listing.specs.AddressRules.{as_given}
-use Rattle.listing.specs.Opening.{SaysOfModules, kept_in_text, listed, notes_with, symbol_note}
+use Rattle.listing.specs.Opening.{SaysOfModules, catalog_of_texts, kept_in_text, listed}
+use Rattle.listing.specs.Opening.{notes_of_texts, notes_with, symbol_note}
 use Rattle.engines.specs.declared.fault.Fault.{Fault}
 use Rattle.engines.specs.declared.fault.Fault.TheVariants.{Refused, BadLine, Read}
 use Rattle.listing.specs.declared.listing_notes.ListingNotes.{ListingNotes}
@@ -64,31 +62,17 @@ AreReadAs counts (Err (Refused refusal.OutOfMemory)) = NoReaderFailed counts
 AreReadAs counts (Err (Read place)) = OnlyFailed place counts
 AreReadAs counts (Err _) = ⊥
 
--- the options of who opens listings: the names that bound the kernel, and no mapping symbols
-abbrev pub opening_options : BoundNames → LookupOptions
-opening_options names = record { kernel = names; rule = as_given; with_mapping = false }
-
--- what a lookup of no address is asked over in listings of modules and of symbols, and with these
--- region lines
-abbrev pub inputs_by : Option BoundNames → List ℕ → List ℕ → Option (List ListedRegion) → Inputs
-inputs_by kernel modules kallsyms regions = record {
-  options = opening_options (unwrap_or kernel usual_bounds);
-  modules = modules;
-  kallsyms = kallsyms;
-  regions = regions;
-  addresses = [];
-}
-
--- the catalog and the notes are those of a lookup in the same listings
+-- The catalog and the notes are those of listings of modules and of symbols, without mapping symbols.
+-- The kernel lies between the names that are given, or else in its usual regions.
 abbrev pub IsByModules : Option BoundNames → List ℕ → List ℕ → Option (List ℕ) → CatalogEntries
     → ListingNotes → Type 0
 IsByModules kernel modules kallsyms regions c notes =
     (lines : Option (List ListedRegion)) × (region_lines regions ≡ Ok lines)
     × (are_few (unwrap_or lines []) ≡ true)
-    × (c ≡ catalog_in (inputs_by kernel modules kallsyms lines))
-    × (notes ≡ notes_of (inputs_by kernel modules kallsyms lines))
+    × (c ≡ catalog_of_texts kernel false modules kallsyms (unwrap_or lines []))
+    × (notes ≡ notes_of_texts kernel false modules kallsyms (unwrap_or lines []))
 
--- the catalog and the notes are those of a listing of symbols alone
+-- the same of a listing of symbols alone
 abbrev pub IsBySymbols : Option BoundNames → List ℕ → CatalogEntries → ListingNotes → Type 0
 IsBySymbols kernel text c notes =
     (a : Accepted) × SaysOfModules kernel text a × (c ≡ catalog_with a (listed text))

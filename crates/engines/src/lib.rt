@@ -32,9 +32,7 @@ pub use forms::AnswerForm;
 pub use json_texts::{
     put_address_member, put_named_module, put_offset_members, put_symbol_members,
 };
-pub use lookup::{
-    LookupInputs, LookupOptions, LookupReaders, listings_in, lookup_engine, region_lines_in,
-};
+pub use lookup::{LookupOptions, LookupReaders, lookup_engine, region_lines_in};
 pub use opened_catalogs::{GivenTexts, ListingReaders, bounds_or_usual, open_catalog, read_given};
 pub use runs::{RunReaders, run_engine};
 pub use steps::steps_engine;

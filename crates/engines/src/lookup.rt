@@ -68,7 +68,7 @@ pub struct LookupOptions<'a> {
 
 /// What a lookup is asked over.
 #[derive(Drop)]
-pub struct LookupInputs<'o, 'a> {
+pub(crate) struct LookupInputs<'o, 'a> {
     pub options: &'o LookupOptions<'o>,
     /// The text of the listing of modules.
     pub modules: &'a [u8],
@@ -248,7 +248,7 @@ pub(crate) fn places_of(
 /// Reads the lines of the first two listings, and builds the catalog of all three, for who asks
 /// about these addresses. Refused where more than 7 region lines have one name, and when out of
 /// memory.
-pub fn listings_in<'a>(
+pub(crate) fn listings_in<'a>(
     alloc: Global,
     inputs: &LookupInputs<'_, 'a>,
     asked: Asked<'_>,

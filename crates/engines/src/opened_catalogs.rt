@@ -65,8 +65,7 @@ pub fn read_given<M: Read, K: Read, R: Read>(
 }
 
 /// Builds the catalog that the listings say. The kernel itself lies between the given names, or
-/// else between `_stext` and `_end` where modules are listed, as for a lookup, and in its usual
-/// regions where they are not.
+/// else in its usual regions.
 pub fn open_catalog<'a>(
     alloc: Global,
     kernel: Option<&KernelBounds>,
@@ -93,25 +92,16 @@ fn open_by_modules<'a>(
     ensures { OpensByModules (option_copied kernel.entry) modules.now kallsyms.now
         (option_map (λ text. text.items) regions.now) result }
 {
-    let bounds = bounds_or_usual(kernel);
     let lines = region_lines_in(alloc, regions)?;
     let lines = lines.as_deref();
-    let listings = open_listings(
-        alloc,
-        Some(&bounds),
-        false,
-        modules,
-        kallsyms,
-        lines,
-        Asked::Any,
-    )?;
+    let listings = open_listings(alloc, kernel, false, modules, kallsyms, lines, Asked::Any)?;
     Ok(OpenedCatalog {
         catalog: listings.catalog,
         notes: listings.notes,
     })
 }
 
-/// The names that are given, or the usual ones.
+/// The names that are given, or the usual ones of a lookup and of a run in listed modules.
 pub fn bounds_or_usual<'k>(kernel: Option<&KernelBounds<'k>>) -> KernelBounds<'k>
     ensures { result ≡ unwrap_or (option_copied kernel.entry) usual_bounds }
 {

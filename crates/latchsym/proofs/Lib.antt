@@ -10,6 +10,8 @@ mod FaultLemmas
 mod AliasLemmas
 -- from what came of a log to what the engine returns
 mod AnnotationLemmas
+-- blocks of a log that are read, with the listings behind each, and written
+mod FollowingLemmas
 -- the kept symbols of the names that words ask for, symbol by symbol
 mod SoughtLemmas
 -- from what was written about listings to what the engine returns

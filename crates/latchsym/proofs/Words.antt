@@ -70,7 +70,7 @@ pub use Rattle.engines.specs.Faults.{with_notes}
 pub use Rattle.engines.specs.JsonTexts.{address_member, symbol_members}
 pub use Rattle.engines.specs.LookupInputs.{Inputs, known_inputs, region_lines}
 pub use Rattle.engines.specs.Lookups.{AnswersLookup, AreListingsOf, failures_between}
-pub use Rattle.engines.specs.OpenedCatalogs.{AreReadAs, Given, HasBadRegion, HasCrowdedRegions, IsCatalogOf, OpensCatalog, given_in, known_given, listing_failures, opening_options}
+pub use Rattle.engines.specs.OpenedCatalogs.{AreReadAs, Given, HasBadRegion, HasCrowdedRegions, IsCatalogOf, OpensCatalog, given_in, known_given, listing_failures}
 pub use Rattle.engines.specs.Readings.{Failures, NoReaderFailed}
 pub use Rattle.engines.specs.RunInputs.{known_run_inputs}
 pub use Rattle.engines.specs.Runs.{AnswersRun, run_failures_between}

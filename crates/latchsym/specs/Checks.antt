@@ -1,6 +1,6 @@
 -- What is written of listings that are checked.
 use Rattle.std.specs.Prelude.{◌≡◌, ℕ, nat_eq, if◌then◌else◌, List, [], ◌++◌, Option, Some, None}
-use Rattle.std.specs.Prelude.{Ok, unwrap_or, true}
+use Rattle.std.specs.Prelude.{Ok, is_some, unwrap_or, true, false}
 use Rattle.std.specs.Option.{option_map}
 use Rattle.clap.specs.Words.{Text}
 use Rattle.modules.specs.Accepted.{Accepted}
@@ -8,13 +8,16 @@ use Rattle.modules.specs.Lines.{bounds_for}
 use Rattle.modules.specs.Listed.{BoundNames, ListedRegion}
 use Rattle.modules.specs.Placed.{are_few}
 use Rattle.listing.specs.ListingNotes.{is_of_kallsyms, is_of_modules}
-use Rattle.engines.specs.LookupInputs.{Inputs, catalog_in, counts_in, region_lines}
-use Rattle.engines.specs.Lookups.{tallies_in}
+use Rattle.listing.specs.ModuleListing.{module_counts}
+use Rattle.listing.specs.Opening.{SaysOfModules, catalog_of_texts, counts_of_texts, kept_in_text}
+use Rattle.listing.specs.Opening.{listed}
+use Rattle.listing.specs.SymbolListing.{symbol_counts}
+use Rattle.listing.specs.Tallies.{counts_text, symbol_tallies_of, tallies_by, tallies_of}
+use Rattle.texts.specs.Lines.{lines_of}
+use Rattle.engines.specs.LookupInputs.{region_lines}
 use Rattle.latchsym.specs.NoteTexts.{applying_lines}
-use Rattle.engines.specs.OpenedCatalogs.{Given, inputs_by}
+use Rattle.engines.specs.OpenedCatalogs.{Given}
 use Rattle.engines.specs.SymbolLookups.{tallies_found}
-use Rattle.listing.specs.Tallies.{counts_text, symbol_tallies_of, tallies_of}
-use Rattle.listing.specs.Opening.{SaysOfModules, kept_in_text, listed}
 use Rattle.latchsym.specs.declared.requests.ListingFiles.{ListingFiles}
 use Rattle.listing.specs.declared.opening.Listings.{Listings}
 use Rattle.listing.specs.declared.opening.SymbolListing.{SymbolListing}
@@ -24,20 +27,23 @@ abbrev pub modules_name : ListingFiles → Text
 modules_name files = unwrap_or (option_map (λ f. f.now) files.modules) []
 
 -- The notes that apply to listings of modules and of symbols in these files, those of the modules
--- first, and then the counts of a lookup over the same listings.
-abbrev pub modules_report : ListingFiles → Inputs → List ℕ
-modules_report files i =
-    applying_lines i.options.kernel (modules_name files) (is_of_modules i.modules i.kallsyms (catalog_in i))
-    ++ applying_lines i.options.kernel files.kallsyms.now
-    (is_of_kallsyms i.options.kernel i.kallsyms (counts_in i).symbols)
-    ++ counts_text (tallies_in i)
+-- first, and then the counts, where there are these region lines or no listing of them.
+abbrev pub modules_report : Option BoundNames → ListingFiles → List ℕ → List ℕ
+    → Option (List ListedRegion) → List ℕ
+modules_report kernel files modules kallsyms regions =
+    let names = bounds_for kernel (listed kallsyms) in
+    let c = catalog_of_texts kernel false modules kallsyms (unwrap_or regions []) in
+    let counts = counts_of_texts kernel false modules kallsyms (unwrap_or regions []) in
+    applying_lines names (modules_name files) (is_of_modules modules kallsyms c)
+    ++ applying_lines names files.kallsyms.now (is_of_kallsyms names kallsyms counts.symbols)
+    ++ counts_text (tallies_by (module_counts (lines_of modules))
+    (symbol_counts (lines_of kallsyms)) (is_some regions) counts)
 
--- the same of listings that were read
-abbrev pub listings_report : ListingFiles → Inputs → Listings → List ℕ
-listings_report files i l =
-    applying_lines i.options.kernel (modules_name files) (is_of_modules i.modules i.kallsyms l.catalog)
-    ++ applying_lines i.options.kernel files.kallsyms.now
-    (is_of_kallsyms i.options.kernel i.kallsyms l.built.symbols)
+-- the same of listings that were read, where these names bound the kernel
+abbrev pub listings_report : BoundNames → ListingFiles → List ℕ → List ℕ → Listings → List ℕ
+listings_report names files modules kallsyms l =
+    applying_lines names (modules_name files) (is_of_modules modules kallsyms l.catalog)
+    ++ applying_lines names files.kallsyms.now (is_of_kallsyms names kallsyms l.built.symbols)
     ++ counts_text (tallies_of l)
 
 -- the same of a listing of symbols alone, which says this of the modules
@@ -60,8 +66,8 @@ abbrev pub IsModulesReport : Option BoundNames → ListingFiles → List ℕ →
 IsModulesReport kernel files modules kallsyms regions text kept =
     (lines : Option (List ListedRegion)) × (region_lines regions ≡ Ok lines)
     × (are_few (unwrap_or lines []) ≡ true)
-    × (text ≡ modules_report files (inputs_by kernel modules kallsyms lines))
-    × (kept ≡ (counts_in (inputs_by kernel modules kallsyms lines)).symbols)
+    × (text ≡ modules_report kernel files modules kallsyms lines)
+    × (kept ≡ (counts_of_texts kernel false modules kallsyms (unwrap_or lines [])).symbols)
 
 -- the same where they are not
 abbrev pub IsSymbolsReport : Option BoundNames → Text → List ℕ → List ℕ → ℕ → Type 0

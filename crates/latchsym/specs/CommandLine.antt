@@ -81,14 +81,14 @@ run_app =
     (option_rule (codes "readers") ∷ word_rule (codes "script") ∷ [])
 
 -- annotate [--kallsyms FILE] [--modules FILE] [--regions FILE] [--kernel START END] [--callers]
--- [--exact] [--offset N] [LOG]
+-- [--exact] [--offset N] [--follow] [LOG]
 abbrev pub annotate_app : App
 annotate_app =
     with_rules
     (with_listings (new_app (codes "annotate")) (optional_rule (codes "kallsyms"))
     (optional_rule (codes "modules")))
     (flag_rule (codes "callers") ∷ flag_rule (codes "exact") ∷ optional_rule (codes "offset")
-    ∷ optional_word_rule (codes "log") ∷ [])
+    ∷ flag_rule (codes "follow") ∷ optional_word_rule (codes "log") ∷ [])
 
 -- check [--modules FILE] [--kallsyms FILE] [--regions FILE] [--kernel START END]
 abbrev pub check_app : App

@@ -179,10 +179,12 @@ callers_in rows =
     else if has_flag (codes "exact") rows then Never
     else ByPlace
 
--- the log, which is the standard input where none is named, and how its addresses are taken
+-- the log, which is the standard input where none is named, how its addresses are taken, and whether
+-- the listings are read again while it lasts
 pub record IsAnnotateIn (rows : List Row) (annotate : Annotate) : Type 0 where
   pub callers : annotate.rule.callers ≡ callers_in rows
   pub lower : IsOffsetIn rows annotate.rule.offset
+  pub follow : annotate.follow ≡ has_flag (codes "follow") rows
   pub log : annotate.log.now ≡ unwrap_or (first_of (codes "log") rows) (codes "-")
 
 -- the names, and how their addresses are told

@@ -21,6 +21,8 @@ pub mod LogAnswers
 pub mod LogIndexes
 -- what is written for a log, and told of its listings
 pub mod Annotations
+-- what is written for a log that lasts, whose listings are read again
+pub mod Following
 -- what is written of listings that are checked
 pub mod Checks
 -- words of a command line that begin as options do, and are none

@@ -15,7 +15,7 @@ use Rattle.latchsym.specs.declared.requests.Job.TheVariants as job
 use Rattle.latchsym.specs.declared.requests.ListingFiles.{ListingFiles}
 use Rattle.latchsym.specs.declared.requests.Request.{Request}
 use Rattle.latchsym.specs.declared.requests.Subcommand.{Subcommand}
-use Rattle.latchsym.specs.declared.requests.Subcommand.TheVariants.{Run}
+use Rattle.latchsym.specs.declared.requests.Subcommand.TheVariants.{Lookup, Run}
 use Rattle.listing.specs.declared.listing_notes.ListingNote.{ListingNote}
 use Rattle.listing.specs.declared.listing_notes.ListingNote.TheVariants.{Gzip, AllHidden}
 use Rattle.listing.specs.declared.listing_notes.ListingNote.TheVariants.{LooksLikeSymbols}
@@ -111,19 +111,31 @@ abbrev pub applying_lines : BoundNames → Text → (ListingNote → Bool) → L
 applying_lines names file applies =
     flat_map (λ note. line_where (applies note) (note_line names file note)) all_notes
 
--- the names of the bounds that a listing of symbols alone may miss: those that are given, or else
--- the last of the usual ones
+-- the names of the bounds that a listing of symbols may miss: those that are given, or else the last
+-- of the usual ones
 abbrev pub noted_bounds : Option BoundNames → BoundNames
 noted_bounds kernel = unwrap_or kernel (record { start = codes "_stext"; end = codes "_etext" })
 
--- the lines for files of listings, where these names are given for the kernel's bounds
-abbrev pub lines_by : Option BoundNames → Option (Bor Text) → Text → ListingNotes → List ℕ
-lines_by kernel (Some modules) kallsyms notes =
-    lines_for (unwrap_or kernel usual_bounds) modules.now kallsyms notes
-lines_by kernel None kallsyms notes = line_if_noted (noted_bounds kernel) kallsyms notes.kallsyms
+-- the lines for files of listings, of which that of modules may be missing, where these names bound
+-- the kernel
+abbrev pub lines_by : BoundNames → Option (Bor Text) → Text → ListingNotes → List ℕ
+lines_by names (Some modules) kallsyms notes = lines_for names modules.now kallsyms notes
+lines_by names None kallsyms notes = line_if_noted names kallsyms notes.kallsyms
 
+-- the same, where these names are given for the kernel's bounds
 abbrev pub note_lines : Option BoundNames → ListingFiles → ListingNotes → List ℕ
-note_lines kernel files notes = lines_by kernel files.modules files.kallsyms.now notes
+note_lines kernel files notes =
+    lines_by (noted_bounds kernel) files.modules files.kallsyms.now notes
+
+-- The same of a lookup: where modules are listed, the kernel lies between `_stext` and `_end` if no
+-- names are given.
+abbrev pub bounds_of_lookup : Option BoundNames → Option (Bor Text) → BoundNames
+bounds_of_lookup kernel (Some modules) = unwrap_or kernel usual_bounds
+bounds_of_lookup kernel None = noted_bounds kernel
+
+abbrev pub lines_of_lookup : Option BoundNames → ListingFiles → ListingNotes → List ℕ
+lines_of_lookup kernel files notes =
+    lines_by (bounds_of_lookup kernel files.modules) files.modules files.kallsyms.now notes
 
 -- ---- of a run, which needs the listing of modules
 
@@ -157,6 +169,7 @@ lines_of_run kernel None kallsyms notes = []
 
 abbrev pub lines_asked : Request → Subcommand → ListingNotes → List ℕ
 lines_asked q (Run r) notes = lines_of_run q.kernel q.files.modules q.files.kallsyms.now notes
+lines_asked q (Lookup l) notes = lines_of_lookup q.kernel q.files notes
 lines_asked q _ notes = note_lines q.kernel q.files notes
 
 abbrev pub notes_text : Job → ListingNotes → List ℕ

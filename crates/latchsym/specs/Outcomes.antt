@@ -1,9 +1,10 @@
 -- What comes of a job: that of its engine over the job's own readers.
-use Rattle.std.specs.Prelude.{◌≡◌, ℕ, List, map, Option, Result, true, unwrap_or}
+use Rattle.std.specs.Prelude.{◌≡◌, ℕ, Bool, true, false, List, map, Option, None, Result, unwrap_or}
 use Rattle.texts.specs.declared.output.Output.{Output}
 use Rattle.latchsym.specs.Addresses.{IsAddressed}
 use Rattle.latchsym.specs.Annotations.{AnnotatesLog}
 use Rattle.latchsym.specs.Checks.{IsChecked}
+use Rattle.latchsym.specs.Following.{FollowsLog}
 use Rattle.latchsym.specs.GivenAnswers.{AnswersListings}
 use Rattle.engines.specs.Faults.{with_notes, with_status, without_notes}
 use Rattle.listing.specs.ListingNotes.{no_notes}
@@ -22,9 +23,11 @@ use Rattle.engines.specs.declared.fault.Fault.{Fault}
 use Rattle.engines.specs.declared.fault.Finished.{Finished}
 use Rattle.engines.specs.declared.lookup.LookupOptions.{LookupOptions}
 use Rattle.engines.specs.declared.symbol_lookup.SymbolLookupOptions.{SymbolLookupOptions}
+use Rattle.latchsym.specs.declared.annotations.AnnotateReaders.{AnnotateReaders}
 use Rattle.latchsym.specs.declared.jobs.OpenedJob.{OpenedJob}
 use Rattle.latchsym.specs.declared.jobs.OpenedJob.TheVariants.{Trace, Steps, Lookup, SymbolLookup}
 use Rattle.latchsym.specs.declared.jobs.OpenedJob.TheVariants.{Address, Annotate, Check, Run}
+use Rattle.latchsym.specs.declared.requests.Annotate as annotate
 use Rattle.latchsym.specs.declared.requests.Lookup as lookup
 use Rattle.latchsym.specs.declared.requests.Request.{Request}
 
@@ -44,6 +47,19 @@ symbol_options_of q l = record { kernel = q.kernel; rule = l.rule }
 abbrev pub Ends : {A : Type 0} → (Result A Fault → Type 0) → (Result A Fault → Result Finished Fault)
     → Result Finished Fault → Type 0
 Ends {A} May finish outcome = (result : Result A Fault) × May result × (outcome ≡ finish result)
+
+-- The same of a log that is followed, or of one that is annotated by the listings as they are at its
+-- beginning. Nothing is known of what files give that are opened again.
+abbrev pub IsOutcomeOfLog : {R W E : Type 0} → (R → Option (List ℕ)) → (W → Option (List ℕ))
+    → (E → Option (List ℕ)) → Request → annotate.Annotate → Bool → AnnotateReaders R R R R
+    → AnnotateReaders R R R R → Output W → Output W → Output E → Output E
+    → Result Finished Fault → Type 0
+IsOutcomeOfLog remaining contents errors q a true r r' w w' e e' outcome =
+    Ends (FollowsLog contents errors q a None None w w' e e') (with_notes no_notes) outcome
+IsOutcomeOfLog remaining contents errors q a false r r' w w' e e' outcome =
+    Ends (AnnotatesLog remaining contents errors q a
+    (known_given remaining remaining remaining r.listings)
+    (listing_failures r.listings r'.listings) r.log r'.log w w' e e') (with_notes no_notes) outcome
 
 -- The status or the fault of a job, over what its readers had. A trace or a lookup that succeeds has
 -- status 0; of a log or of listings that are checked nothing is left to be noted. Only an annotation
@@ -72,9 +88,7 @@ IsOutcome remaining contents errors (Run q run r) (Run _ _ r') w w' e e' outcome
     (known_run_inputs remaining remaining remaining remaining r (bounds_of q.now) run.now.readers)
     (run_failures_between r r') w w' outcome × (e' ≡ e)
 IsOutcome remaining contents errors (Annotate q a r) (Annotate _ _ r') w w' e e' outcome =
-    Ends (AnnotatesLog remaining contents errors q.now a.now
-    (known_given remaining remaining remaining r.listings)
-    (listing_failures r.listings r'.listings) r.log r'.log w w' e e') (with_notes no_notes) outcome
+    IsOutcomeOfLog remaining contents errors q.now a.now a.now.follow r r' w w' e e' outcome
 IsOutcome remaining contents errors (Check q r) (Check _ r') w w' e e' outcome =
     Ends (AnswersListings contents (IsChecked q.now.kernel q.now.files)
     (known_given remaining remaining remaining r) (listing_failures r r') w w')

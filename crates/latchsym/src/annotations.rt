@@ -30,7 +30,7 @@ pub struct AnnotateReaders<M, K, R, L> {
 }
 
 /// The place of the log among the files that are read.
-const LOG_PLACE: u64 = 3;
+pub(crate) const LOG_PLACE: u64 = 3;
 
 /// Writes a log again, with the text of the answer behind each address in it that the listings
 /// have. The request says between which symbols the kernel itself lies, and the job how the addresses

@@ -278,6 +278,7 @@ fn annotate_in<'a>(found: &ArgMatches<'a>) -> Result<Annotate<'a>, JobFault<'a>>
             callers: callers_in(found),
             offset,
         },
+        follow: is_given(found, "follow"),
         log: value_or(found, "log", STANDARD_INPUT),
     })
 }

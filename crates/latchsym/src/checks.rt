@@ -11,28 +11,24 @@ ghost use Rattle.latchsym.specs.Checks.{IsChecked, listings_report, modules_name
 ghost use Rattle.latchsym.specs.Checks.{symbol_listing_report, with_modules};
 ghost use Rattle.latchsym.specs.GivenAnswers.{AnswersGiven, AnswersListings};
 ghost use Rattle.listing.specs.ListingNotes.{is_of_kallsyms, is_of_modules};
-ghost use Rattle.engines.specs.LookupInputs.{inputs_in};
 ghost use Rattle.latchsym.specs.NoteTexts.{applying_lines};
 ghost use Rattle.engines.specs.OpenedCatalogs.{given_in, known_given, listing_failures};
 
 use crate::note_texts::put_note_where;
 use crate::reports::unless_failed;
 use crate::requests::ListingFiles;
-use engines::{
-    FAILED, Fault, GivenTexts, ListingReaders, LookupInputs, LookupOptions, SUCCEEDED,
-    bounds_or_usual, listings_in, read_given, region_lines_in,
-};
+use engines::{FAILED, Fault, GivenTexts, ListingReaders, SUCCEEDED, read_given, region_lines_in};
 use listing::{
-    AddressRule, ListingNote, Listings, SymbolFacts, SymbolListing, applies_to_kallsyms,
-    applies_to_modules, open_symbols, put_counts,
+    ListingNote, Listings, SymbolFacts, SymbolListing, applies_to_kallsyms, applies_to_modules,
+    open_listings, open_symbols, put_counts,
 };
 use modules::{Asked, Catalog, KernelBounds};
 use std::alloc::Global;
 use std::io::{Read, Write};
 use texts::Output;
 
-/// Writes a line for each note that applies to the listings in these files, and then the counts
-/// that a lookup over the same listings has. Returns the program's status: 1 where no symbol is
+/// Writes a line for each note that applies to the listings in these files, and then how many of
+/// their lines went where. Returns the program's status: 1 where no symbol is
 /// kept.
 ///
 /// All is read, and the catalog is there, before the first byte is written; so every fault but a
@@ -81,20 +77,13 @@ fn check_modules<W: Write>(
     ensures { AnswersGiven W.contents (IsChecked (option_copied kernel.entry) files.now)
         (with_modules (Some modules.now) (given_in texts.now)) writer.old writer.new result }
 {
-    let options = LookupOptions {
-        kernel: bounds_or_usual(kernel),
-        rule: AddressRule::AS_GIVEN,
-        with_mapping: false,
-    };
-    let inputs = LookupInputs {
-        options: &options,
-        modules,
-        kallsyms: &texts.kallsyms,
-        regions: region_lines_in(alloc, &texts.regions)?,
-        addresses: Vec::new(alloc),
-    };
-    let listings = listings_in(alloc, &inputs, Asked::These(&[]))?;
-    put_listings(writer, files, &inputs, &listings);
+    let kallsyms = texts.kallsyms.as_slice();
+    let lines = region_lines_in(alloc, &texts.regions)?;
+    let lines = lines.as_deref();
+    let none = Asked::These(&[]);
+    let listings = open_listings(alloc, kernel, false, modules, kallsyms, lines, none)?;
+    let names = kernel.unwrap_or(&listings.usual);
+    put_listings(writer, names, files, modules, kallsyms, &listings);
     unless_failed(writer, status_of_kept(listings.built.symbols))
 }
 
@@ -123,29 +112,27 @@ fn status_of_kept(kept: u64) -> u8
     if kept == 0 { FAILED } else { SUCCEEDED }
 }
 
-/// Writes what applies to listings of modules and of symbols, and their counts, and lets the writer
-/// keep nothing back.
+/// Writes what applies to listings of modules and of symbols, where these names bound the kernel, and
+/// their counts, and lets the writer keep nothing back.
 fn put_listings<W: Write>(
     writer: &mut Output<W>,
+    names: &KernelBounds,
     files: &ListingFiles<'_>,
-    inputs: &LookupInputs<'_, '_>,
+    modules: &[u8],
+    kallsyms: &[u8],
     listings: &Listings,
 )
-    requires modules { listings.now.modules_hidden
-        ≡ are_modules_hidden (lines_of inputs.now.modules.now) }
-    requires symbols { listings.now.symbols_hidden
-        ≡ are_symbols_hidden (lines_of inputs.now.kallsyms.now) }
+    requires modules { listings.now.modules_hidden ≡ are_modules_hidden (lines_of modules.now) }
+    requires symbols { listings.now.symbols_hidden ≡ are_symbols_hidden (lines_of kallsyms.now) }
     ensures { Delivers W.contents writer.old writer.new
-        (listings_report files.now (inputs_in inputs.now) listings.now) }
+        (listings_report names.now files.now modules.now kallsyms.now listings.now) }
 {
-    let names = &inputs.options.kernel;
-    let modules = modules_name(files).as_bytes();
     put_module_notes(
         writer,
         names,
+        modules_name(files).as_bytes(),
         modules,
-        inputs.modules,
-        inputs.kallsyms,
+        kallsyms,
         listings.modules_hidden,
         &listings.catalog,
     );
@@ -153,7 +140,7 @@ fn put_listings<W: Write>(
         writer,
         names,
         files.kallsyms.as_bytes(),
-        inputs.kallsyms,
+        kallsyms,
         listings.symbols_hidden,
         listings.built.symbols,
     );

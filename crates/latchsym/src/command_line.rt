@@ -153,6 +153,7 @@ fn annotate_command<'a>(alloc: Global) -> Result<Command<'a>, AllocError>
     let callers_help =
         "Take every address as a return address, not only where its place in the line says so";
     let exact_help = "Take no address as a return address";
+    let follow_help = "Read the listings again as the log grows, for modules loaded meanwhile";
     let log_help = "The log to annotate; standard input if - or omitted";
     let command = described(
         alloc,
@@ -165,6 +166,7 @@ fn annotate_command<'a>(alloc: Global) -> Result<Command<'a>, AllocError>
         .arg(flag(alloc, "callers", callers_help))?
         .arg(flag(alloc, "exact", exact_help))?
         .arg(optional_option(alloc, "offset", "N", OFFSET_HELP))?
+        .arg(flag(alloc, "follow", follow_help))?
         .arg(optional_word(alloc, "log", "LOG", log_help))
 }
 

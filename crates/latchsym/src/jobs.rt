@@ -1,6 +1,6 @@
 //! A job from the names of its files to its status: its files are opened, and then its engine
 //! answers over their readers.
-ghost use Rattle.std.specs.Prelude.{◌≡◌, IfOk, IfErr, List, ℕ, Option, is_some, map, true};
+ghost use Rattle.std.specs.Prelude.{◌≡◌, IfOk, IfErr, List, ℕ, None, Option, is_some, map, true};
 ghost use Rattle.texts.specs.Counted.{device_of};
 ghost use Rattle.texts.specs.Output.{error_in};
 ghost use Rattle.engines.specs.Faults.{with_notes, with_status};
@@ -18,13 +18,16 @@ ghost use Rattle.latchsym.specs.Checks.{IsChecked};
 ghost use Rattle.latchsym.specs.GivenAnswers.{AnswersListings};
 ghost use Rattle.latchsym.specs.Files.{AreListingFiles, IsOpened, IsOpenedFor, IsOpenedIfGiven};
 ghost use Rattle.latchsym.specs.Files.{IsOpenedWith, or_standard};
-ghost use Rattle.latchsym.specs.Outcomes.{Ends, IsOutcome, bounds_of, options_of};
+ghost use Rattle.latchsym.specs.Following.{FollowsLog};
+ghost use Rattle.latchsym.specs.Outcomes.{Ends, IsOutcome, IsOutcomeOfLog, bounds_of, options_of};
 ghost use Rattle.latchsym.specs.Outcomes.{symbol_options_of};
 ghost use Rattle.latchsym.specs.Reasons.{error_if_given, error_of_listing};
 
 use crate::addresses::address_engine;
 use crate::annotations::{AnnotateReaders, annotate_engine};
 use crate::checks::check_engine;
+use crate::followed_files::FollowedFiles;
+use crate::following::follow_engine;
 use crate::requests::{Address, Annotate, Job, ListingFiles, Lookup, Request, Run, Subcommand};
 use engines::{
     Fault, Finished, ListingReaders, LookupOptions, LookupReaders, RunReaders, SymbolLookupOptions,
@@ -186,15 +189,17 @@ fn open_run<'j, 'a, F: FileSource>(
 
 /// Does the job over its readers: has its engine answer with the job's own options, addresses and
 /// number of readers. Returns the program's status and what is noted of the listings, or why it
-/// failed. What is noted of the listings of a log is told to `errors` before the log is begun.
-pub fn do_job<T: Threads + Wait + Sync, R: Read, W: Write, E: Write>(
+/// failed. What is noted of the listings of a log is told to `errors` before the log is begun. Where
+/// it is followed, the files of its listings are opened again.
+pub fn do_job<T: Threads + Wait + Sync, F: FileSource, W: Write, E: Write>(
     threads: &T,
     alloc: Global,
-    job: &mut OpenedJob<'_, '_, R>,
+    files: &F,
+    job: &mut OpenedJob<'_, '_, F::File>,
     writer: &mut Output<W>,
     errors: &mut Output<E>,
 ) -> Result<Finished, Fault>
-    ensures { IsOutcome R.remaining W.contents E.contents job.old job.new
+    ensures { IsOutcome F.File.remaining W.contents E.contents job.old job.new
         writer.old writer.new errors.old errors.new result }
 {
     match job {
@@ -214,7 +219,7 @@ pub fn do_job<T: Threads + Wait + Sync, R: Read, W: Write, E: Write>(
             do_run(threads, alloc, request, run, readers, writer)
         }
         OpenedJob::Annotate(request, annotate, readers) => {
-            do_annotate(alloc, request, annotate, readers, writer, errors)
+            do_annotate(alloc, files, request, annotate, readers, writer, errors)
         }
         OpenedJob::Check(request, readers) => do_check(alloc, request, readers, writer),
         OpenedJob::Address(request, address, readers) => {
@@ -297,8 +302,29 @@ fn do_run<T: Threads + Wait + Sync, R: Read, W: Write>(
     run_engine(threads, alloc, readers, &kernel, run.readers, writer)
 }
 
-/// Annotates a log.
-fn do_annotate<R: Read, W: Write, E: Write>(
+/// Annotates a log, or follows it.
+fn do_annotate<F: FileSource, W: Write, E: Write>(
+    alloc: Global,
+    files: &F,
+    request: &Request<'_>,
+    annotate: &Annotate<'_>,
+    readers: &mut AnnotateReaders<F::File, F::File, F::File, F::File>,
+    writer: &mut Output<W>,
+    errors: &mut Output<E>,
+) -> Result<Finished, Fault>
+    ensures { IsOutcomeOfLog F.File.remaining W.contents E.contents request.now annotate.now
+        annotate.now.follow readers.old readers.new writer.old writer.new errors.old errors.new
+        result }
+{
+    if annotate.follow {
+        do_follow(alloc, files, request, annotate, readers, writer, errors)
+    } else {
+        do_annotate_once(alloc, request, annotate, readers, writer, errors)
+    }
+}
+
+/// Annotates a log by the listings as they are at its beginning.
+fn do_annotate_once<R: Read, W: Write, E: Write>(
     alloc: Global,
     request: &Request<'_>,
     annotate: &Annotate<'_>,
@@ -312,6 +338,24 @@ fn do_annotate<R: Read, W: Write, E: Write>(
         writer.old writer.new errors.old errors.new) (with_notes no_notes) result }
 {
     let done = annotate_engine(alloc, readers, request, annotate, errors, writer);
+    with_notes(done, ListingNotes::none())
+}
+
+/// Annotates a log that lasts. Nothing is known of what its files and its listings have.
+fn do_follow<F: FileSource, W: Write, E: Write>(
+    alloc: Global,
+    files: &F,
+    request: &Request<'_>,
+    annotate: &Annotate<'_>,
+    readers: &mut AnnotateReaders<F::File, F::File, F::File, F::File>,
+    writer: &mut Output<W>,
+    errors: &mut Output<E>,
+) -> Result<Finished, Fault>
+    ensures { Ends (FollowsLog W.contents E.contents request.now annotate.now None None
+        writer.old writer.new errors.old errors.new) (with_notes no_notes) result }
+{
+    let mut log = FollowedFiles::new(files, &request.files, readers);
+    let done = follow_engine(alloc, &mut log, request, annotate, errors, writer);
     with_notes(done, ListingNotes::none())
 }
 
@@ -422,7 +466,7 @@ fn error_if_given<R>(reader: &Option<Counted<R>>) -> Option<io::Error>
 }
 
 /// Opens the files of listings.
-fn open_listings<F: FileSource>(
+pub(crate) fn open_listings<F: FileSource>(
     files: &F,
     listings: &ListingFiles<'_>,
 ) -> Result<ListingReaders<F::File, F::File, F::File>, Refusal>

@@ -5,7 +5,7 @@
 //! - `lookup` says which module and which symbol hold an address, by listings of modules and of
 //!   symbols, or by symbols alone
 //! - `run` does what a script says, each writer and each reader on a thread of its own
-//! - `annotate` writes a log again, with the symbol after each address
+//! - `annotate` writes a log again, with the symbol after each address, and may follow it
 //! - `check` says what is wrong with listings, and how many of their lines are of use
 //! - `address` says where the symbols of some names are
 //!
@@ -21,9 +21,12 @@ mod arguments;
 mod asked_names;
 mod checks;
 mod command_line;
+mod followed_files;
+mod following;
 mod input;
 mod jobs;
 mod kept_symbols;
+mod lasting_log;
 mod log_aliases;
 mod log_answers;
 mod log_index;

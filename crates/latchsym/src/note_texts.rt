@@ -7,8 +7,8 @@ ghost use Rattle.listing.specs.declared.listing_notes.ListingNote.TheVariants.{G
 ghost use Rattle.modules.specs.Lines.{usual_bounds};
 ghost use Rattle.latchsym.specs.NoteTexts.{is_utf_16, utf_16_line};
 ghost use Rattle.latchsym.specs.NoteTexts.{is_overlap, line_if_noted, line_where, lines_asked};
-ghost use Rattle.latchsym.specs.NoteTexts.{lines_for, lines_of_run, log_line, message_of};
-ghost use Rattle.latchsym.specs.NoteTexts.{missing_text, note_line, note_lines, noted_bounds};
+ghost use Rattle.latchsym.specs.NoteTexts.{lines_by, lines_of_lookup, lines_of_run, log_line};
+ghost use Rattle.latchsym.specs.NoteTexts.{message_of, missing_text, note_line, note_lines};
 ghost use Rattle.latchsym.specs.NoteTexts.{notes_text, other_boot_line, overlap_line, remedy_text};
 ghost use Rattle.latchsym.specs.NoteTexts.{run_line, run_lines, unnamed_line};
 
@@ -38,10 +38,10 @@ fn put_notes_asked<W: Write>(writer: &mut Output<W>, request: &Request<'_>, note
     let files = &request.files;
     match &request.subcommand {
         Subcommand::Run(_) => put_notes_of_run(writer, kernel, files, notes),
-        Subcommand::Lookup(_)
-        | Subcommand::Annotate(_)
-        | Subcommand::Check
-        | Subcommand::Address(_) => put_notes_of(writer, kernel, files, notes),
+        Subcommand::Lookup(_) => put_notes_of_lookup(writer, kernel, files, notes),
+        Subcommand::Annotate(_) | Subcommand::Check | Subcommand::Address(_) => {
+            put_notes_of(writer, kernel, files, notes)
+        }
     }
 }
 
@@ -126,6 +126,24 @@ fn put_overlap<W: Write>(writer: &mut Output<W>, file: &[u8])
     writer.put(b": modules overlap, as sizes do from Linux 6.4 on; give --regions\n");
 }
 
+/// Writes what is noted of the listings of a lookup. Where modules are listed, the kernel lies between
+/// `_stext` and `_end` if no names are given.
+fn put_notes_of_lookup<W: Write>(
+    writer: &mut Output<W>,
+    kernel: Option<&KernelBounds>,
+    files: &ListingFiles<'_>,
+    notes: &ListingNotes,
+)
+    ensures { Says W.contents writer.old writer.new
+        (lines_of_lookup (option_copied kernel.entry) files.now notes.now) }
+{
+    let usual = KernelBounds::usual();
+    match files.modules {
+        Some(_) => put_listing_notes(writer, kernel.unwrap_or(&usual), files, notes),
+        None => put_notes_of(writer, kernel, files, notes),
+    }
+}
+
 /// Writes what is noted of the listings in these files, where these names are given for the kernel's
 /// bounds.
 pub fn put_notes_of<W: Write>(
@@ -137,50 +155,32 @@ pub fn put_notes_of<W: Write>(
     ensures { Says W.contents writer.old writer.new
         (note_lines (option_copied kernel.entry) files.now notes.now) }
 {
-    let usual = KernelBounds::usual();
-    match files.modules {
-        Some(modules) => {
-            let names = kernel.unwrap_or(&usual);
-            put_listing_notes(writer, names, modules, files.kallsyms, notes)
-        }
-        None => put_symbol_note(writer, kernel, files.kallsyms, notes),
-    }
+    // a usual bound is missed where the listing has none of the names that it may have
+    let missed = KernelBounds {
+        start: b"_stext",
+        end: b"_etext",
+    };
+    put_listing_notes(writer, kernel.unwrap_or(&missed), files, notes);
 }
 
 /// Writes what is noted of the listings in these files, where these names bound the kernel.
 fn put_listing_notes<W: Write>(
     writer: &mut Output<W>,
     names: &KernelBounds,
-    modules: &str,
-    kallsyms: &str,
+    files: &ListingFiles<'_>,
     notes: &ListingNotes,
 )
     ensures { Says W.contents writer.old writer.new
-        (lines_for names.now modules.now kallsyms.now notes.now) }
+        (lines_by names.now files.now.modules files.now.kallsyms.now notes.now) }
 {
-    put_if_noted(writer, names, modules.as_bytes(), notes.modules);
-    put_if_noted(writer, names, kallsyms.as_bytes(), notes.kallsyms);
-}
-
-/// Writes what is noted of the listing of symbols in this file, where these names are given for the
-/// kernel's bounds.
-fn put_symbol_note<W: Write>(
-    writer: &mut Output<W>,
-    kernel: Option<&KernelBounds>,
-    kallsyms: &str,
-    notes: &ListingNotes,
-)
-    ensures { Says W.contents writer.old writer.new
-        (line_if_noted (noted_bounds (option_copied kernel.entry)) kallsyms.now
-        notes.now.kallsyms) }
-{
-    // a usual bound is missed where the listing has none of the names that it may have
-    let missed = KernelBounds {
-        start: b"_stext",
-        end: b"_etext",
-    };
-    let names = kernel.unwrap_or(&missed);
-    put_if_noted(writer, names, kallsyms.as_bytes(), notes.kallsyms);
+    let kallsyms = files.kallsyms.as_bytes();
+    match files.modules {
+        Some(modules) => {
+            put_if_noted(writer, names, modules.as_bytes(), notes.modules);
+            put_if_noted(writer, names, kallsyms, notes.kallsyms);
+        }
+        None => put_if_noted(writer, names, kallsyms, notes.kallsyms),
+    }
 }
 
 /// Writes what is noted of the listing in this file, if something is.

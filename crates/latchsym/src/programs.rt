@@ -25,7 +25,7 @@ use engines::{Fault, Finished};
 use std::alloc::Global;
 use std::convert::AsStr;
 use std::io;
-use std::io::{Read, Write};
+use std::io::Write;
 use std::sync::Wait;
 use std::thread::Threads;
 use texts::Output;
@@ -90,22 +90,23 @@ fn do_whole<T: Threads + Wait + Sync, F: FileSource, W: Write, E: Write>(
     let Ok(mut opened) = open_job(files, job) else {
         return refuse(alloc, JobFault::OutOfMemory, writer, errors);
     };
-    do_opened(threads, alloc, job, &mut opened, writer, errors)
+    do_opened(threads, alloc, files, job, &mut opened, writer, errors)
 }
 
 /// Does a job over the readers of its files, says how it ended, and returns the program's status.
-fn do_opened<T: Threads + Wait + Sync, R: Read, W: Write, E: Write>(
+fn do_opened<T: Threads + Wait + Sync, F: FileSource, W: Write, E: Write>(
     threads: &T,
     alloc: Global,
+    files: &F,
     job: &Job<'_>,
-    opened: &mut OpenedJob<'_, '_, R>,
+    opened: &mut OpenedJob<'_, '_, F::File>,
     writer: &mut Output<W>,
     errors: &mut Output<E>,
 ) -> u8
-    ensures { IsDoneOver R.remaining W.contents E.contents job.now opened.old opened.new
+    ensures { IsDoneOver F.File.remaining W.contents E.contents job.now opened.old opened.new
         writer.old writer.new errors.old errors.new result }
 {
-    let outcome = do_job(threads, alloc, opened, writer, errors);
+    let outcome = do_job(threads, alloc, files, opened, writer, errors);
     let error = error_of_outcome(opened, writer, &outcome);
     conclude(outcome, job, error, errors)
 }

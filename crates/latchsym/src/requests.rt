@@ -53,8 +53,8 @@ pub enum Subcommand<'a> {
     /// `latchsym run --readers N SCRIPT`: do what a script says, each writer and each reader on a
     /// thread.
     Run(Run<'a>),
-    /// `latchsym annotate [--callers | --exact] [--offset N] [LOG]`: write a log again, with a symbol
-    /// behind each address.
+    /// `latchsym annotate [--callers | --exact] [--offset N] [--follow] [LOG]`: write a log again, with
+    /// a symbol behind each address.
     Annotate(Annotate<'a>),
     /// `latchsym check`: write all that is noted of listings, and their counts.
     Check,
@@ -90,6 +90,8 @@ pub struct Run<'a> {
 pub struct Annotate<'a> {
     /// How the addresses of the log are taken.
     pub rule: LogRule,
+    /// Whether the listings are read again behind each block of the log.
+    pub follow: bool,
     /// The file of the log; `-` is the standard input.
     pub log: &'a str,
 }

@@ -70,6 +70,7 @@ pub record AreOpened (kernel : Option BoundNames) (mapping : Bool) (modules kall
   pub has_regions : l.has_regions ≡ is_some regions
   pub modules_hidden : l.modules_hidden ≡ are_modules_hidden (lines_of modules)
   pub symbols_hidden : l.symbols_hidden ≡ are_symbols_hidden (lines_of kallsyms)
+  pub usual : l.usual ≡ usual_bounds_of (symbols_of mapping kallsyms)
   pub notes : l.notes ≡ notes_of_texts kernel mapping modules kallsyms (unwrap_or regions [])
 
 -- ---- of symbols alone

@@ -39,6 +39,8 @@ pub struct Listings<'a> {
     pub modules_hidden: bool,
     /// The same of the listing of symbols.
     pub symbols_hidden: bool,
+    /// The usual names of both bounds of the kernel, as far as the listing of symbols has them.
+    pub usual: KernelBounds<'static>,
     /// What is noted of them.
     pub notes: ListingNotes,
 }
@@ -96,6 +98,7 @@ pub fn open_listings<'a>(
         has_regions: regions.is_some(),
         modules_hidden,
         symbols_hidden,
+        usual,
         notes,
     })
 }

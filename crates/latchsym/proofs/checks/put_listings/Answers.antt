@@ -3,10 +3,10 @@ use Rattle.latchsym.proofs.checks.put_listings.Goals as goal
 
 pub returns : goal.returns
 returns g c =
-    let i = c.args.inputs.now in
-    let l = c.args.listings.now in
-    let names = i.options.now.kernel in
-    let of_modules = ap (λ file. applying_lines names file (is_of_modules i.modules.now i.kallsyms.now l.catalog)) (c.as_bytes-modules.ensures.value ∙ c.modules_name.ensures) in
-    let of_symbols = ap (λ file. applying_lines names file (is_of_kallsyms names i.kallsyms.now l.built.symbols)) c.as_bytes.ensures.value in
+    let a = c.args in
+    let l = a.listings.now in
+    let names = a.names.now in
+    let of_modules = ap (λ file. applying_lines names file (is_of_modules a.modules.now a.kallsyms.now l.catalog)) (c.as_bytes.ensures.value ∙ c.modules_name.ensures) in
+    let of_symbols = ap (λ file. applying_lines names file (is_of_kallsyms names a.kallsyms.now l.built.symbols)) c.as_bytes-2.ensures.value in
     let said = then (then (same_text of_modules c.put_module_notes.ensures) (same_text of_symbols c.put_symbol_notes.ensures)) (same_text (ap counts_text c.tallies.ensures) c.put_counts.ensures) in
     then_flushed said c.flush.ensures

@@ -7,4 +7,5 @@ returns c =
     let callers = one_more listings c.flag.ensures c.in_ok-arg.ensures in
     let exact = one_more callers c.flag-2.ensures c.in_ok-arg-2.ensures in
     let offset = one_more exact c.optional_option.ensures c.in_ok-arg-3.ensures in
-    one_more_if_ok c.arg-4.result offset c.optional_word.ensures c.arg-4.ensures
+    let follow = one_more offset c.flag-3.ensures c.in_ok-arg-4.ensures in
+    one_more_if_ok c.arg-5.result follow c.optional_word.ensures c.arg-5.ensures

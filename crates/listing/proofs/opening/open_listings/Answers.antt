@@ -57,6 +57,7 @@ returns-clause-said c =
       has_regions = c.is_some.ensures ∙ copied_some c.args.regions;
       modules_hidden = c.are_modules_hidden-modules_hidden.ensures (lines_of modules) (c.len.ensures ∙ sym c.deref.ensures.len ∙ ap length is_modules) c.in_ok-module_lines.ensures.counts;
       symbols_hidden = c.are_symbols_hidden-symbols_hidden.ensures (lines_of kallsyms) c.in_ok-symbols.ensures.listed c.in_ok-symbols.ensures.skipped;
+      usual = c.usual_bounds-usual.ensures ∙ ap usual_bounds_of is_symbols;
       notes = ap with_modules (c.note_of_modules.ensures ∙ ap of_modules is_catalog)
           ∙ ap with_kallsyms (c.note_of_kallsyms.ensures ∙ ap (λ n. of_kallsyms n c.of_listed-built.result) is_named ∙ ap (of_kallsyms (bounds_for kernel (symbols_of mapping kallsyms))) is_built);
     }

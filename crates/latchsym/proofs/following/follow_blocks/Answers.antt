@@ -1,0 +1,61 @@
+use Rattle.latchsym.proofs.Words.{Err, [], ◌∷◌, given_in, arith, subst, take}
+use Rattle.latchsym.specs.Following.{Block, FollowsTurns, Happen}
+use Rattle.latchsym.specs.declared.following.Stop.TheVariants as stop
+use Rattle.latchsym.proofs.FaultLemmas.{handed_on}
+use Rattle.latchsym.proofs.FollowingLemmas.{at_end, begun, cut_off, too_long, turned, unlisted, unread}
+use Rattle.latchsym.proofs.following.follow_blocks.Goals as goal
+
+pub loop-turn-init : goal.loop-turn-init
+loop-turn-init g c = begun g.W.Write.contents c.args.request.now c.args.job.now (given_in c.args.first) (g.L.LastingLog.events c.args.log.now) c.args.writer.now _ c.new-annotator.ensures.held c.new-annotator.ensures.open
+
+pub returns-in_err-count : goal.returns-in_err-count
+returns-in_err-count g c =
+    let a = c.args in
+    let events = g.L.LastingLog.events in
+    let fault = c.in_err-count.field-0.0 in
+    handed_on (FollowsTurns g.W.Write.contents a.request.now a.job.now (given_in a.first) (events a.log.now) (events c.read_block.new.self) a.writer.now c.loop-turn.writer) c.from_residual.result (stop.Failed fault) c.from_residual.ensures.1
+    (unread g.W.Write.contents a.request.now a.job.now (given_in a.first) (events a.log.now) a.writer.now (events c.loop-turn.log) c.loop-turn.writer (given_in c.loop-turn.texts) c.loop-turn.annotator c.loop-turn.turn c.loop-turn.invariant
+    (events c.read_block.new.self) fault c.in_err-count.ensures.fault c.in_err-count.ensures.event)
+
+pub returns-then-count-eq0 : goal.returns-then-count-eq0
+returns-then-count-eq0 g c =
+    let a = c.args in
+    let events = g.L.LastingLog.events in
+    at_end g.W.Write.contents a.request.now a.job.now (given_in a.first) (events a.log.now) a.writer.now (events c.loop-turn.log) c.loop-turn.writer (given_in c.loop-turn.texts) c.loop-turn.annotator c.loop-turn.turn c.loop-turn.invariant
+    (events c.read_block.new.self) c.name_last.new.writer c.name_last.result
+    (subst (λ n. Happen (events c.loop-turn.log) (events c.read_block.new.self) (Block (take n c.read_block.new.room) ∷ [])) c.if-count-eq0.true c.in_ok-count.ensures.event)
+    c.name_last.ensures
+
+pub returns-in_err-texts : goal.returns-in_err-texts
+returns-in_err-texts g c =
+    let a = c.args in
+    let events = g.L.LastingLog.events in
+    let fault = c.in_err-texts.field-0.0 in
+    handed_on (FollowsTurns g.W.Write.contents a.request.now a.job.now (given_in a.first) (events a.log.now) (events c.read_listings.new.self) a.writer.now c.loop-turn.writer) c.from_residual-in_err-texts.result (stop.Failed fault)
+    c.from_residual-in_err-texts.ensures.1
+    (unlisted g.W.Write.contents a.request.now a.job.now (given_in a.first) (events a.log.now) a.writer.now (events c.loop-turn.log) c.loop-turn.writer (given_in c.loop-turn.texts) c.loop-turn.annotator c.loop-turn.turn c.loop-turn.invariant
+    (events c.read_block.new.self) (events c.read_listings.new.self) (take c.in_ok-count.count c.read_block.new.room) fault c.in_err-texts.ensures.fault c.in_ok-count.ensures.event c.in_err-texts.ensures.event)
+
+pub returns-in_err-name_block : goal.returns-in_err-name_block
+returns-in_err-name_block g c =
+    let a = c.args in
+    let events = g.L.LastingLog.events in
+    let why = c.in_err-name_block.field-0.0 in
+    handed_on (FollowsTurns g.W.Write.contents a.request.now a.job.now (given_in a.first) (events a.log.now) (events c.read_listings.new.self) a.writer.now c.name_block.new.writer) c.from_residual-in_err-name_block.result why
+    c.from_residual-in_err-name_block.ensures.1
+    (cut_off g.W.Write.contents a.request.now a.job.now (given_in a.first) (events a.log.now) a.writer.now (events c.loop-turn.log) c.loop-turn.writer (given_in c.loop-turn.texts) c.loop-turn.annotator c.loop-turn.turn c.loop-turn.invariant
+    (events c.read_block.new.self) (events c.read_listings.new.self) c.name_block.new.writer c.name_block.new.annotator (take c.in_ok-count.count c.read_block.new.room) (given_in c.in_ok-texts.texts) why c.in_ok-count.ensures.event
+    c.in_ok-texts.ensures.event c.in_err-name_block.ensures)
+
+pub loop-turn-preserved : goal.loop-turn-preserved
+loop-turn-preserved g c =
+    let a = c.args in
+    let events = g.L.LastingLog.events in
+    turned g.W.Write.contents a.request.now a.job.now (given_in a.first) (events a.log.now) a.writer.now (events c.loop-turn.log) c.loop-turn.writer (given_in c.loop-turn.texts) c.loop-turn.annotator c.loop-turn.turn c.loop-turn.invariant
+    (events c.read_block.new.self) (events c.read_listings.new.self) c.name_block.new.writer c.name_block.new.annotator (take c.in_ok-count.count c.read_block.new.room) (given_in c.in_ok-texts.texts) c.in_ok-name_block.field-0
+    c.in_ok-count.ensures.event c.in_ok-texts.ensures.event c.in_ok-name_block.ensures
+
+pub returns : goal.returns
+returns g c =
+    too_long g.W.Write.contents c.args.request.now c.args.job.now (given_in c.args.first) (g.L.LastingLog.events c.args.log.now) c.args.writer.now (g.L.LastingLog.events c.loop-turn.log) c.loop-turn.writer (given_in c.loop-turn.texts) c.loop-turn.annotator c.loop-turn.turn c.loop-turn.invariant
+    (omega (arith, c.loop-turn-test.false))

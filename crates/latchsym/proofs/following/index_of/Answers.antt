@@ -1,0 +1,12 @@
+use Rattle.latchsym.proofs.Words.{Err, subst, sym, Refused, given_in, IsCatalogOf, OpensCatalog}
+use Rattle.order_laws.specs.declared.refusals.Refusal.TheVariants as refusal
+use Rattle.latchsym.specs.Following.{GivesCatalog}
+use Rattle.latchsym.proofs.FaultLemmas.{handed_on}
+use Rattle.latchsym.proofs.following.index_of.Goals as goal
+
+pub returns-in_err-opened : goal.returns-in_err-opened
+returns-in_err-opened c =
+    let given = given_in c.args.texts.now in
+    let fault = c.in_err-opened.field-0.0 in
+    handed_on (GivesCatalog c.args.request.now.kernel given) c.from_residual.result fault c.from_residual.ensures.1
+    (subst (λ k. OpensCatalog k given (Err fault)) c.as_ref.ensures.value c.in_err-opened.ensures)

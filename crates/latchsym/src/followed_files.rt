@@ -1,0 +1,57 @@
+//! The files of a log that lasts and of its listings.
+
+use crate::annotations::{AnnotateReaders, LOG_PLACE};
+use crate::jobs::{FileSource, open_listings};
+use crate::lasting_log::LastingLog;
+use crate::requests::ListingFiles;
+use engines::{Fault, GivenTexts, read_given};
+use std::alloc::Global;
+use std::io::Read;
+
+/// The readers of a log that lasts and of its listings. The files of the listings are opened by their
+/// names each time that these are read, but for the first: then they are open.
+#[derive(Drop)]
+pub struct FollowedFiles<'f, 'a, F: FileSource> {
+    files: &'f F,
+    names: &'f ListingFiles<'a>,
+    readers: &'f mut AnnotateReaders<F::File, F::File, F::File, F::File>,
+    /// Whether the listings that are open were read.
+    is_read: bool,
+}
+
+impl<'f, 'a, F: FileSource> FollowedFiles<'f, 'a, F> {
+    /// These readers, of files with these names.
+    pub fn new(
+        files: &'f F,
+        names: &'f ListingFiles<'a>,
+        readers: &'f mut AnnotateReaders<F::File, F::File, F::File, F::File>,
+    ) -> FollowedFiles<'f, 'a, F> {
+        FollowedFiles {
+            files,
+            names,
+            readers,
+            is_read: false,
+        }
+    }
+}
+
+impl<'f, 'a, F: FileSource> LastingLog for FollowedFiles<'f, 'a, F> {
+    ghost use Rattle.std.specs.Prelude.{None};
+
+    ghost events = { λ _. None };
+
+    fn read_block(&mut self, room: &mut [u8]) -> Result<usize, Fault> {
+        match self.readers.log.read(room) {
+            Ok(count) => Ok(count),
+            Err(_) => Err(Fault::Read { place: LOG_PLACE }),
+        }
+    }
+
+    fn read_listings(&mut self, alloc: Global) -> Result<GivenTexts, Fault> {
+        if self.is_read {
+            self.readers.listings = open_listings(self.files, self.names)?;
+        }
+        self.is_read = true;
+        read_given(alloc, &mut self.readers.listings)
+    }
+}

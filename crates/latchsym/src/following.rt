@@ -1,0 +1,198 @@
+//! From a log that lasts, and its listings as they are again and again, to the log with the text of the
+//! answer behind each address.
+//!
+//! ```text
+//!     listings   A           A'                  A''
+//!     log          |  block  |      block        |     block ..
+//!     written                 lines that end in       lines that end in
+//!                             it, named by A'         it, named by A''
+//! ```
+//!
+//! So a module that was loaded since has its name, and a line is named by the listings as they were
+//! read behind the block that its end is in.
+ghost use Rattle.std.specs.Prelude.{◌≡◌};
+ghost use Rattle.logs.specs.Annotation.{Ends, Passes};
+ghost use Rattle.engines.specs.OpenedCatalogs.{given_in};
+ghost use Rattle.latchsym.specs.Following.{FollowsLog, FollowsTurns, GivesCatalog, NamesBy};
+ghost use Rattle.latchsym.specs.Following.{NotesTold, stop_of, stopped};
+
+use crate::annotations::LOG_PLACE;
+use crate::lasting_log::LastingLog;
+use crate::log_answers::CatalogAnswers;
+use crate::reports::{note_listings, note_log};
+use crate::requests::{Annotate, Request};
+use engines::{FAILED, Fault, GivenTexts, SUCCEEDED, open_catalog};
+use listing::is_narrow;
+use logs::{Annotator, LogFault, LogNames};
+use modules::IndexedCatalog;
+use order_laws::Refusal;
+use std::alloc::Global;
+use std::io::Write;
+use texts::{BLOCK, Output};
+
+/// Why a log is followed no further.
+#[derive(Clone, Copy, Debug, Drop)]
+pub enum Stop {
+    /// Nobody reads any more what is written.
+    Closed,
+    /// There is a fault.
+    Failed(Fault),
+}
+
+impl From<Fault> for Stop {
+    ghost use Rattle.latchsym.specs.declared.following.Stop.TheVariants.{Failed};
+
+    ghost from_gives = { λ fault stop. stop ≡ Failed fault };
+
+    fn from(fault: Fault) -> Stop {
+        Stop::Failed(fault)
+    }
+}
+
+/// Writes a log that lasts again, with the text of the answer behind each address in it that the
+/// listings have, which are read again behind each of its blocks.
+///
+/// A line is named by the listings as they were read behind the block that its end is in, and the last
+/// line, which has no end, by the listings as they were read last. What is noted of the listings is told
+/// to `errors` once, as they are before the log is begun. A listing that cannot be read or understood
+/// ends it, whenever that is; what was written stays. Else it is as `annotate_engine` does it.
+pub fn follow_engine<L: LastingLog, E: Write, W: Write>(
+    alloc: Global,
+    log: &mut L,
+    request: &Request<'_>,
+    job: &Annotate<'_>,
+    errors: &mut Output<E>,
+    writer: &mut Output<W>,
+) -> Result<u8, Fault>
+    ensures { FollowsLog W.contents E.contents request.now job.now (L.events log.old)
+        (L.events log.new) writer.old writer.new errors.old errors.new result }
+{
+    let mut room = Vec::new(alloc);
+    room.resize(BLOCK, 0)?;
+    let texts = log.read_listings(alloc)?;
+    tell_notes(alloc, &texts, request, errors)?;
+    match follow_blocks(alloc, log, texts, room.as_mut_slice(), request, job, writer) {
+        Ok(names) => {
+            note_log(names, job.log, errors);
+            Ok(SUCCEEDED)
+        }
+        Err(Stop::Closed) => Ok(FAILED),
+        Err(Stop::Failed(fault)) => Err(fault),
+    }
+}
+
+/// Tells what is noted of the listings with these texts.
+fn tell_notes<E: Write>(
+    alloc: Global,
+    texts: &GivenTexts,
+    request: &Request<'_>,
+    errors: &mut Output<E>,
+) -> Result<(), Fault>
+    ensures { NotesTold E.contents request.now (given_in texts.now) errors.old errors.new result }
+{
+    let kernel = request.kernel.as_ref();
+    let opened = open_catalog(alloc, kernel, texts)?;
+    note_listings(&opened.notes, kernel, &request.files, errors);
+    Ok(())
+}
+
+/// Writes the lines of a log, block by block. These are the texts of the listings before it is begun.
+fn follow_blocks<L: LastingLog, W: Write>(
+    alloc: Global,
+    log: &mut L,
+    first: GivenTexts,
+    room: &mut [u8],
+    request: &Request<'_>,
+    job: &Annotate<'_>,
+    writer: &mut Output<W>,
+) -> Result<LogNames, Stop>
+    ensures { FollowsTurns W.contents request.now job.now (given_in first) (L.events log.old)
+        (L.events log.new) writer.old writer.new result }
+{
+    let mut texts = first;
+    let mut annotator = Annotator::new(alloc);
+    for turn in 0..u64::MAX {
+        let count = log.read_block(room)?;
+        if count == 0 {
+            return name_last(alloc, &texts, request, job, annotator, writer);
+        }
+        texts = log.read_listings(alloc)?;
+        let block = &room[..count];
+        name_block(alloc, &texts, request, job, &mut annotator, block, writer)?;
+    }
+    Err(Stop::Failed(Fault::TooLong { place: LOG_PLACE }))
+}
+
+/// Writes the lines that have their end in a block, named by the listings with these texts.
+fn name_block<W: Write>(
+    alloc: Global,
+    texts: &GivenTexts,
+    request: &Request<'_>,
+    job: &Annotate<'_>,
+    annotator: &mut Annotator,
+    bytes: &[u8],
+    writer: &mut Output<W>,
+) -> Result<(), Stop>
+    ensures { NamesBy W.contents request.now job.now (given_in texts.now)
+        (λ answer _. Passes answer annotator.old annotator.new bytes.now)
+        writer.old writer.new result }
+{
+    let index = index_of(alloc, request, texts)?;
+    let narrow = is_narrow(&texts.kallsyms);
+    let answers = CatalogAnswers::new(alloc, &index, job.rule, narrow);
+    stopped(annotator.pass(alloc, &answers, bytes, writer))
+}
+
+/// Writes the last line, which has no end, named by the listings with these texts. Returns the names of
+/// the log.
+fn name_last<W: Write>(
+    alloc: Global,
+    texts: &GivenTexts,
+    request: &Request<'_>,
+    job: &Annotate<'_>,
+    annotator: Annotator,
+    writer: &mut Output<W>,
+) -> Result<LogNames, Stop>
+    ensures { NamesBy W.contents request.now job.now (given_in texts.now)
+        (λ answer. Ends answer annotator) writer.old writer.new result }
+{
+    let index = index_of(alloc, request, texts)?;
+    let narrow = is_narrow(&texts.kallsyms);
+    let answers = CatalogAnswers::new(alloc, &index, job.rule, narrow);
+    stopped(annotator.end(alloc, &answers, writer))
+}
+
+/// The catalog of the listings with these texts.
+fn index_of<'a>(
+    alloc: Global,
+    request: &Request<'_>,
+    texts: &'a GivenTexts,
+) -> Result<IndexedCatalog<'a>, Fault>
+    ensures { GivesCatalog request.now.kernel (given_in texts.now) result }
+{
+    let opened = open_catalog(alloc, request.kernel.as_ref(), texts)?;
+    Ok(IndexedCatalog::new(alloc, opened.catalog)?)
+}
+
+/// What was put, or why a log is followed no further.
+fn stopped<T>(put: Result<T, LogFault>) -> Result<T, Stop>
+    ensures { result ≡ stopped put }
+{
+    match put {
+        Ok(value) => Ok(value),
+        Err(fault) => Err(stop_of(fault)),
+    }
+}
+
+/// Why a log is followed no further that was annotated no further.
+fn stop_of(fault: LogFault) -> Stop
+    ensures { result ≡ stop_of fault }
+{
+    match fault {
+        LogFault::Closed => Stop::Closed,
+        LogFault::OutOfMemory => Stop::Failed(Fault::Refused(Refusal::OutOfMemory)),
+        LogFault::Read => Stop::Failed(Fault::Read { place: LOG_PLACE }),
+        LogFault::Write => Stop::Failed(Fault::Write),
+        LogFault::TooLong => Stop::Failed(Fault::TooLong { place: LOG_PLACE }),
+    }
+}
