@@ -214,12 +214,12 @@ NotesTold contents q g e e' (Ok _) =
     × IsNoted contents e e' (is_some_noted notes) (note_lines q.kernel q.files notes)
 NotesTold contents q g e e' (Err f) = OpensCatalog q.kernel g (Err f) × (e' ≡ e)
 
--- How the end of the log in this file is told. A status of 1 stands for a reader of the output that is
--- gone, of which nothing is said.
+-- How the end of the log in this file is told, of which one that is packed is not followed. A status of
+-- 1 stands for a reader of the output that is gone, of which nothing is said.
 abbrev pub IsEndTold : {E : Type 0} → (E → Option (List ℕ)) → Text → Output E → Output E
     → Result LogNames Stop → Result ℕ Fault → Type 0
 IsEndTold contents log e e' (Ok names) result =
-    (result ≡ Ok 0) × IsNoted contents e e' (is_log_noted names) (log_line log names)
+    (result ≡ Ok 0) × IsNoted contents e e' (is_log_noted [] names) (log_line log [] names)
 IsEndTold contents log e e' (Err stop.Closed) result = (result ≡ Ok 1) × (e' ≡ e)
 IsEndTold contents log e e' (Err (stop.Failed f)) result = (result ≡ Err f) × (e' ≡ e)
 

@@ -19,7 +19,7 @@ ghost use Rattle.latchsym.specs.Following.{NotesTold, stop_of, stopped};
 use crate::annotations::LOG_PLACE;
 use crate::lasting_log::LastingLog;
 use crate::log_answers::CatalogAnswers;
-use crate::reports::{note_listings, note_log};
+use crate::reports::{note_listings, note_log_by};
 use crate::requests::{Annotate, Request};
 use engines::{FAILED, Fault, GivenTexts, SUCCEEDED, open_catalog};
 use listing::is_narrow;
@@ -73,7 +73,7 @@ pub fn follow_engine<L: LastingLog, E: Write, W: Write>(
     tell_notes(alloc, &texts, request, errors)?;
     match follow_blocks(alloc, log, texts, room.as_mut_slice(), request, job, writer) {
         Ok(names) => {
-            note_log(names, job.log, errors);
+            note_log_by(b"", names, job.log, errors);
             Ok(SUCCEEDED)
         }
         Err(Stop::Closed) => Ok(FAILED),

@@ -79,7 +79,7 @@ pub fn note_log<W: Write>(found: &Findings, log: &str, writer: &mut Output<W>)
 
 /// The same, where its first two bytes may tell that it is packed or of wide characters, and what was
 /// found of its addresses that the listing is another one.
-fn note_log_by<W: Write>(head: &[u8], names: LogNames, log: &str, writer: &mut Output<W>)
+pub fn note_log_by<W: Write>(head: &[u8], names: LogNames, log: &str, writer: &mut Output<W>)
     ensures { IsNoted W.contents writer.old writer.new (is_log_noted head.now names)
         (log_line log.now head.now names) }
 {

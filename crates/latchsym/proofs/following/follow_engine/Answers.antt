@@ -4,7 +4,7 @@ use Rattle.latchsym.proofs.following.follow_engine.Goals as goal
 
 pub returns-in-Ok : goal.returns-in-Ok
 returns-in-Ok g c =
-    inr (inr (given_in c.in_ok-texts.texts, g.L.LastingLog.events c.read_listings.new.self, c.in_ok-texts.ensures.event, inr (c.tell_notes.new.errors, c.in_ok-tell_notes.ensures, Ok c.in-Ok.names, c.in-Ok.ensures, (refl, c.note_log.ensures))))
+    inr (inr (given_in c.in_ok-texts.texts, g.L.LastingLog.events c.read_listings.new.self, c.in_ok-texts.ensures.event, inr (c.tell_notes.new.errors, c.in_ok-tell_notes.ensures, Ok c.in-Ok.names, c.in-Ok.ensures, (refl, c.note_log_by.ensures))))
 
 pub returns-in-Err-Closed : goal.returns-in-Err-Closed
 returns-in-Err-Closed g c =
