@@ -246,9 +246,9 @@ pub fn put_log_note<W: Write>(writer: &mut Output<W>, log: &str, head: &[u8], na
     ensures { Says W.contents writer.old writer.new (log_line log.now head.now names) }
 {
     if is_gzip(head) {
-        put_gzip(writer, log.as_bytes());
+        put_gzip(writer, log);
     } else if is_utf_16(head) {
-        put_utf_16(writer, log.as_bytes());
+        put_utf_16(writer, log);
     } else if names.is_of_another_boot() {
         put_other_boot(writer, log, names);
     } else {
@@ -256,20 +256,20 @@ pub fn put_log_note<W: Write>(writer: &mut Output<W>, log: &str, head: &[u8], na
     }
 }
 
-/// Writes that this file is compressed by gzip.
-fn put_gzip<W: Write>(writer: &mut Output<W>, file: &[u8])
-    ensures { Says W.contents writer.old writer.new (note_line usual_bounds file.now Gzip) }
+/// Writes that the log in this file is compressed by gzip.
+fn put_gzip<W: Write>(writer: &mut Output<W>, log: &str)
+    ensures { Says W.contents writer.old writer.new (note_line usual_bounds log.now Gzip) }
 {
     let usual = KernelBounds::usual();
-    put_note(writer, &usual, file, ListingNote::Gzip);
+    put_note(writer, &usual, log.as_bytes(), ListingNote::Gzip);
 }
 
-/// Writes that this file is UTF-16.
-fn put_utf_16<W: Write>(writer: &mut Output<W>, file: &[u8])
-    ensures { Says W.contents writer.old writer.new (utf_16_line file.now) }
+/// Writes that the log in this file is UTF-16.
+fn put_utf_16<W: Write>(writer: &mut Output<W>, log: &str)
+    ensures { Says W.contents writer.old writer.new (utf_16_line log.now) }
 {
     writer.put(b"latchsym: note: ");
-    writer.put(file);
+    writer.put(log.as_bytes());
     writer.put(b": is UTF-16; convert it first\n");
 }
 
