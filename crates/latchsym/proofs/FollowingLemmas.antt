@@ -1,20 +1,18 @@
 -- Blocks of a log that are read, with the listings behind each, and written.
-use Rattle.latchsym.proofs.Words.{◌≡◌, ◌∙◌, ◌+◌, ◌≤◌, ℕ, List, [], ◌∷◌, ◌++◌, Option, Some, None, Result, Ok, Err, refl, sym, ap, subst, inl, inr, arith, suc, take, length, flat_map, flat_map-append, append-nil, append_assoc, IfSome, Output, Delivered, Request, Annotate, Given, OpensCatalog, Fault, Refused, Read, TooLong, Bool, CatalogEntries, answered_by, is_narrow, lines_of}
+use Rattle.latchsym.proofs.Words.{◌≡◌, ◌∙◌, ◌+◌, ◌≤◌, ℕ, List, [], ◌∷◌, ◌++◌, Option, Some, None, Result, Ok, Err, refl, sym, ap, subst, inl, inr, arith, length, flat_map, flat_map-append, append-nil, append_assoc, IfSome, Output, Delivered, Request, Annotate, Given, Fault, Read, TooLong, Bool, CatalogEntries, answered_by, is_narrow, lines_of}
 use Rattle.std.proofs.Common.{length-append}
-use Rattle.std.specs.Prelude.{◌-◌, ◌^◌, ◌⊎◌}
+use Rattle.std.specs.Prelude.{◌-◌, ◌^◌}
 use Rattle.std.specs.Io.KnownBytes.{Appends}
 use Rattle.std.proofs.KnownBytes.{Appends-nil, Appends-trans}
-use Rattle.texts.specs.Output.{writer_of}
 use Rattle.logs.specs.Annotation.{Ends, IsOpen, Passes, Puts, held_in}
 use Rattle.logs.specs.AnnotatedLogs.{first_held}
 use Rattle.logs.specs.Answering.{Answering}
 use Rattle.logs.specs.declared.annotation.LogFault.{LogFault}
 use Rattle.logs.specs.declared.annotation.LogFault.TheVariants as log_fault
 use Rattle.logs.specs.declared.annotator.Annotator.{Annotator}
-use Rattle.logs.specs.declared.held.Held.{Held}
 use Rattle.logs.specs.declared.log_names.LogNames.{LogNames}
 use Rattle.listing.specs.declared.address_rules.LogRule.{LogRule}
-use Rattle.latchsym.specs.Following.{AreAnswersOf, Block, Event, Failed, FollowsTurns, GivesCatalog, Happen, IsFaultOfListings, IsFollowed, IsNamed, Listings, NamesBlock, NamesBy, NamesLast, NamesSome, Turn, events_of, no_turn, one_more, stop_of, stopped}
+use Rattle.latchsym.specs.Following.{AreAnswersOf, Block, Event, Failed, FollowsTurns, GivesCatalog, Happen, IsFaultOfListings, IsFollowed, IsNamed, Listings, NamesBy, NamesLast, NamesSome, Turn, events_of, no_turn, one_more}
 use Rattle.latchsym.specs.declared.following.Stop.{Stop}
 use Rattle.latchsym.specs.declared.following.Stop.TheVariants as stop
 

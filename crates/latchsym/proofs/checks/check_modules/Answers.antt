@@ -1,4 +1,4 @@
-use Rattle.latchsym.proofs.Words.{false, ◌≡◌, ◌∙◌, ℕ, List, [], ◌++◌, Option, Some, Ok, ap, subst, is_some, unwrap_or, lines_of, module_counts, symbol_counts, BuildCounts, CatalogEntries, bounds_for, bounds_are, BoundNames, ListedRegion, IsModulesReport, listings_report, modules_name, is_of_kallsyms, is_of_modules, region_lines, applying_lines, ListingFiles, Listings, listed, option_map, option_copied, IsChecked, with_modules, given_in, Tallies, counts_text, tallies_by, tallies_of, catalog_of_texts, counts_of_texts}
+use Rattle.latchsym.proofs.Words.{false, ◌≡◌, ◌∙◌, ℕ, List, [], ◌++◌, Option, Some, Ok, ap, subst, unwrap_or, lines_of, module_counts, symbol_counts, BuildCounts, CatalogEntries, bounds_for, bounds_are, BoundNames, ListedRegion, IsModulesReport, listings_report, modules_name, is_of_kallsyms, is_of_modules, region_lines, applying_lines, ListingFiles, Listings, listed, option_map, option_copied, IsChecked, with_modules, given_in, Tallies, counts_text, tallies_by, tallies_of, catalog_of_texts, counts_of_texts}
 use Rattle.listing.specs.Opening.{AreOpened}
 use Rattle.latchsym.proofs.GivenLemmas.{said_or_not}
 use Rattle.latchsym.proofs.checks.check_modules.Goals as goal

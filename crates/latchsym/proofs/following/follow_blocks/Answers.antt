@@ -1,4 +1,4 @@
-use Rattle.latchsym.proofs.Words.{Err, [], ◌∷◌, given_in, arith, subst, take}
+use Rattle.latchsym.proofs.Words.{[], ◌∷◌, given_in, arith, subst, take}
 use Rattle.latchsym.specs.Following.{Block, FollowsTurns, Happen}
 use Rattle.latchsym.specs.declared.following.Stop.TheVariants as stop
 use Rattle.latchsym.proofs.FaultLemmas.{handed_on}

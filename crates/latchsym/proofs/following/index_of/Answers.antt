@@ -1,5 +1,4 @@
-use Rattle.latchsym.proofs.Words.{Err, subst, sym, Refused, given_in, IsCatalogOf, OpensCatalog}
-use Rattle.order_laws.specs.declared.refusals.Refusal.TheVariants as refusal
+use Rattle.latchsym.proofs.Words.{Err, subst, given_in, OpensCatalog}
 use Rattle.latchsym.specs.Following.{GivesCatalog}
 use Rattle.latchsym.proofs.FaultLemmas.{handed_on}
 use Rattle.latchsym.proofs.following.index_of.Goals as goal

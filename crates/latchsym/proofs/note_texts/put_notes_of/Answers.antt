@@ -1,4 +1,4 @@
-use Rattle.latchsym.proofs.Words.{ap, option_copied, same_text, given_or}
+use Rattle.latchsym.proofs.Words.{ap, same_text, given_or}
 use Rattle.latchsym.specs.NoteTexts.{lines_by}
 use Rattle.latchsym.proofs.note_texts.put_notes_of.Goals as goal
 
