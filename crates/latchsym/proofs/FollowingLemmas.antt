@@ -36,10 +36,10 @@ IsDone (Err s) = ⊥
 puts_less : {W X : Type 0} (contents : W → Option (List ℕ)) (P Q : X → List ℕ → Type 0) (w w' : Output W) → ((x : X) (text : List ℕ) → P x text → Q x text) → (put : Result X LogFault) → Puts contents P w w' put → Puts contents Q w w' put
 puts_less contents P Q w w' less (Ok x) (text, written, holds) = (text, written, less x text holds)
 puts_less contents P Q w w' less (Err log_fault.OutOfMemory) same = same
+puts_less contents P Q w w' less (Err log_fault.Read) ((text, x, part, holds), is) = ((text, x, part, less x text holds), is)
 puts_less contents P Q w w' less (Err log_fault.Write) ((text, x, part, holds), is) = ((text, x, part, less x text holds), is)
 puts_less contents P Q w w' less (Err log_fault.Closed) ((text, x, part, holds), is) = ((text, x, part, less x text holds), is)
-puts_less contents P Q w w' less (Err log_fault.Read) none = absurd none
-puts_less contents P Q w w' less (Err log_fault.TooLong) none = absurd none
+puts_less contents P Q w w' less (Err log_fault.TooLong) ((text, x, part, holds), is) = ((text, x, part, less x text holds), is)
 
 module _ {W : Type 0} (contents : W → Option (List ℕ)) (q : Request) (a : Annotate) where
   pub names_less : {X : Type 0} (g : Given) (P Q : Answering → X → List ℕ → Type 0) (w w' : Output W) → ((answer : Answering) (x : X) (text : List ℕ) → P answer x text → Q answer x text) → (result : Result X Stop)
