@@ -3,7 +3,7 @@ use Rattle.latchsym.proofs.command_line.lookup_command.Goals as goal
 
 pub returns : goal.returns
 returns c =
-    let listings = c.in_ok-with_listings.ensures _ _ _ c.described-command.ensures c.optional_option-modules.ensures c.required_option-kallsyms.ensures in
+    let listings = c.in_ok-with_listings.ensures _ _ _ c.described-command.ensures c.optional_option-modules.ensures c.optional_option-kallsyms.ensures in
     let symbols = one_more listings c.flag.ensures c.in_ok-arg.ensures in
     let file = one_more symbols c.optional_option.ensures c.in_ok-arg-2.ensures in
     let callers = one_more file c.flag-2.ensures c.in_ok-arg-3.ensures in
