@@ -76,7 +76,7 @@ fi
 
 # what is noted of the listings comes on standard error, and the lines stand
 status=0
-"$program" address --modules no_end.modules --kallsyms no_end.kallsyms _stext >"$work/out" 2>"$work/err" || status=$?
+"$program" address --modules no_end.modules --kallsyms no_end.kallsyms --kernel _stext _end _stext >"$work/out" 2>"$work/err" || status=$?
 [ $status = 0 ] && cmp -s "$work/err" no_end.notes && [ "$(cat "$work/out")" = '_stext -' ] || fail "notes: status $status, $(cat "$work/err")"
 [ $failed = 0 ] || exit 1
 

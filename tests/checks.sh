@@ -1,6 +1,6 @@
 #!/usr/bin/env bash
 # Checks the listings of examples/listings/: each note that a lookup tells of them is written, and
-# then the counts of the lookup; tries the statuses, more regions than a table has, and the faults.
+# then the counts of the lookup, where both have the same bounds of the kernel; tries the statuses, more regions than a table has, and the faults.
 set -euo pipefail
 . "$(dirname "$0")/program.sh"
 build latchsym
@@ -32,7 +32,7 @@ for modules in *.modules; do
     kept=$(sed -n 's/^symbols \([0-9]*\) .*/\1/p' "$name.expected")
     status=0
     [ "$kept" != 0 ] || status=1
-    checked $status --modules "$modules" --kallsyms "$name.kallsyms" "${regions[@]}"
+    checked $status --modules "$modules" --kallsyms "$name.kallsyms" "${regions[@]}" --kernel _stext _end
     grep -v '^0x' "$name.expected" | cmp -s - <(grep -v '^latchsym: note: ' "$work/out") || fail "$name: other counts"
     # what a lookup tells of a listing is among what is written of it
     if [ -e "$name.notes" ] && grep -Fxvf "$work/out" "$name.notes"; then
@@ -40,6 +40,10 @@ for modules in *.modules; do
     fi
 done
 
+# without bounds the kernel has its usual regions, of which nothing is missed
+checked 0 --modules no_end.modules --kallsyms no_end.kallsyms
+"$program" lookup --modules no_end.modules --kallsyms no_end.kallsyms --kernel _stext _etext 0 |
+    tail -n +2 | cmp -s - "$work/out" || fail "usual regions: $(cat "$work/out")"
 checked 0 --kallsyms basic.kallsyms
 writes 'modules 1 regions 1\nsymbols 5 hidden 0 stray 1 long 0 malformed 0\n'
 checked 1 --modules empty.modules --kallsyms empty.kallsyms
