@@ -28,7 +28,7 @@
  * handle is closed while a call has it which the signal interrupts, and so is, to one in a forked
  * child, a handle that a call of another thread had. It is proved that they return rightly where the
  * signal comes between two calls on the table (block the signal during the writer's calls). A handler
- * inside a running call is tested, and not proved.
+ * inside a running call is tested, and not proved; a forked child is tested on x86-64.
  */
 #ifndef LATCHSYM_H
 #define LATCHSYM_H
