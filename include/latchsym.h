@@ -74,7 +74,7 @@ enum {
     LATCHSYM_RETRY = 23,     /* of a search by a reader: the writer flipped meanwhile, try again */
     LATCHSYM_FLIP = 31,      /* of a step: a flip of the sequence; the second shows the update */
     LATCHSYM_STORE = 32,     /* of a step: another word was stored */
-    LATCHSYM_NOTE_GZIP = 41, /* of a listing, here and up to 51: it is compressed by gzip */
+    LATCHSYM_NOTE_GZIP = 41, /* of a listing, here and up to 53: it is compressed by gzip */
     LATCHSYM_NOTE_HIDDEN = 42,        /* every address is 0: it was not read as root */
     LATCHSYM_NOTE_LIKE_SYMBOLS = 43,  /* of modules: it looks like a listing of symbols */
     LATCHSYM_NOTE_LIKE_MODULES = 44,  /* of symbols: it looks like a listing of modules */
@@ -85,6 +85,8 @@ enum {
     LATCHSYM_NOTE_NO_MODULE_LINE = 49, /* of modules: no line is of the form of /proc/modules */
     LATCHSYM_NOTE_NO_SYMBOL_LINE = 50, /* of symbols: no line is of the form of /proc/kallsyms */
     LATCHSYM_NOTE_MODULES_OVERLAP = 51, /* of modules: a symbol names one that is left out, as sizes overlap */
+    LATCHSYM_NOTE_EMPTY = 52,  /* of symbols: no byte, and there is no listing of modules */
+    LATCHSYM_NOTE_UTF_16 = 53, /* it is in UTF-16 */
     LATCHSYM_BAD_HANDLE = 101, /* closed where open is wanted, the other way round, or of others */
     LATCHSYM_BAD_LENGTH = 102, /* not as much room as there are addresses */
     LATCHSYM_BAD_LISTINGS = 103 /* of a struct of listings: not as this version has it */

@@ -49,6 +49,10 @@ writes 'modules 1 regions 1\nsymbols 5 hidden 0 stray 1 long 0 malformed 0\n'
 checked 1 --modules empty.modules --kallsyms empty.kallsyms
 writes 'modules 0 hidden 0 empty 0 wraps 0 overlap 0 double 0 long 0 malformed 0\nsymbols 0 hidden 0 stray 0 long 0 malformed 0\n'
 
+# without a listing of modules
+checked 1 --kallsyms empty.kallsyms
+writes 'latchsym: note: empty.kallsyms: is empty\nmodules 0 regions 0\nsymbols 0 hidden 0 stray 0 long 0 malformed 0\n'
+
 # all notes on one listing; a bound that is named and missed
 printf '\037\213\r\n' >"$work/both"
 checked 1 --kallsyms "$work/both"

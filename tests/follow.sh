@@ -114,6 +114,15 @@ for turn in 1 2 3 4 5; do
 done
 ends 0 'latchsym: note: pipe: its own names disagree with the listing (5 of 5); is the listing of this boot?'
 
+# a log that is compressed, whose first two bytes come in two blocks
+begins
+printf '\037' >&3
+sleep 0.2
+printf '\213\n' >&3
+sleep 0.2
+printf '\037\213\n' >>wanted
+ends 0 'latchsym: note: pipe: is compressed by gzip; unpack it first'
+
 # a listing that cannot be read any more
 lists ext4
 begins

@@ -36,6 +36,8 @@ noted() {
 symbols=(--modules empty.modules --kallsyms basic.kallsyms)
 noted '' "${symbols[@]}" 0
 noted '' --modules empty.modules --kallsyms empty.kallsyms 0
+noted 'latchsym: note: empty.kallsyms: is empty\n' --kallsyms empty.kallsyms 0
+noted 'latchsym: note: empty.kallsyms: is empty\n' --kallsyms empty.kallsyms --kernel a b 0
 noted '' --modules no_end.modules --kallsyms no_end.kallsyms --kernel _stext _etext 0
 noted 'latchsym: note: basic.kallsyms: has no symbol _text\n' "${symbols[@]}" --kernel _text _end 0
 noted 'latchsym: note: basic.kallsyms: has no symbol _text\n' "${symbols[@]}" --kernel _text _etext 0
@@ -75,10 +77,16 @@ form_m='no line is of the form of /proc/modules\n'
 form_s='no line is of the form of /proc/kallsyms\n'
 notes 'nonsense\n' 'nonsense\n' "modules: ${form_m}kallsyms: $form_s"
 notes '\n' "$s" "modules: $form_m"
-# (compressed by xz and by zstd, and in UTF-16)
+# (compressed by xz and by zstd)
 notes '' '\375\67zXZ\0\n' "kallsyms: $form_s"
 notes '\50\265\57\375' "$s" "modules: $form_m"
-notes - '\377\3761\0 \0t\0' "kallsyms: $form_s"
+# (in UTF-16 of either order; one byte of it, and such bytes behind others)
+wide='is UTF-16; convert it first\n'
+notes - '\377\3761\0 \0t\0' "kallsyms: $wide"
+notes '' '\376\377' "kallsyms: $wide"
+notes '\376\377\0a' "$s" "modules: $wide"
+notes - '\377' "kallsyms: $form_s"
+notes - '\376\376\377' "kallsyms: $form_s"
 notes 'nonsense\nm 0 0 - Live 0x3000\n' "$s" ''
 notes - 'nonsense\n1000 t a\t[a]\n' ''
 notes '\037\213\010\n' "$s" "modules: $packed"
@@ -113,7 +121,7 @@ notes 'b 4096 0 - Live 0x3000\na 4096 0 - Live 0x3800\n' "$s"'3020 t b_run\t[b]\
 notes 'a 4096 0 - Live 0x3000\nb 4096 0 - Live 0x3800\n' "$s" ''
 notes 'a 4096 0 - Live 0x3000\na 4096 0 - Live 0x3800\n' "$s" ''
 notes - "$s" ''
-notes - '' ''
+notes - '' 'kallsyms: is empty\n'
 notes - '0 T _stext\n0 t a_run\t[a]\n' "kallsyms: $hidden"
 notes - "$m" 'kallsyms: looks like a listing of modules\n'
 notes - '1000 T _stext\n1800 T run\n' 'kallsyms: has no symbol _etext\n'

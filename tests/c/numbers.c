@@ -34,6 +34,8 @@ static const struct { uint32_t number; const char *text; } texts[] = {
     {LATCHSYM_NOTE_NO_MODULE_LINE, "no line is of the form of /proc/modules"},
     {LATCHSYM_NOTE_NO_SYMBOL_LINE, "no line is of the form of /proc/kallsyms"},
     {LATCHSYM_NOTE_MODULES_OVERLAP, "modules overlap, as sizes do from Linux 6.4 on; leave their listing out"},
+    {LATCHSYM_NOTE_EMPTY, "is empty"},
+    {LATCHSYM_NOTE_UTF_16, "is UTF-16; convert it first"},
     {LATCHSYM_BAD_HANDLE, "the handle does not hold what is wanted"},
     {LATCHSYM_BAD_LENGTH, "the room is not for as many answers as there are addresses"},
     {LATCHSYM_BAD_LISTINGS, "the listings are not as this version has them"},

@@ -1,5 +1,9 @@
 -- From what came of a log by the catalog of listings to what the engine returns.
-use Rattle.latchsym.proofs.Words.{◌≡◌, ℕ, List, [], Option, Some, Result, Ok, Err, refl, inl, inr, ⊎_elim, IfSome, Counted, Output, answered_by, HoldsOfRegions, AnnotatesBy, AnnotatesLog, IsTold, AreReadAs, Given, HasBadRegion, HasCrowdedRegions, IsCatalogOf, OpensCatalog, Failures, NoReaderFailed, Fault, Refused, BadLine, Read, TooLong, Write, GivenTexts, Annotate, Request, is_narrow, lines_of}
+use Rattle.latchsym.proofs.Words.{◌≡◌, ℕ, List, [], Option, Some, Result, Ok, Err, refl, sym, subst, inl, inr, ⊎_elim, IfSome, Counted, Output, answered_by, HoldsOfRegions, AnnotatesBy, AnnotatesLog, IsTold, AreReadAs, Given, HasBadRegion, HasCrowdedRegions, IsCatalogOf, OpensCatalog, Failures, NoReaderFailed, Fault, Refused, BadLine, Read, TooLong, Write, GivenTexts, Annotate, Request, is_narrow, lines_of}
+use Rattle.logs.specs.declared.annotation.Findings.{Findings}
+use Rattle.logs.specs.declared.annotation.LogFault.{LogFault}
+use Rattle.logs.specs.declared.annotation.LogFault.TheVariants as log_fault
+use Rattle.latchsym.specs.Annotations.{IsEndTold, stopped}
 use Rattle.order_laws.specs.declared.refusals.Refusal.TheVariants as refusal
 use Rattle.latchsym.proofs.GivenLemmas.{known_too}
 
@@ -19,6 +23,23 @@ module _ {L W E : Type 0} (remaining : L → Option (List ℕ)) (contents : W �
   not_read known counts l w e (Read place) h = inl (h, (refl, refl, refl))
   not_read known counts l w e _ h = absurd h
 
+  -- a fault that a log can end by
+  abbrev IsOfLog : Result ℕ Fault → Type 0
+  IsOfLog (Ok status) = Unit {0}
+  IsOfLog (Err (Refused refusal.OutOfMemory)) = Unit {0}
+  IsOfLog (Err (Read place)) = Unit {0}
+  IsOfLog (Err (TooLong place)) = Unit {0}
+  IsOfLog (Err Write) = Unit {0}
+  IsOfLog (Err _) = ⊥
+
+  of_log : (e e' : Output E) (end : Result Findings LogFault) (result : Result ℕ Fault) → IsEndTold errors a.log.now e e' (stopped end) result → IsOfLog result
+  of_log e e' (Ok found) result told = subst IsOfLog (sym told.0) tt
+  of_log e e' (Err log_fault.Closed) result told = subst IsOfLog (sym told.0) tt
+  of_log e e' (Err log_fault.OutOfMemory) result told = subst IsOfLog (sym told.0) tt
+  of_log e e' (Err log_fault.Read) result told = subst IsOfLog (sym told.0) tt
+  of_log e e' (Err log_fault.Write) result told = subst IsOfLog (sym told.0) tt
+  of_log e e' (Err log_fault.TooLong) result told = subst IsOfLog (sym told.0) tt
+
   module _ (l l' : Counted L) (w w' : Output W) (e e' : Output E) where
     abbrev Told : Option Given → Result ℕ Fault → Type 0
     Told known r = IsTold errors q.kernel q.files known e (λ c narrow noted. AnnotatesBy remaining contents errors a.log.now (answered_by c a.rule narrow) l l' w w' noted e' r)
@@ -31,7 +52,7 @@ module _ {L W E : Type 0} (remaining : L → Option (List ℕ)) (contents : W �
     log_annotated known (Err (Read place)) t = inr (tt, t)
     log_annotated known (Err (TooLong place)) t = (tt, t)
     log_annotated known (Err Write) t = (tt, t)
-    log_annotated known (Err _) t = absurd t.holds
+    log_annotated known (Err f) t = absurd (of_log t.noted e' t.holds.0 (Err f) t.holds.2)
 
     -- the same where the texts come from readers that did not fail
     module _ (g : Given) (known : Option Given) (is : IfSome known (λ k. g ≡ k)) (counts : Failures) (none : NoReaderFailed counts) where

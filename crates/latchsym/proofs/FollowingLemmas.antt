@@ -1,5 +1,5 @@
 -- Blocks of a log that are read, with the listings behind each, and written.
-use Rattle.latchsym.proofs.Words.{◌≡◌, ◌∙◌, ◌+◌, ◌≤◌, ℕ, List, [], ◌∷◌, ◌++◌, Option, Some, None, Result, Ok, Err, refl, sym, ap, subst, inl, inr, arith, length, flat_map, flat_map-append, append-nil, append_assoc, IfSome, Output, Delivered, Request, Annotate, Given, Fault, Read, TooLong, Bool, CatalogEntries, answered_by, is_narrow, lines_of}
+use Rattle.latchsym.proofs.Words.{◌≡◌, ◌∙◌, ◌+◌, ◌≤◌, ℕ, List, [], ◌∷◌, ◌++◌, Option, Some, None, Result, Ok, Err, refl, sym, ap, subst, inl, inr, arith, length, flat_map, flat_map-append, append-nil, append_assoc, IfSome, Output, Delivered, Request, Annotate, Given, Fault, Read, Refused, TooLong, Bool, CatalogEntries, answered_by, is_narrow, lines_of, take}
 use Rattle.std.proofs.Common.{length-append}
 use Rattle.std.specs.Prelude.{◌-◌, ◌^◌}
 use Rattle.std.specs.Io.KnownBytes.{Appends}
@@ -7,14 +7,16 @@ use Rattle.std.proofs.KnownBytes.{Appends-nil, Appends-trans}
 use Rattle.logs.specs.Annotation.{Ends, IsOpen, Passes, Puts, held_in}
 use Rattle.logs.specs.AnnotatedLogs.{first_held}
 use Rattle.logs.specs.Answering.{Answering}
+use Rattle.logs.specs.declared.annotation.Findings.{Findings}
 use Rattle.logs.specs.declared.annotation.LogFault.{LogFault}
 use Rattle.logs.specs.declared.annotation.LogFault.TheVariants as log_fault
 use Rattle.logs.specs.declared.annotator.Annotator.{Annotator}
 use Rattle.logs.specs.declared.log_names.LogNames.{LogNames}
 use Rattle.listing.specs.declared.address_rules.LogRule.{LogRule}
-use Rattle.latchsym.specs.Following.{AreAnswersOf, Block, Event, Failed, FollowsTurns, GivesCatalog, Happen, IsFaultOfListings, IsFollowed, IsNamed, Listings, NamesBy, NamesLast, NamesSome, Turn, events_of, no_turn, one_more}
-use Rattle.latchsym.specs.declared.following.Stop.{Stop}
-use Rattle.latchsym.specs.declared.following.Stop.TheVariants as stop
+use Rattle.order_laws.specs.declared.refusals.Refusal.TheVariants as refusal
+use Rattle.latchsym.specs.Following.{AreAnswersOf, Block, Event, Failed, FollowsTurns, GivesCatalog, Happen, IsFaultOfListings, IsFollowed, IsNamed, Listings, NamesBy, NamesLast, NamesSome, Turn, events_of, no_turn, one_more, read_in}
+use Rattle.latchsym.specs.declared.annotations.Stop.{Stop}
+use Rattle.latchsym.specs.declared.annotations.Stop.TheVariants as stop
 
 -- events, and then more
 pub happen_then : (h h' h'' : Option (List Event)) (events more : List Event) → Happen h h' events → Happen h' h'' more → Happen h h'' (events ++ more)
@@ -63,17 +65,19 @@ module _ {W : Type 0} (contents : W → Option (List ℕ)) (q : Request) (a : An
     ap (λ c. answered_by c rule narrow) same ∙ ap (λ r. answered_by c r narrow) by ∙ ap (answered_by c a.rule) sized,
   )
 
-  -- So many turns were done, and the annotator is at the line that is open behind them.
-  pub record IsOn (first : Given) (before after : Option (List Event)) (w w' : Output W) (last : Given) (annotator : Annotator) (n : ℕ) : Type 0 where
+  -- So many turns were done, and the annotator is at the line that is open behind them. These are the
+  -- first bytes of the log.
+  pub record IsOn (first : Given) (before after : Option (List Event)) (w w' : Output W) (last : Given) (annotator : Annotator) (head : List ℕ) (n : ℕ) : Type 0 where
     pub turns : List Turn
     pub line : List ℕ
     pub is_open : IsOpen annotator line
     pub followed : IsFollowed contents q a first turns last (held_in annotator) line before after w w'
+    pub first_bytes : head ≡ take 2 (read_in turns)
     pub many : n ≤ length turns
 
   module _ (first : Given) (before : Option (List Event)) (w : Output W) where
-    pub begun : (annotator : Annotator) → held_in annotator ≡ first_held → IsOpen annotator [] → IsOn first before before w w first annotator 0
-    begun annotator held is_open = record {
+    pub begun : (annotator : Annotator) (head : List ℕ) → held_in annotator ≡ first_held → IsOpen annotator [] → head ≡ [] → IsOn first before before w w first annotator head 0
+    begun annotator head held is_open empty = record {
       turns = [];
       line = [];
       is_open = is_open;
@@ -85,14 +89,16 @@ module _ {W : Type 0} (contents : W → Option (List ℕ)) (q : Request) (a : An
         sound = refl;
         none_back = inl refl;
       };
+      first_bytes = empty;
       many = omega arith;
     }
 
-    module _ (then : Option (List Event)) (now : Output W) (last : Given) (annotator : Annotator) (n : ℕ) (on : IsOn first before then w now last annotator n) where
+    module _ (then : Option (List Event)) (now : Output W) (last : Given) (annotator : Annotator) (head : List ℕ) (n : ℕ) (on : IsOn first before then w now last annotator head n) where
       -- one turn more
-      pub turned : (mid after : Option (List Event)) (w' : Output W) (annotator' : Annotator) (block : List ℕ) (g : Given) (u : Unit {0}) → Happen then mid (Block block ∷ []) → Happen mid after (Listings g ∷ [])
-          → NamesBy contents q a g (λ answer (u : Unit {0}). Passes answer annotator annotator' block) now w' (Ok u) → IsOn first before after w w' g annotator' (n + 1)
-      turned mid after w' annotator' block g u read listed names =
+      pub turned : (mid after : Option (List Event)) (w' : Output W) (annotator' : Annotator) (head' : List ℕ) (block : List ℕ) (g : Given) (u : Unit {0}) → Happen then mid (Block block ∷ []) → Happen mid after (Listings g ∷ [])
+          → ((log : List ℕ) → head ≡ take 2 log → head' ≡ take 2 (log ++ block))
+          → NamesBy contents q a g (λ answer (u : Unit {0}). Passes answer annotator annotator' block) now w' (Ok u) → IsOn first before after w w' g annotator' head' (n + 1)
+      turned mid after w' annotator' head' block g u read listed kept names =
           let (answer, are, y, text, put, passes) = names_done g (λ answer (u : Unit {0}). Passes answer annotator annotator' block) now w' u names in
           let p = passes on.line on.is_open in
           let t : Turn = record { block = block; listings = g } in
@@ -116,6 +122,7 @@ module _ {W : Type 0} (contents : W → Option (List ℕ)) (q : Request) (a : An
               sound = put.1 ∙ sym put.0 ∙ on.followed.sound;
               none_back = inr put.3;
             };
+            first_bytes = kept (read_in on.turns) on.first_bytes ∙ ap (take 2) (sym (flat_map-append (λ (x : Turn). x.block) on.turns (t ∷ []) ∙ ap (λ l. read_in on.turns ++ l) (append-nil block)));
             many = omega (arith, on.many, length-append on.turns (t ∷ []));
           }
 
@@ -127,6 +134,20 @@ module _ {W : Type 0} (contents : W → Option (List ℕ)) (q : Request) (a : An
       pub unlisted : (mid after : Option (List Event)) (block : List ℕ) (f : Fault) → IsFaultOfListings f → Happen then mid (Block block ∷ []) → Happen mid after (Failed f ∷ []) → FollowsTurns contents q a first before after w now (Err (stop.Failed f))
       unlisted mid after block f may read failed =
           (on.turns, last, held_in annotator, on.line, then, now, on.followed, inr (inl (block, f, may, happen_then then mid after _ _ read failed, refl, refl)))
+
+      -- there was no memory for the first bytes
+      pub unkept : (mid after : Option (List Event)) (block : List ℕ) (g : Given) → Happen then mid (Block block ∷ []) → Happen mid after (Listings g ∷ [])
+          → FollowsTurns contents q a first before after w now (Err (stop.Failed (Refused refusal.OutOfMemory)))
+      unkept mid after block g read listed = (
+        on.turns,
+        last,
+        held_in annotator,
+        on.line,
+        then,
+        now,
+        on.followed,
+        inr (inr (inl (record { block = block; listings = g }, stop.Failed (Refused refusal.OutOfMemory), happen_then then mid after _ _ read listed, inl (Refused refusal.OutOfMemory, tt, refl, refl), refl))),
+      )
 
       -- the lines that end in a block could not be written
       pub cut_off : (mid after : Option (List Event)) (w' : Output W) (annotator' : Annotator) (block : List ℕ) (g : Given) (why : Stop) → Happen then mid (Block block ∷ []) → Happen mid after (Listings g ∷ [])
@@ -147,12 +168,19 @@ module _ {W : Type 0} (contents : W → Option (List ℕ)) (q : Request) (a : An
           )
 
       -- the log is at its end
-      pub at_end : (after : Option (List Event)) (w' : Output W) (result : Result LogNames Stop) → Happen then after (Block [] ∷ [])
-          → NamesBy contents q a last (λ answer. Ends answer annotator) now w' result → FollowsTurns contents q a first before after w w' result
-      at_end after w' result read names =
-          let last_named : (answer : Answering) (x : LogNames) (text : List ℕ) → Ends answer annotator x text → NamesLast (held_in annotator) on.line answer x text =
-          λ answer x text ends. let e = ends on.line on.is_open in record { names_are = e.names_are; put = e.put } in
-          (on.turns, last, held_in annotator, on.line, then, now, on.followed, inr (inr (inr (inl (read, names_less last _ _ now w' last_named result names)))))
+      last_named : (answer : Answering) (x : LogNames) (text : List ℕ) → Ends answer annotator x text → NamesLast (held_in annotator) on.line answer x text
+      last_named answer x text ends = let e = ends on.line on.is_open in record { names_are = e.names_are; put = e.put }
+
+      pub at_end : (after : Option (List Event)) (w' : Output W) (found : Findings) → Happen then after (Block [] ∷ []) → found.head.items ≡ head
+          → NamesBy contents q a last (λ answer. Ends answer annotator) now w' (Ok found.names) → FollowsTurns contents q a first before after w w' (Ok found)
+      at_end after w' found read kept names =
+          (on.turns, last, held_in annotator, on.line, then, now, on.followed, inr (inr (inr (inl (read, kept ∙ on.first_bytes, names_less last _ _ now w' last_named (Ok found.names) names)))))
+
+      -- its last line could not be written
+      pub not_ended : (after : Option (List Event)) (w' : Output W) (why : Stop) → Happen then after (Block [] ∷ [])
+          → NamesBy {X = LogNames} contents q a last (λ answer. Ends answer annotator) now w' (Err why) → FollowsTurns contents q a first before after w w' (Err why)
+      not_ended after w' why read names =
+          (on.turns, last, held_in annotator, on.line, then, now, on.followed, inr (inr (inr (inl (read, names_less last _ _ now w' last_named (Err why) names)))))
 
       -- no block is left to be read
       pub too_long : 2 ^ 64 - 1 ≤ n → FollowsTurns contents q a first before then w now (Err (stop.Failed (TooLong 3)))

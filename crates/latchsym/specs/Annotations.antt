@@ -1,5 +1,6 @@
 -- What is written for a log, and told of the listings that say what its addresses are.
 use Rattle.std.specs.Prelude.{◌≡◌, ◌⊎◌, ℕ, Bool, List, Option, Result, Ok, Err, IfSome}
+use Rattle.logs.specs.declared.annotation.LogFault.{LogFault}
 use Rattle.logs.specs.declared.annotation.LogFault.TheVariants as log_fault
 use Rattle.texts.specs.declared.counted.Counted.{Counted}
 use Rattle.texts.specs.declared.output.Output.{Output}
@@ -23,37 +24,41 @@ use Rattle.latchsym.specs.declared.requests.ListingFiles.{ListingFiles}
 use Rattle.engines.specs.declared.fault.Fault.{Fault}
 use Rattle.engines.specs.declared.fault.Fault.TheVariants.{Refused, BadLine, Read, TooLong, Write}
 use Rattle.listing.specs.declared.listing_notes.ListingNotes.{ListingNotes}
+use Rattle.latchsym.specs.declared.annotations.Stop.{Stop}
+use Rattle.latchsym.specs.declared.annotations.Stop.TheVariants as stop
 use Rattle.latchsym.specs.declared.requests.Annotate.{Annotate}
 use Rattle.latchsym.specs.declared.requests.Request.{Request}
 
--- The log was annotated to its end, and if what was found of it tells that it is packed, or that the
--- listing is another one, this is noted behind it.
-abbrev pub IsAnnotatedLog : {L W E : Type 0} → (L → Option (List ℕ)) → (W → Option (List ℕ))
-    → (E → Option (List ℕ)) → Text → Answering → Counted L → Counted L → Output W → Output W
-    → Output E → Output E → Type 0
-IsAnnotatedLog remaining contents errors log answer l l' w w' e e' =
-    (found : Findings) × Annotates remaining contents answer l l' w w' (Ok found)
-    × IsNoted errors e e' (is_log_noted found.head.items found.names)
-    (log_line log found.head.items found.names)
+-- Why a log is annotated no further, where there is this fault. The log is the file at place 3.
+abbrev pub stop_of : LogFault → Stop
+stop_of log_fault.Closed = stop.Closed
+stop_of log_fault.OutOfMemory = stop.Failed (Refused refusal.OutOfMemory)
+stop_of log_fault.Read = stop.Failed (Read 3)
+stop_of log_fault.Write = stop.Failed Write
+stop_of log_fault.TooLong = stop.Failed (TooLong 3)
 
--- How the end of the log in this file is told. A status of 1 stands for a reader of the output that
--- is gone, of which nothing is said. The log is the file at place 3.
+abbrev pub stopped : {X : Type 0} → Result X LogFault → Result X Stop
+stopped (Ok x) = Ok x
+stopped (Err fault) = Err (stop_of fault)
+
+-- How the end of the log in this file is told: if what was found of it tells that it is packed, or that
+-- the listing is another one, this is noted. A status of 1 stands for a reader of the output that is
+-- gone, of which nothing is said.
+abbrev pub IsEndTold : {E : Type 0} → (E → Option (List ℕ)) → Text → Output E → Output E
+    → Result Findings Stop → Result ℕ Fault → Type 0
+IsEndTold errors log e e' (Ok found) result =
+    (result ≡ Ok 0) × IsNoted errors e e' (is_log_noted found.head.items found.names)
+    (log_line log found.head.items found.names)
+IsEndTold errors log e e' (Err stop.Closed) result = (result ≡ Ok 1) × (e' ≡ e)
+IsEndTold errors log e e' (Err (stop.Failed f)) result = (result ≡ Err f) × (e' ≡ e)
+
+-- the log in this file was annotated to its end or not, and this was told
 abbrev pub AnnotatesBy : {L W E : Type 0} → (L → Option (List ℕ)) → (W → Option (List ℕ))
     → (E → Option (List ℕ)) → Text → Answering → Counted L → Counted L → Output W → Output W
     → Output E → Output E → Result ℕ Fault → Type 0
-AnnotatesBy remaining contents errors log answer l l' w w' e e' (Ok status) =
-    ((status ≡ 0) × IsAnnotatedLog remaining contents errors log answer l l' w w' e e')
-    ⊎ ((status ≡ 1) × Annotates remaining contents answer l l' w w' (Err log_fault.Closed)
-    × (e' ≡ e))
-AnnotatesBy remaining contents errors log answer l l' w w' e e' (Err (Refused refusal.OutOfMemory)) =
-    Annotates remaining contents answer l l' w w' (Err log_fault.OutOfMemory) × (e' ≡ e)
-AnnotatesBy remaining contents errors log answer l l' w w' e e' (Err (Read place)) =
-    (place ≡ 3) × Annotates remaining contents answer l l' w w' (Err log_fault.Read) × (e' ≡ e)
-AnnotatesBy remaining contents errors log answer l l' w w' e e' (Err (TooLong place)) =
-    (place ≡ 3) × Annotates remaining contents answer l l' w w' (Err log_fault.TooLong) × (e' ≡ e)
-AnnotatesBy remaining contents errors log answer l l' w w' e e' (Err Write) =
-    Annotates remaining contents answer l l' w w' (Err log_fault.Write) × (e' ≡ e)
-AnnotatesBy remaining contents errors log answer l l' w w' e e' (Err _) = ⊥
+AnnotatesBy remaining contents errors log answer l l' w w' e e' result =
+    (end : Result Findings LogFault) × Annotates remaining contents answer l l' w w' end
+    × IsEndTold errors log e e' (stopped end) result
 
 -- There is a catalog of the listings, where these are known; what is noted of them was told; and
 -- this holds of the catalog, of whether the listing of symbols is that of a 32-bit kernel, and of

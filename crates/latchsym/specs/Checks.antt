@@ -35,7 +35,7 @@ modules_report kernel files modules kallsyms regions =
     let c = catalog_of_texts kernel false modules kallsyms (unwrap_or regions []) in
     let counts = counts_of_texts kernel false modules kallsyms (unwrap_or regions []) in
     applying_lines names (modules_name files) (is_of_modules modules kallsyms c)
-    ++ applying_lines names files.kallsyms.now (is_of_kallsyms names kallsyms counts.symbols)
+    ++ applying_lines names files.kallsyms.now (is_of_kallsyms names false kallsyms counts.symbols)
     ++ counts_text (tallies_by (module_counts (lines_of modules))
     (symbol_counts (lines_of kallsyms)) (is_some regions) counts)
 
@@ -43,7 +43,7 @@ modules_report kernel files modules kallsyms regions =
 abbrev pub listings_report : BoundNames → ListingFiles → List ℕ → List ℕ → Listings → List ℕ
 listings_report names files modules kallsyms l =
     applying_lines names (modules_name files) (is_of_modules modules kallsyms l.catalog)
-    ++ applying_lines names files.kallsyms.now (is_of_kallsyms names kallsyms l.built.symbols)
+    ++ applying_lines names files.kallsyms.now (is_of_kallsyms names false kallsyms l.built.symbols)
     ++ counts_text (tallies_of l)
 
 -- the same of a listing of symbols alone, which says this of the modules
@@ -51,13 +51,13 @@ abbrev pub symbols_report : Option BoundNames → Text → List ℕ → Accepted
 symbols_report kernel file text a =
     let names = bounds_for kernel (listed text) in
     let kept = kept_in_text text a in
-    applying_lines names file (is_of_kallsyms names text kept.symbols)
+    applying_lines names file (is_of_kallsyms names true text kept.symbols)
     ++ counts_text (tallies_found text a)
 
 -- the same of a listing of symbols that was read, where these names bound the kernel
 abbrev pub symbol_listing_report : BoundNames → Text → List ℕ → SymbolListing → List ℕ
 symbol_listing_report names file text l =
-    applying_lines names file (is_of_kallsyms names text l.kept.symbols)
+    applying_lines names file (is_of_kallsyms names true text l.kept.symbols)
     ++ counts_text (symbol_tallies_of l)
 
 -- what is to be written where modules are listed, and how many symbols are kept

@@ -12,8 +12,8 @@ use Rattle.logs.specs.Annotation.{KeepsNothingBack, Puts, put_of}
 use Rattle.logs.specs.AnnotatedLogs.{annotated_lines, first_held, held_over}
 use Rattle.logs.specs.Answering.{Answering}
 use Rattle.logs.specs.Lines.{AreWhole, has_end, lines}
+use Rattle.logs.specs.declared.annotation.Findings.{Findings}
 use Rattle.logs.specs.declared.annotation.LogFault.{LogFault}
-use Rattle.logs.specs.declared.annotation.LogFault.TheVariants as log_fault
 use Rattle.logs.specs.declared.held.Held.{Held}
 use Rattle.logs.specs.declared.log_names.LogNames.{LogNames}
 use Rattle.modules.specs.Entries.{CatalogEntries}
@@ -22,13 +22,14 @@ use Rattle.order_laws.specs.declared.refusals.Refusal.TheVariants as refusal
 use Rattle.clap.specs.Words.{Text}
 use Rattle.engines.specs.OpenedCatalogs.{Given, IsCatalogOf, OpensCatalog, given_in}
 use Rattle.engines.specs.declared.fault.Fault.{Fault}
-use Rattle.engines.specs.declared.fault.Fault.TheVariants.{Read, Refused, TooLong, Write}
+use Rattle.engines.specs.declared.fault.Fault.TheVariants.{Read, Refused, TooLong}
 use Rattle.engines.specs.declared.opened_catalogs.GivenTexts.{GivenTexts}
+use Rattle.latchsym.specs.Annotations.{IsEndTold, stopped}
 use Rattle.latchsym.specs.LogAnswers.{answered_by}
-use Rattle.latchsym.specs.NoteTexts.{is_log_noted, log_line, note_lines}
+use Rattle.latchsym.specs.NoteTexts.{note_lines}
 use Rattle.latchsym.specs.Reports.{IsNoted}
-use Rattle.latchsym.specs.declared.following.Stop.{Stop}
-use Rattle.latchsym.specs.declared.following.Stop.TheVariants as stop
+use Rattle.latchsym.specs.declared.annotations.Stop.{Stop}
+use Rattle.latchsym.specs.declared.annotations.Stop.TheVariants as stop
 use Rattle.latchsym.specs.declared.requests.Annotate.{Annotate}
 use Rattle.latchsym.specs.declared.requests.Request.{Request}
 
@@ -64,6 +65,10 @@ Happen before after events = IfSome before (λ earlier. after ≡ Some (earlier 
 pub record Turn : Type 0 where
   pub block : List ℕ
   pub listings : Given
+
+-- the bytes of the log that are read in turns
+abbrev pub read_in : List Turn → List ℕ
+read_in turns = flat_map (λ t. t.block) turns
 
 -- what is read in it, in order
 abbrev pub events_of : Turn → List Event
@@ -112,18 +117,6 @@ pub data IsNamed (q : Request) (a : Annotate) (first : Given)
       → NamesBlock answer held held' line t.block line' more
       → IsNamed q a first (turns ++ t ∷ []) t.listings held' line' (text ++ more)
 
--- why a log is followed no further that was annotated no further
-abbrev pub stop_of : LogFault → Stop
-stop_of log_fault.Closed = stop.Closed
-stop_of log_fault.OutOfMemory = stop.Failed (Refused refusal.OutOfMemory)
-stop_of log_fault.Read = stop.Failed (Read 3)
-stop_of log_fault.Write = stop.Failed Write
-stop_of log_fault.TooLong = stop.Failed (TooLong 3)
-
-abbrev pub stopped : {X : Type 0} → Result X LogFault → Result X Stop
-stopped (Ok x) = Ok x
-stopped (Err fault) = Err (stop_of fault)
-
 -- Listings with these texts say no catalog, and nothing is written; or what is returned and the text
 -- that is put go with their answers as this says.
 abbrev pub NamesBy : {W X : Type 0} → (W → Option (List ℕ)) → Request → Annotate → Given
@@ -154,13 +147,13 @@ pub record IsFollowed {W : Type 0} (contents : W → Option (List ℕ)) (q : Req
 
 -- Then the log cannot be read;
 abbrev pub IsUnread : {W : Type 0} → Option (List Event) → Option (List Event) → Output W → Output W
-    → Result LogNames Stop → Type 0
+    → Result Findings Stop → Type 0
 IsUnread before after w w' result =
     Happen before after (Failed (Read 3) ∷ []) × (w' ≡ w) × (result ≡ Err (stop.Failed (Read 3)))
 
 -- or, behind one block more, the listings cannot be read;
 abbrev pub IsUnlisted : {W : Type 0} → Option (List Event) → Option (List Event) → Output W
-    → Output W → Result LogNames Stop → Type 0
+    → Output W → Result Findings Stop → Type 0
 IsUnlisted before after w w' result =
     (block : List ℕ) × (f : Fault) × IsFaultOfListings f
     × Happen before after (Block block ∷ Failed f ∷ []) × (w' ≡ w)
@@ -168,7 +161,7 @@ IsUnlisted before after w w' result =
 
 -- or, in one turn more, the lines that have their end in its block are not all written;
 abbrev pub IsStopped : {W : Type 0} → (W → Option (List ℕ)) → Request → Annotate → Held → List ℕ
-    → Option (List Event) → Option (List Event) → Output W → Output W → Result LogNames Stop
+    → Option (List Event) → Option (List Event) → Output W → Output W → Result Findings Stop
     → Type 0
 IsStopped contents q a held line before after w w' result =
     (t : Turn) × (why : Stop) × Happen before after (events_of t)
@@ -177,23 +170,26 @@ IsStopped contents q a held line before after w w' result =
     × (result ≡ Err why)
 
 -- or the log is at its end;
-abbrev pub IsEnded : {W : Type 0} → (W → Option (List ℕ)) → Request → Annotate → Given → Held
-    → List ℕ → Option (List Event) → Option (List Event) → Output W → Output W
-    → Result LogNames Stop → Type 0
-IsEnded contents q a last held line before after w w' result =
+abbrev pub IsEnded : {W : Type 0} → (W → Option (List ℕ)) → Request → Annotate → List Turn → Given
+    → Held → List ℕ → Option (List Event) → Option (List Event) → Output W → Output W
+    → Result Findings Stop → Type 0
+IsEnded contents q a turns last held line before after w w' (Ok found) =
+    Happen before after (Block [] ∷ []) × (found.head.items ≡ take 2 (read_in turns))
+    × NamesBy contents q a last (NamesLast held line) w w' (Ok found.names)
+IsEnded contents q a turns last held line before after w w' (Err why) =
     Happen before after (Block [] ∷ [])
-    × NamesBy contents q a last (NamesLast held line) w w' result
+    × NamesBy {X = LogNames} contents q a last (NamesLast held line) w w' (Err why)
 
 -- or it has more blocks than are counted.
 abbrev pub IsTooLong : {W : Type 0} → List Turn → Option (List Event) → Option (List Event)
-    → Output W → Output W → Result LogNames Stop → Type 0
+    → Output W → Output W → Result Findings Stop → Type 0
 IsTooLong turns before after w w' result =
     (2 ^ 64 - 1 ≤ length turns) × (after ≡ before) × (w' ≡ w)
     × (result ≡ Err (stop.Failed (TooLong 3)))
 
 -- what is returned of a log whose listings had these texts before it was begun
 abbrev pub FollowsTurns : {W : Type 0} → (W → Option (List ℕ)) → Request → Annotate → Given
-    → Option (List Event) → Option (List Event) → Output W → Output W → Result LogNames Stop
+    → Option (List Event) → Option (List Event) → Output W → Output W → Result Findings Stop
     → Type 0
 FollowsTurns {W} contents q a first before after w w' result =
     (turns : List Turn) × (last : Given) × (held : Held) × (line : List ℕ)
@@ -201,7 +197,7 @@ FollowsTurns {W} contents q a first before after w w' result =
     × IsFollowed contents q a first turns last held line before then w now
     × (IsUnread then after now w' result ⊎ IsUnlisted then after now w' result
     ⊎ IsStopped contents q a held line then after now w' result
-    ⊎ IsEnded contents q a last held line then after now w' result
+    ⊎ IsEnded contents q a turns last held line then after now w' result
     ⊎ IsTooLong turns then after now w' result)
 
 -- ---- with what is told beside it
@@ -213,15 +209,6 @@ NotesTold contents q g e e' (Ok _) =
     (c : CatalogEntries) × (notes : ListingNotes) × IsCatalogOf q.kernel g c notes
     × IsNoted contents e e' (is_some_noted notes) (note_lines q.kernel q.files notes)
 NotesTold contents q g e e' (Err f) = OpensCatalog q.kernel g (Err f) × (e' ≡ e)
-
--- How the end of the log in this file is told, of which one that is packed is not followed. A status of
--- 1 stands for a reader of the output that is gone, of which nothing is said.
-abbrev pub IsEndTold : {E : Type 0} → (E → Option (List ℕ)) → Text → Output E → Output E
-    → Result LogNames Stop → Result ℕ Fault → Type 0
-IsEndTold contents log e e' (Ok names) result =
-    (result ≡ Ok 0) × IsNoted contents e e' (is_log_noted [] names) (log_line log [] names)
-IsEndTold contents log e e' (Err stop.Closed) result = (result ≡ Ok 1) × (e' ≡ e)
-IsEndTold contents log e e' (Err (stop.Failed f)) result = (result ≡ Err f) × (e' ≡ e)
 
 -- nothing was written or told, and this fault is returned
 abbrev pub IsRefused : {W E : Type 0} → Output W → Output W → Output E → Output E → Fault
@@ -241,5 +228,5 @@ FollowsLog {W} {E} contents errors q a before after w w' e e' result =
     × (((f : Fault) × OpensCatalog q.kernel first (Err f) × (after ≡ then)
     × IsRefused w w' e e' f result)
     ⊎ ((told : Output E) × NotesTold errors q first e told (Ok tt)
-    × (end : Result LogNames Stop) × FollowsTurns contents q a first then after w w' end
+    × (end : Result Findings Stop) × FollowsTurns contents q a first then after w w' end
     × IsEndTold errors a.log.now told e' end result)))

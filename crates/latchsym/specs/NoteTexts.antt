@@ -1,15 +1,14 @@
 -- The lines that say what is noted of listings.
 use Rattle.std.specs.Prelude.{ℕ, Bool, true, false, ◌||◌, List, [], ◌++◌, codes, flat_map, if◌then◌else◌, Option}
-use Rattle.std.specs.Prelude.{Some, None, unwrap_or, decimal, min, nat_eq, ◌∷◌, ◌+◌, ◌-◌, ◌^◌}
+use Rattle.std.specs.Prelude.{Some, None, unwrap_or, decimal, min, ◌+◌, ◌-◌, ◌^◌}
 use Rattle.std.specs.Borrow.{Bor}
-use Rattle.std.specs.List.{starts_with}
 use Rattle.std.specs.Option.{option_map_or}
 use Rattle.std.specs.Str.{bytes_eq}
 use Rattle.clap.specs.Words.{Text}
 use Rattle.modules.specs.Lines.{usual_bounds}
 use Rattle.modules.specs.Listed.{BoundNames}
 use Rattle.listing.specs.ListingNotes.{all_notes}
-use Rattle.listing.specs.Looks.{is_gzip}
+use Rattle.listing.specs.Looks.{is_gzip, is_utf_16}
 use Rattle.latchsym.specs.declared.requests.Job.{Job}
 use Rattle.latchsym.specs.declared.requests.Job.TheVariants as job
 use Rattle.latchsym.specs.declared.requests.ListingFiles.{ListingFiles}
@@ -17,7 +16,7 @@ use Rattle.latchsym.specs.declared.requests.Request.{Request}
 use Rattle.latchsym.specs.declared.requests.Subcommand.{Subcommand}
 use Rattle.latchsym.specs.declared.requests.Subcommand.TheVariants.{Lookup, Run}
 use Rattle.listing.specs.declared.listing_notes.ListingNote.{ListingNote}
-use Rattle.listing.specs.declared.listing_notes.ListingNote.TheVariants.{Gzip, AllHidden}
+use Rattle.listing.specs.declared.listing_notes.ListingNote.TheVariants.{Empty, Gzip, Utf16, AllHidden}
 use Rattle.listing.specs.declared.listing_notes.ListingNote.TheVariants.{LooksLikeSymbols}
 use Rattle.listing.specs.declared.listing_notes.ListingNote.TheVariants.{LooksLikeModules}
 use Rattle.listing.specs.declared.listing_notes.ListingNote.TheVariants.{LinesEndInCrLf, NoStart}
@@ -38,7 +37,9 @@ missing_text name = codes "has no symbol " ++ name ++ remedy_text name
 
 -- what a note says, where these names bound the kernel
 abbrev pub message_of : BoundNames → ListingNote → List ℕ
+message_of names Empty = codes "is empty"
 message_of names Gzip = codes "is compressed by gzip; unpack it first"
+message_of names Utf16 = codes "is UTF-16; convert it first"
 message_of names AllHidden = codes "every address is 0; read it as root (kernel.kptr_restrict)"
 message_of names LooksLikeSymbols = codes "looks like a listing of symbols"
 message_of names LooksLikeModules = codes "looks like a listing of modules"
@@ -72,15 +73,7 @@ unnamed_line log names =
     codes "latchsym: note: " ++ log ++ codes ": none of its " ++ decimal names.addresses
     ++ codes " addresses has a name in the listing\n"
 
--- the first two bytes are those of a text in UTF-16; and the line that says it of the log in this file
-abbrev pub is_utf_16 : List ℕ → Bool
-is_utf_16 head =
-    starts_with nat_eq head (255 ∷ 254 ∷ []) || starts_with nat_eq head (254 ∷ 255 ∷ [])
-
-abbrev pub utf_16_line : Text → List ℕ
-utf_16_line log = codes "latchsym: note: " ++ log ++ codes ": is UTF-16; convert it first\n"
-
--- the first two bytes of a log tell that it is packed or of wide characters, or what was found of its
+-- the first two bytes of a log tell that it is compressed or in UTF-16, or what was found of its
 -- addresses tells that the listing is another one
 abbrev pub is_log_noted : List ℕ → LogNames → Bool
 is_log_noted head names =
@@ -90,7 +83,7 @@ is_log_noted head names =
 abbrev pub log_line : Text → List ℕ → LogNames → List ℕ
 log_line log head names =
     if is_gzip head then note_line usual_bounds log Gzip
-    else if is_utf_16 head then utf_16_line log
+    else if is_utf_16 head then note_line usual_bounds log Utf16
     else if is_of_another_boot names then other_boot_line log names
     else unnamed_line log names
 

@@ -4,7 +4,8 @@
 //! The listings are read whole, and what is noted of them is told, before the log is begun: it may
 //! have no end. The log itself goes through line by line.
 ghost use Rattle.std.specs.Prelude.{◌≡◌, [], Some};
-ghost use Rattle.latchsym.specs.Annotations.{AnnotatesBy, AnnotatesLog};
+ghost use Rattle.latchsym.specs.Annotations.{AnnotatesBy, AnnotatesLog, IsEndTold};
+ghost use Rattle.latchsym.specs.Annotations.{stop_of, stopped};
 ghost use Rattle.latchsym.specs.LogAnswers.{answered_by};
 ghost use Rattle.engines.specs.OpenedCatalogs.{given_in, known_given, listing_failures};
 
@@ -13,10 +14,10 @@ use crate::reports::{note_listings, note_log};
 use crate::requests::{Annotate, Request};
 use engines::{FAILED, Fault, GivenTexts, ListingReaders, SUCCEEDED, open_catalog, read_given};
 use listing::is_narrow;
-use logs::{LogFault, annotate};
+use logs::{Findings, LogFault, annotate};
 use modules::IndexedCatalog;
 use order_laws::Refusal;
-use std::alloc::Global;
+use std::alloc::{AllocError, Global};
 use std::io::{Read, Write};
 use texts::{Counted, Output};
 
@@ -27,6 +28,37 @@ pub struct AnnotateReaders<M, K, R, L> {
     pub listings: ListingReaders<M, K, R>,
     /// The log.
     pub log: Counted<L>,
+}
+
+/// Why a log is annotated no further.
+#[derive(Clone, Copy, Debug, Drop)]
+pub enum Stop {
+    /// Nobody reads any more what is written.
+    Closed,
+    /// There is a fault.
+    Failed(Fault),
+}
+
+impl From<Fault> for Stop {
+    ghost use Rattle.latchsym.specs.declared.annotations.Stop.TheVariants.{Failed};
+
+    ghost from_gives = { λ fault stop. stop ≡ Failed fault };
+
+    fn from(fault: Fault) -> Stop {
+        Stop::Failed(fault)
+    }
+}
+
+impl From<AllocError> for Stop {
+    ghost use Rattle.engines.specs.declared.fault.Fault.TheVariants.{Refused};
+    ghost use Rattle.latchsym.specs.declared.annotations.Stop.TheVariants.{Failed};
+    ghost use Rattle.order_laws.specs.declared.refusals.Refusal.TheVariants.{OutOfMemory};
+
+    ghost from_gives = { λ _ stop. stop ≡ Failed (Refused OutOfMemory) };
+
+    fn from(_error: AllocError) -> Stop {
+        Stop::Failed(Fault::Refused(Refusal::OutOfMemory))
+    }
 }
 
 /// The place of the log among the files that are read.
@@ -100,15 +132,48 @@ fn annotate_by<L: Read, E: Write, W: Write>(
         (answered_by answers.now.index answers.now.rule answers.now.is_narrow)
         log.old log.new writer.old writer.new errors.old errors.new result }
 {
-    match annotate(alloc, answers, log, writer) {
+    let end = stopped(annotate(alloc, answers, log, writer));
+    tell_end(end, name, errors)
+}
+
+/// What was put, or why a log is annotated no further.
+pub(crate) fn stopped<T>(put: Result<T, LogFault>) -> Result<T, Stop>
+    ensures { result ≡ stopped put }
+{
+    match put {
+        Ok(value) => Ok(value),
+        Err(fault) => Err(stop_of(fault)),
+    }
+}
+
+/// Why a log is annotated no further where there is this fault.
+fn stop_of(fault: LogFault) -> Stop
+    ensures { result ≡ stop_of fault }
+{
+    match fault {
+        LogFault::Closed => Stop::Closed,
+        LogFault::OutOfMemory => Stop::Failed(Fault::Refused(Refusal::OutOfMemory)),
+        LogFault::Read => Stop::Failed(Fault::Read { place: LOG_PLACE }),
+        LogFault::Write => Stop::Failed(Fault::Write),
+        LogFault::TooLong => Stop::Failed(Fault::TooLong { place: LOG_PLACE }),
+    }
+}
+
+/// Tells the end of the log in this file: what is noted of one that was annotated to its end, or the
+/// fault. Returns the program's status, which is 1 where nobody reads any more what is written.
+pub(crate) fn tell_end<E: Write>(
+    end: Result<Findings, Stop>,
+    log: &str,
+    errors: &mut Output<E>,
+) -> Result<u8, Fault>
+    ensures { IsEndTold E.contents log.now errors.old errors.new end result }
+{
+    match end {
         Ok(found) => {
-            note_log(&found, name, errors);
+            note_log(&found, log, errors);
             Ok(SUCCEEDED)
         }
-        Err(LogFault::Closed) => Ok(FAILED),
-        Err(LogFault::OutOfMemory) => Err(Fault::Refused(Refusal::OutOfMemory)),
-        Err(LogFault::Read) => Err(Fault::Read { place: LOG_PLACE }),
-        Err(LogFault::Write) => Err(Fault::Write),
-        Err(LogFault::TooLong) => Err(Fault::TooLong { place: LOG_PLACE }),
+        Err(Stop::Closed) => Ok(FAILED),
+        Err(Stop::Failed(fault)) => Err(fault),
     }
 }

@@ -141,6 +141,7 @@ fn put_listings<W: Write>(
         names,
         files.kallsyms.as_bytes(),
         kallsyms,
+        false,
         listings.symbols_hidden,
         listings.built.symbols,
     );
@@ -172,6 +173,7 @@ fn put_symbol_listing<W: Write>(
         names,
         file.as_bytes(),
         kallsyms,
+        true,
         listing.hidden,
         listing.kept.symbols,
     );
@@ -201,20 +203,23 @@ fn put_module_notes<W: Write>(
     }
 }
 
-/// The same of a listing of symbols, of which so many lines are kept.
+/// Writes the line of each note that applies to a listing of symbols with this text, of which so many
+/// lines are kept. It is alone if there is no listing of modules.
 fn put_symbol_notes<W: Write>(
     writer: &mut Output<W>,
     names: &KernelBounds,
     file: &[u8],
     text: &[u8],
+    is_alone: bool,
     hidden: bool,
     kept: u64,
 )
     requires { hidden ≡ are_symbols_hidden (lines_of text.now) }
     ensures { Says W.contents writer.old writer.new
-        (applying_lines names.now file.now (is_of_kallsyms names.now text.now kept)) }
+        (applying_lines names.now file.now (is_of_kallsyms names.now is_alone text.now kept)) }
 {
     let facts = SymbolFacts {
+        is_alone,
         hidden,
         kept,
         has_kernel: false,

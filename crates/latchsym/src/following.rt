@@ -14,40 +14,20 @@ ghost use Rattle.std.specs.Prelude.{◌≡◌};
 ghost use Rattle.logs.specs.Annotation.{Ends, Passes};
 ghost use Rattle.engines.specs.OpenedCatalogs.{given_in};
 ghost use Rattle.latchsym.specs.Following.{FollowsLog, FollowsTurns, GivesCatalog, NamesBy};
-ghost use Rattle.latchsym.specs.Following.{NotesTold, stop_of, stopped};
+ghost use Rattle.latchsym.specs.Following.{NotesTold};
 
-use crate::annotations::LOG_PLACE;
+use crate::annotations::{LOG_PLACE, Stop, stopped, tell_end};
 use crate::lasting_log::LastingLog;
 use crate::log_answers::CatalogAnswers;
-use crate::reports::{note_listings, note_log_by};
+use crate::reports::note_listings;
 use crate::requests::{Annotate, Request};
-use engines::{FAILED, Fault, GivenTexts, SUCCEEDED, open_catalog};
+use engines::{Fault, GivenTexts, open_catalog};
 use listing::is_narrow;
-use logs::{Annotator, LogFault, LogNames};
+use logs::{Annotator, Findings, LogNames, keep_head};
 use modules::IndexedCatalog;
-use order_laws::Refusal;
 use std::alloc::Global;
 use std::io::Write;
 use texts::{BLOCK, Output};
-
-/// Why a log is followed no further.
-#[derive(Clone, Copy, Debug, Drop)]
-pub enum Stop {
-    /// Nobody reads any more what is written.
-    Closed,
-    /// There is a fault.
-    Failed(Fault),
-}
-
-impl From<Fault> for Stop {
-    ghost use Rattle.latchsym.specs.declared.following.Stop.TheVariants.{Failed};
-
-    ghost from_gives = { λ fault stop. stop ≡ Failed fault };
-
-    fn from(fault: Fault) -> Stop {
-        Stop::Failed(fault)
-    }
-}
 
 /// Writes a log that lasts again, with the text of the answer behind each address in it that the
 /// listings have, which are read again behind each of its blocks.
@@ -71,14 +51,8 @@ pub fn follow_engine<L: LastingLog, E: Write, W: Write>(
     room.resize(BLOCK, 0)?;
     let texts = log.read_listings(alloc)?;
     tell_notes(alloc, &texts, request, errors)?;
-    match follow_blocks(alloc, log, texts, room.as_mut_slice(), request, job, writer) {
-        Ok(names) => {
-            note_log_by(b"", names, job.log, errors);
-            Ok(SUCCEEDED)
-        }
-        Err(Stop::Closed) => Ok(FAILED),
-        Err(Stop::Failed(fault)) => Err(fault),
-    }
+    let end = follow_blocks(alloc, log, texts, room.as_mut_slice(), request, job, writer);
+    tell_end(end, job.log, errors)
 }
 
 /// Tells what is noted of the listings with these texts.
@@ -105,19 +79,22 @@ fn follow_blocks<L: LastingLog, W: Write>(
     request: &Request<'_>,
     job: &Annotate<'_>,
     writer: &mut Output<W>,
-) -> Result<LogNames, Stop>
+) -> Result<Findings, Stop>
     ensures { FollowsTurns W.contents request.now job.now (given_in first) (L.events log.old)
         (L.events log.new) writer.old writer.new result }
 {
     let mut texts = first;
     let mut annotator = Annotator::new(alloc);
+    let mut head = Vec::new(alloc);
     for turn in 0..u64::MAX {
         let count = log.read_block(room)?;
         if count == 0 {
-            return name_last(alloc, &texts, request, job, annotator, writer);
+            let names = name_last(alloc, &texts, request, job, annotator, writer)?;
+            return Ok(Findings { names, head });
         }
         texts = log.read_listings(alloc)?;
         let block = &room[..count];
+        keep_head(&mut head, block)?;
         name_block(alloc, &texts, request, job, &mut annotator, block, writer)?;
     }
     Err(Stop::Failed(Fault::TooLong { place: LOG_PLACE }))
@@ -172,27 +149,4 @@ fn index_of<'a>(
 {
     let opened = open_catalog(alloc, request.kernel.as_ref(), texts)?;
     Ok(IndexedCatalog::new(alloc, opened.catalog)?)
-}
-
-/// What was put, or why a log is followed no further.
-fn stopped<T>(put: Result<T, LogFault>) -> Result<T, Stop>
-    ensures { result ≡ stopped put }
-{
-    match put {
-        Ok(value) => Ok(value),
-        Err(fault) => Err(stop_of(fault)),
-    }
-}
-
-/// Why a log is followed no further that was annotated no further.
-fn stop_of(fault: LogFault) -> Stop
-    ensures { result ≡ stop_of fault }
-{
-    match fault {
-        LogFault::Closed => Stop::Closed,
-        LogFault::OutOfMemory => Stop::Failed(Fault::Refused(Refusal::OutOfMemory)),
-        LogFault::Read => Stop::Failed(Fault::Read { place: LOG_PLACE }),
-        LogFault::Write => Stop::Failed(Fault::Write),
-        LogFault::TooLong => Stop::Failed(Fault::TooLong { place: LOG_PLACE }),
-    }
 }

@@ -2,10 +2,7 @@
 ghost use Rattle.std.specs.Prelude.{◌≡◌};
 ghost use Rattle.std.specs.Option.{option_copied};
 ghost use Rattle.texts.specs.Output.{Says};
-ghost use Rattle.listing.specs.Looks.{is_gzip};
-ghost use Rattle.listing.specs.declared.listing_notes.ListingNote.TheVariants.{Gzip};
 ghost use Rattle.modules.specs.Lines.{usual_bounds};
-ghost use Rattle.latchsym.specs.NoteTexts.{is_utf_16, utf_16_line};
 ghost use Rattle.latchsym.specs.NoteTexts.{is_overlap, line_if_noted, line_where, lines_asked};
 ghost use Rattle.latchsym.specs.NoteTexts.{lines_by, lines_of_lookup, lines_of_run, log_line};
 ghost use Rattle.latchsym.specs.NoteTexts.{message_of, missing_text, note_line, note_lines};
@@ -13,7 +10,7 @@ ghost use Rattle.latchsym.specs.NoteTexts.{notes_text, other_boot_line, overlap_
 ghost use Rattle.latchsym.specs.NoteTexts.{run_line, run_lines, unnamed_line};
 
 use crate::requests::{Job, ListingFiles, Request, Subcommand};
-use listing::{ListingNote, ListingNotes};
+use listing::{ListingNote, ListingNotes, is_gzip, is_utf_16};
 use logs::LogNames;
 use modules::KernelBounds;
 use std::io::Write;
@@ -103,7 +100,9 @@ fn is_overlap(note: Option<ListingNote>) -> bool
         Some(ListingNote::ModulesOverlap) => true,
         None
         | Some(
-            ListingNote::Gzip
+            ListingNote::Empty
+            | ListingNote::Gzip
+            | ListingNote::Utf16
             | ListingNote::AllHidden
             | ListingNote::LooksLikeSymbols
             | ListingNote::LooksLikeModules
@@ -226,51 +225,21 @@ fn put_note<W: Write>(writer: &mut Output<W>, names: &KernelBounds, file: &[u8],
     writer.put(b"\n");
 }
 
-/// Whether the first two bytes are those of a file that gzip made.
-pub(crate) fn is_gzip(head: &[u8]) -> bool
-    ensures { result ≡ is_gzip head.now }
-{
-    head.starts_with(b"\x1f\x8b")
-}
-
-/// Whether the first two bytes are those of a text in UTF-16.
-pub(crate) fn is_utf_16(head: &[u8]) -> bool
-    ensures { result ≡ is_utf_16 head.now }
-{
-    head.starts_with(b"\xff\xfe") || head.starts_with(b"\xfe\xff")
-}
-
 /// Writes what is noted of the log in this file, by its first two bytes and what its addresses tell of
 /// the listing.
 pub fn put_log_note<W: Write>(writer: &mut Output<W>, log: &str, head: &[u8], names: LogNames)
     ensures { Says W.contents writer.old writer.new (log_line log.now head.now names) }
 {
+    let usual = KernelBounds::usual();
     if is_gzip(head) {
-        put_gzip(writer, log);
+        put_note(writer, &usual, log.as_bytes(), ListingNote::Gzip);
     } else if is_utf_16(head) {
-        put_utf_16(writer, log);
+        put_note(writer, &usual, log.as_bytes(), ListingNote::Utf16);
     } else if names.is_of_another_boot() {
         put_other_boot(writer, log, names);
     } else {
         put_unnamed(writer, log, names);
     }
-}
-
-/// Writes that the log in this file is compressed by gzip.
-fn put_gzip<W: Write>(writer: &mut Output<W>, log: &str)
-    ensures { Says W.contents writer.old writer.new (note_line usual_bounds log.now Gzip) }
-{
-    let usual = KernelBounds::usual();
-    put_note(writer, &usual, log.as_bytes(), ListingNote::Gzip);
-}
-
-/// Writes that the log in this file is UTF-16.
-fn put_utf_16<W: Write>(writer: &mut Output<W>, log: &str)
-    ensures { Says W.contents writer.old writer.new (utf_16_line log.now) }
-{
-    writer.put(b"latchsym: note: ");
-    writer.put(log.as_bytes());
-    writer.put(b": is UTF-16; convert it first\n");
 }
 
 /// Writes that no address of the log in this file has a name.
@@ -302,7 +271,9 @@ fn put_message<W: Write>(writer: &mut Output<W>, names: &KernelBounds, note: Lis
     ensures { Says W.contents writer.old writer.new (message_of names.now note) }
 {
     match note {
+        ListingNote::Empty => writer.put(b"is empty"),
         ListingNote::Gzip => writer.put(b"is compressed by gzip; unpack it first"),
+        ListingNote::Utf16 => writer.put(b"is UTF-16; convert it first"),
         ListingNote::AllHidden => writer.put(
             b"every address is 0; read it as root (kernel.kptr_restrict)",
         ),

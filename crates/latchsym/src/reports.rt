@@ -10,11 +10,11 @@ ghost use Rattle.latchsym.specs.Reports.{unread_text, unwritten_text};
 ghost use Rattle.listing.specs.ListingNotes.{is_some_noted};
 ghost use Rattle.latchsym.specs.NoteTexts.{is_log_noted, log_line, note_lines, notes_text};
 
-use crate::note_texts::{is_gzip, is_utf_16, put_job_notes, put_log_note, put_notes_of};
+use crate::note_texts::{put_job_notes, put_log_note, put_notes_of};
 use crate::requests::{Job, ListingFiles};
 use arrayvec::ArrayString;
 use engines::{FAILED, Fault, Finished, put_refused};
-use listing::ListingNotes;
+use listing::{ListingNotes, is_gzip, is_utf_16};
 use logs::{Findings, LogNames};
 use modules::KernelBounds;
 use std::fmt::Write as _;
@@ -74,17 +74,9 @@ pub fn note_log<W: Write>(found: &Findings, log: &str, writer: &mut Output<W>)
         (is_log_noted found.now.head.items found.now.names)
         (log_line log.now found.now.head.items found.now.names) }
 {
-    note_log_by(&found.head, found.names, log, writer)
-}
-
-/// The same, where its first two bytes may tell that it is packed or of wide characters, and what was
-/// found of its addresses that the listing is another one.
-pub fn note_log_by<W: Write>(head: &[u8], names: LogNames, log: &str, writer: &mut Output<W>)
-    ensures { IsNoted W.contents writer.old writer.new (is_log_noted head.now names)
-        (log_line log.now head.now names) }
-{
-    if is_log_noted(head, names) {
-        put_log_note(writer, log, head, names);
+    let head = found.head.as_slice();
+    if is_log_noted(head, found.names) {
+        put_log_note(writer, log, head, found.names);
     }
 }
 

@@ -25,6 +25,8 @@ note_number note.OtherBoot = 48
 note_number note.NoModuleLine = 49
 note_number note.NoSymbolLine = 50
 note_number note.ModulesOverlap = 51
+note_number note.Empty = 52
+note_number note.Utf16 = 53
 
 -- the number that is returned for an answer
 abbrev pub answer_number : Answer → ℕ
@@ -53,7 +55,7 @@ all_answers =
     ∷ Noted note.LooksLikeSymbols ∷ Noted note.LooksLikeModules ∷ Noted note.LinesEndInCrLf
     ∷ Noted note.NoStart ∷ Noted note.NoEnd ∷ Noted note.OtherBoot
     ∷ Noted note.NoModuleLine ∷ Noted note.NoSymbolLine ∷ Noted note.ModulesOverlap
-    ∷ BadHandle ∷ BadLength ∷ BadListings ∷ []
+    ∷ Noted note.Empty ∷ Noted note.Utf16 ∷ BadHandle ∷ BadLength ∷ BadListings ∷ []
 
 unfoldable pub has_number : ℕ → Answer → Bool
 has_number number a = nat_eq (answer_number a) number
@@ -81,7 +83,9 @@ refusal_text refusal.NoInit = codes "the table has no init region of the module"
 
 -- what is said of a listing behind its name
 abbrev pub note_text : ListingNote → List ℕ
+note_text note.Empty = codes "is empty"
 note_text note.Gzip = codes "is compressed by gzip; unpack it first"
+note_text note.Utf16 = codes "is UTF-16; convert it first"
 note_text note.AllHidden =
     codes "every address is 0; read it as root (kernel.kptr_restrict)"
 note_text note.LooksLikeSymbols = codes "looks like a listing of symbols"

@@ -58,7 +58,7 @@ pub enum Answer {
 }
 
 /// All that a call of the crates below and of this one returns, by rising number.
-const ALL: [Answer; 36] = [
+const ALL: [Answer; 38] = [
     Answer::Done,
     Answer::Refused(Refusal::BadItem),
     Answer::Refused(Refusal::Overlap),
@@ -92,6 +92,8 @@ const ALL: [Answer; 36] = [
     Answer::Noted(ListingNote::NoModuleLine),
     Answer::Noted(ListingNote::NoSymbolLine),
     Answer::Noted(ListingNote::ModulesOverlap),
+    Answer::Noted(ListingNote::Empty),
+    Answer::Noted(ListingNote::Utf16),
     Answer::BadHandle,
     Answer::BadLength,
     Answer::BadListings,
@@ -205,6 +207,8 @@ fn number_of_note(note: ListingNote) -> u32
         ListingNote::NoModuleLine => 49,
         ListingNote::NoSymbolLine => 50,
         ListingNote::ModulesOverlap => 51,
+        ListingNote::Empty => 52,
+        ListingNote::Utf16 => 53,
     }
 }
 
@@ -223,7 +227,9 @@ fn text_of_note(note: ListingNote) -> &'static [u8]
     ensures { result.now ≡ note_text note ++ 0 ∷ [] }
 {
     match note {
+        ListingNote::Empty => b"is empty\0",
         ListingNote::Gzip => b"is compressed by gzip; unpack it first\0",
+        ListingNote::Utf16 => b"is UTF-16; convert it first\0",
         ListingNote::AllHidden => {
             b"every address is 0; read it as root (kernel.kptr_restrict)\0"
         }

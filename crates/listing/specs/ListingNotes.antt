@@ -5,6 +5,7 @@ use Rattle.std.specs.List.{list_any}
 use Rattle.std.specs.Option.{option_map_or}
 use Rattle.texts.specs.Lines.{lines_of}
 use Rattle.listing.specs.Looks.{are_modules_hidden, are_symbols_hidden, first_ends_in_cr, is_gzip}
+use Rattle.listing.specs.Looks.{is_utf_16}
 use Rattle.listing.specs.Looks.{is_kernel_symbol, is_module_line, is_of_kernel, is_symbol_line}
 use Rattle.listing.specs.Looks.{lacks_lines, looks_like_modules, looks_like_symbols}
 use Rattle.listing.specs.ModuleListing.{modules_in}
@@ -13,7 +14,7 @@ use Rattle.listing.specs.SymbolListing.{symbols_in}
 use Rattle.modules.specs.Entries.{CatalogEntries, ModuleEntry}
 use Rattle.modules.specs.Listed.{BoundNames, ListedSymbol}
 use Rattle.listing.specs.declared.listing_notes.ListingNote.{ListingNote}
-use Rattle.listing.specs.declared.listing_notes.ListingNote.TheVariants.{Gzip, AllHidden}
+use Rattle.listing.specs.declared.listing_notes.ListingNote.TheVariants.{Empty, Gzip, Utf16, AllHidden}
 use Rattle.listing.specs.declared.listing_notes.ListingNote.TheVariants.{LooksLikeSymbols}
 use Rattle.listing.specs.declared.listing_notes.ListingNote.TheVariants.{LooksLikeModules}
 use Rattle.listing.specs.declared.listing_notes.ListingNote.TheVariants.{LinesEndInCrLf, NoStart}
@@ -25,8 +26,8 @@ use Rattle.listing.specs.declared.listing_notes.ListingNotes.{ListingNotes}
 -- the notes, in the order in which the first that applies is sought
 abbrev pub all_notes : List ListingNote
 all_notes =
-    Gzip ∷ AllHidden ∷ LooksLikeSymbols ∷ LooksLikeModules ∷ LinesEndInCrLf ∷ NoStart ∷ NoEnd
-    ∷ OtherBoot ∷ ModulesOverlap ∷ NoModuleLine ∷ NoSymbolLine ∷ []
+    Empty ∷ Gzip ∷ Utf16 ∷ AllHidden ∷ LooksLikeSymbols ∷ LooksLikeModules ∷ LinesEndInCrLf ∷ NoStart
+    ∷ NoEnd ∷ OtherBoot ∷ ModulesOverlap ∷ NoModuleLine ∷ NoSymbolLine ∷ []
 
 -- no line of the listing of modules is accepted
 abbrev pub has_no_module : CatalogEntries → Bool
@@ -55,6 +56,7 @@ HasBounds names symbols =
 -- and the catalog of both is this
 abbrev pub is_of_modules : List ℕ → List ℕ → CatalogEntries → ListingNote → Bool
 is_of_modules text kallsyms c Gzip = is_gzip text
+is_of_modules text kallsyms c Utf16 = is_utf_16 text
 is_of_modules text kallsyms c AllHidden = are_modules_hidden (lines_of text)
 is_of_modules text kallsyms c LooksLikeSymbols =
     has_no_module c && looks_like_symbols (lines_of text)
@@ -66,17 +68,22 @@ is_of_modules text kallsyms c NoModuleLine = has_no_module c && lacks_lines is_m
 is_of_modules text kallsyms c _ = false
 
 -- what is noted of a listing of symbols with this text, of which so many are kept, where these
--- names bound the kernel
-abbrev pub is_of_kallsyms : BoundNames → List ℕ → ℕ → ListingNote → Bool
-is_of_kallsyms names text kept Gzip = is_gzip text
-is_of_kallsyms names text kept AllHidden = are_symbols_hidden (lines_of text)
-is_of_kallsyms names text kept LooksLikeModules =
+-- names bound the kernel; it is alone if there is no listing of modules
+abbrev pub is_of_kallsyms : BoundNames → Bool → List ℕ → ℕ → ListingNote → Bool
+is_of_kallsyms names alone text kept Empty = alone && nat_eq (length text) 0
+is_of_kallsyms names alone text kept Gzip = is_gzip text
+is_of_kallsyms names alone text kept Utf16 = is_utf_16 text
+is_of_kallsyms names alone text kept AllHidden = are_symbols_hidden (lines_of text)
+is_of_kallsyms names alone text kept LooksLikeModules =
     nat_eq kept 0 && looks_like_modules (lines_of text)
-is_of_kallsyms names text kept LinesEndInCrLf = nat_eq kept 0 && first_ends_in_cr (lines_of text)
-is_of_kallsyms names text kept NoStart = lacks_symbol names.start (symbols_in (lines_of text))
-is_of_kallsyms names text kept NoEnd = lacks_symbol names.end (symbols_in (lines_of text))
-is_of_kallsyms names text kept NoSymbolLine = nat_eq kept 0 && lacks_lines is_symbol_line text
-is_of_kallsyms names text kept _ = false
+is_of_kallsyms names alone text kept LinesEndInCrLf =
+    nat_eq kept 0 && first_ends_in_cr (lines_of text)
+is_of_kallsyms names alone text kept NoStart =
+    lacks_symbol names.start (symbols_in (lines_of text))
+is_of_kallsyms names alone text kept NoEnd = lacks_symbol names.end (symbols_in (lines_of text))
+is_of_kallsyms names alone text kept NoSymbolLine =
+    nat_eq kept 0 && lacks_lines is_symbol_line text
+is_of_kallsyms names alone text kept _ = false
 
 -- something is noted
 abbrev pub is_some_noted : ListingNotes → Bool

@@ -20,6 +20,11 @@ use Rattle.listing.specs.declared.symbol_listing.SkippedSymbol.TheVariants as sy
 abbrev pub is_gzip : List ℕ → Bool
 is_gzip text = starts_with nat_eq text (31 ∷ 139 ∷ [])
 
+-- or those of a text in UTF-16
+abbrev pub is_utf_16 : List ℕ → Bool
+is_utf_16 text =
+    starts_with nat_eq text (255 ∷ 254 ∷ []) || starts_with nat_eq text (254 ∷ 255 ∷ [])
+
 -- the first line ends in a carriage return
 abbrev pub first_ends_in_cr : List (List ℕ) → Bool
 first_ends_in_cr [] = false

@@ -20,11 +20,13 @@ use Rattle.listing.specs.declared.listing_notes.ListingNotes.{ListingNotes}
 use Rattle.listing.specs.declared.opening.Listings.{Listings}
 use Rattle.listing.specs.declared.opening.SymbolListing.{SymbolListing}
 
--- the first note that applies to a listing of symbols, of which so many lines are kept: these may be
--- kept, and the names of the kernel's bounds are given, or else the usual ones
-abbrev pub symbols_note : Option BoundNames → List ListedSymbol → List ℕ → ℕ → Option ListingNote
-symbols_note kernel symbols text kept =
-    find (is_of_kallsyms (bounds_for kernel symbols) text kept) all_notes
+-- the first note that applies to a listing of symbols, which is alone or not, and of which so many
+-- lines are kept: these may be kept, and the names of the kernel's bounds are given, or else the usual
+-- ones
+abbrev pub symbols_note : Option BoundNames → Bool → List ListedSymbol → List ℕ → ℕ
+    → Option ListingNote
+symbols_note kernel alone symbols text kept =
+    find (is_of_kallsyms (bounds_for kernel symbols) alone text kept) all_notes
 
 -- ---- of modules and of symbols
 
@@ -53,7 +55,7 @@ notes_of_texts kernel mapping modules kallsyms lines = record {
   modules = find
       (is_of_modules modules kallsyms (catalog_of_texts kernel mapping modules kallsyms lines))
       all_notes;
-  kallsyms = symbols_note kernel (symbols_of mapping kallsyms) kallsyms
+  kallsyms = symbols_note kernel false (symbols_of mapping kallsyms) kallsyms
       (counts_of_texts kernel mapping modules kallsyms lines).symbols;
 }
 
@@ -92,7 +94,7 @@ SaysOfModules kernel text a = IsFromSymbols kernel (listed text) a
 
 -- the first note that applies to such a listing, of which so many lines are kept
 abbrev pub symbol_note : Option BoundNames → List ℕ → ℕ → Option ListingNote
-symbol_note kernel text kept = symbols_note kernel (listed text) text kept
+symbol_note kernel text kept = symbols_note kernel true (listed text) text kept
 
 -- the notes of who opens one listing of symbols alone
 abbrev pub notes_with : Option ListingNote → ListingNotes

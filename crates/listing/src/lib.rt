@@ -27,7 +27,7 @@ pub use laws::{
 pub use listing_notes::{
     ListingNote, ListingNotes, SymbolFacts, applies_to_kallsyms, applies_to_modules,
 };
-pub use looks::{are_modules_hidden, are_symbols_hidden, is_narrow};
+pub use looks::{are_modules_hidden, are_symbols_hidden, is_gzip, is_narrow, is_utf_16};
 pub use module_listing::{ModuleCounts, SkippedModule, read_modules};
 pub use opening::{Listings, SymbolListing, open_listings, open_symbols};
 pub use region_listing::read_regions;

@@ -14,8 +14,8 @@ ghost use Rattle.listing.specs.ListingNotes.{is_of_kallsyms, is_of_modules, is_s
 ghost use Rattle.listing.specs.ListingNotes.{lacks_symbol, lacks_symbols, no_notes};
 
 use crate::looks::{
-    first_line_ends_in_cr, is_gzip, kernel_symbols, lacks_module_lines, lacks_symbol_lines,
-    looks_like_modules, looks_like_symbols,
+    first_line_ends_in_cr, is_gzip, is_utf_16, kernel_symbols, lacks_module_lines,
+    lacks_symbol_lines, looks_like_modules, looks_like_symbols,
 };
 use crate::overlaps::do_modules_overlap;
 use modules::{Catalog, KernelBounds, Module};
@@ -24,8 +24,12 @@ use modules::{Catalog, KernelBounds, Module};
 /// listing is sought.
 #[derive(Clone, Copy, Debug, PartialEq, Eq, Drop)]
 pub enum ListingNote {
+    /// There is no byte, and no listing of modules beside it.
+    Empty,
     /// The text is that of a file which gzip made.
     Gzip,
+    /// The text is in UTF-16.
+    Utf16,
     /// All well-formed lines are hidden, as they are to a reader without privileges.
     AllHidden,
     /// No line is accepted as a module, and the first well-formed one is a symbol.
@@ -56,8 +60,10 @@ pub struct ListingNotes {
 }
 
 /// All notes, in the order in which the first that applies to a listing is sought.
-const ALL: [ListingNote; 11] = [
+const ALL: [ListingNote; 13] = [
+    ListingNote::Empty,
     ListingNote::Gzip,
+    ListingNote::Utf16,
     ListingNote::AllHidden,
     ListingNote::LooksLikeSymbols,
     ListingNote::LooksLikeModules,
@@ -136,13 +142,15 @@ pub fn applies_to_modules(
     let none = catalog.len() == 0;
     match note {
         ListingNote::Gzip => is_gzip(text),
+        ListingNote::Utf16 => is_utf_16(text),
         ListingNote::AllHidden => hidden,
         ListingNote::LooksLikeSymbols => none && looks_like_symbols(text),
         ListingNote::LinesEndInCrLf => none && first_line_ends_in_cr(text),
         ListingNote::OtherBoot => lacks_symbols(catalog),
         ListingNote::ModulesOverlap => do_modules_overlap(text, kallsyms, catalog),
         ListingNote::NoModuleLine => none && lacks_module_lines(text),
-        ListingNote::LooksLikeModules
+        ListingNote::Empty
+        | ListingNote::LooksLikeModules
         | ListingNote::NoStart
         | ListingNote::NoEnd
         | ListingNote::NoSymbolLine => false,
@@ -171,6 +179,8 @@ pub fn note_of_modules(
 /// What is known of a listing of symbols once it is read.
 #[derive(Clone, Copy, Drop)]
 pub struct SymbolFacts {
+    /// There is no listing of modules beside it.
+    pub is_alone: bool,
     /// All well-formed lines are hidden, and there is one.
     pub hidden: bool,
     /// How many lines are kept.
@@ -191,11 +201,13 @@ pub fn applies_to_kallsyms(
     requires hidden { facts.hidden ≡ are_symbols_hidden (lines_of text.now) }
     requires kernel { facts.has_kernel ≡ true
         → HasBounds names.now (symbols_in (lines_of text.now)) }
-    ensures { result ≡ is_of_kallsyms names.now text.now facts.kept note }
+    ensures { result ≡ is_of_kallsyms names.now facts.is_alone text.now facts.kept note }
 {
     let none = facts.kept == 0;
     match note {
+        ListingNote::Empty => facts.is_alone && text.is_empty(),
         ListingNote::Gzip => is_gzip(text),
+        ListingNote::Utf16 => is_utf_16(text),
         ListingNote::AllHidden => facts.hidden,
         ListingNote::LooksLikeModules => none && looks_like_modules(text),
         ListingNote::LinesEndInCrLf => none && first_line_ends_in_cr(text),
@@ -218,7 +230,8 @@ pub fn note_of_kallsyms(
     requires hidden { facts.hidden ≡ are_symbols_hidden (lines_of text.now) }
     requires kernel { facts.has_kernel ≡ true
         → HasBounds names.now (symbols_in (lines_of text.now)) }
-    ensures { result ≡ find (is_of_kallsyms names.now text.now facts.kept) all_notes }
+    ensures { result
+        ≡ find (is_of_kallsyms names.now facts.is_alone text.now facts.kept) all_notes }
 {
     let notes = ListingNote::all();
     for note in notes {

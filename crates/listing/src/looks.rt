@@ -1,5 +1,5 @@
-//! What a listing looks like of which no line is of use: a packed one, one that is hidden from its
-//! reader, one of another kind, or one whose lines end as another system ends them.
+//! Why no line of a listing is of use: it is compressed or in UTF-16, hidden from its reader, a listing
+//! of the other kind, or its lines end as another system ends them.
 ghost use Rattle.std.specs.Prelude.{◌≡◌, ◌∷◌, ◌&&◌, ◌||◌, [], List, ℕ, find, length, nat_lt, not};
 ghost use Rattle.std.specs.Prelude.{option_map};
 ghost use Rattle.std.specs.Char.{is_digit};
@@ -8,8 +8,8 @@ ghost use Rattle.texts.specs.Lines.{lines_of};
 ghost use Rattle.listing.specs.Looks.{AreKernelSymbols, are_modules_hidden, are_symbols_hidden};
 ghost use Rattle.listing.specs.Looks.{begins_wide, first_ends_in_cr, is_gzip, is_kernel_symbol};
 ghost use Rattle.listing.specs.Looks.{is_module_line, is_narrow, is_of_kernel, is_symbol_line};
-ghost use Rattle.listing.specs.Looks.{lacks_lines};
-ghost use Rattle.listing.specs.Looks.{looks_like_modules, looks_like_symbols};
+ghost use Rattle.listing.specs.Looks.{is_utf_16, lacks_lines, looks_like_modules};
+ghost use Rattle.listing.specs.Looks.{looks_like_symbols};
 ghost use Rattle.listing.specs.ModuleListing.{module_counts, modules_in};
 ghost use Rattle.listing.specs.SymbolListing.{symbol_counts, symbols_in};
 ghost use Rattle.modules.specs.Listed.{BoundNames};
@@ -25,6 +25,13 @@ pub fn is_gzip(text: &[u8]) -> bool
     ensures { result ≡ is_gzip text.now }
 {
     text.starts_with(b"\x1f\x8b")
+}
+
+/// Whether the first two bytes are those of a text in UTF-16.
+pub fn is_utf_16(text: &[u8]) -> bool
+    ensures { result ≡ is_utf_16 text.now }
+{
+    text.starts_with(b"\xff\xfe") || text.starts_with(b"\xfe\xff")
 }
 
 /// Whether there is a first line and it ends in a carriage return.

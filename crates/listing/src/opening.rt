@@ -82,6 +82,7 @@ pub fn open_listings<'a>(
     )?;
     let built = counts.of_listed(symbols.listed);
     let facts = SymbolFacts {
+        is_alone: false,
         hidden: symbols_hidden,
         kept: built.symbols,
         has_kernel,
@@ -153,6 +154,7 @@ pub fn open_symbols<'a>(
     let (catalog, counts) = Catalog::from_symbols(alloc, kernel, lines, asked)?;
     let kept = counts.of_listed(listed);
     let facts = SymbolFacts {
+        is_alone: true,
         hidden,
         kept: kept.symbols,
         has_kernel,

@@ -8,7 +8,7 @@ module _ (kernel : Option BoundNames) (files : ListingFiles) (modules kallsyms :
   abbrev text_by : BoundNames → CatalogEntries → ℕ → Tallies → List ℕ
   text_by names c kept t =
       applying_lines names (modules_name files) (is_of_modules modules kallsyms c)
-      ++ applying_lines names files.kallsyms.now (is_of_kallsyms names kallsyms kept)
+      ++ applying_lines names files.kallsyms.now (is_of_kallsyms names false kallsyms kept)
       ++ counts_text t
 
   modules_reported : (l : Listings) (names : BoundNames) → names ≡ bounds_for kernel (listed kallsyms) → region_lines text ≡ Ok lines → AreOpened kernel false modules kallsyms lines l

@@ -1,4 +1,4 @@
-use Rattle.latchsym.proofs.Words.{◌≡◌, ◌∙◌, ℕ, List, ◌++◌, Option, None, ap, subst, Text, KeptCounts, bounds_for, BoundNames, IsSymbolsReport, symbol_listing_report, is_of_kallsyms, applying_lines, IsSymbolListing, kept_in_text, listed, SymbolListing, option_copied, IsChecked, with_modules, given_in, bounds_are, counts_text, symbol_tallies_by}
+use Rattle.latchsym.proofs.Words.{true, ◌≡◌, ◌∙◌, ℕ, List, ◌++◌, Option, None, ap, subst, Text, KeptCounts, bounds_for, BoundNames, IsSymbolsReport, symbol_listing_report, is_of_kallsyms, applying_lines, IsSymbolListing, kept_in_text, listed, SymbolListing, option_copied, IsChecked, with_modules, given_in, bounds_are, counts_text, symbol_tallies_by}
 use Rattle.latchsym.proofs.GivenLemmas.{said_or_not}
 use Rattle.latchsym.proofs.checks.check_symbols.Goals as goal
 
@@ -10,8 +10,8 @@ symbols_reported kernel file text l names is named =
       is.modules,
       is.said,
       ap (λ m. symbol_listing_report m file text l) named
-          ∙ ap (λ k. applying_lines n file (is_of_kallsyms n text k.symbols) ++ counts_text (symbol_tallies_by k l.skipped.by_place)) is.kept
-          ∙ ap (λ s. applying_lines n file (is_of_kallsyms n text kept.symbols) ++ counts_text (symbol_tallies_by kept s)) is.skipped,
+          ∙ ap (λ k. applying_lines n file (is_of_kallsyms n true text k.symbols) ++ counts_text (symbol_tallies_by k l.skipped.by_place)) is.kept
+          ∙ ap (λ s. applying_lines n file (is_of_kallsyms n true text kept.symbols) ++ counts_text (symbol_tallies_by kept s)) is.skipped,
       ap (λ k. k.symbols) is.kept,
     )
 

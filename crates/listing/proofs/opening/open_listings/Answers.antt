@@ -1,4 +1,4 @@
-use Rattle.std.proofs.Common.{◌≡◌, ◌∙◌, Option, [], ap, length, sym, unwrap_or}
+use Rattle.std.proofs.Common.{◌≡◌, ◌∙◌, Option, [], ap, false, length, sym, unwrap_or}
 use Rattle.std.specs.Prelude.{find, is_some}
 use Rattle.std.specs.Option.{option_copied}
 use Rattle.texts.specs.Lines.{lines_of}
@@ -45,7 +45,7 @@ returns-clause-said c =
     c.of_listed-built.ensures ∙ ap (λ n. build_of_listed n c.in_ok-catalog.counts) c.in_ok-symbols.ensures.listed
     ∙ ap (build_of_listed (length (symbols_in (lines_of kallsyms)))) is_counted in
     let of_modules : CatalogEntries → Option ListingNote = λ k. find (is_of_modules modules kallsyms k) all_notes in
-    let of_kallsyms : BoundNames → BuildCounts → Option ListingNote = λ n b. find (is_of_kallsyms n kallsyms b.symbols) all_notes in
+    let of_kallsyms : BoundNames → BuildCounts → Option ListingNote = λ n b. find (is_of_kallsyms n false kallsyms b.symbols) all_notes in
     let with_modules : Option ListingNote → ListingNotes = λ n. record { modules = n; kallsyms = c.note_of_kallsyms.result } in
     let with_kallsyms : Option ListingNote → ListingNotes = λ n. record { modules = of_modules (catalog_of_texts kernel mapping modules kallsyms given); kallsyms = n } in
     record {
