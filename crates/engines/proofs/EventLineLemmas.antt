@@ -7,7 +7,7 @@ use Rattle.latch_steps.specs.declared.events.Event.{Event}
 use Rattle.latch_steps.specs.declared.replies.NextLoad.{NextLoad}
 use Rattle.latch_steps.specs.declared.replies.Reply.{Reply}
 use Rattle.latch_steps.specs.declared.replies.Reply.TheVariants.{Refused}
-use Rattle.engines.specs.JsonTexts.{json_count}
+use Rattle.command_io.specs.JsonTexts.{json_count}
 use Rattle.engines.specs.LineRooms.{IsPutBefore}
 use Rattle.engines.specs.StepTexts.{begun_members, done_members, event_text, json_list, line_end, refused_member, update_members}
 

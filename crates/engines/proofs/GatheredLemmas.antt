@@ -32,8 +32,8 @@ use Rattle.run_files.specs.Trace.{Contents, trace_of, with_header}
 use Rattle.engines.specs.GatheredTraces.{GathersCommand, GathersLines, HasGathered, IsNext, IsNotOpened}
 use Rattle.engines.specs.TraceTexts.{end_text, note_text}
 use Rattle.engines.specs.Traces.{AnswersReadBy, AnswersSaid, HeaderMayNotOpen, HeaderMayOpen, IsRunText, IsTraceText, IsTraceWith, Stays, greatest_of, order_by}
-use Rattle.engines.specs.declared.fault.Fault.{Fault}
-use Rattle.engines.specs.declared.fault.Fault.TheVariants.{Refused, BadLine, Write}
+use Rattle.command_io.specs.declared.fault.Fault.{Fault}
+use Rattle.command_io.specs.declared.fault.Fault.TheVariants.{Refused, BadLine, Write}
 
 -- what was taken from lines, where its test is known
 pub taken : (old new : LinesLeft) (next : Option (Command ℕ)) (c : Command ℕ) → next ≡ Some c → IsNext old new next

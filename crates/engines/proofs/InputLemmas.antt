@@ -4,9 +4,9 @@ use Rattle.std.specs.Prelude.{IfSome}
 use Rattle.texts.specs.Counted.{Rose}
 use Rattle.texts.specs.declared.output.Output.{Output}
 use Rattle.order_laws.specs.declared.refusals.Refusal.TheVariants as refusal
-use Rattle.engines.specs.declared.fault.Fault.{Fault}
-use Rattle.engines.specs.declared.fault.Fault.TheVariants.{Refused, BadLine, Read, Write}
-use Rattle.engines.specs.Readings.{AnswersInputs, Failures, HoldsOf, NoReaderFailed, OnlyFailed, last_failures}
+use Rattle.command_io.specs.declared.fault.Fault.{Fault}
+use Rattle.command_io.specs.declared.fault.Fault.TheVariants.{Refused, BadLine, Read, Write}
+use Rattle.command_io.specs.Readings.{AnswersInputs, Failures, HoldsOf, NoReaderFailed, OnlyFailed, last_failures}
 
 no_rise : Rose 0 0 → ⊥
 no_rise rose = grind (arith, rose)

@@ -10,12 +10,12 @@ use Rattle.run_files.specs.Scripts.{script_of}
 use Rattle.modules.specs.Entries.{CatalogEntries}
 use Rattle.modules.specs.Placed.{are_few}
 use Rattle.order_laws.specs.declared.refusals.Refusal.TheVariants as refusal
-use Rattle.engines.specs.declared.fault.Fault.{Fault}
-use Rattle.engines.specs.declared.fault.Fault.TheVariants.{Refused, Write}
+use Rattle.command_io.specs.declared.fault.Fault.{Fault}
+use Rattle.command_io.specs.declared.fault.Fault.TheVariants.{Refused, Write}
 use Rattle.engines.specs.LookupInputs.{Inputs, catalog_in, notes_of, region_lines_of_inputs}
 use Rattle.listing.specs.declared.listing_notes.ListingNotes.{ListingNotes}
-use Rattle.engines.specs.Faults.{with_notes}
-use Rattle.engines.specs.Readings.{HoldsOf}
+use Rattle.command_io.specs.Faults.{with_notes}
+use Rattle.command_io.specs.Readings.{HoldsOf}
 use Rattle.engines.specs.RunInputs.{RunInputs, run_inputs_with}
 use Rattle.engines.specs.Runs.{AnswersLines, AnswersRun, FitsRun, IsRun, IsRunOf, IsServed, MayRun, TellsServed, status_of}
 use Rattle.engines.specs.Assignments.{IsAssigned}

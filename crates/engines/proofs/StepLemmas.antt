@@ -28,8 +28,8 @@ use Rattle.engines.specs.StepRuns.{AreCommandsTold, AreSomeTold, IsLoadBy, IsMem
 use Rattle.engines.specs.StepTexts.{event_text, load_by, opening_text, step_text, steps_text}
 use Rattle.engines.specs.StepTraces.{AnswersStepsIn, AreTold, IsStepsText}
 use Rattle.engines.specs.Traces.{HeaderMayOpen, greatest_of}
-use Rattle.engines.specs.declared.fault.Fault.{Fault}
-use Rattle.engines.specs.declared.fault.Fault.TheVariants.{Write as WriteFault}
+use Rattle.command_io.specs.declared.fault.Fault.{Fault}
+use Rattle.command_io.specs.declared.fault.Fault.TheVariants.{Write as WriteFault}
 
 -- the lines of two runs one after the other
 pub steps_append : (o : Order ℕ) (n line : ℕ) (w : Moment ℕ) (run next : List (Done ℕ)) → steps_text o n line w (run ++ next) ≡ steps_text o n line w run ++ steps_text o n line (last_of w run) next

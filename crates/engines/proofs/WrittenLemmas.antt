@@ -4,8 +4,8 @@ use Rattle.std.proofs.Common.{◌≡◌, ℕ, List, Option, Result, Ok, Err, tru
 use Rattle.texts.specs.declared.output.Output.{Output}
 use Rattle.texts.specs.Output.{Delivered, Delivers, WrotePart, has_failed}
 use Rattle.texts.proofs.OutputLemmas.{all_delivered, part_written}
-use Rattle.engines.specs.declared.fault.Fault.{Fault}
-use Rattle.engines.specs.declared.fault.Fault.TheVariants.{Write}
+use Rattle.command_io.specs.declared.fault.Fault.{Fault}
+use Rattle.command_io.specs.declared.fault.Fault.TheVariants.{Write}
 
 module _ {W : Type 0} (contents : W → Option (List ℕ)) (w w' : Output W) (text : List ℕ) (delivers : Delivers contents w w' text) (Answers : Result (Unit {0}) Fault → Type 0)
     (whole : (u : Unit {0}) → Delivered contents w w' text → Answers (Ok u)) (part : WrotePart contents w w' text → Answers (Err Write)) where

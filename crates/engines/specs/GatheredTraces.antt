@@ -15,8 +15,8 @@ use Rattle.run_files.specs.CommandLines.{LinesLeft}
 use Rattle.texts.specs.Said.{entries_after}
 use Rattle.engines.specs.TraceTexts.{note_text}
 use Rattle.engines.specs.Traces.{HeaderMayNotOpen, HeaderMayOpen, greatest_of}
-use Rattle.engines.specs.declared.fault.Fault.{Fault}
-use Rattle.engines.specs.declared.fault.Fault.TheVariants.{Refused, BadLine}
+use Rattle.command_io.specs.declared.fault.Fault.{Fault}
+use Rattle.command_io.specs.declared.fault.Fault.TheVariants.{Refused, BadLine}
 
 -- a driver carried out these commands on a table as the header asks for it, and this text has the
 -- lines of what they came to

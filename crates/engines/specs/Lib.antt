@@ -3,8 +3,6 @@
 pub mod TraceTexts
 -- text that is appended in room that is there
 pub mod Blocks
--- why a command failed, and what one came to that did not
-pub mod Faults
 -- what is written for a trace that is read
 pub mod Traces
 -- the text of a trace whose commands are run one after another
@@ -13,10 +11,6 @@ pub mod GatheredTraces
 pub mod CatalogTables
 -- a world that holds the regions of modules
 pub mod LoadedWorlds
--- values of JSON (RFC 8259)
-pub mod Json
--- the lines that are written as JSON
-pub mod JsonTexts
 -- the lines that a lookup of addresses writes
 pub mod LookupTexts
 -- the lines that the steps of a trace write
@@ -27,16 +21,12 @@ pub mod LineRooms
 pub mod StepTraces
 -- what one event and one command of it do, while it is run
 pub mod StepRuns
--- what an engine returns that reads files one after the other
-pub mod Readings
 -- what a lookup of addresses reads, and what that says
 pub mod LookupInputs
 -- what is written for the listings and the addresses that are asked for
 pub mod Lookups
 -- what a lookup writes whose modules come from a listing of symbols alone
 pub mod SymbolLookups
--- the catalog that listings say, and what is noted of them
-pub mod OpenedCatalogs
 -- what the lines of a script have each writer and each reader do
 pub mod Assignments
 -- the lines that a run of a script writes

@@ -2,7 +2,6 @@
 use Rattle.std.specs.Prelude.{ℕ, List, [], Option, Some, None, Result, Ok, Err}
 use Rattle.std.specs.Prelude.{option_and_then, unwrap_or}
 use Rattle.std.specs.Option.{option_map}
-use Rattle.texts.specs.declared.counted.Counted.{Counted}
 use Rattle.texts.specs.Counted.{device_of}
 use Rattle.listing.specs.Addresses.{addresses_of}
 use Rattle.listing.specs.Opening.{catalog_of_texts, counts_of_texts, notes_of_texts}
@@ -11,11 +10,11 @@ use Rattle.texts.specs.Said.{entries_after}
 use Rattle.modules.specs.declared.catalog.BuildCounts.{BuildCounts}
 use Rattle.modules.specs.Entries.{CatalogEntries}
 use Rattle.modules.specs.Listed.{ListedRegion}
+use Rattle.command_io.specs.Readings.{known_text, region_lines}
 use Rattle.engines.specs.declared.lookup.ListingTexts.{ListingTexts}
 use Rattle.engines.specs.declared.lookup.LookupInputs.{LookupInputs}
 use Rattle.engines.specs.declared.lookup.LookupOptions.{LookupOptions}
 use Rattle.engines.specs.declared.lookup.LookupReaders.{LookupReaders}
-use Rattle.listing.specs.RegionListing.{regions_of_text as listed_regions}
 
 -- the texts of the listings, of which that of regions may be missing
 pub record Texts : Type 0 where
@@ -39,15 +38,6 @@ pub record Inputs : Type 0 where
   pub kallsyms : List ℕ
   pub regions : Option (List ListedRegion)
   pub addresses : List ℕ
-
--- the region lines of a listing that may be there, or the number of its first bad line
-abbrev pub some_lines : Result (List ListedRegion) ℕ → Result (Option (List ListedRegion)) ℕ
-some_lines (Ok lines) = Ok (Some lines)
-some_lines (Err n) = Err n
-
-abbrev pub region_lines : Option (List ℕ) → Result (Option (List ListedRegion)) ℕ
-region_lines None = Ok None
-region_lines (Some text) = some_lines (listed_regions text)
 
 -- the addresses of a file that may be there
 abbrev pub listed_addresses : Option (List ℕ) → Result (List ℕ) ℕ
@@ -107,12 +97,6 @@ abbrev pub counts_in : Inputs → BuildCounts
 counts_in i =
     counts_of_texts (Some i.options.kernel) i.options.with_mapping i.modules i.kallsyms
     (region_lines_of_inputs i)
-
--- what a reader gives that may be there, where that is known
-abbrev pub known_text : {A : Type 0} → (A → Option (List ℕ)) → Option (Counted A)
-    → Option (Option (List ℕ))
-known_text remaining None = Some None
-known_text remaining (Some reader) = option_map (λ text. Some text) (remaining (device_of reader))
 
 -- the texts, where each of them is known
 abbrev pub texts_of : Option (List ℕ) → Option (List ℕ) → Option (Option (List ℕ)) → Option Texts

@@ -6,8 +6,8 @@ use Rattle.listing.specs.Answers.{Known, answer_of, text_of}
 use Rattle.listing.specs.Tallies.{Tallies, counts_text}
 use Rattle.listing.specs.declared.address_rules.AddressRule.{AddressRule}
 use Rattle.engines.specs.CatalogTables.{answer_at}
-use Rattle.engines.specs.JsonTexts.{json_counts, json_line}
-use Rattle.engines.specs.declared.forms.AnswerForm.{AnswerForm}
+use Rattle.command_io.specs.JsonTexts.{json_counts, json_line}
+use Rattle.command_io.specs.declared.forms.AnswerForm.{AnswerForm}
 use Rattle.engines.specs.declared.table.AddressAnswer.{AddressAnswer}
 
 -- an address, and the text of its answer

@@ -19,12 +19,12 @@ use Rattle.listing.specs.declared.listing_notes.ListingNotes.{ListingNotes}
 use Rattle.listing.specs.declared.opening.Listings.{Listings}
 use Rattle.engines.specs.CatalogTables.{HasFewRegions, HasManyRegions}
 use Rattle.engines.specs.LookupInputs.{Inputs, all_addresses, catalog_in, counts_in}
-use Rattle.engines.specs.LookupInputs.{notes_of, region_lines, region_lines_of_inputs}
+use Rattle.engines.specs.LookupInputs.{notes_of, region_lines_of_inputs}
 use Rattle.engines.specs.LookupTexts.{lookup_lines}
-use Rattle.engines.specs.Readings.{AnswersInputs, Failures, failures_in}
-use Rattle.engines.specs.declared.fault.Fault.{Fault}
-use Rattle.engines.specs.declared.fault.Fault.TheVariants.{Refused, BadLine, Read, Write}
-use Rattle.engines.specs.declared.forms.AnswerForm.{AnswerForm}
+use Rattle.command_io.specs.Readings.{AnswersInputs, Failures, failures_in}
+use Rattle.command_io.specs.declared.fault.Fault.{Fault}
+use Rattle.command_io.specs.declared.fault.Fault.TheVariants.{Refused, BadLine, Read, Write}
+use Rattle.command_io.specs.declared.forms.AnswerForm.{AnswerForm}
 use Rattle.engines.specs.declared.lookup.LookupReaders.{LookupReaders}
 
 -- where the lines of the listings went
@@ -68,13 +68,6 @@ WritesLookup contents c text w w' (Err _) = ⊥
 -- the lines of these inputs were written, as far as this says
 abbrev pub IsWritten : (List ℕ → Type 0) → AnswerForm → Inputs → Type 0
 IsWritten Wrote form i = FitsTable i × Wrote (lookup_text form i)
-
--- the region lines, or why they are not there
-abbrev pub GivesLines : Option (List ℕ) → Result (Option (Vec ListedRegion)) Fault → Type 0
-GivesLines text (Ok lines) = region_lines text ≡ Ok (option_map (λ v. v.items) lines)
-GivesLines text (Err (Refused refusal.OutOfMemory)) = Unit {0}
-GivesLines text (Err (BadLine place n)) = (place ≡ 2) × (region_lines text ≡ Err n)
-GivesLines text (Err _) = ⊥
 
 -- the addresses of both places, where the text of the file is known, or why they are not there
 abbrev pub GivesAddresses : List ℕ → Option (Option (List ℕ)) → ℕ → ℕ

@@ -6,7 +6,8 @@ use Rattle.run_files.specs.declared.scripts.ScriptLine.{ScriptLine}
 use Rattle.run_files.specs.Scripts.{script_of}
 use Rattle.listing.specs.AddressRules.{as_given}
 use Rattle.modules.specs.Listed.{BoundNames}
-use Rattle.engines.specs.LookupInputs.{Inputs, Texts, inputs_of, known_text, texts_of}
+use Rattle.engines.specs.LookupInputs.{Inputs, Texts, inputs_of, texts_of}
+use Rattle.command_io.specs.Readings.{known_text}
 use Rattle.engines.specs.declared.lookup.LookupOptions.{LookupOptions}
 use Rattle.engines.specs.declared.runs.RunReaders.{RunReaders}
 

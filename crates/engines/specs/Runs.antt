@@ -19,13 +19,13 @@ use Rattle.engines.specs.Assignments.{IsAssigned}
 use Rattle.engines.specs.CatalogTables.{HasFewRegions}
 use Rattle.engines.specs.LookupInputs.{catalog_in, notes_of, region_lines_of_inputs}
 use Rattle.engines.specs.Lookups.{HasTooManyOfOne}
-use Rattle.engines.specs.Readings.{AnswersInputs, Failures, failures_in}
+use Rattle.command_io.specs.Readings.{AnswersInputs, Failures, failures_in}
 use Rattle.engines.specs.RunInputs.{RunInputs}
 use Rattle.engines.specs.RunTexts.{run_text}
 use Rattle.engines.specs.declared.assignments.Assignments.{Assignments}
-use Rattle.engines.specs.declared.fault.Fault.{Fault}
-use Rattle.engines.specs.declared.fault.Finished.{Finished}
-use Rattle.engines.specs.declared.fault.Fault.TheVariants.{Refused, Write}
+use Rattle.command_io.specs.declared.fault.Fault.{Fault}
+use Rattle.command_io.specs.declared.fault.Finished.{Finished}
+use Rattle.command_io.specs.declared.fault.Fault.TheVariants.{Refused, Write}
 use Rattle.engines.specs.declared.runs.RunReaders.{RunReaders}
 
 -- a table can have the regions of the catalog, and so many readers

@@ -16,8 +16,8 @@ use Rattle.latch_steps.specs.Steps.{Run}
 use Rattle.latch_steps.specs.Worlds.{RepresentsMoment, layout_in, machine_in}
 use Rattle.engines.specs.StepTexts.{event_text, load_by, steps_text}
 use Rattle.engines.specs.StepTraces.{AreTold}
-use Rattle.engines.specs.declared.fault.Fault.{Fault}
-use Rattle.engines.specs.declared.fault.Fault.TheVariants.{Refused, Write as WriteFault}
+use Rattle.command_io.specs.declared.fault.Fault.{Fault}
+use Rattle.command_io.specs.declared.fault.Fault.TheVariants.{Refused, Write as WriteFault}
 use Rattle.texts.specs.declared.output.Output.{Output}
 use Rattle.texts.specs.Output.{Says, has_failed}
 

@@ -24,8 +24,8 @@ use Rattle.texts.specs.Exact.{hexadecimal}
 use Rattle.run_files.specs.declared.header.Header.{Header}
 use Rattle.run_files.specs.declared.header.Version.{Version}
 use Rattle.run_files.specs.declared.header.Version.TheVariants.{First, Second, Third}
-use Rattle.engines.specs.Json.{json_number}
-use Rattle.engines.specs.JsonTexts.{json_count}
+use Rattle.command_io.specs.Json.{json_number}
+use Rattle.command_io.specs.JsonTexts.{json_count}
 
 -- a list of values
 abbrev pub json_list : {T : Type 0} → (T → List ℕ) → List T → List ℕ

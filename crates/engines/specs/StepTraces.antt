@@ -14,7 +14,7 @@ use Rattle.latch_steps.specs.Runs.{Done, Moment, last_of, opening}
 use Rattle.latch_steps.specs.Steps.{Run, machine}
 use Rattle.engines.specs.StepTexts.{opening_text, steps_text}
 use Rattle.engines.specs.Traces.{AnswersBy, AnswersReadBy, HeaderMayOpen, greatest_of, order_by}
-use Rattle.engines.specs.declared.fault.Fault.{Fault}
+use Rattle.command_io.specs.declared.fault.Fault.{Fault}
 
 -- a run from a moment, and its text, are those of a part that a command on this line asks for, and
 -- of a rest

@@ -16,12 +16,13 @@ use Rattle.modules.specs.Entries.{CatalogEntries}
 use Rattle.modules.specs.Listed.{BoundNames}
 use Rattle.order_laws.specs.declared.refusals.Refusal.TheVariants as refusal
 use Rattle.engines.specs.CatalogTables.{HasFewRegions, HasManyRegions}
-use Rattle.engines.specs.LookupInputs.{all_addresses, known_text}
+use Rattle.engines.specs.LookupInputs.{all_addresses}
+use Rattle.command_io.specs.Readings.{known_text}
 use Rattle.engines.specs.LookupTexts.{lookup_lines}
-use Rattle.engines.specs.Readings.{AnswersInputs, Failures, failures_in}
-use Rattle.engines.specs.declared.fault.Fault.{Fault}
-use Rattle.engines.specs.declared.fault.Fault.TheVariants.{Refused, Write}
-use Rattle.engines.specs.declared.forms.AnswerForm.{AnswerForm}
+use Rattle.command_io.specs.Readings.{AnswersInputs, Failures, failures_in}
+use Rattle.command_io.specs.declared.fault.Fault.{Fault}
+use Rattle.command_io.specs.declared.fault.Fault.TheVariants.{Refused, Write}
+use Rattle.command_io.specs.declared.forms.AnswerForm.{AnswerForm}
 use Rattle.listing.specs.declared.listing_notes.ListingNotes.{ListingNotes}
 use Rattle.engines.specs.declared.symbol_lookup.SymbolLookupInputs.{SymbolLookupInputs}
 use Rattle.engines.specs.declared.symbol_lookup.SymbolLookupOptions.{SymbolLookupOptions}

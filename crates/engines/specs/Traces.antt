@@ -22,8 +22,8 @@ use Rattle.run_files.specs.declared.header.Version.{Version}
 use Rattle.run_files.specs.Header.{is_wide}
 use Rattle.run_files.specs.Trace.{Contents, trace_of}
 use Rattle.engines.specs.TraceTexts.{end_text, note_text}
-use Rattle.engines.specs.declared.fault.Fault.{Fault}
-use Rattle.engines.specs.declared.fault.Fault.TheVariants.{Refused, BadLine, Read, Write}
+use Rattle.command_io.specs.declared.fault.Fault.{Fault}
+use Rattle.command_io.specs.declared.fault.Fault.TheVariants.{Refused, BadLine, Read, Write}
 
 -- the greatest sequence of the tables that a trace of this version runs on
 abbrev pub greatest_of : Version → ℕ

@@ -5,11 +5,11 @@
 //! the whole line goes to a writer by one call: such a call costs more than the digits of a number.
 ghost use Rattle.std.specs.Prelude.{◌≡◌, ◌+◌, ◌≤◌, [], ◌++◌, decimal, length};
 ghost use Rattle.texts.specs.Exact.{hexadecimal};
-ghost use Rattle.engines.specs.Json.{json_number};
-ghost use Rattle.engines.specs.JsonTexts.{json_count};
+ghost use Rattle.command_io.specs.Json.{json_number};
+ghost use Rattle.command_io.specs.JsonTexts.{json_count};
 ghost use Rattle.engines.specs.LineRooms.{IsPutBefore};
 
-use crate::json::{FIRST_TO_ROUND, digit};
+use command_io::{FIRST_TO_ROUND, digit};
 use itoa::write_digits;
 use std::marker::Model;
 use texts::LONGEST_HEXADECIMAL;

@@ -5,25 +5,29 @@ ghost use Rattle.std.specs.Option.{option_copied};
 ghost use Rattle.texts.specs.Counted.{device_of, failures_of};
 ghost use Rattle.modules.specs.Catalogs.{IsBuildRefusal};
 ghost use Rattle.modules.specs.Lines.{region_fits};
-ghost use Rattle.engines.specs.LookupInputs.{inputs_in, known_inputs, known_text};
+ghost use Rattle.engines.specs.LookupInputs.{inputs_in, known_inputs};
+ghost use Rattle.command_io.specs.Readings.{known_text};
 ghost use Rattle.engines.specs.LookupInputs.{region_lines_of_inputs};
 ghost use Rattle.engines.specs.LookupTexts.{lookup_lines};
-ghost use Rattle.engines.specs.Lookups.{AnswersLookup, AreListingsOf, GivesAddresses, GivesLines};
+ghost use Rattle.engines.specs.Lookups.{AnswersLookup, AreListingsOf, GivesAddresses};
+ghost use Rattle.command_io.specs.Readings.{GivesLines};
 ghost use Rattle.engines.specs.Lookups.{WritesLookup, failures_between};
-ghost use Rattle.engines.specs.Readings.{IsReadAs, failures_in};
+ghost use Rattle.command_io.specs.Readings.{IsReadAs, failures_in};
 
-use crate::fault::{Fault, all_written, noted};
-use crate::forms::AnswerForm;
 use crate::lookup_texts::put_lookup;
 use crate::table::answers_of;
+use command_io::{
+    AnswerForm, Fault, KALLSYMS_PLACE, MODULES_PLACE, REGIONS_PLACE, all_written, noted, read_at,
+    read_if_given, region_lines_in,
+};
 use listing::{
-    AddressRule, LineTallies, ListingNotes, Listings, open_listings, read_addresses, read_regions,
+    AddressRule, LineTallies, ListingNotes, Listings, open_listings, read_addresses,
 };
 use modules::{Asked, Catalog, KernelBounds, RegionLine};
 use order_laws::Refusal;
 use std::alloc::{AllocError, Global};
 use std::io::{Read, Write};
-use texts::{Counted, Output, ReadFault, read_whole};
+use texts::{Counted, Output};
 
 /// The readers of the files of a lookup, in the order in which they are read.
 #[derive(Drop)]
@@ -38,13 +42,7 @@ pub struct LookupReaders<M, K, R, A> {
     pub addresses: Option<Counted<A>>,
 }
 
-/// The places of the files among those that are read.
-pub const MODULES_PLACE: u64 = 0;
-
-pub const KALLSYMS_PLACE: u64 = 1;
-
-pub const REGIONS_PLACE: u64 = 2;
-
+/// The place of the file of addresses among those that are read.
 const ADDRESSES_PLACE: u64 = 3;
 
 /// The texts of the listings, that of regions only where it is given.
@@ -114,56 +112,6 @@ pub fn lookup_engine<M: Read, K: Read, R: Read, A: Read, W: Write>(
         addresses,
     };
     answer_with(alloc, &inputs, form, writer)
-}
-
-/// Reads the file at a place of the order in which they are read, where there is one.
-pub(crate) fn read_if_given<R: Read>(
-    alloc: Global,
-    reader: &mut Option<Counted<R>>,
-    place: u64,
-) -> Result<Option<Vec<u8>>, Fault>
-    ensures bytes { IfOk result (λ text. IfSome (known_text R.remaining reader.old)
-        (λ left. option_map (λ t. t.items) text ≡ left)) }
-    ensures read { IsReadAs place (failures_in reader.old) (failures_in reader.new) result }
-{
-    match reader {
-        Some(reader) => Ok(Some(read_at(alloc, reader, place)?)),
-        None => Ok(None),
-    }
-}
-
-/// Reads the file at a place of the order in which they are read.
-pub(crate) fn read_at<R: Read>(
-    alloc: Global,
-    reader: &mut Counted<R>,
-    place: u64,
-) -> Result<Vec<u8>, Fault>
-    ensures bytes { IfOk result
-        (λ bytes. IfSome (R.remaining (device_of reader.old)) (λ left. bytes.items ≡ left)) }
-    ensures read { IsReadAs place (failures_of reader.old) (failures_of reader.new) result }
-{
-    match read_whole(alloc, reader) {
-        Ok(bytes) => Ok(bytes),
-        Err(ReadFault::OutOfMemory) => Err(Fault::Refused(Refusal::OutOfMemory)),
-        Err(ReadFault::Read) => Err(Fault::Read { place }),
-    }
-}
-
-/// The lines of the listing of regions, where there is one.
-pub fn region_lines_in(
-    alloc: Global,
-    text: &Option<Vec<u8>>,
-) -> Result<Option<Vec<RegionLine<'_>>>, Fault>
-    ensures lines { GivesLines (option_map (λ t. t.items) text.now) result }
-    ensures fit { IfOk result (λ o. IfSome o (λ v. All (λ r. region_fits r ≡ true) v.items)) }
-{
-    let Some(text) = text else {
-        return Ok(None);
-    };
-    match read_regions(alloc, text) {
-        Ok(lines) => Ok(Some(lines)),
-        Err(fault) => Err(Fault::of_lines(REGIONS_PLACE, fault)),
-    }
 }
 
 /// The addresses that are given, and after them those of the file, where there is one.

@@ -4,9 +4,8 @@ ghost use Rattle.texts.specs.Output.{Delivers, Says};
 ghost use Rattle.engines.specs.LookupTexts.{answer_line, count_text, counts_by};
 ghost use Rattle.engines.specs.LookupTexts.{known_line, line_by};
 
-use crate::forms::AnswerForm;
-use crate::json_texts::{put_json_counts, put_json_line};
 use crate::table::AddressAnswer;
+use command_io::{AnswerForm, put_json_counts, put_json_line};
 use listing::{AddressRule, Answer, LineTallies, answer_of, put_answer, put_counts};
 use modules::Catalog;
 use std::io::Write;

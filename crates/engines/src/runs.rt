@@ -9,18 +9,18 @@ ghost use Rattle.texts.specs.Counted.{device_of, failures_of};
 ghost use Rattle.run_files.specs.Scripts.{has_actor, script_of};
 ghost use Rattle.modules.specs.Lines.{region_fits};
 ghost use Rattle.engines.specs.LookupInputs.{inputs_in, region_lines_of_inputs, texts_in};
-ghost use Rattle.engines.specs.Readings.{last_failures};
+ghost use Rattle.command_io.specs.Readings.{last_failures};
 ghost use Rattle.engines.specs.RunInputs.{known_run_inputs, run_inputs_of, run_inputs_with};
 ghost use Rattle.engines.specs.Runs.{AnswersLines, AnswersRun, TellsServed, run_failures_between};
 ghost use Rattle.engines.specs.Runs.{status_of};
 
 use crate::assignments::{Assignments, assign};
-use crate::fault::{FAILED, Fault, Finished, SUCCEEDED, with_notes};
-use crate::lookup::{
-    KALLSYMS_PLACE, ListingTexts, LookupInputs, LookupOptions, MODULES_PLACE, REGIONS_PLACE,
-    listings_in, read_at, read_if_given, region_lines_in,
-};
+use crate::lookup::{ListingTexts, LookupInputs, LookupOptions, listings_in};
 use crate::run_texts::put_run;
+use command_io::{
+    FAILED, Fault, Finished, KALLSYMS_PLACE, MODULES_PLACE, REGIONS_PLACE, SUCCEEDED, read_at,
+    read_if_given, region_lines_in, with_notes,
+};
 use listing::AddressRule;
 use modules::{Asked, Catalog, KernelBounds};
 use order_laws::Refusal;

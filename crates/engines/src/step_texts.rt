@@ -3,8 +3,8 @@
 ghost use Rattle.std.specs.Prelude.{◌≡◌, ◌+◌, ◌≤◌, ◌==◌, ◌++◌, if◌then◌else◌, codes, flat_map};
 ghost use Rattle.std.specs.Prelude.{length};
 ghost use Rattle.texts.specs.Output.{Says};
-ghost use Rattle.engines.specs.Json.{json_number};
-ghost use Rattle.engines.specs.JsonTexts.{json_count};
+ghost use Rattle.command_io.specs.Json.{json_number};
+ghost use Rattle.command_io.specs.JsonTexts.{json_count};
 ghost use Rattle.engines.specs.LineRooms.{IsPutBefore};
 ghost use Rattle.engines.specs.StepTexts.{answer_members, begun_members, event_text, json_item};
 ghost use Rattle.engines.specs.StepTexts.{json_list, json_tag, load_members, loaded_members};
@@ -14,9 +14,8 @@ ghost use Rattle.engines.specs.StepTexts.{refused_member, started_members, store
 ghost use Rattle.engines.specs.StepTexts.{update_members, version_number, word_members};
 ghost use Rattle.engines.specs.StepTexts.{written_members};
 
-use crate::json::put_json_number;
-use crate::json_texts::put_json_count;
 use crate::line_rooms::{LONGEST_NUMBER, LineRoom, ROOM};
+use command_io::{put_json_count, put_json_number};
 use latch_steps::{Event, NextLoad, Reply, Returned};
 use order_laws::{Item, Refusal};
 use run_files::{Header, Version};

@@ -15,10 +15,10 @@ ghost use Rattle.engines.specs.StepRuns.{EndsCommand, IsLoadBy, IsMemoryFault, I
 ghost use Rattle.engines.specs.StepRuns.{StopsTelling, TellsCommand, TellsCommands};
 ghost use Rattle.engines.specs.StepTraces.{AnswersSteps, AnswersStepsIn};
 
-use crate::fault::Fault;
 use crate::line_rooms::LineRoom;
 use crate::step_texts::{EventPlace, put_event, put_opening};
 use crate::trace::layout_for;
+use command_io::Fault;
 use latch_steps::{Command, Event, NextLoad, Reply, World};
 use order_laws::{Closed, HalfOpen, Refusal, TreeOrder};
 use run_files::{NumberedTrace, read_numbered_trace};

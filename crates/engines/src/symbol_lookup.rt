@@ -1,15 +1,14 @@
 //! A lookup whose modules, and where they lie, come from the listing of symbols alone.
 ghost use Rattle.std.specs.Prelude.{[], Ok, Some};
 ghost use Rattle.texts.specs.Counted.{device_of, failures_of};
-ghost use Rattle.engines.specs.LookupInputs.{known_text};
-ghost use Rattle.engines.specs.Readings.{failures_in, last_failures};
+ghost use Rattle.command_io.specs.Readings.{known_text};
+ghost use Rattle.command_io.specs.Readings.{failures_in, last_failures};
 ghost use Rattle.engines.specs.SymbolLookups.{AnswersSymbolLookup, failures_of_symbols};
 ghost use Rattle.engines.specs.SymbolLookups.{known_symbol_inputs};
 ghost use Rattle.engines.specs.SymbolLookups.{symbol_inputs_in, symbol_inputs_of};
 
-use crate::fault::{Fault, noted};
-use crate::forms::AnswerForm;
-use crate::lookup::{KALLSYMS_PLACE, all_addresses, places_of, read_at, write_lookup};
+use crate::lookup::{all_addresses, places_of, write_lookup};
+use command_io::{AnswerForm, Fault, KALLSYMS_PLACE, noted, read_at};
 use listing::{AddressRule, ListingNotes, open_symbols};
 use modules::{Asked, KernelBounds};
 use std::alloc::Global;

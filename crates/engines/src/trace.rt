@@ -14,9 +14,8 @@ ghost use Rattle.engines.specs.TraceTexts.{note_text};
 ghost use Rattle.engines.specs.GatheredTraces.{IsLinesFault, IsNext, IsNotOpened, HasGathered, GathersCommand, GathersLines};
 ghost use Rattle.engines.specs.Traces.{AnswersSaid, AnswersTrace, greatest_of, order_by};
 
-use crate::fault::{Fault, all_written};
-use crate::lookup::read_at;
 use crate::trace_texts::{LONGEST_LINE, append_end, append_note};
+use command_io::{Fault, all_written, read_at};
 use latch_steps::{Command, Driver, Note};
 use order_laws::{Closed, HalfOpen, Refusal, TreeOrder};
 use run_files::{CommandLines, Header, Version, open_trace};

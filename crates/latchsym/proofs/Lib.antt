@@ -4,17 +4,3 @@ mod Words
 mod ParseLemmas
 -- words that are numbers, one after the other
 mod AddressLemmas
--- a fault that a function hands on
-mod FaultLemmas
--- symbols that a search by address leaves out
-mod AliasLemmas
--- from what came of a log to what the engine returns
-mod AnnotationLemmas
--- blocks of a log that are read, with the listings behind each, and written
-mod FollowingLemmas
--- the kept symbols of the names that words ask for, symbol by symbol
-mod SoughtLemmas
--- from what was written about listings to what the engine returns
-mod GivenLemmas
--- where the last byte of its kind stands, and where a symbol that was found ends
-mod AskedNameLemmas

@@ -36,7 +36,6 @@ pub use Rattle.clap.specs.declared.error.Error.{Error}
 pub use Rattle.clap.specs.declared.parser.matches.ArgMatches.{ArgMatches}
 pub use Rattle.clap.specs.declared.parser.matches.ArgMatches.TheViews.{out-ArgMatches, out-SubCommand}
 pub use Rattle.clap.specs.declared.parser.matches.SubCommand.{SubCommand}
-pub use Rattle.memchr.specs.Find.{Nowhere, Passes, is_byte}
 pub use Rattle.facts.proofs.Lists.{map-insert, moved_over}
 pub use Rattle.facts.proofs.Options.{Some-from_parts}
 pub use Rattle.order_laws.specs.declared.items.Item.{Item}
@@ -66,38 +65,40 @@ pub use Rattle.listing.specs.SymbolListing.{is_mapping, symbol_counts, symbol_of
 pub use Rattle.listing.specs.Tallies.{Tallies, counts_text, symbol_tallies_by, tallies_by, tallies_of}
 pub use Rattle.listing.specs.declared.opening.Listings.{Listings}
 pub use Rattle.listing.specs.declared.opening.SymbolListing.{SymbolListing}
-pub use Rattle.engines.specs.Faults.{with_notes}
-pub use Rattle.engines.specs.JsonTexts.{address_member, symbol_members}
-pub use Rattle.engines.specs.LookupInputs.{Inputs, known_inputs, region_lines}
+pub use Rattle.command_io.specs.Faults.{with_notes}
+pub use Rattle.command_io.specs.JsonTexts.{address_member, symbol_members}
+pub use Rattle.engines.specs.LookupInputs.{Inputs, known_inputs}
+pub use Rattle.command_io.specs.Readings.{region_lines}
 pub use Rattle.engines.specs.Lookups.{AnswersLookup, AreListingsOf, failures_between}
-pub use Rattle.engines.specs.OpenedCatalogs.{AreReadAs, Given, HasBadRegion, HasCrowdedRegions, IsCatalogOf, OpensCatalog, given_in, known_given, listing_failures}
-pub use Rattle.engines.specs.Readings.{Failures, NoReaderFailed}
+pub use Rattle.command_io.specs.OpenedCatalogs.{AreReadAs, Given, HasBadRegion, HasCrowdedRegions, IsCatalogOf, OpensCatalog, given_in, known_given, listing_failures}
+pub use Rattle.command_io.specs.Readings.{Failures, NoReaderFailed}
 pub use Rattle.engines.specs.RunInputs.{known_run_inputs}
 pub use Rattle.engines.specs.Runs.{AnswersRun, run_failures_between}
 pub use Rattle.engines.specs.SymbolLookups.{AnswersSymbolLookup, failures_of_symbols, known_symbol_inputs}
-pub use Rattle.engines.specs.declared.fault.Fault.{Fault}
-pub use Rattle.engines.specs.declared.fault.Fault.TheVariants.{BadLine, Read, Refused, TooLong, Write}
+pub use Rattle.command_io.specs.declared.fault.Fault.{Fault}
+pub use Rattle.command_io.specs.declared.fault.Fault.TheVariants.{BadLine, Read, Refused, TooLong, Write}
 pub use Rattle.engines.specs.declared.lookup.LookupOptions.{LookupOptions}
-pub use Rattle.engines.specs.declared.opened_catalogs.GivenTexts.{GivenTexts}
+pub use Rattle.command_io.specs.declared.opened_catalogs.GivenTexts.{GivenTexts}
 pub use Rattle.engines.specs.declared.symbol_lookup.SymbolLookupOptions.{SymbolLookupOptions}
-pub use Rattle.latchsym.specs.LogAnswers.{answered_by}
-pub use Rattle.latchsym.specs.AddressTexts.{address_line, address_object, is_told, owner_member, owner_text, symbols_text, told_line, told_lines, word_text, words_text}
-pub use Rattle.latchsym.specs.Addresses.{IsAddressed}
-pub use Rattle.latchsym.specs.Annotations.{AnnotatesBy, AnnotatesLog, IsTold}
-pub use Rattle.latchsym.specs.AskedNames.{AskedSymbols, asked_of, cut_at_last, cut_before, distance_in, parted_by, without_last}
-pub use Rattle.latchsym.specs.Checks.{IsChecked, IsModulesReport, IsSymbolsReport, listings_report, modules_name, symbol_listing_report, with_modules}
+pub use Rattle.catalog_engines.specs.LogAnswers.{answered_by}
+pub use Rattle.catalog_engines.specs.AddressTexts.{address_line, address_object, is_told, owner_member, owner_text, symbols_text, told_line, told_lines, word_text, words_text}
+pub use Rattle.catalog_engines.specs.Addresses.{IsAddressed}
+pub use Rattle.catalog_engines.specs.Annotations.{AnnotatesBy, AnnotatesLog, IsTold}
+pub use Rattle.catalog_engines.specs.AskedNames.{AskedSymbols, asked_of, cut_at_last, cut_before, distance_in, parted_by, without_last}
+pub use Rattle.catalog_engines.specs.Checks.{IsChecked, IsModulesReport, IsSymbolsReport, listings_report, modules_name, symbol_listing_report, with_modules}
 pub use Rattle.latchsym.specs.CommandLine.{IsCommand, IsPlainArg, latchsym_app, top_app}
-pub use Rattle.latchsym.specs.GivenAnswers.{AnswersGiven, AnswersListings, HoldsOfRegions, IsTextWritten}
+pub use Rattle.catalog_engines.specs.GivenAnswers.{AnswersGiven, AnswersListings, HoldsOfRegions, IsTextWritten}
 pub use Rattle.latchsym.specs.Jobs.{AnswersMatches, AnswersWords, Gives, IsAddressIn, IsAnnotateIn, IsFaultOf, IsLookupIn, IsRequestIn, IsUnparsed, is_no_address}
-pub use Rattle.latchsym.specs.KeptSymbols.{IsSought, Kept, end_of, found_by, is_owner, is_sought, kept_at_its_address, kept_in, kept_line, kept_symbol, kept_symbols, named, sought}
-pub use Rattle.latchsym.specs.NoteTexts.{applying_lines, line_if_noted, line_where, message_of, note_line, note_lines, noted_bounds, notes_text}
+pub use Rattle.catalog_engines.specs.KeptSymbols.{IsSought, Kept, end_of, found_by, is_owner, is_sought, kept_at_its_address, kept_in, kept_line, kept_symbol, kept_symbols, named, sought}
+pub use Rattle.catalog_engines.specs.NoteTexts.{applying_lines, line_if_noted, line_where, message_of, note_line, note_lines, noted_bounds}
+pub use Rattle.latchsym.specs.JobNotes.{notes_text}
 pub use Rattle.latchsym.specs.Operands.{ends_options, is_kernel_name, operand_place}
-pub use Rattle.latchsym.specs.Reports.{IsNoted}
-pub use Rattle.latchsym.specs.declared.address_texts.AddressForm.{AddressForm}
-pub use Rattle.latchsym.specs.declared.asked_names.Distance.{Distance}
-pub use Rattle.latchsym.specs.declared.requests.Annotate.{Annotate}
+pub use Rattle.catalog_engines.specs.NoteTexts.{IsNoted}
+pub use Rattle.catalog_engines.specs.declared.address_texts.AddressForm.{AddressForm}
+pub use Rattle.catalog_engines.specs.declared.asked_names.Distance.{Distance}
+pub use Rattle.catalog_engines.specs.declared.annotations.Annotate.{Annotate}
 pub use Rattle.latchsym.specs.declared.requests.Job.{Job}
 pub use Rattle.latchsym.specs.declared.requests.JobFault.{JobFault}
 pub use Rattle.latchsym.specs.declared.requests.JobFault.TheVariants.{CommandLine, OutOfMemory}
-pub use Rattle.latchsym.specs.declared.requests.ListingFiles.{ListingFiles}
+pub use Rattle.catalog_engines.specs.declared.sources.ListingFiles.{ListingFiles}
 pub use Rattle.latchsym.specs.declared.requests.Request.{Request}

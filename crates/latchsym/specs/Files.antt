@@ -11,12 +11,12 @@ use Rattle.latchsym.specs.declared.jobs.OpenedJob.{OpenedJob}
 use Rattle.latchsym.specs.declared.jobs.OpenedJob.TheVariants as opened
 use Rattle.latchsym.specs.declared.requests.Job.{Job}
 use Rattle.latchsym.specs.declared.requests.Job.TheVariants as job
-use Rattle.latchsym.specs.declared.requests.ListingFiles.{ListingFiles}
+use Rattle.catalog_engines.specs.declared.sources.ListingFiles.{ListingFiles}
 use Rattle.latchsym.specs.declared.requests.Request.{Request}
 use Rattle.latchsym.specs.declared.requests.Subcommand.{Subcommand}
 use Rattle.latchsym.specs.declared.requests.Subcommand.TheVariants as sub
 use Rattle.engines.specs.declared.lookup.LookupReaders.{LookupReaders}
-use Rattle.engines.specs.declared.opened_catalogs.ListingReaders.{ListingReaders}
+use Rattle.command_io.specs.declared.opened_catalogs.ListingReaders.{ListingReaders}
 use Rattle.engines.specs.declared.runs.RunReaders.{RunReaders}
 
 -- the file that is read behind the listings
@@ -30,8 +30,8 @@ input_of (sub.Address address) = None
 -- the files that are read, in order; the place of one that is not given stays empty
 abbrev pub files_of_request : Request → List (Option Text)
 files_of_request q =
-    option_map (λ f. f.now) q.files.modules ∷ Some q.files.kallsyms.now
-    ∷ option_map (λ f. f.now) q.files.regions ∷ input_of q.subcommand ∷ []
+    option_map (λ f. f.now) q.sources.files.modules ∷ Some q.sources.files.kallsyms.now
+    ∷ option_map (λ f. f.now) q.sources.files.regions ∷ input_of q.subcommand ∷ []
 
 abbrev pub files_of : Job → List (Option Text)
 files_of (job.Trace file) = Some file.now ∷ []
@@ -92,22 +92,22 @@ abbrev pub IsOpenedWith : {F : Type 0} → (F → Option (List ℕ)) → Held �
     → OpenedJob F → Type 0
 IsOpenedWith remaining held inputs q (sub.Lookup lookup) (opened.Lookup o p r) =
     (o.now ≡ q) × (p.now ≡ lookup)
-    × AreListingFiles remaining held q.files (listings_of_lookup r)
+    × AreListingFiles remaining held q.sources.files (listings_of_lookup r)
     × IsOpenedIfGiven remaining inputs lookup.file r.addresses
 IsOpenedWith remaining held inputs q (sub.Lookup lookup) (opened.SymbolLookup o p r) =
-    (o.now ≡ q) × (p.now ≡ lookup) × (q.files.modules ≡ None)
-    × IsOpened remaining held q.files.kallsyms.now r.kallsyms
+    (o.now ≡ q) × (p.now ≡ lookup) × (q.sources.files.modules ≡ None)
+    × IsOpened remaining held q.sources.files.kallsyms.now r.kallsyms
     × IsOpenedIfGiven remaining inputs lookup.file r.addresses
 IsOpenedWith remaining held inputs q (sub.Run run) (opened.Run o p r) =
-    (o.now ≡ q) × (p.now ≡ run) × AreListingFiles remaining held q.files (listings_of_run r)
+    (o.now ≡ q) × (p.now ≡ run) × AreListingFiles remaining held q.sources.files (listings_of_run r)
     × IsOpened remaining inputs run.script.now r.script
 IsOpenedWith remaining held inputs q (sub.Annotate annotate) (opened.Annotate o p r) =
-    (o.now ≡ q) × (p.now ≡ annotate) × AreListingFiles remaining held q.files r.listings
+    (o.now ≡ q) × (p.now ≡ annotate) × AreListingFiles remaining held q.sources.files r.listings
     × IsOpened remaining inputs annotate.log.now r.log
 IsOpenedWith remaining held inputs q sub.Check (opened.Check o r) =
-    (o.now ≡ q) × AreListingFiles remaining held q.files r
+    (o.now ≡ q) × AreListingFiles remaining held q.sources.files r
 IsOpenedWith remaining held inputs q (sub.Address address) (opened.Address o p r) =
-    (o.now ≡ q) × (p.now ≡ address) × AreListingFiles remaining held q.files r
+    (o.now ≡ q) × (p.now ≡ address) × AreListingFiles remaining held q.sources.files r
 IsOpenedWith remaining held inputs q _ _ = ⊥
 
 -- the job is the one that is opened, over the readers of its own files

@@ -11,7 +11,7 @@ use Rattle.clap.specs.Words.{rows_of, subcommand_of}
 use Rattle.clap.specs.declared.parser.matches.ArgMatches.{ArgMatches}
 use Rattle.clap.specs.declared.error.Error.{Error}
 use Rattle.clap.specs.declared.error.kind.ErrorKind.TheVariants as kind
-use Rattle.engines.specs.declared.forms.AnswerForm.{AnswerForm}
+use Rattle.command_io.specs.declared.forms.AnswerForm.{AnswerForm}
 use Rattle.listing.specs.declared.address_rules.Callers.{Callers}
 use Rattle.listing.specs.declared.address_rules.Callers.TheVariants.{ByPlace, Every, Never}
 use Rattle.latch_table.specs.Limits.{most_readers}
@@ -20,7 +20,7 @@ use Rattle.listing.specs.Addresses.{address_of_text}
 use Rattle.modules.specs.Listed.{BoundNames}
 use Rattle.latchsym.specs.CommandLine.{latchsym_app}
 use Rattle.latchsym.specs.declared.requests.Address.{Address}
-use Rattle.latchsym.specs.declared.requests.Annotate.{Annotate}
+use Rattle.catalog_engines.specs.declared.annotations.Annotate.{Annotate}
 use Rattle.latchsym.specs.declared.requests.Job.{Job}
 use Rattle.latchsym.specs.declared.requests.Job.TheVariants as job
 use Rattle.latchsym.specs.declared.requests.JobFault.{JobFault}
@@ -29,7 +29,7 @@ use Rattle.latchsym.specs.declared.requests.JobFault.TheVariants.{BadReaders, Co
 use Rattle.latchsym.specs.declared.requests.JobFault.TheVariants.{ModulesTwice, NoAddress, NoJob}
 use Rattle.latchsym.specs.declared.requests.JobFault.TheVariants.{OutOfMemory}
 use Rattle.latchsym.specs.declared.requests.JobFault.TheVariants.{RegionsAlone, TakenTwice}
-use Rattle.latchsym.specs.declared.requests.ListingFiles.{ListingFiles}
+use Rattle.catalog_engines.specs.declared.sources.ListingFiles.{ListingFiles}
 use Rattle.latchsym.specs.declared.requests.Lookup.{Lookup}
 use Rattle.latchsym.specs.declared.requests.Request.{Request}
 use Rattle.latchsym.specs.declared.requests.Run.{Run}
@@ -207,8 +207,8 @@ IsSubcommandIn name rows (sub.Address address) =
 
 -- a subcommand of this name asks for this over these listings
 pub record IsRequestIn (name : Text) (rows : List Row) (request : Request) : Type 0 where
-  pub files : AreFilesIn rows request.files
-  pub kernel : AreBoundsIn rows request.kernel
+  pub files : AreFilesIn rows request.sources.files
+  pub kernel : AreBoundsIn rows request.sources.kernel
   pub subcommand : IsSubcommandIn name rows request.subcommand
 
 -- the trace in the file of this name is asked for, and whether its steps are to be told

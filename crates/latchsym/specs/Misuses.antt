@@ -17,7 +17,7 @@ use Rattle.latchsym.specs.declared.requests.JobFault.TheVariants.{BadEnd, BadOff
 use Rattle.latchsym.specs.declared.requests.JobFault.TheVariants.{BadReaders, NoJob, NoText}
 use Rattle.latchsym.specs.declared.requests.JobFault.TheVariants.{ModulesTwice}
 use Rattle.latchsym.specs.declared.requests.JobFault.TheVariants.{RegionsAlone, TakenTwice}
-use Rattle.engines.specs.declared.fault.Fault.TheVariants.{Refused, Write}
+use Rattle.command_io.specs.declared.fault.Fault.TheVariants.{Refused, Write}
 
 -- what is wrong with the command line, and with which word
 abbrev pub misuse_text : List ℕ → Text → List ℕ

@@ -1,16 +1,16 @@
 -- What comes of a job: that of its engine over the job's own readers.
 use Rattle.std.specs.Prelude.{◌≡◌, ℕ, Bool, true, false, List, map, Option, None, Result, unwrap_or}
 use Rattle.texts.specs.declared.output.Output.{Output}
-use Rattle.latchsym.specs.Addresses.{IsAddressed}
-use Rattle.latchsym.specs.Annotations.{AnnotatesLog}
-use Rattle.latchsym.specs.Checks.{IsChecked}
-use Rattle.latchsym.specs.Following.{FollowsLog}
-use Rattle.latchsym.specs.GivenAnswers.{AnswersListings}
-use Rattle.engines.specs.Faults.{with_notes, with_status, without_notes}
+use Rattle.catalog_engines.specs.Addresses.{IsAddressed}
+use Rattle.catalog_engines.specs.Annotations.{AnnotatesLog}
+use Rattle.catalog_engines.specs.Checks.{IsChecked}
+use Rattle.catalog_engines.specs.Following.{FollowsLog}
+use Rattle.catalog_engines.specs.GivenAnswers.{AnswersListings}
+use Rattle.command_io.specs.Faults.{with_notes, with_status, without_notes}
 use Rattle.listing.specs.ListingNotes.{no_notes}
 use Rattle.engines.specs.LookupInputs.{known_inputs}
 use Rattle.engines.specs.Lookups.{AnswersLookup, failures_between}
-use Rattle.engines.specs.OpenedCatalogs.{known_given, listing_failures}
+use Rattle.command_io.specs.OpenedCatalogs.{known_given, listing_failures}
 use Rattle.engines.specs.RunInputs.{known_run_inputs}
 use Rattle.engines.specs.Runs.{AnswersRun, run_failures_between}
 use Rattle.engines.specs.SymbolLookups.{AnswersSymbolLookup, failures_of_symbols}
@@ -19,21 +19,21 @@ use Rattle.engines.specs.StepTraces.{AnswersSteps}
 use Rattle.engines.specs.Traces.{AnswersTrace}
 use Rattle.modules.specs.Lines.{usual_bounds}
 use Rattle.modules.specs.Listed.{BoundNames}
-use Rattle.engines.specs.declared.fault.Fault.{Fault}
-use Rattle.engines.specs.declared.fault.Finished.{Finished}
+use Rattle.command_io.specs.declared.fault.Fault.{Fault}
+use Rattle.command_io.specs.declared.fault.Finished.{Finished}
 use Rattle.engines.specs.declared.lookup.LookupOptions.{LookupOptions}
 use Rattle.engines.specs.declared.symbol_lookup.SymbolLookupOptions.{SymbolLookupOptions}
-use Rattle.latchsym.specs.declared.annotations.AnnotateReaders.{AnnotateReaders}
+use Rattle.catalog_engines.specs.declared.annotations.AnnotateReaders.{AnnotateReaders}
 use Rattle.latchsym.specs.declared.jobs.OpenedJob.{OpenedJob}
 use Rattle.latchsym.specs.declared.jobs.OpenedJob.TheVariants.{Trace, Steps, Lookup, SymbolLookup}
 use Rattle.latchsym.specs.declared.jobs.OpenedJob.TheVariants.{Address, Annotate, Check, Run}
-use Rattle.latchsym.specs.declared.requests.Annotate as annotate
+use Rattle.catalog_engines.specs.declared.annotations.Annotate as annotate
 use Rattle.latchsym.specs.declared.requests.Lookup as lookup
 use Rattle.latchsym.specs.declared.requests.Request.{Request}
 
 -- the names of the kernel's bounds where modules are listed
 abbrev pub bounds_of : Request → BoundNames
-bounds_of q = unwrap_or q.kernel usual_bounds
+bounds_of q = unwrap_or q.sources.kernel usual_bounds
 
 -- how the addresses of a request are looked up, in listings of modules and of symbols
 abbrev pub options_of : Request → lookup.Lookup → LookupOptions
@@ -41,7 +41,7 @@ options_of q l = record { kernel = bounds_of q; rule = l.rule; with_mapping = tr
 
 -- the same in a listing of symbols alone
 abbrev pub symbol_options_of : Request → lookup.Lookup → SymbolLookupOptions
-symbol_options_of q l = record { kernel = q.kernel; rule = l.rule }
+symbol_options_of q l = record { kernel = q.sources.kernel; rule = l.rule }
 
 -- an engine returned what it may, and the outcome is this of it
 abbrev pub Ends : {A : Type 0} → (Result A Fault → Type 0) → (Result A Fault → Result Finished Fault)
@@ -55,9 +55,9 @@ abbrev pub IsOutcomeOfLog : {R W E : Type 0} → (R → Option (List ℕ)) → (
     → AnnotateReaders R R R R → Output W → Output W → Output E → Output E
     → Result Finished Fault → Type 0
 IsOutcomeOfLog remaining contents errors q a true r r' w w' e e' outcome =
-    Ends (FollowsLog contents errors q a None None w w' e e') (with_notes no_notes) outcome
+    Ends (FollowsLog contents errors q.sources a None None w w' e e') (with_notes no_notes) outcome
 IsOutcomeOfLog remaining contents errors q a false r r' w w' e e' outcome =
-    Ends (AnnotatesLog remaining contents errors q a
+    Ends (AnnotatesLog remaining contents errors q.sources a
     (known_given remaining remaining remaining r.listings)
     (listing_failures r.listings r'.listings) r.log r'.log w w' e e') (with_notes no_notes) outcome
 
@@ -90,12 +90,12 @@ IsOutcome remaining contents errors (Run q run r) (Run _ _ r') w w' e e' outcome
 IsOutcome remaining contents errors (Annotate q a r) (Annotate _ _ r') w w' e e' outcome =
     IsOutcomeOfLog remaining contents errors q.now a.now a.now.follow r r' w w' e e' outcome
 IsOutcome remaining contents errors (Check q r) (Check _ r') w w' e e' outcome =
-    Ends (AnswersListings contents (IsChecked q.now.kernel q.now.files)
+    Ends (AnswersListings contents (IsChecked q.now.sources.kernel q.now.sources.files)
     (known_given remaining remaining remaining r) (listing_failures r r') w w')
     (with_notes no_notes) outcome × (e' ≡ e)
 IsOutcome remaining contents errors (Address q a r) (Address _ _ r') w w' e e' outcome =
     Ends (AnswersListings contents
-    (IsAddressed a.now.form q.now.kernel (map (λ n. n.now) a.now.names.items))
+    (IsAddressed a.now.form q.now.sources.kernel (map (λ n. n.now) a.now.names.items))
     (known_given remaining remaining remaining r) (listing_failures r r') w w') with_status outcome
     × (e' ≡ e)
 IsOutcome remaining contents errors _ _ w w' e e' outcome = ⊥

@@ -17,8 +17,8 @@ use Rattle.latchsym.specs.declared.jobs.OpenedJob.{OpenedJob}
 use Rattle.latchsym.specs.declared.requests.Job.{Job}
 use Rattle.latchsym.specs.declared.requests.JobFault.{JobFault}
 use Rattle.latchsym.specs.declared.requests.JobFault.TheVariants.{OutOfMemory}
-use Rattle.engines.specs.declared.fault.Fault.{Fault}
-use Rattle.engines.specs.declared.fault.Finished.{Finished}
+use Rattle.command_io.specs.declared.fault.Fault.{Fault}
+use Rattle.command_io.specs.declared.fault.Finished.{Finished}
 
 -- the error behind what a job came to, if it failed
 abbrev pub error_of_outcome : {R : Type 0} → OpenedJob R → Option Error → Result Finished Fault

@@ -1,6 +1,6 @@
 -- What is said at the end of a run: what is noted of its listings, or why it failed.
 use Rattle.std.specs.Prelude.{◌≡◌, ℕ, List, [], ◌++◌, Option, Result, Ok, Err}
-use Rattle.std.specs.Prelude.{Bool, true, false, codes, decimal, is_some, option_and_then, unwrap_or}
+use Rattle.std.specs.Prelude.{codes, decimal, is_some, option_and_then, unwrap_or}
 use Rattle.std.specs.declared.io.Error.{Error}
 use Rattle.clap.specs.Words.{Text}
 use Rattle.texts.specs.declared.output.Output.{Output}
@@ -9,13 +9,14 @@ use Rattle.order_laws.specs.Refusals.{refusal_number}
 use Rattle.latchsym.specs.Files.{file_at}
 use Rattle.latchsym.specs.Reasons.{reason_text}
 use Rattle.listing.specs.ListingNotes.{is_some_noted}
-use Rattle.latchsym.specs.NoteTexts.{notes_text}
+use Rattle.catalog_engines.specs.NoteTexts.{IsNoted}
+use Rattle.latchsym.specs.JobNotes.{notes_text}
 use Rattle.engines.specs.TraceTexts.{refused_text}
 use Rattle.latchsym.specs.declared.requests.Job.{Job}
-use Rattle.engines.specs.declared.fault.Fault.{Fault}
-use Rattle.engines.specs.declared.fault.Finished.{Finished}
-use Rattle.engines.specs.declared.fault.Fault.TheVariants.{Refused, BadLine, Read, TooLong, Write}
-use Rattle.engines.specs.Faults.{fault_place}
+use Rattle.command_io.specs.declared.fault.Fault.{Fault}
+use Rattle.command_io.specs.declared.fault.Finished.{Finished}
+use Rattle.command_io.specs.declared.fault.Fault.TheVariants.{Refused, BadLine, Read, TooLong, Write}
+use Rattle.command_io.specs.Faults.{fault_place}
 
 abbrev pub bad_line_text : Text → ℕ → List ℕ
 bad_line_text file line = file ++ codes ": line " ++ decimal line ++ codes " is not understood\n"
@@ -49,12 +50,6 @@ abbrev pub IsFaultTold : {D : Type 0} → (D → Option (List ℕ)) → Output D
 IsFaultTold contents old new file error fault =
     (words : Option (List ℕ)) × (is_some words ≡ is_some error)
     × Says contents old new (fault_text file words fault)
-
--- where something is noted these lines were said, and else nothing was
-abbrev pub IsNoted : {D : Type 0} → (D → Option (List ℕ)) → Output D → Output D → Bool
-    → List ℕ → Type 0
-IsNoted contents old new true lines = Says contents old new lines
-IsNoted contents old new false lines = new ≡ old
 
 -- The program's status after a job with this outcome, and what it has said of it: of a status that
 -- the job itself came to, what is noted of its listings, and else the fault and the error behind it.

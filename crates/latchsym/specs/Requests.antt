@@ -1,6 +1,6 @@
 -- What belongs together in a request.
 use Rattle.std.specs.Prelude.{Bool, is_some, true}
-use Rattle.latchsym.specs.declared.requests.ListingFiles.{ListingFiles}
+use Rattle.catalog_engines.specs.declared.sources.ListingFiles.{ListingFiles}
 use Rattle.latchsym.specs.declared.requests.Subcommand.{Subcommand}
 use Rattle.latchsym.specs.declared.requests.Subcommand.TheVariants.{Run}
 

@@ -8,14 +8,12 @@ ghost use Rattle.latchsym.specs.Jobs.{IsRunIn, IsSubcommandIn, callers_in, clash
 ghost use Rattle.latchsym.specs.Jobs.{has_flag, is_like_address, option_clash, readers_of, rows_in};
 ghost use Rattle.latchsym.specs.Jobs.{source_clash, values_in};
 
-use crate::address_texts::AddressForm;
 use crate::command_line::latchsym_command;
-use crate::requests::{
-    Address, Annotate, Job, JobFault, ListingFiles, Lookup, Request, Run, Subcommand,
-};
+use crate::requests::{Address, Job, JobFault, Lookup, Request, Run, Subcommand};
+use catalog_engines::{AddressForm, Annotate, ListingFiles, Sources};
 use clap::error::ErrorKind;
 use clap::{ArgMatches, Error};
-use engines::AnswerForm;
+use command_io::AnswerForm;
 use latch_table::MOST_READERS;
 use listing::{AddressRule, Callers, LogRule, address_of_text};
 use modules::KernelBounds;
@@ -136,9 +134,9 @@ fn request_in<'a>(
 {
     let kernel = bounds_in(found)?;
     let subcommand = subcommand_in(alloc, name, found)?;
+    let files = files_in(found);
     Ok(Request {
-        files: files_in(found),
-        kernel,
+        sources: Sources { files, kernel },
         subcommand,
     })
 }

@@ -1,10 +1,8 @@
 //! The files of a log that lasts and of its listings.
 
-use crate::annotations::{AnnotateReaders, LOG_PLACE};
 use crate::jobs::{FileSource, open_listings};
-use crate::lasting_log::LastingLog;
-use crate::requests::ListingFiles;
-use engines::{Fault, GivenTexts, read_given};
+use catalog_engines::{AnnotateReaders, LOG_PLACE, LastingLog, ListingFiles};
+use command_io::{Fault, GivenTexts, read_given};
 use std::alloc::Global;
 use std::io::Read;
 

@@ -3,36 +3,38 @@
 ghost use Rattle.std.specs.Prelude.{◌≡◌, IfOk, IfErr, List, ℕ, None, Option, is_some, map, true};
 ghost use Rattle.texts.specs.Counted.{device_of};
 ghost use Rattle.texts.specs.Output.{error_in};
-ghost use Rattle.engines.specs.Faults.{with_notes, with_status};
+ghost use Rattle.command_io.specs.Faults.{with_notes, with_status};
 ghost use Rattle.engines.specs.LookupInputs.{known_inputs};
 ghost use Rattle.engines.specs.Lookups.{AnswersLookup, failures_between};
-ghost use Rattle.engines.specs.OpenedCatalogs.{known_given, listing_failures};
+ghost use Rattle.command_io.specs.OpenedCatalogs.{known_given, listing_failures};
 ghost use Rattle.engines.specs.RunInputs.{known_run_inputs};
 ghost use Rattle.engines.specs.Runs.{AnswersRun, run_failures_between};
 ghost use Rattle.engines.specs.SymbolLookups.{AnswersSymbolLookup, failures_of_symbols};
 ghost use Rattle.engines.specs.SymbolLookups.{known_symbol_inputs};
 ghost use Rattle.listing.specs.ListingNotes.{no_notes};
-ghost use Rattle.latchsym.specs.Addresses.{IsAddressed};
-ghost use Rattle.latchsym.specs.Annotations.{AnnotatesLog};
-ghost use Rattle.latchsym.specs.Checks.{IsChecked};
-ghost use Rattle.latchsym.specs.GivenAnswers.{AnswersListings};
+ghost use Rattle.catalog_engines.specs.Addresses.{IsAddressed};
+ghost use Rattle.catalog_engines.specs.Annotations.{AnnotatesLog};
+ghost use Rattle.catalog_engines.specs.Checks.{IsChecked};
+ghost use Rattle.catalog_engines.specs.GivenAnswers.{AnswersListings};
 ghost use Rattle.latchsym.specs.Files.{AreListingFiles, IsOpened, IsOpenedFor, IsOpenedIfGiven};
 ghost use Rattle.latchsym.specs.Files.{IsOpenedWith, or_standard};
-ghost use Rattle.latchsym.specs.Following.{FollowsLog};
+ghost use Rattle.catalog_engines.specs.Following.{FollowsLog};
 ghost use Rattle.latchsym.specs.Outcomes.{Ends, IsOutcome, IsOutcomeOfLog, bounds_of, options_of};
 ghost use Rattle.latchsym.specs.Outcomes.{symbol_options_of};
 ghost use Rattle.latchsym.specs.Reasons.{error_if_given, error_of_listing};
 
-use crate::addresses::address_engine;
-use crate::annotations::{AnnotateReaders, annotate_engine};
-use crate::checks::check_engine;
 use crate::followed_files::FollowedFiles;
-use crate::following::follow_engine;
-use crate::requests::{Address, Annotate, Job, ListingFiles, Lookup, Request, Run, Subcommand};
+use crate::requests::{Address, Job, Lookup, Request, Run, Subcommand};
+use catalog_engines::{
+    Annotate, AnnotateReaders, ListingFiles, address_engine, annotate_engine, check_engine,
+    follow_engine,
+};
+use command_io::{
+    Fault, Finished, ListingReaders, bounds_or_usual, with_notes, with_status, without_notes,
+};
 use engines::{
-    Fault, Finished, ListingReaders, LookupOptions, LookupReaders, RunReaders, SymbolLookupOptions,
-    SymbolLookupReaders, bounds_or_usual, lookup_engine, run_engine, steps_engine,
-    symbol_lookup_engine, trace_engine, with_notes, with_status, without_notes,
+    LookupOptions, LookupReaders, RunReaders, SymbolLookupOptions, SymbolLookupReaders,
+    lookup_engine, run_engine, steps_engine, symbol_lookup_engine, trace_engine,
 };
 use listing::ListingNotes;
 use modules::KernelBounds;
@@ -108,17 +110,17 @@ fn open_request<'j, 'a, F: FileSource>(
         Subcommand::Lookup(lookup) => open_lookup(files, request, lookup),
         Subcommand::Run(run) => open_run(files, request, run),
         Subcommand::Annotate(annotate) => {
-            let listings = open_listings(files, &request.files)?;
+            let listings = open_listings(files, &request.sources.files)?;
             let log = open_or_standard(files, annotate.log)?;
             let readers = AnnotateReaders { listings, log };
             Ok(OpenedJob::Annotate(request, annotate, readers))
         }
         Subcommand::Check => {
-            let listings = open_listings(files, &request.files)?;
+            let listings = open_listings(files, &request.sources.files)?;
             Ok(OpenedJob::Check(request, listings))
         }
         Subcommand::Address(address) => {
-            let listings = open_listings(files, &request.files)?;
+            let listings = open_listings(files, &request.sources.files)?;
             Ok(OpenedJob::Address(request, address, listings))
         }
     }
@@ -139,7 +141,7 @@ fn open_lookup<'j, 'a, F: FileSource>(
         modules,
         kallsyms,
         regions,
-    } = open_listings(files, &request.files)?;
+    } = open_listings(files, &request.sources.files)?;
     let addresses = open_addresses(files, lookup.file)?;
     let Some(modules) = modules else {
         let readers = SymbolLookupReaders {
@@ -163,7 +165,7 @@ fn open_run<'j, 'a, F: FileSource>(
     request: &'j Request<'a>,
     run: &'j Run<'a>,
 ) -> Result<OpenedJob<'j, 'a, F::File>, Refusal>
-    requires { is_some request.now.files.modules ≡ true }
+    requires { is_some request.now.sources.files.modules ≡ true }
     ensures opened { IfOk result (IsOpenedWith F.File.remaining (F.held files.now)
         (or_standard (F.standard files.now) (F.held files.now)) request.now
         (Subcommand.Run run.now)) }
@@ -173,7 +175,7 @@ fn open_run<'j, 'a, F: FileSource>(
         modules,
         kallsyms,
         regions,
-    } = open_listings(files, &request.files)?;
+    } = open_listings(files, &request.sources.files)?;
     let script = open_or_standard(files, run.script)?;
     let Some(modules) = modules else {
         unreachable!();
@@ -242,7 +244,7 @@ fn do_lookup<R: Read, W: Write>(
         (failures_between readers.old readers.new) writer.old writer.new) with_status result }
 {
     let options = LookupOptions {
-        kernel: bounds_or_usual(request.kernel.as_ref()),
+        kernel: bounds_or_usual(request.sources.kernel.as_ref()),
         rule: lookup.rule,
         with_mapping: true,
     };
@@ -264,7 +266,7 @@ fn do_symbol_lookup<R: Read, W: Write>(
         (failures_of_symbols readers.old readers.new) writer.old writer.new) with_status result }
 {
     let options = SymbolLookupOptions {
-        kernel: same_bounds(&request.kernel),
+        kernel: same_bounds(&request.sources.kernel),
         rule: lookup.rule,
     };
     let addresses = &lookup.addresses;
@@ -298,7 +300,7 @@ fn do_run<T: Threads + Wait + Sync, R: Read, W: Write>(
         (bounds_of request.now) run.now.readers)
         (run_failures_between readers.old readers.new) writer.old writer.new result }
 {
-    let kernel = bounds_or_usual(request.kernel.as_ref());
+    let kernel = bounds_or_usual(request.sources.kernel.as_ref());
     run_engine(threads, alloc, readers, &kernel, run.readers, writer)
 }
 
@@ -332,12 +334,12 @@ fn do_annotate_once<R: Read, W: Write, E: Write>(
     writer: &mut Output<W>,
     errors: &mut Output<E>,
 ) -> Result<Finished, Fault>
-    ensures { Ends (AnnotatesLog R.remaining W.contents E.contents request.now annotate.now
+    ensures { Ends (AnnotatesLog R.remaining W.contents E.contents request.now.sources annotate.now
         (known_given R.remaining R.remaining R.remaining readers.old.listings)
         (listing_failures readers.old.listings readers.new.listings) readers.old.log readers.new.log
         writer.old writer.new errors.old errors.new) (with_notes no_notes) result }
 {
-    let done = annotate_engine(alloc, readers, request, annotate, errors, writer);
+    let done = annotate_engine(alloc, readers, &request.sources, annotate, errors, writer);
     with_notes(done, ListingNotes::none())
 }
 
@@ -351,11 +353,11 @@ fn do_follow<F: FileSource, W: Write, E: Write>(
     writer: &mut Output<W>,
     errors: &mut Output<E>,
 ) -> Result<Finished, Fault>
-    ensures { Ends (FollowsLog W.contents E.contents request.now annotate.now None None
+    ensures { Ends (FollowsLog W.contents E.contents request.now.sources annotate.now None None
         writer.old writer.new errors.old errors.new) (with_notes no_notes) result }
 {
-    let mut log = FollowedFiles::new(files, &request.files, readers);
-    let done = follow_engine(alloc, &mut log, request, annotate, errors, writer);
+    let mut log = FollowedFiles::new(files, &request.sources.files, readers);
+    let done = follow_engine(alloc, &mut log, &request.sources, annotate, errors, writer);
     with_notes(done, ListingNotes::none())
 }
 
@@ -366,13 +368,13 @@ fn do_check<R: Read, W: Write>(
     readers: &mut ListingReaders<R, R, R>,
     writer: &mut Output<W>,
 ) -> Result<Finished, Fault>
-    ensures { Ends (AnswersListings W.contents (IsChecked request.now.kernel request.now.files)
+    ensures { Ends (AnswersListings W.contents (IsChecked request.now.sources.kernel request.now.sources.files)
         (known_given R.remaining R.remaining R.remaining readers.old)
         (listing_failures readers.old readers.new) writer.old writer.new)
         (with_notes no_notes) result }
 {
-    let kernel = request.kernel.as_ref();
-    let status = check_engine(alloc, readers, kernel, &request.files, writer);
+    let kernel = request.sources.kernel.as_ref();
+    let status = check_engine(alloc, readers, kernel, &request.sources.files, writer);
     with_notes(status, ListingNotes::none())
 }
 
@@ -384,12 +386,12 @@ fn do_address<R: Read, W: Write>(
     readers: &mut ListingReaders<R, R, R>,
     writer: &mut Output<W>,
 ) -> Result<Finished, Fault>
-    ensures { Ends (AnswersListings W.contents (IsAddressed address.now.form request.now.kernel
+    ensures { Ends (AnswersListings W.contents (IsAddressed address.now.form request.now.sources.kernel
         (map (λ n. n.now) address.now.names.items))
         (known_given R.remaining R.remaining R.remaining readers.old)
         (listing_failures readers.old readers.new) writer.old writer.new) with_status result }
 {
-    let kernel = request.kernel.as_ref();
+    let kernel = request.sources.kernel.as_ref();
     let done = address_engine(alloc, readers, address.form, kernel, &address.names, writer);
     with_status(done)
 }

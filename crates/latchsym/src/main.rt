@@ -11,33 +11,23 @@
 //!
 //! The options of each stand in `command_line`, and what they ask for in `requests`.
 //!
-//! What `trace`, `lookup` and `run` do stands in `engines`; what needs no table stands here.
+//! What `trace`, `lookup` and `run` do stands in `engines`, and what needs no table in
+//! `catalog_engines`.
 #![tactic(auto)]
 
-mod address_texts;
-mod addresses;
-mod annotations;
 mod arguments;
-mod asked_names;
-mod checks;
 mod command_line;
 mod followed_files;
-mod following;
 mod input;
+mod job_notes;
 mod jobs;
-mod kept_symbols;
-mod lasting_log;
-mod log_aliases;
-mod log_answers;
-mod log_index;
 mod misuse;
-mod note_texts;
 mod operands;
 mod programs;
 mod reports;
 mod requests;
 
-use engines::Fault;
+use command_io::Fault;
 use input::FileSystem;
 use order_laws::Refusal;
 use programs::program;

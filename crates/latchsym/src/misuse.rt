@@ -7,7 +7,7 @@ ghost use Rattle.latchsym.specs.Misuses.{offset_message};
 use crate::reports::report_before_job;
 use crate::requests::JobFault;
 use clap::Error;
-use engines::{Fault, SUCCEEDED};
+use command_io::{Fault, SUCCEEDED};
 use order_laws::Refusal;
 use std::alloc::Global;
 use std::io::Write;

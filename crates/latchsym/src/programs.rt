@@ -21,7 +21,7 @@ use crate::misuse::refuse;
 use crate::operands::with_operands;
 use crate::reports::conclude;
 use crate::requests::{Job, JobFault};
-use engines::{Fault, Finished};
+use command_io::{Fault, Finished};
 use std::alloc::Global;
 use std::convert::AsStr;
 use std::io;

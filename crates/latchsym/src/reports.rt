@@ -1,22 +1,21 @@
 //! What is said at the end of a run: what is noted of its listings, or why it failed.
-ghost use Rattle.std.specs.Prelude.{◌≡◌, ◌++◌, [], None, Ok, Err, if◌then◌else◌};
+ghost use Rattle.std.specs.Prelude.{◌≡◌, ◌++◌, [], None};
 ghost use Rattle.std.specs.Option.{option_copied};
-ghost use Rattle.texts.specs.Output.{Says, has_failed};
-ghost use Rattle.engines.specs.declared.fault.Fault.TheVariants.{Write};
+ghost use Rattle.texts.specs.Output.{Says};
 ghost use Rattle.latchsym.specs.Reasons.{reason_text};
-ghost use Rattle.latchsym.specs.Reports.{IsConcluded, IsFaultTold, IsNoted};
+ghost use Rattle.latchsym.specs.Reports.{IsConcluded, IsFaultTold};
 ghost use Rattle.latchsym.specs.Reports.{bad_line_text, fault_text, file_of, message_text};
 ghost use Rattle.latchsym.specs.Reports.{unread_text, unwritten_text};
 ghost use Rattle.listing.specs.ListingNotes.{is_some_noted};
-ghost use Rattle.latchsym.specs.NoteTexts.{is_log_noted, log_line, note_lines, notes_text};
+ghost use Rattle.catalog_engines.specs.NoteTexts.{IsNoted};
+ghost use Rattle.latchsym.specs.JobNotes.{notes_text};
 
-use crate::note_texts::{put_job_notes, put_log_note, put_notes_of};
-use crate::requests::{Job, ListingFiles};
+use crate::job_notes::put_job_notes;
+use crate::requests::Job;
 use arrayvec::ArrayString;
-use engines::{FAILED, Fault, Finished, put_refused};
-use listing::{ListingNotes, is_gzip, is_utf_16};
-use logs::{Findings, LogNames};
-use modules::KernelBounds;
+use command_io::{FAILED, Fault, Finished};
+use engines::put_refused;
+use listing::ListingNotes;
 use std::fmt::Write as _;
 use std::io;
 use std::io::Write;
@@ -52,41 +51,6 @@ fn note<W: Write>(notes: &ListingNotes, job: &Job<'_>, writer: &mut Output<W>)
     }
 }
 
-/// Writes what is noted of the listings in these files, if something is, where these names are given
-/// for the kernel's bounds.
-pub fn note_listings<W: Write>(
-    notes: &ListingNotes,
-    kernel: Option<&KernelBounds>,
-    files: &ListingFiles<'_>,
-    writer: &mut Output<W>,
-)
-    ensures { IsNoted W.contents writer.old writer.new (is_some_noted notes.now)
-        (note_lines (option_copied kernel.entry) files.now notes.now) }
-{
-    if notes.any() {
-        put_notes_of(writer, kernel, files, notes);
-    }
-}
-
-/// Writes what is noted of the log in this file, if something is, where this was found of it.
-pub fn note_log<W: Write>(found: &Findings, log: &str, writer: &mut Output<W>)
-    ensures { IsNoted W.contents writer.old writer.new
-        (is_log_noted found.now.head.items found.now.names)
-        (log_line log.now found.now.head.items found.now.names) }
-{
-    let head = found.head.as_slice();
-    if is_log_noted(head, found.names) {
-        put_log_note(writer, log, head, found.names);
-    }
-}
-
-/// Whether something is noted of a log with these first two bytes, of which this was found.
-fn is_log_noted(head: &[u8], names: LogNames) -> bool
-    ensures { result ≡ is_log_noted head.now names }
-{
-    is_gzip(head) || is_utf_16(head) || names.is_of_another_boot() || names.is_unnamed()
-}
-
 /// Writes the line that says why the job failed, and returns the program's status. Where the writer
 /// fails too, the status is all that there is to tell.
 fn report<W: Write>(
@@ -105,17 +69,6 @@ fn report<W: Write>(
         None => put_fault(fault, file, None, writer),
     }
     FAILED
-}
-
-/// What an engine came to, unless a call of its writer failed.
-pub fn unless_failed<W, T: Drop>(writer: &Output<W>, done: T) -> Result<T, Fault>
-    ensures { result ≡ (if has_failed writer.now then Err Write else Ok done) }
-{
-    if writer.has_failed() {
-        Err(Fault::Write)
-    } else {
-        Ok(done)
-    }
 }
 
 /// The most bytes that are told of what the system says.

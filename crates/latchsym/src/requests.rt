@@ -2,11 +2,10 @@
 ghost use Rattle.std.specs.Prelude.{◌≡◌, option_map, true};
 ghost use Rattle.latchsym.specs.Requests.{has_modules_to_run};
 
-use crate::address_texts::AddressForm;
+use catalog_engines::{AddressForm, Annotate, Sources};
 use clap::Error;
-use engines::AnswerForm;
-use listing::{AddressRule, LogRule};
-use modules::KernelBounds;
+use command_io::AnswerForm;
+use listing::AddressRule;
 use std::alloc::AllocFailed;
 
 /// What a command line asks for.
@@ -23,24 +22,11 @@ pub enum Job<'a> {
 /// What is asked for over listings.
 #[derive(Debug, Drop)]
 pub struct Request<'a> {
-    /// The files of the listings.
-    pub files: ListingFiles<'a>,
-    /// The names of the symbols that bound the kernel's own region, where they are given.
-    pub kernel: Option<KernelBounds<'a>>,
+    /// The listings.
+    pub sources: Sources<'a>,
     /// What is done with them.
     pub subcommand: Subcommand<'a>,
-    ghost listed: { has_modules_to_run files subcommand ≡ true },
-}
-
-/// The files of listings.
-#[derive(Debug, Drop)]
-pub struct ListingFiles<'a> {
-    /// That of the listing of modules; where there is none, the symbols say where modules lie.
-    pub modules: Option<&'a str>,
-    /// That of the listing of symbols.
-    pub kallsyms: &'a str,
-    /// That of the listing of regions, where there is one beside that of modules.
-    pub regions: Option<&'a str>,
+    ghost listed: { has_modules_to_run sources.files subcommand ≡ true },
 }
 
 /// What is done with listings. Each has the options `--kallsyms FILE`, `[--modules FILE]`,
@@ -85,17 +71,6 @@ pub struct Run<'a> {
     pub script: &'a str,
 }
 
-/// Which log is annotated.
-#[derive(Debug, Drop)]
-pub struct Annotate<'a> {
-    /// How the addresses of the log are taken.
-    pub rule: LogRule,
-    /// Whether the listings are read again behind each block of the log.
-    pub follow: bool,
-    /// The file of the log; `-` is the standard input.
-    pub log: &'a str,
-}
-
 /// Which names are looked for.
 #[derive(Debug, Drop)]
 pub struct Address<'a> {
@@ -131,9 +106,9 @@ impl<'a> Request<'a> {
         ensures { option_map (λ f. f.now) result ≡ request_file_at self.now place }
     {
         match place {
-            0 => self.files.modules,
-            1 => Some(self.files.kallsyms),
-            2 => self.files.regions,
+            0 => self.sources.files.modules,
+            1 => Some(self.sources.files.kallsyms),
+            2 => self.sources.files.regions,
             3 => self.subcommand.input(),
             _ => None,
         }

@@ -1,6 +1,6 @@
 //! Why no line of a listing is of use: it is compressed or in UTF-16, hidden from its reader, a listing
 //! of the other kind, or its lines end as another system ends them.
-ghost use Rattle.std.specs.Prelude.{◌≡◌, ◌∷◌, ◌&&◌, ◌||◌, [], List, ℕ, find, length, nat_lt, not};
+ghost use Rattle.std.specs.Prelude.{◌≡◌, ◌&&◌, ◌||◌, List, ℕ, find, length, nat_lt, not};
 ghost use Rattle.std.specs.Prelude.{option_map};
 ghost use Rattle.std.specs.Char.{is_digit};
 ghost use Rattle.std.specs.List.{list_all, list_any};
@@ -12,12 +12,11 @@ ghost use Rattle.listing.specs.Looks.{is_utf_16, lacks_lines, looks_like_modules
 ghost use Rattle.listing.specs.Looks.{looks_like_symbols};
 ghost use Rattle.listing.specs.ModuleListing.{module_counts, modules_in};
 ghost use Rattle.listing.specs.SymbolListing.{symbol_counts, symbols_in};
-ghost use Rattle.modules.specs.Listed.{BoundNames};
 
 use crate::module_listing::{ModuleCounts, SkippedModule, module_in};
 use crate::symbol_listing::{SkippedSymbol, SymbolCounts, cut_tabbed_line, symbol_of_line};
 use memchr::memchr;
-use modules::{KernelBounds, SymbolLine, SymbolLines};
+use modules::{KernelBounds, SymbolLine};
 use texts::{cut_line, digit_of};
 
 /// Whether the first two bytes are those of a file that gzip made.
@@ -212,32 +211,6 @@ pub struct KernelSymbols {
 }
 
 impl KernelSymbols {
-    /// None of them.
-    pub(crate) fn none() -> KernelSymbols
-        ensures { (names : BoundNames) → AreKernelSymbols names [] result }
-    {
-        KernelSymbols {
-            any: false,
-            start: false,
-            end: false,
-        }
-    }
-
-    /// These, and those that these lines show too. What was seen is not sought again.
-    pub(crate) fn and(self, lines: &SymbolLines, names: &KernelBounds) -> KernelSymbols
-        ensures any { result.any ≡ (self.any || list_any is_of_kernel lines.now) }
-        ensures start { result.start
-            ≡ (self.start || list_any (is_kernel_symbol names.now.start) lines.now) }
-        ensures end { result.end
-            ≡ (self.end || list_any (is_kernel_symbol names.now.end) lines.now) }
-    {
-        KernelSymbols {
-            any: self.any || lines.has_kernel_line(),
-            start: self.start || lists_kernel_symbol(lines, names.start),
-            end: self.end || lists_kernel_symbol(lines, names.end),
-        }
-    }
-
     /// These, and this symbol too.
     fn with(self, symbol: &SymbolLine, names: &KernelBounds) -> KernelSymbols
         ensures any { result.any ≡ (self.any || is_of_kernel symbol.now) }
@@ -254,13 +227,6 @@ impl KernelSymbols {
             end: self.end || symbol.name == names.end,
         }
     }
-}
-
-/// Whether one of the lines is a symbol of the kernel itself that has this name.
-fn lists_kernel_symbol(lines: &SymbolLines, name: &[u8]) -> bool
-    ensures { result ≡ list_any (is_kernel_symbol name.now) lines.now }
-{
-    lines.has_kernel_symbol(name)
 }
 
 /// Which symbols of the kernel itself a listing of symbols shows, where these names bound it.

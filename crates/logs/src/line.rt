@@ -19,7 +19,7 @@ ghost use Rattle.logs.specs.Words.{words_behind};
 use crate::answers::Answers;
 use crate::held::Held;
 use crate::log_names::LogNames;
-use crate::taken::{Taken, address_at, held_after, taken_at};
+use crate::taken::{Taken, address_at, carry_on, taken_at};
 use crate::words::{Word, begins_with, behind_closers, next_candidate};
 use std::alloc::AllocError;
 
@@ -56,7 +56,8 @@ pub(crate) fn put_line<A: Answers>(
         return out.extend_from_slice(line);
     }
     let progress = put_words(answers, *held, line, out)?;
-    *held = held_after(*held, line, progress.has_frame, progress.names);
+    held.names = progress.names;
+    carry_on(held, line, progress.has_frame);
     Ok(())
 }
 

@@ -18,7 +18,6 @@ ghost use Rattle.logs.specs.TakenWords.{repeats, says_caller, taken_at, tells_pl
 ghost use Rattle.logs.specs.Words.{address_at, begins_joint, part};
 
 use crate::held::{First, Held};
-use crate::log_names::LogNames;
 use crate::places::{
     Kind, begins_numbered, end_of, first_of, has_label, is_lead, prefix_end, without_end,
 };
@@ -345,23 +344,21 @@ fn next_first(first: First, has_frame: bool, tells: bool) -> First
     }
 }
 
-/// What is carried on behind a line with a frame or without one, and these names. Mostly the line
-/// has no `P` at all.
-pub(crate) fn held_after(held: Held, line: &[u8], has_frame: bool, names: LogNames) -> Held
-    ensures first { result.first ≡ next_first held.first has_frame (tells_place line.now) }
-    ensures user { result.is_user ≡ (is_user_line held line.now || begins_user line.now) }
-    ensures names { result.names ≡ names }
+/// Carries on behind a line with a frame or without one. Mostly the line has no `P` at all.
+pub(crate) fn carry_on(held: &mut Held, line: &[u8], has_frame: bool)
+    ensures first { held.new.first
+        ≡ next_first held.old.first has_frame (tells_place line.now) }
+    ensures user { held.new.is_user ≡ (is_user_line held.old line.now || begins_user line.now) }
+    ensures names { held.new.names ≡ held.old.names }
 {
     match memchr(b'P', line) {
-        Some(_) => Held {
-            first: next_first(held.first, has_frame, tells_place(line)),
-            is_user: is_user_line(held, line) || begins_user(line),
-            names,
-        },
-        None => Held {
-            first: next_first(held.first, has_frame, false),
-            is_user: is_user_line(held, line),
-            names,
-        },
+        Some(_) => {
+            held.is_user = is_user_line(*held, line) || begins_user(line);
+            held.first = next_first(held.first, has_frame, tells_place(line));
+        }
+        None => {
+            held.is_user = is_user_line(*held, line);
+            held.first = next_first(held.first, has_frame, false);
+        }
     }
 }

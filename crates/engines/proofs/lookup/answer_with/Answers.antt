@@ -8,13 +8,13 @@ use Rattle.listing.specs.Tallies.{Tallies, tallies_by, tallies_of}
 use Rattle.listing.specs.declared.opening.Listings.{Listings}
 use Rattle.order_laws.specs.declared.refusals.Refusal.TheVariants as refusal
 use Rattle.engines.specs.CatalogTables.{HasFewRegions, HasManyRegions}
-use Rattle.engines.specs.Faults.{noted}
+use Rattle.command_io.specs.Faults.{noted}
 use Rattle.engines.specs.LookupInputs.{Inputs, catalog_in, inputs_in}
 use Rattle.engines.specs.LookupTexts.{lookup_lines}
 use Rattle.engines.specs.Lookups.{AnswersLookup, AreListingsOf, WritesLookup, lookup_text}
-use Rattle.engines.specs.declared.fault.Fault.{Fault}
-use Rattle.engines.specs.declared.fault.Fault.TheVariants.{Refused, Write}
-use Rattle.engines.specs.declared.forms.AnswerForm.{AnswerForm}
+use Rattle.command_io.specs.declared.fault.Fault.{Fault}
+use Rattle.command_io.specs.declared.fault.Fault.TheVariants.{Refused, Write}
+use Rattle.command_io.specs.declared.forms.AnswerForm.{AnswerForm}
 use Rattle.engines.proofs.lookup.answer_with.Goals as goal
 
 -- what was written over these listings is the text of the inputs

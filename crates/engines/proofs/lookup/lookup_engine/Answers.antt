@@ -2,9 +2,10 @@ use Rattle.std.proofs.Common.{◌≡◌, ◌∷◌, ◌∙◌, ℕ, List, [], Op
 use Rattle.std.specs.Prelude.{option_and_then}
 use Rattle.texts.specs.Counted.{device_of, failures_of}
 use Rattle.modules.specs.Listed.{ListedRegion}
-use Rattle.engines.specs.LookupInputs.{Inputs, Texts, all_addresses, inputs_after, inputs_of, inputs_with, known_text, region_lines, texts_of}
+use Rattle.engines.specs.LookupInputs.{Inputs, Texts, all_addresses, inputs_after, inputs_of, inputs_with, texts_of}
+use Rattle.command_io.specs.Readings.{known_text, region_lines}
 use Rattle.engines.specs.Lookups.{IsLookupOf}
-use Rattle.engines.specs.Readings.{Failures, failures_in}
+use Rattle.command_io.specs.Readings.{Failures, failures_in}
 use Rattle.engines.specs.declared.lookup.LookupOptions.{LookupOptions}
 use Rattle.engines.proofs.InputLemmas.{still_answered}
 use Rattle.engines.proofs.lookup.lookup_engine.Goals as goal

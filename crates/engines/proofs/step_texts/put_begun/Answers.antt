@@ -1,6 +1,6 @@
 use Rattle.std.proofs.Common.{◌++◌, codes}
 use Rattle.texts.proofs.OutputLemmas.{same_text}
-use Rattle.engines.specs.JsonTexts.{json_count}
+use Rattle.command_io.specs.JsonTexts.{json_count}
 use Rattle.engines.proofs.EventLineLemmas.{refused_begun}
 use Rattle.engines.proofs.step_texts.put_begun.Goals as goal
 

@@ -1,6 +1,6 @@
 use Rattle.std.proofs.Common.{ap, codes}
 use Rattle.texts.proofs.OutputLemmas.{same_text, then}
-use Rattle.engines.specs.JsonTexts.{json_count}
+use Rattle.command_io.specs.JsonTexts.{json_count}
 use Rattle.engines.specs.StepTexts.{opening_text}
 use Rattle.engines.proofs.step_texts.put_opening.Goals as goal
 

@@ -9,13 +9,13 @@ use Rattle.listing.specs.declared.opening.SymbolListing.{SymbolListing}
 use Rattle.modules.specs.Catalogs.{catalog_with}
 use Rattle.order_laws.specs.declared.refusals.Refusal.TheVariants as refusal
 use Rattle.engines.specs.CatalogTables.{HasFewRegions, HasManyRegions}
-use Rattle.engines.specs.Faults.{noted}
+use Rattle.command_io.specs.Faults.{noted}
 use Rattle.engines.specs.LookupTexts.{lookup_lines}
 use Rattle.engines.specs.Lookups.{WritesLookup}
 use Rattle.engines.specs.SymbolLookups.{AnswersSymbolLookup, SymbolInputs, symbol_inputs_in, symbol_lookup_text}
-use Rattle.engines.specs.declared.fault.Fault.{Fault}
-use Rattle.engines.specs.declared.fault.Fault.TheVariants.{Refused, Write}
-use Rattle.engines.specs.declared.forms.AnswerForm.{AnswerForm}
+use Rattle.command_io.specs.declared.fault.Fault.{Fault}
+use Rattle.command_io.specs.declared.fault.Fault.TheVariants.{Refused, Write}
+use Rattle.command_io.specs.declared.forms.AnswerForm.{AnswerForm}
 use Rattle.engines.proofs.symbol_lookup.answer_by_symbols.Goals as goal
 
 -- what was written over this listing is the text of the inputs

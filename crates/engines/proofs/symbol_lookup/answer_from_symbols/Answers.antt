@@ -1,6 +1,7 @@
 use Rattle.std.proofs.Common.{◌≡◌, ℕ, List, [], Option, Some, None, Result, Ok, IfSome, refl, subst, sym}
-use Rattle.engines.specs.LookupInputs.{all_addresses, known_text}
-use Rattle.engines.specs.Readings.{failures_in, last_failures}
+use Rattle.engines.specs.LookupInputs.{all_addresses}
+use Rattle.command_io.specs.Readings.{known_text}
+use Rattle.command_io.specs.Readings.{failures_in, last_failures}
 use Rattle.engines.specs.SymbolLookups.{IsSymbolLookupOf, SymbolInputs, symbol_inputs_of, symbol_inputs_with}
 use Rattle.engines.specs.declared.symbol_lookup.SymbolLookupOptions.{SymbolLookupOptions}
 use Rattle.engines.proofs.InputLemmas.{still_answered}

@@ -1,8 +1,8 @@
 use Rattle.std.proofs.Common.{◌≡◌, List, ℕ, Option, Some, None, IfSome, refl, subst, sym}
 use Rattle.std.specs.Prelude.{option_and_then}
 use Rattle.texts.specs.Counted.{device_of, failures_of}
-use Rattle.engines.specs.LookupInputs.{known_text}
-use Rattle.engines.specs.Readings.{failures_in}
+use Rattle.command_io.specs.Readings.{known_text}
+use Rattle.command_io.specs.Readings.{failures_in}
 use Rattle.engines.specs.SymbolLookups.{IsSymbolLookupOf, known_symbol_inputs, symbol_inputs_of}
 use Rattle.engines.proofs.InputLemmas.{answered_behind}
 use Rattle.engines.proofs.symbol_lookup.symbol_lookup_engine.Goals as goal

@@ -1,5 +1,5 @@
 use Rattle.latchsym.proofs.Words.{◌∙◌, ap, codes, map, found_of, rows_of, Gives, IsAddressIn}
-use Rattle.latchsym.proofs.FaultLemmas.{handed_on}
+use Rattle.command_io.proofs.FaultLemmas.{handed_on}
 use Rattle.latchsym.proofs.arguments.address_in.Goals as goal
 
 pub returns-in_err-higher : goal.returns-in_err-higher

@@ -1,5 +1,5 @@
 use Rattle.latchsym.proofs.Words.{found_of, rows_of, Gives, IsRequestIn}
-use Rattle.latchsym.proofs.FaultLemmas.{handed_on}
+use Rattle.command_io.proofs.FaultLemmas.{handed_on}
 use Rattle.latchsym.proofs.arguments.request_in.Goals as goal
 
 pub returns-in_err-kernel : goal.returns-in_err-kernel
@@ -9,4 +9,4 @@ returns-in_err-kernel c =
     handed_on (Gives (IsRequestIn name) name rows) c.from_residual.result c.in_err-kernel.field-0.0 c.from_residual.ensures.1 (c.in_err-kernel.ensures name)
 
 pub returns : goal.returns
-returns c = record { files = c.files_in.ensures; kernel = c.in_ok-kernel.ensures c.args.name.now; subcommand = c.in_ok-subcommand.ensures }
+returns c = record { files = c.files_in-files.ensures; kernel = c.in_ok-kernel.ensures c.args.name.now; subcommand = c.in_ok-subcommand.ensures }

@@ -1,6 +1,6 @@
 use Rattle.std.proofs.Common.{rules, arith}
 use Rattle.std.proofs.lemmas.Grind.{common_steps}
-use Rattle.engines.specs.Json.{json_number}
+use Rattle.command_io.specs.Json.{json_number}
 use Rattle.engines.proofs.line_rooms.LineRoom.before_number.Goals as goal
 
 pub returns-then-n-lt-FIRST_TO_ROUND : goal.returns-then-n-lt-FIRST_TO_ROUND

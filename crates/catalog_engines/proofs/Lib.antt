@@ -1,0 +1,16 @@
+-- the words that the proofs of this crate use
+mod Words
+-- the texts of words
+mod WordLemmas
+-- symbols that a search by address leaves out
+mod AliasLemmas
+-- from what came of a log to what the engine returns
+mod AnnotationLemmas
+-- blocks of a log that are read, with the listings behind each, and written
+mod FollowingLemmas
+-- the kept symbols of the names that words ask for, symbol by symbol
+mod SoughtLemmas
+-- from what was written about listings to what the engine returns
+mod GivenLemmas
+-- where the last byte of its kind stands, and where a symbol that was found ends
+mod AskedNameLemmas

@@ -1,0 +1,17 @@
+-- What is written where names are asked for.
+use Rattle.std.specs.Prelude.{◌≡◌, List, ℕ, Option}
+use Rattle.modules.specs.Entries.{CatalogEntries}
+use Rattle.modules.specs.Listed.{BoundNames}
+use Rattle.command_io.specs.OpenedCatalogs.{Given, IsCatalogOf}
+use Rattle.listing.specs.SymbolListing.{symbols_in}
+use Rattle.listing.specs.declared.listing_notes.ListingNotes.{ListingNotes}
+use Rattle.texts.specs.Lines.{lines_of}
+use Rattle.catalog_engines.specs.AddressTexts.{address_text}
+use Rattle.catalog_engines.specs.declared.address_texts.AddressForm.{AddressForm}
+
+-- the lines of these words, in this form, by the catalog of the listings, of which this is noted
+abbrev pub IsAddressed : AddressForm → Option BoundNames → List (List ℕ) → Given → List ℕ
+    → ListingNotes → Type 0
+IsAddressed form kernel words g text notes =
+    (c : CatalogEntries) × IsCatalogOf kernel g c notes
+    × (text ≡ address_text form c (symbols_in (lines_of g.kallsyms)) words)

@@ -1,0 +1,23 @@
+-- The definitions of this crate, in the order in which to read them.
+-- the lines that say what is noted of listings and of a log
+pub mod NoteTexts
+-- what an engine returns that reads listings, and then writes a text about them
+pub mod GivenAnswers
+-- how the addresses of a log are answered
+pub mod LogAnswers
+-- what is known of the order of the symbols that a log is answered from
+pub mod LogIndexes
+-- what is written for a log, and told of its listings
+pub mod Annotations
+-- what is written for a log that lasts, whose listings are read again
+pub mod Following
+-- what is written of listings that are checked
+pub mod Checks
+-- what the names of a command line ask for
+pub mod AskedNames
+-- the symbols of a listing that a catalog keeps, with where they end
+pub mod KeptSymbols
+-- the lines that are written for names
+pub mod AddressTexts
+-- what is written where names are asked for
+pub mod Addresses

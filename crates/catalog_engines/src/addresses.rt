@@ -1,0 +1,62 @@
+//! From the bytes of listings and from names to the lines that say where the symbols are.
+ghost use Rattle.std.specs.Prelude.{◌≡◌, map, Some};
+ghost use Rattle.std.specs.Option.{option_copied};
+ghost use Rattle.catalog_engines.specs.Addresses.{IsAddressed};
+ghost use Rattle.catalog_engines.specs.GivenAnswers.{AnswersGiven, AnswersListings};
+ghost use Rattle.command_io.specs.OpenedCatalogs.{given_in, known_given, listing_failures};
+
+use crate::address_texts::{AddressForm, put_words};
+use crate::kept_symbols::symbols_sought;
+use command_io::{
+    Fault, GivenTexts, ListingReaders, open_catalog, read_given, unless_failed,
+};
+use listing::ListingNotes;
+use modules::{IndexedCatalog, KernelBounds};
+use std::alloc::Global;
+use std::io::{Read, Write};
+use texts::Output;
+
+/// Writes where the kept symbols of each name are, in the order listed, as objects of JSON or as
+/// lines of text, and returns what is noted of the listings. A name may have the module in front of
+/// it, and an offset behind.
+///
+/// All is read, and the catalog is there, before the first byte is written; so every fault but a
+/// failed write leaves the writer as it was. docs/FORMATS.md has the names and the lines.
+pub fn address_engine<M: Read, K: Read, R: Read, W: Write>(
+    alloc: Global,
+    readers: &mut ListingReaders<M, K, R>,
+    form: AddressForm,
+    kernel: Option<&KernelBounds>,
+    words: &[&str],
+    writer: &mut Output<W>,
+) -> Result<ListingNotes, Fault>
+    ensures { AnswersListings W.contents
+        (IsAddressed form (option_copied kernel.entry) (map (λ w. w.now) words.now))
+        (known_given M.remaining K.remaining R.remaining readers.old)
+        (listing_failures readers.old readers.new) writer.old writer.new result }
+{
+    let texts = read_given(alloc, readers)?;
+    answer_names(alloc, &texts, form, kernel, words, writer)
+}
+
+/// Writes where they are in the listings that these texts are.
+fn answer_names<W: Write>(
+    alloc: Global,
+    texts: &GivenTexts,
+    form: AddressForm,
+    kernel: Option<&KernelBounds>,
+    words: &[&str],
+    writer: &mut Output<W>,
+) -> Result<ListingNotes, Fault>
+    ensures { AnswersGiven W.contents
+        (IsAddressed form (option_copied kernel.entry) (map (λ w. w.now) words.now))
+        (given_in texts.now) writer.old writer.new result }
+{
+    let opened = open_catalog(alloc, kernel, texts)?;
+    let notes = opened.notes;
+    let index = IndexedCatalog::new(alloc, opened.catalog)?;
+    let sought = symbols_sought(alloc, &index, &texts.kallsyms, words)?;
+    put_words(writer, form, &sought, words);
+    writer.flush();
+    unless_failed(writer, notes)
+}

@@ -1,0 +1,192 @@
+//! From the bytes of the listings and of a log to the log with the text of the answer behind each
+//! address.
+//!
+//! The listings are read whole, and what is noted of them is told, before the log is begun: it may
+//! have no end. The log itself goes through line by line.
+ghost use Rattle.std.specs.Prelude.{◌≡◌, [], Some};
+ghost use Rattle.catalog_engines.specs.Annotations.{AnnotatesBy, AnnotatesLog, IsEndTold};
+ghost use Rattle.catalog_engines.specs.Annotations.{stop_of, stopped};
+ghost use Rattle.catalog_engines.specs.LogAnswers.{answered_by};
+ghost use Rattle.command_io.specs.OpenedCatalogs.{given_in, known_given, listing_failures};
+
+use crate::log_answers::CatalogAnswers;
+use crate::notes::{note_listings, note_log};
+use crate::sources::Sources;
+use command_io::{
+    FAILED, Fault, GivenTexts, ListingReaders, SUCCEEDED, open_catalog, read_given,
+};
+use listing::{LogRule, is_narrow};
+use logs::{Findings, LogFault, annotate};
+use modules::IndexedCatalog;
+use order_laws::Refusal;
+use std::alloc::{AllocError, Global};
+use std::io::{Read, Write};
+use texts::{Counted, Output};
+
+/// Which log is annotated.
+#[derive(Debug, Drop)]
+pub struct Annotate<'a> {
+    /// How the addresses of the log are taken.
+    pub rule: LogRule,
+    /// Whether the listings are read again behind each block of the log.
+    pub follow: bool,
+    /// The file of the log; `-` is the standard input.
+    pub log: &'a str,
+}
+
+/// The readers of the files of an annotation, in the order in which they are read.
+#[derive(Drop)]
+pub struct AnnotateReaders<M, K, R, L> {
+    /// The listings.
+    pub listings: ListingReaders<M, K, R>,
+    /// The log.
+    pub log: Counted<L>,
+}
+
+/// Why a log is annotated no further.
+#[derive(Clone, Copy, Debug, Drop)]
+pub enum Stop {
+    /// Nobody reads any more what is written.
+    Closed,
+    /// There is a fault.
+    Failed(Fault),
+}
+
+impl From<Fault> for Stop {
+    ghost use Rattle.catalog_engines.specs.declared.annotations.Stop.TheVariants.{Failed};
+
+    ghost from_gives = { λ fault stop. stop ≡ Failed fault };
+
+    fn from(fault: Fault) -> Stop {
+        Stop::Failed(fault)
+    }
+}
+
+impl From<AllocError> for Stop {
+    ghost use Rattle.command_io.specs.declared.fault.Fault.TheVariants.{Refused};
+    ghost use Rattle.catalog_engines.specs.declared.annotations.Stop.TheVariants.{Failed};
+    ghost use Rattle.order_laws.specs.declared.refusals.Refusal.TheVariants.{OutOfMemory};
+
+    ghost from_gives = { λ _ stop. stop ≡ Failed (Refused OutOfMemory) };
+
+    fn from(_error: AllocError) -> Stop {
+        Stop::Failed(Fault::Refused(Refusal::OutOfMemory))
+    }
+}
+
+/// The place of the log among the files that are read.
+pub const LOG_PLACE: u64 = 3;
+
+/// Writes a log again, with the text of the answer behind each address in it that the listings
+/// have. The sources say between which symbols the kernel itself lies, and the job how the addresses
+/// are taken; the listing of symbols says whether the log is of a 32-bit kernel.
+///
+/// What is noted of the listings is told to `errors` before the log is begun. Every
+/// fault that comes before that leaves the log, the writer and `errors` as they were. Each line of
+/// the log is written, and the writer flushed, after the block that its end is in was read; so
+/// whatever ends it, what was written is a beginning of the annotated log. The status is 1 where
+/// nobody reads any more what is written, as before `head`. Behind a log that was annotated to its
+/// end it is noted if it is packed or of wide characters, if the names that it has itself are not those
+/// of the listing, or if none of its addresses has a name. docs/FORMATS.md has the listings, and says
+/// what is inserted.
+pub fn annotate_engine<M: Read, K: Read, R: Read, L: Read, E: Write, W: Write>(
+    alloc: Global,
+    readers: &mut AnnotateReaders<M, K, R, L>,
+    sources: &Sources<'_>,
+    job: &Annotate<'_>,
+    errors: &mut Output<E>,
+    writer: &mut Output<W>,
+) -> Result<u8, Fault>
+    ensures { AnnotatesLog L.remaining W.contents E.contents sources.now job.now
+        (known_given M.remaining K.remaining R.remaining readers.old.listings)
+        (listing_failures readers.old.listings readers.new.listings)
+        readers.old.log readers.new.log writer.old writer.new errors.old errors.new result }
+{
+    let texts = read_given(alloc, &mut readers.listings)?;
+    let log = &mut readers.log;
+    annotate_over(alloc, &texts, sources, job, errors, log, writer)
+}
+
+/// Writes the log again by the catalog that these texts say, and tells before it what is noted of
+/// them.
+fn annotate_over<L: Read, E: Write, W: Write>(
+    alloc: Global,
+    texts: &GivenTexts,
+    sources: &Sources<'_>,
+    job: &Annotate<'_>,
+    errors: &mut Output<E>,
+    log: &mut Counted<L>,
+    writer: &mut Output<W>,
+) -> Result<u8, Fault>
+    ensures { AnnotatesLog L.remaining W.contents E.contents sources.now job.now
+        (Some (given_in texts.now)) [] log.old log.new writer.old writer.new
+        errors.old errors.new result }
+{
+    let kernel = sources.kernel.as_ref();
+    let opened = open_catalog(alloc, kernel, texts)?;
+    let notes = opened.notes;
+    let index = IndexedCatalog::new(alloc, opened.catalog)?;
+    note_listings(&notes, kernel, &sources.files, errors);
+    let is_narrow = is_narrow(&texts.kallsyms);
+    let answers = CatalogAnswers::new(alloc, &index, job.rule, is_narrow);
+    annotate_by(alloc, &answers, job.log, errors, log, writer)
+}
+
+/// Writes the log again by these answers, and notes if it is packed, or tells of another listing.
+fn annotate_by<L: Read, E: Write, W: Write>(
+    alloc: Global,
+    answers: &CatalogAnswers<'_, '_>,
+    name: &str,
+    errors: &mut Output<E>,
+    log: &mut Counted<L>,
+    writer: &mut Output<W>,
+) -> Result<u8, Fault>
+    ensures { AnnotatesBy L.remaining W.contents E.contents name.now
+        (answered_by answers.now.index answers.now.rule answers.now.is_narrow)
+        log.old log.new writer.old writer.new errors.old errors.new result }
+{
+    let end = stopped(annotate(alloc, answers, log, writer));
+    tell_end(end, name, errors)
+}
+
+/// What was put, or why a log is annotated no further.
+pub(crate) fn stopped<T>(put: Result<T, LogFault>) -> Result<T, Stop>
+    ensures { result ≡ stopped put }
+{
+    match put {
+        Ok(value) => Ok(value),
+        Err(fault) => Err(stop_of(fault)),
+    }
+}
+
+/// Why a log is annotated no further where there is this fault.
+fn stop_of(fault: LogFault) -> Stop
+    ensures { result ≡ stop_of fault }
+{
+    match fault {
+        LogFault::Closed => Stop::Closed,
+        LogFault::OutOfMemory => Stop::Failed(Fault::Refused(Refusal::OutOfMemory)),
+        LogFault::Read => Stop::Failed(Fault::Read { place: LOG_PLACE }),
+        LogFault::Write => Stop::Failed(Fault::Write),
+        LogFault::TooLong => Stop::Failed(Fault::TooLong { place: LOG_PLACE }),
+    }
+}
+
+/// Tells the end of the log in this file: what is noted of one that was annotated to its end, or the
+/// fault. Returns the program's status, which is 1 where nobody reads any more what is written.
+pub(crate) fn tell_end<E: Write>(
+    end: Result<Findings, Stop>,
+    log: &str,
+    errors: &mut Output<E>,
+) -> Result<u8, Fault>
+    ensures { IsEndTold E.contents log.now errors.old errors.new end result }
+{
+    match end {
+        Ok(found) => {
+            note_log(&found, log, errors);
+            Ok(SUCCEEDED)
+        }
+        Err(Stop::Closed) => Ok(FAILED),
+        Err(Stop::Failed(fault)) => Err(fault),
+    }
+}

@@ -1,0 +1,30 @@
+//! What the commands of the program do that need no table: a log is annotated, listings are checked, and
+//! names are looked for, each from the bytes of its files to the bytes that it writes.
+//!
+//! An engine is generic over its readers and its writers. It knows no word of a command line; of the
+//! names of files it has those of the listings and of the log, for what is noted of them.
+#![tactic(auto)]
+
+mod address_texts;
+mod addresses;
+mod annotations;
+mod asked_names;
+mod checks;
+mod following;
+mod kept_symbols;
+mod lasting_log;
+mod log_aliases;
+mod log_answers;
+mod log_index;
+mod note_texts;
+mod notes;
+mod sources;
+
+pub use address_texts::AddressForm;
+pub use addresses::address_engine;
+pub use annotations::{Annotate, AnnotateReaders, LOG_PLACE, annotate_engine};
+pub use checks::check_engine;
+pub use following::follow_engine;
+pub use lasting_log::LastingLog;
+pub use note_texts::{put_if_noted, put_listing_notes, put_notes_of};
+pub use sources::{ListingFiles, Sources};

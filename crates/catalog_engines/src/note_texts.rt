@@ -1,0 +1,185 @@
+//! The lines that say what is noted of listings and of a log, byte for byte, with no memory taken.
+ghost use Rattle.std.specs.Prelude.{◌≡◌};
+ghost use Rattle.std.specs.Option.{option_copied};
+ghost use Rattle.texts.specs.Output.{Says};
+ghost use Rattle.modules.specs.Lines.{usual_bounds};
+ghost use Rattle.catalog_engines.specs.NoteTexts.{line_if_noted, line_where, lines_by, log_line};
+ghost use Rattle.catalog_engines.specs.NoteTexts.{message_of, missing_text, note_line, note_lines};
+ghost use Rattle.catalog_engines.specs.NoteTexts.{other_boot_line, remedy_text, unnamed_line};
+
+use crate::sources::ListingFiles;
+use listing::{ListingNote, ListingNotes, is_gzip, is_utf_16};
+use logs::LogNames;
+use modules::KernelBounds;
+use std::io::Write;
+use texts::Output;
+
+/// Writes what is noted of the listings in these files, where these names are given for the kernel's
+/// bounds.
+pub fn put_notes_of<W: Write>(
+    writer: &mut Output<W>,
+    kernel: Option<&KernelBounds>,
+    files: &ListingFiles<'_>,
+    notes: &ListingNotes,
+)
+    ensures { Says W.contents writer.old writer.new
+        (note_lines (option_copied kernel.entry) files.now notes.now) }
+{
+    // a usual bound is missed where the listing has none of the names that it may have
+    let missed = KernelBounds {
+        start: b"_stext",
+        end: b"_etext",
+    };
+    put_listing_notes(writer, kernel.unwrap_or(&missed), files, notes);
+}
+
+/// Writes what is noted of the listings in these files, where these names bound the kernel.
+pub fn put_listing_notes<W: Write>(
+    writer: &mut Output<W>,
+    names: &KernelBounds,
+    files: &ListingFiles<'_>,
+    notes: &ListingNotes,
+)
+    ensures { Says W.contents writer.old writer.new
+        (lines_by names.now files.now.modules files.now.kallsyms.now notes.now) }
+{
+    let kallsyms = files.kallsyms.as_bytes();
+    match files.modules {
+        Some(modules) => {
+            put_if_noted(writer, names, modules.as_bytes(), notes.modules);
+            put_if_noted(writer, names, kallsyms, notes.kallsyms);
+        }
+        None => put_if_noted(writer, names, kallsyms, notes.kallsyms),
+    }
+}
+
+/// Writes what is noted of the listing in this file, if something is.
+pub fn put_if_noted<W: Write>(
+    writer: &mut Output<W>,
+    names: &KernelBounds,
+    file: &[u8],
+    note: Option<ListingNote>,
+)
+    ensures { Says W.contents writer.old writer.new
+        (line_if_noted names.now file.now note) }
+{
+    match note {
+        Some(note) => put_note(writer, names, file, note),
+        None => {}
+    }
+}
+
+/// Writes the line of a note on the listing in this file, where it applies.
+pub(crate) fn put_note_where<W: Write>(
+    writer: &mut Output<W>,
+    names: &KernelBounds,
+    file: &[u8],
+    note: ListingNote,
+    applies: bool,
+)
+    ensures { Says W.contents writer.old writer.new
+        (line_where applies (note_line names.now file.now note)) }
+{
+    if applies {
+        put_note(writer, names, file, note)
+    }
+}
+
+/// Writes `latchsym: note: FILE: TEXT` and a line's end.
+fn put_note<W: Write>(writer: &mut Output<W>, names: &KernelBounds, file: &[u8], note: ListingNote)
+    ensures { Says W.contents writer.old writer.new (note_line names.now file.now note) }
+{
+    writer.put(b"latchsym: note: ");
+    writer.put(file);
+    writer.put(b": ");
+    put_message(writer, names, note);
+    writer.put(b"\n");
+}
+
+/// Writes what is noted of the log in this file, by its first two bytes and what its addresses tell of
+/// the listing.
+pub fn put_log_note<W: Write>(writer: &mut Output<W>, log: &str, head: &[u8], names: LogNames)
+    ensures { Says W.contents writer.old writer.new (log_line log.now head.now names) }
+{
+    let usual = KernelBounds::usual();
+    if is_gzip(head) {
+        put_note(writer, &usual, log.as_bytes(), ListingNote::Gzip);
+    } else if is_utf_16(head) {
+        put_note(writer, &usual, log.as_bytes(), ListingNote::Utf16);
+    } else if names.is_of_another_boot() {
+        put_other_boot(writer, log, names);
+    } else {
+        put_unnamed(writer, log, names);
+    }
+}
+
+/// Writes that no address of the log in this file has a name.
+fn put_unnamed<W: Write>(writer: &mut Output<W>, log: &str, names: LogNames)
+    ensures { Says W.contents writer.old writer.new (unnamed_line log.now names) }
+{
+    writer.put(b"latchsym: note: ");
+    writer.put(log.as_bytes());
+    writer.put(b": none of its ");
+    writer.put_decimal(names.addresses);
+    writer.put(b" addresses has a name in the listing\n");
+}
+
+/// Writes that the names which the log in this file has itself are not those of the listing.
+fn put_other_boot<W: Write>(writer: &mut Output<W>, log: &str, names: LogNames)
+    ensures { Says W.contents writer.old writer.new (other_boot_line log.now names) }
+{
+    writer.put(b"latchsym: note: ");
+    writer.put(log.as_bytes());
+    writer.put(b": its own names disagree with the listing (");
+    writer.put_decimal(names.disagreeing);
+    writer.put(b" of ");
+    writer.put_decimal(names.agreeing.saturating_add(names.disagreeing));
+    writer.put(b"); is the listing of this boot?\n");
+}
+
+/// Writes what a note says.
+fn put_message<W: Write>(writer: &mut Output<W>, names: &KernelBounds, note: ListingNote)
+    ensures { Says W.contents writer.old writer.new (message_of names.now note) }
+{
+    match note {
+        ListingNote::Empty => writer.put(b"is empty"),
+        ListingNote::Gzip => writer.put(b"is compressed by gzip; unpack it first"),
+        ListingNote::Utf16 => writer.put(b"is UTF-16; convert it first"),
+        ListingNote::AllHidden => writer.put(
+            b"every address is 0; read it as root (kernel.kptr_restrict)",
+        ),
+        ListingNote::LooksLikeSymbols => writer.put(b"looks like a listing of symbols"),
+        ListingNote::LooksLikeModules => writer.put(b"looks like a listing of modules"),
+        ListingNote::LinesEndInCrLf => writer.put(b"lines end in CR LF"),
+        ListingNote::NoStart => put_missing(writer, names.start),
+        ListingNote::NoEnd => put_missing(writer, names.end),
+        ListingNote::OtherBoot => writer.put(
+            b"no symbol lies in a listed module; are both listings of one boot?",
+        ),
+        ListingNote::ModulesOverlap => writer.put(
+            b"modules overlap, as sizes do from Linux 6.4 on; leave --modules out",
+        ),
+        ListingNote::NoModuleLine => writer.put(b"no line is of the form of /proc/modules"),
+        ListingNote::NoSymbolLine => writer.put(b"no line is of the form of /proc/kallsyms"),
+    }
+}
+
+/// Writes that a symbol of this name is missing, and what to try.
+fn put_missing<W: Write>(writer: &mut Output<W>, name: &[u8])
+    ensures { Says W.contents writer.old writer.new (missing_text name.now) }
+{
+    writer.put(b"has no symbol ");
+    writer.put(name);
+    writer.put(remedy(name));
+}
+
+/// What to try where a symbol of this name is missing.
+fn remedy(name: &[u8]) -> &'static [u8]
+    ensures { result.now ≡ remedy_text name.now }
+{
+    if name == b"_end".as_slice() {
+        b"; try --kernel _stext _einittext"
+    } else {
+        b""
+    }
+}

@@ -1,0 +1,2 @@
+-- a fault that a function hands on
+pub mod FaultLemmas

@@ -1,5 +1,0 @@
-use Rattle.latchsym.proofs.Words.{◌∙◌, sym}
-use Rattle.latchsym.proofs.address_texts.put_if_told.Goals as goal
-
-pub put_told-requires : goal.put_told-requires
-put_told-requires g c = sym c.is_told.ensures ∙ c.if-is_told.true

@@ -1,6 +1,0 @@
-use Rattle.latchsym.proofs.Words.{given_in}
-use Rattle.latchsym.proofs.FollowingLemmas.{IsOn}
-use Rattle.latchsym.proofs.following.follow_blocks.Given as goal
-
-abbrev pub invariant-loop-turn : goal.invariant-loop-turn
-invariant-loop-turn g l = IsOn g.W.Write.contents l.request l.job (given_in l.fn.first) (g.L.LastingLog.events l.fn.log) (g.L.LastingLog.events l.log) l.fn.writer l.writer (given_in l.texts) l.annotator l.head.items l.turn

@@ -1,5 +1,0 @@
-use Rattle.latchsym.proofs.Words.{then}
-use Rattle.latchsym.proofs.note_texts.put_overlap.Goals as goal
-
-pub returns : goal.returns
-returns g c = then (then c.put.ensures c.put-2.ensures) c.put-3.ensures

@@ -1,7 +1,0 @@
-use Rattle.latchsym.proofs.Words.{same_text, then}
-use Rattle.latchsym.proofs.note_texts.put_unnamed.Goals as goal
-
-pub returns : goal.returns
-returns g c =
-    let of = then (then c.put.ensures (same_text c.as_bytes.ensures.value c.put-2.ensures)) c.put-3.ensures in
-    then (then of c.put_decimal.ensures) c.put-4.ensures

@@ -1,0 +1,66 @@
+-- The lines that say what is noted of the listings of a job.
+use Rattle.std.specs.Prelude.{ℕ, Bool, true, false, List, [], ◌++◌, codes, if◌then◌else◌, Option}
+use Rattle.std.specs.Prelude.{Some, None, unwrap_or}
+use Rattle.std.specs.Borrow.{Bor}
+use Rattle.clap.specs.Words.{Text}
+use Rattle.modules.specs.Lines.{usual_bounds}
+use Rattle.modules.specs.Listed.{BoundNames}
+use Rattle.listing.specs.declared.listing_notes.ListingNote.{ListingNote}
+use Rattle.listing.specs.declared.listing_notes.ListingNote.TheVariants.{ModulesOverlap}
+use Rattle.listing.specs.declared.listing_notes.ListingNotes.{ListingNotes}
+use Rattle.catalog_engines.specs.NoteTexts.{line_if_noted, lines_by, note_lines, noted_bounds}
+use Rattle.catalog_engines.specs.declared.sources.ListingFiles.{ListingFiles}
+use Rattle.latchsym.specs.declared.requests.Job.{Job}
+use Rattle.latchsym.specs.declared.requests.Job.TheVariants as job
+use Rattle.latchsym.specs.declared.requests.Request.{Request}
+use Rattle.latchsym.specs.declared.requests.Subcommand.{Subcommand}
+use Rattle.latchsym.specs.declared.requests.Subcommand.TheVariants.{Lookup, Run}
+
+-- The bounds of a lookup: where modules are listed, the kernel lies between `_stext` and `_end` if no
+-- names are given.
+abbrev pub bounds_of_lookup : Option BoundNames → Option (Bor Text) → BoundNames
+bounds_of_lookup kernel (Some modules) = unwrap_or kernel usual_bounds
+bounds_of_lookup kernel None = noted_bounds kernel
+
+abbrev pub lines_of_lookup : Option BoundNames → ListingFiles → ListingNotes → List ℕ
+lines_of_lookup kernel files notes =
+    lines_by (bounds_of_lookup kernel files.modules) files.modules files.kallsyms.now notes
+
+-- ---- of a run, which needs the listing of modules
+
+-- it is noted that modules overlap
+abbrev pub is_overlap : Option ListingNote → Bool
+is_overlap (Some ModulesOverlap) = true
+is_overlap _ = false
+
+-- the line that says so
+abbrev pub overlap_line : Text → List ℕ
+overlap_line modules =
+    codes "latchsym: note: " ++ modules
+    ++ codes ": modules overlap, as sizes do from Linux 6.4 on; give --regions\n"
+
+-- the line of what may be noted of that listing
+abbrev pub run_line : BoundNames → Text → Option ListingNote → List ℕ
+run_line names modules note =
+    if is_overlap note then overlap_line modules else line_if_noted names modules note
+
+-- the lines of a run
+abbrev pub run_lines : BoundNames → Text → Text → ListingNotes → List ℕ
+run_lines names modules kallsyms notes =
+    run_line names modules notes.modules ++ line_if_noted names kallsyms notes.kallsyms
+
+-- ---- of a job, by the names of its files
+
+abbrev pub lines_of_run : Option BoundNames → Option (Bor Text) → Text → ListingNotes → List ℕ
+lines_of_run kernel (Some modules) kallsyms notes =
+    run_lines (unwrap_or kernel usual_bounds) modules.now kallsyms notes
+lines_of_run kernel None kallsyms notes = []
+
+abbrev pub lines_asked : Request → Subcommand → ListingNotes → List ℕ
+lines_asked q (Run r) notes = lines_of_run q.sources.kernel q.sources.files.modules q.sources.files.kallsyms.now notes
+lines_asked q (Lookup l) notes = lines_of_lookup q.sources.kernel q.sources.files notes
+lines_asked q _ notes = note_lines q.sources.kernel q.sources.files notes
+
+abbrev pub notes_text : Job → ListingNotes → List ℕ
+notes_text (job.Request q) notes = lines_asked q q.subcommand notes
+notes_text _ notes = []
