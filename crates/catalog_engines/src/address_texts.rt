@@ -14,9 +14,7 @@ ghost use Rattle.catalog_engines.specs.NoteTexts.{line_where};
 
 use crate::asked_names::{AskedName, Distance, asked_name};
 use crate::kept_symbols::{KeptSymbol, SoughtSymbols};
-use command_io::{
-    put_address_member, put_named_module, put_offset_members, put_symbol_members,
-};
+use command_io::{put_address_member, put_named_module, put_offset_members, put_symbol_members};
 use std::io::Write;
 use texts::Output;
 

@@ -7,9 +7,7 @@ ghost use Rattle.command_io.specs.OpenedCatalogs.{given_in, known_given, listing
 
 use crate::address_texts::{AddressForm, put_words};
 use crate::kept_symbols::symbols_sought;
-use command_io::{
-    Fault, GivenTexts, ListingReaders, open_catalog, read_given, unless_failed,
-};
+use command_io::{Fault, GivenTexts, ListingReaders, open_catalog, read_given, unless_failed};
 use listing::ListingNotes;
 use modules::{IndexedCatalog, KernelBounds};
 use std::alloc::Global;

@@ -12,9 +12,7 @@ ghost use Rattle.command_io.specs.OpenedCatalogs.{given_in, known_given, listing
 use crate::log_answers::CatalogAnswers;
 use crate::notes::{note_listings, note_log};
 use crate::sources::Sources;
-use command_io::{
-    FAILED, Fault, GivenTexts, ListingReaders, SUCCEEDED, open_catalog, read_given,
-};
+use command_io::{FAILED, Fault, GivenTexts, ListingReaders, SUCCEEDED, open_catalog, read_given};
 use listing::{LogRule, is_narrow};
 use logs::{Findings, LogFault, annotate};
 use modules::IndexedCatalog;

@@ -17,7 +17,8 @@ ghost use Rattle.command_io.specs.OpenedCatalogs.{given_in, known_given, listing
 use crate::note_texts::put_note_where;
 use crate::sources::ListingFiles;
 use command_io::{
-    FAILED, Fault, GivenTexts, ListingReaders, SUCCEEDED, read_given, region_lines_in, unless_failed,
+    FAILED, Fault, GivenTexts, ListingReaders, SUCCEEDED, read_given, region_lines_in,
+    unless_failed,
 };
 use listing::{
     ListingNote, Listings, SymbolFacts, SymbolListing, applies_to_kallsyms, applies_to_modules,
@@ -66,7 +67,7 @@ fn check_given<W: Write>(
     }
 }
 
-/// The same where modules are listed.
+/// Checks a listing of modules and the listings beside it.
 fn check_modules<W: Write>(
     alloc: Global,
     texts: &GivenTexts,
@@ -88,7 +89,7 @@ fn check_modules<W: Write>(
     unless_failed(writer, status_of_kept(listings.built.symbols))
 }
 
-/// The same of a listing of symbols alone.
+/// Checks a listing of symbols alone.
 fn check_symbols<W: Write>(
     alloc: Global,
     texts: &GivenTexts,
@@ -157,7 +158,8 @@ fn modules_name<'a>(files: &ListingFiles<'a>) -> &'a str
     files.modules.unwrap_or("")
 }
 
-/// The same of a listing of symbols alone, where these names bound the kernel.
+/// Writes what applies to a listing of symbols alone, if these names bound the kernel, and its counts,
+/// and lets the writer keep nothing back.
 fn put_symbol_listing<W: Write>(
     writer: &mut Output<W>,
     names: &KernelBounds,
@@ -204,8 +206,8 @@ fn put_module_notes<W: Write>(
     }
 }
 
-/// Writes the line of each note that applies to a listing of symbols with this text, of which so many
-/// lines are kept. It is alone if there is no listing of modules.
+/// Writes the line of each note that applies to a listing of symbols with this text and `kept` kept
+/// lines. It is alone if there is no listing of modules.
 fn put_symbol_notes<W: Write>(
     writer: &mut Output<W>,
     names: &KernelBounds,

@@ -159,7 +159,7 @@ fn kept_in<'a>(catalog: &Catalog<'_>, symbol: &SymbolLine<'a>, item: Item) -> Op
     })
 }
 
-/// Whether the module of a number has this name, of which the kernel itself has none.
+/// Whether the module of a number has this name; the kernel itself has none.
 fn is_owner(catalog: &Catalog<'_>, number: u64, owner: Option<&[u8]>) -> bool
     ensures { result ≡ is_owner catalog.now number (option_copied owner.entry) }
 {

@@ -40,7 +40,7 @@ pub fn note_log<W: Write>(found: &Findings, log: &str, writer: &mut Output<W>)
     }
 }
 
-/// Whether something is noted of a log with these first two bytes, of which this was found.
+/// Whether something is noted of a log with these first two bytes and these names.
 fn is_log_noted(head: &[u8], names: LogNames) -> bool
     ensures { result ≡ is_log_noted head.now names }
 {

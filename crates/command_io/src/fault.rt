@@ -1,4 +1,4 @@
-//! Why a command fails, and what one comes to that does not.
+//! Why a command failed, and the result of one that did not.
 ghost use Rattle.std.specs.Prelude.{◌≡◌, Err, Ok, false, if◌then◌else◌, true, IfErr, OnErr, OnOk};
 ghost use Rattle.texts.specs.Output.{has_failed};
 ghost use Rattle.command_io.specs.Faults.{IsLineFault, line_of, fault_number, fault_place};

@@ -14,7 +14,7 @@ use modules::FoundSymbol;
 use std::io::Write;
 use texts::Output;
 
-/// Writes the object of an address of which this is known.
+/// Writes the object of an address with this answer.
 #[tactic(auto, unfolding(crate::specs::JsonTexts::json_line))]
 pub fn put_json_line<W: Write>(writer: &mut Output<W>, addr: u64, answer: &Answer)
     ensures { Says W.contents writer.old writer.new (json_line addr answer.now) }

@@ -81,7 +81,7 @@ pub fn open_catalog<'a>(
     }
 }
 
-/// The same where modules are listed.
+/// Builds the catalog that listings of modules and of symbols say.
 fn open_by_modules<'a>(
     alloc: Global,
     kernel: Option<&KernelBounds>,
@@ -113,7 +113,7 @@ pub fn bounds_or_usual<'k>(kernel: Option<&KernelBounds<'k>>) -> KernelBounds<'k
     }
 }
 
-/// The same by a listing of symbols alone.
+/// Builds the catalog that a listing of symbols alone says.
 fn open_by_symbols<'a>(
     alloc: Global,
     kernel: Option<&KernelBounds>,

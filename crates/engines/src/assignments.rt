@@ -20,7 +20,7 @@ pub struct Assignments<'a> {
     pub keys: Vec<Vec<u64>>,
 }
 
-/// What the lines of a script for so many readers have each actor do.
+/// What the lines of a script for `readers` readers have each actor do.
 pub fn assign<'a>(
     alloc: Global,
     catalog: &Catalog<'_>,
@@ -52,7 +52,7 @@ fn empty_lists<T: Drop>(alloc: Global, count: u32) -> Result<Vec<Vec<T>>, AllocE
     Ok(lists)
 }
 
-/// Puts an entry at the end of the list with this number, the first of which is 1.
+/// Puts an entry at the end of the list with this number, counted from 1.
 fn enlist<T: Drop>(lists: &mut Vec<Vec<T>>, number: u32, entry: T) -> Result<(), AllocError>
     requires from { 1 ≤ number }
     requires among { number ≤ length lists.old.items }

@@ -20,9 +20,7 @@ use command_io::{
     AnswerForm, Fault, KALLSYMS_PLACE, MODULES_PLACE, REGIONS_PLACE, all_written, noted, read_at,
     read_if_given, region_lines_in,
 };
-use listing::{
-    AddressRule, LineTallies, ListingNotes, Listings, open_listings, read_addresses,
-};
+use listing::{AddressRule, LineTallies, ListingNotes, Listings, open_listings, read_addresses};
 use modules::{Asked, Catalog, KernelBounds, RegionLine};
 use order_laws::Refusal;
 use std::alloc::{AllocError, Global};
@@ -64,7 +62,7 @@ pub struct LookupOptions<'a> {
     pub with_mapping: bool,
 }
 
-/// What a lookup is asked over.
+/// The inputs of a lookup.
 #[derive(Drop)]
 pub(crate) struct LookupInputs<'o, 'a> {
     pub options: &'o LookupOptions<'o>,
@@ -181,7 +179,7 @@ pub(crate) fn write_lookup<W: Write>(
     all_written(writer)
 }
 
-/// The addresses that are looked up for these, for who builds a catalog.
+/// The addresses that will be looked up, as a hint for the build.
 pub(crate) fn places_of(
     alloc: Global,
     rule: AddressRule,
@@ -193,9 +191,9 @@ pub(crate) fn places_of(
         .collect(alloc)
 }
 
-/// Reads the lines of the first two listings, and builds the catalog of all three, for who asks
-/// about these addresses. Refused where more than 7 region lines have one name, and when out of
-/// memory.
+/// Reads the lines of the first two listings, and builds the catalog of all three. The addresses that
+/// will be looked up are a hint for the build. Refused if more than 7 region lines have one name, and
+/// when out of memory.
 pub(crate) fn listings_in<'a>(
     alloc: Global,
     inputs: &LookupInputs<'_, 'a>,

@@ -46,7 +46,7 @@ fn put_answers<W: Write>(
     }
 }
 
-/// Writes the line of an address of which this is known.
+/// Writes the line of an address with this answer.
 #[inline(always)]
 #[tactic(auto, unfolding(crate::specs::LookupTexts::known_line))]
 fn put_line<W: Write>(writer: &mut Output<W>, form: AnswerForm, addr: u64, known: &Answer)

@@ -45,7 +45,7 @@ pub fn put_run<W: Write>(
     writer.flush();
 }
 
-/// Writes the refused changes of each writer, the first of which is number 1.
+/// Writes the refused changes of each writer, numbered from 1.
 fn put_refusals<W: Write>(
     writer: &mut Output<W>,
     names: &[Vec<ModuleName<'_>>],

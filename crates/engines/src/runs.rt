@@ -48,7 +48,7 @@ pub struct RunReaders<M, K, R, S> {
 /// The place of the script among the files that are read.
 const SCRIPT_PLACE: u64 = 3;
 
-/// Does what a script for so many readers says, over a table that is empty at first, and writes a
+/// Does what a script for `count` readers says, over a table that is empty at first, and writes a
 /// line for each refused change and each lookup and the line of the totals. The kernel's own region
 /// lies between the symbols of these names. Returns what is noted of the listings, and the program's
 /// status, 1 where an answer was not that of its generation or a change is not in the log as it was
@@ -82,7 +82,7 @@ pub fn run_engine<T: Threads + Wait + Sync, M: Read, K: Read, R: Read, S: Read, 
     run_from(rt, alloc, &texts, script, kernel, count, writer)
 }
 
-/// Does what a script for so many readers says, over the texts of the listings.
+/// Does what a script for `readers` readers says, over the texts of the listings.
 fn run_from<T: Threads + Wait + Sync, S: Read, W: Write>(
     rt: &T,
     alloc: Global,
@@ -117,7 +117,7 @@ fn run_from<T: Threads + Wait + Sync, S: Read, W: Write>(
     run_with(rt, alloc, &inputs, &text, readers, writer)
 }
 
-/// Does what the text of a script for so many readers says, over these listings.
+/// Does what the text of a script for `readers` readers says, over these listings.
 fn run_with<T: Threads + Wait + Sync, W: Write>(
     rt: &T,
     alloc: Global,
@@ -140,7 +140,7 @@ fn run_with<T: Threads + Wait + Sync, W: Write>(
     with_notes(status, listings.notes)
 }
 
-/// Does what these lines of a script for so many readers say, writes the lines of what came back,
+/// Does what these lines of a script for `readers` readers say, writes the lines of what came back,
 /// and returns the program's status, 1 where something is wrong. The lines themselves go once each
 /// writer and each reader has its list, so that they are not held beside what comes back.
 fn run_lines<T: Threads + Wait + Sync, W: Write>(
@@ -165,9 +165,8 @@ fn run_lines<T: Threads + Wait + Sync, W: Write>(
     tell(writer, alloc, catalog, &names, &served)
 }
 
-/// Lets lines go, but shortens their memory first. Where a block is freed whole, the C library's
-/// allocator keeps later ones of its size in its heap, and there the readers' lists are copied, and
-/// their old places kept, as they grow.
+/// Frees the lines, shrinking their block first: freeing a large block raises glibc's mmap threshold,
+/// and the readers' lists would then grow by copies in the heap.
 fn give_back(lines: Vec<ScriptLine<'_>>) {
     let mut lines = lines;
     lines.truncate(1);
@@ -204,7 +203,7 @@ fn has_ended(ended: &[bool]) -> bool
     ended.iter().any(|ended| *ended)
 }
 
-/// The program's status where so many are wrong.
+/// The program's status: 1 if an answer or a change is wrong.
 fn status_of(wrong: u64) -> u8
     ensures { result ≡ status_of wrong }
 {

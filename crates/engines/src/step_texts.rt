@@ -410,7 +410,7 @@ fn before_next_load(line: &mut LineRoom, reader: u32, load: NextLoad<u64>)
     before_reader(line, reader, load.key);
 }
 
-/// Puts what a lookup found, and of which generation, in front.
+/// Puts what a lookup found, and its generation, in front.
 #[tactic(auto, unfolding(crate::specs::StepTexts::answer_members))]
 fn before_answer(line: &mut LineRoom, returned: &Returned<u64>)
     requires { length line.old + 70 ≤ ROOM }

@@ -73,7 +73,7 @@ const KALLSYMS_HELP: &str = "The symbols, in the form of /proc/kallsyms";
 
 const BOUNDS_HELP: &str = "The first and the last symbol of the kernel, instead of _stext and _end";
 
-/// The same where the listing of symbols stands in for one that is not given.
+/// The help of `--modules` if the listing of symbols stands in for one that is not given.
 const GIVEN_MODULES_HELP: &str =
     "The modules, in the form of /proc/modules; without it they come from the symbols";
 

@@ -57,7 +57,7 @@ fn put_notes_of_run<W: Write>(
     put_run_notes(writer, names, modules, files.kallsyms, notes)
 }
 
-/// The same, where these names bound the kernel.
+/// Writes what is noted of the listings of a run, if these names bound the kernel.
 fn put_run_notes<W: Write>(
     writer: &mut Output<W>,
     names: &KernelBounds,

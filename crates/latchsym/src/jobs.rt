@@ -445,7 +445,7 @@ impl<R> OpenedJob<'_, '_, R> {
     }
 }
 
-/// The same of readers of listings.
+/// The error that the reader at this place among those of listings gave last.
 fn error_of_listing<R>(readers: &ListingReaders<R, R, R>, place: u64) -> Option<io::Error>
     ensures { result ≡ error_of_listing readers.now place }
 {

@@ -84,7 +84,8 @@ fn words_of(error: &io::Error) -> ArrayString<LONGEST_WORDS> {
     words
 }
 
-/// The same for a fault that came before there was a job. It is about no file.
+/// Writes the line of a fault that came before there was a job, and returns the program's status. The
+/// fault is about no file.
 pub fn report_before_job<W: Write>(fault: &Fault, writer: &mut Output<W>) -> u8
     ensures status { result ≡ 1 }
     ensures line { Says W.contents writer.old writer.new (fault_text [] None fault.now) }

@@ -101,7 +101,7 @@ impl<'a> Job<'a> {
 impl<'a> Request<'a> {
     ghost use Rattle.latchsym.specs.Files.{request_file_at};
 
-    /// The same of a request.
+    /// The file at this place among those that the request reads, in the order in which it reads them.
     fn file(&self, place: u64) -> Option<&'a str>
         ensures { option_map (λ f. f.now) result ≡ request_file_at self.now place }
     {

@@ -81,7 +81,7 @@ fn is_taken_as_caller(callers: Callers, says_so: bool) -> bool
     }
 }
 
-/// The address so many bytes lower, where there is one.
+/// The address that lies `bytes` below `addr`, if there is one.
 fn lower_by(addr: u64, bytes: u64) -> Option<u64>
     ensures { result ≡ lower_by bytes addr }
 {

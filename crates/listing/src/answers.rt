@@ -55,7 +55,7 @@ impl Answer<'_, '_> {
     }
 }
 
-/// The symbol as it is told of an address so many bytes farther on.
+/// The same symbol with `bytes` added to its offset.
 #[inline(always)]
 pub fn farther<'c, 'a>(found: FoundSymbol<'c, 'a>, bytes: u64) -> FoundSymbol<'c, 'a>
     requires { found.offset + bytes < 2 ^ 64 }

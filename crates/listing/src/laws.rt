@@ -27,7 +27,7 @@ pub fn regions_by_their_lines()
         (IsFirstBadRegion (lines_of text)) }
 {}
 
-/// The same of a file of addresses.
+/// What is read of a file of addresses is what its lines say, one after the other.
 pub fn addresses_by_their_lines()
     ensures { (text : List ℕ)
         → MatchResult (addresses_of text) (AreSaidBy address_in_line (lines_of text))

@@ -1,5 +1,4 @@
-//! What is noted of listings of which nothing is of use, so that such a run does not look like a
-//! success.
+//! Notes on unusable listings, so that a run over one does not look like a success.
 //!
 //! Notes are decided when the catalog is built, mostly from what was counted for it. That of symbols
 //! is gone through again only where none of its lines is kept, where the kernel itself has no region
@@ -190,8 +189,8 @@ pub struct SymbolFacts {
     pub has_kernel: bool,
 }
 
-/// Whether a note applies to a listing of symbols with this text, of which this is known, where
-/// these names bound the kernel.
+/// Whether a note applies to a listing of symbols with this text, if these facts are known and these
+/// names bound the kernel.
 pub fn applies_to_kallsyms(
     note: ListingNote,
     text: &[u8],
@@ -242,8 +241,8 @@ pub fn note_of_kallsyms(
     None
 }
 
-/// Whether symbols of the kernel itself are listed, and none at its first address. Where both its
-/// bounds are known to be listed, nothing is sought.
+/// Whether symbols of the kernel itself are listed, and none at its first address. If both its bounds
+/// are known to be listed, nothing is sought.
 fn lacks_start(text: &[u8], names: &KernelBounds, has_kernel: bool) -> bool
     requires { has_kernel ≡ true → HasBounds names.now (symbols_in (lines_of text.now)) }
     ensures { result ≡ lacks_symbol names.now.start (symbols_in (lines_of text.now)) }
@@ -255,7 +254,8 @@ fn lacks_start(text: &[u8], names: &KernelBounds, has_kernel: bool) -> bool
     shown.any && !shown.start
 }
 
-/// The same of its end.
+/// Whether symbols of the kernel itself are listed, and none at its end. If both its bounds are known
+/// to be listed, nothing is sought.
 fn lacks_end(text: &[u8], names: &KernelBounds, has_kernel: bool) -> bool
     requires { has_kernel ≡ true → HasBounds names.now (symbols_in (lines_of text.now)) }
     ensures { result ≡ lacks_symbol names.now.end (symbols_in (lines_of text.now)) }

@@ -44,8 +44,8 @@ pub fn first_line_ends_in_cr(text: &[u8]) -> bool
     line.ends_with(b"\r")
 }
 
-/// Whether all well-formed lines of a listing of modules are hidden and there is one, where so many
-/// lines are modules and the others were skipped for these causes.
+/// Whether a listing of modules has well-formed lines and all are hidden, if `listed` lines are modules
+/// and the others were skipped for these causes.
 pub fn are_modules_hidden(listed: usize, skipped: &ModuleCounts) -> bool
     ensures { (lines : List (List ℕ)) → listed ≡ length (modules_in lines)
         → skipped.now.by_place ≡ module_counts lines → result ≡ are_modules_hidden lines }
@@ -65,7 +65,8 @@ fn hides_all(hidden: u64, listed: usize, empty: u64, wraps: u64) -> bool
     hidden > 0 && listed == 0 && empty == 0 && wraps == 0
 }
 
-/// The same of a listing of symbols.
+/// Whether a listing of symbols has well-formed lines and all are hidden, if `listed` lines are symbols
+/// and the others were skipped for these causes.
 pub fn are_symbols_hidden(listed: usize, skipped: &SymbolCounts) -> bool
     ensures { (lines : List (List ℕ)) → listed ≡ length (symbols_in lines)
         → skipped.now.by_place ≡ symbol_counts lines → result ≡ are_symbols_hidden lines }
@@ -159,7 +160,8 @@ pub fn looks_like_modules(text: &[u8]) -> bool
     }
 }
 
-/// The same of the listing of symbols.
+/// Whether the first line that is well formed in a listing of either kind is one of the listing of
+/// symbols.
 pub fn looks_like_symbols(text: &[u8]) -> bool
     ensures { result ≡ looks_like_symbols (lines_of text.now) }
 {
@@ -184,7 +186,7 @@ pub(crate) fn lacks_module_lines(text: &[u8]) -> bool
     !text.is_empty()
 }
 
-/// The same of a listing of symbols.
+/// Whether there are bytes, and no line of them is well formed in a listing of symbols.
 pub(crate) fn lacks_symbol_lines(text: &[u8]) -> bool
     ensures { result ≡ lacks_lines is_symbol_line text.now }
 {

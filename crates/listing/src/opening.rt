@@ -37,7 +37,7 @@ pub struct Listings<'a> {
     pub has_regions: bool,
     /// All well-formed lines of the listing of modules are hidden, and there is one.
     pub modules_hidden: bool,
-    /// The same of the listing of symbols.
+    /// All well-formed lines of the listing of symbols are hidden, and there is one.
     pub symbols_hidden: bool,
     /// The usual names of both bounds of the kernel, as far as the listing of symbols has them.
     pub usual: KernelBounds<'static>,
@@ -46,9 +46,9 @@ pub struct Listings<'a> {
 }
 
 /// Reads the lines of listings of modules and of symbols, and builds the catalog of them and of these
-/// region lines, for who asks about these addresses. The kernel itself lies between the given names,
-/// or else in its usual regions; mapping symbols are kept or stray. Refused where more than 7 region
-/// lines have one name, and when out of memory.
+/// region lines. The addresses that will be looked up are a hint for the build. The kernel itself lies
+/// between the given names, or else in its usual regions; mapping symbols are kept or stray. Refused if
+/// more than 7 region lines have one name, and when out of memory.
 pub fn open_listings<'a>(
     alloc: Global,
     kernel: Option<&KernelBounds>,
@@ -132,8 +132,9 @@ impl SymbolListing<'_> {
     }
 }
 
-/// Reads the lines of a listing of symbols, and builds the catalog that they say, for who asks about
-/// these addresses. The kernel itself lies between the given names, or else in its usual regions.
+/// Reads the lines of a listing of symbols, and builds the catalog that they say. The addresses that
+/// will be looked up are a hint for the build. The kernel itself lies between the given names, or else
+/// in its usual regions.
 pub fn open_symbols<'a>(
     alloc: Global,
     kernel: Option<&KernelBounds>,

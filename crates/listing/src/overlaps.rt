@@ -100,7 +100,7 @@ fn has_module(catalog: &Catalog, name: &[u8]) -> bool
     }
 }
 
-/// The same, one module after the other.
+/// Whether the catalog has a module of this name, sought one module after the other.
 fn lists_module(catalog: &Catalog, name: &[u8]) -> bool
     ensures { result ≡ has_module catalog.now name.now }
 {

@@ -33,7 +33,7 @@ fn part_named(word: &[u8]) -> Option<Part>
     }
 }
 
-/// The region, where there is one of so many bytes at its address.
+/// The region, if one of its size fits below 2^64 at its address.
 fn placed(region: RegionLine<'_>) -> Option<RegionLine<'_>>
     ensures { result ≡ placed_region region.entry }
 {
