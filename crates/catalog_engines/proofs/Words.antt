@@ -1,5 +1,9 @@
 -- The words that the proofs of this crate use, of whatever crate.
 pub use Rattle.std.proofs.Common.{Bool, Err, List, None, Ok, Option, Result, Some, [], ap, append-nil, append_assoc, arith, codes, cond, decimal, drop, false, flat_map, get_or, inl, inr, insert, length, map, nat_eq, nat_le, nat_lt, option_map, refl, rules, subst, suc, sym, take, tests, true, zero, ℕ, ⊎_elim, ◌&&◌, ◌++◌, ◌+◌, ◌-◌, ◌<◌, ◌==◌, ◌||◌, ◌∙◌, ◌∷◌, ◌≡◌, ◌≤◌}
+pub use Rattle.std.proofs.lemmas.Map.Text.{btree_map_updates_str}
+pub use Rattle.std.proofs.lemmas.Map.Steps.{set_value_same}
+pub use Rattle.std.specs.Map.{lookup}
+pub use Rattle.std.specs.BTreeMap.{BTreeMap, UpdatesBy, get_by, is_at}
 pub use Rattle.std.specs.Borrow.{Bor}
 pub use Rattle.std.specs.Box.{box_value}
 pub use Rattle.std.specs.Cmp.Lexicographic.{slice_cmp}
@@ -66,9 +70,9 @@ pub use Rattle.catalog_engines.specs.AskedNames.{AskedSymbols, asked_of, cut_at_
 pub use Rattle.catalog_engines.specs.Checks.{IsChecked, IsModulesReport, IsSymbolsReport, listings_report, modules_name, symbol_listing_report, with_modules}
 pub use Rattle.catalog_engines.specs.GivenAnswers.{AnswersGiven, AnswersListings, HoldsOfRegions, IsTextWritten}
 pub use Rattle.catalog_engines.specs.KeptSymbols.{IsSought, Kept, end_of, found_by, is_owner, is_sought, kept_at_its_address, kept_in, kept_line, kept_symbol, kept_symbols, named, sought}
-pub use Rattle.catalog_engines.specs.NoteTexts.{applying_lines, line_if_noted, line_where, message_of, note_line, note_lines, noted_bounds}
-pub use Rattle.catalog_engines.specs.NoteTexts.{IsNoted}
+pub use Rattle.catalog_engines.specs.NoteTexts.{IsNoted, applying_lines, line_if_noted, line_where, message_of, note_line, note_lines, noted_bounds}
 pub use Rattle.catalog_engines.specs.declared.address_texts.AddressForm.{AddressForm}
 pub use Rattle.catalog_engines.specs.declared.asked_names.Distance.{Distance}
 pub use Rattle.catalog_engines.specs.declared.annotations.Annotate.{Annotate}
 pub use Rattle.catalog_engines.specs.declared.sources.ListingFiles.{ListingFiles}
+pub use Rattle.catalog_engines.specs.declared.sources.Sources.{Sources}

@@ -57,7 +57,8 @@ lines_of_run kernel (Some modules) kallsyms notes =
 lines_of_run kernel None kallsyms notes = []
 
 abbrev pub lines_asked : Request → Subcommand → ListingNotes → List ℕ
-lines_asked q (Run r) notes = lines_of_run q.sources.kernel q.sources.files.modules q.sources.files.kallsyms.now notes
+lines_asked q (Run r) notes =
+    lines_of_run q.sources.kernel q.sources.files.modules q.sources.files.kallsyms.now notes
 lines_asked q (Lookup l) notes = lines_of_lookup q.sources.kernel q.sources.files notes
 lines_asked q _ notes = note_lines q.sources.kernel q.sources.files notes
 
