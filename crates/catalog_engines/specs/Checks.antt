@@ -16,7 +16,7 @@ use Rattle.texts.specs.Lines.{lines_of}
 use Rattle.command_io.specs.Readings.{region_lines}
 use Rattle.catalog_engines.specs.NoteTexts.{applying_lines}
 use Rattle.command_io.specs.OpenedCatalogs.{Given}
-use Rattle.engines.specs.SymbolLookups.{tallies_found}
+use Rattle.command_io.specs.OpenedCatalogs.{tallies_found}
 use Rattle.catalog_engines.specs.declared.sources.ListingFiles.{ListingFiles}
 use Rattle.listing.specs.declared.opening.Listings.{Listings}
 use Rattle.listing.specs.declared.opening.SymbolListing.{SymbolListing}

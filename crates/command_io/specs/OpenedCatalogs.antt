@@ -13,6 +13,9 @@ use Rattle.command_io.specs.Readings.{Failures, NoReaderFailed, OnlyFailed, fail
 use Rattle.command_io.specs.Readings.{region_lines}
 use Rattle.listing.specs.Opening.{SaysOfModules, catalog_of_texts, kept_in_text, listed}
 use Rattle.listing.specs.Opening.{notes_of_texts, notes_with, symbol_note}
+use Rattle.listing.specs.SymbolListing.{symbol_counts}
+use Rattle.listing.specs.Tallies.{Tallies, symbol_tallies_by}
+use Rattle.texts.specs.Lines.{lines_of}
 use Rattle.command_io.specs.declared.fault.Fault.{Fault}
 use Rattle.command_io.specs.declared.fault.Fault.TheVariants.{Refused, BadLine, Read}
 use Rattle.listing.specs.declared.listing_notes.ListingNotes.{ListingNotes}
@@ -77,6 +80,11 @@ abbrev pub IsBySymbols : Option BoundNames → List ℕ → CatalogEntries → L
 IsBySymbols kernel text c notes =
     (a : Accepted) × SaysOfModules kernel text a × (c ≡ catalog_with a (listed text))
     × (notes ≡ notes_with (symbol_note kernel text (kept_in_text text a).symbols))
+
+-- how many modules and regions were found, and where the lines went, where the listing says this of
+-- the modules
+abbrev pub tallies_found : List ℕ → Accepted → Tallies
+tallies_found text a = symbol_tallies_by (kept_in_text text a) (symbol_counts (lines_of text))
 
 -- the catalog and the notes are those of the listings that are given
 abbrev pub IsCatalogBy : Option BoundNames → Given → Option (List ℕ) → CatalogEntries → ListingNotes

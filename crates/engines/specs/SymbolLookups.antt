@@ -4,12 +4,9 @@ use Rattle.std.specs.Prelude.{Result, Ok, Err, option_and_then}
 use Rattle.std.specs.Option.{option_map}
 use Rattle.listing.specs.declared.address_rules.AddressRule.{AddressRule}
 use Rattle.texts.specs.Counted.{device_of, failures_of}
-use Rattle.texts.specs.Lines.{lines_of}
 use Rattle.texts.specs.declared.output.Output.{Output}
 use Rattle.texts.specs.Output.{Delivered, WrotePart}
 use Rattle.listing.specs.Opening.{SaysOfModules, kept_in_text, listed, notes_with, symbol_note}
-use Rattle.listing.specs.SymbolListing.{symbol_counts}
-use Rattle.listing.specs.Tallies.{Tallies, symbol_tallies_by}
 use Rattle.modules.specs.Accepted.{Accepted}
 use Rattle.modules.specs.Catalogs.{catalog_with}
 use Rattle.modules.specs.Entries.{CatalogEntries}
@@ -17,9 +14,9 @@ use Rattle.modules.specs.Listed.{BoundNames}
 use Rattle.order_laws.specs.declared.refusals.Refusal.TheVariants as refusal
 use Rattle.engines.specs.CatalogTables.{HasFewRegions, HasManyRegions}
 use Rattle.engines.specs.LookupInputs.{all_addresses}
-use Rattle.command_io.specs.Readings.{known_text}
 use Rattle.engines.specs.LookupTexts.{lookup_lines}
-use Rattle.command_io.specs.Readings.{AnswersInputs, Failures, failures_in}
+use Rattle.command_io.specs.OpenedCatalogs.{tallies_found}
+use Rattle.command_io.specs.Readings.{AnswersInputs, Failures, failures_in, known_text}
 use Rattle.command_io.specs.declared.fault.Fault.{Fault}
 use Rattle.command_io.specs.declared.fault.Fault.TheVariants.{Refused, Write}
 use Rattle.command_io.specs.declared.forms.AnswerForm.{AnswerForm}
@@ -70,11 +67,6 @@ abbrev pub known_symbol_inputs : {K A : Type 0} → (K → Option (List ℕ)) �
 known_symbol_inputs kallsyms addresses readers options given =
     option_and_then (symbol_inputs_of options given (known_text addresses readers.addresses))
     (kallsyms (device_of readers.kallsyms))
-
--- how many modules and regions were found, and where the lines went, where the listing says this of
--- the modules
-abbrev pub tallies_found : List ℕ → Accepted → Tallies
-tallies_found text a = symbol_tallies_by (kept_in_text text a) (symbol_counts (lines_of text))
 
 -- a line for each address, and then the counts
 abbrev pub symbol_lookup_text : AnswerForm → SymbolInputs → Accepted → List ℕ
