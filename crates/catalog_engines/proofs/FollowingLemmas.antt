@@ -2,7 +2,6 @@
 use Rattle.catalog_engines.proofs.Words.{◌≡◌, ◌∙◌, ◌+◌, ◌≤◌, ℕ, List, [], ◌∷◌, ◌++◌, Option, Some, None, Result, Ok, Err, refl, sym, ap, subst, inl, inr, arith, length, flat_map, flat_map-append, append-nil, append_assoc, IfSome, Output, Delivered, Sources, Annotate, Given, Fault, Read, Refused, TooLong, Bool, CatalogEntries, answered_by, is_narrow, lines_of, take}
 use Rattle.std.proofs.Common.{length-append}
 use Rattle.std.specs.Prelude.{◌-◌, ◌^◌}
-use Rattle.std.specs.Io.KnownBytes.{Appends}
 use Rattle.std.proofs.KnownBytes.{Appends-nil, Appends-trans}
 use Rattle.logs.specs.Annotation.{Ends, IsOpen, Passes, Puts, held_in}
 use Rattle.logs.specs.AnnotatedLogs.{first_held}

@@ -1,5 +1,5 @@
 //! From the bytes of listings and from names to the lines that say where the symbols are.
-ghost use Rattle.std.specs.Prelude.{◌≡◌, map, Some};
+ghost use Rattle.std.specs.Prelude.{map};
 ghost use Rattle.std.specs.Option.{option_copied};
 ghost use Rattle.catalog_engines.specs.Addresses.{IsAddressed};
 ghost use Rattle.catalog_engines.specs.GivenAnswers.{AnswersGiven, AnswersListings};

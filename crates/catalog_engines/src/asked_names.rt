@@ -7,8 +7,7 @@
 ghost use Rattle.std.specs.Prelude.{◌≡◌, option_map};
 ghost use Rattle.std.specs.Option.{option_copied};
 ghost use Rattle.catalog_engines.specs.AskedNames.{asked_in, asked_of, distance_in, name_and_module};
-ghost use Rattle.catalog_engines.specs.AskedNames.{no_distance, offset_in, symbol_and_distance};
-ghost use Rattle.catalog_engines.specs.AskedNames.{without_last};
+ghost use Rattle.catalog_engines.specs.AskedNames.{offset_in, symbol_and_distance, without_last};
 
 use listing::cut;
 use memchr::memrchr;

@@ -10,7 +10,6 @@
 //!
 //! So a module that was loaded since has its name, and a line is named by the listings as they were
 //! read behind the block that its end is in.
-ghost use Rattle.std.specs.Prelude.{◌≡◌};
 ghost use Rattle.logs.specs.Annotation.{Ends, Passes};
 ghost use Rattle.command_io.specs.OpenedCatalogs.{given_in};
 ghost use Rattle.catalog_engines.specs.Following.{FollowsLog, FollowsTurns, GivesCatalog, NamesBy};

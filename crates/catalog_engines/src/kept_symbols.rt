@@ -1,9 +1,7 @@
 //! The symbols of a listing that its catalog keeps, in the order listed.
-ghost use Rattle.std.specs.Prelude.{◌≡◌, ◌+◌, ◌-◌, ◌<◌, ◌≤◌, ℕ, List, IfOk, OnOk, map};
-ghost use Rattle.std.specs.Prelude.{◌++◌, []};
+ghost use Rattle.std.specs.Prelude.{◌≡◌, ◌+◌, ◌-◌, ◌<◌, ◌≤◌, ℕ, List, IfOk, OnOk, map, ◌++◌, []};
 ghost use Rattle.std.specs.Option.{option_copied, option_to_list};
 ghost use Rattle.memchr.specs.Find.{IsFirstByte, is_byte};
-ghost use Rattle.modules.specs.Entries.{CatalogEntries};
 ghost use Rattle.order_laws.specs.declared.items.Item.{Item};
 ghost use Rattle.catalog_engines.specs.AddressTexts.{size_of};
 ghost use Rattle.catalog_engines.specs.KeptSymbols.{IsSought, Kept, is_owner, kept_in};

@@ -2,7 +2,6 @@
 ghost use Rattle.std.specs.Prelude.{◌≡◌};
 ghost use Rattle.std.specs.Option.{option_copied};
 ghost use Rattle.texts.specs.Output.{Says};
-ghost use Rattle.modules.specs.Lines.{usual_bounds};
 ghost use Rattle.catalog_engines.specs.NoteTexts.{line_if_noted, line_where, lines_by, log_line};
 ghost use Rattle.catalog_engines.specs.NoteTexts.{message_of, missing_text, note_line, note_lines};
 ghost use Rattle.catalog_engines.specs.NoteTexts.{other_boot_line, remedy_text, unnamed_line};

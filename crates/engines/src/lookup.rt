@@ -1,18 +1,13 @@
 //! From the bytes of the listings to the lines that a lookup of addresses writes.
-ghost use Rattle.std.specs.Prelude.{◌≡◌, [], Err, Ok, All, option_map, Some, true};
-ghost use Rattle.std.specs.Prelude.{IfOk, IfErr, IfSome};
+ghost use Rattle.std.specs.Prelude.{◌≡◌, [], Err, Ok, All, Some, true, IfOk, IfErr};
 ghost use Rattle.std.specs.Option.{option_copied};
-ghost use Rattle.texts.specs.Counted.{device_of, failures_of};
 ghost use Rattle.modules.specs.Catalogs.{IsBuildRefusal};
 ghost use Rattle.modules.specs.Lines.{region_fits};
-ghost use Rattle.engines.specs.LookupInputs.{inputs_in, known_inputs};
-ghost use Rattle.command_io.specs.Readings.{known_text};
-ghost use Rattle.engines.specs.LookupInputs.{region_lines_of_inputs};
+ghost use Rattle.engines.specs.LookupInputs.{inputs_in, known_inputs, region_lines_of_inputs};
+ghost use Rattle.command_io.specs.Readings.{known_text, failures_in};
 ghost use Rattle.engines.specs.LookupTexts.{lookup_lines};
 ghost use Rattle.engines.specs.Lookups.{AnswersLookup, AreListingsOf, GivesAddresses};
-ghost use Rattle.command_io.specs.Readings.{GivesLines};
 ghost use Rattle.engines.specs.Lookups.{WritesLookup, failures_between};
-ghost use Rattle.command_io.specs.Readings.{IsReadAs, failures_in};
 
 use crate::lookup_texts::put_lookup;
 use crate::table::answers_of;

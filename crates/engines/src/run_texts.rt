@@ -3,8 +3,6 @@
 //! Many answers are gathered in memory before they are put on the writer at once. Memory that runs
 //! out for that fails no run: then the answers go to the writer piece by piece.
 ghost use Rattle.std.specs.Prelude.{◌++◌, ◌+◌, ◌≡◌, IfOk, codes, decimal, flat_map, min};
-ghost use Rattle.std.specs.Prelude.{sum_by, vec_len};
-ghost use Rattle.std.specs.List.{zip};
 ghost use Rattle.texts.specs.Exact.{hexadecimal};
 ghost use Rattle.texts.specs.Output.{Delivers, Says};
 ghost use Rattle.engines.specs.LookupTexts.{count_text};

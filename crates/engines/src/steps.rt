@@ -4,7 +4,7 @@
 //! its event as often as it says, and what each event did is written as soon as it is done: nothing
 //! of it is kept. How a command stands for events is in `Expands` of latch_steps, whose `event_of`,
 //! `most_of` and `ends` are the functions of these names here.
-ghost use Rattle.std.specs.Prelude.{◌≡◌, ◌≤◌, false, IfErr, IfOk, OnOk};
+ghost use Rattle.std.specs.Prelude.{◌≡◌, false, IfErr, IfOk, OnOk};
 ghost use Rattle.run_files.specs.Trace.{contents_of};
 ghost use Rattle.texts.specs.Output.{has_failed};
 ghost use Rattle.word_layout.specs.Words.{at};

@@ -1,8 +1,6 @@
 //! A lookup whose modules, and where they lie, come from the listing of symbols alone.
 ghost use Rattle.std.specs.Prelude.{[], Ok, Some};
-ghost use Rattle.texts.specs.Counted.{device_of, failures_of};
-ghost use Rattle.command_io.specs.Readings.{known_text};
-ghost use Rattle.command_io.specs.Readings.{failures_in, last_failures};
+ghost use Rattle.command_io.specs.Readings.{known_text, failures_in, last_failures};
 ghost use Rattle.engines.specs.SymbolLookups.{AnswersSymbolLookup, failures_of_symbols};
 ghost use Rattle.engines.specs.SymbolLookups.{known_symbol_inputs};
 ghost use Rattle.engines.specs.SymbolLookups.{symbol_inputs_in, symbol_inputs_of};

@@ -1,6 +1,5 @@
 //! The lines that a trace writes, byte for byte, in room that the caller has made.
-ghost use Rattle.std.specs.Prelude.{◌+◌, ◌≤◌, decimal, vec_len};
-ghost use Rattle.std.specs.Prelude.{vec_capacity};
+ghost use Rattle.std.specs.Prelude.{◌+◌, ◌≤◌, decimal, vec_len, vec_capacity};
 ghost use Rattle.texts.specs.Output.{Says};
 ghost use Rattle.order_laws.specs.Refusals.{refusal_number};
 ghost use Rattle.engines.specs.TraceTexts.{load_counts_text, end_text, found_text, note_text};

@@ -1,5 +1,5 @@
 //! What the command line may say, and what its help tells.
-ghost use Rattle.std.specs.Prelude.{◌≡◌, IfOk};
+ghost use Rattle.std.specs.Prelude.{IfOk};
 ghost use Rattle.clap.specs.Words.{App, Rule, new_app, with_subcommand};
 ghost use Rattle.latchsym.specs.CommandLine.{IsCommand, IsPlainArg, address_app, annotate_app};
 ghost use Rattle.latchsym.specs.CommandLine.{check_app, flag_rule, latchsym_app, lookup_app};

@@ -5,8 +5,7 @@ ghost use Rattle.std.specs.Prelude.{◌≡◌, ◌≢◌, ◌≤◌, ◌<◌, Er
 ghost use Rattle.texts.specs.Counted.{device_of, failures_of, Rose};
 ghost use Rattle.texts.specs.Said.{Gives};
 ghost use Rattle.listing.specs.Addresses.{address_in_line, address_of_text, addresses_of};
-ghost use Rattle.listing.specs.Addresses.{is_blank_end};
-ghost use Rattle.listing.specs.Addresses.{sixteen_digits, without_blank_end};
+ghost use Rattle.listing.specs.Addresses.{is_blank_end, sixteen_digits, without_blank_end};
 
 use std::alloc::{AllocError, Global};
 use std::io::Read;

@@ -1,14 +1,12 @@
 //! What follows from the grammars, as contracts of functions that do nothing.
 ghost use Rattle.std.specs.Prelude.{◌≡◌, ℕ, ◌+◌, List, length, sum, MatchResult};
+ghost use Rattle.std.specs.Prelude.{◌<◌, true, Contains, Option};
 ghost use Rattle.texts.specs.Lines.{lines_of};
 ghost use Rattle.listing.specs.ModuleListing.{module_counts, modules_in};
 ghost use Rattle.listing.specs.SymbolListing.{symbol_counts, symbols_in};
 ghost use Rattle.listing.specs.Addresses.{address_in_line, addresses_of};
-ghost use Rattle.listing.specs.RegionListing.{regions_of_text};
+ghost use Rattle.listing.specs.RegionListing.{regions_of_text, IsFirstBadRegion, IsRegionListingBy};
 ghost use Rattle.texts.specs.Understood.{AreSaidBy, IsFirstBadFrom};
-ghost use Rattle.listing.specs.RegionListing.{IsFirstBadRegion};
-ghost use Rattle.listing.specs.RegionListing.{IsRegionListingBy};
-ghost use Rattle.std.specs.Prelude.{◌<◌, true, Contains, Option};
 ghost use Rattle.listing.specs.Overlaps.{is_left_out};
 ghost use Rattle.modules.specs.Catalogs.{catalog_of, counts_of};
 ghost use Rattle.modules.specs.Listed.{BoundNames, ListedModule, ListedRegion, ListedSymbol};

@@ -3,7 +3,7 @@
 ghost use Rattle.std.specs.Prelude.{◌≡◌, ◌&&◌, ◌||◌, List, ℕ, find, length, nat_lt, not};
 ghost use Rattle.std.specs.Prelude.{option_map};
 ghost use Rattle.std.specs.Char.{is_digit};
-ghost use Rattle.std.specs.List.{list_all, list_any};
+ghost use Rattle.std.specs.List.{list_all};
 ghost use Rattle.texts.specs.Lines.{lines_of};
 ghost use Rattle.listing.specs.Looks.{AreKernelSymbols, are_modules_hidden, are_symbols_hidden};
 ghost use Rattle.listing.specs.Looks.{begins_wide, first_ends_in_cr, is_gzip, is_kernel_symbol};

@@ -2,7 +2,6 @@
 ghost use Rattle.std.specs.Prelude.{◌≡◌};
 ghost use Rattle.std.specs.List.{list_any};
 ghost use Rattle.std.specs.Option.{option_copied};
-ghost use Rattle.std.specs.Str.{bytes_eq};
 ghost use Rattle.texts.specs.Lines.{lines_of};
 ghost use Rattle.listing.specs.ModuleListing.{modules_in};
 ghost use Rattle.listing.specs.Overlaps.{do_modules_overlap, has_module, has_name, is_left_out};
