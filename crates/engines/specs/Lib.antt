@@ -27,6 +27,8 @@ pub mod LookupInputs
 pub mod Lookups
 -- what a lookup writes whose modules come from a listing of symbols alone
 pub mod SymbolLookups
+-- what a lookup writes in the listings that are given
+pub mod GivenLookups
 -- what the lines of a script have each writer and each reader do
 pub mod Assignments
 -- the lines that a run of a script writes

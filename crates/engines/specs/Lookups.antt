@@ -1,8 +1,8 @@
--- What is written for the listings and the addresses that are asked for.
-use Rattle.std.specs.Prelude.{◌≡◌, ℕ, List, [], ◌∷◌, true, false, is_some}
+-- What is written for listings, of modules among them, and for the addresses that are asked for.
+use Rattle.std.specs.Prelude.{◌≡◌, ℕ, List, true, false, is_some}
 use Rattle.std.specs.Prelude.{Option, Some, Result, Ok, Err, IfSome}
 use Rattle.std.specs.Global.{Vec}
-use Rattle.texts.specs.Counted.{Rose, failures_of}
+use Rattle.texts.specs.Counted.{Rose}
 use Rattle.texts.specs.Lines.{lines_of}
 use Rattle.texts.specs.declared.output.Output.{Output}
 use Rattle.texts.specs.Output.{Delivered, WrotePart}
@@ -19,11 +19,10 @@ use Rattle.engines.specs.CatalogTables.{HasFewRegions, HasManyRegions}
 use Rattle.engines.specs.LookupInputs.{Inputs, all_addresses, catalog_in, counts_in}
 use Rattle.engines.specs.LookupInputs.{notes_of, region_lines_of_inputs}
 use Rattle.engines.specs.LookupTexts.{lookup_lines}
-use Rattle.command_io.specs.Readings.{AnswersInputs, Failures, failures_in}
+use Rattle.command_io.specs.Readings.{AnswersInputs, Failures}
 use Rattle.command_io.specs.declared.fault.Fault.{Fault}
 use Rattle.command_io.specs.declared.fault.Fault.TheVariants.{Refused, BadLine, Read, Write}
 use Rattle.command_io.specs.declared.forms.AnswerForm.{AnswerForm}
-use Rattle.engines.specs.declared.lookup.LookupReaders.{LookupReaders}
 
 -- where the lines of the listings went
 abbrev pub tallies_in : Inputs → Tallies
@@ -34,7 +33,7 @@ tallies_in i =
 -- a line for each address, and then the counts, in this form
 abbrev pub lookup_text : AnswerForm → Inputs → List ℕ
 lookup_text form i =
-    lookup_lines form (catalog_in i) i.options.rule i.addresses (tallies_in i)
+    lookup_lines form (catalog_in i) i.rule i.addresses (tallies_in i)
 
 -- no module has too many region lines, and a table of all regions has so many nodes at most
 abbrev pub FitsTable : Inputs → Type 0
@@ -50,7 +49,7 @@ HasTooManyOfOne i = are_few (region_lines_of_inputs i) ≡ false
 -- the catalog, the counts and the notes are those of these inputs
 abbrev pub AreListingsOf : Inputs → Listings → Type 0
 AreListingsOf i =
-    AreOpened (Some i.options.kernel) i.options.with_mapping i.modules i.kallsyms i.regions
+    AreOpened (Some i.kernel) true i.modules i.kallsyms i.regions
 
 -- What is returned that looks addresses up in this catalog, and writes this text. Every fault but a
 -- failed write leaves the writer as it was, and a call of it failed then alone.
@@ -88,16 +87,9 @@ IsLookupOf contents form w w' i (Err (Refused refusal.TooManyRegions)) = HasTooM
 IsLookupOf contents form w w' i (Err Write) = IsWritten (WrotePart contents w w') form i
 IsLookupOf contents form w w' i (Err _) = Unit {0}
 
--- what the engine returns that also read the inputs, where these are known
-abbrev pub AnswersLookup : {W : Type 0} → (W → Option (List ℕ)) → AnswerForm
-    → Option (Result Inputs (ℕ × ℕ)) → Failures → Output W → Output W → Result ListingNotes Fault → Type 0
-AnswersLookup contents form known counts w w' result =
+-- what is returned where the inputs were read, if these are known
+abbrev pub AnswersByModules : {W : Type 0} → (W → Option (List ℕ)) → AnswerForm
+    → Option (Result Inputs (ℕ × ℕ)) → Failures → Output W → Output W
+    → Result ListingNotes Fault → Type 0
+AnswersByModules contents form known counts w w' result =
     AnswersInputs (IsLookupOf contents form w w') known counts w w' result
-
-abbrev pub failures_between : {M K R A : Type 0} → LookupReaders M K R A → LookupReaders M K R A
-    → Failures
-failures_between old new =
-    (failures_of old.modules, failures_of new.modules)
-    ∷ (failures_of old.kallsyms, failures_of new.kallsyms)
-    ∷ (failures_in old.regions, failures_in new.regions)
-    ∷ (failures_in old.addresses, failures_in new.addresses) ∷ []

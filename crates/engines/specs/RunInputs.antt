@@ -1,5 +1,5 @@
 -- What a run of a script reads, and what that says.
-use Rattle.std.specs.Prelude.{ℕ, true, List, [], Option, Some, None, Result, Ok, Err, option_and_then}
+use Rattle.std.specs.Prelude.{ℕ, List, [], Option, Some, None, Result, Ok, Err, option_and_then}
 use Rattle.std.specs.Option.{option_map}
 use Rattle.texts.specs.Counted.{device_of}
 use Rattle.run_files.specs.declared.scripts.ScriptLine.{ScriptLine}
@@ -8,7 +8,6 @@ use Rattle.listing.specs.AddressRules.{as_given}
 use Rattle.modules.specs.Listed.{BoundNames}
 use Rattle.engines.specs.LookupInputs.{Inputs, Texts, inputs_of, texts_of}
 use Rattle.command_io.specs.Readings.{known_text}
-use Rattle.engines.specs.declared.lookup.LookupOptions.{LookupOptions}
 use Rattle.engines.specs.declared.runs.RunReaders.{RunReaders}
 
 -- what a run is asked over: the inputs that listings are, with no address, and a script's lines
@@ -30,17 +29,13 @@ run_inputs_after readers script (Err bad) = Some (Err bad)
 run_inputs_after readers script (Ok i) =
     option_map (λ text. run_inputs_with i (script_of readers text)) script
 
--- the options of a run: the names that bound the kernel, addresses that are taken as they are, and
--- mapping symbols that are kept
-abbrev pub run_options : BoundNames → LookupOptions
-run_options names = record { kernel = names; rule = as_given; with_mapping = true }
-
--- the inputs that these texts and this script are, where these names bound the kernel
+-- The inputs that these texts and this script are, where these names bound the kernel. Addresses are
+-- taken as they are.
 abbrev pub run_inputs_of : BoundNames → ℕ → Option (List ℕ) → Texts
     → Option (Result RunInputs (ℕ × ℕ))
 run_inputs_of names readers script t =
     option_and_then (run_inputs_after readers script)
-    (inputs_of (run_options names) [] (Some None) t)
+    (inputs_of names as_given [] (Some None) t)
 
 -- the inputs that the files give for so many readers, where the bytes of each that is read for them
 -- are known

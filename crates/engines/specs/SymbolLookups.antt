@@ -1,9 +1,7 @@
 -- What a lookup writes whose modules come from a listing of symbols alone.
-use Rattle.std.specs.Prelude.{◌≡◌, ℕ, List, [], ◌∷◌, Option}
-use Rattle.std.specs.Prelude.{Result, Ok, Err, option_and_then}
+use Rattle.std.specs.Prelude.{◌≡◌, ℕ, List, Option, Result, Ok, Err}
 use Rattle.std.specs.Option.{option_map}
 use Rattle.listing.specs.declared.address_rules.AddressRule.{AddressRule}
-use Rattle.texts.specs.Counted.{device_of, failures_of}
 use Rattle.texts.specs.declared.output.Output.{Output}
 use Rattle.texts.specs.Output.{Delivered, WrotePart}
 use Rattle.listing.specs.Opening.{SaysOfModules, kept_in_text, listed, notes_with, symbol_note}
@@ -16,14 +14,13 @@ use Rattle.engines.specs.CatalogTables.{HasFewRegions, HasManyRegions}
 use Rattle.engines.specs.LookupInputs.{all_addresses}
 use Rattle.engines.specs.LookupTexts.{lookup_lines}
 use Rattle.command_io.specs.OpenedCatalogs.{tallies_found}
-use Rattle.command_io.specs.Readings.{AnswersInputs, Failures, failures_in, known_text}
+use Rattle.command_io.specs.Readings.{AnswersInputs, Failures}
 use Rattle.command_io.specs.declared.fault.Fault.{Fault}
 use Rattle.command_io.specs.declared.fault.Fault.TheVariants.{Refused, Write}
 use Rattle.command_io.specs.declared.forms.AnswerForm.{AnswerForm}
 use Rattle.listing.specs.declared.listing_notes.ListingNotes.{ListingNotes}
 use Rattle.engines.specs.declared.symbol_lookup.SymbolLookupInputs.{SymbolLookupInputs}
-use Rattle.engines.specs.declared.symbol_lookup.SymbolLookupOptions.{SymbolLookupOptions}
-use Rattle.engines.specs.declared.symbol_lookup.SymbolLookupReaders.{SymbolLookupReaders}
+use Rattle.engines.specs.declared.lookup.LookupOptions.{LookupOptions}
 
 -- what such a lookup is asked over: the names that are given for the kernel's bounds, how addresses
 -- are taken, the text of the listing, and the addresses of both places
@@ -44,7 +41,7 @@ symbol_inputs_in i = record {
 
 -- the inputs with these addresses, or the first bad line of their file, as the place of that file
 -- and the number of the line
-abbrev pub symbol_inputs_with : SymbolLookupOptions → List ℕ → Result (List ℕ) ℕ
+abbrev pub symbol_inputs_with : LookupOptions → List ℕ → Result (List ℕ) ℕ
     → Result SymbolInputs (ℕ × ℕ)
 symbol_inputs_with options text (Err n) = Err (3, n)
 symbol_inputs_with options text (Ok addresses) = Ok (record {
@@ -55,18 +52,10 @@ symbol_inputs_with options text (Ok addresses) = Ok (record {
 })
 
 -- the same after the addresses of the command line, where the text of that file is known
-abbrev pub symbol_inputs_of : SymbolLookupOptions → List ℕ → Option (Option (List ℕ)) → List ℕ
+abbrev pub symbol_inputs_of : LookupOptions → List ℕ → Option (Option (List ℕ)) → List ℕ
     → Option (Result SymbolInputs (ℕ × ℕ))
 symbol_inputs_of options given file text =
     option_map (λ t. symbol_inputs_with options text (all_addresses given t)) file
-
--- the inputs that readers give, where the bytes of each that is read for them are known
-abbrev pub known_symbol_inputs : {K A : Type 0} → (K → Option (List ℕ)) → (A → Option (List ℕ))
-    → SymbolLookupReaders K A → SymbolLookupOptions → List ℕ
-    → Option (Result SymbolInputs (ℕ × ℕ))
-known_symbol_inputs kallsyms addresses readers options given =
-    option_and_then (symbol_inputs_of options given (known_text addresses readers.addresses))
-    (kallsyms (device_of readers.kallsyms))
 
 -- a line for each address, and then the counts
 abbrev pub symbol_lookup_text : AnswerForm → SymbolInputs → Accepted → List ℕ
@@ -103,17 +92,9 @@ IsSymbolLookupOf contents form w w' i (Err Write) =
     (notes : ListingNotes) × IsWrittenBySymbols (WrotePart contents w w') form i notes
 IsSymbolLookupOf contents form w w' i (Err _) = Unit {0}
 
--- what the engine returns that also read the inputs, where these are known
-abbrev pub AnswersSymbolLookup : {W : Type 0} → (W → Option (List ℕ)) → AnswerForm
+-- what is returned where the inputs were read, if these are known
+abbrev pub AnswersBySymbols : {W : Type 0} → (W → Option (List ℕ)) → AnswerForm
     → Option (Result SymbolInputs (ℕ × ℕ)) → Failures → Output W → Output W
     → Result ListingNotes Fault → Type 0
-AnswersSymbolLookup contents form known counts w w' result =
+AnswersBySymbols contents form known counts w w' result =
     AnswersInputs (IsSymbolLookupOf contents form w w') known counts w w' result
-
--- The counts of failed calls. The files have the places that they have in every lookup, so those of
--- the listings of modules and of regions stay empty.
-abbrev pub failures_of_symbols : {K A : Type 0} → SymbolLookupReaders K A
-    → SymbolLookupReaders K A → Failures
-failures_of_symbols old new =
-    (0, 0) ∷ (failures_of old.kallsyms, failures_of new.kallsyms) ∷ (0, 0)
-    ∷ (failures_in old.addresses, failures_in new.addresses) ∷ []

@@ -22,6 +22,5 @@ mod trace_texts;
 pub use lookup::{LookupOptions, LookupReaders, lookup_engine};
 pub use runs::{RunReaders, run_engine};
 pub use steps::steps_engine;
-pub use symbol_lookup::{SymbolLookupOptions, SymbolLookupReaders, symbol_lookup_engine};
 pub use trace::trace_engine;
 pub use trace_texts::put_refused;

@@ -1,19 +1,23 @@
 //! From the bytes of the listings to the lines that a lookup of addresses writes.
-ghost use Rattle.std.specs.Prelude.{◌≡◌, [], Err, Ok, All, Some, true, IfOk, IfErr};
+ghost use Rattle.std.specs.Prelude.{◌≡◌, [], Err, Ok, All, Some, true, IfOk, IfErr, unwrap_or};
 ghost use Rattle.std.specs.Option.{option_copied};
 ghost use Rattle.modules.specs.Catalogs.{IsBuildRefusal};
-ghost use Rattle.modules.specs.Lines.{region_fits};
-ghost use Rattle.engines.specs.LookupInputs.{inputs_in, known_inputs, region_lines_of_inputs};
-ghost use Rattle.command_io.specs.Readings.{known_text, failures_in};
+ghost use Rattle.modules.specs.Lines.{region_fits, usual_bounds};
+ghost use Rattle.command_io.specs.OpenedCatalogs.{given_in};
+ghost use Rattle.command_io.specs.Readings.{failures_in, known_text, last_failures};
+ghost use Rattle.engines.specs.GivenLookups.{AnswersLookup, failures_between, given_inputs_of};
+ghost use Rattle.engines.specs.GivenLookups.{known_inputs, texts_beside};
+ghost use Rattle.engines.specs.LookupInputs.{inputs_in, inputs_of, region_lines_of_inputs};
 ghost use Rattle.engines.specs.LookupTexts.{lookup_lines};
-ghost use Rattle.engines.specs.Lookups.{AnswersLookup, AreListingsOf, GivesAddresses};
-ghost use Rattle.engines.specs.Lookups.{WritesLookup, failures_between};
+ghost use Rattle.engines.specs.Lookups.{AnswersByModules, AreListingsOf, GivesAddresses};
+ghost use Rattle.engines.specs.Lookups.{WritesLookup};
 
 use crate::lookup_texts::put_lookup;
+use crate::symbol_lookup::answer_from_symbols;
 use crate::table::answers_of;
 use command_io::{
-    AnswerForm, Fault, KALLSYMS_PLACE, MODULES_PLACE, REGIONS_PLACE, all_written, noted, read_at,
-    read_if_given, region_lines_in,
+    AnswerForm, Fault, GivenTexts, ListingReaders, all_written, bounds_or_usual, noted, read_given,
+    region_lines_in,
 };
 use listing::{AddressRule, LineTallies, ListingNotes, Listings, open_listings, read_addresses};
 use modules::{Asked, Catalog, KernelBounds, RegionLine};
@@ -25,13 +29,9 @@ use texts::{Counted, Output};
 /// The readers of the files of a lookup, in the order in which they are read.
 #[derive(Drop)]
 pub struct LookupReaders<M, K, R, A> {
-    /// The listing of modules.
-    pub modules: Counted<M>,
-    /// The listing of symbols.
-    pub kallsyms: Counted<K>,
-    /// The listing of regions, where there is one.
-    pub regions: Option<Counted<R>>,
-    /// The file of further addresses, where there is one.
+    /// The listings.
+    pub listings: ListingReaders<M, K, R>,
+    /// The file of further addresses, if there is one.
     pub addresses: Option<Counted<A>>,
 }
 
@@ -49,33 +49,34 @@ pub struct ListingTexts {
 /// How the kernel's own region is found, and how addresses are taken.
 #[derive(Debug, Drop)]
 pub struct LookupOptions<'a> {
-    /// The names of the symbols that bound the kernel's own region.
-    pub kernel: KernelBounds<'a>,
+    /// The names of the symbols that bound the kernel's own region, if they are given. Else it lies
+    /// between `_stext` and `_end` if modules are listed, and has its usual regions if not.
+    pub kernel: Option<KernelBounds<'a>>,
     /// How the addresses are taken that are looked up.
     pub rule: AddressRule,
-    /// Whether mapping symbols are kept, as other symbols are.
-    pub with_mapping: bool,
 }
 
-/// The inputs of a lookup.
+/// The inputs of a lookup in listed modules.
 #[derive(Drop)]
 pub(crate) struct LookupInputs<'o, 'a> {
-    pub options: &'o LookupOptions<'o>,
+    /// The names of the symbols that bound the kernel's own region.
+    pub kernel: &'o KernelBounds<'o>,
+    /// How the addresses are taken that are looked up.
+    pub rule: AddressRule,
     /// The text of the listing of modules.
     pub modules: &'a [u8],
     /// The text of the listing of symbols.
     pub kallsyms: &'a [u8],
-    /// The lines of the listing of regions, where there is one.
+    /// The lines of the listing of regions, if there is one.
     pub regions: Option<Vec<RegionLine<'a>>>,
     /// The addresses of the command line, and after them those of the file.
     pub addresses: Vec<u64>,
 }
 
-/// Looks addresses up in the listings of modules and of symbols, and writes a line for each address
-/// and the counts of each listing, in this form. Returns what is noted of the listings. A listing of
-/// regions may say where modules lie, and a file of addresses which are looked up after the given
-/// ones. The options name the symbols between which the kernel's own region lies, and say how the
-/// addresses are taken.
+/// Looks addresses up in listings, and writes a line for each address and the counts of each listing,
+/// in this form. Returns what is noted of the listings. A listing of modules says where modules lie,
+/// perhaps with one of regions; without it that of symbols says so by the order of its addresses. A
+/// file of addresses says which are looked up after the given ones.
 ///
 /// All is read, and all answers are there, before the first byte is written; so every fault but a
 /// failed write leaves the writer as it was. docs/FORMATS.md has the files and the lines.
@@ -92,16 +93,59 @@ pub fn lookup_engine<M: Read, K: Read, R: Read, A: Read, W: Write>(
         readers.old options.now addresses.now)
         (failures_between readers.old readers.new) writer.old writer.new result }
 {
-    let modules = read_at(alloc, &mut readers.modules, MODULES_PLACE)?;
-    let kallsyms = read_at(alloc, &mut readers.kallsyms, KALLSYMS_PLACE)?;
-    let regions = read_if_given(alloc, &mut readers.regions, REGIONS_PLACE)?;
-    let lines = region_lines_in(alloc, &regions)?;
-    let addresses = all_addresses(alloc, addresses, &mut readers.addresses)?;
+    let texts = read_given(alloc, &mut readers.listings)?;
+    let file = &mut readers.addresses;
+    answer_given(alloc, &texts, options, addresses, file, form, writer)
+}
+
+/// Looks addresses up in listings with these texts: those that are given, and after them those of the
+/// file.
+fn answer_given<A: Read, W: Write>(
+    alloc: Global,
+    texts: &GivenTexts,
+    options: &LookupOptions<'_>,
+    given: &[u64],
+    file: &mut Option<Counted<A>>,
+    form: AnswerForm,
+    writer: &mut Output<W>,
+) -> Result<ListingNotes, Fault>
+    ensures { AnswersLookup W.contents form
+        (given_inputs_of options.now given.now (known_text A.remaining file.old) (given_in texts.now))
+        (last_failures (failures_in file.old) (failures_in file.new)) writer.old writer.new result }
+{
+    match &texts.modules {
+        Some(modules) => {
+            answer_by_modules(alloc, texts, modules, options, given, file, form, writer)
+        }
+        None => answer_from_symbols(alloc, options, given, &texts.kallsyms, file, form, writer),
+    }
+}
+
+/// Looks addresses up in listings of modules and of symbols.
+fn answer_by_modules<A: Read, W: Write>(
+    alloc: Global,
+    texts: &GivenTexts,
+    modules: &[u8],
+    options: &LookupOptions<'_>,
+    given: &[u64],
+    file: &mut Option<Counted<A>>,
+    form: AnswerForm,
+    writer: &mut Output<W>,
+) -> Result<ListingNotes, Fault>
+    ensures { AnswersByModules W.contents form
+        (inputs_of (unwrap_or options.now.kernel usual_bounds) options.now.rule given.now
+        (known_text A.remaining file.old) (texts_beside modules.now (given_in texts.now)))
+        (last_failures (failures_in file.old) (failures_in file.new)) writer.old writer.new result }
+{
+    let regions = region_lines_in(alloc, &texts.regions)?;
+    let addresses = all_addresses(alloc, given, file)?;
+    let kernel = bounds_or_usual(options.kernel.as_ref());
     let inputs = LookupInputs {
-        options,
-        modules: &modules,
-        kallsyms: &kallsyms,
-        regions: lines,
+        kernel: &kernel,
+        rule: options.rule,
+        modules,
+        kallsyms: &texts.kallsyms,
+        regions,
         addresses,
     };
     answer_with(alloc, &inputs, form, writer)
@@ -134,10 +178,10 @@ fn answer_with<W: Write>(
     writer: &mut Output<W>,
 ) -> Result<ListingNotes, Fault>
     requires { All (λ r. region_fits r ≡ true) (region_lines_of_inputs (inputs_in inputs.now)) }
-    ensures { AnswersLookup W.contents form (Some (Ok (inputs_in inputs.now))) []
+    ensures { AnswersByModules W.contents form (Some (Ok (inputs_in inputs.now))) []
         writer.old writer.new result }
 {
-    let rule = inputs.options.rule;
+    let rule = inputs.rule;
     let addresses = &inputs.addresses;
     let places = places_of(alloc, rule, addresses)?;
     let listings = listings_in(alloc, inputs, Asked::These(&places))?;
@@ -202,8 +246,8 @@ pub(crate) fn listings_in<'a>(
     let regions = region_lines_of(inputs);
     open_listings(
         alloc,
-        Some(&inputs.options.kernel),
-        inputs.options.with_mapping,
+        Some(inputs.kernel),
+        true,
         inputs.modules,
         inputs.kallsyms,
         regions,

@@ -15,7 +15,7 @@ ghost use Rattle.engines.specs.Runs.{AnswersLines, AnswersRun, TellsServed, run_
 ghost use Rattle.engines.specs.Runs.{status_of};
 
 use crate::assignments::{Assignments, assign};
-use crate::lookup::{ListingTexts, LookupInputs, LookupOptions, listings_in};
+use crate::lookup::{ListingTexts, LookupInputs, listings_in};
 use crate::run_texts::put_run;
 use command_io::{
     FAILED, Fault, Finished, KALLSYMS_PLACE, MODULES_PLACE, REGIONS_PLACE, SUCCEEDED, read_at,
@@ -99,16 +99,9 @@ fn run_from<T: Threads + Wait + Sync, S: Read, W: Write>(
 {
     let regions = region_lines_in(alloc, &texts.regions)?;
     let text = read_at(alloc, script, SCRIPT_PLACE)?;
-    let options = LookupOptions {
-        kernel: KernelBounds {
-            start: kernel.start,
-            end: kernel.end,
-        },
-        rule: AddressRule::AS_GIVEN,
-        with_mapping: true,
-    };
     let inputs = LookupInputs {
-        options: &options,
+        kernel,
+        rule: AddressRule::AS_GIVEN,
         modules: &texts.modules,
         kallsyms: &texts.kallsyms,
         regions,

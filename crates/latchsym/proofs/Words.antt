@@ -67,19 +67,16 @@ pub use Rattle.listing.specs.declared.opening.Listings.{Listings}
 pub use Rattle.listing.specs.declared.opening.SymbolListing.{SymbolListing}
 pub use Rattle.command_io.specs.Faults.{with_notes}
 pub use Rattle.command_io.specs.JsonTexts.{address_member, symbol_members}
-pub use Rattle.engines.specs.LookupInputs.{Inputs, known_inputs}
+pub use Rattle.engines.specs.GivenLookups.{AnswersLookup, failures_between, known_inputs}
 pub use Rattle.command_io.specs.Readings.{region_lines}
-pub use Rattle.engines.specs.Lookups.{AnswersLookup, AreListingsOf, failures_between}
 pub use Rattle.command_io.specs.OpenedCatalogs.{AreReadAs, Given, HasBadRegion, HasCrowdedRegions, IsCatalogOf, OpensCatalog, given_in, known_given, listing_failures}
 pub use Rattle.command_io.specs.Readings.{Failures, NoReaderFailed}
 pub use Rattle.engines.specs.RunInputs.{known_run_inputs}
 pub use Rattle.engines.specs.Runs.{AnswersRun, run_failures_between}
-pub use Rattle.engines.specs.SymbolLookups.{AnswersSymbolLookup, failures_of_symbols, known_symbol_inputs}
 pub use Rattle.command_io.specs.declared.fault.Fault.{Fault}
 pub use Rattle.command_io.specs.declared.fault.Fault.TheVariants.{BadLine, Read, Refused, TooLong, Write}
 pub use Rattle.engines.specs.declared.lookup.LookupOptions.{LookupOptions}
 pub use Rattle.command_io.specs.declared.opened_catalogs.GivenTexts.{GivenTexts}
-pub use Rattle.engines.specs.declared.symbol_lookup.SymbolLookupOptions.{SymbolLookupOptions}
 pub use Rattle.catalog_engines.specs.LogAnswers.{answered_by}
 pub use Rattle.catalog_engines.specs.AddressTexts.{address_line, address_object, is_told, owner_member, owner_text, symbols_text, told_line, told_lines, word_text, words_text}
 pub use Rattle.catalog_engines.specs.Addresses.{IsAddressed}

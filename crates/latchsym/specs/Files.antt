@@ -15,7 +15,6 @@ use Rattle.catalog_engines.specs.declared.sources.ListingFiles.{ListingFiles}
 use Rattle.latchsym.specs.declared.requests.Request.{Request}
 use Rattle.latchsym.specs.declared.requests.Subcommand.{Subcommand}
 use Rattle.latchsym.specs.declared.requests.Subcommand.TheVariants as sub
-use Rattle.engines.specs.declared.lookup.LookupReaders.{LookupReaders}
 use Rattle.command_io.specs.declared.opened_catalogs.ListingReaders.{ListingReaders}
 use Rattle.engines.specs.declared.runs.RunReaders.{RunReaders}
 
@@ -72,14 +71,7 @@ pub record AreListingFiles {F : Type 0} (remaining : F → Option (List ℕ)) (h
   pub kallsyms : IsOpened remaining held files.kallsyms.now r.kallsyms
   pub regions : IsOpenedIfGiven remaining held files.regions r.regions
 
--- the readers of the listings among those of a lookup, and of a run
-abbrev pub listings_of_lookup : {F : Type 0} → LookupReaders F F F F → ListingReaders F F F
-listings_of_lookup r = record {
-  modules = Some r.modules;
-  kallsyms = r.kallsyms;
-  regions = r.regions;
-}
-
+-- the readers of the listings among those of a run
 abbrev pub listings_of_run : {F : Type 0} → RunReaders F F F F → ListingReaders F F F
 listings_of_run r = record {
   modules = Some r.modules;
@@ -91,12 +83,7 @@ listings_of_run r = record {
 abbrev pub IsOpenedWith : {F : Type 0} → (F → Option (List ℕ)) → Held → Held → Request → Subcommand
     → OpenedJob F → Type 0
 IsOpenedWith remaining held inputs q (sub.Lookup lookup) (opened.Lookup o p r) =
-    (o.now ≡ q) × (p.now ≡ lookup)
-    × AreListingFiles remaining held q.sources.files (listings_of_lookup r)
-    × IsOpenedIfGiven remaining inputs lookup.file r.addresses
-IsOpenedWith remaining held inputs q (sub.Lookup lookup) (opened.SymbolLookup o p r) =
-    (o.now ≡ q) × (p.now ≡ lookup) × (q.sources.files.modules ≡ None)
-    × IsOpened remaining held q.sources.files.kallsyms.now r.kallsyms
+    (o.now ≡ q) × (p.now ≡ lookup) × AreListingFiles remaining held q.sources.files r.listings
     × IsOpenedIfGiven remaining inputs lookup.file r.addresses
 IsOpenedWith remaining held inputs q (sub.Run run) (opened.Run o p r) =
     (o.now ≡ q) × (p.now ≡ run) × AreListingFiles remaining held q.sources.files (listings_of_run r)

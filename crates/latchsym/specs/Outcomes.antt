@@ -8,13 +8,10 @@ use Rattle.catalog_engines.specs.Following.{FollowsLog}
 use Rattle.catalog_engines.specs.GivenAnswers.{AnswersListings}
 use Rattle.command_io.specs.Faults.{with_notes, with_status, without_notes}
 use Rattle.listing.specs.ListingNotes.{no_notes}
-use Rattle.engines.specs.LookupInputs.{known_inputs}
-use Rattle.engines.specs.Lookups.{AnswersLookup, failures_between}
+use Rattle.engines.specs.GivenLookups.{AnswersLookup, failures_between, known_inputs}
 use Rattle.command_io.specs.OpenedCatalogs.{known_given, listing_failures}
 use Rattle.engines.specs.RunInputs.{known_run_inputs}
 use Rattle.engines.specs.Runs.{AnswersRun, run_failures_between}
-use Rattle.engines.specs.SymbolLookups.{AnswersSymbolLookup, failures_of_symbols}
-use Rattle.engines.specs.SymbolLookups.{known_symbol_inputs}
 use Rattle.engines.specs.StepTraces.{AnswersSteps}
 use Rattle.engines.specs.Traces.{AnswersTrace}
 use Rattle.modules.specs.Lines.{usual_bounds}
@@ -22,26 +19,21 @@ use Rattle.modules.specs.Listed.{BoundNames}
 use Rattle.command_io.specs.declared.fault.Fault.{Fault}
 use Rattle.command_io.specs.declared.fault.Finished.{Finished}
 use Rattle.engines.specs.declared.lookup.LookupOptions.{LookupOptions}
-use Rattle.engines.specs.declared.symbol_lookup.SymbolLookupOptions.{SymbolLookupOptions}
 use Rattle.catalog_engines.specs.declared.annotations.AnnotateReaders.{AnnotateReaders}
 use Rattle.latchsym.specs.declared.jobs.OpenedJob.{OpenedJob}
-use Rattle.latchsym.specs.declared.jobs.OpenedJob.TheVariants.{Trace, Steps, Lookup, SymbolLookup}
+use Rattle.latchsym.specs.declared.jobs.OpenedJob.TheVariants.{Trace, Steps, Lookup}
 use Rattle.latchsym.specs.declared.jobs.OpenedJob.TheVariants.{Address, Annotate, Check, Run}
 use Rattle.catalog_engines.specs.declared.annotations.Annotate as annotate
 use Rattle.latchsym.specs.declared.requests.Lookup as lookup
 use Rattle.latchsym.specs.declared.requests.Request.{Request}
 
--- the names of the kernel's bounds where modules are listed
+-- the names of the kernel's bounds in a run
 abbrev pub bounds_of : Request → BoundNames
 bounds_of q = unwrap_or q.sources.kernel usual_bounds
 
--- how the addresses of a request are looked up, in listings of modules and of symbols
+-- how the addresses of a request are looked up
 abbrev pub options_of : Request → lookup.Lookup → LookupOptions
-options_of q l = record { kernel = bounds_of q; rule = l.rule; with_mapping = true }
-
--- the same in a listing of symbols alone
-abbrev pub symbol_options_of : Request → lookup.Lookup → SymbolLookupOptions
-symbol_options_of q l = record { kernel = q.sources.kernel; rule = l.rule }
+options_of q l = record { kernel = q.sources.kernel; rule = l.rule }
 
 -- an engine returned what it may, and the outcome is this of it
 abbrev pub Ends : {A : Type 0} → (Result A Fault → Type 0) → (Result A Fault → Result Finished Fault)
@@ -78,11 +70,6 @@ IsOutcome remaining contents errors (Lookup q l r) (Lookup _ _ r') w w' e e' out
     (known_inputs remaining remaining remaining remaining r (options_of q.now l.now)
     l.now.addresses.items)
     (failures_between r r') w w') with_status outcome × (e' ≡ e)
-IsOutcome remaining contents errors (SymbolLookup q l r) (SymbolLookup _ _ r') w w' e e' outcome =
-    Ends (AnswersSymbolLookup contents l.now.form
-    (known_symbol_inputs remaining remaining r (symbol_options_of q.now l.now)
-    l.now.addresses.items)
-    (failures_of_symbols r r') w w') with_status outcome × (e' ≡ e)
 IsOutcome remaining contents errors (Run q run r) (Run _ _ r') w w' e e' outcome =
     AnswersRun contents run.now.readers
     (known_run_inputs remaining remaining remaining remaining r (bounds_of q.now) run.now.readers)

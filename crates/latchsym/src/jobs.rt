@@ -4,13 +4,10 @@ ghost use Rattle.std.specs.Prelude.{◌≡◌, IfOk, IfErr, List, ℕ, None, Opt
 ghost use Rattle.texts.specs.Counted.{device_of};
 ghost use Rattle.texts.specs.Output.{error_in};
 ghost use Rattle.command_io.specs.Faults.{with_notes, with_status};
-ghost use Rattle.engines.specs.LookupInputs.{known_inputs};
-ghost use Rattle.engines.specs.Lookups.{AnswersLookup, failures_between};
+ghost use Rattle.engines.specs.GivenLookups.{AnswersLookup, failures_between, known_inputs};
 ghost use Rattle.command_io.specs.OpenedCatalogs.{known_given, listing_failures};
 ghost use Rattle.engines.specs.RunInputs.{known_run_inputs};
 ghost use Rattle.engines.specs.Runs.{AnswersRun, run_failures_between};
-ghost use Rattle.engines.specs.SymbolLookups.{AnswersSymbolLookup, failures_of_symbols};
-ghost use Rattle.engines.specs.SymbolLookups.{known_symbol_inputs};
 ghost use Rattle.listing.specs.ListingNotes.{no_notes};
 ghost use Rattle.catalog_engines.specs.Addresses.{IsAddressed};
 ghost use Rattle.catalog_engines.specs.Annotations.{AnnotatesLog};
@@ -20,7 +17,6 @@ ghost use Rattle.latchsym.specs.Files.{AreListingFiles, IsOpened, IsOpenedFor, I
 ghost use Rattle.latchsym.specs.Files.{IsOpenedWith, or_standard};
 ghost use Rattle.catalog_engines.specs.Following.{FollowsLog};
 ghost use Rattle.latchsym.specs.Outcomes.{Ends, IsOutcome, IsOutcomeOfLog, bounds_of, options_of};
-ghost use Rattle.latchsym.specs.Outcomes.{symbol_options_of};
 ghost use Rattle.latchsym.specs.Reasons.{error_if_given, error_of_listing};
 
 use crate::followed_files::FollowedFiles;
@@ -33,8 +29,7 @@ use command_io::{
     Fault, Finished, ListingReaders, bounds_or_usual, with_notes, with_status, without_notes,
 };
 use engines::{
-    LookupOptions, LookupReaders, RunReaders, SymbolLookupOptions, SymbolLookupReaders,
-    lookup_engine, run_engine, steps_engine, symbol_lookup_engine, trace_engine,
+    LookupOptions, LookupReaders, RunReaders, lookup_engine, run_engine, steps_engine, trace_engine,
 };
 use listing::ListingNotes;
 use modules::KernelBounds;
@@ -74,7 +69,6 @@ pub enum OpenedJob<'j, 'a, R> {
     Trace(Counted<R>),
     Steps(Counted<R>),
     Lookup(&'j Request<'a>, &'j Lookup<'a>, LookupReaders<R, R, R, R>),
-    SymbolLookup(&'j Request<'a>, &'j Lookup<'a>, SymbolLookupReaders<R, R>),
     Run(&'j Request<'a>, &'j Run<'a>, RunReaders<R, R, R, R>),
     Annotate(&'j Request<'a>, &'j Annotate<'a>, AnnotateReaders<R, R, R, R>),
     Check(&'j Request<'a>, ListingReaders<R, R, R>),
@@ -107,7 +101,15 @@ fn open_request<'j, 'a, F: FileSource>(
     ensures refusal { IfErr result (λ e. e ≡ Refusal.OutOfMemory) }
 {
     match &request.subcommand {
-        Subcommand::Lookup(lookup) => open_lookup(files, request, lookup),
+        Subcommand::Lookup(lookup) => {
+            let listings = open_listings(files, &request.sources.files)?;
+            let addresses = open_addresses(files, lookup.file)?;
+            let readers = LookupReaders {
+                listings,
+                addresses,
+            };
+            Ok(OpenedJob::Lookup(request, lookup, readers))
+        }
         Subcommand::Run(run) => open_run(files, request, run),
         Subcommand::Annotate(annotate) => {
             let listings = open_listings(files, &request.sources.files)?;
@@ -124,39 +126,6 @@ fn open_request<'j, 'a, F: FileSource>(
             Ok(OpenedJob::Address(request, address, listings))
         }
     }
-}
-
-/// Opens the files of a lookup, which is by symbols alone where no modules are listed.
-fn open_lookup<'j, 'a, F: FileSource>(
-    files: &F,
-    request: &'j Request<'a>,
-    lookup: &'j Lookup<'a>,
-) -> Result<OpenedJob<'j, 'a, F::File>, Refusal>
-    ensures opened { IfOk result (IsOpenedWith F.File.remaining (F.held files.now)
-        (or_standard (F.standard files.now) (F.held files.now)) request.now
-        (Subcommand.Lookup lookup.now)) }
-    ensures refusal { IfErr result (λ e. e ≡ Refusal.OutOfMemory) }
-{
-    let ListingReaders {
-        modules,
-        kallsyms,
-        regions,
-    } = open_listings(files, &request.sources.files)?;
-    let addresses = open_addresses(files, lookup.file)?;
-    let Some(modules) = modules else {
-        let readers = SymbolLookupReaders {
-            kallsyms,
-            addresses,
-        };
-        return Ok(OpenedJob::SymbolLookup(request, lookup, readers));
-    };
-    let readers = LookupReaders {
-        modules,
-        kallsyms,
-        regions,
-        addresses,
-    };
-    Ok(OpenedJob::Lookup(request, lookup, readers))
 }
 
 /// Opens the files of a run, whose modules are listed.
@@ -214,9 +183,6 @@ pub fn do_job<T: Threads + Wait + Sync, F: FileSource, W: Write, E: Write>(
         OpenedJob::Lookup(request, lookup, readers) => {
             do_lookup(alloc, request, lookup, readers, writer)
         }
-        OpenedJob::SymbolLookup(request, lookup, readers) => {
-            do_symbol_lookup(alloc, request, lookup, readers, writer)
-        }
         OpenedJob::Run(request, run, readers) => {
             do_run(threads, alloc, request, run, readers, writer)
         }
@@ -230,7 +196,7 @@ pub fn do_job<T: Threads + Wait + Sync, F: FileSource, W: Write, E: Write>(
     }
 }
 
-/// Looks addresses up where modules are listed.
+/// Looks addresses up.
 fn do_lookup<R: Read, W: Write>(
     alloc: Global,
     request: &Request<'_>,
@@ -244,33 +210,11 @@ fn do_lookup<R: Read, W: Write>(
         (failures_between readers.old readers.new) writer.old writer.new) with_status result }
 {
     let options = LookupOptions {
-        kernel: bounds_or_usual(request.sources.kernel.as_ref()),
-        rule: lookup.rule,
-        with_mapping: true,
-    };
-    let addresses = &lookup.addresses;
-    with_status(lookup_engine(alloc, readers, &options, addresses, lookup.form, writer))
-}
-
-/// Looks addresses up by the symbols alone.
-fn do_symbol_lookup<R: Read, W: Write>(
-    alloc: Global,
-    request: &Request<'_>,
-    lookup: &Lookup<'_>,
-    readers: &mut SymbolLookupReaders<R, R>,
-    writer: &mut Output<W>,
-) -> Result<Finished, Fault>
-    ensures { Ends (AnswersSymbolLookup W.contents lookup.now.form
-        (known_symbol_inputs R.remaining R.remaining readers.old
-        (symbol_options_of request.now lookup.now) lookup.now.addresses.items)
-        (failures_of_symbols readers.old readers.new) writer.old writer.new) with_status result }
-{
-    let options = SymbolLookupOptions {
         kernel: same_bounds(&request.sources.kernel),
         rule: lookup.rule,
     };
     let addresses = &lookup.addresses;
-    with_status(symbol_lookup_engine(alloc, readers, &options, addresses, lookup.form, writer))
+    with_status(lookup_engine(alloc, readers, &options, addresses, lookup.form, writer))
 }
 
 /// The bounds that are given, once more.
@@ -421,7 +365,6 @@ impl<R> OpenedJob<'_, '_, R> {
             OpenedJob::Trace(_)
             | OpenedJob::Steps(_)
             | OpenedJob::Lookup(..)
-            | OpenedJob::SymbolLookup(..)
             | OpenedJob::Run(..) => false,
         }
     }
@@ -439,7 +382,6 @@ impl<R> OpenedJob<'_, '_, R> {
             OpenedJob::Trace(_)
             | OpenedJob::Steps(_)
             | OpenedJob::Lookup(..)
-            | OpenedJob::SymbolLookup(..)
             | OpenedJob::Run(..) => None,
         }
     }

@@ -11,7 +11,7 @@ use Rattle.engines.specs.CatalogTables.{HasFewRegions, HasManyRegions}
 use Rattle.command_io.specs.Faults.{noted}
 use Rattle.engines.specs.LookupInputs.{Inputs, catalog_in, inputs_in}
 use Rattle.engines.specs.LookupTexts.{lookup_lines}
-use Rattle.engines.specs.Lookups.{AnswersLookup, AreListingsOf, WritesLookup, lookup_text}
+use Rattle.engines.specs.Lookups.{AnswersByModules, AreListingsOf, WritesLookup, lookup_text}
 use Rattle.command_io.specs.declared.fault.Fault.{Fault}
 use Rattle.command_io.specs.declared.fault.Fault.TheVariants.{Refused, Write}
 use Rattle.command_io.specs.declared.forms.AnswerForm.{AnswerForm}
@@ -19,19 +19,19 @@ use Rattle.engines.proofs.lookup.answer_with.Goals as goal
 
 -- what was written over these listings is the text of the inputs
 module _ {W : Type 0} (contents : W → Option (List ℕ)) (form : AnswerForm) (i : Inputs) (l : Listings) (are : AreListingsOf i l) (w w' : Output W) where
-  text_is : lookup_lines form l.catalog i.options.rule i.addresses (tallies_of l) ≡ lookup_text form i
+  text_is : lookup_lines form l.catalog i.rule i.addresses (tallies_of l) ≡ lookup_text form i
   text_is =
       let of_modules = module_counts (lines_of i.modules) in
       let of_symbols = symbol_counts (lines_of i.kallsyms) in
-      let text : Tallies → List ℕ = lookup_lines form (catalog_in i) i.options.rule i.addresses in
-      ap (λ c. lookup_lines form c i.options.rule i.addresses (tallies_of l)) are.catalog
+      let text : Tallies → List ℕ = lookup_lines form (catalog_in i) i.rule i.addresses in
+      ap (λ c. lookup_lines form c i.rule i.addresses (tallies_of l)) are.catalog
       ∙ ap (λ m. text (tallies_by m l.skipped_symbols.by_place l.has_regions l.built)) are.skipped_modules
       ∙ ap (λ s. text (tallies_by of_modules s l.has_regions l.built)) are.skipped_symbols
       ∙ ap (λ r. text (tallies_by of_modules of_symbols r l.built)) are.has_regions
       ∙ ap (λ b. text (tallies_by of_modules of_symbols (is_some i.regions) b)) are.built
 
-  answered : (r : Result (Unit {0}) Fault) → WritesLookup contents l.catalog (lookup_lines form l.catalog i.options.rule i.addresses (tallies_of l)) w w' r
-      → AnswersLookup contents form (Some (Ok i)) [] w w' (noted l.notes r)
+  answered : (r : Result (Unit {0}) Fault) → WritesLookup contents l.catalog (lookup_lines form l.catalog i.rule i.addresses (tallies_of l)) w w' r
+      → AnswersByModules contents form (Some (Ok i)) [] w w' (noted l.notes r)
   answered (Ok _) h = (tt, h.1.1, (((are.few, subst HasFewRegions are.catalog h.0), subst (Delivered contents w w') text_is h.1), are.notes))
   answered (Err (Refused refusal.OutOfMemory)) h = (tt, h)
   answered (Err (Refused refusal.BadCapacity)) h = (tt, h.0, (are.few, subst HasManyRegions are.catalog h.1))
@@ -47,6 +47,6 @@ returns g c =
     let w = c.args.writer.now in
     let w' = c.write_lookup-done.new.writer in
     let r = c.write_lookup-done.result in
-    let Writes : List ℕ → Tallies → Type 0 = λ addresses t. WritesLookup contents l.catalog (lookup_lines form l.catalog i.options.rule addresses t) w w' r in
+    let Writes : List ℕ → Tallies → Type 0 = λ addresses t. WritesLookup contents l.catalog (lookup_lines form l.catalog i.rule addresses t) w w' r in
     let done = subst (Writes i.addresses) c.tallies-tallies.ensures (subst (λ x. Writes x c.tallies-tallies.result) c.deref-3.ensures.value c.write_lookup-done.ensures) in
-    subst (AnswersLookup contents form (Some (Ok i)) [] w w') (sym c.noted.ensures) (answered contents form i l c.in_ok-listings.ensures.said w w' r done)
+    subst (AnswersByModules contents form (Some (Ok i)) [] w w') (sym c.noted.ensures) (answered contents form i l c.in_ok-listings.ensures.said w w' r done)

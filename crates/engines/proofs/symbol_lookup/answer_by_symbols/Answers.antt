@@ -12,7 +12,7 @@ use Rattle.engines.specs.CatalogTables.{HasFewRegions, HasManyRegions}
 use Rattle.command_io.specs.Faults.{noted}
 use Rattle.engines.specs.LookupTexts.{lookup_lines}
 use Rattle.engines.specs.Lookups.{WritesLookup}
-use Rattle.engines.specs.SymbolLookups.{AnswersSymbolLookup, SymbolInputs, symbol_inputs_in, symbol_lookup_text}
+use Rattle.engines.specs.SymbolLookups.{AnswersBySymbols, SymbolInputs, symbol_inputs_in, symbol_lookup_text}
 use Rattle.command_io.specs.declared.fault.Fault.{Fault}
 use Rattle.command_io.specs.declared.fault.Fault.TheVariants.{Refused, Write}
 use Rattle.command_io.specs.declared.forms.AnswerForm.{AnswerForm}
@@ -28,7 +28,7 @@ module _ {W : Type 0} (contents : W → Option (List ℕ)) (form : AnswerForm) (
       ∙ ap (λ s. text (symbol_tallies_by (kept_in_text i.kallsyms is.modules) s)) is.skipped
 
   answered : (r : Result (Unit {0}) Fault) → WritesLookup contents l.catalog (lookup_lines form l.catalog i.rule i.addresses (symbol_tallies_of l)) w w' r
-      → AnswersSymbolLookup contents form (Some (Ok i)) [] w w' (noted (notes_with l.note) r)
+      → AnswersBySymbols contents form (Some (Ok i)) [] w w' (noted (notes_with l.note) r)
   answered (Ok _) h = (tt, h.1.1, (is.modules, is.said, subst HasFewRegions is.catalog h.0, subst (Delivered contents w w') text_is h.1, ap notes_with is.note))
   answered (Err (Refused refusal.OutOfMemory)) h = (tt, h)
   answered (Err (Refused refusal.BadCapacity)) h = (tt, h.0, (is.modules, is.said, subst HasManyRegions is.catalog h.1))
@@ -48,4 +48,4 @@ returns g c =
     let is = subst (λ kernel. IsSymbolListing kernel i.kallsyms l) same c.in_ok-listing.ensures in
     let Writes : List ℕ → Tallies → Type 0 = λ addresses t. WritesLookup contents l.catalog (lookup_lines form l.catalog i.rule addresses t) w w' r in
     let done = subst (Writes i.addresses) c.tallies-tallies.ensures (subst (λ x. Writes x c.tallies-tallies.result) c.deref-3.ensures.value c.write_lookup-done.ensures) in
-    subst (AnswersSymbolLookup contents form (Some (Ok i)) [] w w') (sym (c.noted.ensures ∙ ap (λ (n : ListingNotes). noted n r) c.notes.ensures)) (answered contents form i l is w w' r done)
+    subst (AnswersBySymbols contents form (Some (Ok i)) [] w w') (sym (c.noted.ensures ∙ ap (λ (n : ListingNotes). noted n r) c.notes.ensures)) (answered contents form i l is w w' r done)

@@ -1,14 +1,13 @@
 use Rattle.std.proofs.Common.{◌≡◌, ℕ, List, [], Option, Some, None, Result, Ok, IfSome, refl, subst, sym}
 use Rattle.engines.specs.LookupInputs.{all_addresses}
-use Rattle.command_io.specs.Readings.{known_text}
-use Rattle.command_io.specs.Readings.{failures_in, last_failures}
+use Rattle.command_io.specs.Readings.{failures_in, known_text, last_failures}
 use Rattle.engines.specs.SymbolLookups.{IsSymbolLookupOf, SymbolInputs, symbol_inputs_of, symbol_inputs_with}
-use Rattle.engines.specs.declared.symbol_lookup.SymbolLookupOptions.{SymbolLookupOptions}
+use Rattle.engines.specs.declared.lookup.LookupOptions.{LookupOptions}
 use Rattle.engines.proofs.InputLemmas.{still_answered}
 use Rattle.engines.proofs.symbol_lookup.answer_from_symbols.Goals as goal
 
 -- what holds of the inputs that were read holds of those that are known
-known_of : (P : Result SymbolInputs (ℕ × ℕ) → Type 0) (options : SymbolLookupOptions) (given text addresses : List ℕ) → P (symbol_inputs_with options text (Ok addresses))
+known_of : (P : Result SymbolInputs (ℕ × ℕ) → Type 0) (options : LookupOptions) (given text addresses : List ℕ) → P (symbol_inputs_with options text (Ok addresses))
     → (file : Option (Option (List ℕ))) → IfSome file (λ x. all_addresses given x ≡ Ok addresses) → IfSome (symbol_inputs_of options given file text) P
 known_of P options given text addresses p None read = tt
 known_of P options given text addresses p (Some x) read = subst (λ a. P (symbol_inputs_with options text a)) (sym read) p
