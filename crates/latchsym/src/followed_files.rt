@@ -18,12 +18,17 @@ pub struct FollowedFiles<'f, 'a, F: FileSource> {
 }
 
 impl<'f, 'a, F: FileSource> FollowedFiles<'f, 'a, F> {
-    /// These readers, of files with these names.
+    ghost use Rattle.std.specs.Prelude.{◌≡◌, false};
+
+    /// These readers, of files with these names. The listings that are open were not read.
     pub fn new(
         files: &'f F,
         names: &'f ListingFiles<'a>,
         readers: &'f mut AnnotateReaders<F::File, F::File, F::File, F::File>,
-    ) -> FollowedFiles<'f, 'a, F> {
+    ) -> FollowedFiles<'f, 'a, F>
+        ensures names { result.names.now ≡ names.now }
+        ensures unread { result.is_read ≡ false }
+    {
         FollowedFiles {
             files,
             names,
