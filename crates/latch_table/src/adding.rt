@@ -37,10 +37,11 @@ impl<O: TreeOrder> Writer<O> {
         Ok(Reader::new(table, seat, layout, None))
     }
 
-    /// Gives up a reader of the table, which then has one fewer.
+    /// Gives up a reader, and counts one fewer: a place for another.
+    ///
+    /// It is not compared whether the reader is one of this table.
     pub fn take_back(&mut self, reader: Reader<O>)
-        requires place { reader.place ≡ self.old.place }
-        requires some { 0 < self.old.readers }
+        requires { 0 < self.old.readers }
         ensures { self.new ≡ record self.old { readers = self.old.readers - 1 } }
     {
         let _reader = reader;
