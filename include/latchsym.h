@@ -7,8 +7,8 @@
  *
  * What the caller upholds, since nothing checks it:
  * - A handle is a struct of the caller's. It is all bytes 0 (`= {0}`), which is a closed handle, or
- *   as a call of the library left it. It is never copied or moved while it is open, and never
- *   written to.
+ *   as a call of the library left it. It is never written to, and never copied so that both are
+ *   used. Between two calls an open one may be moved: its bytes to where it lies from then on.
  * - A handle is given to one call at a time, and two arguments of a call are not one handle or
  *   overlap. Between two calls any handle may go to another thread, over a lock, the start or the
  *   join of a thread, or a sequentially consistent atomic.
@@ -22,13 +22,16 @@
  * A closed handle where an open one is wanted is no fault: the call returns LATCHSYM_BAD_HANDLE.
  * It returns the same for an open handle where a closed one is wanted and, past a cast, for a handle
  * of another kind. A second close does nothing. A call that is refused changes nothing but what is
- * said of it here.
+ * said of it here. Where several refusals apply, LATCHSYM_BAD_HANDLE comes first, then the others in
+ * the order in which the call lists them, and LATCHSYM_OUT_OF_MEMORY last: but the calls that open a
+ * catalog and that begin a batch or a replacement take memory before they have looked at all.
  *
  * From a signal handler only the calls marked "handler" may be made: they take no memory. To one a
  * handle is closed while a call has it which the signal interrupts, and so is, to one in a forked
  * child, a handle that a call of another thread had. It is proved that they return rightly where the
  * signal comes between two calls on the table (block the signal during the writer's calls). A handler
- * inside a running call is tested, and not proved; a forked child is tested on x86-64.
+ * inside a running call is tested, and not proved; a forked child is tested on x86-64. The child has
+ * a copy of each table, in which what the parent's writer does from then on is not seen.
  */
 #ifndef LATCHSYM_H
 #define LATCHSYM_H
@@ -72,6 +75,7 @@ enum {
     LATCHSYM_NO_SYMBOL = 21, /* of a search for a name: in a region, but no symbol at or below */
     LATCHSYM_NOTHING = 22,   /* of a search: nothing is there */
     LATCHSYM_RETRY = 23,     /* of a search by a reader: the writer flipped meanwhile, try again */
+    LATCHSYM_BUSY = 24,      /* of a pool: other calls have all its readers, try again */
     LATCHSYM_FLIP = 31,      /* of a step: a flip of the sequence; the second shows the update */
     LATCHSYM_STORE = 32,     /* of a step: another word was stored */
     LATCHSYM_NOTE_GZIP = 41, /* of a listing, here and up to 53: it is compressed by gzip */
@@ -188,10 +192,10 @@ struct latchsym_listings {
  * _end or, where these are not listed in this order, from _stext up to _etext and from _sinittext up
  * to _einittext.
  *
- * 0, LATCHSYM_OUT_OF_MEMORY, LATCHSYM_BAD_HANDLE, or LATCHSYM_BAD_LISTINGS where the size is not
- * that of this version, or there are bytes of modules or of regions and has_modules is 0. Of a
- * listing of regions also LATCHSYM_TOO_MANY_REGIONS, and LATCHSYM_BAD_LINE with the number of the
- * first line that is not one, which is written then alone. Counts are written at 0 alone. */
+ * 0, LATCHSYM_BAD_HANDLE, or LATCHSYM_BAD_LISTINGS where the size is not that of this version, or
+ * there are bytes of modules or of regions and has_modules is 0; of a listing of regions also
+ * LATCHSYM_BAD_LINE with the number of the first line that is not one, which is written then alone,
+ * and LATCHSYM_TOO_MANY_REGIONS; or LATCHSYM_OUT_OF_MEMORY. Counts are written at 0 alone. */
 uint32_t latchsym_catalog_open_nonnull(const struct latchsym_listings *,
                                        struct latchsym_catalog *out,
                                        struct latchsym_counts *counts, uint64_t *bad_line);
@@ -400,14 +404,21 @@ static inline uint32_t latchsym_table_open(uint32_t nodes, struct latchsym_write
 }
 
 /* Opens one more reader of the writer's table in a closed handle, also amid an update: it finds
- * what the others find. 0, LATCHSYM_BAD_CAPACITY where the table has 65536 readers already,
- * LATCHSYM_OUT_OF_MEMORY or LATCHSYM_BAD_HANDLE. A reader that is closed still counts for this and
- * for latchsym_table_enlarge. */
+ * what the others find. 0, LATCHSYM_BAD_HANDLE, LATCHSYM_BAD_CAPACITY where the table has 65536
+ * readers already, or LATCHSYM_OUT_OF_MEMORY. A reader that is closed still counts for this and for
+ * latchsym_table_enlarge: give it to latchsym_writer_take_reader instead. */
 uint32_t latchsym_writer_add_reader(struct latchsym_writer *, struct latchsym_reader *out);
 
+/* Closes a reader and frees its place in the writer's table, also amid an update: the table then has
+ * one reader fewer for latchsym_writer_add_reader and latchsym_table_enlarge. It is not checked
+ * whether it is a reader of this table. 0, LATCHSYM_BAD_HANDLE where one of the two is closed, or
+ * LATCHSYM_BAD_CAPACITY where the table has no reader. */
+uint32_t latchsym_writer_take_reader(struct latchsym_writer *, struct latchsym_reader *);
+
 /* Begin an update: put an item in, take the item out that begins at a, or do several of
- * both at once. Readers see it from its second flip on, whole. 0, one of the refusals 1 to 7, or
- * LATCHSYM_BAD_HANDLE. */
+ * both at once. Readers see it from its second flip on, whole. 0, LATCHSYM_BAD_HANDLE,
+ * LATCHSYM_UPDATE_IN_HAND, LATCHSYM_BAD_ITEM, LATCHSYM_NO_SUCH_ITEM, LATCHSYM_OVERLAP,
+ * LATCHSYM_FULL, LATCHSYM_SEQUENCE_SPENT or LATCHSYM_OUT_OF_MEMORY. */
 uint32_t latchsym_writer_begin_insert(struct latchsym_writer *, const struct latchsym_item *);
 uint32_t latchsym_writer_begin_erase(struct latchsym_writer *, uint64_t a);
 uint32_t latchsym_writer_begin_batch_nonnull(struct latchsym_writer *, const uint64_t *erase,
@@ -424,9 +435,10 @@ static inline uint32_t latchsym_writer_begin_batch(struct latchsym_writer *write
 }
 
 /* Begins the update after which the table has just these items: it takes the others out and puts the
- * new ones in, at once, and leaves those alone that the table has already. Each is to lie below the
- * next, else LATCHSYM_OVERLAP. Takes memory for a copy of all items first, and then for what
- * differs. 0, one of the refusals 1, 2 and 4 to 7, or LATCHSYM_BAD_HANDLE. */
+ * new ones in, at once, and leaves those alone that the table has already. Takes memory for a copy of
+ * all items first, and then for what differs. 0, LATCHSYM_BAD_HANDLE, LATCHSYM_UPDATE_IN_HAND,
+ * LATCHSYM_OVERLAP where one does not lie below the next, LATCHSYM_BAD_ITEM, LATCHSYM_FULL,
+ * LATCHSYM_SEQUENCE_SPENT or LATCHSYM_OUT_OF_MEMORY. */
 uint32_t latchsym_writer_begin_replace_nonnull(struct latchsym_writer *,
                                                const struct latchsym_item *items, size_t items_len);
 static inline uint32_t latchsym_writer_begin_replace(struct latchsym_writer *writer,
@@ -457,9 +469,10 @@ uint32_t latchsym_writer_finish(struct latchsym_writer *, uint64_t *generation);
 
 /* Goes on with so many nodes, no fewer than before and at most 65536, in new words: the items and
  * the generation stay. Takes a handle for each reader that the table was opened with or that was
- * added to it, all open; they go on in the new words. 0, LATCHSYM_UPDATE_IN_HAND,
- * LATCHSYM_BAD_CAPACITY, LATCHSYM_OUT_OF_MEMORY, or LATCHSYM_BAD_HANDLE where one of the handles is
- * closed, or they are not as many as the readers are.
+ * added to it and not taken back, all open; they go on in the new words. 0, LATCHSYM_BAD_HANDLE
+ * where one of the handles is closed, or they are not as many as the readers are,
+ * LATCHSYM_BAD_CAPACITY where no table has so many nodes, LATCHSYM_UPDATE_IN_HAND,
+ * LATCHSYM_BAD_CAPACITY where it had more nodes before, or LATCHSYM_OUT_OF_MEMORY.
  *
  * It is not checked whether a reader is one of this table. One of another table goes over to this
  * one, and one of this table that is not given keeps the table as it was. */
@@ -505,10 +518,138 @@ static inline uint32_t latchsym_reader_find_name(struct latchsym_reader *reader,
                                              module_room ? module : &none, module_room);
 }
 
-/* Closes a reader. */
+/* Closes a reader. Its place in the table is not free for another: latchsym_writer_take_reader. */
 void latchsym_reader_close_nonnull(struct latchsym_reader *);
 static inline void latchsym_reader_close(struct latchsym_reader *reader) {
     if (reader) latchsym_reader_close_nonnull(reader);
+}
+
+/* ---- a pool of readers ---- */
+
+/* Readers of one table that any number of threads, signal handlers and calls inside calls share, in a
+ * slot each. A call claims a free one without waiting for it, and has given it back when it returns.
+ * A pool is 4 KB large and begins as all bytes 0 (`= {0}`), which is a closed one. The calls here
+ * alone write to it, and none of them runs while it is moved, opened, or freed.
+ *
+ * In a forked child a slot stays claimed that a call of another thread had at the fork: where all
+ * were, each call there returns LATCHSYM_BUSY. */
+enum { LATCHSYM_POOL_MOST = 64 };
+struct latchsym_pool_slot {
+    uint32_t claims; /* odd while a call has the reader: each claim adds 1, and so does its end */
+    struct latchsym_reader reader;
+    uint64_t apart[5]; /* the next slot lies in another line of the cache */
+};
+struct latchsym_pool { uint32_t slots_len; struct latchsym_pool_slot slots[LATCHSYM_POOL_MOST]; };
+
+/* Claims a slot, if it is free. */
+static inline int latchsym_pool_claim_slot(struct latchsym_pool_slot *slot) {
+    return !(__atomic_load_n(&slot->claims, __ATOMIC_RELAXED) & 1) &&
+           !(__atomic_fetch_or(&slot->claims, 1, __ATOMIC_SEQ_CST) & 1);
+}
+
+/* Gives a slot back, which only the call that has claimed it does. */
+static inline void latchsym_pool_give_back(struct latchsym_pool_slot *slot) {
+    const uint32_t claims = __atomic_load_n(&slot->claims, __ATOMIC_RELAXED);
+    __atomic_store_n(&slot->claims, claims + 1, __ATOMIC_RELEASE);
+}
+
+/* Claims a free slot of a pool; null where all were claimed at one moment. Claims only rise, so two
+ * rounds with one sum met the same claims, all of which held between the rounds. Most threads begin
+ * at a slot of their own where there are twice as many, since their stacks lie apart, mostly by 2^23. */
+static inline struct latchsym_pool_slot *latchsym_pool_claim(const struct latchsym_pool *pool) {
+    const char here = 0;
+    const uint64_t at = (uint64_t)(uintptr_t)&here, stack = (at >> 16) + (at >> 23);
+    const uint32_t len = __atomic_load_n(&pool->slots_len, __ATOMIC_RELAXED);
+    const uint32_t first = (uint32_t)((stack * 0x9e3779b97f4a7c15u >> 32) * len >> 32);
+    uint64_t sum, before = UINT64_MAX;
+    uint32_t i;
+    for (;; before = sum) {
+        for (sum = 0, i = 0; i < len; i++) {
+            const uint32_t place = first + i < len ? first + i : first + i - len;
+            struct latchsym_pool_slot *slot =
+                (struct latchsym_pool_slot *)(uintptr_t)&pool->slots[place];
+            if (latchsym_pool_claim_slot(slot)) return slot;
+            sum += __atomic_load_n(&slot->claims, __ATOMIC_SEQ_CST);
+        }
+        if (sum == before) return NULL;
+    }
+}
+
+/* Claims all slots of a pool, or none where one is claimed. */
+static inline int latchsym_pool_claim_all(struct latchsym_pool *pool) {
+    uint32_t i;
+    for (i = 0; i < pool->slots_len; i++) {
+        if (latchsym_pool_claim_slot(&pool->slots[i])) continue;
+        while (i-- > 0) latchsym_pool_give_back(&pool->slots[i]);
+        return 0;
+    }
+    return 1;
+}
+
+/* Opens an empty table of 1 to 65536 nodes: its writer, and a pool with so many of its readers, 1 to
+ * 64; both or neither. Refused as latchsym_table_open is, by LATCHSYM_BAD_HANDLE also where the pool
+ * is open. */
+static inline uint32_t latchsym_pool_open(uint32_t nodes, size_t slots,
+                                          struct latchsym_writer *writer,
+                                          struct latchsym_pool *pool) {
+    struct latchsym_reader readers[LATCHSYM_POOL_MOST] = { { { 0, NULL } } };
+    uint32_t i, answer;
+    if (pool->slots_len) return LATCHSYM_BAD_HANDLE;
+    answer = latchsym_table_open(nodes, writer, readers, slots > LATCHSYM_POOL_MOST ? 0 : slots);
+    if (answer) return answer;
+    for (i = 0; i < slots; i++) pool->slots[i].reader = readers[i];
+    pool->slots_len = (uint32_t)slots;
+    return LATCHSYM_DONE;
+}
+
+/* The item of an address, as latchsym_reader_try_find tells it, which finds with the same pool at
+ * once on any number of threads, and inside itself. 0, LATCHSYM_NOTHING, LATCHSYM_RETRY,
+ * LATCHSYM_BUSY where other calls had all readers at one moment (nothing is written), or
+ * LATCHSYM_BAD_HANDLE. It is never LATCHSYM_BUSY where at most as many calls run at once as there are
+ * slots and none enlarges or closes the pool. Of two calls one after the other the second tells no
+ * lower generation, whichever readers they had. Handler. */
+static inline uint32_t latchsym_pool_try_find(const struct latchsym_pool *pool, uint64_t addr,
+                                              struct latchsym_found *out) {
+    struct latchsym_pool_slot *slot = latchsym_pool_claim(pool);
+    uint32_t answer;
+    if (!slot) return pool->slots_len ? LATCHSYM_BUSY : LATCHSYM_BAD_HANDLE;
+    answer = latchsym_reader_try_find(&slot->reader, addr, out);
+    latchsym_pool_give_back(slot);
+    return answer;
+}
+
+/* Goes on with so many nodes in new words, as latchsym_table_enlarge does, with the readers of the
+ * pool, which are to be all that the table has. Threads and handlers may look up meanwhile: they are
+ * told LATCHSYM_BUSY. 0, LATCHSYM_BAD_HANDLE where the pool is closed, LATCHSYM_BUSY where a call has
+ * one of the slots, and else what latchsym_table_enlarge refuses: ask again. */
+static inline uint32_t latchsym_pool_enlarge(uint32_t nodes, struct latchsym_writer *writer,
+                                             struct latchsym_pool *pool) {
+    struct latchsym_reader readers[LATCHSYM_POOL_MOST];
+    const uint32_t len = pool->slots_len;
+    uint32_t i, answer;
+    if (!len) return LATCHSYM_BAD_HANDLE;
+    if (!latchsym_pool_claim_all(pool)) return LATCHSYM_BUSY;
+    for (i = 0; i < len; i++) readers[i] = pool->slots[i].reader;
+    answer = latchsym_table_enlarge(nodes, writer, readers, len);
+    for (i = 0; i < len; i++) {
+        pool->slots[i].reader = readers[i];
+        latchsym_pool_give_back(&pool->slots[i]);
+    }
+    return answer;
+}
+
+/* Closes a pool with its readers, so that calls return LATCHSYM_BAD_HANDLE. 0, or LATCHSYM_BUSY where
+ * a call has one of the slots, and then it stays open: ask again. */
+static inline uint32_t latchsym_pool_close(struct latchsym_pool *pool) {
+    uint32_t i, len = pool ? pool->slots_len : 0;
+    if (!len) return LATCHSYM_DONE;
+    if (!latchsym_pool_claim_all(pool)) return LATCHSYM_BUSY;
+    __atomic_store_n(&pool->slots_len, 0, __ATOMIC_RELAXED);
+    for (i = 0; i < len; i++) {
+        latchsym_reader_close(&pool->slots[i].reader);
+        latchsym_pool_give_back(&pool->slots[i]);
+    }
+    return LATCHSYM_DONE;
 }
 
 #ifdef __cplusplus

@@ -414,6 +414,41 @@ private:
     std::size_t room_, count_;
 };
 
+/* Readers of one table that threads, signal handlers and calls inside calls share. It is closed with
+ * its table, while no call on it runs. */
+class pool {
+public:
+    pool(pool &&) noexcept = default;
+    pool &operator=(pool &&other) noexcept {
+        std::swap(pool_, other.pool_);
+        return *this;
+    }
+    ~pool() { latchsym_pool_close(get()); }
+
+    latchsym_pool *get() const noexcept { return pool_.get(); }
+
+    /* One attempt: none where the writer flipped meanwhile, or other calls had all readers. */
+    std::optional<found> try_find(std::uint64_t addr) const {
+        latchsym_found out{};
+        const std::uint32_t number = latchsym_pool_try_find(get(), addr, &out);
+        if (number == LATCHSYM_RETRY || number == LATCHSYM_BUSY) return std::nullopt;
+        return detail::found_of(number, out);
+    }
+
+    /* Attempts until one answers. */
+    found find(std::uint64_t addr) const {
+        for (;;) {
+            if (auto out = try_find(addr)) return *out;
+        }
+    }
+
+private:
+    friend struct pooled_table;
+    pool() : pool_(new latchsym_pool{}) {}
+
+    std::unique_ptr<latchsym_pool> pool_;
+};
+
 class writer {
 public:
     latchsym_writer *get() noexcept { return handle_.get(); }
@@ -482,14 +517,31 @@ public:
         return reader(handle);
     }
 
+    /* Takes the last of its readers back, which is then closed and leaves room for another. */
+    void take_reader(readers &readers) {
+        if (!readers.count_) throw error(LATCHSYM_BAD_CAPACITY);
+        detail::check(latchsym_writer_take_reader(get(), &readers.handles_[readers.count_ - 1]));
+        readers.count_--;
+    }
+
     /* Goes on with so many nodes, with all readers of this table: no other thread uses one
      * meanwhile, and none is closed. Items and generation stay. */
     void enlarge(std::uint32_t nodes, readers &readers) {
         detail::check(latchsym_table_enlarge(nodes, get(), readers.handles_.get(), readers.count_));
     }
 
+    /* The same with the readers of its pool, while other calls look up; false where one of these has
+     * a reader just now, and then nothing has changed: ask again. */
+    bool enlarge(std::uint32_t nodes, pool &pool) {
+        const std::uint32_t number = latchsym_pool_enlarge(nodes, get(), pool.get());
+        if (number == LATCHSYM_BUSY) return false;
+        detail::check(number);
+        return true;
+    }
+
 private:
     friend struct table;
+    friend struct pooled_table;
     writer() : handle_(detail::closed<latchsym_writer>()) {}
 
     detail::owned<latchsym_writer> handle_;
@@ -506,6 +558,17 @@ struct table {
         if (readers.room_ < count) throw error(LATCHSYM_BAD_CAPACITY);
         detail::check(latchsym_table_open(nodes, writer.get(), readers.handles_.get(), count));
         readers.count_ = count;
+    }
+};
+
+/* The same with 1 to 64 readers that threads and signal handlers share: `auto [writer, pool] =
+ * latchsym::pooled_table(64, 4)`. */
+struct pooled_table {
+    latchsym::writer writer;
+    latchsym::pool pool;
+
+    explicit pooled_table(std::uint32_t nodes, std::size_t slots) {
+        detail::check(latchsym_pool_open(nodes, slots, writer.get(), pool.get()));
     }
 };
 

@@ -2,11 +2,11 @@
 # Builds the library for C, and runs the programs of tests/c and examples/c with it: the text of
 # each number, null pointers, what is found of addresses, views on several threads, the table on
 # threads, beside signals and at each stop of its writer, calls inside calls, readers that are
-# added, each request for memory refused, items replaced, code that is sampled while it comes and
-# goes, a listing that is followed while it changes, the listings of examples/ as `latchsym lookup`
-# answers, and its logs as `latchsym annotate` writes them; under valgrind and sanitizers where
-# these are there, and names of 700 bytes under gcc's own for addresses. Looks at the object code
-# that a call for signal handlers takes no memory. Needs gcc.
+# added and taken back, readers that calls share, each request for memory refused, items replaced,
+# code that is sampled while it comes and goes, a listing that is followed while it changes, the
+# listings of examples/ as `latchsym lookup` answers, and its logs as `latchsym annotate` writes
+# them; under valgrind and sanitizers where these are there, and names of 700 bytes under gcc's own
+# for addresses. Looks at the object code that a call for signal handlers takes no memory. Needs gcc.
 set -euo pipefail
 . "$(dirname "$0")/program.sh"
 . "$top/tests/library.sh"
@@ -17,7 +17,7 @@ compile() {
     gcc -std=gnu11 -Wall -Wextra -Werror -O2 -I"$top/include" "$top/tests/c/$1.c" "$library" -lpthread -o "$work/$1" "${@:2}"
 }
 
-for name in numbers nulls find view table adding stops nested replace refused; do
+for name in numbers nulls find view table adding pool stops nested replace refused; do
     compile $name
     "$work/$name"
 done
@@ -39,6 +39,9 @@ for sanitizer in address thread; do
     fi
     if compile adding -g -fsanitize=$sanitizer 2>/dev/null; then
         "$work/adding"
+    fi
+    if compile pool -g -fsanitize=$sanitizer 2>/dev/null; then
+        "$work/pool" 0.1 threads
     fi
 done
 if compile view -g -fsanitize=thread 2>/dev/null; then

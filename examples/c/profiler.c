@@ -1,12 +1,13 @@
 /* SPDX-License-Identifier: MIT OR Apache-2.0 */
 /* A profiler of code that comes and goes. Three threads run code whose ranges the main thread loads into a table and
- * takes out again, while SIGPROF samples them. The handler finds the range that the thread was in, by a reader of the
- * thread's own, and counts the sample for what the range's tag points to. That is freed once no handler can find it
- * any more.
+ * takes out again, while SIGPROF samples them. The handler finds the range that the thread was in, by a pool of readers
+ * that all threads share, and counts the sample for what the range's tag points to. That is freed once no handler can
+ * find it any more. The table grows as it is full, while the handlers go on.
  * cc profiler.c $(pkg-config --cflags --libs latchsym) -lpthread -o profiler */
 #define _GNU_SOURCE
 #include <latchsym.h>
 #include <pthread.h>
+#include <sched.h>
 #include <signal.h>
 #include <stdatomic.h>
 #include <stdio.h>
@@ -15,7 +16,7 @@
 #include <ucontext.h>
 #include <unistd.h>
 
-enum { THREADS = 3, PARTS = 3, ROUNDS = 60, MOST_TRIES = 1000 };
+enum { THREADS = 3, PARTS = 3, ROUNDS = 60, MOST_TRIES = 1000000 };
 
 /* Code in a range of its own, as a compiler at run time or a loader of plugins has it: the linker marks the bounds. */
 #define PART(name)                                                                                                     \
@@ -34,18 +35,19 @@ struct part { const char *name; unsigned (*run)(unsigned); uint64_t start, end; 
 /* What the tag of a range points to while the range is in the table. */
 struct loaded { const struct part *part; atomic_long samples; uint64_t gone; struct loaded *next; };
 
-/* Each thread has a reader, which only the handler uses, and tells how far that has come. */
+/* Each thread tells how far its handler has come. */
 struct thread {
     pthread_t id;
-    struct latchsym_reader *reader;
     atomic_long round;     /* the round that it works in */
-    atomic_ullong passed;  /* the generation that its reader returned last, once what it found is no longer used */
+    atomic_ullong passed;  /* the generation of its last sample, once what was found is no longer used */
     atomic_long outside, unnamed, given_up;
 };
 
 static const struct part *parts;
 static struct thread threads[THREADS];
 static struct latchsym_writer writer;
+static struct latchsym_pool pool;
+static uint32_t nodes = 1;
 static atomic_long current_round;
 static struct loaded *retired;
 static long samples, freed;
@@ -65,21 +67,25 @@ static int is_of_a_part(uint64_t pc) {
     return 0;
 }
 
-/* The handler. A reader asks again only where the writer flipped meanwhile; it takes no lock and no memory. */
+/* The handler. It asks again only where the writer flipped meanwhile, or the table just grows; it takes no memory, and
+ * waits for no other handler: there is a slot for each thread. */
 static void sample(int number, siginfo_t *info, void *context) {
     struct latchsym_found found;
     uint64_t pc = pc_of(context);
-    uint32_t answer = LATCHSYM_RETRY;
+    uint32_t answer;
+    int tries = 0;
     (void)number, (void)info;
-    for (int tries = 0; answer == LATCHSYM_RETRY && tries < MOST_TRIES; tries++)
-        answer = latchsym_reader_try_find(self->reader, pc, &found);
+    do answer = latchsym_pool_try_find(&pool, pc, &found);
+    while ((answer == LATCHSYM_RETRY || answer == LATCHSYM_BUSY) && ++tries < MOST_TRIES);
+    if (tries == MOST_TRIES) {
+        atomic_fetch_add(&self->given_up, 1);
+        return;
+    }
     if (answer == LATCHSYM_DONE)
         atomic_fetch_add(&((struct loaded *)(uintptr_t)found.tag)->samples, 1);
-    else if (answer == LATCHSYM_RETRY)
-        atomic_fetch_add(&self->given_up, 1);
     else
         atomic_fetch_add(is_of_a_part(pc) ? &self->unnamed : &self->outside, 1);
-    if (answer != LATCHSYM_RETRY) atomic_store(&self->passed, found.generation);
+    atomic_store(&self->passed, found.generation);
 }
 
 static void *work(void *thread) {
@@ -103,12 +109,22 @@ static void must(uint32_t answer) {
     exit(1);
 }
 
+/* One node more, as soon as no handler is in a call. */
+static void grow(void) {
+    uint32_t answer;
+    while ((answer = latchsym_pool_enlarge(nodes + 1, &writer, &pool)) == LATCHSYM_BUSY) sched_yield();
+    must(answer);
+    nodes++;
+}
+
 static struct loaded *load(const struct part *part) {
     struct loaded *new = calloc(1, sizeof *new);
+    uint32_t answer;
     if (!new) must(LATCHSYM_OUT_OF_MEMORY);
     new->part = part;
     struct latchsym_item item = {part->start, part->end, (uintptr_t)new};
-    must(latchsym_writer_begin_insert(&writer, &item));
+    while ((answer = latchsym_writer_begin_insert(&writer, &item)) == LATCHSYM_FULL) grow();
+    must(answer);
     must(latchsym_writer_finish(&writer, &(uint64_t){0}));
     return new;
 }
@@ -121,7 +137,7 @@ static void unload(struct loaded *old) {
     retired = old;
 }
 
-/* The generations that a reader returns never fall. So once each has returned that of an erasure, or a later one, no
+/* The generations of a thread's samples never fall. So once each thread has had that of an erasure, or a later one, no
  * handler finds what was erased; and those that found it before have used it. */
 static void free_what_all_passed(void) {
     uint64_t passed = UINT64_MAX;
@@ -166,7 +182,6 @@ static void run_rounds(void) {
 
 int main(void) {
     const struct part all[PARTS] = {BOUNDS(parse), BOUNDS(sort), BOUNDS(write_out)};
-    static struct latchsym_reader readers[THREADS];
     struct sigaction action = {.sa_sigaction = sample, .sa_flags = SA_SIGINFO | SA_RESTART};
     struct itimerval each_ms = {{0, 1000}, {0, 1000}}, never = {{0, 0}, {0, 0}};
     long outside = 0, unnamed = 0, given_up = 0, early;
@@ -175,15 +190,14 @@ int main(void) {
     sigaddset(&prof, SIGPROF);
     pthread_sigmask(SIG_BLOCK, &prof, NULL);
     parts = all;
-    must(latchsym_table_open(PARTS, &writer, readers, THREADS));
-    for (int i = 0; i < THREADS; i++) threads[i].reader = &readers[i];
+    must(latchsym_pool_open(nodes, THREADS, &writer, &pool));
     sigaction(SIGPROF, &action, NULL);
     setitimer(ITIMER_PROF, &each_ms, NULL);
     run_rounds();
     setitimer(ITIMER_PROF, &never, NULL);
     early = freed;
+    must(latchsym_pool_close(&pool)); /* all threads have ended: no handler finds anything any more */
     for (int i = 0; i < THREADS; i++) {
-        latchsym_reader_close(&readers[i]); /* its thread has ended: it finds nothing any more */
         atomic_store(&threads[i].passed, UINT64_MAX);
         outside += threads[i].outside, unnamed += threads[i].unnamed, given_up += threads[i].given_up;
     }

@@ -94,6 +94,18 @@ class Readers(unittest.TestCase):
             table.readers[0].close()
             self.assertRaises(latchsym.Closed, table.enlarge, 16)
 
+    def test_readers_taken_back(self):
+        with Table(nodes=1, readers=2, most_readers=2) as table:
+            last = table.readers[1]
+            table.take_reader()
+            self.assertRaises(latchsym.Closed, last.find, 1)
+            self.assertEqual(len(table.readers), 1)
+            self.assertIsNone(table.add_reader().find(1).item)
+            table.enlarge(2)
+            for _ in range(2):
+                table.take_reader()
+            self.assertRaises(latchsym.BadCapacity, table.take_reader)
+
     def test_capacities(self):
         for nodes, readers in ((0, 1), (65537, 1), (4, 0), (4, 65)):
             self.assertRaises(latchsym.BadCapacity, Table, nodes, readers)

@@ -1,5 +1,5 @@
-/* Readers that are added to a table: at each step of an update, up to the most, beside threads that look up, and in a
- * table that grows. */
+/* Readers that are added to a table and taken back: at each step of an update, up to the most, beside threads that look up,
+ * and in a table that grows. */
 #include <latchsym.h>
 #include <pthread.h>
 #include <stdatomic.h>
@@ -33,7 +33,31 @@ static void handles_that_are_not_so(void) {
     CHECK(latchsym_writer_add_reader(&writer, &readers[0]) == LATCHSYM_BAD_HANDLE);
     CHECK(latchsym_writer_add_reader(&writer, no_reader) == LATCHSYM_BAD_HANDLE);
     CHECK(latchsym_writer_add_reader(no_writer, &readers[1]) == LATCHSYM_BAD_HANDLE && !readers[1].handle.at);
+    CHECK(latchsym_writer_take_reader(&writer, no_reader) == LATCHSYM_BAD_HANDLE);
+    CHECK(latchsym_writer_take_reader(&writer, &readers[1]) == LATCHSYM_BAD_HANDLE);
+    CHECK(latchsym_writer_take_reader(no_writer, &readers[0]) == LATCHSYM_BAD_HANDLE);
     CHECK(!memcmp(&before, &readers[0].handle, sizeof before));
+}
+
+/* Readers are taken back until the table has none, and one of another table then is one too many. */
+static void taken_back_to_the_last(void) {
+    struct latchsym_writer other = {{0, NULL}};
+    struct latchsym_reader of_other = {{0, NULL}};
+    struct latchsym_handle before;
+    CHECK(latchsym_table_open(8, &other, readers, 2) == LATCHSYM_DONE);
+    CHECK(latchsym_writer_take_reader(&other, &readers[0]) == LATCHSYM_DONE && !readers[0].handle.at);
+    CHECK(latchsym_writer_take_reader(&other, &readers[0]) == LATCHSYM_BAD_HANDLE);
+    CHECK(latchsym_writer_take_reader(&other, &readers[1]) == LATCHSYM_DONE);
+    CHECK(latchsym_table_open(8, &writer, &of_other, 1) == LATCHSYM_DONE);
+    before = of_other.handle;
+    CHECK(latchsym_writer_take_reader(&other, &of_other) == LATCHSYM_BAD_CAPACITY);
+    CHECK(!memcmp(&before, &of_other.handle, sizeof before));
+    CHECK(latchsym_writer_add_reader(&other, &readers[0]) == LATCHSYM_DONE);
+    CHECK(latchsym_table_enlarge(9, &other, readers, 1) == LATCHSYM_DONE);
+    latchsym_reader_close(&readers[0]);
+    latchsym_writer_close(&other);
+    latchsym_reader_close(&of_other);
+    latchsym_writer_close(&writer);
 }
 
 /* A reader that is added at a step finds what a reader from the opening finds there. Returns how many there are. */
@@ -107,12 +131,17 @@ static void close_all(int count) {
 }
 
 int main(void) {
+    taken_back_to_the_last();
     handles_that_are_not_so();
     int count = at_each_step();
     enlarged(count, 16);
     for (; count < MOST; count++) CHECK(latchsym_writer_add_reader(&writer, &readers[count]) == LATCHSYM_DONE);
     CHECK(latchsym_writer_add_reader(&writer, &readers[MOST]) == LATCHSYM_BAD_CAPACITY && !readers[MOST].handle.at);
+    CHECK(latchsym_writer_take_reader(&writer, &readers[5]) == LATCHSYM_DONE && !readers[5].handle.at);
+    CHECK(latchsym_writer_add_reader(&writer, &readers[5]) == LATCHSYM_DONE);
     enlarged(MOST, 17);
+    latchsym_reader_close(&readers[5]); /* which frees no place */
+    CHECK(latchsym_writer_add_reader(&writer, &readers[5]) == LATCHSYM_BAD_CAPACITY);
     close_all(MOST);
     beside_threads();
     close_all(THREADS);

@@ -21,6 +21,7 @@ static const struct { uint32_t number; const char *text; } texts[] = {
     {LATCHSYM_NO_SYMBOL, "no symbol of the region is at or below the address"},
     {LATCHSYM_NOTHING, "nothing is there"},
     {LATCHSYM_RETRY, "the writer flipped meanwhile: try again"},
+    {LATCHSYM_BUSY, "other calls have all readers of the pool: try again"},
     {LATCHSYM_FLIP, "a flip of the sequence"},
     {LATCHSYM_STORE, "a store of a word"},
     {LATCHSYM_NOTE_GZIP, "is compressed by gzip; unpack it first"},

@@ -117,6 +117,9 @@ static void updates() {
     CHECK(added.find(0x1000).item->tag == 1 && readers.size() == 3);
     CHECK(refused([&, &writer = writer, &readers = readers] { writer.add_reader(readers); }) == LATCHSYM_BAD_CAPACITY);
     CHECK(writer.finish() == 4);
+    writer.take_reader(readers);
+    CHECK(readers.size() == 2 && refused([&] { added.find(1); }) == LATCHSYM_BAD_HANDLE);
+    added = writer.add_reader(readers);
     writer.enlarge(64, readers);
     latchsym::readers moved = std::move(readers);
     CHECK(!added.find(0x1000).item && moved[2].find(0x1800).item->tag == 2);
@@ -142,6 +145,33 @@ static void names_items() {
     CHECK(std::string(module, sizeof module) == "ext");
     named = reader.try_find_name(catalog, region->a, nullptr, 0, nullptr, 0);
     CHECK(named->found.item && named->told.code == LATCHSYM_NO_SYMBOL);
+}
+
+static void shares_readers() {
+    auto [writer, pool] = latchsym::pooled_table(4, 2);
+    std::atomic<bool> is_over{false};
+    std::atomic<long> wrong{0};
+    std::vector<std::thread> threads;
+    for (int i = 0; i < 3; i++) {
+        threads.emplace_back([&, &pool = pool] {
+            for (std::uint64_t last = 0; !is_over;) {
+                const auto found = pool.find(0x1000);
+                wrong += found.item.has_value() != (found.generation % 2 == 1) || found.generation < last;
+                last = found.generation;
+            }
+        });
+    }
+    for (std::uint32_t i = 0; i < 2000; i++) {
+        writer.insert({0x1000, 0x2000, 7});
+        while (!writer.enlarge(4 + i, pool)) {}
+        writer.erase(0x1000);
+    }
+    is_over = true;
+    for (auto &thread : threads) thread.join();
+    CHECK(wrong == 0 && !pool.try_find(1)->item);
+    latchsym::pool moved = std::move(pool);
+    CHECK(refused([&, &writer = writer] { writer.enlarge(4, moved); }) == LATCHSYM_BAD_CAPACITY && moved.find(1).generation == 4000);
+    CHECK(refused([] { latchsym::pooled_table table(4, 65); }) == LATCHSYM_BAD_CAPACITY);
 }
 
 static void reads_on_threads() {
@@ -173,6 +203,7 @@ int main() {
     refuses_listings();
     moves_and_shares();
     updates();
+    shares_readers();
     names_items();
     reads_on_threads();
 }

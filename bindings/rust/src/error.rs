@@ -24,6 +24,8 @@ pub enum Error {
     BadCapacity,
     /// More than 7 region lines have one name.
     TooManyRegions,
+    /// Other calls have all readers of a pool, or one of them where all are wanted: try again.
+    Busy,
     /// The line of this number in the listing of regions is not one.
     BadLine(u64),
     /// There is no handle where one is wanted, as where a reader has been closed.
@@ -48,6 +50,7 @@ impl Error {
             Error::BadCapacity => 10,
             Error::TooManyRegions => 14,
             Error::BadLine(_) => sys::BAD_LINE,
+            Error::Busy => sys::BUSY,
             Error::BadHandle => 101,
             Error::BadListings => 103,
             Error::Other(number) => number,
@@ -65,6 +68,7 @@ impl Error {
             7 => Error::OutOfMemory,
             10 => Error::BadCapacity,
             14 => Error::TooManyRegions,
+            sys::BUSY => Error::Busy,
             101 => Error::BadHandle,
             103 => Error::BadListings,
             _ => Error::Other(number),

@@ -13,10 +13,10 @@
 //!
 //! What include/latchsym.h asks of a caller, the types here uphold:
 //!
-//! - A handle is never moved while it is open: each lies apart, in memory of its own.
+//! - A handle is never copied: each lies apart, in memory of its own, or moves.
 //! - It is given to one call at a time: [`Catalog`], [`Writer`] and [`Reader`] are `Send` and not
 //!   `Sync`. [`Catalog::share`] gives another thread its own, and [`Catalog::view`] is for any
-//!   number of threads: [`View`] is `Sync`.
+//!   number of threads: [`View`] is `Sync`. So is [`Pool`], whose calls claim a reader each.
 //! - The bytes of listings stay unchanged while a catalog is open: it borrows them, and so do the
 //!   names that it tells, which may be read after it is closed.
 //!
@@ -53,6 +53,7 @@
 
 mod catalog;
 mod error;
+mod pool;
 mod table;
 mod view;
 
@@ -61,6 +62,7 @@ mod sys;
 
 pub use catalog::{Answer, Catalog, Counts, Entry, Listings, Module, Region, Symbol};
 pub use error::Error;
+pub use pool::{pooled_table, Pool};
 pub use table::{table, table_with_room, Found, Item, Reader, Readers, Step, Writer};
 pub use view::View;
 

@@ -10,6 +10,7 @@ pub const BAD_LINE: u32 = 15;
 pub const NO_SYMBOL: u32 = 21;
 pub const NOTHING: u32 = 22;
 pub const RETRY: u32 = 23;
+pub const BUSY: u32 = 24;
 pub const FLIP: u32 = 31;
 pub const STORE: u32 = 32;
 
@@ -230,6 +231,7 @@ extern "C" {
         count: usize,
     ) -> u32;
     pub fn latchsym_writer_add_reader(writer: *mut Handle, out: *mut Handle) -> u32;
+    pub fn latchsym_writer_take_reader(writer: *mut Handle, reader: *mut Handle) -> u32;
     pub fn latchsym_writer_begin_insert(writer: *mut Handle, item: *const Item) -> u32;
     pub fn latchsym_writer_begin_erase(writer: *mut Handle, a: u64) -> u32;
     #[link_name = "latchsym_writer_begin_batch_nonnull"]

@@ -21,7 +21,7 @@ pub struct Found {
 }
 
 impl Found {
-    fn of(number: u32, out: sys::Found) -> Result<Found, Error> {
+    pub(crate) fn of(number: u32, out: sys::Found) -> Result<Found, Error> {
         let item = Item { a: out.a, b: out.b, tag: out.tag };
         Ok(Found { item: Error::is_there(number)?.then_some(item), generation: out.generation })
     }
@@ -60,13 +60,10 @@ pub fn table_with_room(nodes: u32, count: usize, room: usize) -> Result<(Writer,
     if !(1..=64).contains(&count) {
         return Err(Error::BadCapacity);
     }
-    let writer = Writer { handle: Box::new(UnsafeCell::new(sys::Handle::CLOSED)) };
     let closed = (0..room.max(count)).map(|_| UnsafeCell::new(sys::Handle::CLOSED));
     let readers = Readers { handles: closed.collect(), count };
-    // SAFETY: the handles are closed, and as many as are told.
-    let number =
-        unsafe { sys::latchsym_table_open(nodes, writer.handle(), readers.handles(), count) };
-    Error::check(number).map(|()| (writer, readers))
+    let writer = Writer::open(nodes, readers.handles(), count)?;
+    Ok((writer, readers))
 }
 
 /// The writer of a table. One that is dropped leaves the table to its readers as it is.
@@ -78,6 +75,14 @@ pub struct Writer {
 unsafe impl Send for Writer {}
 
 impl Writer {
+    /// The writer of a new table, whose readers are then in these handles, which are closed.
+    pub(crate) fn open(nodes: u32, readers: *mut sys::Handle, count: usize) -> Result<Self, Error> {
+        let writer = Writer { handle: Box::new(UnsafeCell::new(sys::Handle::CLOSED)) };
+        // SAFETY: the handles are closed, and as many as are told.
+        let number = unsafe { sys::latchsym_table_open(nodes, writer.handle(), readers, count) };
+        Error::check(number).map(|()| writer)
+    }
+
     fn handle(&self) -> *mut sys::Handle {
         self.handle.get()
     }
@@ -177,14 +182,34 @@ impl Writer {
         Ok(())
     }
 
+    /// Takes the last of its readers back, which leaves room for another.
+    pub fn take_reader(&mut self, readers: &mut Readers) -> Result<(), Error> {
+        let last = readers.count.checked_sub(1).ok_or(Error::BadCapacity)?;
+        // SAFETY: the readers are borrowed, so that none is in a call.
+        Error::check(unsafe {
+            sys::latchsym_writer_take_reader(self.handle(), readers.handles[last].get())
+        })?;
+        readers.count = last;
+        Ok(())
+    }
+
     /// Goes on with so many nodes, with all readers of this table. Items and generation stay.
     ///
     /// Readers of another table go over to this one.
     pub fn enlarge(&mut self, nodes: u32, readers: &mut Readers) -> Result<(), Error> {
         // SAFETY: the readers are borrowed, so that none is in a call.
-        Error::check(unsafe {
-            sys::latchsym_table_enlarge(nodes, self.handle(), readers.handles(), readers.count)
-        })
+        Error::check(unsafe { self.enlarge_with(nodes, readers.handles(), readers.count) })
+    }
+
+    /// What the call returns. The handles are as many as are told, and in no other call.
+    pub(crate) unsafe fn enlarge_with(
+        &mut self,
+        nodes: u32,
+        readers: *mut sys::Handle,
+        count: usize,
+    ) -> u32 {
+        // SAFETY: as the caller says.
+        unsafe { sys::latchsym_table_enlarge(nodes, self.handle(), readers, count) }
     }
 }
 
@@ -220,7 +245,7 @@ impl Readers {
         self.count
     }
 
-    /// Whether there are none, which never is.
+    /// Whether there are none, as where [`Writer::take_reader`] took all back.
     pub fn is_empty(&self) -> bool {
         self.count == 0
     }

@@ -2,7 +2,8 @@
 //! What is found, what is refused, and catalogs and readers on threads.
 
 use latchsym::{
-    table, table_with_room, Catalog, Error, Found, Item, Listings, Readers, Step, Writer,
+    pooled_table, table, table_with_room, Catalog, Error, Found, Item, Listings, Readers, Step,
+    Writer,
 };
 use std::sync::atomic::{AtomicBool, Ordering};
 use std::thread;
@@ -194,6 +195,50 @@ fn readers_are_added_and_the_table_enlarged() {
     drop(writer);
     assert_eq!(readers.get(2).unwrap().find(0x1000).unwrap().item, Some(ITEM));
     assert!(readers.get(3).is_none());
+}
+
+#[test]
+fn readers_are_taken_back() {
+    let (mut writer, mut readers) = table(4, 2).unwrap();
+    for left in [1, 0] {
+        writer.take_reader(&mut readers).unwrap();
+        assert_eq!(readers.len(), left);
+    }
+    assert_eq!(writer.take_reader(&mut readers), Err(Error::BadCapacity));
+    writer.add_reader(&mut readers).unwrap();
+    writer.enlarge(5, &mut readers).unwrap();
+    assert_eq!(readers.get(0).unwrap().find(1).unwrap().item, None);
+}
+
+#[test]
+fn threads_share_the_readers_of_a_pool() {
+    let (mut writer, pool) = pooled_table(4, 2).unwrap();
+    let (mut busy, is_over) = (0, AtomicBool::new(false));
+    thread::scope(|scope| {
+        for _ in 0..3 {
+            scope.spawn(|| {
+                let mut last = 0;
+                while !is_over.load(Ordering::SeqCst) {
+                    let found = pool.find(0x1800).unwrap();
+                    assert_eq!(found.item.is_some(), found.generation % 2 == 1);
+                    assert!(found.generation >= last);
+                    last = found.generation;
+                }
+            });
+        }
+        for nodes in 4..1000 {
+            writer.insert(ITEM).unwrap();
+            while writer.enlarge_pool(nodes, &pool) == Err(Error::Busy) {
+                busy += 1;
+            }
+            writer.erase(ITEM.a).unwrap();
+        }
+        is_over.store(true, Ordering::SeqCst);
+    });
+    assert_eq!(writer.enlarge_pool(4, &pool), Err(Error::BadCapacity));
+    assert_eq!(pool.try_find(0x1800).unwrap().unwrap().generation, 2 * 996);
+    assert_eq!(pooled_table(4, 65).err(), Some(Error::BadCapacity));
+    println!("{busy} times busy");
 }
 
 #[test]

@@ -8,7 +8,7 @@ use Rattle.order_laws.specs.declared.refusals.Refusal.TheVariants as refusal
 use Rattle.order_laws.specs.Refusals.{refusal_number}
 use Rattle.latchsym_ffi.specs.declared.answers.Answer.{Answer}
 use Rattle.latchsym_ffi.specs.declared.answers.Answer.TheVariants.{Done, Refused, BadLine}
-use Rattle.latchsym_ffi.specs.declared.answers.Answer.TheVariants.{NoSymbol, Nothing, Retry}
+use Rattle.latchsym_ffi.specs.declared.answers.Answer.TheVariants.{NoSymbol, Nothing, Retry, Busy}
 use Rattle.latchsym_ffi.specs.declared.answers.Answer.TheVariants.{Flip, Store, Noted, BadHandle}
 use Rattle.latchsym_ffi.specs.declared.answers.Answer.TheVariants.{BadLength, BadListings}
 
@@ -36,6 +36,7 @@ answer_number BadLine = 15
 answer_number NoSymbol = 21
 answer_number Nothing = 22
 answer_number Retry = 23
+answer_number Busy = 24
 answer_number Flip = 31
 answer_number Store = 32
 answer_number (Noted n) = note_number n
@@ -51,7 +52,7 @@ all_answers =
     ∷ Refused refusal.OutOfMemory ∷ Refused refusal.ReaderBusy ∷ Refused refusal.ReaderIdle
     ∷ Refused refusal.BadCapacity ∷ Refused refusal.UnknownModule ∷ Refused refusal.AlreadyLoaded
     ∷ Refused refusal.NotLoaded ∷ Refused refusal.TooManyRegions ∷ BadLine ∷ Refused refusal.NoInit
-    ∷ NoSymbol ∷ Nothing ∷ Retry ∷ Flip ∷ Store ∷ Noted note.Gzip ∷ Noted note.AllHidden
+    ∷ NoSymbol ∷ Nothing ∷ Retry ∷ Busy ∷ Flip ∷ Store ∷ Noted note.Gzip ∷ Noted note.AllHidden
     ∷ Noted note.LooksLikeSymbols ∷ Noted note.LooksLikeModules ∷ Noted note.LinesEndInCrLf
     ∷ Noted note.NoStart ∷ Noted note.NoEnd ∷ Noted note.OtherBoot
     ∷ Noted note.NoModuleLine ∷ Noted note.NoSymbolLine ∷ Noted note.ModulesOverlap
@@ -107,6 +108,7 @@ answer_text BadLine = codes "a line of the listing of regions is not one"
 answer_text NoSymbol = codes "no symbol of the region is at or below the address"
 answer_text Nothing = codes "nothing is there"
 answer_text Retry = codes "the writer flipped meanwhile: try again"
+answer_text Busy = codes "other calls have all readers of the pool: try again"
 answer_text Flip = codes "a flip of the sequence"
 answer_text Store = codes "a store of a word"
 answer_text (Noted n) = note_text n

@@ -39,3 +39,5 @@ pub mod Tables
 pub mod Enlarging
 -- what the adding of a reader gives
 pub mod Adding
+-- what the taking back of a reader gives
+pub mod Taking

@@ -25,6 +25,9 @@ pub(crate) const NOTHING: u32 = 22;
 /// The writer flipped meanwhile: another attempt is to be made.
 pub(crate) const RETRY: u32 = 23;
 
+/// Other calls have all readers of a pool.
+const BUSY: u32 = 24;
+
 /// A step was a flip of the sequence.
 pub(crate) const FLIP: u32 = 31;
 
@@ -49,6 +52,7 @@ pub enum Answer {
     NoSymbol,
     Nothing,
     Retry,
+    Busy,
     Flip,
     Store,
     Noted(ListingNote),
@@ -57,8 +61,8 @@ pub enum Answer {
     BadListings,
 }
 
-/// All that a call of the crates below and of this one returns, by rising number.
-const ALL: [Answer; 38] = [
+/// All that a call returns, of the crates below, of this one and of the header, by rising number.
+const ALL: [Answer; 39] = [
     Answer::Done,
     Answer::Refused(Refusal::BadItem),
     Answer::Refused(Refusal::Overlap),
@@ -79,6 +83,7 @@ const ALL: [Answer; 38] = [
     Answer::NoSymbol,
     Answer::Nothing,
     Answer::Retry,
+    Answer::Busy,
     Answer::Flip,
     Answer::Store,
     Answer::Noted(ListingNote::Gzip),
@@ -123,6 +128,7 @@ impl Answer {
             Answer::NoSymbol => NO_SYMBOL,
             Answer::Nothing => NOTHING,
             Answer::Retry => RETRY,
+            Answer::Busy => BUSY,
             Answer::Flip => FLIP,
             Answer::Store => STORE,
             Answer::Noted(note) => number_of_note(note),
@@ -158,6 +164,7 @@ impl Answer {
             Answer::NoSymbol => b"no symbol of the region is at or below the address\0",
             Answer::Nothing => b"nothing is there\0",
             Answer::Retry => b"the writer flipped meanwhile: try again\0",
+            Answer::Busy => b"other calls have all readers of the pool: try again\0",
             Answer::Flip => b"a flip of the sequence\0",
             Answer::Store => b"a store of a word\0",
             Answer::Noted(note) => text_of_note(note),

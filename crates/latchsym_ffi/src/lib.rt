@@ -37,6 +37,7 @@ mod opening;
 mod opening_tables;
 mod pointers;
 mod replacing;
+mod taking;
 mod threads;
 mod updates;
 mod view_rows;

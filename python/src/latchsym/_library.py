@@ -162,6 +162,7 @@ CALLS = {
     "latchsym_catalog_close": ([_HANDLE], False),
     "latchsym_table_open": ([c_uint32, _HANDLE, _HANDLE, c_size_t], True),
     "latchsym_writer_add_reader": ([_HANDLE, _HANDLE], True),
+    "latchsym_writer_take_reader": ([_HANDLE, _HANDLE], True),
     "latchsym_writer_begin_insert": ([_HANDLE, POINTER(Item)], True),
     "latchsym_writer_begin_erase": ([_HANDLE, c_uint64], True),
     "latchsym_writer_begin_batch": (

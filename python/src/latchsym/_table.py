@@ -251,6 +251,16 @@ class Table:
             self._readers.append(self._reader(place))
             return self._readers[place]
 
+    def take_reader(self) -> None:
+        """Closes the last reader, which leaves room for another."""
+        with self._lock, self.writer._lock:
+            if not self._readers:
+                raise it.error_of(it.BAD_CAPACITY)
+            reader = self._readers[-1]
+            with reader._lock:
+                check(lib.latchsym_writer_take_reader(self.writer._handle, reader._handle))
+            self._readers.pop()
+
     def enlarge(self, nodes: int) -> None:
         """Goes on with so many nodes; items and generation stay. No reader may be closed."""
         with ExitStack() as locks:
