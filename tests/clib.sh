@@ -21,6 +21,15 @@ for name in numbers nulls find view table adding pool stops nested replace refus
     compile $name
     "$work/$name"
 done
+# What claims readers for a call is of the header, and no proof sees what is wrong there: pool.c does.
+for edit in "$top"/tests/wrong_headers/*.edit; do
+    rm -rf "$work/wrong"
+    mkdir -p "$work/wrong/include"
+    cp "$top/include/latchsym.h" "$work/wrong/include"
+    "$top/tests/edits.py" --put "$work/wrong" "$edit"
+    gcc -std=gnu11 -w -O2 -I"$work/wrong/include" "$top/tests/c/pool.c" "$library" -lpthread -o "$work/wrong/pool"
+    ! timeout 60 "$work/wrong/pool" >"$work/lines" 2>&1 || { echo "clib: ${edit##*/} is not seen"; exit 1; }
+done
 if command -v valgrind >/dev/null; then
     for name in nulls view refused; do
         valgrind -q --error-exitcode=1 --leak-check=full "$work/$name"

@@ -3,6 +3,7 @@
 the earlier ones were put in.
 
     edits.py [EDIT..]      looks at these, or at all of crates/*/must-fail and tests/wrong_bodies
+    edits.py --put FOLDER EDIT      puts the edit into the files below the folder
 
 As a module: puts an edit into a copy of its crate.
 """
@@ -67,6 +68,11 @@ def put_in(folder, edit):
 
 
 def main(words):
+    if words[:1] == ["--put"]:
+        _, why = put_in(*words[1:])
+        if why:
+            print(f"edits: {words[2]}: {why}")
+        return 1 if why else 0
     edits = words or sorted(glob.glob(f"{TOP}/crates/*/must-fail/*.edit") + glob.glob(f"{TOP}/tests/wrong_bodies/*/*.edit"))
     bad = 0
     for edit in edits:

@@ -141,9 +141,11 @@ warnings=$({ groff -man -ww -Tutf8 -z "$top/docs/latchsym.3"; } 2>&1)
 [ -z "$warnings" ] || fail "$warnings"
 groff -man -Tutf8 -P-cbou -rLL=400n "$top/docs/latchsym.3" >"$work/page"
 tail -n 1 "$work/page" | grep -q "^$("$program" --version) " || fail "the page of the library is of another version"
-# (of a call that the header lets take null pointers, the library's own has the arguments)
+# (of a call that the header lets take null pointers, the library's own has the arguments; a pool's
+# calls are the header's alone)
 calls() {
-    tr -s ' \n' ' ' | sed -E 's/static inline (uint32_t|void) //g; s/_nonnull\(/(/g' |
+    tr -s ' \n' ' ' | sed -E 's/static inline (uint32_t latchsym_pool_(open|try_find|enlarge|close)\()/\1/g
+        s/static inline (uint32_t|void) //g; s/_nonnull\(/(/g' |
         grep -oE '(const char \*|uint32_t |void )latchsym_[a-z_]+\([^)]*\)' | sort
 }
 same "the calls of the library's page" "$(calls <"$header")" "$(section SYNOPSIS | calls)"

@@ -183,9 +183,9 @@ static double now(void) {
     return time.tv_sec + 1e-9 * time.tv_nsec;
 }
 
-/* Changes the table for a while, and between two updates does what is to be done. */
+/* Changes the table for a while, and between two updates does what is to be done, until it is done once. */
 static void change_on(void (*between)(void)) {
-    for (double end = now() + seconds; now() < end;) {
+    for (double end = now() + seconds; now() < end || (between && !grown);) {
         insert(&item);
         erase(&item);
         if (between) between();

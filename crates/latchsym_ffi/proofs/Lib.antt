@@ -15,3 +15,5 @@ mod ViewLemmas
 mod FlatteningLemmas
 -- handles may go to other threads
 mod Sent
+-- two rounds over the slots of a pool
+mod PoolLemmas

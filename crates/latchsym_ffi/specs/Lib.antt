@@ -41,3 +41,5 @@ pub mod Enlarging
 pub mod Adding
 -- what the taking back of a reader gives
 pub mod Taking
+-- the claims of the slots of a pool
+pub mod Pools

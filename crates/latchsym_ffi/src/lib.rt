@@ -36,6 +36,7 @@ mod open_catalogs;
 mod opening;
 mod opening_tables;
 mod pointers;
+mod pools;
 mod replacing;
 mod taking;
 mod threads;
