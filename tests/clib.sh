@@ -1,12 +1,13 @@
 #!/usr/bin/env bash
 # Builds the library for C, and runs the programs of tests/c and examples/c with it: the text of
-# each number, null pointers, what is found of addresses, views on several threads, the table on
-# threads, beside signals and at each stop of its writer, calls inside calls, readers that are
-# added and taken back, readers that calls share, each request for memory refused, items replaced,
-# code that is sampled while it comes and goes, a listing that is followed while it changes, the
-# listings of examples/ as `latchsym lookup` answers, and its logs as `latchsym annotate` writes
-# them; under valgrind and sanitizers where these are there, and names of 700 bytes under gcc's own
-# for addresses. Looks at the object code that a call for signal handlers takes no memory. Needs gcc.
+# each number, null pointers, which refusal comes first, what is found of addresses, views on
+# several threads, the table on threads, beside signals and at each stop of its writer, calls inside
+# calls, readers that are added and taken back, readers that calls share, each request for memory
+# refused, items replaced, code that is sampled while it comes and goes, a listing that is followed
+# while it changes, the listings of examples/ as `latchsym lookup` answers, and its logs as
+# `latchsym annotate` writes them; under valgrind and sanitizers where these are there, and names of
+# 700 bytes under gcc's own for addresses. Looks at the object code that a call for signal handlers
+# takes no memory. Needs gcc.
 set -euo pipefail
 . "$(dirname "$0")/program.sh"
 . "$top/tests/library.sh"
@@ -17,7 +18,7 @@ compile() {
     gcc -std=gnu11 -Wall -Wextra -Werror -O2 -I"$top/include" "$top/tests/c/$1.c" "$library" -lpthread -o "$work/$1" "${@:2}"
 }
 
-for name in numbers nulls find view table adding pool stops nested replace refused; do
+for name in numbers nulls order find view table adding pool stops nested replace refused; do
     compile $name
     "$work/$name"
 done
