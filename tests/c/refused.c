@@ -42,6 +42,7 @@ static const char regions[] = "latchregions 1\next4 core 0xffffffffc0000000 8192
 static struct latchsym_catalog catalog, other;
 static struct latchsym_writer writer;
 static struct latchsym_reader readers[3], added;
+static struct latchsym_pool pool;
 static const struct latchsym_item items[] = {{0x1000, 0x2000, 1}, {0x2000, 0x3000, 1}};
 static const uint64_t starts[] = {0x1000};
 
@@ -63,6 +64,7 @@ static uint32_t share(void) { return latchsym_catalog_share(&catalog, &other); }
 static uint32_t open_table(void) { return latchsym_table_open(4, &writer, readers, 3); }
 static uint32_t enlarge(void) { return latchsym_table_enlarge(8, &writer, readers, 3); }
 static uint32_t add(void) { return latchsym_writer_add_reader(&writer, &added); }
+static uint32_t open_pool(void) { return latchsym_pool_open(4, 3, &writer, &pool); }
 static uint32_t insert(void) { return latchsym_writer_begin_insert(&writer, &items[0]); }
 static uint32_t replace(void) { return latchsym_writer_begin_replace(&writer, items, 2); }
 static uint32_t batch(void) { return latchsym_writer_begin_batch(&writer, starts, 1, items, 2); }
@@ -77,11 +79,21 @@ static void handles(unsigned char *to) {
 }
 
 static void close_catalog(void) { latchsym_catalog_close(&catalog); }
-static void close_added(void) { latchsym_reader_close(&added); }
+static void take_added(void) { CHECK(!latchsym_writer_take_reader(&writer, &added)); }
 static void close_other(void) { latchsym_catalog_close(&other); }
 static void close_table(void) {
     latchsym_writer_close(&writer);
     for (int i = 0; i < 3; i++) latchsym_reader_close(&readers[i]);
+}
+static void close_pool(void) {
+    CHECK(!latchsym_pool_close(&pool));
+    latchsym_writer_close(&writer);
+}
+/* Whether it is refused or not, each reader is there and free. */
+static uint32_t enlarge_pool(void) {
+    uint32_t answer = latchsym_pool_enlarge(8, &writer, &pool);
+    for (int i = 0; i < 3; i++) CHECK(pool.slots[i].reader.handle.at && pool.slots[i].claims % 2 == 0);
+    return answer;
 }
 static void leave(void) {}
 static void finish(void) {
@@ -158,11 +170,18 @@ int main(void) {
     finish();
     each_request("table_enlarge", enlarge, leave);
     CHECK(!latchsym_reader_try_find(&readers[2], 0x2800, &found) && found.a == 0x2000);
-    each_request("add_reader", add, close_added);
+    each_request("add_reader", add, take_added);
     CHECK(!latchsym_reader_try_find(&added, 0x2800, &found) && found.a == 0x2000);
-    close_added();
-    for (int i = 0; i < 3; i++) latchsym_reader_close(&readers[i]);
-    latchsym_writer_close(&writer);
+    take_added();
+    CHECK(!enlarge());
+    close_table();
+    CHECK(blocks == had);
+    each_request("pool_open", open_pool, close_pool);
+    CHECK(!insert());
+    finish();
+    each_request("pool_enlarge", enlarge_pool, leave);
+    CHECK(!latchsym_pool_try_find(&pool, 0x1800, &found) && found.a == 0x1000);
+    close_pool();
     CHECK(blocks == had);
     puts("refused: ok");
 }
