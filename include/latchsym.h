@@ -528,7 +528,7 @@ static inline void latchsym_reader_close(struct latchsym_reader *reader) {
 
 /* Readers of one table that any number of threads, signal handlers and calls inside calls share, in a
  * slot each. A call claims a free one without waiting for it, and has given it back when it returns.
- * A pool is 4 KB large and begins as all bytes 0 (`= {0}`), which is a closed one. The calls here
+ * A pool is some 4 KB large and begins as all bytes 0 (`= {0}`), which is a closed one. The calls here
  * alone write to it, and none of them runs while it is moved, opened, or freed.
  *
  * In a forked child a slot stays claimed that a call of another thread had at the fork: where all
@@ -539,7 +539,11 @@ struct latchsym_pool_slot {
     struct latchsym_reader reader;
     uint64_t apart[5]; /* the next slot lies in another line of the cache */
 };
-struct latchsym_pool { uint32_t slots_len; struct latchsym_pool_slot slots[LATCHSYM_POOL_MOST]; };
+struct latchsym_pool {
+    uint32_t slots_len, shift; /* calls begin to look at one of the first 2^(32 - shift) slots */
+    uint64_t apart[7];
+    struct latchsym_pool_slot slots[LATCHSYM_POOL_MOST];
+};
 
 /* Claims a slot, if it is free. */
 static inline int latchsym_pool_claim_slot(struct latchsym_pool_slot *slot) {
@@ -558,9 +562,10 @@ static inline void latchsym_pool_give_back(struct latchsym_pool_slot *slot) {
  * at a slot of their own where there are twice as many, since their stacks lie apart, mostly by 2^23. */
 static inline struct latchsym_pool_slot *latchsym_pool_claim(const struct latchsym_pool *pool) {
     const char here = 0;
-    const uint64_t at = (uint64_t)(uintptr_t)&here, stack = (at >> 16) + (at >> 23);
+    const uint64_t at = (uint64_t)(uintptr_t)&here;
+    const uint32_t stack = (uint32_t)((at >> 16) + (at >> 23)), mixed = stack * 0x9e3779b9u;
     const uint32_t len = __atomic_load_n(&pool->slots_len, __ATOMIC_RELAXED);
-    const uint32_t first = (uint32_t)((stack * 0x9e3779b97f4a7c15u >> 32) * len >> 32);
+    const uint32_t first = (uint32_t)((uint64_t)mixed >> pool->shift);
     uint64_t sum, before = UINT64_MAX;
     uint32_t i;
     for (;; before = sum) {
@@ -598,6 +603,7 @@ static inline uint32_t latchsym_pool_open(uint32_t nodes, size_t slots,
     answer = latchsym_table_open(nodes, writer, readers, slots > LATCHSYM_POOL_MOST ? 0 : slots);
     if (answer) return answer;
     for (i = 0; i < slots; i++) pool->slots[i].reader = readers[i];
+    for (pool->shift = 32, i = 2; i <= slots; i *= 2) pool->shift--;
     pool->slots_len = (uint32_t)slots;
     return LATCHSYM_DONE;
 }
