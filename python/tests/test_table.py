@@ -128,6 +128,50 @@ class Readers(unittest.TestCase):
             self.assertRaises(latchsym.Closed, call)
         self.assertRaises(latchsym.Closed, table.readers[0].find, 1)
 
+    def test_shared_readers(self):
+        wrong = []
+        with Table(nodes=1, readers=2) as table:
+            over = threading.Event()
+
+            def look():
+                last = 0
+                while not over.is_set():
+                    found = table.find(0x1000)
+                    if (found.item == ITEM) != (found.generation % 2 == 1) or found.generation < last:
+                        wrong.append(found)
+                    last = found.generation
+
+            threads = [threading.Thread(target=look) for _ in range(3)]
+            for thread in threads:
+                thread.start()
+            for nodes in range(2, 100):
+                table.writer.insert(*ITEM)
+                table.enlarge(nodes)
+                table.writer.erase(0x1000)
+            over.set()
+            for thread in threads:
+                thread.join()
+            self.assertEqual(wrong, [])
+            self.assertEqual(table.try_find(1), (None, 2 * 98))
+
+    def test_no_reader_is_free(self):
+        with Table(nodes=1, readers=2) as table:
+            held, let_go = threading.Barrier(2), threading.Event()
+
+            def hold():
+                with table.readers[0]._lock, table.readers[1]._lock:
+                    held.wait()
+                    let_go.wait()
+
+            thread = threading.Thread(target=hold)
+            thread.start()
+            held.wait()
+            self.assertRaises(latchsym.Busy, table.try_find, 1)
+            let_go.set()
+            thread.join()
+            self.assertIsNone(table.try_find(1).item)
+        self.assertRaises(latchsym.Closed, table.find, 1)
+
     def test_threads(self):
         wrong = []
         with Table(nodes=4, readers=3) as table:

@@ -76,6 +76,10 @@ class Retry(Error):
     """The writer flipped during the attempt, which is to be made again."""
 
 
+class Busy(Error):
+    """Other calls have all readers of the table; the attempt is to be made again."""
+
+
 class Closed(Error, ValueError):
     """What the call is of has been closed."""
 
@@ -96,6 +100,7 @@ CLASSES: Dict[int, Type[Error]] = {
     14: BadListing,
     15: BadListing,
     23: Retry,
+    24: Busy,
     101: Closed,
     102: BadLength,
     103: BadListing,

@@ -16,7 +16,7 @@ from . import _errors
 
 MAJOR = 1  # of the header that this file repeats
 
-DONE, NO_SYMBOL, NOTHING, RETRY = 0, 21, 22, 23
+DONE, NO_SYMBOL, NOTHING, RETRY, BUSY = 0, 21, 22, 23, 24
 BAD_CAPACITY, BAD_LINE, FLIP, STORE, BAD_HANDLE = 10, 15, 31, 32, 101
 
 

@@ -14,7 +14,7 @@ from typing import Callable, Iterable, NamedTuple, Type
 
 from . import _library as it
 from ._catalog import Catalog, Item, Symbol
-from ._errors import Retry
+from ._errors import Busy, Retry
 from ._library import check, lib, word
 
 
@@ -240,6 +240,25 @@ class Table:
     @property
     def readers(self) -> tuple[Reader, ...]:
         return tuple(self._readers)
+
+    def try_find(self, addr: int) -> Found:
+        """One attempt by a reader that no other call has. Raises `Busy` where other calls have them
+        all, and `Retry` as a reader does."""
+        for reader in self.readers:
+            if reader._lock.acquire(blocking=False):
+                try:
+                    return reader.try_find(addr)
+                finally:
+                    reader._lock.release()
+        raise it.error_of(it.BUSY)
+
+    def find(self, addr: int) -> Found:
+        """Attempts until one answers. Any number of threads may share the readers so."""
+        while True:
+            try:
+                return self.try_find(addr)
+            except (Busy, Retry):
+                pass
 
     def add_reader(self) -> Reader:
         """One more reader of the table, also amid an update."""
