@@ -9,9 +9,9 @@
  * - A handle is a struct of the caller's. It is all bytes 0 (`= {0}`), which is a closed handle, or
  *   as a call of the library left it. It is never written to, and never copied so that both are
  *   used. Between two calls an open one may be moved: its bytes to where it lies from then on.
- * - A handle is given to one call at a time, and two arguments of a call are not one handle or
- *   overlap. Between two calls any handle may go to another thread, over a lock, the start or the
- *   join of a thread, or a sequentially consistent atomic.
+ * - A handle is given to one call at a time, a pool of readers to any number, and two arguments of a
+ *   call are not one handle or overlap. Between two calls any handle may go to another thread, over a
+ *   lock, the start or the join of a thread, or a sequentially consistent atomic.
  * - The bytes of the listings lie where they are, unchanged, until the last handle of their catalog
  *   is closed.
  * - A pointer is not null but where a length of 0 stands beside it, and where a handle is closed.
@@ -559,7 +559,7 @@ static inline void latchsym_pool_give_back(struct latchsym_pool_slot *slot) {
 
 /* Claims a free slot of a pool; null where all were claimed at one moment. Claims only rise, so two
  * rounds with one sum met the same claims, all of which held between the rounds. Most threads begin
- * at a slot of their own where there are twice as many, since their stacks lie apart, mostly by 2^23. */
+ * at a slot of their own, where there are enough, since their stacks lie apart, mostly by 2^23. */
 static inline struct latchsym_pool_slot *latchsym_pool_claim(const struct latchsym_pool *pool) {
     const char here = 0;
     const uint64_t at = (uint64_t)(uintptr_t)&here;
@@ -608,8 +608,8 @@ static inline uint32_t latchsym_pool_open(uint32_t nodes, size_t slots,
     return LATCHSYM_DONE;
 }
 
-/* The item of an address, as latchsym_reader_try_find tells it, which finds with the same pool at
- * once on any number of threads, and inside itself. 0, LATCHSYM_NOTHING, LATCHSYM_RETRY,
+/* The item of an address, as latchsym_reader_try_find tells it. Any number of threads call it with one
+ * pool at once, and so do handlers inside such calls. 0, LATCHSYM_NOTHING, LATCHSYM_RETRY,
  * LATCHSYM_BUSY where other calls had all readers at one moment (nothing is written), or
  * LATCHSYM_BAD_HANDLE. It is never LATCHSYM_BUSY where at most as many calls run at once as there are
  * slots and none enlarges or closes the pool. Of two calls one after the other the second tells no
