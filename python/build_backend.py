@@ -4,8 +4,9 @@
 The package is Python files alone, so a wheel is a zip of them. Nothing has to be fetched for that,
 and `pip install` works without a network. The same files give the same bytes.
 
-With `--config-settings release=FOLDER`, an unpacked release, the wheel has the shared library of
-that release too, with what says of what it was linked, and is one for its processor.
+In an unpacked release the wheel has the shared library of that release too, with what says of what it
+was linked, and is one for its processor. `--config-settings release=FOLDER` names another release, by
+an absolute path.
 """
 
 import base64
@@ -14,6 +15,7 @@ import hashlib
 import io
 import pathlib
 import re
+import sys
 import tarfile
 import zipfile
 
@@ -26,8 +28,13 @@ PROCESSORS = {62: "x86_64", 183: "aarch64"}  # by the number in an ELF file
 
 def _release(config_settings):
     """The folder of the release whose library the wheel is to have, or None."""
-    folder = (config_settings or {}).get("release")
-    return pathlib.Path(folder) if folder else None
+    named = (config_settings or {}).get("release")
+    folder = pathlib.Path(named) if named else HERE.parent
+    if all((folder / it).exists() for it in (f"lib/{LIBRARY}", "licences", "latchsym.spdx.json")):
+        return folder
+    if named:
+        sys.exit(f"latchsym: {named} is no unpacked release; name one by an absolute path")
+    return None
 
 
 def _tag(release):

@@ -9,9 +9,10 @@ import tempfile
 import textwrap
 import threading
 import unittest
+import warnings
 
 import latchsym
-from latchsym import Answer, Catalog, Region
+from latchsym import Answer, Catalog, Follower, Region
 
 from .samples import DO_ONE, EXT4_A, MODULES, SYMBOLS
 
@@ -64,6 +65,15 @@ class Noting(unittest.TestCase):
             self.assertIn("one boot", catalog.counts.modules_note)
         with Catalog(SYMBOLS, MODULES) as catalog:
             self.assertEqual((catalog.counts.modules_note, catalog.counts.symbols_note), (None, None))
+
+    def test_files_of_no_use_are_warned_of(self):
+        with tempfile.TemporaryDirectory() as folder:
+            file = pathlib.Path(folder, "kallsyms")
+            file.write_bytes(b"0000000000000000 T _stext\n")
+            for opening in (Catalog.from_files, Follower):
+                with self.assertWarnsRegex(UserWarning, "^/.*/kallsyms: every address is 0; read it as root") as said:
+                    opening(file).close()
+                self.assertEqual(said.filename, __file__)
 
 
 class Viewing(unittest.TestCase):
@@ -304,7 +314,10 @@ class Examples(unittest.TestCase):
                 expected = path.with_suffix(".expected").read_text().splitlines()
                 bounds = ("_stext", "_end")
                 files = (path.with_suffix(".kallsyms"), path, regions if regions.exists() else None)
-                with Catalog.from_files(*files, kernel=bounds) as catalog:
+                with warnings.catch_warnings():
+                    warnings.simplefilter("ignore")
+                    catalog = Catalog.from_files(*files, kernel=bounds)
+                with catalog:
                     addresses = [int(word, 0) for word in words]
                     lines = [f"0x{addr:x} {text}" for addr, text in zip(addresses, catalog.texts(addresses))]
                     self.assertEqual(lines, [line for line in expected if line.startswith("0x")])

@@ -68,12 +68,14 @@ class Package(unittest.TestCase):
             tool.parent.mkdir()
             tool.write_text("#!/bin/sh\n")
             tool.chmod(0o755)
+            # (one that is installed on this machine is not to be found first)
+            none = {"PYTHONDONTWRITEBYTECODE": "1", "LATCHSYM_LIBRARY": "", "PYTHONUSERBASE": f"{folder}/none"}
             for wanted, given in (
                 (there, {"PYTHONPATH": path, "PYTHONUSERBASE": folder}),
                 (there, {"PYTHONPATH": path, "PATH": f"{tool.parent}:{os.environ['PATH']}"}),
                 (own / "liblatchsym.so.1", {"PYTHONPATH": str(own.parent)}),
             ):
-                environment = {**os.environ, "PYTHONDONTWRITEBYTECODE": "1", "LATCHSYM_LIBRARY": "", **given}
+                environment = {**os.environ, **none, **given}
                 words = [sys.executable, "-c", program]
                 run = subprocess.run(words, env=environment, stdout=subprocess.PIPE, text=True, check=True)
                 self.assertEqual(os.path.realpath(run.stdout.strip()), os.path.realpath(wanted))

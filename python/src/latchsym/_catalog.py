@@ -7,6 +7,7 @@ import ctypes
 import operator
 import os
 import threading
+import warnings
 import weakref
 from array import array
 from ctypes import byref, c_char, c_size_t, c_uint64
@@ -114,6 +115,13 @@ def _counts(counts: it.Counts) -> Counts:
     notes = (getattr(counts, name) for name in it.NOTES)
     texts = (None if note == it.NOTHING else it.text_of(note) for note in notes)
     return Counts(*(getattr(counts, name) for name in it.COUNTS), *texts)
+
+
+def warn_of(counts: Counts, paths: Sequence[str | os.PathLike[str] | None], level: int) -> None:
+    """Warns of the files of symbols and of modules that have a note, for a caller so far up."""
+    for path, note in zip(paths, (counts.symbols_note, counts.modules_note)):
+        if note is not None:
+            warnings.warn(f"{path}: {note}", stacklevel=level)
 
 
 _TOLD = ctypes.sizeof(it.Told)
@@ -325,9 +333,15 @@ class Catalog:
         *,
         kernel: tuple[str, str] | None = None,
     ) -> Catalog:
-        """Reads the files whole, and opens the catalog of them."""
-        texts = [None if path is None else Path(path).read_bytes() for path in (kallsyms, modules, regions)]
-        return cls(*texts, kernel=kernel)
+        """Reads the files whole, and opens the catalog of them.
+
+        A listing of which nothing is of use, as /proc/kallsyms read without rights, is warned of.
+        """
+        paths = (kallsyms, modules, regions)
+        texts = [None if path is None else Path(path).read_bytes() for path in paths]
+        catalog = cls(*texts, kernel=kernel)
+        warn_of(catalog.counts, paths, 3)
+        return catalog
 
     def share(self) -> Catalog:
         """Another handle of the same catalog, for another thread: nothing is read again."""

@@ -10,7 +10,7 @@ from pathlib import Path
 from types import TracebackType
 from typing import Iterable, NamedTuple, Type
 
-from ._catalog import Catalog, Item, Symbol
+from ._catalog import Catalog, Item, Symbol, warn_of
 from ._table import Table
 
 
@@ -40,7 +40,8 @@ class Follower:
     xfs_a
 
     `poll` reads the files again, and shows the regions that they have then to all readers in one
-    update. Each listing is kept until `forget_below`. Any thread may call.
+    update. Each listing is kept until `forget_below`. Any thread may call. If nothing of the first
+    listings is of use, that is warned of.
     """
 
     def __init__(
@@ -57,6 +58,7 @@ class Follower:
         self._catalogs: list[Catalog] = []
         self._table = Table(nodes)
         self.poll()
+        warn_of(self._catalogs[0].counts, self._paths, 3)
 
     def poll(self) -> bool:
         """Reads the files again; whether they had changed. New regions take nodes beside old ones."""
