@@ -4,8 +4,8 @@
 
 Writes FOLDER/latchsym.spdx.json, which lists the kit's crates on which the program and the library
 stand with versions and licences, and what is linked from the C library and from gcc (SPDX 2.3); and
-copies the licence texts of the kit's crates to FOLDER/licences. The kit says in the READMEs of its
-crates what they are ports of. A crate that is the kit's own has no licence text there, and none is
+copies the licence texts of the kit's crates, and that of glibc, to FOLDER/licences. The kit says in
+the READMEs of its crates what they are ports of. A crate that is the kit's own has no licence text there, and none is
 claimed here.
 """
 import datetime
@@ -77,6 +77,17 @@ def kit_package(kit, name, line, licences):
     return package(name, version, licence, holder, comment=f"a port in Rattle, of {line}")
 
 
+def distributed_glibc(processor):
+    """The version of the glibc that is linked in, as Debian names it, where it is Debian's."""
+    name = {"x86_64": "libc6-dev", "aarch64": "libc6-dev-arm64-cross"}[processor]
+    words = ["dpkg-query", "--show", "--showformat", "${Version}", name]
+    try:
+        version = subprocess.run(words, capture_output=True, text=True, check=True).stdout
+    except (OSError, subprocess.CalledProcessError):
+        return ""
+    return f", from Debian's {name} {version}"
+
+
 def main(processor, epoch, folder):
     kit = os.path.dirname(said("rt", "doc").strip())
     line = said("rt", "version").split()[0]
@@ -88,9 +99,12 @@ def main(processor, epoch, folder):
     whole = package("latchsym", version, "MIT OR Apache-2.0", "Copyright the latchsym authors")
     crates = kit_crates(kit, ["latchsym", "latchsym_ffi"])
     parts = [kit_package(kit, it, line, f"{folder}/licences") for it in crates]
+    os.makedirs(f"{folder}/licences/glibc")
+    shutil.copyfile(f"{TOP}/packaging/LGPL-2.1", f"{folder}/licences/glibc/LGPL-2.1")
     of_gcc = "GPL-3.0-or-later WITH GCC-exception-3.1"
+    where = f"linked into the program alone{distributed_glibc(processor)}"
     parts += [
-        package("glibc", glibc, "LGPL-2.1-or-later", comment="linked into the program alone"),
+        package("glibc", glibc, "LGPL-2.1-or-later", comment=where),
         package("libgcc", said(gcc, "-dumpfullversion").strip(), of_gcc),
     ]
     links = [("SPDXRef-DOCUMENT", "DESCRIBES", whole["SPDXID"])]

@@ -59,7 +59,8 @@ def _linked(release):
     if not release:
         return {}
     files = sorted(it for it in (release / "licences").rglob("*") if it.is_file())
-    return {it.relative_to(release).as_posix(): it.read_bytes() for it in files}
+    # (the program alone has glibc in it)
+    return {it.relative_to(release).as_posix(): it.read_bytes() for it in files if it.parent.name != "glibc"}
 
 
 def _metadata(project, release=None):

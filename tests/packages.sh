@@ -28,9 +28,14 @@ runs_on_old_glibc '' "$release/lib/liblatchsym.so.1" ||
 # shellcheck disable=SC2016
 if has 'python3 -m venv "$work/venv"' python3-venv; then
     pip=(-m pip --quiet --disable-pip-version-check --no-cache-dir)
-    "$work/venv/bin/python" "${pip[@]}" wheel --no-index --no-deps --wheel-dir "$work" \
-        --config-settings release="$release" "$release/python"
-    wheel=$work/latchsym-$version-py3-none-manylinux_2_17_x86_64.whl
+    wheel=latchsym-$version-py3-none-manylinux_2_17_x86_64.whl
+    makes=("$work/venv/bin/python" "${pip[@]}" wheel --no-index --no-deps --wheel-dir)
+    "${makes[@]}" "$work" "$release/python"
+    "${makes[@]}" "$work/named" --config-settings release="$release" "$top/python"
+    cmp "$work/$wheel" "$work/named/$wheel" || fail 'a wheel of a release that is named is another one'
+    (cd "$release" && ! "${makes[@]}" "$work/none" --config-settings release=. ./python) >"$work/out" 2>&1 &&
+        grep -q 'latchsym: \. is no unpacked release' "$work/out" || fail "a release that is none: $(cat "$work/out")"
+    wheel=$work/$wheel
     alone=(env -i PATH=/none "$work/venv/bin/python")
     "${alone[@]}" "${pip[@]}" install --no-index "$wheel"
     library=$("${alone[@]}" -c 'import latchsym; print(latchsym._library.lib._name)')
@@ -75,6 +80,10 @@ debs=("$work"/debian/*.deb)
 [ ${#debs[@]} = 3 ] || fail "${debs[*]} are not three packages"
 for deb in "${debs[@]}"; do
     dpkg-deb -x "$deb" "$work/unpacked"
+done
+# (a page's links lead to what is beside it, in a package on its own too)
+for folder in "$work"/unpacked/usr/share/doc/*; do
+    [ -z "$(find "$folder" -name '*.md*')" ] || python3 "$top/tests/links.py" "$folder" || fail "dead links in $folder"
 done
 triplet=$(dpkg-architecture -q DEB_HOST_MULTIARCH)
 libraries=$work/unpacked/usr/lib/$triplet

@@ -27,7 +27,7 @@ cp "$top"/examples/listings/basic.{modules,kallsyms,addresses} "$work/$name"
 for file in LICENSE-MIT LICENSE-APACHE CHANGELOG.md include/latchsym.h include/latchsym.hpp lib/liblatchsym.a \
     share/man/man1/latchsym.1 share/man/man3/latchsym.3 python/pyproject.toml bindings/rust/Cargo.toml \
     bindings/rust/lib/x86_64/liblatchsym.a examples/fleet/README.md debian/rules latchsym.spdx.json \
-    licences/memchr/LICENSE-MIT; do
+    licences/memchr/LICENSE-MIT licences/glibc/LGPL-2.1; do
     [ -s "$work/$name/$file" ] || fail "it has no $file"
 done
 # the pages: all of them, and no dead link
@@ -42,6 +42,12 @@ if ! in_root / true 2>/dev/null; then
     exit
 fi
 lookup=(lookup --modules /basic.modules --kallsyms /basic.kallsyms --addresses /basic.addresses)
+
+# the program linked again, as its README says
+(cd "$work/$name" && eval "$(sed -n 's/^    \(gcc -static-pie .*\)/\1/p' README.md)")
+"$work/$name/latchsym" "${lookup[@]/#\//$top/examples/listings/}" | cmp - "$top/examples/listings/basic.expected" ||
+    fail 'the program linked again'
+rm "$work/$name/latchsym"
 
 mkdir "$work/empty"
 cp "$work/$name/bin/latchsym" "$work/$name"/basic.* "$work/empty"
