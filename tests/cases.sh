@@ -38,6 +38,7 @@ run() {
 
 [ $# -gt 0 ] || set -- *
 for name; do
+    [ -d "$name" ] || { echo "cases: there is no case $name" >&2; exit 2; }
     run "$name"
     wrong=0
     for file in stdout stderr; do

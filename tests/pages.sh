@@ -109,16 +109,17 @@ while IFS= read -r recipe; do
 done < <(awk '/^## Recipes/ { here = 1; next } /^## / { here = 0 } here && sub(/^    /, "")' "$top/docs/LISTINGS.md" | joined)
 [ $recipes -ge 6 ] || fail "docs/LISTINGS.md has $recipes recipes"
 
-# README.md: its first command, from the top of the repository, and the log that it begins with
+# README.md: what it tries, from the top of the repository, and the log that it begins with, of
+# examples/logs
 mapfile -t blocks < <(awk '/^## Try it/ { here = 1 } /^As root/ { here = 0 } here' "$top/README.md" |
     awk '/^    / { printf "%s%s", sep, substr($0, 5); sep = "\\n"; next } sep { print ""; sep = "" }')
 [ ${#blocks[@]} = 2 ] || fail "README.md has ${#blocks[@]} blocks below Try it"
 same 'what README.md tries' "$(printf '%b' "${blocks[1]}")" \
     "$(cd "$top" && PATH=$work/bin:$PATH bash -c "${blocks[0]//\\\\n/ }" 2>&1)"
-awk '/^    \[/ { print substr($0, 5); next } /^    /, 0 { exit }' "$top/README.md" >"$work/logs"
-half=$(($(wc -l <"$work/logs") / 2))
-same 'the log of README.md' "$(tail -n "$half" "$work/logs")" "$(head -n "$half" "$work/logs" |
-    "$program" annotate --modules "$top/examples/listings/basic.modules" --kallsyms "$top/examples/listings/basic.kallsyms")"
+same 'the log of README.md' "$(cat "$top"/examples/logs/oops.{log,expected})" \
+    "$(sed -n 's/^    \(\[ .*\)/\1/p' "$top/README.md")"
+same 'the log of the archive'"'"'s README.md' "$(cat "$top/examples/logs/oops.expected")" \
+    "$(sed -n 's/^    \(\[ .*\)/\1/p' "$top/packaging/archive.md")"
 python3 "$top/tests/links.py" "$top" >"$work/links" || fail "$(cat "$work/links")"
 
 # without the kit a script that builds says so, in one line

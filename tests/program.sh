@@ -34,9 +34,11 @@ build_proved() {
         program=$top/tests/out/proved/$1
         if [ ! -x "$program" ] || is_older "$program" "$top"/crates/*/src "$top/tests/crates"; then
             mkdir -p "$top/tests/out/proved"
+            echo "${0##*/}: proving $1" >&2
             "$top/tests/build.py" prove "$1" "$program" >&2 || exit 1
         fi
     elif [ ! -x "$program" ] || is_older "$program" "$top"/crates/*/src; then
+        echo "${0##*/}: proving $1" >&2
         (cd "$top/crates/$1" && rt run -- --help) >"$work/build" 2>&1 || { cat "$work/build" >&2; exit 1; }
     fi
 }
@@ -47,6 +49,7 @@ build_unproved() {
     program=$top/tests/out/$1
     if [ ! -x "$program" ] || is_older "$program" "$top"/crates/*/src "$top/tests/crates"; then
         mkdir -p "$top/tests/out"
+        echo "${0##*/}: building $1 without a proof, in a minute and a half" >&2
         "$top/tests/build.py" build "$1" "$program.new" >&2 || exit 1
         mv "$program.new" "$program"
     fi

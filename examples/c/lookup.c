@@ -66,6 +66,8 @@ int main(int argc, char **argv) {
         listings.kallsyms.at = kallsyms;
         refused = latchsym_catalog_open(&listings, &catalog, &counts, &bad_line);
         if (refused) fprintf(stderr, "lookup: %s\n", latchsym_text(refused));
+        else if (counts.symbols_note != LATCHSYM_NOTHING)
+            fprintf(stderr, "lookup: note: %s: %s\n", argv[2], latchsym_text(counts.symbols_note));
     }
     for (int i = 3; !refused && i < argc; i++) print_symbol(&catalog, strtoull(argv[i], NULL, 0));
     latchsym_catalog_close(&catalog); /* and only now the bytes that it points into */

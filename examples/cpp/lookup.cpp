@@ -34,6 +34,9 @@ int main(int argc, char **argv) try {
     latchsym::listings listings;
     listings.kallsyms = kallsyms;
     latchsym::catalog catalog(listings);
+    const std::uint32_t note = catalog.counts().symbols_note;
+    if (note != LATCHSYM_NOTHING)
+        std::cerr << "lookup: note: " << argv[1] << ": " << latchsym_text(note) << '\n';
     for (int i = 2; i < argc; i++) {
         const std::uint64_t addr = std::stoull(argv[i], nullptr, 0);
         print(addr, catalog.find(addr));

@@ -5,6 +5,10 @@
 set -euo pipefail
 here=$(cd "$(dirname "$0")" && pwd)
 python=${PYTHON:-python3}
+"$python" -c 'import dask, distributed' 2>/dev/null || {
+    echo 'compare.sh: Dask is not installed (Debian: apt-get install python3-dask python3-distributed)' >&2
+    exit 1
+}
 fleet=$(mktemp -d)
 trap 'rm -rf "$fleet"' EXIT
 "$python" "$here/make_fleet.py" "$fleet" "${1:-8}" "${2:-100000}" "${3:-1000000}"

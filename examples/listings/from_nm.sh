@@ -8,12 +8,17 @@
 #
 # Numbers are hexadecimal with 0x. Needs nm.
 set -euo pipefail
+usage='usage: from_nm.sh [--offset OFFSET] SYSTEM.MAP [MODULE.ko ADDRESS]..'
+if [ "${1-}" = --help ]; then
+    echo "$usage"
+    exit
+fi
 offset=0
 if [ "${1-}" = --offset ]; then
     offset=$2
     shift 2
 fi
-[ $(($# % 2)) = 1 ] || { echo "usage: from_nm.sh [--offset OFFSET] SYSTEM.MAP [MODULE.ko ADDRESS].." >&2; exit 2; }
+[ $(($# % 2)) = 1 ] || { echo "$usage" >&2; exit 2; }
 
 # moved DISTANCE SUFFIX: lines of address, letter and name, so much higher and with this behind
 moved() {

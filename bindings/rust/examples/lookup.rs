@@ -13,6 +13,9 @@ fn number(word: &str) -> Result<u64, std::num::ParseIntError> {
 fn look_up(file: &str, words: &[String]) -> Result<(), Box<dyn Error>> {
     let kallsyms = fs::read(file)?;
     let catalog = latchsym::Listings::new(&kallsyms).open()?;
+    if let Some(note) = catalog.counts().symbols_note() {
+        eprintln!("lookup: note: {file}: {note}");
+    }
     for word in words {
         let addr = number(word)?;
         match catalog.find(addr)? {
