@@ -111,6 +111,29 @@ function keysOnButtons() {
   expect(page.event > 0 && page.event < turn, "a list keeps its keys");
 }
 
+// at an end the buttons that lead further are off, and the focus stays among the buttons
+function ends() {
+  for (const [id, event] of [["last", page.run.count], ["first", 0], ["last", page.run.count]]) {
+    $(id).focus();
+    $(id).click();
+    expect(page.event === event && $(id).disabled, `${id} at the end`);
+    expect(document.activeElement.closest(".buttons") && !document.activeElement.disabled, `the focus after ${id} is on ${document.activeElement.id || "no button"}`);
+  }
+  expect($("turn").disabled && $("next").disabled && !$("first").disabled, "buttons that are on at the end");
+}
+
+// no copy is said to be changed before the first flip of an update
+function beginnings() {
+  playExample("one_insert");
+  const said = page.run.steps.map((_, event) => {
+    show(event);
+    return [...document.querySelectorAll(".copy .badge")].map((it) => it.textContent).join(", ");
+  });
+  const stable = "stable: readers walk it";
+  expect(said[5] === `${stable}, update begun` && said[8] === said[5], `an update that has begun: ${said[5]}`);
+  expect(said[9] === `being changed, ${stable}`, `after its first flip: ${said[9]}`);
+}
+
 // the address names the moment, and is followed
 async function addresses() {
   playExample("torn_item");
@@ -182,6 +205,8 @@ async function drive() {
   keysOnButtons();
   await addresses();
   words();
+  ends();
+  beginnings();
   badges();
   await played();
   const result = document.createElement("pre");

@@ -22,7 +22,13 @@ async function look() {
     for (const event of [0, Math.floor(page.run.count / 2), page.run.count]) {
       show(event);
       scrollTo(0, 0);
-      for (const id of ["told", "copy0"]) expect(isInSight($(id)), `${name}, event ${event}: ${id} is not in sight of the buttons`);
+      for (const id of ["told", "sequence", "copy0"]) expect(isInSight($(id)), `${name}, event ${event}: ${id} is not in sight of the buttons`);
+      expect($("told").offsetHeight <= 180, `${name}, event ${event}: what is told takes ${$("told").offsetHeight} px`);
+      for (const label of document.querySelectorAll(".view .label")) {
+        if (!label.textContent.startsWith("not linked")) continue;
+        const [text, view] = [label, label.closest(".view")].map((it) => it.getBoundingClientRect());
+        expect(text.left >= view.left && text.right <= view.right, `${name}, event ${event}: "${label.textContent}" is cut`);
+      }
       expect($("copy1").getBoundingClientRect().top === $("copy0").getBoundingClientRect().top, `${name}: the copies are not side by side`);
       expect(document.documentElement.scrollWidth <= innerWidth, `${name}: it scrolls sideways`);
     }
