@@ -53,7 +53,7 @@ if has 'python3 -m venv "$work/venv"' python3-venv; then
         cmp "$licence" "$work"/venv/lib/python3*/site-packages/latchsym-*.dist-info/licenses/"${licence##*/}"
     done
 fi
-{ echo "addresses = [$addr]"; sample Python; echo 'assert answers[0].offset == 8'; } >"$work/sample.py"
+{ echo "addr = $addr; addresses = [addr]"; sample Python; echo 'assert answers[0].offset == 8'; } >"$work/sample.py"
 [ "$(PYTHONPATH=$top/python/src python3 "$work/sample.py")" = $named ]
 # and as installed into a prefix: the library in ~/.local/lib, and nothing that says where it is
 mkdir -p "$work/home/.local/lib"

@@ -24,6 +24,11 @@ python3 -m json.tool "$release/latchsym.spdx.json" >/dev/null
 runs_on_old_glibc '' "$release/lib/liblatchsym.so.1" ||
     fail "the library asks for $(objdump -T "$release/lib/liblatchsym.so.1" | grep GLIBC)"
 
+# said WORDS: the command of its README that begins so
+said() {
+    grep -oE "\`[^\`]*\`" "$release/README.md" | tr -d '\`' | grep -F -- "$1" || fail "its README has no $1"
+}
+
 # the wheel
 # shellcheck disable=SC2016
 if has 'python3 -m venv "$work/venv"' python3-venv; then
@@ -50,7 +55,7 @@ fi
 if has 'command -v cargo' cargo; then
     export CARGO_TARGET_DIR=$work/target
     unset LATCHSYM_LIB_DIR
-    (cd "$release/bindings/rust" && cargo package --quiet --offline --allow-dirty) >"$work/out" 2>&1 ||
+    (cd "$release" && eval "$(said 'cargo package')") >"$work/out" 2>&1 ||
         fail "$(cat "$work/out")"
     crate=$work/target/package/latchsym-$version.crate
     tar -C "$work" -xf "$crate"
@@ -72,7 +77,7 @@ sed -nE 's/^ (latchsym_[a-z_]+)@LATCHSYM_1[.0-9]* .*/\1/p' "$top/packaging/debia
         LC_ALL=C sort) || fail 'the symbols file and the header have other calls'
 mkdir "$work/debian"
 cp -r "$release" "$work/debian"
-(cd "$work/debian/$name" && dpkg-buildpackage --build=binary --no-sign) >"$work/out" 2>&1 ||
+(cd "$work/debian/$name" && eval "$(said dpkg-buildpackage)") >"$work/out" 2>&1 ||
     fail "$(cat "$work/out")"
 lintian --no-cfg --allow-root --fail-on error "$work"/debian/*.changes >"$work/out" 2>&1 ||
     fail "$(cat "$work/out")"

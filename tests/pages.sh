@@ -64,6 +64,8 @@ ln -s "$top/examples" "$work/examples/examples"
 echo 'void demo_run(void) {}' | gcc -x c -c -o "$work/examples/demo.ko" -
 mkdir -p "$work/examples/.debug/[kernel.kallsyms]/0123" "$work/examples/scripts"
 cp "$work/examples/kallsyms" "$work/examples/.debug/[kernel.kallsyms]/0123"
+mkdir "$work/examples/.debug/[kernel.kallsyms]/4567"
+touch -d yesterday "$work/examples/.debug/[kernel.kallsyms]/4567/kallsyms"
 # (what the kernel's script does of a line that ends in a name, an offset and a size)
 printf '#!/bin/sh\nsed -E "s,.* ([a-z_]+)[+]0x9/0x1f00$,\\1 (init/one.c:8),"\n' >"$work/examples/scripts/decode_stacktrace.sh"
 chmod +x "$work/examples/scripts/decode_stacktrace.sh"
