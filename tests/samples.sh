@@ -165,7 +165,7 @@ for tree in "$repository" "$archive"; do
     # Python
     { echo "addr = $addr"; echo 'addresses = [addr]'; block README.md 'import array'; } >"$work/sample.py"
     tells "$name: README's sample in Python" / "${python[@]}" "$work/sample.py"
-    { echo "import latchsym; addr = $addr"; block README.md latchsym.Follower; } >"$work/follow.py"
+    { echo "addr = $addr"; block README.md latchsym.Follower; } >"$work/follow.py"
     tells "$name: README's follower in Python" / "${python[@]}" "$work/follow.py"
     block "$tree/python/README.md" '>>>' | grep '^>>> \|^\.\.\. ' | cut -c5- >"$work/first.py"
     prints "$name: the first sample of python" / \
