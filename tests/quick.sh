@@ -5,8 +5,8 @@
 # else the program is built, in a minute and a half.
 #
 # Without a name it runs all that needs no proved work, in some ten minutes on two processors. What is
-# left out: the library for C with its packages, installing, a release, programs that must not compile,
-# wrong bodies.
+# left out: the library for C as it is proved, with its packages, installing, a release, programs that
+# must not compile, wrong bodies.
 set -euo pipefail
 cd "$(dirname "$0")/.."
 . tests/needs_kit.sh
@@ -31,7 +31,7 @@ times=$(mktemp)
 trap 'sort -rn "$times"; rm -f "$times"' EXIT
 # (cases.sh builds the program, so it comes first, beside what needs none)
 tests/lanes.py "$times" 'tests/cases.sh annotated_log_stays_as_it_is' tests/refused_calls.sh
-tests/lanes.py "$times" tests/crates.sh tests/random_logs.sh tests/random.sh tests/measures.sh \
+tests/lanes.py "$times" tests/crates.sh tests/unproved_library.sh tests/random_logs.sh tests/random.sh tests/measures.sh \
     tests/{refusals,devices,memory,runs}.sh \
     tests/{cases,traces,lookups,lines,json,annotate,follow,checks,address,symbols_alone,pages,versions}.sh
 echo "all passed; nothing of it was proved"
