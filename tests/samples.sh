@@ -192,8 +192,21 @@ for tree in "$repository" "$archive"; do
     fi
 done
 
-# the repository's first command, over the program that is there
+# listings that are saved by one who sees addresses name a log to anyone (a kernel may have no modules)
 cd "$top"
+if grep -qvE '^0+ ' /proc/kallsyms; then
+    mkdir "$work/logs"
+    echo "[<${addr#0x}>]" >"$work/logs/crash.log"
+    bash -c "$(block docs/LISTINGS.md boot= | sed "s|/var/lib/latchsym|$work/saved|")" 2>"$work/out" ||
+        [ ! -e /proc/modules ] || fail "LISTINGS: saving: $(cat "$work/out")"
+    mv "$work"/saved/*/kallsyms "$work/logs"
+    chmod -R a+rX "$work/logs"
+    text=$("$program" lookup --no-counts "$addr")
+    prints 'LISTINGS: a log by a listing that was saved' "$work/logs" \
+        "[<${addr#0x}>] ${text#* }" bash -c "$(block docs/LISTINGS.md 'crash.log')"
+fi
+
+# the repository's first command, over the program that is there
 [ "$(PROGRAMS=$work/bin bash -c "$(block README.md tests/try.sh)")" = "$(block README.md 'bin/latchsym annotate' 1)" ] ||
     fail "README's command in the repository"
 [ $failed = 1 ] || echo "samples: $samples runs of samples, as ${users[*]}, in the repository and in a release"
