@@ -129,7 +129,7 @@ mkdir "$work/tools"
 for tool in bash cat cp cut date dirname find grep mktemp realpath rm sed tr; do
     ln -s "$(command -v $tool)" "$work/tools"
 done
-for script in "bash install.sh $work/prefix" "bash "tests/{cases,quick,linear,bindings}.sh \
+for script in "bash install.sh $work/prefix" "bash "tests/{cases,quick,try,linear,bindings,unproved_library}.sh \
     "$(python3 -c 'import sys; print(sys.executable)') tests/wrong_bodies.py --all"; do
     status=0
     # shellcheck disable=SC2086
