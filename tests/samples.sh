@@ -79,7 +79,7 @@ tells() {
     done
 }
 
-first=$(grep -m 1 ' _stext$' /proc/kallsyms | cut -d' ' -f1)
+first=$(grep -m 1 ' _stext$' /proc/kallsyms | cut -d' ' -f1) || true
 [ -n "$first" ] && [ $((16#$first)) != 0 ] || first=ffffffff81000000
 addr=0x$(printf '%x' $((16#$first + 16)))
 
@@ -101,10 +101,10 @@ for tree in "$repository" "$archive"; do
             (cd "$tree" && eval "$(block "$page" ./install.sh)") >/dev/null
             export PATH=$HOME/.local/bin:$PATH PKG_CONFIG_PATH=$HOME/.local/lib/pkgconfig
             unset LATCHSYM_LIB_DIR
-            has 'command -v pkg-config' pkg-config || exit 0
+            has 'command -v pkg-config' pkg-config || exit $failed
             read -ra flags < <(pkg-config --cflags --libs latchsym)
             # shellcheck disable=SC2016
-            has 'python3 -m venv "$work/venv"' python3-venv || exit 0
+            has 'python3 -m venv "$work/venv"' python3-venv || exit $failed
             (cd "$tree" && "$work/venv/bin/python" -m pip --quiet --disable-pip-version-check --no-cache-dir \
                 install --no-index ./python)
             python=("$work/venv/bin/python")
@@ -195,6 +195,9 @@ done
 # listings that are saved by one who sees addresses name a log to anyone (a kernel may have no modules)
 cd "$top"
 if grep -qvE '^0+ ' /proc/kallsyms; then
+    # shellcheck disable=SC2016
+    as me / bash -c "$(block README.md 'lookup $(grep')" && grep -qE '^0x[0-9a-f]+ [^ ]+\+0x0/' "$work/out" ||
+        fail "the kernel's first address: $(cat "$work/out")"
     mkdir "$work/logs"
     echo "[<${addr#0x}>]" >"$work/logs/crash.log"
     bash -c "$(block docs/LISTINGS.md boot= | sed "s|/var/lib/latchsym|$work/saved|")" 2>"$work/out" ||
