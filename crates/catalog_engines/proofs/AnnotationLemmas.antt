@@ -1,5 +1,5 @@
 -- From what came of a log by the catalog of listings to what the engine returns.
-use Rattle.catalog_engines.proofs.Words.{◌≡◌, ℕ, List, [], Option, Some, Result, Ok, Err, refl, sym, subst, inl, inr, ⊎_elim, IfSome, Counted, Output, answered_by, HoldsOfRegions, AnnotatesBy, AnnotatesLog, IsTold, AreReadAs, Given, HasBadRegion, HasCrowdedRegions, IsCatalogOf, OpensCatalog, Failures, NoReaderFailed, Fault, Refused, BadLine, Read, TooLong, Write, GivenTexts, Annotate, Sources, is_narrow, lines_of}
+use Rattle.catalog_engines.proofs.Words.{◌≡◌, ℕ, List, [], Option, Some, Result, Ok, Err, refl, sym, subst, inl, inr, ⊎_elim, IfSome, Counted, Output, answered_by, AnnotatesBy, AnnotatesLog, IsTold, AreReadAs, Given, HasBadRegion, HasCrowdedRegions, IsCatalogOf, OpensCatalog, Failures, NoReaderFailed, Fault, Refused, BadLine, Read, TooLong, Write, ListingTexts, Annotate, Sources, is_narrow, lines_of}
 use Rattle.logs.specs.declared.annotation.Findings.{Findings}
 use Rattle.logs.specs.declared.annotation.LogFault.{LogFault}
 use Rattle.logs.specs.declared.annotation.LogFault.TheVariants as log_fault
@@ -13,11 +13,11 @@ module _ {L W E : Type 0} (remaining : L → Option (List ℕ)) (contents : W �
       → AnnotatesLog remaining contents errors q a (Some g) [] l l w w e e (Err f)
   not_opened g l w e (Refused refusal.OutOfMemory) h = (tt, inl (refl, refl, refl))
   not_opened g l w e (Refused refusal.TooManyRegions) h = (tt, (refl, refl, refl), h)
-  not_opened g l w e (BadLine place n) h = (tt, (refl, refl, refl), h.1, (h.0, h.2))
+  not_opened g l w e (BadLine place n) h = (tt, (refl, refl, refl), h.0, h.1)
   not_opened g l w e _ h = absurd h
 
   -- the listings could not be read
-  pub not_read : (known : Option Given) (counts : Failures) (l : Counted L) (w : Output W) (e : Output E) (f : Fault) → AreReadAs {A = GivenTexts} counts (Err f)
+  pub not_read : (known : Option Given) (counts : Failures) (l : Counted L) (w : Output W) (e : Output E) (f : Fault) → AreReadAs {A = ListingTexts} counts (Err f)
       → AnnotatesLog remaining contents errors q a known counts l l w w e e (Err f)
   not_read known counts l w e (Refused refusal.OutOfMemory) h = (h, inl (refl, refl, refl))
   not_read known counts l w e (Read place) h = inl (h, (refl, refl, refl))
@@ -72,8 +72,8 @@ module _ {L W E : Type 0} (remaining : L → Option (List ℕ)) (contents : W �
           → AnnotatesLog remaining contents errors q a known counts l l' w w' e e' result
       readers_known (Ok done) h = (none, told_of (Ok done) h.1)
       readers_known (Err (Refused refusal.OutOfMemory)) h = (none, ⊎_elim inl (λ t. inr (told_of (Err (Refused refusal.OutOfMemory)) t)) h.1)
-      readers_known (Err (Refused refusal.TooManyRegions)) h = (none, h.1, known_too (HoldsOfRegions HasCrowdedRegions) g known is h.2)
-      readers_known (Err (BadLine place n)) h = (none, h.1, h.2, known_too (HoldsOfRegions (HasBadRegion n)) g known is h.3)
+      readers_known (Err (Refused refusal.TooManyRegions)) h = (none, h.1, known_too HasCrowdedRegions g known is h.2)
+      readers_known (Err (BadLine place n)) h = (none, h.1, h.2, known_too (HasBadRegion n) g known is h.3)
       readers_known (Err (Read place)) h = inr (⊎_elim (λ f. absurd f.0) (λ t. (none, told_of (Err (Read place)) t.1)) h)
       readers_known (Err (TooLong place)) h = (none, told_of (Err (TooLong place)) h.1)
       readers_known (Err Write) h = (none, told_of (Err Write) h.1)

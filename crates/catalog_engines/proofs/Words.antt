@@ -39,30 +39,29 @@ pub use Rattle.modules.specs.Lines.{bounds_for, usual_bounds}
 pub use Rattle.modules.specs.Listed.{BoundNames, ListedRegion, ListedSymbol}
 pub use Rattle.modules.specs.Regions.{holds}
 pub use Rattle.modules.specs.declared.catalog.BuildCounts.{BuildCounts}
-pub use Rattle.modules.specs.declared.catalog.KeptCounts.{KeptCounts}
 pub use Rattle.listing.proofs.ListingNoteLemmas.{bounds_are, given_or}
-pub use Rattle.listing.specs.Looks.{is_narrow}
+pub use Rattle.listing.specs.Looks.{are_modules_hidden, are_symbols_hidden, is_narrow}
+pub use Rattle.command_io.specs.Readings.{HoldsOf}
 pub use Rattle.listing.specs.ListingNotes.{is_of_kallsyms, is_of_modules, is_some_noted}
 pub use Rattle.listing.specs.ModuleListing.{module_counts}
-pub use Rattle.listing.specs.Opening.{IsSymbolListing, catalog_of_texts, counts_of_texts, kept_in_text, listed}
+pub use Rattle.listing.specs.Opening.{Given, IsOpened, listings_of, symbols_of}
 pub use Rattle.listing.specs.SymbolListing.{is_mapping, symbol_counts, symbol_of, symbols_in}
-pub use Rattle.listing.specs.Tallies.{Tallies, counts_text, symbol_tallies_by, tallies_by, tallies_of}
-pub use Rattle.listing.specs.declared.opening.Listings.{Listings}
-pub use Rattle.listing.specs.declared.opening.SymbolListing.{SymbolListing}
+pub use Rattle.listing.specs.Tallies.{Tallies, counts_text, tallies_of}
+pub use Rattle.listing.specs.declared.opening.OpenedCatalog.{OpenedCatalog}
 pub use Rattle.command_io.specs.JsonTexts.{address_member, symbol_members}
-pub use Rattle.command_io.specs.Readings.{region_lines}
-pub use Rattle.command_io.specs.OpenedCatalogs.{AreReadAs, Given, HasBadRegion, HasCrowdedRegions, IsCatalogOf, OpensCatalog, given_in, known_given, listing_failures}
+pub use Rattle.command_io.proofs.OpenedLemmas.{catalog_opened, holds_at, same_texts, tallies_said}
+pub use Rattle.command_io.specs.OpenedCatalogs.{AreReadAs, HasBadRegion, HasCrowdedRegions, IsCatalogOf, OpensCatalog, known_given, listing_failures, texts_in}
 pub use Rattle.command_io.specs.Readings.{Failures, NoReaderFailed}
 pub use Rattle.command_io.specs.declared.fault.Fault.{Fault}
 pub use Rattle.command_io.specs.declared.fault.Fault.TheVariants.{BadLine, Read, Refused, TooLong, Write}
-pub use Rattle.command_io.specs.declared.opened_catalogs.GivenTexts.{GivenTexts}
+pub use Rattle.command_io.specs.declared.opened_catalogs.ListingTexts.{ListingTexts}
 pub use Rattle.catalog_engines.specs.LogAnswers.{answered_by}
 pub use Rattle.catalog_engines.specs.AddressTexts.{is_told, owner_member, owner_text, symbols_text, told_line, told_lines, word_text, words_text}
 pub use Rattle.catalog_engines.specs.Addresses.{IsAddressed}
 pub use Rattle.catalog_engines.specs.Annotations.{AnnotatesBy, AnnotatesLog, IsTold}
 pub use Rattle.catalog_engines.specs.AskedNames.{AskedSymbols, asked_of, cut_at_last, cut_before, distance_in, parted_by, without_last}
-pub use Rattle.catalog_engines.specs.Checks.{IsChecked, IsModulesReport, IsSymbolsReport, listings_report, modules_name, symbol_listing_report, with_modules}
-pub use Rattle.catalog_engines.specs.GivenAnswers.{AnswersGiven, AnswersListings, HoldsOfRegions, IsTextWritten}
+pub use Rattle.catalog_engines.specs.Checks.{IsChecked, IsReport, lines_on_modules, modules_name, opened_report, report, report_by}
+pub use Rattle.catalog_engines.specs.GivenAnswers.{AnswersGiven, AnswersListings, IsTextWritten}
 pub use Rattle.catalog_engines.specs.KeptSymbols.{IsSought, Kept, end_of, found_by, is_owner, is_sought, kept_at_its_address, kept_in, kept_line, kept_symbol, kept_symbols, named, sought}
 pub use Rattle.catalog_engines.specs.NoteTexts.{IsNoted, applying_lines, line_if_noted, line_where, message_of, note_line, note_lines}
 pub use Rattle.catalog_engines.specs.declared.address_texts.AddressForm.{AddressForm}

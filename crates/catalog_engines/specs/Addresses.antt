@@ -2,7 +2,8 @@
 use Rattle.std.specs.Prelude.{◌≡◌, List, ℕ, Option}
 use Rattle.modules.specs.Entries.{CatalogEntries}
 use Rattle.modules.specs.Listed.{BoundNames}
-use Rattle.command_io.specs.OpenedCatalogs.{Given, IsCatalogOf}
+use Rattle.command_io.specs.OpenedCatalogs.{IsCatalogOf}
+use Rattle.listing.specs.Opening.{Given}
 use Rattle.listing.specs.SymbolListing.{symbols_in}
 use Rattle.listing.specs.declared.listing_notes.ListingNotes.{ListingNotes}
 use Rattle.texts.specs.Lines.{lines_of}

@@ -9,13 +9,13 @@ use Rattle.logs.specs.Annotation.{Annotates}
 use Rattle.modules.specs.Entries.{CatalogEntries}
 use Rattle.modules.specs.Listed.{BoundNames}
 use Rattle.order_laws.specs.declared.refusals.Refusal.TheVariants as refusal
-use Rattle.catalog_engines.specs.GivenAnswers.{HoldsOfRegions}
 use Rattle.catalog_engines.specs.NoteTexts.{IsNoted}
 use Rattle.listing.specs.ListingNotes.{is_some_noted}
 use Rattle.catalog_engines.specs.LogAnswers.{answered_by}
 use Rattle.catalog_engines.specs.NoteTexts.{is_log_noted, log_line, note_lines}
 use Rattle.logs.specs.declared.annotation.Findings.{Findings}
-use Rattle.command_io.specs.OpenedCatalogs.{Given, HasBadRegion, HasCrowdedRegions, IsCatalogOf}
+use Rattle.command_io.specs.OpenedCatalogs.{HasBadRegion, HasCrowdedRegions, IsCatalogOf}
+use Rattle.listing.specs.Opening.{Given}
 use Rattle.listing.specs.Looks.{is_narrow}
 use Rattle.texts.specs.Lines.{lines_of}
 use Rattle.command_io.specs.Readings.{Failures, NoReaderFailed, OnlyFailed}
@@ -90,10 +90,10 @@ AnnotatesAfter known counts Untouched Told (Err (Refused refusal.OutOfMemory)) =
     NoReaderFailed counts × (Untouched ⊎ Told (Err (Refused refusal.OutOfMemory)))
 AnnotatesAfter known counts Untouched Told (Err (Refused refusal.TooManyRegions)) =
     NoReaderFailed counts × Untouched
-    × IfSome known (HoldsOfRegions HasCrowdedRegions)
+    × IfSome known HasCrowdedRegions
 AnnotatesAfter known counts Untouched Told (Err (BadLine place n)) =
     NoReaderFailed counts × Untouched × (place ≡ 2)
-    × IfSome known (HoldsOfRegions (HasBadRegion n))
+    × IfSome known (HasBadRegion n)
 AnnotatesAfter known counts Untouched Told (Err (Read place)) =
     (OnlyFailed place counts × Untouched) ⊎ (NoReaderFailed counts × Told (Err (Read place)))
 AnnotatesAfter known counts Untouched Told (Err (TooLong place)) =

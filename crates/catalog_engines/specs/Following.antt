@@ -19,10 +19,11 @@ use Rattle.logs.specs.declared.log_names.LogNames.{LogNames}
 use Rattle.modules.specs.Entries.{CatalogEntries}
 use Rattle.modules.specs.Listed.{BoundNames}
 use Rattle.order_laws.specs.declared.refusals.Refusal.TheVariants as refusal
-use Rattle.command_io.specs.OpenedCatalogs.{Given, IsCatalogOf, OpensCatalog, given_in}
+use Rattle.command_io.specs.OpenedCatalogs.{IsCatalogOf, OpensCatalog, texts_in}
+use Rattle.listing.specs.Opening.{Given}
 use Rattle.command_io.specs.declared.fault.Fault.{Fault}
 use Rattle.command_io.specs.declared.fault.Fault.TheVariants.{Read, Refused, TooLong}
-use Rattle.command_io.specs.declared.opened_catalogs.GivenTexts.{GivenTexts}
+use Rattle.command_io.specs.declared.opened_catalogs.ListingTexts.{ListingTexts}
 use Rattle.catalog_engines.specs.Annotations.{IsEndTold, stopped}
 use Rattle.catalog_engines.specs.LogAnswers.{answered_by}
 use Rattle.catalog_engines.specs.NoteTexts.{note_lines}
@@ -46,8 +47,8 @@ abbrev pub block_event : List ℕ → Result ℕ Fault → Event
 block_event room (Ok count) = Block (take count room)
 block_event room (Err fault) = Failed fault
 
-abbrev pub listings_event : Result GivenTexts Fault → Event
-listings_event (Ok texts) = Listings (given_in texts)
+abbrev pub listings_event : Result ListingTexts Fault → Event
+listings_event (Ok texts) = Listings (texts_in texts)
 listings_event (Err fault) = Failed fault
 
 -- the fault is one of listings that are read

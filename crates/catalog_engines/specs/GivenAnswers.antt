@@ -1,16 +1,13 @@
 -- What an engine returns that reads listings, and then writes a text about them.
-use Rattle.std.specs.Prelude.{◌≡◌, ℕ, List, Option, Result, Ok, Err, IfSome, is_some, true, false}
+use Rattle.std.specs.Prelude.{◌≡◌, ℕ, List, Option, Result, Ok, Err, IfSome, true, false}
 use Rattle.texts.specs.declared.output.Output.{Output}
 use Rattle.texts.specs.Output.{Delivered, WrotePart, has_failed}
 use Rattle.order_laws.specs.declared.refusals.Refusal.TheVariants as refusal
-use Rattle.command_io.specs.OpenedCatalogs.{Given, HasBadRegion, HasCrowdedRegions}
+use Rattle.command_io.specs.OpenedCatalogs.{HasBadRegion, HasCrowdedRegions}
+use Rattle.listing.specs.Opening.{Given}
 use Rattle.command_io.specs.Readings.{Failures, NoReaderFailed, OnlyFailed}
 use Rattle.command_io.specs.declared.fault.Fault.{Fault}
 use Rattle.command_io.specs.declared.fault.Fault.TheVariants.{Refused, BadLine, Read, Write}
-
--- there is a listing of modules, and this holds of that of regions
-abbrev pub HoldsOfRegions : (Option (List ℕ) → Type 0) → Given → Type 0
-HoldsOfRegions P g = (is_some g.modules ≡ true) × P g.regions
 
 -- a text that goes with this value was written, as far as this says
 abbrev pub IsTextWritten : {V : Type 0} → (List ℕ → Type 0) → (List ℕ → V → Type 0) → V → Type 0
@@ -24,9 +21,9 @@ abbrev pub AnswersGiven : {V W : Type 0} → (W → Option (List ℕ)) → (Give
 AnswersGiven contents Is g w w' (Ok v) = IsTextWritten (Delivered contents w w') (Is g) v
 AnswersGiven contents Is g w w' (Err (Refused refusal.OutOfMemory)) = w' ≡ w
 AnswersGiven contents Is g w w' (Err (Refused refusal.TooManyRegions)) =
-    (w' ≡ w) × HoldsOfRegions HasCrowdedRegions g
+    (w' ≡ w) × HasCrowdedRegions g
 AnswersGiven contents Is g w w' (Err (BadLine place n)) =
-    (w' ≡ w) × (place ≡ 2) × HoldsOfRegions (HasBadRegion n) g
+    (w' ≡ w) × (place ≡ 2) × HasBadRegion n g
 AnswersGiven {V} contents Is g w w' (Err Write) =
     (v : V) × IsTextWritten (WrotePart contents w w') (Is g) v
 AnswersGiven contents Is g w w' (Err _) = ⊥
@@ -42,10 +39,10 @@ AnswersListings contents Is known counts w w' (Ok v) =
 AnswersListings contents Is known counts w w' (Err (Refused refusal.OutOfMemory)) =
     NoReaderFailed counts × (w' ≡ w)
 AnswersListings contents Is known counts w w' (Err (Refused refusal.TooManyRegions)) =
-    NoReaderFailed counts × (w' ≡ w) × IfSome known (HoldsOfRegions HasCrowdedRegions)
+    NoReaderFailed counts × (w' ≡ w) × IfSome known HasCrowdedRegions
 AnswersListings contents Is known counts w w' (Err (BadLine place n)) =
     NoReaderFailed counts × (w' ≡ w) × (place ≡ 2)
-    × IfSome known (HoldsOfRegions (HasBadRegion n))
+    × IfSome known (HasBadRegion n)
 AnswersListings contents Is known counts w w' (Err (Read place)) =
     (w' ≡ w) × OnlyFailed place counts
 AnswersListings {V} contents Is known counts w w' (Err Write) =

@@ -3,13 +3,13 @@ ghost use Rattle.std.specs.Prelude.{map};
 ghost use Rattle.std.specs.Option.{option_copied};
 ghost use Rattle.catalog_engines.specs.Addresses.{IsAddressed};
 ghost use Rattle.catalog_engines.specs.GivenAnswers.{AnswersGiven, AnswersListings};
-ghost use Rattle.command_io.specs.OpenedCatalogs.{given_in, known_given, listing_failures};
+ghost use Rattle.command_io.specs.OpenedCatalogs.{known_given, listing_failures, texts_in};
 
 use crate::address_texts::{AddressForm, put_words};
 use crate::kept_symbols::symbols_sought;
-use command_io::{Fault, GivenTexts, ListingReaders, open_catalog, read_given, unless_failed};
+use command_io::{Fault, ListingReaders, ListingTexts, open_catalog, read_given, unless_failed};
 use listing::ListingNotes;
-use modules::{IndexedCatalog, KernelBounds};
+use modules::{Asked, IndexedCatalog, KernelBounds};
 use std::alloc::Global;
 use std::io::{Read, Write};
 use texts::Output;
@@ -40,7 +40,7 @@ pub fn address_engine<M: Read, K: Read, R: Read, W: Write>(
 /// Writes where they are in the listings that these texts are.
 fn answer_names<W: Write>(
     alloc: Global,
-    texts: &GivenTexts,
+    texts: &ListingTexts,
     form: AddressForm,
     kernel: Option<&KernelBounds>,
     words: &[&str],
@@ -48,9 +48,9 @@ fn answer_names<W: Write>(
 ) -> Result<ListingNotes, Fault>
     ensures { AnswersGiven W.contents
         (IsAddressed form (option_copied kernel.entry) (map (λ w. w.now) words.now))
-        (given_in texts.now) writer.old writer.new result }
+        (texts_in texts.now) writer.old writer.new result }
 {
-    let opened = open_catalog(alloc, kernel, texts)?;
+    let opened = open_catalog(alloc, texts, kernel, Asked::Any)?;
     let notes = opened.notes;
     let index = IndexedCatalog::new(alloc, opened.catalog)?;
     let sought = symbols_sought(alloc, &index, &texts.kallsyms, words)?;

@@ -7,15 +7,17 @@ ghost use Rattle.std.specs.Prelude.{◌≡◌, [], Some};
 ghost use Rattle.catalog_engines.specs.Annotations.{AnnotatesBy, AnnotatesLog, IsEndTold};
 ghost use Rattle.catalog_engines.specs.Annotations.{stop_of, stopped};
 ghost use Rattle.catalog_engines.specs.LogAnswers.{answered_by};
-ghost use Rattle.command_io.specs.OpenedCatalogs.{given_in, known_given, listing_failures};
+ghost use Rattle.command_io.specs.OpenedCatalogs.{known_given, listing_failures, texts_in};
 
 use crate::log_answers::CatalogAnswers;
 use crate::notes::{note_listings, note_log};
 use crate::sources::Sources;
-use command_io::{FAILED, Fault, GivenTexts, ListingReaders, SUCCEEDED, open_catalog, read_given};
+use command_io::{
+    FAILED, Fault, ListingReaders, ListingTexts, SUCCEEDED, open_catalog, read_given,
+};
 use listing::{LogRule, is_narrow};
 use logs::{Findings, LogFault, annotate};
-use modules::IndexedCatalog;
+use modules::{Asked, IndexedCatalog};
 use order_laws::Refusal;
 use std::alloc::{AllocError, Global};
 use std::io::{Read, Write};
@@ -30,15 +32,6 @@ pub struct Annotate<'a> {
     pub follow: bool,
     /// The file of the log; `-` is the standard input.
     pub log: &'a str,
-}
-
-/// The readers of the files of an annotation, in the order in which they are read.
-#[derive(Drop)]
-pub struct AnnotateReaders<M, K, R, L> {
-    /// The listings.
-    pub listings: ListingReaders<M, K, R>,
-    /// The log.
-    pub log: Counted<L>,
 }
 
 /// Why a log is annotated no further.
@@ -89,19 +82,19 @@ pub const LOG_PLACE: u64 = 3;
 /// what is inserted.
 pub fn annotate_engine<M: Read, K: Read, R: Read, L: Read, E: Write, W: Write>(
     alloc: Global,
-    readers: &mut AnnotateReaders<M, K, R, L>,
+    listings: &mut ListingReaders<M, K, R>,
+    log: &mut Counted<L>,
     sources: &Sources<'_>,
     job: &Annotate<'_>,
     errors: &mut Output<E>,
     writer: &mut Output<W>,
 ) -> Result<u8, Fault>
     ensures { AnnotatesLog L.remaining W.contents E.contents sources.now job.now
-        (known_given M.remaining K.remaining R.remaining readers.old.listings)
-        (listing_failures readers.old.listings readers.new.listings)
-        readers.old.log readers.new.log writer.old writer.new errors.old errors.new result }
+        (known_given M.remaining K.remaining R.remaining listings.old)
+        (listing_failures listings.old listings.new)
+        log.old log.new writer.old writer.new errors.old errors.new result }
 {
-    let texts = read_given(alloc, &mut readers.listings)?;
-    let log = &mut readers.log;
+    let texts = read_given(alloc, listings)?;
     annotate_over(alloc, &texts, sources, job, errors, log, writer)
 }
 
@@ -109,7 +102,7 @@ pub fn annotate_engine<M: Read, K: Read, R: Read, L: Read, E: Write, W: Write>(
 /// them.
 fn annotate_over<L: Read, E: Write, W: Write>(
     alloc: Global,
-    texts: &GivenTexts,
+    texts: &ListingTexts,
     sources: &Sources<'_>,
     job: &Annotate<'_>,
     errors: &mut Output<E>,
@@ -117,11 +110,11 @@ fn annotate_over<L: Read, E: Write, W: Write>(
     writer: &mut Output<W>,
 ) -> Result<u8, Fault>
     ensures { AnnotatesLog L.remaining W.contents E.contents sources.now job.now
-        (Some (given_in texts.now)) [] log.old log.new writer.old writer.new
+        (Some (texts_in texts.now)) [] log.old log.new writer.old writer.new
         errors.old errors.new result }
 {
     let kernel = sources.kernel.as_ref();
-    let opened = open_catalog(alloc, kernel, texts)?;
+    let opened = open_catalog(alloc, texts, kernel, Asked::Any)?;
     let notes = opened.notes;
     let index = IndexedCatalog::new(alloc, opened.catalog)?;
     note_listings(&notes, kernel, &sources.files, errors);

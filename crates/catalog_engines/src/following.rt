@@ -11,7 +11,7 @@
 //! So a module that was loaded since has its name, and a line is named by the listings as they were
 //! read behind the block that its end is in.
 ghost use Rattle.logs.specs.Annotation.{Ends, Passes};
-ghost use Rattle.command_io.specs.OpenedCatalogs.{given_in};
+ghost use Rattle.command_io.specs.OpenedCatalogs.{texts_in};
 ghost use Rattle.catalog_engines.specs.Following.{FollowsLog, FollowsTurns, GivesCatalog, NamesBy};
 ghost use Rattle.catalog_engines.specs.Following.{NotesTold};
 
@@ -20,10 +20,10 @@ use crate::lasting_log::LastingLog;
 use crate::log_answers::CatalogAnswers;
 use crate::notes::note_listings;
 use crate::sources::Sources;
-use command_io::{Fault, GivenTexts, open_catalog};
+use command_io::{Fault, ListingTexts, open_catalog};
 use listing::is_narrow;
 use logs::{Annotator, Findings, LogNames, keep_head};
-use modules::IndexedCatalog;
+use modules::{Asked, IndexedCatalog};
 use std::alloc::Global;
 use std::io::Write;
 use texts::{BLOCK, Output};
@@ -57,14 +57,14 @@ pub fn follow_engine<L: LastingLog, E: Write, W: Write>(
 /// Tells what is noted of the listings with these texts.
 fn tell_notes<E: Write>(
     alloc: Global,
-    texts: &GivenTexts,
+    texts: &ListingTexts,
     sources: &Sources<'_>,
     errors: &mut Output<E>,
 ) -> Result<(), Fault>
-    ensures { NotesTold E.contents sources.now (given_in texts.now) errors.old errors.new result }
+    ensures { NotesTold E.contents sources.now (texts_in texts.now) errors.old errors.new result }
 {
     let kernel = sources.kernel.as_ref();
-    let opened = open_catalog(alloc, kernel, texts)?;
+    let opened = open_catalog(alloc, texts, kernel, Asked::Any)?;
     note_listings(&opened.notes, kernel, &sources.files, errors);
     Ok(())
 }
@@ -73,13 +73,13 @@ fn tell_notes<E: Write>(
 fn follow_blocks<L: LastingLog, W: Write>(
     alloc: Global,
     log: &mut L,
-    first: GivenTexts,
+    first: ListingTexts,
     room: &mut [u8],
     sources: &Sources<'_>,
     job: &Annotate<'_>,
     writer: &mut Output<W>,
 ) -> Result<Findings, Stop>
-    ensures { FollowsTurns W.contents sources.now job.now (given_in first) (L.events log.old)
+    ensures { FollowsTurns W.contents sources.now job.now (texts_in first) (L.events log.old)
         (L.events log.new) writer.old writer.new result }
 {
     let mut texts = first;
@@ -102,14 +102,14 @@ fn follow_blocks<L: LastingLog, W: Write>(
 /// Writes the lines that have their end in a block, named by the listings with these texts.
 fn name_block<W: Write>(
     alloc: Global,
-    texts: &GivenTexts,
+    texts: &ListingTexts,
     sources: &Sources<'_>,
     job: &Annotate<'_>,
     annotator: &mut Annotator,
     bytes: &[u8],
     writer: &mut Output<W>,
 ) -> Result<(), Stop>
-    ensures { NamesBy W.contents sources.now job.now (given_in texts.now)
+    ensures { NamesBy W.contents sources.now job.now (texts_in texts.now)
         (λ answer _. Passes answer annotator.old annotator.new bytes.now)
         writer.old writer.new result }
 {
@@ -123,13 +123,13 @@ fn name_block<W: Write>(
 /// the log.
 fn name_last<W: Write>(
     alloc: Global,
-    texts: &GivenTexts,
+    texts: &ListingTexts,
     sources: &Sources<'_>,
     job: &Annotate<'_>,
     annotator: Annotator,
     writer: &mut Output<W>,
 ) -> Result<LogNames, Stop>
-    ensures { NamesBy W.contents sources.now job.now (given_in texts.now)
+    ensures { NamesBy W.contents sources.now job.now (texts_in texts.now)
         (λ answer. Ends answer annotator) writer.old writer.new result }
 {
     let index = index_of(alloc, sources, texts)?;
@@ -142,10 +142,10 @@ fn name_last<W: Write>(
 fn index_of<'a>(
     alloc: Global,
     sources: &Sources<'_>,
-    texts: &'a GivenTexts,
+    texts: &'a ListingTexts,
 ) -> Result<IndexedCatalog<'a>, Fault>
-    ensures { GivesCatalog sources.now.kernel (given_in texts.now) result }
+    ensures { GivesCatalog sources.now.kernel (texts_in texts.now) result }
 {
-    let opened = open_catalog(alloc, sources.kernel.as_ref(), texts)?;
+    let opened = open_catalog(alloc, texts, sources.kernel.as_ref(), Asked::Any)?;
     Ok(IndexedCatalog::new(alloc, opened.catalog)?)
 }

@@ -4,7 +4,7 @@ ghost use Rattle.command_io.specs.declared.fault.Fault.TheVariants.{Read};
 ghost use Rattle.catalog_engines.specs.Following.{Event, Happen, IsFaultOfListings, block_event};
 ghost use Rattle.catalog_engines.specs.Following.{listings_event};
 
-use command_io::{Fault, GivenTexts};
+use command_io::{Fault, ListingTexts};
 use std::alloc::Global;
 
 /// A log that lasts, and the listings that say what its addresses are.
@@ -20,7 +20,7 @@ pub trait LastingLog {
         ensures fault { IfErr result (λ f. f ≡ Read 3) };
 
     /// Reads the listings as they are now.
-    fn read_listings(&mut self, alloc: Global) -> Result<GivenTexts, Fault>
+    fn read_listings(&mut self, alloc: Global) -> Result<ListingTexts, Fault>
         ensures event { Happen (events self.old) (events self.new) (listings_event result ∷ []) }
         ensures fault { IfErr result IsFaultOfListings };
 }

@@ -22,7 +22,7 @@ mod sources;
 
 pub use address_texts::AddressForm;
 pub use addresses::address_engine;
-pub use annotations::{Annotate, AnnotateReaders, LOG_PLACE, annotate_engine};
+pub use annotations::{Annotate, LOG_PLACE, annotate_engine};
 pub use checks::check_engine;
 pub use following::follow_engine;
 pub use lasting_log::LastingLog;

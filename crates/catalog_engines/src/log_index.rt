@@ -5,11 +5,10 @@
 //! address: whether they are is found once for a log, and then they are not gone through for each
 //! name.
 ghost use Rattle.std.specs.Prelude.{◌≡◌, true};
-ghost use Rattle.modules.specs.Index.{IsRising};
 ghost use Rattle.modules.specs.Items.{item_of_address};
 ghost use Rattle.catalog_engines.specs.LogIndexes.{DoesRise};
 
-use modules::{Catalog, IndexedCatalog, Symbol};
+use modules::{Catalog, IndexedCatalog, is_rising};
 use order_laws::Item;
 use std::marker::Model;
 
@@ -74,11 +73,4 @@ fn does_kernel_rise(catalog: &Catalog) -> bool
         Some(kernel) => is_rising(kernel.symbols()),
         None => false,
     }
-}
-
-/// Whether the symbols stand by rising address.
-fn is_rising(symbols: &[Symbol]) -> bool
-    ensures { result ≡ true → IsRising symbols.now }
-{
-    symbols.is_sorted_by(|x, y| x.addr <= y.addr)
 }

@@ -1,2 +1,4 @@
 -- a fault that a function hands on
 pub mod FaultLemmas
+-- what holds of a catalog that was opened
+pub mod OpenedLemmas

@@ -1,37 +1,29 @@
 -- The catalog that listings say, and what is noted of them.
-use Rattle.std.specs.Prelude.{◌≡◌, ℕ, List, [], ◌∷◌, Option, Some, None, Result, Ok, Err}
-use Rattle.std.specs.Prelude.{unwrap_or, is_some, true, false}
+use Rattle.std.specs.Prelude.{◌≡◌, ℕ, List, [], ◌∷◌, Option, Some, None, Result, Ok, Err, false}
 use Rattle.std.specs.Option.{option_map}
 use Rattle.texts.specs.Counted.{device_of, failures_of}
-use Rattle.modules.specs.Accepted.{Accepted}
-use Rattle.modules.specs.Catalogs.{catalog_with}
 use Rattle.modules.specs.Entries.{CatalogEntries}
-use Rattle.modules.specs.Listed.{BoundNames, ListedRegion}
+use Rattle.modules.specs.Listed.{BoundNames}
 use Rattle.modules.specs.Placed.{are_few}
+use Rattle.modules.specs.declared.catalog.BuildCounts.{BuildCounts}
 use Rattle.order_laws.specs.declared.refusals.Refusal.TheVariants as refusal
-use Rattle.command_io.specs.Readings.{Failures, NoReaderFailed, OnlyFailed, failures_in, known_text}
-use Rattle.command_io.specs.Readings.{region_lines}
-use Rattle.listing.specs.Opening.{SaysOfModules, catalog_of_texts, kept_in_text, listed}
-use Rattle.listing.specs.Opening.{notes_of_texts, notes_with, symbol_note}
-use Rattle.listing.specs.SymbolListing.{symbol_counts}
-use Rattle.listing.specs.Tallies.{Tallies, symbol_tallies_by}
-use Rattle.texts.specs.Lines.{lines_of}
+use Rattle.listing.specs.Opening.{Given, IsOpened, Listed, Say, given, lines_beside, listed_in}
+use Rattle.listing.specs.Opening.{listings_of, notes_of}
+use Rattle.listing.specs.declared.listing_notes.ListingNotes.{ListingNotes}
+use Rattle.listing.specs.declared.opening.Listings.{Listings}
+use Rattle.listing.specs.declared.opening.OpenedCatalog.{OpenedCatalog}
+use Rattle.command_io.specs.Readings.{Failures, HoldsOf, NoReaderFailed, OnlyFailed, failures_in}
+use Rattle.command_io.specs.Readings.{known_text}
 use Rattle.command_io.specs.declared.fault.Fault.{Fault}
 use Rattle.command_io.specs.declared.fault.Fault.TheVariants.{Refused, BadLine, Read}
-use Rattle.listing.specs.declared.listing_notes.ListingNotes.{ListingNotes}
-use Rattle.command_io.specs.declared.opened_catalogs.GivenTexts.{GivenTexts}
 use Rattle.command_io.specs.declared.opened_catalogs.ListingReaders.{ListingReaders}
-use Rattle.command_io.specs.declared.opened_catalogs.OpenedCatalog.{OpenedCatalog}
+use Rattle.command_io.specs.declared.opened_catalogs.ListingTexts.{ListingTexts}
 
--- the texts of listings, of which those of modules and of regions may be missing
-pub record Given : Type 0 where
-  pub modules : Option (List ℕ)
-  pub kallsyms : List ℕ
-  pub regions : Option (List ℕ)
+-- ---- what is read
 
 -- the texts that the program has read
-abbrev pub given_in : GivenTexts → Given
-given_in t = record {
+abbrev pub texts_in : ListingTexts → Given
+texts_in t = record {
   modules = option_map (λ text. text.items) t.modules;
   kallsyms = t.kallsyms.items;
   regions = option_map (λ text. text.items) t.regions;
@@ -40,8 +32,7 @@ given_in t = record {
 -- the texts, where each of them is known
 abbrev pub given_of : Option (Option (List ℕ)) → Option (List ℕ) → Option (Option (List ℕ))
     → Option Given
-given_of (Some modules) (Some kallsyms) (Some regions) =
-    Some (record { modules = modules; kallsyms = kallsyms; regions = regions })
+given_of (Some modules) (Some kallsyms) (Some regions) = Some (given modules kallsyms regions)
 given_of _ _ _ = None
 
 abbrev pub known_given : {M K R : Type 0} → (M → Option (List ℕ)) → (K → Option (List ℕ))
@@ -65,71 +56,37 @@ AreReadAs counts (Err (Refused refusal.OutOfMemory)) = NoReaderFailed counts
 AreReadAs counts (Err (Read place)) = OnlyFailed place counts
 AreReadAs counts (Err _) = ⊥
 
--- The catalog and the notes are those of listings of modules and of symbols, without mapping symbols.
--- The kernel lies between the names that are given, or else in its usual regions.
-abbrev pub IsByModules : Option BoundNames → List ℕ → List ℕ → Option (List ℕ) → CatalogEntries
-    → ListingNotes → Type 0
-IsByModules kernel modules kallsyms regions c notes =
-    (lines : Option (List ListedRegion)) × (region_lines regions ≡ Ok lines)
-    × (are_few (unwrap_or lines []) ≡ true)
-    × (c ≡ catalog_of_texts kernel false modules kallsyms (unwrap_or lines []))
-    × (notes ≡ notes_of_texts kernel false modules kallsyms (unwrap_or lines []))
-
--- the same of a listing of symbols alone
-abbrev pub IsBySymbols : Option BoundNames → List ℕ → CatalogEntries → ListingNotes → Type 0
-IsBySymbols kernel text c notes =
-    (a : Accepted) × SaysOfModules kernel text a × (c ≡ catalog_with a (listed text))
-    × (notes ≡ notes_with (symbol_note kernel text (kept_in_text text a).symbols))
-
--- how many modules and regions were found, and where the lines went, where the listing says this of
--- the modules
-abbrev pub tallies_found : List ℕ → Accepted → Tallies
-tallies_found text a = symbol_tallies_by (kept_in_text text a) (symbol_counts (lines_of text))
-
--- the catalog and the notes are those of the listings that are given
-abbrev pub IsCatalogBy : Option BoundNames → Given → Option (List ℕ) → CatalogEntries → ListingNotes
-    → Type 0
-IsCatalogBy kernel g None c notes = IsBySymbols kernel g.kallsyms c notes
-IsCatalogBy kernel g (Some modules) c notes =
-    IsByModules kernel modules g.kallsyms g.regions c notes
-
-abbrev pub IsCatalogOf : Option BoundNames → Given → CatalogEntries → ListingNotes → Type 0
-IsCatalogOf kernel g c notes = IsCatalogBy kernel g g.modules c notes
+-- ---- what it says
 
 -- a line of the listing of regions is bad, and this is the first such line
-abbrev pub HasBadRegion : ℕ → Option (List ℕ) → Type 0
-HasBadRegion n regions = region_lines regions ≡ Err n
+abbrev pub HasBadRegion : ℕ → Given → Type 0
+HasBadRegion n g = listings_of g ≡ Err n
 
 -- more than seven lines of the listing of regions have one name
-abbrev pub HasCrowdedRegions : Option (List ℕ) → Type 0
-HasCrowdedRegions regions =
-    (lines : Option (List ListedRegion)) × (region_lines regions ≡ Ok lines)
-    × (are_few (unwrap_or lines []) ≡ false)
+abbrev pub HasCrowdedRegions : Given → Type 0
+HasCrowdedRegions g = HoldsOf (λ l. are_few (lines_beside l) ≡ false) (listings_of g)
 
--- what is returned where modules are listed
-abbrev pub OpensByModules : Option BoundNames → List ℕ → List ℕ → Option (List ℕ)
-    → Result OpenedCatalog Fault → Type 0
-OpensByModules kernel modules kallsyms regions (Ok o) =
-    IsByModules kernel modules kallsyms regions o.catalog o.notes
-OpensByModules kernel modules kallsyms regions (Err (Refused refusal.OutOfMemory)) = Unit {0}
-OpensByModules kernel modules kallsyms regions (Err (Refused refusal.TooManyRegions)) =
-    HasCrowdedRegions regions
-OpensByModules kernel modules kallsyms regions (Err (BadLine place n)) =
-    (place ≡ 2) × HasBadRegion n regions
-OpensByModules kernel modules kallsyms regions (Err _) = ⊥
+-- the listings with these texts, or why there are none
+abbrev pub GivesListings : Given → Result Listings Fault → Type 0
+GivesListings g (Ok l) = listings_of g ≡ Ok (listed_in l)
+GivesListings g (Err (Refused refusal.OutOfMemory)) = Unit {0}
+GivesListings g (Err (BadLine place n)) = (place ≡ 2) × HasBadRegion n g
+GivesListings g (Err _) = ⊥
 
--- what is returned where they are not
-abbrev pub OpensBySymbols : Option BoundNames → List ℕ → Result OpenedCatalog Fault → Type 0
-OpensBySymbols kernel text (Ok o) = IsBySymbols kernel text o.catalog o.notes
-OpensBySymbols kernel text (Err (Refused refusal.OutOfMemory)) = Unit {0}
-OpensBySymbols kernel text (Err _) = ⊥
+-- The catalog and the notes are those of listings, without mapping symbols. The kernel lies between the
+-- names that are given, or else in its usual regions.
+abbrev pub IsCatalogBy : Option BoundNames → CatalogEntries → ListingNotes → Listed → Type 0
+IsCatalogBy kernel c notes l =
+    (n : BuildCounts) × Say kernel false l c n × (notes ≡ notes_of kernel false l c n)
 
--- what is returned
+-- they are those of listings with these texts
+abbrev pub IsCatalogOf : Option BoundNames → Given → CatalogEntries → ListingNotes → Type 0
+IsCatalogOf kernel g c notes = HoldsOf (IsCatalogBy kernel c notes) (listings_of g)
+
+-- what is returned that opens listings with these texts
 abbrev pub OpensCatalog : Option BoundNames → Given → Result OpenedCatalog Fault → Type 0
-OpensCatalog kernel g (Ok o) = IsCatalogOf kernel g o.catalog o.notes
+OpensCatalog kernel g (Ok o) = HoldsOf (λ l. IsOpened kernel false l o) (listings_of g)
 OpensCatalog kernel g (Err (Refused refusal.OutOfMemory)) = Unit {0}
-OpensCatalog kernel g (Err (Refused refusal.TooManyRegions)) =
-    (is_some g.modules ≡ true) × HasCrowdedRegions g.regions
-OpensCatalog kernel g (Err (BadLine place n)) =
-    (is_some g.modules ≡ true) × (place ≡ 2) × HasBadRegion n g.regions
+OpensCatalog kernel g (Err (Refused refusal.TooManyRegions)) = HasCrowdedRegions g
+OpensCatalog kernel g (Err (BadLine place n)) = (place ≡ 2) × HasBadRegion n g
 OpensCatalog kernel g (Err _) = ⊥

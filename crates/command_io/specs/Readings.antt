@@ -1,14 +1,11 @@
 -- What is returned where files are read one after the other, and which of the readers failed.
 use Rattle.std.specs.Prelude.{◌≡◌, ◌⊎◌, ℕ, zero, suc, List, [], ◌∷◌, Option, Some, None, Result, Ok, Err}
 use Rattle.std.specs.Prelude.{IfSome, true, false}
-use Rattle.std.specs.Global.{Vec}
 use Rattle.std.specs.Option.{option_map, option_map_or}
 use Rattle.texts.specs.declared.counted.Counted.{Counted}
 use Rattle.texts.specs.Counted.{Rose, device_of, failures_of}
 use Rattle.texts.specs.declared.output.Output.{Output}
 use Rattle.texts.specs.Output.{has_failed}
-use Rattle.listing.specs.RegionListing.{regions_of_text as listed_regions}
-use Rattle.modules.specs.Listed.{ListedRegion}
 use Rattle.order_laws.specs.declared.refusals.Refusal.TheVariants as refusal
 use Rattle.command_io.specs.declared.fault.Fault.{Fault}
 use Rattle.command_io.specs.declared.fault.Fault.TheVariants.{Refused, BadLine, Read, Write}
@@ -49,7 +46,7 @@ IsReadAs place before after (Err (Read p)) = (p ≡ place) × Rose before after
 IsReadAs place before after (Err _) = ⊥
 
 -- no file has a bad line, and this holds of what the files say
-abbrev pub HoldsOf : {I : Type 0} → (I → Type 0) → Result I (ℕ × ℕ) → Type 0
+abbrev pub HoldsOf : {I B : Type 0} → (I → Type 0) → Result I B → Type 0
 HoldsOf P (Ok i) = P i
 HoldsOf P (Err bad) = ⊥
 
@@ -80,21 +77,3 @@ AnswersInputs Says known counts w w' (Err Write) =
     NoReaderFailed counts × (has_failed w' ≡ true)
     × IfSome known (HoldsOf (λ i. Says i (Err Write)))
 AnswersInputs Says known counts w w' (Err _) = ⊥
-
--- ---- the listing of regions
-
--- the region lines of a listing that may be there, or the number of its first bad line
-abbrev pub some_lines : Result (List ListedRegion) ℕ → Result (Option (List ListedRegion)) ℕ
-some_lines (Ok lines) = Ok (Some lines)
-some_lines (Err n) = Err n
-
-abbrev pub region_lines : Option (List ℕ) → Result (Option (List ListedRegion)) ℕ
-region_lines None = Ok None
-region_lines (Some text) = some_lines (listed_regions text)
-
--- the region lines, or why they are not there
-abbrev pub GivesLines : Option (List ℕ) → Result (Option (Vec ListedRegion)) Fault → Type 0
-GivesLines text (Ok lines) = region_lines text ≡ Ok (option_map (λ v. v.items) lines)
-GivesLines text (Err (Refused refusal.OutOfMemory)) = Unit {0}
-GivesLines text (Err (BadLine place n)) = (place ≡ 2) × (region_lines text ≡ Err n)
-GivesLines text (Err _) = ⊥

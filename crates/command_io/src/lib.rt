@@ -2,7 +2,7 @@
 //! that it reads with the catalog that they say, and the members of its objects of JSON.
 //!
 //! ```text
-//!     readers of listings     read_given     GivenTexts     open_catalog     catalog, notes
+//!     readers of listings     read_given    ListingTexts    open_catalog     catalog, notes
 //!                             -- Fault: of the file at this place -->
 //! ```
 #![tactic(auto)]
@@ -24,7 +24,5 @@ pub use json_texts::{
     put_address_member, put_json_count, put_json_counts, put_json_line, put_named_module,
     put_offset_members, put_symbol_members,
 };
-pub use opened_catalogs::{GivenTexts, ListingReaders, bounds_or_usual, open_catalog, read_given};
-pub use readings::{
-    KALLSYMS_PLACE, MODULES_PLACE, REGIONS_PLACE, read_at, read_if_given, region_lines_in,
-};
+pub use opened_catalogs::{ListingReaders, ListingTexts, open_catalog, read_given};
+pub use readings::read_at;

@@ -1,28 +1,25 @@
 //! Files that are read whole, by their places in the order in which they are read.
-ghost use Rattle.std.specs.Prelude.{◌≡◌, All, IfOk, IfSome, option_map, true};
+ghost use Rattle.std.specs.Prelude.{◌≡◌, IfOk, IfSome, option_map};
 ghost use Rattle.texts.specs.Counted.{device_of, failures_of};
-ghost use Rattle.modules.specs.Lines.{region_fits};
-ghost use Rattle.command_io.specs.Readings.{GivesLines, IsReadAs, failures_in, known_text};
+ghost use Rattle.command_io.specs.Readings.{IsReadAs, failures_in, known_text};
 
 use crate::fault::Fault;
-use listing::read_regions;
-use modules::RegionLine;
 use order_laws::Refusal;
 use std::alloc::Global;
 use std::io::Read;
 use texts::{Counted, ReadFault, read_whole};
 
 /// The place of the listing of modules among the files that are read.
-pub const MODULES_PLACE: u64 = 0;
+pub(crate) const MODULES_PLACE: u64 = 0;
 
 /// The place of the listing of symbols.
-pub const KALLSYMS_PLACE: u64 = 1;
+pub(crate) const KALLSYMS_PLACE: u64 = 1;
 
 /// The place of the listing of regions.
-pub const REGIONS_PLACE: u64 = 2;
+pub(crate) const REGIONS_PLACE: u64 = 2;
 
 /// Reads the file at a place of the order in which they are read, where there is one.
-pub fn read_if_given<R: Read>(
+pub(crate) fn read_if_given<R: Read>(
     alloc: Global,
     reader: &mut Option<Counted<R>>,
     place: u64,
@@ -51,22 +48,5 @@ pub fn read_at<R: Read>(
         Ok(bytes) => Ok(bytes),
         Err(ReadFault::OutOfMemory) => Err(Fault::Refused(Refusal::OutOfMemory)),
         Err(ReadFault::Read) => Err(Fault::Read { place }),
-    }
-}
-
-/// The lines of the listing of regions, where there is one.
-pub fn region_lines_in(
-    alloc: Global,
-    text: &Option<Vec<u8>>,
-) -> Result<Option<Vec<RegionLine<'_>>>, Fault>
-    ensures lines { GivesLines (option_map (λ t. t.items) text.now) result }
-    ensures fit { IfOk result (λ o. IfSome o (λ v. All (λ r. region_fits r ≡ true) v.items)) }
-{
-    let Some(text) = text else {
-        return Ok(None);
-    };
-    match read_regions(alloc, text) {
-        Ok(lines) => Ok(Some(lines)),
-        Err(fault) => Err(Fault::of_lines(REGIONS_PLACE, fault)),
     }
 }

@@ -1,14 +1,16 @@
--- The same answer, where more is known of what was read: of the engine of lookups.
-use Rattle.std.proofs.Common.{◌≡◌, ◌∙◌, ℕ, zero, suc, [], ◌∷◌, Option, Some, None, Result, Ok, Err, ap, arith, option_map, refl, subst, sym}
+-- The same answer, where more is known of what was read: of the engines of lookups and of runs.
+use Rattle.std.proofs.Common.{◌≡◌, ℕ, zero, suc, [], ◌∷◌, Option, Some, None, Result, Ok, Err, ap, arith, inl, refl, subst, sym}
 use Rattle.std.specs.Prelude.{IfSome}
 use Rattle.texts.specs.Counted.{Rose}
 use Rattle.texts.specs.declared.output.Output.{Output}
 use Rattle.order_laws.specs.declared.refusals.Refusal.TheVariants as refusal
 use Rattle.command_io.specs.declared.fault.Fault.{Fault}
 use Rattle.command_io.specs.declared.fault.Fault.TheVariants.{Refused, BadLine, Read, Write}
-use Rattle.command_io.specs.OpenedCatalogs.{AreReadAs}
-use Rattle.command_io.specs.declared.opened_catalogs.GivenTexts.{GivenTexts}
+use Rattle.command_io.specs.OpenedCatalogs.{AreReadAs, GivesListings}
+use Rattle.listing.specs.Opening.{Given, Listed, listings_of}
+use Rattle.command_io.specs.declared.opened_catalogs.ListingTexts.{ListingTexts}
 use Rattle.command_io.specs.Readings.{AnswersInputs, Failures, HoldsOf, NoReaderFailed, OnlyFailed, last_failures}
+use Rattle.engines.specs.Inputs.{Inputs, inputs_after, inputs_of, inputs_with, known_inputs}
 
 no_rise : Rose 0 0 → ⊥
 no_rise rose = grind (arith, rose)
@@ -42,31 +44,6 @@ module _ {I V W : Type 0} (Says : I → Result V Fault → Type 0) (inner known 
   pub answered_behind : (result : Result V Fault) → AnswersInputs Says inner (last_failures before after) w w' result → AnswersInputs Says known counts w w' result
   answered_behind result h = still_answered Says inner known all (last_failures before after) counts none only w w' result h
 
--- the inputs in a greater type, of which the same is said
-module _ {I J V W : Type 0} (all : Result I (ℕ × ℕ) → Result J (ℕ × ℕ)) (one : I → J) (is_one : (i : I) → all (Ok i) ≡ Ok (one i)) (is_bad : (bad : ℕ × ℕ) → all (Err bad) ≡ Err bad) (Says : J → Result V Fault → Type 0) (counts : Failures) (w w' : Output W) where
-  of_all : (P : Result J (ℕ × ℕ) → Type 0) (Q : Result I (ℕ × ℕ) → Type 0) → ((i : Result I (ℕ × ℕ)) → Q i → P (all i)) → (known : Option (Result I (ℕ × ℕ))) → IfSome known Q → IfSome (option_map all known) P
-  of_all P Q more None q = tt
-  of_all P Q more (Some i) q = more i q
-
-  holds : (P : J → Type 0) (i : Result I (ℕ × ℕ)) → HoldsOf (λ x. P (one x)) i → HoldsOf P (all i)
-  holds P (Ok i) h = subst (HoldsOf P) (sym (is_one i)) h
-  holds P (Err bad) h = absurd h
-
-  bad_line : (bad : ℕ × ℕ) (i : Result I (ℕ × ℕ)) → i ≡ Err bad → all i ≡ Err bad
-  bad_line bad i is = ap all is ∙ is_bad bad
-
-  pub answered_in : (known : Option (Result I (ℕ × ℕ))) (result : Result V Fault) → AnswersInputs (λ i r. Says (one i) r) known counts w w' result → AnswersInputs Says (option_map all known) counts w w' result
-  answered_in known (Ok v) h = (h.0, h.1, of_all (HoldsOf (λ i. Says i (Ok v))) (HoldsOf (λ i. Says (one i) (Ok v))) (holds (λ i. Says i (Ok v))) known h.2)
-  answered_in known (Err (Refused refusal.OutOfMemory)) h = h
-  answered_in known (Err (Refused refusal.BadCapacity)) h =
-      (h.0, h.1, of_all (HoldsOf (λ i. Says i (Err (Refused refusal.BadCapacity)))) (HoldsOf (λ i. Says (one i) (Err (Refused refusal.BadCapacity)))) (holds (λ i. Says i (Err (Refused refusal.BadCapacity)))) known h.2)
-  answered_in known (Err (Refused refusal.TooManyRegions)) h =
-      (h.0, h.1, of_all (HoldsOf (λ i. Says i (Err (Refused refusal.TooManyRegions)))) (HoldsOf (λ i. Says (one i) (Err (Refused refusal.TooManyRegions)))) (holds (λ i. Says i (Err (Refused refusal.TooManyRegions)))) known h.2)
-  answered_in known (Err (BadLine place n)) h = (h.0, h.1, h.2, of_all (λ i. i ≡ Err (place, n)) (λ i. i ≡ Err (place, n)) (bad_line (place, n)) known h.3)
-  answered_in known (Err (Read place)) h = h
-  answered_in known (Err Write) h = (h.0, h.1, of_all (HoldsOf (λ i. Says i (Err Write))) (HoldsOf (λ i. Says (one i) (Err Write))) (holds (λ i. Says i (Err Write))) known h.2)
-  answered_in known (Err _) h = absurd h
-
 -- what is returned where the listings could not be read
 module _ {I V W : Type 0} (Says : I → Result V Fault → Type 0) (known : Option (Result I (ℕ × ℕ))) (m k r : ℕ × ℕ) (n : ℕ) (w : Output W) where
   only_one : (place : ℕ) → OnlyFailed place (m ∷ k ∷ r ∷ []) → OnlyFailed place (m ∷ k ∷ r ∷ (n, n) ∷ [])
@@ -75,7 +52,29 @@ module _ {I V W : Type 0} (Says : I → Result V Fault → Type 0) (known : Opti
   only_one (suc (suc zero)) h = (h.0, (h.1.0, (h.1.1.0, (refl, tt))))
   only_one (suc (suc (suc place))) h = absurd h.1.1.1
 
-  pub not_read : (f : Fault) → AreReadAs {A = GivenTexts} (m ∷ k ∷ r ∷ []) (Err f) → AnswersInputs Says known (m ∷ k ∷ r ∷ (n, n) ∷ []) w w (Err f)
+  pub not_read : (f : Fault) → AreReadAs {A = ListingTexts} (m ∷ k ∷ r ∷ []) (Err f) → AnswersInputs Says known (m ∷ k ∷ r ∷ (n, n) ∷ []) w w (Err f)
   not_read (Refused refusal.OutOfMemory) h = ((h.0, (h.1.0, (h.1.1.0, (refl, tt)))), refl)
   not_read (Read place) h = (refl, only_one place h)
   not_read _ h = absurd h
+
+-- what holds of the inputs that were read holds of those that are known
+module _ {X : Type 0} (P : Result (Inputs X) (ℕ × ℕ) → Type 0) where
+  said_known : (l : Listed) (r : Result X ℕ) (said : Option (Result X ℕ)) → IfSome said (λ s. s ≡ r) → P (inputs_with l r) → IfSome (inputs_after said (Ok l)) P
+  said_known l r None is p = tt
+  said_known l r (Some s) is p = subst (λ x. P (inputs_with l x)) (sym is) p
+
+  pub listed_known : (g : Given) (l : Listed) → listings_of g ≡ Ok l → (r : Result X ℕ) (said : Option (Result X ℕ)) → IfSome said (λ s. s ≡ r) → P (inputs_with l r) → IfSome (inputs_of said g) P
+  listed_known g l at r said is p = subst (λ x. IfSome (inputs_after said x) P) (sym at) (said_known l r said is p)
+
+  pub given_known : (said : Option (Result X ℕ)) (g : Given) (known : Option Given) → IfSome known (λ k. g ≡ k) → IfSome (inputs_of said g) P → IfSome (known_inputs said known) P
+  given_known said g None is p = tt
+  given_known said g (Some k) is p = subst (λ x. IfSome (inputs_of said x) P) is p
+
+-- the listings with these texts have a bad line, or there is no memory for them
+module _ {X V W : Type 0} (Says : Inputs X → Result V Fault → Type 0) (said : Option (Result X ℕ)) (g : Given) (n : ℕ) (w : Output W) where
+  pub not_listed : (f : Fault) → GivesListings g (Err f) → AnswersInputs Says (inputs_of said g) (last_failures n n) w w (Err f)
+  not_listed (Refused refusal.OutOfMemory) h = ((refl, (refl, (refl, (refl, tt)))), refl)
+  not_listed (BadLine place line) h =
+      let bad : IfSome (inputs_of said g) (λ i. i ≡ Err (place, line)) = subst (λ r. IfSome (inputs_after said r) (λ i. i ≡ Err (place, line))) (sym h.1) (ap (λ p. Err (p, line)) (sym h.0)) in
+      ((refl, (refl, (refl, (refl, tt)))), refl, inl h.0, bad)
+  not_listed _ h = absurd h

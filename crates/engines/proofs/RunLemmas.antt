@@ -3,21 +3,20 @@
 use Rattle.std.proofs.Common.{◌≡◌, ◌<◌, ◌≤◌, ℕ, List, [], Option, Some, Result, Ok, Err, true, refl, sym, subst}
 use Rattle.std.specs.Prelude.{IfSome}
 use Rattle.texts.specs.declared.output.Output.{Output}
-use Rattle.texts.specs.Output.{Delivered, WrotePart}
 use Rattle.latch_table.specs.Limits.{most_readers}
 use Rattle.run_files.specs.declared.scripts.ScriptLine.{ScriptLine}
 use Rattle.run_files.specs.Scripts.{script_of}
 use Rattle.modules.specs.Entries.{CatalogEntries}
-use Rattle.modules.specs.Placed.{are_few}
 use Rattle.order_laws.specs.declared.refusals.Refusal.TheVariants as refusal
 use Rattle.command_io.specs.declared.fault.Fault.{Fault}
 use Rattle.command_io.specs.declared.fault.Fault.TheVariants.{Refused, Write}
-use Rattle.engines.specs.LookupInputs.{Inputs, catalog_in, notes_of, region_lines_of_inputs}
-use Rattle.listing.specs.declared.listing_notes.ListingNotes.{ListingNotes}
+use Rattle.listing.specs.Opening.{IsOpened, Listed}
+use Rattle.listing.specs.declared.opening.OpenedCatalog.{OpenedCatalog}
+use Rattle.modules.specs.Listed.{BoundNames}
+use Rattle.engines.specs.Inputs.{Inputs, inputs, inputs_with}
 use Rattle.command_io.specs.Faults.{with_notes}
 use Rattle.command_io.specs.Readings.{HoldsOf}
-use Rattle.engines.specs.RunInputs.{RunInputs, run_inputs_with}
-use Rattle.engines.specs.Runs.{AnswersLines, AnswersRun, FitsRun, IsRun, IsRunOf, IsServed, MayRun, TellsServed, status_of}
+use Rattle.engines.specs.Runs.{AnswersLines, AnswersRun, IsRunOf, IsServed, MayRun, TellsServed, status_of}
 use Rattle.engines.specs.Assignments.{IsAssigned}
 use Rattle.engines.specs.declared.assignments.Assignments.{Assignments}
 use Rattle.shared_lookup.specs.Followings.{FollowServed}
@@ -42,22 +41,27 @@ module _ {W : Type 0} (contents : W → Option (List ℕ)) (c : CatalogEntries) 
   served_answered (Err _) h = absurd h
 
 -- the lines of the script are there
-module _ {W : Type 0} (contents : W → Option (List ℕ)) (i : Inputs) (readers : ℕ) (text : List ℕ) (lines : List ScriptLine) (said : script_of readers text ≡ Ok lines) (w w' : Output W) where
-  abbrev known : Option (Result RunInputs (ℕ × ℕ))
-  known = Some (run_inputs_with i (script_of readers text))
+module _ {W : Type 0} (contents : W → Option (List ℕ)) (kernel : BoundNames) (l : Listed) (readers : ℕ) (text : List ℕ) (lines : List ScriptLine) (said : script_of readers text ≡ Ok lines) (o : OpenedCatalog) (is : IsOpened (Some kernel) true l o) (w w' : Output W) where
+  abbrev known : Option (Result (Inputs (List ScriptLine)) (ℕ × ℕ))
+  known = Some (inputs_with l (script_of readers text))
 
-  holds : (P : RunInputs → Type 0) → P (record { listings = i; lines = lines }) → IfSome known (HoldsOf P)
-  holds P p = subst (λ r. HoldsOf P (run_inputs_with i r)) (sym said) p
+  holds : (P : Inputs (List ScriptLine) → Type 0) → P (inputs l lines) → IfSome known (HoldsOf P)
+  holds P p = subst (λ r. HoldsOf P (inputs_with l r)) (sym said) p
 
-  pub script_answered : (c : CatalogEntries) (notes : ListingNotes) → are_few (region_lines_of_inputs i) ≡ true → c ≡ catalog_in i
-      → notes ≡ notes_of i
-      → (r : Result ℕ Fault) → AnswersLines contents c readers lines w w' r → AnswersRun contents readers known [] w w' (with_notes notes r)
-  script_answered c notes few is noted (Ok status) h =
-      let fits : FitsRun readers (record { listings = i; lines = lines }) = (few, subst (λ c. MayRun c readers) is h.0) in
-      (tt, h.1.2.3.1, holds (λ j. IsRunOf contents readers w w' j (Ok (record { status = status; notes = notes }))) (fits, subst (λ c. IsRun (Delivered contents w w') c readers lines status) is h.1, noted))
-  script_answered c notes few is noted (Err (Refused refusal.OutOfMemory)) h = (tt, h)
-  script_answered c notes few is noted (Err (Refused refusal.BadCapacity)) h = (tt, h.0, holds _ (few, subst (λ c. MayRun c readers → ⊥) is h.1))
-  script_answered c notes few is noted (Err Write) h =
-      let (may, (status, run)) = h in
-      (tt, run.2.3.0, holds (λ j. IsRunOf contents readers w w' j (Err Write)) ((few, subst (λ c. MayRun c readers) is may), (status, subst (λ c. IsRun (WrotePart contents w w') c readers lines status) is run)))
-  script_answered c notes few is noted (Err _) h = absurd h
+  pub script_answered : (r : Result ℕ Fault) → AnswersLines contents o.catalog readers lines w w' r → AnswersRun contents kernel readers known [] w w' (with_notes o.notes r)
+  script_answered (Ok status) h = (
+    tt,
+    h.1.2.3.1,
+    holds (λ j. IsRunOf contents kernel readers w w' j (Ok (record { status = status; notes = o.notes })))
+        (record { catalog = o.catalog; counts = o.built; said = is.said; may = h.0; run = h.1; noted = is.notes }),
+  )
+  script_answered (Err (Refused refusal.OutOfMemory)) h = (tt, h)
+  script_answered (Err (Refused refusal.BadCapacity)) h = (tt, h.0, holds (λ j. IsRunOf contents kernel readers w w' j (Err (Refused refusal.BadCapacity))) (o.catalog, o.built, is.said, h.1))
+  script_answered (Err Write) h =
+      let (may, (status, run)) = h in (
+        tt,
+        run.2.3.0,
+        holds (λ j. IsRunOf contents kernel readers w w' j (Err Write))
+            (status, o.notes, record { catalog = o.catalog; counts = o.built; said = is.said; may = may; run = run; noted = is.notes }),
+      )
+  script_answered (Err _) h = absurd h

@@ -21,19 +21,13 @@ pub mod LineRooms
 pub mod StepTraces
 -- what one event and one command of it do, while it is run
 pub mod StepRuns
--- what a lookup of addresses reads, and what that says
-pub mod LookupInputs
+-- what the listings of a job and the file behind them say
+pub mod Inputs
 -- what is written for the listings and the addresses that are asked for
 pub mod Lookups
--- what a lookup writes whose modules come from a listing of symbols alone
-pub mod SymbolLookups
--- what a lookup writes in the listings that are given
-pub mod GivenLookups
 -- what the lines of a script have each writer and each reader do
 pub mod Assignments
 -- the lines that a run of a script writes
 pub mod RunTexts
--- what a run of a script reads, and what that says
-pub mod RunInputs
 -- what is written for a script and the listings that it is run over
 pub mod Runs

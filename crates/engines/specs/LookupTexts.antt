@@ -1,7 +1,8 @@
 -- The lines that a lookup of addresses writes.
-use Rattle.std.specs.Prelude.{ℕ, List, [], ◌++◌, codes, decimal, flat_map, map, if◌then◌else◌}
+use Rattle.std.specs.Prelude.{ℕ, List, [], ◌++◌, codes, decimal, flat_map, map, if◌then◌else◌, Option}
 use Rattle.texts.specs.Exact.{hexadecimal}
 use Rattle.modules.specs.Entries.{CatalogEntries}
+use Rattle.modules.specs.Listed.{BoundNames}
 use Rattle.listing.specs.Answers.{Known, answer_of, text_of}
 use Rattle.listing.specs.Tallies.{Tallies, counts_text}
 use Rattle.listing.specs.declared.address_rules.AddressRule.{AddressRule}
@@ -9,6 +10,14 @@ use Rattle.engines.specs.CatalogTables.{answer_at}
 use Rattle.command_io.specs.JsonTexts.{json_counts, json_line}
 use Rattle.command_io.specs.declared.forms.AnswerForm.{AnswerForm}
 use Rattle.engines.specs.declared.table.AddressAnswer.{AddressAnswer}
+
+-- which addresses are looked up before those of a file, how they are taken, and how the answers are
+-- written; the names of the kernel's bounds may be given
+pub record Query : Type 0 where
+  pub kernel : Option BoundNames
+  pub rule : AddressRule
+  pub form : AnswerForm
+  pub addresses : List ℕ
 
 -- an address, and the text of its answer
 unfoldable pub answer_line : ℕ → Known → List ℕ

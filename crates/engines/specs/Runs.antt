@@ -1,12 +1,13 @@
 -- What is written for a script and the listings that it is run over.
-use Rattle.std.specs.Prelude.{◌≡◌, ℕ, ◌<◌, ◌≤◌, ◌==◌, true, false, if◌then◌else◌, List, [], ◌∷◌}
-use Rattle.std.specs.Prelude.{Option, Result, Ok, Err}
+use Rattle.std.specs.Prelude.{◌≡◌, ℕ, ◌<◌, ◌≤◌, ◌==◌, true, false, if◌then◌else◌, List}
+use Rattle.std.specs.Prelude.{Option, Some, Result, Ok, Err}
 use Rattle.std.specs.Global.{Vec}
 use Rattle.std.specs.List.{list_any}
-use Rattle.texts.specs.Counted.{failures_of}
+use Rattle.std.specs.Option.{option_map}
 use Rattle.texts.specs.declared.output.Output.{Output}
 use Rattle.texts.specs.Output.{Delivered, WrotePart}
 use Rattle.latch_table.specs.Limits.{most_readers}
+use Rattle.run_files.specs.Scripts.{script_of}
 use Rattle.run_files.specs.declared.scripts.ScriptLine.{ScriptLine}
 use Rattle.modules.specs.Entries.{CatalogEntries}
 use Rattle.modules.specs.Placed.{are_few}
@@ -17,16 +18,21 @@ use Rattle.shared_lookup.specs.Servings.{EachHasOutcome, EachIsAnswered, EachIsF
 use Rattle.shared_lookup.specs.declared.served.Served.{Served}
 use Rattle.engines.specs.Assignments.{IsAssigned}
 use Rattle.engines.specs.CatalogTables.{HasFewRegions}
-use Rattle.engines.specs.LookupInputs.{catalog_in, notes_of, region_lines_of_inputs}
-use Rattle.engines.specs.Lookups.{HasTooManyOfOne}
-use Rattle.command_io.specs.Readings.{AnswersInputs, Failures, failures_in}
-use Rattle.engines.specs.RunInputs.{RunInputs}
+use Rattle.listing.specs.Opening.{Listed, Say, lines_beside, notes_of}
+use Rattle.listing.specs.declared.listing_notes.ListingNotes.{ListingNotes}
+use Rattle.modules.specs.Listed.{BoundNames}
+use Rattle.modules.specs.declared.catalog.BuildCounts.{BuildCounts}
+use Rattle.command_io.specs.Readings.{AnswersInputs, Failures}
+use Rattle.engines.specs.Inputs.{Inputs}
 use Rattle.engines.specs.RunTexts.{run_text}
 use Rattle.engines.specs.declared.assignments.Assignments.{Assignments}
 use Rattle.command_io.specs.declared.fault.Fault.{Fault}
 use Rattle.command_io.specs.declared.fault.Finished.{Finished}
 use Rattle.command_io.specs.declared.fault.Fault.TheVariants.{Refused, Write}
-use Rattle.engines.specs.declared.runs.RunReaders.{RunReaders}
+
+-- the lines of a script for so many readers, where its text is known
+abbrev pub script_known : ℕ → Option (List ℕ) → Option (Result (List ScriptLine) ℕ)
+script_known readers text = option_map (script_of readers) text
 
 -- a table can have the regions of the catalog, and so many readers
 abbrev pub MayRun : CatalogEntries → ℕ → Type 0
@@ -84,43 +90,41 @@ AnswersLines contents c readers lines w w' (Err Write) =
     MayRun c readers × ((status : ℕ) × IsRun (WrotePart contents w w') c readers lines status)
 AnswersLines contents c readers lines w w' (Err _) = ⊥
 
--- no module has too many region lines, and a table can have all regions and so many readers
-abbrev pub FitsRun : ℕ → RunInputs → Type 0
-FitsRun readers i =
-    (are_few (region_lines_of_inputs i.listings) ≡ true) × MayRun (catalog_in i.listings) readers
+-- Something that came back of the lines of a script, done in the regions of the catalog that the
+-- listings say, was written as far as this says. It had this status, and this is noted of the listings.
+pub record IsScriptRun (Wrote : List ℕ → Type 0) (kernel : BoundNames) (readers : ℕ)
+    (i : Inputs (List ScriptLine)) (status : ℕ) (notes : ListingNotes)
+    : Type 0 where
+  pub catalog : CatalogEntries
+  pub counts : BuildCounts
+  pub said : Say (Some kernel) true i.listings catalog counts
+  pub may : MayRun catalog readers
+  pub run : IsRun Wrote catalog readers i.said status
+  pub noted : notes ≡ notes_of (Some kernel) true i.listings catalog counts
 
--- a table can not have all regions, or not so many readers
-abbrev pub FitsNoRun : ℕ → RunInputs → Type 0
-FitsNoRun readers i =
-    (are_few (region_lines_of_inputs i.listings) ≡ true)
-    × (MayRun (catalog_in i.listings) readers → ⊥)
+-- a table can not have the regions of the catalog that the listings say, or not so many readers
+abbrev pub FitsNoRun : BoundNames → ℕ → Listed → Type 0
+FitsNoRun kernel readers l =
+    (c : CatalogEntries) × (n : BuildCounts) × Say (Some kernel) true l c n
+    × (MayRun c readers → ⊥)
 
 -- what is said of the inputs where this is returned
-abbrev pub IsRunOf : {W : Type 0} → (W → Option (List ℕ)) → ℕ → Output W → Output W
-    → RunInputs → Result Finished Fault → Type 0
-IsRunOf contents readers w w' i (Ok finished) =
-    FitsRun readers i
-    × IsRun (Delivered contents w w') (catalog_in i.listings) readers i.lines finished.status
-    × (finished.notes ≡ notes_of i.listings)
-IsRunOf contents readers w w' i (Err (Refused refusal.BadCapacity)) = FitsNoRun readers i
-IsRunOf contents readers w w' i (Err (Refused refusal.TooManyRegions)) = HasTooManyOfOne i.listings
-IsRunOf contents readers w w' i (Err Write) =
-    FitsRun readers i
-    × ((status : ℕ)
-    × IsRun (WrotePart contents w w') (catalog_in i.listings) readers i.lines status)
-IsRunOf contents readers w w' i (Err _) = Unit {0}
+abbrev pub IsRunOf : {W : Type 0} → (W → Option (List ℕ)) → BoundNames → ℕ → Output W → Output W
+    → Inputs (List ScriptLine) → Result Finished Fault → Type 0
+IsRunOf contents kernel readers w w' i (Ok finished) =
+    IsScriptRun (Delivered contents w w') kernel readers i finished.status finished.notes
+IsRunOf contents kernel readers w w' i (Err (Refused refusal.BadCapacity)) =
+    FitsNoRun kernel readers i.listings
+IsRunOf contents kernel readers w w' i (Err (Refused refusal.TooManyRegions)) =
+    are_few (lines_beside i.listings) ≡ false
+IsRunOf contents kernel readers w w' i (Err Write) =
+    (status : ℕ) × (notes : ListingNotes)
+    × IsScriptRun (WrotePart contents w w') kernel readers i status notes
+IsRunOf contents kernel readers w w' i (Err _) = Unit {0}
 
--- what the engine returns that also read the inputs, where these are known
-abbrev pub AnswersRun : {W : Type 0} → (W → Option (List ℕ)) → ℕ
-    → Option (Result RunInputs (ℕ × ℕ)) → Failures → Output W → Output W
+-- what is returned where the inputs were read, if these are known
+abbrev pub AnswersRun : {W : Type 0} → (W → Option (List ℕ)) → BoundNames → ℕ
+    → Option (Result (Inputs (List ScriptLine)) (ℕ × ℕ)) → Failures → Output W → Output W
     → Result Finished Fault → Type 0
-AnswersRun contents readers known counts w w' result =
-    AnswersInputs (IsRunOf contents readers w w') known counts w w' result
-
-abbrev pub run_failures_between : {M K R S : Type 0} → RunReaders M K R S → RunReaders M K R S
-    → Failures
-run_failures_between old new =
-    (failures_of old.modules, failures_of new.modules)
-    ∷ (failures_of old.kallsyms, failures_of new.kallsyms)
-    ∷ (failures_in old.regions, failures_in new.regions)
-    ∷ (failures_of old.script, failures_of new.script) ∷ []
+AnswersRun contents kernel readers known counts w w' result =
+    AnswersInputs (IsRunOf contents kernel readers w w') known counts w w' result

@@ -14,13 +14,12 @@ mod run_texts;
 mod runs;
 mod step_texts;
 mod steps;
-mod symbol_lookup;
 mod table;
 mod trace;
 mod trace_texts;
 
-pub use lookup::{LookupOptions, LookupReaders, lookup_engine};
-pub use runs::{RunReaders, run_engine};
+pub use lookup::{LookupOptions, lookup_engine};
+pub use runs::run_engine;
 pub use steps::steps_engine;
 pub use trace::trace_engine;
 pub use trace_texts::put_refused;

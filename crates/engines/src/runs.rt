@@ -3,25 +3,25 @@
 //! The lines of the script are put into a list for each writer and a list for each reader. Each
 //! list is done by a thread of its own, all at once, over one table. What came back is checked
 //! against the log of the table's updates before the first byte is written.
-ghost use Rattle.std.specs.Prelude.{◌≡◌, [], Some, true, All};
+ghost use Rattle.std.specs.Prelude.{◌≡◌, [], Some, true, unwrap_or, All};
 ghost use Rattle.std.specs.List.{list_any};
 ghost use Rattle.texts.specs.Counted.{device_of, failures_of};
 ghost use Rattle.run_files.specs.Scripts.{has_actor, script_of};
 ghost use Rattle.modules.specs.Lines.{region_fits};
-ghost use Rattle.engines.specs.LookupInputs.{inputs_in, region_lines_of_inputs, texts_in};
+ghost use Rattle.listing.specs.Opening.{listed_in};
+ghost use Rattle.command_io.specs.OpenedCatalogs.{known_given, listing_failures, texts_in};
 ghost use Rattle.command_io.specs.Readings.{last_failures};
-ghost use Rattle.engines.specs.RunInputs.{known_run_inputs, run_inputs_of, run_inputs_with};
-ghost use Rattle.engines.specs.Runs.{AnswersLines, AnswersRun, TellsServed, run_failures_between};
+ghost use Rattle.engines.specs.Inputs.{failures_behind, inputs_of, inputs_with, known_inputs};
+ghost use Rattle.engines.specs.Runs.{AnswersLines, AnswersRun, TellsServed, script_known};
 ghost use Rattle.engines.specs.Runs.{status_of};
 
 use crate::assignments::{Assignments, assign};
-use crate::lookup::{ListingTexts, LookupInputs, listings_in};
 use crate::run_texts::put_run;
 use command_io::{
-    FAILED, Fault, Finished, KALLSYMS_PLACE, MODULES_PLACE, REGIONS_PLACE, SUCCEEDED, read_at,
-    read_if_given, region_lines_in, with_notes,
+    FAILED, Fault, Finished, ListingReaders, ListingTexts, SUCCEEDED, read_at, read_given,
+    with_notes,
 };
-use listing::AddressRule;
+use listing::{Listings, open};
 use modules::{Asked, Catalog, KernelBounds};
 use order_laws::Refusal;
 use run_files::{ModuleName, ScriptLine, read_script};
@@ -31,19 +31,6 @@ use std::io::{Read, Write};
 use std::sync::Wait;
 use std::thread::Threads;
 use texts::{Counted, Output};
-
-/// The readers of the files of a run, in the order in which they are read.
-#[derive(Drop)]
-pub struct RunReaders<M, K, R, S> {
-    /// The listing of modules.
-    pub modules: Counted<M>,
-    /// The listing of symbols.
-    pub kallsyms: Counted<K>,
-    /// The listing of regions, where there is one.
-    pub regions: Option<Counted<R>>,
-    /// The script.
-    pub script: Counted<S>,
-}
 
 /// The place of the script among the files that are read.
 const SCRIPT_PLACE: u64 = 3;
@@ -60,30 +47,24 @@ const SCRIPT_PLACE: u64 = 3;
 pub fn run_engine<T: Threads + Wait + Sync, M: Read, K: Read, R: Read, S: Read, W: Write>(
     rt: &T,
     alloc: Global,
-    readers: &mut RunReaders<M, K, R, S>,
+    listings: &mut ListingReaders<M, K, R>,
+    script: &mut Counted<S>,
     kernel: &KernelBounds<'_>,
     count: u32,
     writer: &mut Output<W>,
 ) -> Result<Finished, Fault>
-    ensures { AnswersRun W.contents count
-        (known_run_inputs M.remaining K.remaining R.remaining S.remaining
-        readers.old kernel.now count)
-        (run_failures_between readers.old readers.new) writer.old writer.new result }
+    ensures { AnswersRun W.contents kernel.now count
+        (known_inputs (script_known count (S.remaining (device_of script.old)))
+        (known_given M.remaining K.remaining R.remaining listings.old))
+        (failures_behind (listing_failures listings.old listings.new)
+        (failures_of script.old) (failures_of script.new)) writer.old writer.new result }
 {
-    let modules = read_at(alloc, &mut readers.modules, MODULES_PLACE)?;
-    let kallsyms = read_at(alloc, &mut readers.kallsyms, KALLSYMS_PLACE)?;
-    let regions = read_if_given(alloc, &mut readers.regions, REGIONS_PLACE)?;
-    let texts = ListingTexts {
-        modules,
-        kallsyms,
-        regions,
-    };
-    let script = &mut readers.script;
-    run_from(rt, alloc, &texts, script, kernel, count, writer)
+    let texts = read_given(alloc, listings)?;
+    run_over(rt, alloc, &texts, script, kernel, count, writer)
 }
 
-/// Does what a script for `readers` readers says, over the texts of the listings.
-fn run_from<T: Threads + Wait + Sync, S: Read, W: Write>(
+/// Does what a script for `readers` readers says, over listings with these texts.
+fn run_over<T: Threads + Wait + Sync, S: Read, W: Write>(
     rt: &T,
     alloc: Global,
     texts: &ListingTexts,
@@ -92,45 +73,40 @@ fn run_from<T: Threads + Wait + Sync, S: Read, W: Write>(
     readers: u32,
     writer: &mut Output<W>,
 ) -> Result<Finished, Fault>
-    ensures { AnswersRun W.contents readers
-        (run_inputs_of kernel.now readers (S.remaining (device_of script.old)) (texts_in texts.now))
+    ensures { AnswersRun W.contents kernel.now readers
+        (inputs_of (script_known readers (S.remaining (device_of script.old)))
+        (texts_in texts.now))
         (last_failures (failures_of script.old) (failures_of script.new))
         writer.old writer.new result }
 {
-    let regions = region_lines_in(alloc, &texts.regions)?;
+    let listings = texts.listings(alloc)?;
     let text = read_at(alloc, script, SCRIPT_PLACE)?;
-    let inputs = LookupInputs {
-        kernel,
-        rule: AddressRule::AS_GIVEN,
-        modules: &texts.modules,
-        kallsyms: &texts.kallsyms,
-        regions,
-        addresses: Vec::new(alloc),
-    };
-    run_with(rt, alloc, &inputs, &text, readers, writer)
+    run_with(rt, alloc, &listings, &text, kernel, readers, writer)
 }
 
-/// Does what the text of a script for `readers` readers says, over these listings.
+/// Does what the text of a script for `readers` readers says, over these listings. Mapping symbols are
+/// kept.
 fn run_with<T: Threads + Wait + Sync, W: Write>(
     rt: &T,
     alloc: Global,
-    inputs: &LookupInputs<'_, '_>,
+    listings: &Listings<'_>,
     script: &[u8],
+    kernel: &KernelBounds<'_>,
     readers: u32,
     writer: &mut Output<W>,
 ) -> Result<Finished, Fault>
-    requires { All (λ r. region_fits r ≡ true) (region_lines_of_inputs (inputs_in inputs.now)) }
-    ensures { AnswersRun W.contents readers
-        (Some (run_inputs_with (inputs_in inputs.now) (script_of readers script.now))) []
+    requires { All (λ r. region_fits r ≡ true) (unwrap_or (listed_in listings.now).regions []) }
+    ensures { AnswersRun W.contents kernel.now readers
+        (Some (inputs_with (listed_in listings.now) (script_of readers script.now))) []
         writer.old writer.new result }
 {
     let lines = match read_script(alloc, script, readers) {
         Ok(lines) => lines,
         Err(fault) => return Err(Fault::of_lines(SCRIPT_PLACE, fault)),
     };
-    let listings = listings_in(alloc, inputs, Asked::Any)?;
-    let status = run_lines(rt, alloc, &listings.catalog, lines, readers, writer);
-    with_notes(status, listings.notes)
+    let opened = open(alloc, listings, Some(kernel), true, Asked::Any)?;
+    let status = run_lines(rt, alloc, &opened.catalog, lines, readers, writer);
+    with_notes(status, opened.notes)
 }
 
 /// Does what these lines of a script for `readers` readers say, writes the lines of what came back,

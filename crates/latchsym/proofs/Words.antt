@@ -32,11 +32,7 @@ pub use Rattle.modules.specs.Lines.{usual_bounds}
 pub use Rattle.modules.specs.Listed.{BoundNames}
 pub use Rattle.listing.proofs.ListingNoteLemmas.{given_or}
 pub use Rattle.command_io.specs.Faults.{with_notes}
-pub use Rattle.engines.specs.GivenLookups.{AnswersLookup, failures_between, known_inputs}
 pub use Rattle.command_io.specs.OpenedCatalogs.{known_given, listing_failures}
-pub use Rattle.engines.specs.RunInputs.{known_run_inputs}
-pub use Rattle.engines.specs.Runs.{AnswersRun, run_failures_between}
-pub use Rattle.engines.specs.declared.lookup.LookupOptions.{LookupOptions}
 pub use Rattle.catalog_engines.specs.Addresses.{IsAddressed}
 pub use Rattle.catalog_engines.specs.Checks.{IsChecked}
 pub use Rattle.latchsym.specs.CommandLine.{IsCommand, IsPlainArg, latchsym_app, top_app}

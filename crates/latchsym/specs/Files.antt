@@ -1,7 +1,6 @@
 -- The files of a job: their names, what these hold, and the readers that are opened on them.
 use Rattle.std.specs.Prelude.{◌≡◌, ℕ, List, [], ◌∷◌, codes, Option, Some, None, if◌then◌else◌}
 use Rattle.std.specs.Prelude.{option_and_then, slice_get}
-use Rattle.std.specs.Borrow.{Bor}
 use Rattle.std.specs.Option.{option_map}
 use Rattle.std.specs.Str.{bytes_eq}
 use Rattle.clap.specs.Words.{Text}
@@ -16,7 +15,6 @@ use Rattle.latchsym.specs.declared.requests.Request.{Request}
 use Rattle.latchsym.specs.declared.requests.Subcommand.{Subcommand}
 use Rattle.latchsym.specs.declared.requests.Subcommand.TheVariants as sub
 use Rattle.command_io.specs.declared.opened_catalogs.ListingReaders.{ListingReaders}
-use Rattle.engines.specs.declared.runs.RunReaders.{RunReaders}
 
 -- the file that is read behind the listings
 abbrev pub input_of : Subcommand → Option Text
@@ -52,11 +50,11 @@ Held = Text → Option (List ℕ)
 abbrev pub IsOpened : {F : Type 0} → (F → Option (List ℕ)) → Held → Text → Counted F → Type 0
 IsOpened remaining held name reader = remaining (device_of reader) ≡ held name
 
--- there is a reader where a file is named, and it gives what that file holds
+-- there is a reader if a file is named, and it gives what that file holds
 abbrev pub IsOpenedIfGiven : {F : Type 0} → (F → Option (List ℕ)) → Held
-    → Option (Bor Text) → Option (Counted F) → Type 0
+    → Option Text → Option (Counted F) → Type 0
 IsOpenedIfGiven remaining held None None = Unit {0}
-IsOpenedIfGiven remaining held (Some name) (Some reader) = IsOpened remaining held name.now reader
+IsOpenedIfGiven remaining held (Some name) (Some reader) = IsOpened remaining held name reader
 IsOpenedIfGiven remaining held _ _ = ⊥
 
 -- what the names hold of files of addresses, of scripts and of logs, of which `-` is the standard
@@ -67,35 +65,9 @@ or_standard standard held name = if bytes_eq name (codes "-") then standard else
 -- the readers of listings are those of these files
 pub record AreListingFiles {F : Type 0} (remaining : F → Option (List ℕ)) (held : Held)
     (files : ListingFiles) (r : ListingReaders F F F) : Type 0 where
-  pub modules : IsOpenedIfGiven remaining held files.modules r.modules
+  pub modules : IsOpenedIfGiven remaining held (option_map (λ f. f.now) files.modules) r.modules
   pub kallsyms : IsOpened remaining held files.kallsyms.now r.kallsyms
-  pub regions : IsOpenedIfGiven remaining held files.regions r.regions
-
--- the readers of the listings among those of a run
-abbrev pub listings_of_run : {F : Type 0} → RunReaders F F F F → ListingReaders F F F
-listings_of_run r = record {
-  modules = Some r.modules;
-  kallsyms = r.kallsyms;
-  regions = r.regions;
-}
-
--- what a request with this subcommand asks for is opened over the readers of its own files
-abbrev pub IsOpenedWith : {F : Type 0} → (F → Option (List ℕ)) → Held → Held → Request → Subcommand
-    → OpenedJob F → Type 0
-IsOpenedWith remaining held inputs q (sub.Lookup lookup) (opened.Lookup o p r) =
-    (o.now ≡ q) × (p.now ≡ lookup) × AreListingFiles remaining held q.sources.files r.listings
-    × IsOpenedIfGiven remaining inputs lookup.file r.addresses
-IsOpenedWith remaining held inputs q (sub.Run run) (opened.Run o p r) =
-    (o.now ≡ q) × (p.now ≡ run) × AreListingFiles remaining held q.sources.files (listings_of_run r)
-    × IsOpened remaining inputs run.script.now r.script
-IsOpenedWith remaining held inputs q (sub.Annotate annotate) (opened.Annotate o p r) =
-    (o.now ≡ q) × (p.now ≡ annotate) × AreListingFiles remaining held q.sources.files r.listings
-    × IsOpened remaining inputs annotate.log.now r.log
-IsOpenedWith remaining held inputs q sub.Check (opened.Check o r) =
-    (o.now ≡ q) × AreListingFiles remaining held q.sources.files r
-IsOpenedWith remaining held inputs q (sub.Address address) (opened.Address o p r) =
-    (o.now ≡ q) × (p.now ≡ address) × AreListingFiles remaining held q.sources.files r
-IsOpenedWith remaining held inputs q _ _ = ⊥
+  pub regions : IsOpenedIfGiven remaining held (option_map (λ f. f.now) files.regions) r.regions
 
 -- the job is the one that is opened, over the readers of its own files
 abbrev pub IsOpenedFor : {F : Type 0} → (F → Option (List ℕ)) → Held → Option (List ℕ) → Job
@@ -104,6 +76,7 @@ IsOpenedFor remaining held standard (job.Trace file) (opened.Trace r) =
     IsOpened remaining held file.now r
 IsOpenedFor remaining held standard (job.Steps file) (opened.Steps r) =
     IsOpened remaining held file.now r
-IsOpenedFor remaining held standard (job.Request q) o =
-    IsOpenedWith remaining held (or_standard standard held) q q.subcommand o
+IsOpenedFor remaining held standard (job.Request q) (opened.Request o r input) =
+    (o.now ≡ q) × AreListingFiles remaining held q.sources.files r
+    × IsOpenedIfGiven remaining (or_standard standard held) (input_of q.subcommand) input
 IsOpenedFor remaining held standard _ _ = ⊥

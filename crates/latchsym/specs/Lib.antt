@@ -1,8 +1,6 @@
 -- The definitions of this crate, in the order in which to read them.
 -- the program's command line, as `clap` reads it
 pub mod CommandLine
--- what belongs together in a request
-pub mod Requests
 -- the job that the words of a command line ask for
 pub mod Jobs
 -- the lines that say what is noted of the listings of a job

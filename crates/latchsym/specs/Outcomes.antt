@@ -1,5 +1,8 @@
 -- What comes of a job: that of its engine over the job's own readers.
-use Rattle.std.specs.Prelude.{◌≡◌, ℕ, Bool, true, false, List, map, Option, None, Result, unwrap_or}
+use Rattle.std.specs.Prelude.{◌≡◌, ℕ, Bool, true, false, List, map, Option, Some, None, Result, Err}
+use Rattle.std.specs.Prelude.{unwrap_or}
+use Rattle.texts.specs.Counted.{device_of, failures_of}
+use Rattle.texts.specs.declared.counted.Counted.{Counted}
 use Rattle.texts.specs.declared.output.Output.{Output}
 use Rattle.catalog_engines.specs.Addresses.{IsAddressed}
 use Rattle.catalog_engines.specs.Annotations.{AnnotatesLog}
@@ -8,54 +11,115 @@ use Rattle.catalog_engines.specs.Following.{FollowsLog}
 use Rattle.catalog_engines.specs.GivenAnswers.{AnswersListings}
 use Rattle.command_io.specs.Faults.{with_notes, with_status, without_notes}
 use Rattle.listing.specs.ListingNotes.{no_notes}
-use Rattle.engines.specs.GivenLookups.{AnswersLookup, failures_between, known_inputs}
+use Rattle.listing.specs.declared.listing_notes.ListingNotes.{ListingNotes}
 use Rattle.command_io.specs.OpenedCatalogs.{known_given, listing_failures}
-use Rattle.engines.specs.RunInputs.{known_run_inputs}
-use Rattle.engines.specs.Runs.{AnswersRun, run_failures_between}
+use Rattle.command_io.specs.Readings.{failures_in, known_text}
+use Rattle.engines.specs.Inputs.{failures_behind, known_inputs}
+use Rattle.engines.specs.Lookups.{AnswersLookup, addresses_known}
+use Rattle.engines.specs.Runs.{AnswersRun, script_known}
 use Rattle.engines.specs.StepTraces.{AnswersSteps}
 use Rattle.engines.specs.Traces.{AnswersTrace}
 use Rattle.modules.specs.Lines.{usual_bounds}
 use Rattle.modules.specs.Listed.{BoundNames}
 use Rattle.command_io.specs.declared.fault.Fault.{Fault}
+use Rattle.command_io.specs.declared.fault.Fault.TheVariants.{Read}
 use Rattle.command_io.specs.declared.fault.Finished.{Finished}
-use Rattle.engines.specs.declared.lookup.LookupOptions.{LookupOptions}
-use Rattle.catalog_engines.specs.declared.annotations.AnnotateReaders.{AnnotateReaders}
+use Rattle.command_io.specs.declared.opened_catalogs.ListingReaders.{ListingReaders}
+use Rattle.engines.specs.LookupTexts.{Query}
 use Rattle.latchsym.specs.declared.jobs.OpenedJob.{OpenedJob}
-use Rattle.latchsym.specs.declared.jobs.OpenedJob.TheVariants.{Trace, Steps, Lookup}
-use Rattle.latchsym.specs.declared.jobs.OpenedJob.TheVariants.{Address, Annotate, Check, Run}
-use Rattle.catalog_engines.specs.declared.annotations.Annotate as annotate
-use Rattle.latchsym.specs.declared.requests.Lookup as lookup
-use Rattle.latchsym.specs.declared.requests.Request.{Request}
+use Rattle.latchsym.specs.declared.jobs.OpenedJob.TheVariants.{Request, Trace, Steps}
+use Rattle.catalog_engines.specs.declared.annotations.Annotate.{Annotate}
+use Rattle.catalog_engines.specs.declared.sources.Sources.{Sources}
+use Rattle.latchsym.specs.declared.requests.Lookup.{Lookup}
+use Rattle.latchsym.specs.declared.requests.Subcommand.{Subcommand}
+use Rattle.latchsym.specs.declared.requests.Subcommand.TheVariants as sub
 
 -- the names of the kernel's bounds in a run
-abbrev pub bounds_of : Request → BoundNames
-bounds_of q = unwrap_or q.sources.kernel usual_bounds
-
--- how the addresses of a request are looked up
-abbrev pub options_of : Request → lookup.Lookup → LookupOptions
-options_of q l = record { kernel = q.sources.kernel; rule = l.rule }
+abbrev pub bounds_of : Sources → BoundNames
+bounds_of s = unwrap_or s.kernel usual_bounds
 
 -- an engine returned what it may, and the outcome is this of it
 abbrev pub Ends : {A : Type 0} → (Result A Fault → Type 0) → (Result A Fault → Result Finished Fault)
     → Result Finished Fault → Type 0
 Ends {A} May finish outcome = (result : Result A Fault) × May result × (outcome ≡ finish result)
 
--- The same of a log that is followed, or of one that is annotated by the listings as they are at its
--- beginning. Nothing is known of what files give that are opened again.
-abbrev pub IsOutcomeOfLog : {R W E : Type 0} → (R → Option (List ℕ)) → (W → Option (List ℕ))
-    → (E → Option (List ℕ)) → Request → annotate.Annotate → Bool → AnnotateReaders R R R R
-    → AnnotateReaders R R R R → Output W → Output W → Output E → Output E
-    → Result Finished Fault → Type 0
-IsOutcomeOfLog remaining contents errors q a true r r' w w' e e' outcome =
-    Ends (FollowsLog contents errors q.sources a None None w w' e e') (with_notes no_notes) outcome
-IsOutcomeOfLog remaining contents errors q a false r r' w w' e e' outcome =
-    Ends (AnnotatesLog remaining contents errors q.sources a
-    (known_given remaining remaining remaining r.listings)
-    (listing_failures r.listings r'.listings) r.log r'.log w w' e e') (with_notes no_notes) outcome
+-- This holds of the reader of the file behind the listings, before and after. If it has none, the file
+-- is one that cannot be read.
+abbrev pub HoldsOfInput : {R : Type 0} → (Counted R → Counted R → Type 0) → Option (Counted R)
+    → Option (Counted R) → Result Finished Fault → Type 0
+HoldsOfInput P (Some r) (Some r') outcome = P r r'
+HoldsOfInput P None None outcome = outcome ≡ Err (Read 3)
+HoldsOfInput P _ _ outcome = ⊥
 
--- The status or the fault of a job, over what its readers had. A trace or a lookup that succeeds has
--- status 0; of a log or of listings that are checked nothing is left to be noted. Only an annotation
--- says something while it is done.
+-- addresses are looked up in the listings, those of a file among them if there is one
+abbrev pub IsLookedUpBy : {R W : Type 0} → (R → Option (List ℕ)) → (W → Option (List ℕ))
+    → Query → ListingReaders R R R → ListingReaders R R R → Option (Counted R)
+    → Option (Counted R) → Output W → Output W → Result ListingNotes Fault → Type 0
+IsLookedUpBy remaining contents query l l' i i' w w' result =
+    AnswersLookup contents query
+    (known_inputs (addresses_known query (known_text remaining i))
+    (known_given remaining remaining remaining l))
+    (failures_behind (listing_failures l l') (failures_in i) (failures_in i')) w w' result
+
+-- a script is run by so many readers
+abbrev pub IsOutcomeOfRun : {R W : Type 0} → (R → Option (List ℕ)) → (W → Option (List ℕ))
+    → Sources → ℕ → ListingReaders R R R → ListingReaders R R R → Option (Counted R)
+    → Option (Counted R) → Output W → Output W → Result Finished Fault → Type 0
+IsOutcomeOfRun remaining contents s readers l l' i i' w w' outcome =
+    HoldsOfInput (λ r r'. AnswersRun contents (bounds_of s) readers
+    (known_inputs (script_known readers (remaining (device_of r)))
+    (known_given remaining remaining remaining l))
+    (failures_behind (listing_failures l l') (failures_of r) (failures_of r')) w w' outcome)
+    i i' outcome
+
+-- A log is followed, or annotated by the listings as they are at its beginning. Nothing is known of what
+-- files give that are opened again.
+abbrev pub IsLogBy : {R W E : Type 0} → (R → Option (List ℕ)) → (W → Option (List ℕ))
+    → (E → Option (List ℕ)) → Sources → Annotate → Bool → ListingReaders R R R
+    → ListingReaders R R R → Output W → Output W → Output E → Output E
+    → Result Finished Fault → Counted R → Counted R → Type 0
+IsLogBy remaining contents errors s a true l l' w w' e e' outcome r r' =
+    Ends (FollowsLog contents errors s a None None w w' e e') (with_notes no_notes) outcome
+IsLogBy remaining contents errors s a false l l' w w' e e' outcome r r' =
+    Ends (AnnotatesLog remaining contents errors s a (known_given remaining remaining remaining l)
+    (listing_failures l l') r r' w w' e e') (with_notes no_notes) outcome
+
+abbrev pub IsOutcomeOfLog : {R W E : Type 0} → (R → Option (List ℕ)) → (W → Option (List ℕ))
+    → (E → Option (List ℕ)) → Sources → Annotate → Bool → ListingReaders R R R
+    → ListingReaders R R R → Option (Counted R) → Option (Counted R) → Output W → Output W
+    → Output E → Output E → Result Finished Fault → Type 0
+IsOutcomeOfLog remaining contents errors s a follow l l' i i' w w' e e' outcome =
+    HoldsOfInput (IsLogBy remaining contents errors s a follow l l' w w' e e' outcome) i i' outcome
+
+-- how addresses are looked up that are asked for over these listings
+abbrev pub query_of : Sources → Lookup → Query
+query_of s l =
+    record { kernel = s.kernel; rule = l.rule; form = l.form; addresses = l.addresses.items }
+
+-- What is asked for over listings comes to this. A lookup that succeeds has status 0; of a log or of
+-- listings that are checked nothing is left to be noted. Only an annotation says something while it is
+-- done.
+abbrev pub IsOutcomeBy : {R W E : Type 0} → (R → Option (List ℕ)) → (W → Option (List ℕ))
+    → (E → Option (List ℕ)) → Sources → Subcommand → ListingReaders R R R → ListingReaders R R R
+    → Option (Counted R) → Option (Counted R) → Output W → Output W → Output E → Output E
+    → Result Finished Fault → Type 0
+IsOutcomeBy remaining contents errors s (sub.Lookup lookup) l l' i i' w w' e e' outcome =
+    Ends (IsLookedUpBy remaining contents (query_of s lookup) l l' i i' w w') with_status outcome
+    × (e' ≡ e)
+IsOutcomeBy remaining contents errors s (sub.Run run) l l' i i' w w' e e' outcome =
+    IsOutcomeOfRun remaining contents s run.readers l l' i i' w w' outcome × (e' ≡ e)
+IsOutcomeBy remaining contents errors s (sub.Annotate a) l l' i i' w w' e e' outcome =
+    IsOutcomeOfLog remaining contents errors s a a.follow l l' i i' w w' e e' outcome
+IsOutcomeBy remaining contents errors s sub.Check l l' i i' w w' e e' outcome =
+    Ends (AnswersListings contents (IsChecked s.kernel s.files)
+    (known_given remaining remaining remaining l) (listing_failures l l') w w')
+    (with_notes no_notes) outcome × (e' ≡ e)
+IsOutcomeBy remaining contents errors s (sub.Address a) l l' i i' w w' e e' outcome =
+    Ends (AnswersListings contents (IsAddressed a.form s.kernel (map (λ n. n.now) a.names.items))
+    (known_given remaining remaining remaining l) (listing_failures l l') w w') with_status outcome
+    × (e' ≡ e)
+
+-- The status or the fault of a job, over what its readers had. A trace that succeeds has status 0.
 abbrev pub IsOutcome : {R W E : Type 0} → (R → Option (List ℕ)) → (W → Option (List ℕ))
     → (E → Option (List ℕ)) → OpenedJob R → OpenedJob R → Output W → Output W → Output E
     → Output E → Result Finished Fault → Type 0
@@ -65,24 +129,6 @@ IsOutcome remaining contents errors (Trace r) (Trace r') w w' e e' outcome =
 IsOutcome remaining contents errors (Steps r) (Steps r') w w' e e' outcome =
     Ends (AnswersSteps remaining contents r r' w w') (λ x. with_status (without_notes x)) outcome
     × (e' ≡ e)
-IsOutcome remaining contents errors (Lookup q l r) (Lookup _ _ r') w w' e e' outcome =
-    Ends (AnswersLookup contents l.now.form
-    (known_inputs remaining remaining remaining remaining r (options_of q.now l.now)
-    l.now.addresses.items)
-    (failures_between r r') w w') with_status outcome × (e' ≡ e)
-IsOutcome remaining contents errors (Run q run r) (Run _ _ r') w w' e e' outcome =
-    AnswersRun contents run.now.readers
-    (known_run_inputs remaining remaining remaining remaining r (bounds_of q.now) run.now.readers)
-    (run_failures_between r r') w w' outcome × (e' ≡ e)
-IsOutcome remaining contents errors (Annotate q a r) (Annotate _ _ r') w w' e e' outcome =
-    IsOutcomeOfLog remaining contents errors q.now a.now a.now.follow r r' w w' e e' outcome
-IsOutcome remaining contents errors (Check q r) (Check _ r') w w' e e' outcome =
-    Ends (AnswersListings contents (IsChecked q.now.sources.kernel q.now.sources.files)
-    (known_given remaining remaining remaining r) (listing_failures r r') w w')
-    (with_notes no_notes) outcome × (e' ≡ e)
-IsOutcome remaining contents errors (Address q a r) (Address _ _ r') w w' e e' outcome =
-    Ends (AnswersListings contents
-    (IsAddressed a.now.form q.now.sources.kernel (map (λ n. n.now) a.now.names.items))
-    (known_given remaining remaining remaining r) (listing_failures r r') w w') with_status outcome
-    × (e' ≡ e)
+IsOutcome remaining contents errors (Request q l i) (Request _ l' i') w w' e e' outcome =
+    IsOutcomeBy remaining contents errors q.now.sources q.now.subcommand l l' i i' w w' e e' outcome
 IsOutcome remaining contents errors _ _ w w' e e' outcome = ⊥

@@ -8,34 +8,40 @@ use Rattle.command_io.specs.declared.opened_catalogs.ListingReaders.{ListingRead
 use Rattle.command_io.specs.declared.fault.Fault.{Fault}
 use Rattle.command_io.specs.declared.fault.Fault.TheVariants.{Read, Write}
 use Rattle.latchsym.specs.declared.jobs.OpenedJob.{OpenedJob}
-use Rattle.latchsym.specs.declared.jobs.OpenedJob.TheVariants.{Address, Annotate, Check}
+use Rattle.latchsym.specs.declared.jobs.OpenedJob.TheVariants.{Request}
+use Rattle.latchsym.specs.declared.requests.Subcommand.{Subcommand}
+use Rattle.latchsym.specs.declared.requests.Subcommand.TheVariants as sub
 
 -- the error that a reader gave last, where there is a reader
 abbrev pub error_if_given : {R : Type 0} → Option (Counted R) → Option Error
 error_if_given None = None
 error_if_given (Some r) = error_of r
 
--- that of the reader at a place among those of listings
-abbrev pub error_of_listing : {R : Type 0} → ListingReaders R R R → ℕ → Option Error
-error_of_listing r place =
+-- that of the reader at a place among those of a request
+abbrev pub error_of_request : {R : Type 0} → ListingReaders R R R → Option (Counted R) → ℕ
+    → Option Error
+error_of_request r input place =
     if nat_eq place 0 then error_if_given r.modules
     else if nat_eq place 1 then error_of r.kallsyms
     else if nat_eq place 2 then error_if_given r.regions
+    else if nat_eq place 3 then error_if_given input
     else None
 
--- the jobs that tell what the system said
+-- the commands that tell what the system said
+abbrev pub does_tell : Subcommand → Bool
+does_tell (sub.Annotate annotate) = true
+does_tell sub.Check = true
+does_tell (sub.Address address) = true
+does_tell _ = false
+
 abbrev pub tells_errors : {R : Type 0} → OpenedJob R → Bool
-tells_errors (Annotate q a r) = true
-tells_errors (Check q r) = true
-tells_errors (Address q a r) = true
+tells_errors (Request q r input) = does_tell q.now.subcommand
 tells_errors _ = false
 
 -- the error that the reader at a place among those of such a job gave last
 abbrev pub error_at : {R : Type 0} → OpenedJob R → ℕ → Option Error
-error_at (Annotate q a r) place =
-    if nat_eq place 3 then error_of r.log else error_of_listing r.listings place
-error_at (Check q r) place = error_of_listing r place
-error_at (Address q a r) place = error_of_listing r place
+error_at (Request q r input) place =
+    if does_tell q.now.subcommand then error_of_request r input place else None
 error_at _ place = None
 
 -- the error behind a fault of such a job, of its readers, or of its writer, which gave this one last

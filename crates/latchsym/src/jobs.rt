@@ -1,36 +1,29 @@
 //! A job from the names of its files to its status: its files are opened, and then its engine
 //! answers over their readers.
-ghost use Rattle.std.specs.Prelude.{◌≡◌, IfOk, IfErr, List, ℕ, None, Option, is_some, map, true};
+ghost use Rattle.std.specs.Prelude.{◌≡◌, IfOk, IfErr, List, ℕ, None, Option, map};
+ghost use Rattle.std.specs.Option.{option_map};
 ghost use Rattle.texts.specs.Counted.{device_of};
 ghost use Rattle.texts.specs.Output.{error_in};
 ghost use Rattle.command_io.specs.Faults.{with_notes, with_status};
-ghost use Rattle.engines.specs.GivenLookups.{AnswersLookup, failures_between, known_inputs};
 ghost use Rattle.command_io.specs.OpenedCatalogs.{known_given, listing_failures};
-ghost use Rattle.engines.specs.RunInputs.{known_run_inputs};
-ghost use Rattle.engines.specs.Runs.{AnswersRun, run_failures_between};
 ghost use Rattle.listing.specs.ListingNotes.{no_notes};
 ghost use Rattle.catalog_engines.specs.Addresses.{IsAddressed};
-ghost use Rattle.catalog_engines.specs.Annotations.{AnnotatesLog};
 ghost use Rattle.catalog_engines.specs.Checks.{IsChecked};
+ghost use Rattle.catalog_engines.specs.Following.{FollowsLog};
 ghost use Rattle.catalog_engines.specs.GivenAnswers.{AnswersListings};
 ghost use Rattle.latchsym.specs.Files.{AreListingFiles, IsOpened, IsOpenedFor, IsOpenedIfGiven};
-ghost use Rattle.latchsym.specs.Files.{IsOpenedWith, or_standard};
-ghost use Rattle.catalog_engines.specs.Following.{FollowsLog};
-ghost use Rattle.latchsym.specs.Outcomes.{Ends, IsOutcome, IsOutcomeOfLog, bounds_of, options_of};
-ghost use Rattle.latchsym.specs.Reasons.{error_if_given, error_of_listing};
+ghost use Rattle.latchsym.specs.Files.{or_standard};
+ghost use Rattle.latchsym.specs.Outcomes.{Ends, IsLookedUpBy, IsOutcome, IsOutcomeBy};
+ghost use Rattle.latchsym.specs.Outcomes.{IsOutcomeOfLog, IsOutcomeOfRun, query_of};
+ghost use Rattle.latchsym.specs.Reasons.{error_if_given, error_of_request};
 
 use crate::followed_files::FollowedFiles;
 use crate::requests::{Address, Job, Lookup, Request, Run, Subcommand};
 use catalog_engines::{
-    Annotate, AnnotateReaders, ListingFiles, address_engine, annotate_engine, check_engine,
-    follow_engine,
+    Annotate, ListingFiles, Sources, address_engine, annotate_engine, check_engine, follow_engine,
 };
-use command_io::{
-    Fault, Finished, ListingReaders, bounds_or_usual, with_notes, with_status, without_notes,
-};
-use engines::{
-    LookupOptions, LookupReaders, RunReaders, lookup_engine, run_engine, steps_engine, trace_engine,
-};
+use command_io::{Fault, Finished, ListingReaders, with_notes, with_status, without_notes};
+use engines::{LookupOptions, lookup_engine, run_engine, steps_engine, trace_engine};
 use listing::ListingNotes;
 use modules::KernelBounds;
 use order_laws::Refusal;
@@ -68,12 +61,12 @@ pub trait FileSource {
 pub enum OpenedJob<'j, 'a, R> {
     Trace(Counted<R>),
     Steps(Counted<R>),
-    Lookup(&'j Request<'a>, &'j Lookup<'a>, LookupReaders<R, R, R, R>),
-    Run(&'j Request<'a>, &'j Run<'a>, RunReaders<R, R, R, R>),
-    Annotate(&'j Request<'a>, &'j Annotate<'a>, AnnotateReaders<R, R, R, R>),
-    Check(&'j Request<'a>, ListingReaders<R, R, R>),
-    Address(&'j Request<'a>, &'j Address<'a>, ListingReaders<R, R, R>),
+    /// A request with the readers of its listings and of the file behind them, if there is one.
+    Request(&'j Request<'a>, ListingReaders<R, R, R>, Option<Counted<R>>),
 }
+
+/// What a run, or a log, comes to whose file has no reader.
+const UNREAD: Fault = Fault::Read { place: 3 };
 
 /// Opens the files that a job names.
 pub fn open_job<'j, 'a, F: FileSource>(
@@ -87,80 +80,17 @@ pub fn open_job<'j, 'a, F: FileSource>(
     match job {
         Job::Trace { file } => Ok(OpenedJob::Trace(files.open(file)?)),
         Job::Steps { file } => Ok(OpenedJob::Steps(files.open(file)?)),
-        Job::Request(request) => open_request(files, request),
-    }
-}
-
-/// Opens the files of a request: those of the listings, and then what is asked over them.
-fn open_request<'j, 'a, F: FileSource>(
-    files: &F,
-    request: &'j Request<'a>,
-) -> Result<OpenedJob<'j, 'a, F::File>, Refusal>
-    ensures opened { IfOk result (IsOpenedWith F.File.remaining (F.held files.now)
-        (or_standard (F.standard files.now) (F.held files.now)) request.now request.now.subcommand) }
-    ensures refusal { IfErr result (λ e. e ≡ Refusal.OutOfMemory) }
-{
-    match &request.subcommand {
-        Subcommand::Lookup(lookup) => {
-            let listings = open_listings(files, &request.sources.files)?;
-            let addresses = open_addresses(files, lookup.file)?;
-            let readers = LookupReaders {
-                listings,
-                addresses,
-            };
-            Ok(OpenedJob::Lookup(request, lookup, readers))
-        }
-        Subcommand::Run(run) => open_run(files, request, run),
-        Subcommand::Annotate(annotate) => {
-            let listings = open_listings(files, &request.sources.files)?;
-            let log = open_or_standard(files, annotate.log)?;
-            let readers = AnnotateReaders { listings, log };
-            Ok(OpenedJob::Annotate(request, annotate, readers))
-        }
-        Subcommand::Check => {
-            let listings = open_listings(files, &request.sources.files)?;
-            Ok(OpenedJob::Check(request, listings))
-        }
-        Subcommand::Address(address) => {
-            let listings = open_listings(files, &request.sources.files)?;
-            Ok(OpenedJob::Address(request, address, listings))
+        Job::Request(request) => {
+            let listings = open_files(files, &request.sources.files)?;
+            let input = open_input(files, request.subcommand.input())?;
+            Ok(OpenedJob::Request(request, listings, input))
         }
     }
-}
-
-/// Opens the files of a run, whose modules are listed.
-fn open_run<'j, 'a, F: FileSource>(
-    files: &F,
-    request: &'j Request<'a>,
-    run: &'j Run<'a>,
-) -> Result<OpenedJob<'j, 'a, F::File>, Refusal>
-    requires { is_some request.now.sources.files.modules ≡ true }
-    ensures opened { IfOk result (IsOpenedWith F.File.remaining (F.held files.now)
-        (or_standard (F.standard files.now) (F.held files.now)) request.now
-        (Subcommand.Run run.now)) }
-    ensures refusal { IfErr result (λ e. e ≡ Refusal.OutOfMemory) }
-{
-    let ListingReaders {
-        modules,
-        kallsyms,
-        regions,
-    } = open_listings(files, &request.sources.files)?;
-    let script = open_or_standard(files, run.script)?;
-    let Some(modules) = modules else {
-        unreachable!();
-    };
-    let readers = RunReaders {
-        modules,
-        kallsyms,
-        regions,
-        script,
-    };
-    Ok(OpenedJob::Run(request, run, readers))
 }
 
 /// Does the job over its readers: has its engine answer with the job's own options, addresses and
 /// number of readers. Returns the program's status and what is noted of the listings, or why it
-/// failed. What is noted of the listings of a log is told to `errors` before the log is begun. Where
+/// failed. What is noted of the listings of a log is told to `errors` before the log is begun. If
 /// it is followed, the files of its listings are opened again.
 pub fn do_job<T: Threads + Wait + Sync, F: FileSource, W: Write, E: Write>(
     threads: &T,
@@ -180,110 +110,113 @@ pub fn do_job<T: Threads + Wait + Sync, F: FileSource, W: Write, E: Write>(
         OpenedJob::Steps(reader) => {
             with_status(without_notes(steps_engine(alloc, reader, writer)))
         }
-        OpenedJob::Lookup(request, lookup, readers) => {
-            do_lookup(alloc, request, lookup, readers, writer)
+        OpenedJob::Request(request, listings, input) => {
+            do_request(
+                threads, alloc, files, request, listings, input, writer, errors,
+            )
         }
-        OpenedJob::Run(request, run, readers) => {
-            do_run(threads, alloc, request, run, readers, writer)
+    }
+}
+
+/// Does what is asked for over listings.
+fn do_request<T: Threads + Wait + Sync, F: FileSource, W: Write, E: Write>(
+    threads: &T,
+    alloc: Global,
+    files: &F,
+    request: &Request<'_>,
+    listings: &mut ListingReaders<F::File, F::File, F::File>,
+    input: &mut Option<Counted<F::File>>,
+    writer: &mut Output<W>,
+    errors: &mut Output<E>,
+) -> Result<Finished, Fault>
+    ensures { IsOutcomeBy F.File.remaining W.contents E.contents request.now.sources
+        request.now.subcommand listings.old listings.new input.old input.new
+        writer.old writer.new errors.old errors.new result }
+{
+    let sources = &request.sources;
+    match &request.subcommand {
+        Subcommand::Lookup(lookup) => do_lookup(alloc, sources, lookup, listings, input, writer),
+        Subcommand::Run(run) => do_run(threads, alloc, sources, run, listings, input, writer),
+        Subcommand::Annotate(job) => {
+            do_annotate(alloc, files, sources, job, listings, input, writer, errors)
         }
-        OpenedJob::Annotate(request, annotate, readers) => {
-            do_annotate(alloc, files, request, annotate, readers, writer, errors)
-        }
-        OpenedJob::Check(request, readers) => do_check(alloc, request, readers, writer),
-        OpenedJob::Address(request, address, readers) => {
-            do_address(alloc, request, address, readers, writer)
-        }
+        Subcommand::Check => do_check(alloc, sources, listings, writer),
+        Subcommand::Address(address) => do_address(alloc, sources, address, listings, writer),
     }
 }
 
 /// Looks addresses up.
 fn do_lookup<R: Read, W: Write>(
     alloc: Global,
-    request: &Request<'_>,
+    sources: &Sources<'_>,
     lookup: &Lookup<'_>,
-    readers: &mut LookupReaders<R, R, R, R>,
+    listings: &mut ListingReaders<R, R, R>,
+    file: &mut Option<Counted<R>>,
     writer: &mut Output<W>,
 ) -> Result<Finished, Fault>
-    ensures { Ends (AnswersLookup W.contents lookup.now.form
-        (known_inputs R.remaining R.remaining R.remaining R.remaining readers.old
-        (options_of request.now lookup.now) lookup.now.addresses.items)
-        (failures_between readers.old readers.new) writer.old writer.new) with_status result }
+    ensures { Ends (IsLookedUpBy R.remaining W.contents (query_of sources.now lookup.now)
+        listings.old listings.new file.old file.new writer.old writer.new) with_status result }
 {
     let options = LookupOptions {
-        kernel: same_bounds(&request.sources.kernel),
+        kernel: sources.kernel.as_ref(),
         rule: lookup.rule,
+        form: lookup.form,
+        addresses: &lookup.addresses,
     };
-    let addresses = &lookup.addresses;
-    with_status(lookup_engine(alloc, readers, &options, addresses, lookup.form, writer))
-}
-
-/// The bounds that are given, once more.
-fn same_bounds<'k>(kernel: &Option<KernelBounds<'k>>) -> Option<KernelBounds<'k>>
-    ensures { result ≡ kernel.now }
-{
-    match kernel {
-        Some(names) => Some(KernelBounds {
-            start: names.start,
-            end: names.end,
-        }),
-        None => None,
-    }
+    with_status(lookup_engine(alloc, listings, file, &options, writer))
 }
 
 /// Does what a script says.
 fn do_run<T: Threads + Wait + Sync, R: Read, W: Write>(
     threads: &T,
     alloc: Global,
-    request: &Request<'_>,
+    sources: &Sources<'_>,
     run: &Run<'_>,
-    readers: &mut RunReaders<R, R, R, R>,
+    listings: &mut ListingReaders<R, R, R>,
+    script: &mut Option<Counted<R>>,
     writer: &mut Output<W>,
 ) -> Result<Finished, Fault>
-    ensures { AnswersRun W.contents run.now.readers
-        (known_run_inputs R.remaining R.remaining R.remaining R.remaining readers.old
-        (bounds_of request.now) run.now.readers)
-        (run_failures_between readers.old readers.new) writer.old writer.new result }
+    ensures { IsOutcomeOfRun R.remaining W.contents sources.now run.now.readers
+        listings.old listings.new script.old script.new writer.old writer.new result }
 {
-    let kernel = bounds_or_usual(request.sources.kernel.as_ref());
-    run_engine(threads, alloc, readers, &kernel, run.readers, writer)
+    let Some(script) = script else {
+        return Err(UNREAD);
+    };
+    let usual = KernelBounds::usual();
+    let kernel = sources.kernel.as_ref().unwrap_or(&usual);
+    run_engine(
+        threads,
+        alloc,
+        listings,
+        script,
+        kernel,
+        run.readers,
+        writer,
+    )
 }
 
 /// Annotates a log, or follows it.
 fn do_annotate<F: FileSource, W: Write, E: Write>(
     alloc: Global,
     files: &F,
-    request: &Request<'_>,
-    annotate: &Annotate<'_>,
-    readers: &mut AnnotateReaders<F::File, F::File, F::File, F::File>,
+    sources: &Sources<'_>,
+    job: &Annotate<'_>,
+    listings: &mut ListingReaders<F::File, F::File, F::File>,
+    log: &mut Option<Counted<F::File>>,
     writer: &mut Output<W>,
     errors: &mut Output<E>,
 ) -> Result<Finished, Fault>
-    ensures { IsOutcomeOfLog F.File.remaining W.contents E.contents request.now annotate.now
-        annotate.now.follow readers.old readers.new writer.old writer.new errors.old errors.new
-        result }
+    ensures { IsOutcomeOfLog F.File.remaining W.contents E.contents sources.now job.now
+        job.now.follow listings.old listings.new log.old log.new writer.old writer.new
+        errors.old errors.new result }
 {
-    if annotate.follow {
-        do_follow(alloc, files, request, annotate, readers, writer, errors)
-    } else {
-        do_annotate_once(alloc, request, annotate, readers, writer, errors)
+    let Some(log) = log else {
+        return Err(UNREAD);
+    };
+    if job.follow {
+        return do_follow(alloc, files, sources, job, listings, log, writer, errors);
     }
-}
-
-/// Annotates a log by the listings as they are at its beginning.
-fn do_annotate_once<R: Read, W: Write, E: Write>(
-    alloc: Global,
-    request: &Request<'_>,
-    annotate: &Annotate<'_>,
-    readers: &mut AnnotateReaders<R, R, R, R>,
-    writer: &mut Output<W>,
-    errors: &mut Output<E>,
-) -> Result<Finished, Fault>
-    ensures { Ends (AnnotatesLog R.remaining W.contents E.contents request.now.sources annotate.now
-        (known_given R.remaining R.remaining R.remaining readers.old.listings)
-        (listing_failures readers.old.listings readers.new.listings) readers.old.log readers.new.log
-        writer.old writer.new errors.old errors.new) (with_notes no_notes) result }
-{
-    let done = annotate_engine(alloc, readers, &request.sources, annotate, errors, writer);
+    let done = annotate_engine(alloc, listings, log, sources, job, errors, writer);
     with_notes(done, ListingNotes::none())
 }
 
@@ -291,52 +224,60 @@ fn do_annotate_once<R: Read, W: Write, E: Write>(
 fn do_follow<F: FileSource, W: Write, E: Write>(
     alloc: Global,
     files: &F,
-    request: &Request<'_>,
-    annotate: &Annotate<'_>,
-    readers: &mut AnnotateReaders<F::File, F::File, F::File, F::File>,
+    sources: &Sources<'_>,
+    job: &Annotate<'_>,
+    listings: &mut ListingReaders<F::File, F::File, F::File>,
+    log: &mut Counted<F::File>,
     writer: &mut Output<W>,
     errors: &mut Output<E>,
 ) -> Result<Finished, Fault>
-    ensures { Ends (FollowsLog W.contents E.contents request.now.sources annotate.now None None
+    ensures { Ends (FollowsLog W.contents E.contents sources.now job.now None None
         writer.old writer.new errors.old errors.new) (with_notes no_notes) result }
 {
-    let mut log = FollowedFiles::new(files, &request.sources.files, readers);
-    let done = follow_engine(alloc, &mut log, &request.sources, annotate, errors, writer);
+    let mut log = FollowedFiles::new(files, &sources.files, listings, log);
+    let done = follow_engine(alloc, &mut log, sources, job, errors, writer);
     with_notes(done, ListingNotes::none())
 }
 
 /// Checks listings. What is noted of them is written, so that nothing is left to be told.
 fn do_check<R: Read, W: Write>(
     alloc: Global,
-    request: &Request<'_>,
-    readers: &mut ListingReaders<R, R, R>,
+    sources: &Sources<'_>,
+    listings: &mut ListingReaders<R, R, R>,
     writer: &mut Output<W>,
 ) -> Result<Finished, Fault>
-    ensures { Ends (AnswersListings W.contents (IsChecked request.now.sources.kernel request.now.sources.files)
-        (known_given R.remaining R.remaining R.remaining readers.old)
-        (listing_failures readers.old readers.new) writer.old writer.new)
+    ensures { Ends (AnswersListings W.contents (IsChecked sources.now.kernel sources.now.files)
+        (known_given R.remaining R.remaining R.remaining listings.old)
+        (listing_failures listings.old listings.new) writer.old writer.new)
         (with_notes no_notes) result }
 {
-    let kernel = request.sources.kernel.as_ref();
-    let status = check_engine(alloc, readers, kernel, &request.sources.files, writer);
+    let kernel = sources.kernel.as_ref();
+    let status = check_engine(alloc, listings, kernel, &sources.files, writer);
     with_notes(status, ListingNotes::none())
 }
 
 /// Says where the symbols of names are.
 fn do_address<R: Read, W: Write>(
     alloc: Global,
-    request: &Request<'_>,
+    sources: &Sources<'_>,
     address: &Address<'_>,
-    readers: &mut ListingReaders<R, R, R>,
+    listings: &mut ListingReaders<R, R, R>,
     writer: &mut Output<W>,
 ) -> Result<Finished, Fault>
-    ensures { Ends (AnswersListings W.contents (IsAddressed address.now.form request.now.sources.kernel
+    ensures { Ends (AnswersListings W.contents (IsAddressed address.now.form sources.now.kernel
         (map (λ n. n.now) address.now.names.items))
-        (known_given R.remaining R.remaining R.remaining readers.old)
-        (listing_failures readers.old readers.new) writer.old writer.new) with_status result }
+        (known_given R.remaining R.remaining R.remaining listings.old)
+        (listing_failures listings.old listings.new) writer.old writer.new) with_status result }
 {
-    let kernel = request.sources.kernel.as_ref();
-    let done = address_engine(alloc, readers, address.form, kernel, &address.names, writer);
+    let kernel = sources.kernel.as_ref();
+    let done = address_engine(
+        alloc,
+        listings,
+        address.form,
+        kernel,
+        &address.names,
+        writer,
+    );
     with_status(done)
 }
 
@@ -361,11 +302,8 @@ impl<R> OpenedJob<'_, '_, R> {
         ensures { result ≡ tells_errors self.now }
     {
         match self {
-            OpenedJob::Annotate(..) | OpenedJob::Check(..) | OpenedJob::Address(..) => true,
-            OpenedJob::Trace(_)
-            | OpenedJob::Steps(_)
-            | OpenedJob::Lookup(..)
-            | OpenedJob::Run(..) => false,
+            OpenedJob::Request(request, ..) => request.subcommand.tells_errors(),
+            OpenedJob::Trace(_) | OpenedJob::Steps(_) => false,
         }
     }
 
@@ -374,32 +312,32 @@ impl<R> OpenedJob<'_, '_, R> {
         ensures { result ≡ error_at self.now place }
     {
         match self {
-            OpenedJob::Annotate(_, _, readers) if place == 3 => readers.log.error(),
-            OpenedJob::Annotate(_, _, readers) => error_of_listing(&readers.listings, place),
-            OpenedJob::Check(_, readers) | OpenedJob::Address(_, _, readers) => {
-                error_of_listing(readers, place)
+            OpenedJob::Request(request, listings, input) if request.subcommand.tells_errors() => {
+                error_of_request(listings, input, place)
             }
-            OpenedJob::Trace(_)
-            | OpenedJob::Steps(_)
-            | OpenedJob::Lookup(..)
-            | OpenedJob::Run(..) => None,
+            OpenedJob::Request(..) | OpenedJob::Trace(_) | OpenedJob::Steps(_) => None,
         }
     }
 }
 
-/// The error that the reader at this place among those of listings gave last.
-fn error_of_listing<R>(readers: &ListingReaders<R, R, R>, place: u64) -> Option<io::Error>
-    ensures { result ≡ error_of_listing readers.now place }
+/// The error that the reader at this place among those of a request gave last.
+fn error_of_request<R>(
+    listings: &ListingReaders<R, R, R>,
+    input: &Option<Counted<R>>,
+    place: u64,
+) -> Option<io::Error>
+    ensures { result ≡ error_of_request listings.now input.now place }
 {
     match place {
-        0 => error_if_given(&readers.modules),
-        1 => readers.kallsyms.error(),
-        2 => error_if_given(&readers.regions),
+        0 => error_if_given(&listings.modules),
+        1 => listings.kallsyms.error(),
+        2 => error_if_given(&listings.regions),
+        3 => error_if_given(input),
         _ => None,
     }
 }
 
-/// The error that a reader gave last, where there is a reader.
+/// The error that a reader gave last, if there is a reader.
 fn error_if_given<R>(reader: &Option<Counted<R>>) -> Option<io::Error>
     ensures { result ≡ error_if_given reader.now }
 {
@@ -410,7 +348,7 @@ fn error_if_given<R>(reader: &Option<Counted<R>>) -> Option<io::Error>
 }
 
 /// Opens the files of listings.
-pub(crate) fn open_listings<F: FileSource>(
+pub(crate) fn open_files<F: FileSource>(
     files: &F,
     listings: &ListingFiles<'_>,
 ) -> Result<ListingReaders<F::File, F::File, F::File>, Refusal>
@@ -425,16 +363,33 @@ pub(crate) fn open_listings<F: FileSource>(
     })
 }
 
-/// Opens a file, where one is named.
+/// Opens a file, if one is named.
 fn open_if_given<F: FileSource>(
     files: &F,
     name: Option<&str>,
 ) -> Result<Option<Counted<F::File>>, Refusal>
-    ensures opened { IfOk result (IsOpenedIfGiven F.File.remaining (F.held files.now) name.entry) }
+    ensures opened { IfOk result (IsOpenedIfGiven F.File.remaining (F.held files.now)
+        (option_map (λ n. n.now) name.entry)) }
     ensures refusal { IfErr result (λ e. e ≡ Refusal.OutOfMemory) }
 {
     match name {
         Some(name) => Ok(Some(files.open(name)?)),
+        None => Ok(None),
+    }
+}
+
+/// Opens the file behind the listings, if one is named.
+fn open_input<F: FileSource>(
+    files: &F,
+    name: Option<&str>,
+) -> Result<Option<Counted<F::File>>, Refusal>
+    ensures opened { IfOk result (IsOpenedIfGiven F.File.remaining
+        (or_standard (F.standard files.now) (F.held files.now))
+        (option_map (λ n. n.now) name.entry)) }
+    ensures refusal { IfErr result (λ e. e ≡ Refusal.OutOfMemory) }
+{
+    match name {
+        Some(name) => Ok(Some(open_or_standard(files, name)?)),
         None => Ok(None),
     }
 }
@@ -448,20 +403,5 @@ fn open_or_standard<F: FileSource>(files: &F, name: &str) -> Result<Counted<F::F
     match name {
         "-" => Ok(files.standard_input()),
         name => files.open(name),
-    }
-}
-
-/// Opens the file of further addresses, where one is named.
-fn open_addresses<F: FileSource>(
-    files: &F,
-    name: Option<&str>,
-) -> Result<Option<Counted<F::File>>, Refusal>
-    ensures opened { IfOk result (IsOpenedIfGiven F.File.remaining
-        (or_standard (F.standard files.now) (F.held files.now)) name.entry) }
-    ensures refusal { IfErr result (λ e. e ≡ Refusal.OutOfMemory) }
-{
-    match name {
-        Some(name) => Ok(Some(open_or_standard(files, name)?)),
-        None => Ok(None),
     }
 }

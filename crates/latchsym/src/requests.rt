@@ -1,6 +1,5 @@
 //! What a command line asks for, and why it may ask for nothing.
-ghost use Rattle.std.specs.Prelude.{◌≡◌, option_map, true};
-ghost use Rattle.latchsym.specs.Requests.{has_modules_to_run};
+ghost use Rattle.std.specs.Prelude.{◌≡◌, option_map};
 
 use catalog_engines::{AddressForm, Annotate, Sources};
 use clap::Error;
@@ -26,7 +25,6 @@ pub struct Request<'a> {
     pub sources: Sources<'a>,
     /// What is done with them.
     pub subcommand: Subcommand<'a>,
-    ghost listed: { has_modules_to_run sources.files subcommand ≡ true },
 }
 
 /// What is done with listings. Each has the options `--kallsyms FILE`, `[--modules FILE]`,
@@ -117,9 +115,10 @@ impl<'a> Request<'a> {
 
 impl<'a> Subcommand<'a> {
     ghost use Rattle.latchsym.specs.Files.{input_of};
+    ghost use Rattle.latchsym.specs.Reasons.{does_tell};
 
-    /// The file that is read behind the listings, where there is one.
-    fn input(&self) -> Option<&'a str>
+    /// The file that is read behind the listings, if there is one.
+    pub(crate) fn input(&self) -> Option<&'a str>
         ensures { option_map (λ f. f.now) result ≡ input_of self.now }
     {
         match self {
@@ -127,6 +126,16 @@ impl<'a> Subcommand<'a> {
             Subcommand::Run(run) => Some(run.script),
             Subcommand::Annotate(annotate) => Some(annotate.log),
             Subcommand::Check | Subcommand::Address(_) => None,
+        }
+    }
+
+    /// Whether the errors behind the faults of the command are told.
+    pub(crate) fn tells_errors(&self) -> bool
+        ensures { result ≡ does_tell self.now }
+    {
+        match self {
+            Subcommand::Annotate(_) | Subcommand::Check | Subcommand::Address(_) => true,
+            Subcommand::Lookup(_) | Subcommand::Run(_) => false,
         }
     }
 }

@@ -46,8 +46,7 @@ pub use Rattle.modules.specs.Items.{item_of_address, items_at, items_below, item
 pub use Rattle.modules.specs.Loads.{item_of}
 pub use Rattle.modules.specs.RegionIndexes.{IsIndexOf, IsItemSplit}
 pub use Rattle.modules.specs.declared.symbols.IndexEntry.{IndexEntry}
-pub use Rattle.listing.specs.ModuleListing.{module_counts}
-pub use Rattle.listing.specs.Opening.{AreOpened, counts_of_texts}
+pub use Rattle.listing.specs.Opening.{Given, IsOpened, Listed, Say, lines_beside, listed_in, listings_of, skipped_modules_of}
 pub use Rattle.listing.specs.SymbolListing.{symbol_counts}
 pub use Rattle.latchsym_ffi.specs.Answers.{has_number}
 pub use Rattle.latchsym_ffi.specs.Batches.{told_at, told_of}
@@ -57,7 +56,7 @@ pub use Rattle.latchsym_ffi.specs.Flattening.{AreListed, AreRowsBelow}
 pub use Rattle.latchsym_ffi.specs.Handles.{HoldsReader}
 pub use Rattle.latchsym_ffi.specs.Kinds.{kind_in, reader_kind}
 pub use Rattle.latchsym_ffi.specs.Named.{IsNamed}
-pub use Rattle.latchsym_ffi.specs.Opening.{counts_in, shown_texts}
+pub use Rattle.latchsym_ffi.specs.Opening.{AreRead, HasTooManyRegionLines, IsCounted, RefusesTexts, counts_in}
 pub use Rattle.latchsym_ffi.specs.Owning.{owns_content}
 pub use Rattle.latchsym_ffi.specs.Replacing.{RefusesReplacingAs, item_told}
 pub use Rattle.latchsym_ffi.specs.Tables.{first_reader}

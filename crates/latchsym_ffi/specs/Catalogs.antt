@@ -4,16 +4,18 @@ use Rattle.modules.specs.Entries.{CatalogEntries}
 use Rattle.latchsym_ffi.specs.declared.handles.Handle.{Handle}
 use Rattle.latchsym_ffi.specs.declared.opening.CatalogCounts.{CatalogCounts}
 use Rattle.latchsym_ffi.specs.Handles.{HoldsCatalog}
-use Rattle.latchsym_ffi.specs.Opening.{AreRead, HasTooManyRegionLines, ListingTexts}
-use Rattle.latchsym_ffi.specs.Opening.{region_lines_of_text}
+use Rattle.listing.specs.Opening.{Given, listings_of}
+use Rattle.latchsym_ffi.specs.Opening.{AreRead, HasTooManyRegionLines}
+use Rattle.latchsym_ffi.specs.declared.listings.CatalogListings.{CatalogListings}
 
--- the handle was closed, and now holds the catalog of the texts, with their counts
-abbrev pub OpensCatalog : ListingTexts → Handle → Handle → CatalogCounts → Type 0
-OpensCatalog t h h' n = (h.kind ≡ 0) × ((c : CatalogEntries) × HoldsCatalog c h' × AreRead t c n)
+-- the handle was closed, and now holds the catalog of what C gives, with its counts
+abbrev pub OpensCatalog : CatalogListings → Handle → Handle → CatalogCounts → Type 0
+OpensCatalog given h h' n =
+    (h.kind ≡ 0) × ((c : CatalogEntries) × HoldsCatalog c h' × AreRead given c n)
 
 -- a refusal as out of memory, of too many region lines, or of a bad line of the listing of regions
-abbrev pub RefusesCatalog : ListingTexts → ℕ → ℕ → Type 0
-RefusesCatalog t bad result =
+abbrev pub RefusesCatalog : Given → ℕ → ℕ → Type 0
+RefusesCatalog g bad result =
     (result ≡ 7)
-    ⊎ ((result ≡ 14) × HasTooManyRegionLines t)
-    ⊎ ((result ≡ 15) × (region_lines_of_text t.regions ≡ Err bad))
+    ⊎ ((result ≡ 14) × HasTooManyRegionLines g)
+    ⊎ ((result ≡ 15) × (listings_of g ≡ Err bad))

@@ -2,7 +2,7 @@
 use Rattle.std.specs.Prelude.{ℕ, Bool, not, ◌&&◌, ◌||◌, nat_eq, if◌then◌else◌, List, length}
 use Rattle.std.specs.Prelude.{Option, Some, None}
 use Rattle.modules.specs.Listed.{BoundNames}
-use Rattle.latchsym_ffi.specs.Opening.{ListingTexts}
+use Rattle.listing.specs.Opening.{Given}
 use Rattle.latchsym_ffi.specs.declared.listings.CatalogListings.{CatalogListings}
 
 -- how many bytes the struct has
@@ -29,10 +29,13 @@ is_understood l =
     && (not (nat_eq l.has_modules 0) || is_empty l.modules.now && is_empty l.regions.now)
 
 -- the texts that it has
-abbrev pub texts_in : CatalogListings → ListingTexts
+abbrev pub texts_in : CatalogListings → Given
 texts_in l = record {
-  kernel = bounds_if_any l.start.now l.end.now;
   modules = if nat_eq l.has_modules 0 then None else Some l.modules.now;
   kallsyms = l.kallsyms.now;
   regions = text_if_any l.regions.now;
 }
+
+-- the names of both bounds of the kernel, if it has them
+abbrev pub kernel_in : CatalogListings → Option BoundNames
+kernel_in l = bounds_if_any l.start.now l.end.now

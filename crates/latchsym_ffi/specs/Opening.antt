@@ -1,65 +1,45 @@
 -- What the bytes of the listings say.
-use Rattle.std.specs.Prelude.{◌≡◌, ℕ, List, [], true, false, Option, Some, None, Result, Ok, Err}
-use Rattle.std.specs.Prelude.{slice_index}
-use Rattle.std.specs.Global.{Vec}
-use Rattle.std.specs.Option.{option_copied}
+use Rattle.std.specs.Prelude.{◌≡◌, ℕ, List, false, IsOkAnd, Option, Err, slice_index}
+use Rattle.std.specs.Option.{option_map, option_map_or}
 use Rattle.order_laws.specs.declared.refusals.Refusal.TheVariants as refusal
-use Rattle.listing.specs.declared.listing_notes.ListingNote.{ListingNote}
 use Rattle.listing.specs.declared.listing_notes.ListingNotes.{ListingNotes}
+use Rattle.listing.specs.declared.module_listing.SkippedModule.{SkippedModule}
 use Rattle.listing.specs.declared.module_listing.SkippedModule.TheVariants as module_cause
+use Rattle.listing.specs.declared.opening.OpenedCatalog.{OpenedCatalog}
 use Rattle.listing.specs.declared.symbol_listing.SkippedSymbol.TheVariants as symbol_cause
 use Rattle.texts.specs.Lines.{lines_of}
-use Rattle.listing.specs.ModuleListing.{module_counts, module_place}
-use Rattle.listing.specs.Opening.{SaysOfModules, catalog_of_texts, counts_of_texts, kept_in_text}
-use Rattle.listing.specs.Opening.{listed, notes_of_texts, symbol_note}
+use Rattle.texts.specs.declared.faults.LineFault.{LineFault}
+use Rattle.texts.specs.declared.faults.LineFault.TheVariants as line
+use Rattle.listing.specs.ModuleListing.{module_place}
+use Rattle.listing.specs.Opening.{Given, Listed, Say, lines_beside, listings_of, notes_of}
+use Rattle.listing.specs.Opening.{skipped_modules_of}
 use Rattle.listing.specs.SymbolListing.{symbol_counts, symbol_place}
-use Rattle.modules.specs.Accepted.{Accepted}
-use Rattle.modules.specs.Catalogs.{catalog_with}
 use Rattle.modules.specs.Entries.{CatalogEntries}
-use Rattle.modules.specs.Listed.{BoundNames, ListedRegion}
+use Rattle.modules.specs.Listed.{BoundNames}
 use Rattle.modules.specs.Placed.{are_few}
 use Rattle.modules.specs.declared.catalog.BuildCounts.{BuildCounts}
-use Rattle.modules.specs.declared.catalog.KeptCounts.{KeptCounts}
 use Rattle.latchsym_ffi.specs.Answers.{number_if_noted}
+use Rattle.latchsym_ffi.specs.Listings.{kernel_in, texts_in}
+use Rattle.latchsym_ffi.specs.declared.listings.CatalogListings.{CatalogListings}
 use Rattle.latchsym_ffi.specs.declared.opening.CatalogCounts.{CatalogCounts}
 use Rattle.latchsym_ffi.specs.declared.opening.CatalogFault.{CatalogFault}
 use Rattle.latchsym_ffi.specs.declared.opening.CatalogFault.TheVariants.{BadLine, Refused}
-use Rattle.latchsym_ffi.specs.declared.opening.CatalogTexts.{CatalogTexts}
-use Rattle.listing.specs.RegionListing.{regions_of_text as listed_regions}
 
--- the bytes of the listings, of which only that of symbols must be there, and the names of the
--- symbols that bound the kernel's own region, where they are given
-pub record ListingTexts : Type 0 where
-  pub kernel : Option BoundNames
-  pub modules : Option (List ℕ)
-  pub kallsyms : List ℕ
-  pub regions : Option (List ℕ)
-
-abbrev pub shown_texts : CatalogTexts → ListingTexts
-shown_texts t =
-    record {
-      kernel = t.kernel;
-      modules = option_copied t.modules;
-      kallsyms = t.kallsyms.now;
-      regions = option_copied t.regions;
-    }
-
--- the region lines of a listing that may be there, or the number of its first bad line
-abbrev pub region_lines_of_text : Option (List ℕ) → Result (List ListedRegion) ℕ
-region_lines_of_text None = Ok []
-region_lines_of_text (Some text) = listed_regions text
+-- how many lines of modules are skipped for a cause, by the counts of the causes if there are any
+abbrev pub skipped_for : Option (List ℕ) → SkippedModule → ℕ
+skipped_for counts cause = option_map_or (λ m. slice_index m (module_place cause)) counts 0
 
 -- the counts of the skipped lines of both listings, by cause, those of the build, and what is noted
-abbrev pub counts_in : List ℕ → List ℕ → BuildCounts → ListingNotes → CatalogCounts
+abbrev pub counts_in : Option (List ℕ) → List ℕ → BuildCounts → ListingNotes → CatalogCounts
 counts_in m s b notes = record {
   modules = b.modules;
-  modules_hidden = slice_index m (module_place module_cause.Hidden);
-  modules_empty = slice_index m (module_place module_cause.Empty);
-  modules_wraps = slice_index m (module_place module_cause.Wraps);
+  modules_hidden = skipped_for m module_cause.Hidden;
+  modules_empty = skipped_for m module_cause.Empty;
+  modules_wraps = skipped_for m module_cause.Wraps;
   modules_overlap = b.overlap;
   modules_double = b.double;
-  modules_long = slice_index m (module_place module_cause.Long);
-  modules_malformed = slice_index m (module_place module_cause.Malformed);
+  modules_long = skipped_for m module_cause.Long;
+  modules_malformed = skipped_for m module_cause.Malformed;
   symbols = b.symbols;
   symbols_hidden = slice_index s (symbol_place symbol_cause.Hidden);
   symbols_stray = b.stray;
@@ -71,75 +51,40 @@ counts_in m s b notes = record {
   symbols_note = number_if_noted notes.kallsyms;
 }
 
--- those of a listing of symbols alone, beside which no line of modules is skipped
-abbrev pub counts_alone : List ℕ → KeptCounts → Option ListingNote → CatalogCounts
-counts_alone s k note =
-    let built : BuildCounts = record {
-      modules = k.modules;
-      double = 0;
-      overlap = 0;
-      regions = k.regions;
-      stray_regions = 0;
-      symbols = k.symbols;
-      stray = k.stray;
-    } in
-    counts_in [] s built (record { modules = None; kallsyms = note })
+-- of what was opened
+abbrev pub counts_of : OpenedCatalog → CatalogCounts
+counts_of o =
+    counts_in (option_map (λ k. k.by_place) o.skipped_modules) o.skipped_symbols.by_place o.built
+    o.notes
 
--- the catalog and the counts are those of the texts, with this listing of modules and these region
--- lines; mapping symbols are stray
-pub record IsOpenedCatalog (t : ListingTexts) (modules : List ℕ) (lines : List ListedRegion)
-    (c : CatalogEntries) (n : CatalogCounts)
-    : Type 0 where
-  pub catalog : c ≡ catalog_of_texts t.kernel false modules t.kallsyms lines
-  pub counts :
-      n ≡ counts_in (module_counts (lines_of modules)) (symbol_counts (lines_of t.kallsyms))
-      (counts_of_texts t.kernel false modules t.kallsyms lines)
-      (notes_of_texts t.kernel false modules t.kallsyms lines)
+-- of listings that say this catalog and these counts
+abbrev pub counts_with : Option BoundNames → Listed → CatalogEntries → BuildCounts → CatalogCounts
+counts_with kernel l c n =
+    counts_in (skipped_modules_of l) (symbol_counts (lines_of l.kallsyms)) n
+    (notes_of kernel false l c n)
 
--- the same with the region lines that the texts have, of which no more than seven have one name
-pub record AreReadWith (t : ListingTexts) (modules : List ℕ) (c : CatalogEntries)
-    (n : CatalogCounts)
-    : Type 0 where
-  pub lines : List ListedRegion
-  pub read : region_lines_of_text t.regions ≡ Ok lines
-  pub few : are_few lines ≡ true
-  pub opened : IsOpenedCatalog t modules lines c n
+-- the catalog and the counts are those of listings, without mapping symbols
+abbrev pub IsCounted : Option BoundNames → CatalogEntries → CatalogCounts → Listed → Type 0
+IsCounted kernel c counts l =
+    (n : BuildCounts) × Say kernel false l c n × (counts ≡ counts_with kernel l c n)
 
--- the catalog and the counts are those of the listing of symbols alone
-pub record AreReadAlone (t : ListingTexts) (c : CatalogEntries) (n : CatalogCounts) : Type 0 where
-  pub accepted : Accepted
-  pub from_symbols : SaysOfModules t.kernel t.kallsyms accepted
-  pub catalog : c ≡ catalog_with accepted (listed t.kallsyms)
-  pub counts :
-      let kept = kept_in_text t.kallsyms accepted in
-      n ≡ counts_alone (symbol_counts (lines_of t.kallsyms)) kept
-      (symbol_note t.kernel t.kallsyms kept.symbols)
+-- they are those of what C gives
+abbrev pub AreRead : CatalogListings → CatalogEntries → CatalogCounts → Type 0
+AreRead given c counts = IsOkAnd (listings_of (texts_in given)) (IsCounted (kernel_in given) c counts)
 
--- with a listing of modules, and without
-abbrev pub AreReadFrom : Option (List ℕ) → ListingTexts → CatalogEntries → CatalogCounts → Type 0
-AreReadFrom None t c n = AreReadAlone t c n
-AreReadFrom (Some modules) t c n = AreReadWith t modules c n
-
--- the catalog and the counts are those of the texts
-abbrev pub AreRead : ListingTexts → CatalogEntries → CatalogCounts → Type 0
-AreRead t c n = AreReadFrom t.modules t c n
-
--- the region lines, or why they are not there
-abbrev pub GivesRegions : Option (List ℕ) → Result (Vec ListedRegion) CatalogFault → Type 0
-GivesRegions text (Ok lines) = region_lines_of_text text ≡ Ok lines.items
-GivesRegions text (Err (Refused refusal.OutOfMemory)) = Unit {0}
-GivesRegions text (Err (BadLine n)) = region_lines_of_text text ≡ Err n
-GivesRegions text (Err _) = ⊥
+-- why no catalog is opened if the listing of regions is not read
+abbrev pub fault_of : LineFault → CatalogFault
+fault_of (line.BadLine n) = BadLine n
+fault_of line.OutOfMemory = Refused refusal.OutOfMemory
+fault_of line.Read = Refused refusal.OutOfMemory
 
 -- more than seven region lines have one name
-abbrev pub HasTooManyRegionLines : ListingTexts → Type 0
-HasTooManyRegionLines t =
-    (lines : List ListedRegion) × (region_lines_of_text t.regions ≡ Ok lines)
-    × (are_few lines ≡ false)
+abbrev pub HasTooManyRegionLines : Given → Type 0
+HasTooManyRegionLines g = IsOkAnd (listings_of g) (λ l. are_few (lines_beside l) ≡ false)
 
 -- why the texts are refused
-abbrev pub RefusesTexts : ListingTexts → CatalogFault → Type 0
-RefusesTexts t (Refused refusal.OutOfMemory) = Unit {0}
-RefusesTexts t (Refused refusal.TooManyRegions) = HasTooManyRegionLines t
-RefusesTexts t (BadLine n) = region_lines_of_text t.regions ≡ Err n
-RefusesTexts t _ = ⊥
+abbrev pub RefusesTexts : Given → CatalogFault → Type 0
+RefusesTexts g (Refused refusal.OutOfMemory) = Unit {0}
+RefusesTexts g (Refused refusal.TooManyRegions) = HasTooManyRegionLines g
+RefusesTexts g (BadLine n) = listings_of g ≡ Err n
+RefusesTexts g _ = ⊥

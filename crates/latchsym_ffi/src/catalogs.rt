@@ -11,7 +11,7 @@ ghost use Rattle.latchsym_ffi.specs.Handles.{HoldsCatalog, Stays};
 ghost use Rattle.latchsym_ffi.specs.Kinds.{catalog_kind};
 ghost use Rattle.latchsym_ffi.specs.Listings.{is_understood, texts_in};
 ghost use Rattle.latchsym_ffi.specs.Named.{IsTold};
-ghost use Rattle.latchsym_ffi.specs.Opening.{RefusesTexts, shown_texts};
+ghost use Rattle.latchsym_ffi.specs.Opening.{RefusesTexts};
 
 use crate::answers::{BAD_HANDLE, BAD_LINE, BAD_LISTINGS, DONE};
 use crate::batches::{CatalogTold, tell_in_order};
@@ -21,14 +21,14 @@ use crate::finding::{CatalogAnswer, CatalogSymbol, copy_names, name_places, seek
 use crate::handles::Handle;
 use crate::listings::CatalogListings;
 use crate::open_catalogs::OpenCatalog;
-use crate::opening::{CatalogCounts, CatalogFault, CatalogTexts, open_catalog};
+use crate::opening::{CatalogCounts, CatalogFault, open_content};
 use order_laws::Refusal;
 use std::alloc::{AllocError, Global};
 
 /// Why a catalog was not opened, as a number, and the number of the bad line.
-fn refusal(_texts: &CatalogTexts, fault: CatalogFault, bad_line: &mut u64) -> u32
-    requires { RefusesTexts (shown_texts _texts.now) fault }
-    ensures why { RefusesCatalog (shown_texts _texts.now) bad_line.new result }
+fn refusal(_given: &CatalogListings, fault: CatalogFault, bad_line: &mut u64) -> u32
+    requires { RefusesTexts (texts_in _given.now) fault }
+    ensures why { RefusesCatalog (texts_in _given.now) bad_line.new result }
     ensures told { result ≢ 15 → bad_line.new ≡ bad_line.old }
 {
     match fault {
@@ -41,27 +41,27 @@ fn refusal(_texts: &CatalogTexts, fault: CatalogFault, bad_line: &mut u64) -> u3
     }
 }
 
-/// Opens the catalog of these texts in a closed handle.
+/// Opens the catalog of what is given in a closed handle.
 fn open_in(
     alloc: Global,
-    texts: &CatalogTexts,
+    given: &CatalogListings,
     out: &mut Handle,
     counts: &mut CatalogCounts,
     bad_line: &mut u64,
 ) -> u32
     requires { out.old.kind ≡ 0 }
-    ensures opened { result ≡ 0 → OpensCatalog (shown_texts texts.now) out.old out.new counts.new }
+    ensures opened { result ≡ 0 → OpensCatalog given.now out.old out.new counts.new }
     ensures refused { result ≢ 0 → (out.new ≡ out.old) × (counts.new ≡ counts.old) }
-    ensures why { result ≢ 0 → RefusesCatalog (shown_texts texts.now) bad_line.new result }
+    ensures why { result ≢ 0 → RefusesCatalog (texts_in given.now) bad_line.new result }
     ensures told { result ≢ 15 → bad_line.new ≡ bad_line.old }
 {
-    match open_catalog(alloc, texts) {
+    match open_content(alloc, given) {
         Ok((content, counted)) => {
             out.put(content);
             *counts = counted;
             DONE
         }
-        Err(fault) => refusal(texts, fault, bad_line),
+        Err(fault) => refusal(given, fault, bad_line),
     }
 }
 
@@ -75,7 +75,7 @@ pub extern "C" fn latchsym_catalog_open_nonnull(
     bad_line: &mut u64,
 ) -> u32
     ensures opened { result ≡ 0 → (is_understood listings.now ≡ true)
-        × OpensCatalog (texts_in listings.now) out.old out.new counts.new }
+        × OpensCatalog listings.now out.old out.new counts.new }
     ensures refused { result ≢ 0 → (out.new ≡ out.old) × (counts.new ≡ counts.old) }
     ensures not_so { out.old.kind ≢ 0 → result ≡ 101 }
     ensures other { out.old.kind ≡ 0 → is_understood listings.now ≡ false → result ≡ 103 }
@@ -89,7 +89,7 @@ pub extern "C" fn latchsym_catalog_open_nonnull(
     if !listings.is_understood() {
         return BAD_LISTINGS;
     }
-    open_in(alloc, &listings.texts(), out, counts, bad_line)
+    open_in(alloc, listings, out, counts, bad_line)
 }
 
 /// Tells of an address, with the names where they lie in the listings.

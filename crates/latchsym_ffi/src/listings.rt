@@ -1,12 +1,17 @@
 //! The struct of C that has the listings.
 
-ghost use Rattle.std.specs.Prelude.{◌≡◌};
+ghost use Rattle.std.specs.Prelude.{◌≡◌, [], true, unwrap_or, All, IfOk};
 ghost use Rattle.std.specs.Option.{option_copied};
-ghost use Rattle.latchsym_ffi.specs.Listings.{bounds_if_any, is_understood, text_if_any, texts_in};
-ghost use Rattle.latchsym_ffi.specs.Opening.{shown_texts};
+ghost use Rattle.texts.specs.Said.{GivesInGrammar};
+ghost use Rattle.modules.specs.Lines.{region_fits};
+ghost use Rattle.listing.specs.Opening.{listed_in, listings_of};
+ghost use Rattle.latchsym_ffi.specs.Listings.{bounds_if_any, is_understood, kernel_in};
+ghost use Rattle.latchsym_ffi.specs.Listings.{text_if_any, texts_in};
 
-use crate::opening::CatalogTexts;
+use listing::Listings;
 use modules::KernelBounds;
+use std::alloc::Global;
+use texts::LineFault;
 
 /// How many bytes the struct has, which it says itself first: a later version may have more.
 const SIZE: usize = 96;
@@ -55,19 +60,24 @@ impl CatalogListings {
             && (self.has_modules != 0 || self.modules.is_empty() && self.regions.is_empty())
     }
 
-    /// The texts that it has.
-    pub(crate) fn texts(&self) -> CatalogTexts
-        ensures { shown_texts result ≡ texts_in self.now }
+    /// The names of both bounds of the kernel, if they are given.
+    pub(crate) fn kernel(&self) -> Option<KernelBounds<'static>>
+        ensures { result ≡ kernel_in self.now }
     {
-        CatalogTexts {
-            kernel: bounds_if_any(self.start, self.end),
-            modules: if self.has_modules == 0 {
-                None
-            } else {
-                Some(self.modules)
-            },
-            kallsyms: self.kallsyms,
-            regions: if_any(self.regions),
-        }
+        bounds_if_any(self.start, self.end)
+    }
+
+    /// The listings that it has. Each line of that of regions has to be understood.
+    pub(crate) fn listings(&self, alloc: Global) -> Result<Listings<'static>, LineFault>
+        ensures listings { GivesInGrammar listed_in result (listings_of (texts_in self.now)) }
+        ensures fit { IfOk result
+            (λ l. All (λ r. region_fits r ≡ true) (unwrap_or (listed_in l).regions [])) }
+    {
+        let modules = if self.has_modules == 0 {
+            None
+        } else {
+            Some(self.modules)
+        };
+        Listings::of(alloc, modules, self.kallsyms, if_any(self.regions))
     }
 }

@@ -1,25 +1,18 @@
 //! From the bytes of the listings to a catalog.
 
-ghost use Rattle.std.specs.Prelude.{◌≡◌, true, All, IfOk, IfErr, slice_index};
-ghost use Rattle.std.specs.Option.{option_copied};
-ghost use Rattle.listing.specs.ModuleListing.{module_place};
-ghost use Rattle.modules.specs.Catalogs.{IsBuildRefusal};
+ghost use Rattle.std.specs.Prelude.{◌≡◌, IfErr, IfOk};
+ghost use Rattle.std.specs.Option.{option_copied, option_map};
 ghost use Rattle.modules.specs.Entries.{CatalogEntries};
-ghost use Rattle.modules.specs.Lines.{region_fits};
-ghost use Rattle.modules.specs.Placed.{are_few};
 ghost use Rattle.latchsym_ffi.specs.declared.contents.Content.TheVariants as content;
-ghost use Rattle.latchsym_ffi.specs.Opening.{AreRead, AreReadAlone, GivesRegions};
-ghost use Rattle.latchsym_ffi.specs.Opening.{IsOpenedCatalog, RefusesTexts};
-ghost use Rattle.latchsym_ffi.specs.Opening.{counts_alone, counts_in, shown_texts};
+ghost use Rattle.latchsym_ffi.specs.Listings.{texts_in};
+ghost use Rattle.latchsym_ffi.specs.Opening.{AreRead, RefusesTexts, counts_of, skipped_for};
 
 use crate::answers::number_if_noted;
 use crate::contents::Content;
+use crate::listings::CatalogListings;
 use crate::open_catalogs::OpenCatalog;
-use listing::{
-    Cause, ListingNote, ListingNotes, SkippedModule, SkippedSymbol, SymbolCounts, open_listings,
-    open_symbols, read_regions,
-};
-use modules::{Asked, BuildCounts, IndexedCatalog, KeptCounts, KernelBounds, RegionLine};
+use listing::{ModuleCounts, OpenedCatalog, SkippedModule, SkippedSymbol, open};
+use modules::{Asked, IndexedCatalog};
 use order_laws::Refusal;
 use std::alloc::{AllocError, AllocFailed, Global};
 use texts::LineFault;
@@ -47,17 +40,6 @@ pub struct CatalogCounts {
     pub regions_stray: u64,
     pub modules_note: u32,
     pub symbols_note: u32,
-}
-
-/// The bytes of the listings, those of modules and of regions only where they are given, and the
-/// names of the symbols that bound the kernel's own region, or none where the listing of symbols
-/// says which these are.
-#[derive(Drop)]
-pub struct CatalogTexts {
-    pub kernel: Option<KernelBounds<'static>>,
-    pub modules: Option<&'static [u8]>,
-    pub kallsyms: &'static [u8],
-    pub regions: Option<&'static [u8]>,
 }
 
 /// Why no catalog was opened.
@@ -101,40 +83,36 @@ impl From<AllocError> for CatalogFault {
     }
 }
 
-/// The lines of the listing of regions, of which there are none where it is not given.
-fn region_lines(
-    alloc: Global,
-    text: Option<&'static [u8]>,
-) -> Result<Vec<RegionLine<'static>>, CatalogFault>
-    ensures lines { GivesRegions (option_copied text.entry) result }
-    ensures fit { IfOk result (λ v. All (λ r. region_fits r ≡ true) v.items) }
-{
-    let Some(text) = text else {
-        return Ok(Vec::new(alloc));
-    };
-    match read_regions(alloc, text) {
-        Ok(lines) => Ok(lines),
-        Err(LineFault::BadLine(number)) => Err(CatalogFault::BadLine(number)),
-        Err(_) => Err(CatalogFault::Refused(Refusal::OutOfMemory)),
+impl From<LineFault> for CatalogFault {
+    ghost use Rattle.latchsym_ffi.specs.Opening.{fault_of};
+
+    ghost from_gives = { λ unread fault. fault ≡ fault_of unread };
+
+    fn from(unread: LineFault) -> CatalogFault {
+        match unread {
+            LineFault::BadLine(number) => CatalogFault::BadLine(number),
+            LineFault::OutOfMemory | LineFault::Read => CatalogFault::Refused(Refusal::OutOfMemory),
+        }
     }
 }
 
-/// How many lines of modules were skipped for this cause, by the counts at the places of the causes.
-fn skipped(modules: &[u64], cause: SkippedModule) -> u64
-    ensures { result ≡ slice_index modules.now (module_place cause) }
+/// How many lines of modules were skipped for this cause; none without a listing of them.
+fn skipped(modules: &Option<ModuleCounts>, cause: SkippedModule) -> u64
+    ensures { result ≡ skipped_for (option_map (λ k. k.by_place) modules.now) cause }
 {
-    modules.get(cause.place()).copied().unwrap_or(0)
+    match modules {
+        Some(counts) => counts.count(cause),
+        None => 0,
+    }
 }
 
 /// The counts as C has them.
-fn counts_of(
-    modules: &[u64],
-    symbols: &SymbolCounts,
-    built: &BuildCounts,
-    notes: &ListingNotes,
-) -> CatalogCounts
-    ensures { result ≡ counts_in modules.now symbols.now.by_place built.now notes.now }
+fn counts_of(opened: &OpenedCatalog) -> CatalogCounts
+    ensures { result ≡ counts_of opened.now }
 {
+    let modules = &opened.skipped_modules;
+    let symbols = &opened.skipped_symbols;
+    let built = &opened.built;
     CatalogCounts {
         modules: built.modules,
         modules_hidden: skipped(modules, SkippedModule::Hidden),
@@ -151,105 +129,37 @@ fn counts_of(
         symbols_malformed: symbols.count(SkippedSymbol::Malformed),
         regions: built.regions,
         regions_stray: built.stray_regions,
-        modules_note: number_if_noted(notes.modules),
-        symbols_note: number_if_noted(notes.kallsyms),
+        modules_note: number_if_noted(opened.notes.modules),
+        symbols_note: number_if_noted(opened.notes.kallsyms),
     }
 }
 
-/// The counts of a listing of symbols alone, beside which no line of modules is skipped.
-fn counts_alone(
-    symbols: &SymbolCounts,
-    kept: &KeptCounts,
-    note: Option<ListingNote>,
-) -> CatalogCounts
-    ensures { result ≡ counts_alone symbols.now.by_place kept.now note }
-{
-    let built = BuildCounts {
-        modules: kept.modules,
-        double: 0,
-        overlap: 0,
-        regions: kept.regions,
-        stray_regions: 0,
-        symbols: kept.symbols,
-        stray: kept.stray,
-    };
-    let notes = ListingNotes {
-        modules: None,
-        kallsyms: note,
-    };
-    counts_of(&[], symbols, &built, &notes)
-}
-
-/// A catalog, and how many lines went where.
-type Counted = (IndexedCatalog<'static>, CatalogCounts);
-
-/// Opens the listings of modules and of symbols, with these region lines.
-fn catalog_between(
-    alloc: Global,
-    texts: &CatalogTexts,
-    modules: &'static [u8],
-    regions: &[RegionLine<'static>],
-) -> Result<Counted, Refusal>
-    requires { All (λ r. region_fits r ≡ true) regions.now }
-    ensures opened { IfOk result
-        (λ r. IsOpenedCatalog (shown_texts texts.now) modules.now regions.now r.0 r.1) }
-    ensures few { IfOk result (λ _. are_few regions.now ≡ true) }
-    ensures refusal { IfErr result (IsBuildRefusal regions.now) }
-{
-    let kernel = texts.kernel.as_ref();
-    let kallsyms = texts.kallsyms;
-    let opened = open_listings(
-        alloc,
-        kernel,
-        false,
-        modules,
-        kallsyms,
-        Some(regions),
-        Asked::Any,
-    )?;
-    let counts = counts_of(
-        &opened.skipped_modules.by_place,
-        &opened.skipped_symbols,
-        &opened.built,
-        &opened.notes,
-    );
-    let indexed = IndexedCatalog::new(alloc, opened.catalog)?;
-    Ok((indexed, counts))
-}
-
-/// Opens the listing of symbols alone.
-fn catalog_alone(alloc: Global, texts: &CatalogTexts) -> Result<Counted, AllocError>
-    ensures { IfOk result (λ r. AreReadAlone (shown_texts texts.now) r.0 r.1) }
-{
-    let opened = open_symbols(alloc, texts.kernel.as_ref(), texts.kallsyms, Asked::Any)?;
-    let counts = counts_alone(&opened.skipped, &opened.kept, opened.note);
-    let indexed = IndexedCatalog::new(alloc, opened.catalog)?;
-    Ok((indexed, counts))
-}
-
 /// Reads the listings, and builds the catalog of them, or of that of symbols alone where that of
-/// modules is not given.
-fn catalog_of(alloc: Global, texts: &CatalogTexts) -> Result<Counted, CatalogFault>
-    ensures opened { IfOk result (λ r. AreRead (shown_texts texts.now) r.0 r.1) }
-    ensures fault { IfErr result (RefusesTexts (shown_texts texts.now)) }
+/// modules is not given. Mapping symbols are stray.
+fn catalog_of(
+    alloc: Global,
+    given: &CatalogListings,
+) -> Result<(IndexedCatalog<'static>, CatalogCounts), CatalogFault>
+    ensures opened { IfOk result (λ r. AreRead given.now r.0 r.1) }
+    ensures fault { IfErr result (RefusesTexts (texts_in given.now)) }
 {
-    let Some(modules) = texts.modules else {
-        return Ok(catalog_alone(alloc, texts)?);
-    };
-    let regions = region_lines(alloc, texts.regions)?;
-    Ok(catalog_between(alloc, texts, modules, &regions)?)
+    let listings = given.listings(alloc)?;
+    let kernel = given.kernel();
+    let opened = open(alloc, &listings, kernel.as_ref(), false, Asked::Any)?;
+    let counts = counts_of(&opened);
+    Ok((IndexedCatalog::new(alloc, opened.catalog)?, counts))
 }
 
-/// The same, as a handle holds it.
-pub(crate) fn open_catalog(
+/// The catalog of what is given, as a handle holds it.
+pub(crate) fn open_content(
     alloc: Global,
-    texts: &CatalogTexts,
+    given: &CatalogListings,
 ) -> Result<(Box<Content, Global>, CatalogCounts), CatalogFault>
     ensures opened { IfOk result (λ r. (c : CatalogEntries)
-        × (r.0.value ≡ content.Catalog c) × AreRead (shown_texts texts.now) c r.1) }
-    ensures fault { IfErr result (RefusesTexts (shown_texts texts.now)) }
+        × (r.0.value ≡ content.Catalog c) × AreRead given.now c r.1) }
+    ensures fault { IfErr result (RefusesTexts (texts_in given.now)) }
 {
-    let (catalog, counts) = catalog_of(alloc, texts)?;
+    let (catalog, counts) = catalog_of(alloc, given)?;
     let content = Content::Catalog(OpenCatalog::new(alloc, catalog)?);
     Ok((Box::new(alloc, content)?, counts))
 }

@@ -59,6 +59,13 @@ kernel_named with_mapping names symbols some =
       any_with (is_kernel_symbol names.end) with_mapping symbols (sym (first_named names.end those) ∙ both.1),
     )
 
+-- what is missing is missing as a copy
+pub copied_none : {T : Type 0} (o : Option (Bor T)) (missing : Bool) → is_some o ≡ not missing → missing ≡ is_none (option_copied o)
+copied_none None true is = refl
+copied_none None false is = absurd (cc)
+copied_none (Some t) true is = absurd (cc)
+copied_none (Some t) false is = refl
+
 -- what is there is there as a copy
 pub copied_some : {T : Type 0} (o : Option (Bor T)) → is_some o ≡ is_some (option_copied o)
 copied_some None = refl

@@ -1,113 +1,165 @@
 -- What listings say: a catalog, how many of their lines went where, and what is noted of them.
-use Rattle.std.specs.Prelude.{◌≡◌, ℕ, Bool, true, false, length, List, [], find, is_some, Option, None, unwrap_or}
+use Rattle.std.specs.Prelude.{◌≡◌, ℕ, Bool, ◌&&◌, false, true, length, List, [], find, is_none, is_some}
+use Rattle.std.specs.Prelude.{Option, Some, None, Result, Ok, Err, if◌then◌else◌, unwrap_or}
+use Rattle.std.specs.Option.{option_and_then, option_copied, option_map, option_map_or}
 use Rattle.texts.specs.Lines.{lines_of}
 use Rattle.modules.specs.Accepted.{Accepted}
-use Rattle.modules.specs.Catalogs.{build_of_listed, catalog_of, catalog_with, counts_of}
-use Rattle.modules.specs.Catalogs.{kept_counts, kept_of_listed}
+use Rattle.modules.specs.Catalogs.{build_of_listed, catalog_of, catalog_with, counts_of, kept_counts}
 use Rattle.modules.specs.Entries.{CatalogEntries}
 use Rattle.modules.specs.FromSymbols.{IsFromSymbols}
 use Rattle.modules.specs.Lines.{bounds_for, usual_bounds_of}
 use Rattle.modules.specs.Listed.{BoundNames, ListedRegion, ListedSymbol}
 use Rattle.modules.specs.Placed.{are_few}
 use Rattle.modules.specs.declared.catalog.BuildCounts.{BuildCounts}
-use Rattle.modules.specs.declared.catalog.KeptCounts.{KeptCounts}
 use Rattle.listing.specs.ListingNotes.{all_notes, is_of_kallsyms, is_of_modules}
 use Rattle.listing.specs.Looks.{are_modules_hidden, are_symbols_hidden}
 use Rattle.listing.specs.ModuleListing.{module_counts, modules_in}
+use Rattle.listing.specs.RegionListing.{regions_of_text}
 use Rattle.listing.specs.SymbolListing.{symbol_counts, symbols_in, symbols_with}
 use Rattle.listing.specs.declared.listing_notes.ListingNote.{ListingNote}
 use Rattle.listing.specs.declared.listing_notes.ListingNotes.{ListingNotes}
+use Rattle.listing.specs.declared.opening.Built.{Built}
 use Rattle.listing.specs.declared.opening.Listings.{Listings}
-use Rattle.listing.specs.declared.opening.SymbolListing.{SymbolListing}
+use Rattle.listing.specs.declared.opening.OpenedCatalog.{OpenedCatalog}
 
--- the first note that applies to a listing of symbols, which is alone or not, and of which so many
--- lines are kept: these may be kept, and the names of the kernel's bounds are given, or else the usual
--- ones
-abbrev pub symbols_note : Option BoundNames → Bool → List ListedSymbol → List ℕ → ℕ
-    → Option ListingNote
-symbols_note kernel alone symbols text kept =
-    find (is_of_kallsyms (bounds_for kernel symbols) alone text kept) all_notes
+-- ---- what is given
 
--- ---- of modules and of symbols
+-- the texts of listings, of which only that of symbols must be there
+pub record Given : Type 0 where
+  pub modules : Option (List ℕ)
+  pub kallsyms : List ℕ
+  pub regions : Option (List ℕ)
+
+abbrev pub given : Option (List ℕ) → List ℕ → Option (List ℕ) → Given
+given modules kallsyms regions =
+    record { modules = modules; kallsyms = kallsyms; regions = regions }
+
+-- the same with the lines of the listing of regions
+pub record Listed : Type 0 where
+  pub modules : Option (List ℕ)
+  pub kallsyms : List ℕ
+  pub regions : Option (List ListedRegion)
+
+-- those that the program has
+abbrev pub listed_in : Listings → Listed
+listed_in l = record {
+  modules = option_copied l.modules;
+  kallsyms = l.kallsyms.now;
+  regions = option_map (λ lines. lines.items) l.regions;
+}
+
+-- the texts with these region lines, if the listing of them has no bad line
+abbrev pub with_lines : Given → Result (List ListedRegion) ℕ → Result Listed ℕ
+with_lines g (Ok lines) =
+    Ok (record { modules = g.modules; kallsyms = g.kallsyms; regions = Some lines })
+with_lines g (Err n) = Err n
+
+-- the listings with these texts, where that of regions may be one of them
+abbrev pub listings_with : Given → Option (List ℕ) → Result Listed ℕ
+listings_with g None =
+    Ok (record { modules = g.modules; kallsyms = g.kallsyms; regions = None })
+listings_with g (Some text) = with_lines g (regions_of_text text)
+
+-- the listings with these texts, or the number of the first bad line of that of regions
+abbrev pub listings_of : Given → Result Listed ℕ
+listings_of g = listings_with g g.regions
+
+-- there is a listing of regions beside that of modules
+abbrev pub has_regions : Listed → Bool
+has_regions l = is_some l.modules && is_some l.regions
+
+-- the region lines that count
+abbrev pub lines_beside : Listed → List ListedRegion
+lines_beside l = if is_some l.modules then unwrap_or l.regions [] else []
+
+-- ---- the catalog, and how many lines went where
 
 -- the symbols that a catalog may keep: mapping symbols among them or not
 abbrev pub symbols_of : Bool → List ℕ → List ListedSymbol
 symbols_of mapping text = symbols_with mapping (symbols_in (lines_of text))
 
--- The catalog that two listings and these region lines say. The names of the kernel's bounds may be
--- given.
-unfoldable pub catalog_of_texts : Option BoundNames → Bool → List ℕ → List ℕ → List ListedRegion
-    → CatalogEntries
-catalog_of_texts kernel mapping modules kallsyms lines =
-    catalog_of kernel (modules_in (lines_of modules)) lines (symbols_of mapping kallsyms)
-
--- how many of their entries went where
-unfoldable pub counts_of_texts : Option BoundNames → Bool → List ℕ → List ℕ → List ListedRegion
-    → BuildCounts
-counts_of_texts kernel mapping modules kallsyms lines =
-    build_of_listed (length (symbols_in (lines_of kallsyms)))
-    (counts_of kernel (modules_in (lines_of modules)) lines (symbols_of mapping kallsyms))
-
--- of each of both the first note that applies to it
-abbrev pub notes_of_texts : Option BoundNames → Bool → List ℕ → List ℕ → List ListedRegion
-    → ListingNotes
-notes_of_texts kernel mapping modules kallsyms lines = record {
-  modules = find
-      (is_of_modules modules kallsyms (catalog_of_texts kernel mapping modules kallsyms lines))
-      all_notes;
-  kallsyms = symbols_note kernel false (symbols_of mapping kallsyms) kallsyms
-      (counts_of_texts kernel mapping modules kallsyms lines).symbols;
-}
-
--- the catalog, the counts and the notes are those of two listings, with these region lines, where
--- there is a listing of them
-pub record AreOpened (kernel : Option BoundNames) (mapping : Bool) (modules kallsyms : List ℕ)
-    (regions : Option (List ListedRegion)) (l : Listings)
+-- The catalog and the counts are those of a listing of modules with this text, of these region lines
+-- and of these symbols. The names of the kernel's bounds may be given.
+pub record AreByModules (kernel : Option BoundNames) (text : List ℕ) (lines : List ListedRegion)
+    (symbols : List ListedSymbol) (c : CatalogEntries) (n : BuildCounts)
     : Type 0 where
-  pub few : are_few (unwrap_or regions []) ≡ true
-  pub catalog : l.catalog ≡ catalog_of_texts kernel mapping modules kallsyms (unwrap_or regions [])
-  pub built : l.built ≡ counts_of_texts kernel mapping modules kallsyms (unwrap_or regions [])
-  pub skipped_modules : l.skipped_modules.by_place ≡ module_counts (lines_of modules)
-  pub skipped_symbols : l.skipped_symbols.by_place ≡ symbol_counts (lines_of kallsyms)
-  pub has_regions : l.has_regions ≡ is_some regions
-  pub modules_hidden : l.modules_hidden ≡ are_modules_hidden (lines_of modules)
-  pub symbols_hidden : l.symbols_hidden ≡ are_symbols_hidden (lines_of kallsyms)
-  pub usual : l.usual ≡ usual_bounds_of (symbols_of mapping kallsyms)
-  pub notes : l.notes ≡ notes_of_texts kernel mapping modules kallsyms (unwrap_or regions [])
+  pub few : are_few lines ≡ true
+  pub catalog : c ≡ catalog_of kernel (modules_in (lines_of text)) lines symbols
+  pub counts : n ≡ counts_of kernel (modules_in (lines_of text)) lines symbols
 
--- ---- of symbols alone
-
--- the symbols that a text lists, but mapping symbols
-abbrev pub listed : List ℕ → List ListedSymbol
-listed text = symbols_of false text
-
--- how many modules and regions a text says, and how many of its lines went where; mapping symbols
--- are stray
-abbrev pub kept_in_text : List ℕ → Accepted → KeptCounts
-kept_in_text text a =
-    kept_of_listed (length (symbols_in (lines_of text))) (kept_counts a (listed text))
-
--- what the listing in a text says of the kernel, which lies between the names that are given or
--- else in its usual regions, and of the modules
-abbrev pub SaysOfModules : Option BoundNames → List ℕ → Accepted → Type 0
-SaysOfModules kernel text a = IsFromSymbols kernel (listed text) a
-
--- the first note that applies to such a listing, of which so many lines are kept
-abbrev pub symbol_note : Option BoundNames → List ℕ → ℕ → Option ListingNote
-symbol_note kernel text kept = symbols_note kernel true (listed text) text kept
-
--- the notes of who opens one listing of symbols alone
-abbrev pub notes_with : Option ListingNote → ListingNotes
-notes_with note = record { modules = None; kallsyms = note }
-
--- the catalog, the counts and the note are those of the listing in this text
-pub record IsSymbolListing (kernel : Option BoundNames) (text : List ℕ) (l : SymbolListing)
+-- The catalog and the counts are those of these symbols alone.
+pub record AreBySymbols (kernel : Option BoundNames) (symbols : List ListedSymbol)
+    (c : CatalogEntries) (n : BuildCounts)
     : Type 0 where
   pub modules : Accepted
-  pub said : SaysOfModules kernel text modules
-  pub catalog : l.catalog ≡ catalog_with modules (listed text)
-  pub kept : l.kept ≡ kept_in_text text modules
-  pub skipped : l.skipped.by_place ≡ symbol_counts (lines_of text)
-  pub hidden : l.hidden ≡ are_symbols_hidden (lines_of text)
-  pub usual : l.usual ≡ usual_bounds_of (listed text)
-  pub note : l.note ≡ symbol_note kernel text (kept_in_text text modules).symbols
+  pub found : IsFromSymbols kernel symbols modules
+  pub catalog : c ≡ catalog_with modules symbols
+  pub counts : n ≡ kept_counts modules symbols
+
+-- The catalog and the counts are those of listings, of whose symbols these may be kept. Without one of
+-- modules the symbols say where modules lie.
+abbrev pub AreBy : Option BoundNames → Listed → List ListedSymbol → Option (List ℕ)
+    → CatalogEntries → BuildCounts → Type 0
+AreBy kernel l symbols (Some text) c n =
+    AreByModules kernel text (unwrap_or l.regions []) symbols c n
+AreBy kernel l symbols None c n = AreBySymbols kernel symbols c n
+
+-- Listings say this catalog, and that so many of their lines went where. A symbol that is not kept is
+-- stray.
+pub record Say (kernel : Option BoundNames) (mapping : Bool) (l : Listed) (c : CatalogEntries)
+    (n : BuildCounts)
+    : Type 0 where
+  pub kept : BuildCounts
+  pub built : AreBy kernel l (symbols_of mapping l.kallsyms) l.modules c kept
+  pub counts : n ≡ build_of_listed (length (symbols_in (lines_of l.kallsyms))) kept
+
+-- ---- what is noted
+
+-- the first note that applies to a listing of modules, if there is one beside that of symbols
+abbrev pub note_on_modules : Listed → CatalogEntries → Option ListingNote
+note_on_modules l c =
+    option_and_then (λ text. find (is_of_modules text l.kallsyms c) all_notes) l.modules
+
+-- the first note that applies to a listing of symbols, of which so many lines are kept
+abbrev pub note_on_symbols : Option BoundNames → Bool → Listed → ℕ → Option ListingNote
+note_on_symbols kernel mapping l kept =
+    find (is_of_kallsyms (bounds_for kernel (symbols_of mapping l.kallsyms)) (is_none l.modules)
+    l.kallsyms kept) all_notes
+
+-- of listings that say this catalog and these counts
+abbrev pub notes_of : Option BoundNames → Bool → Listed → CatalogEntries → BuildCounts
+    → ListingNotes
+notes_of kernel mapping l c n = record {
+  modules = note_on_modules l c;
+  kallsyms = note_on_symbols kernel mapping l n.symbols;
+}
+
+-- ---- all of it
+
+-- all well-formed lines of the listing of modules are hidden, if there is one
+abbrev pub hides_modules : Listed → Bool
+hides_modules l = option_map_or (λ text. are_modules_hidden (lines_of text)) l.modules false
+
+-- how many lines of the listing of modules are skipped, by cause, if there is one
+abbrev pub skipped_modules_of : Listed → Option (List ℕ)
+skipped_modules_of l = option_map (λ text. module_counts (lines_of text)) l.modules
+
+-- what was built, of symbols that may be kept, is what listings say
+pub record AreBuilt (kernel : Option BoundNames) (l : Listed) (symbols : List ListedSymbol)
+    (b : Built) : Type 0 where
+  pub said : AreBy kernel l symbols l.modules b.catalog b.counts
+  pub skipped : option_map (λ k. k.by_place) b.skipped ≡ skipped_modules_of l
+  pub hidden : b.hidden ≡ hides_modules l
+  pub note : b.note ≡ note_on_modules l b.catalog
+
+-- what was opened is what listings say
+pub record IsOpened (kernel : Option BoundNames) (mapping : Bool) (l : Listed) (o : OpenedCatalog)
+    : Type 0 where
+  pub said : Say kernel mapping l o.catalog o.built
+  pub skipped_modules : option_map (λ k. k.by_place) o.skipped_modules ≡ skipped_modules_of l
+  pub skipped_symbols : o.skipped_symbols.by_place ≡ symbol_counts (lines_of l.kallsyms)
+  pub has_regions : o.has_regions ≡ has_regions l
+  pub modules_hidden : o.modules_hidden ≡ hides_modules l
+  pub symbols_hidden : o.symbols_hidden ≡ are_symbols_hidden (lines_of l.kallsyms)
+  pub usual : o.usual ≡ usual_bounds_of (symbols_of mapping l.kallsyms)
+  pub notes : o.notes ≡ notes_of kernel mapping l o.catalog o.built

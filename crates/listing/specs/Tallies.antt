@@ -1,15 +1,15 @@
 -- Where the lines of listings went.
 use Rattle.std.specs.Prelude.{ℕ, Bool, if◌then◌else◌, List, [], ◌∷◌, ◌++◌, codes, decimal}
 use Rattle.std.specs.Prelude.{drop, flat_map, map, slice_index, take, Option, Some, None}
-use Rattle.std.specs.Option.{option_map_or}
+use Rattle.std.specs.Option.{option_map, option_map_or}
+use Rattle.texts.specs.Lines.{lines_of}
 use Rattle.listing.specs.ModuleListing.{module_cause_name, module_causes, module_place}
-use Rattle.listing.specs.SymbolListing.{symbol_cause_name, symbol_causes, symbol_place}
+use Rattle.listing.specs.Opening.{Listed, has_regions, skipped_modules_of}
+use Rattle.listing.specs.SymbolListing.{symbol_cause_name, symbol_causes, symbol_counts, symbol_place}
 use Rattle.listing.specs.declared.module_listing.SkippedModule.TheVariants as module_cause
-use Rattle.listing.specs.declared.opening.Listings.{Listings}
-use Rattle.listing.specs.declared.opening.SymbolListing.{SymbolListing}
+use Rattle.listing.specs.declared.opening.OpenedCatalog.{OpenedCatalog}
 use Rattle.listing.specs.declared.symbol_listing.SkippedSymbol.TheVariants as symbol_cause
 use Rattle.modules.specs.declared.catalog.BuildCounts.{BuildCounts}
-use Rattle.modules.specs.declared.catalog.KeptCounts.{KeptCounts}
 
 -- what is listed, how much of it is kept, and what else is counted, each with its name
 pub record Tally : Type 0 where
@@ -63,36 +63,32 @@ regions_tally built = record {
 }
 
 -- how many modules a listing of symbols alone has, and how many regions these have
-abbrev pub found_tally : KeptCounts → Tally
-found_tally kept = record {
+abbrev pub found_tally : BuildCounts → Tally
+found_tally built = record {
   title = codes "modules";
-  kept = kept.modules;
-  rows = (codes "regions", kept.regions) ∷ [];
+  kept = built.modules;
+  rows = (codes "regions", built.regions) ∷ [];
 }
 
--- of listings of modules and of symbols, and of one of regions where there is one
-abbrev pub tallies_by : List ℕ → List ℕ → Bool → BuildCounts → Tallies
+-- of a listing of modules, of which so many lines are skipped, or of symbols alone, and of one of
+-- regions if there is one
+abbrev pub tallies_by : Option (List ℕ) → List ℕ → Bool → BuildCounts → Tallies
 tallies_by modules symbols given built = record {
-  modules = modules_tally modules built;
+  modules = option_map_or (λ skipped. modules_tally skipped built) modules (found_tally built);
   symbols = symbols_tally symbols built.symbols built.stray;
   regions = if given then Some (regions_tally built) else None;
 }
 
--- of a listing of symbols alone
-abbrev pub symbol_tallies_by : KeptCounts → List ℕ → Tallies
-symbol_tallies_by kept skipped = record {
-  modules = found_tally kept;
-  symbols = symbols_tally skipped kept.symbols kept.stray;
-  regions = None;
-}
+-- of listings of whose lines so many went where
+abbrev pub tallies_with : Listed → BuildCounts → Tallies
+tallies_with l built =
+    tallies_by (skipped_modules_of l) (symbol_counts (lines_of l.kallsyms)) (has_regions l) built
 
 -- of listings that were opened
-abbrev pub tallies_of : Listings → Tallies
-tallies_of l =
-    tallies_by l.skipped_modules.by_place l.skipped_symbols.by_place l.has_regions l.built
-
-abbrev pub symbol_tallies_of : SymbolListing → Tallies
-symbol_tallies_of l = symbol_tallies_by l.kept l.skipped.by_place
+abbrev pub tallies_of : OpenedCatalog → Tallies
+tallies_of o =
+    tallies_by (option_map (λ k. k.by_place) o.skipped_modules) o.skipped_symbols.by_place
+    o.has_regions o.built
 
 -- ---- their lines
 

@@ -29,7 +29,7 @@ pub use listing_notes::{
 };
 pub use looks::{are_modules_hidden, are_symbols_hidden, is_gzip, is_narrow, is_utf_16};
 pub use module_listing::{ModuleCounts, SkippedModule, read_modules};
-pub use opening::{Listings, SymbolListing, open_listings, open_symbols};
+pub use opening::{Listings, OpenedCatalog, open};
 pub use region_listing::read_regions;
 pub use symbol_listing::{
     SkippedSymbol, SymbolCounts, cut, cut_tabbed_line, is_mapping, read_kallsyms, symbol_of_line,

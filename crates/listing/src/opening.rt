@@ -1,10 +1,10 @@
-//! From the texts of listings to the catalog that they say, with how many of their lines went where
-//! and what is noted of them: the one way in which the commands and the library open listings.
+//! From listings to the catalog that they say, with how many of their lines went where and what is
+//! noted of them: the one way in which the commands and the library open listings.
 //!
 //! ```text
 //!     /proc/modules    regions    /proc/kallsyms              /proc/kallsyms alone
 //!           |             |             |                              |
-//!       read_modules      |       read_kallsyms                  read_kallsyms
+//!      read_modules  Listings::of  read_kallsyms                  read_kallsyms
 //!           |             |             |                              |
 //!           +--- Catalog::build --------+                    Catalog::from_symbols
 //!                         |                                            |
@@ -12,161 +12,193 @@
 //! ```
 ghost use Rattle.std.specs.Prelude.{◌≡◌, [], true, unwrap_or, All, IfErr, IfOk};
 ghost use Rattle.std.specs.Option.{option_copied};
+ghost use Rattle.texts.specs.Said.{GivesInGrammar};
 ghost use Rattle.modules.specs.Catalogs.{IsBuildRefusal};
 ghost use Rattle.modules.specs.Lines.{region_fits};
-ghost use Rattle.listing.specs.Opening.{AreOpened, IsSymbolListing};
+ghost use Rattle.listing.specs.Opening.{AreBuilt, IsOpened, lines_beside, listed_in, listings_of};
 
 use crate::listing_notes::{
     ListingNote, ListingNotes, SymbolFacts, note_of_kallsyms, note_of_modules,
 };
 use crate::looks::{are_modules_hidden, are_symbols_hidden};
 use crate::module_listing::{ModuleCounts, read_modules};
-use crate::symbol_listing::{ListedSymbols, SymbolCounts, read_kallsyms};
-use modules::{Asked, BuildCounts, Catalog, KeptCounts, KernelBounds, RegionLine};
+use crate::region_listing::read_regions;
+use crate::symbol_listing::{SymbolCounts, read_kallsyms};
+use modules::{Asked, BuildCounts, Catalog, KernelBounds, RegionLine, SymbolLines};
 use order_laws::Refusal;
-use std::alloc::{AllocError, Global};
+use std::alloc::Global;
+use texts::LineFault;
 
-/// What listings of modules and of symbols say: a catalog, and how many of their lines went where.
+/// The listings that are given: the texts of those of modules and of symbols, and the lines of that of
+/// regions.
 #[derive(Drop)]
 pub struct Listings<'a> {
-    pub catalog: Catalog<'a>,
-    pub built: BuildCounts,
-    pub skipped_modules: ModuleCounts,
-    pub skipped_symbols: SymbolCounts,
-    /// Whether there is a listing of regions.
-    pub has_regions: bool,
-    /// All well-formed lines of the listing of modules are hidden, and there is one.
-    pub modules_hidden: bool,
-    /// All well-formed lines of the listing of symbols are hidden, and there is one.
-    pub symbols_hidden: bool,
-    /// The usual names of both bounds of the kernel, as far as the listing of symbols has them.
-    pub usual: KernelBounds<'static>,
-    /// What is noted of them.
-    pub notes: ListingNotes,
+    /// The text of the listing of modules; if there is none, the symbols say where modules lie.
+    pub modules: Option<&'a [u8]>,
+    /// The text of the listing of symbols.
+    pub kallsyms: &'a [u8],
+    /// The lines of the listing of regions, if there is one. They count beside a listing of modules.
+    pub regions: Option<Vec<RegionLine<'a>>>,
 }
 
-/// Reads the lines of listings of modules and of symbols, and builds the catalog of them and of these
-/// region lines. The addresses that will be looked up are a hint for the build. The kernel itself lies
-/// between the given names, or else in its usual regions; mapping symbols are kept or stray. Refused if
-/// more than 7 region lines have one name, and when out of memory.
-pub fn open_listings<'a>(
-    alloc: Global,
-    kernel: Option<&KernelBounds>,
-    with_mapping: bool,
-    modules: &'a [u8],
-    kallsyms: &'a [u8],
-    regions: Option<&[RegionLine<'a>]>,
-    asked: Asked<'_>,
-) -> Result<Listings<'a>, Refusal>
-    requires { All (λ r. region_fits r ≡ true) (unwrap_or (option_copied regions) []) }
-    ensures said { IfOk result (AreOpened (option_copied kernel.entry) with_mapping modules.now
-        kallsyms.now (option_copied regions.entry)) }
-    ensures refusal { IfErr result
-        (IsBuildRefusal (unwrap_or (option_copied regions.entry) [])) }
-{
-    let (module_lines, skipped_modules) = read_modules(alloc, modules)?;
-    let symbols = read_kallsyms(alloc, kallsyms, with_mapping)?;
-    let modules_hidden = are_modules_hidden(module_lines.len(), &skipped_modules);
-    let symbols_hidden = are_symbols_hidden(symbols.listed, &symbols.skipped);
-    let usual = symbols.lines.usual_bounds();
-    let names = kernel.unwrap_or(&usual);
-    let has_kernel = symbols.lines.has_region(names);
-    let lines = regions.unwrap_or(&[]);
-    let (catalog, counts) = Catalog::build(
-        alloc,
-        kernel,
-        &module_lines,
-        lines,
-        symbols.lines,
-        asked,
-    )?;
-    let built = counts.of_listed(symbols.listed);
-    let facts = SymbolFacts {
-        is_alone: false,
-        hidden: symbols_hidden,
-        kept: built.symbols,
-        has_kernel,
-    };
-    let notes = ListingNotes {
-        modules: note_of_modules(modules, kallsyms, modules_hidden, &catalog),
-        kallsyms: note_of_kallsyms(kallsyms, names, facts),
-    };
-    Ok(Listings {
-        catalog,
-        built,
-        skipped_modules,
-        skipped_symbols: symbols.skipped,
-        has_regions: regions.is_some(),
-        modules_hidden,
-        symbols_hidden,
-        usual,
-        notes,
-    })
-}
+impl<'a> Listings<'a> {
+    ghost use Rattle.listing.specs.Opening.{given, has_regions};
 
-/// What a listing of symbols alone says: a catalog, and how many of its lines went where.
-#[derive(Drop)]
-pub struct SymbolListing<'a> {
-    pub catalog: Catalog<'a>,
-    pub kept: KeptCounts,
-    pub skipped: SymbolCounts,
-    /// All well-formed lines are hidden, and there is one.
-    pub hidden: bool,
-    /// The usual names of both bounds of the kernel, as far as it has them.
-    pub usual: KernelBounds<'static>,
-    /// What is noted of the listing.
-    pub note: Option<ListingNote>,
-}
-
-impl SymbolListing<'_> {
-    ghost use Rattle.listing.specs.Opening.{notes_with};
-
-    /// The notes of a job whose only listing it is.
-    pub fn notes(&self) -> ListingNotes
-        ensures { result ≡ notes_with self.now.note }
+    /// The listings with these texts. Each line of that of regions has to be understood.
+    pub fn of(
+        alloc: Global,
+        modules: Option<&'a [u8]>,
+        kallsyms: &'a [u8],
+        regions: Option<&'a [u8]>,
+    ) -> Result<Listings<'a>, LineFault>
+        ensures listings { GivesInGrammar listed_in result
+            (listings_of (given (option_copied modules.entry) kallsyms.now
+            (option_copied regions.entry))) }
+        ensures fit { IfOk result
+            (λ l. All (λ r. region_fits r ≡ true) (unwrap_or (listed_in l).regions [])) }
     {
-        ListingNotes {
-            modules: None,
-            kallsyms: self.note,
+        let regions = match regions {
+            Some(text) => Some(read_regions(alloc, text)?),
+            None => None,
+        };
+        Ok(Listings {
+            modules,
+            kallsyms,
+            regions,
+        })
+    }
+
+    /// Whether there is a listing of regions beside that of modules.
+    fn has_regions(&self) -> bool
+        ensures { result ≡ has_regions (listed_in self.now) }
+    {
+        match (self.modules, &self.regions) {
+            (Some(_), Some(_)) => true,
+            (None, _) | (_, None) => false,
         }
     }
 }
 
-/// Reads the lines of a listing of symbols, and builds the catalog that they say. The addresses that
-/// will be looked up are a hint for the build. The kernel itself lies between the given names, or else
-/// in its usual regions.
-pub fn open_symbols<'a>(
-    alloc: Global,
-    kernel: Option<&KernelBounds>,
-    kallsyms: &'a [u8],
-    asked: Asked<'_>,
-) -> Result<SymbolListing<'a>, AllocError>
-    ensures { IfOk result (IsSymbolListing (option_copied kernel.entry) kallsyms.now) }
+/// A catalog, how many lines of its listings went where, and what is noted of them.
+#[derive(Drop)]
+pub struct OpenedCatalog<'a> {
+    pub catalog: Catalog<'a>,
+    /// How many lines went where.
+    pub built: BuildCounts,
+    /// How many lines of the listing of modules were skipped, if there is one.
+    pub skipped_modules: Option<ModuleCounts>,
+    /// How many lines of the listing of symbols were skipped.
+    pub skipped_symbols: SymbolCounts,
+    /// Whether there is a listing of regions beside that of modules.
+    pub has_regions: bool,
+    /// There is a well-formed line of a listing of modules, and all of them are hidden.
+    pub modules_hidden: bool,
+    /// There is a well-formed line of the listing of symbols, and all of them are hidden.
+    pub symbols_hidden: bool,
+    /// The usual names of both bounds of the kernel, as far as the listing of symbols has them.
+    pub usual: KernelBounds<'static>,
+    /// What is noted of the listings.
+    pub notes: ListingNotes,
+}
+
+/// A catalog, and what is known of the listing of modules beside that of symbols.
+#[derive(Drop)]
+struct Built<'a> {
+    catalog: Catalog<'a>,
+    counts: BuildCounts,
+    skipped: Option<ModuleCounts>,
+    hidden: bool,
+    note: Option<ListingNote>,
+}
+
+/// The region lines, of which there are none without a listing of them.
+fn lines_in<'i, 'a>(listings: &'i Listings<'a>) -> &'i [RegionLine<'a>]
+    ensures { result.now ≡ unwrap_or (listed_in listings.now).regions [] }
 {
-    let ListedSymbols {
-        lines,
-        listed,
-        skipped,
-    } = read_kallsyms(alloc, kallsyms, false)?;
-    let hidden = are_symbols_hidden(listed, &skipped);
-    let usual = lines.usual_bounds();
-    let names = kernel.unwrap_or(&usual);
-    let has_kernel = lines.has_region(names);
-    let (catalog, counts) = Catalog::from_symbols(alloc, kernel, lines, asked)?;
-    let kept = counts.of_listed(listed);
-    let facts = SymbolFacts {
-        is_alone: true,
+    match &listings.regions {
+        Some(lines) => lines,
+        None => &[],
+    }
+}
+
+/// Builds the catalog that the listings say, of whose symbols these may be kept.
+fn build<'a>(
+    alloc: Global,
+    listings: &Listings<'a>,
+    kernel: Option<&KernelBounds>,
+    symbols: SymbolLines<'a>,
+    asked: Asked<'_>,
+) -> Result<Built<'a>, Refusal>
+    requires { All (λ r. region_fits r ≡ true) (unwrap_or (listed_in listings.now).regions []) }
+    ensures built { IfOk result
+        (AreBuilt (option_copied kernel.entry) (listed_in listings.now) symbols.entry) }
+    ensures refusal { IfErr result (IsBuildRefusal (lines_beside (listed_in listings.now))) }
+{
+    let Some(text) = listings.modules else {
+        let (catalog, counts) = Catalog::from_symbols(alloc, kernel, symbols, asked)?;
+        return Ok(Built {
+            catalog,
+            counts,
+            skipped: None,
+            hidden: false,
+            note: None,
+        });
+    };
+    let (lines, skipped) = read_modules(alloc, text)?;
+    let hidden = are_modules_hidden(lines.len(), &skipped);
+    let regions = lines_in(listings);
+    let (catalog, counts) = Catalog::build(alloc, kernel, &lines, regions, symbols, asked)?;
+    let note = note_of_modules(text, listings.kallsyms, hidden, &catalog);
+    Ok(Built {
+        catalog,
+        counts,
+        skipped: Some(skipped),
         hidden,
-        kept: kept.symbols,
+        note,
+    })
+}
+
+/// Opens listings. The kernel itself lies between the given names, or else in its usual regions;
+/// mapping symbols are kept or stray. The addresses that will be looked up are a hint for the build.
+/// Refused if more than 7 region lines have one name, and when out of memory.
+pub fn open<'a>(
+    alloc: Global,
+    listings: &Listings<'a>,
+    kernel: Option<&KernelBounds>,
+    with_mapping: bool,
+    asked: Asked<'_>,
+) -> Result<OpenedCatalog<'a>, Refusal>
+    requires { All (λ r. region_fits r ≡ true) (unwrap_or (listed_in listings.now).regions []) }
+    ensures opened { IfOk result
+        (IsOpened (option_copied kernel.entry) with_mapping (listed_in listings.now)) }
+    ensures refusal { IfErr result (IsBuildRefusal (lines_beside (listed_in listings.now))) }
+{
+    let kallsyms = listings.kallsyms;
+    let symbols = read_kallsyms(alloc, kallsyms, with_mapping)?;
+    let usual = symbols.lines.usual_bounds();
+    let names = kernel.unwrap_or(&usual);
+    let has_kernel = symbols.lines.has_region(names);
+    let built = build(alloc, listings, kernel, symbols.lines, asked)?;
+    let counts = built.counts.of_listed(symbols.listed);
+    let facts = SymbolFacts {
+        is_alone: listings.modules.is_none(),
+        hidden: are_symbols_hidden(symbols.listed, &symbols.skipped),
+        kept: counts.symbols,
         has_kernel,
     };
-    let note = note_of_kallsyms(kallsyms, names, facts);
-    Ok(SymbolListing {
-        catalog,
-        kept,
-        skipped,
-        hidden,
+    let notes = ListingNotes {
+        modules: built.note,
+        kallsyms: note_of_kallsyms(kallsyms, names, facts),
+    };
+    Ok(OpenedCatalog {
+        catalog: built.catalog,
+        built: counts,
+        skipped_modules: built.skipped,
+        skipped_symbols: symbols.skipped,
+        has_regions: listings.has_regions(),
+        modules_hidden: built.hidden,
+        symbols_hidden: facts.hidden,
         usual,
-        note,
+        notes,
     })
 }

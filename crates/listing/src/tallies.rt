@@ -7,10 +7,10 @@ ghost use Rattle.listing.specs.Tallies.{row_text, rows_of, symbols_tally, tally_
 
 use crate::causes::{Cause, Counts};
 use crate::module_listing::{ModuleCounts, SkippedModule};
-use crate::opening::{Listings, SymbolListing};
+use crate::opening::OpenedCatalog;
 use crate::symbol_listing::{SkippedSymbol, SymbolCounts};
 use arrayvec::ArrayVec;
-use modules::{BuildCounts, KeptCounts};
+use modules::BuildCounts;
 use std::io::Write;
 use std::marker::Model;
 use texts::Output;
@@ -108,36 +108,24 @@ impl Model for LineTallies {
     } };
 }
 
-impl Listings<'_> {
+impl OpenedCatalog<'_> {
     ghost use Rattle.listing.specs.Tallies.{tallies_of};
 
-    /// Where the lines of the listings went.
+    /// Where the lines of the listings went; of symbols alone, how many modules and regions they say.
     pub fn tallies(&self) -> LineTallies
         ensures { result ≡ tallies_of self.now }
     {
         LineTallies {
-            modules: modules_tally(&self.skipped_modules, &self.built),
+            modules: match &self.skipped_modules {
+                Some(skipped) => modules_tally(skipped, &self.built),
+                None => found_tally(&self.built),
+            },
             symbols: symbols_tally(&self.skipped_symbols, self.built.symbols, self.built.stray),
             regions: if self.has_regions {
                 Some(regions_tally(&self.built))
             } else {
                 None
             },
-        }
-    }
-}
-
-impl SymbolListing<'_> {
-    ghost use Rattle.listing.specs.Tallies.{symbol_tallies_of};
-
-    /// How many modules and regions were found, and where the lines went.
-    pub fn tallies(&self) -> LineTallies
-        ensures { result ≡ symbol_tallies_of self.now }
-    {
-        LineTallies {
-            modules: found_tally(&self.kept),
-            symbols: symbols_tally(&self.skipped, self.kept.symbols, self.kept.stray),
-            regions: None,
         }
     }
 }
@@ -179,11 +167,11 @@ fn regions_tally(built: &BuildCounts) -> LineTally
 }
 
 /// How many modules a listing of symbols alone has, and how many regions these have.
-fn found_tally(kept: &KeptCounts) -> LineTally
-    ensures { result ≡ found_tally kept.now }
+fn found_tally(built: &BuildCounts) -> LineTally
+    ensures { result ≡ found_tally built.now }
 {
-    let mut tally = LineTally::new("modules", kept.modules);
-    tally.add("regions", kept.regions);
+    let mut tally = LineTally::new("modules", built.modules);
+    tally.add("regions", built.regions);
     tally
 }
 

@@ -1,7 +1,7 @@
 -- The modules that are made of the accepted ones.
 use Rattle.modules.proofs.Words.{◌≡◌, ℕ, zero, suc, ◌<◌, ◌≤◌, List, [], ◌∷◌, ◌++◌, length, get_or, map, drop, not, Option, sym, ap, ◌∙◌, ⊎_elim, arith, length-append, take, ◌+◌, count_by, Vec, flat_map}
 use Rattle.modules.proofs.Lemmas.{cases_lt, get_or-map, get_or_append_left, get_or_push, length-map, same_lists, slice_get_cases}
-use Rattle.modules.proofs.Definitions.{Accepted, module_counts, AreModules, EachMade, module_with, built_in_with, catalog_with, entry_for, kept_counts, CatalogEntries, ModuleEntry, SymbolEntry, Gathers, is_kept, ListedRegion, ListedSymbol, PlacedModule, BuildCounts, KeptCounts, Gathered}
+use Rattle.modules.proofs.Definitions.{Accepted, module_counts, AreModules, EachMade, module_with, built_in_with, catalog_with, entry_for, kept_counts, CatalogEntries, ModuleEntry, SymbolEntry, Gathers, is_kept, ListedRegion, ListedSymbol, PlacedModule, BuildCounts, Gathered}
 use Rattle.modules.proofs.SoundnessLemmas.{module_regions}
 
 pub EachMade-push : (places : List PlacedModule) (lists : List (Vec SymbolEntry)) (modules : List ModuleEntry) (list : Vec SymbolEntry) (made : ModuleEntry) → length modules ≡ length lists → EachMade places lists modules → ((p : PlacedModule) → made ≡ module_with (get_or places (length lists) p) list.items) → EachMade places (lists ++ list ∷ []) (modules ++ made ∷ [])
@@ -30,8 +30,8 @@ pub catalog_from : (a : Accepted) (g : Gathered) (symbols : List ListedSymbol) (
     → entries built_in made ≡ catalog_with a symbols
 catalog_from a g symbols built_in made gathers first others = grind arith
 
-abbrev pub kept : ℕ → ℕ → ℕ → ℕ → KeptCounts
-kept n regions symbols stray = record { modules = n; regions = regions; symbols = symbols; stray = stray }
+abbrev pub kept : ℕ → ℕ → ℕ → ℕ → BuildCounts
+kept n regions symbols stray = record { modules = n; double = 0; overlap = 0; regions = regions; stray_regions = 0; symbols = symbols; stray = stray }
 
 -- how many regions the modules that were made have
 pub regions_made : (a : Accepted) (symbols : List ListedSymbol) (made : List ModuleEntry) → made ≡ map (entry_for symbols) a.modules → flat_map (λ m. m.regions) made ≡ flat_map (λ m. m.regions) a.modules

@@ -4,18 +4,6 @@ use Rattle.modules.proofs.Lemmas.{cases_lt, get_or_default, Contains-permutation
 use Rattle.modules.proofs.Definitions.{Item, half_open, IsSoundCatalog, CatalogEntries, items_of, IsIndexOf, IsItemSplit, item_of_address}
 use Rattle.modules.proofs.ApartItemLemmas.{each_has_addresses, none_found, same_or_apart, some_found}
 
--- where the items rise, their neighbours tell a place
-pub IsSplit-between : (items : List Item) (addr split : ℕ) → IsNonDecreasingBy (λ i. i.a) items → split ≤ length items
-    → ((d : Item) → 0 < split → (get_or items (split - 1) d).a ≤ addr)
-    → ((d : Item) → split < length items → addr < (get_or items split d).a)
-    → IsItemSplit items addr split
-IsSplit-between items addr split rising bound last next =
-    record {
-      bound = bound;
-      below = λ k d lt. let rises = rising k (split - 1) d (omega arith) (omega arith) in let begins = last d (omega arith) in omega arith;
-      above = λ k d le lt. let rises = rising split k d le lt in let begins = next d (omega arith) in omega arith;
-    }
-
 module _ (c : CatalogEntries) (sound : IsSoundCatalog c) where
   module _ (items : List Item) (index : IsIndexOf c items) (addr split : ℕ) (parts : IsItemSplit items addr split) where
     of_catalog : (x : Item) → Contains items x → Contains (items_of c) x

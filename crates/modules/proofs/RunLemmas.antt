@@ -53,25 +53,3 @@ first_in_last runs last name none = ap (first_address name) (lines_of_all-last r
 
 pub first_in_front : (runs : List Run) (last : Run) (name : List ℕ) (o : Option ℕ) → (o ≡ None → ⊥) → o ≡ first_address name (lines_of_all runs) → o ≡ first_address name (lines_of_all (runs ++ last ∷ []))
 first_in_front runs last name o some is = grind (arith, lines_of_all-last, first_address-front)
-
--- ---- lines of the kernel itself
-
-abbrev pub is_in_kernel : ListedSymbol → Bool
-is_in_kernel l = is_none l.owner
-
-kernel_in_lines : (owner : Option (List ℕ)) (ss : List SymbolEntry) → list_any is_in_kernel (map (line_of owner) ss) ≡ (is_none owner && not (length ss == 0))
-kernel_in_lines None [] = refl
-kernel_in_lines (Some name) [] = refl
-kernel_in_lines None (s ∷ ss) = sym (ap not (ne_eqb (length (s ∷ ss)) 0 (λ none. absurd (omega (arith, none)))))
-kernel_in_lines (Some name) (s ∷ ss) = kernel_in_lines (Some name) ss
-
-pub kernel_in_run : (owner : Option (Bor (List ℕ))) (ss : List SymbolEntry) (b : Bool) → is_some owner ≡ not b → list_any is_in_kernel (map (line_of (option_copied owner)) ss) ≡ (b && not (length ss == 0))
-kernel_in_run owner ss b is = grind (arith, kernel_in_lines)
-
-kernel_in_runs : (runs : List Run) → list_any (λ r. list_any is_in_kernel (lines_of_run r)) runs ≡ list_any is_in_kernel (lines_of_all runs)
-kernel_in_runs [] = refl
-kernel_in_runs (r ∷ runs) = grind (arith, list_any-append, kernel_in_runs runs)
-
-pub kernel_in_all : (runs : List Run) (last : Run)
-    → (list_any (λ r. list_any is_in_kernel (lines_of_run r)) runs || list_any is_in_kernel (lines_of_run last)) ≡ list_any is_in_kernel (lines_of_all (runs ++ last ∷ []))
-kernel_in_all runs last = grind (arith, kernel_in_runs, list_any-append, lines_of_all-last)

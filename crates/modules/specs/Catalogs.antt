@@ -18,7 +18,6 @@ use Rattle.modules.specs.Names.{names_in}
 use Rattle.modules.specs.Placed.{IsPlaced, PlacedModule, are_few}
 use Rattle.modules.specs.Regions.{AreApart}
 use Rattle.modules.specs.declared.catalog.BuildCounts.{BuildCounts}
-use Rattle.modules.specs.declared.catalog.KeptCounts.{KeptCounts}
 
 -- the kernel itself, with the symbols that have no module and lie in its regions
 abbrev pub built_in_of : List (ℕ × ℕ) → List ListedSymbol → Option ModuleEntry
@@ -57,10 +56,13 @@ counts_of names modules regions symbols =
     }
 
 -- how many modules, how many regions these have, and how many lines of symbols went where
-abbrev pub kept_counts : Accepted → List ListedSymbol → KeptCounts
+abbrev pub kept_counts : Accepted → List ListedSymbol → BuildCounts
 kept_counts a symbols = record {
   modules = length a.modules;
+  double = 0;
+  overlap = 0;
   regions = length (flat_map (λ m. m.regions) a.modules);
+  stray_regions = 0;
   symbols = count_by (is_kept a) symbols;
   stray = count_by (λ s. not (is_kept a s)) symbols;
 }
@@ -68,9 +70,6 @@ kept_counts a symbols = record {
 -- the counts where so many symbols are listed: those that are not kept are stray
 abbrev pub build_of_listed : ℕ → BuildCounts → BuildCounts
 build_of_listed listed b = record b { stray = listed - b.symbols }
-
-abbrev pub kept_of_listed : ℕ → KeptCounts → KeptCounts
-kept_of_listed listed k = record k { stray = listed - k.symbols }
 
 -- the kernel itself where it has regions, and then the modules
 abbrev pub entries_of : CatalogEntries → List ModuleEntry

@@ -16,7 +16,7 @@ ghost use Rattle.modules.specs.PlacedModules.{AreSoundModules};
 
 use crate::admission::{Admission, admit};
 use crate::asked::Asked;
-use crate::catalog::{BuildCounts, Catalog, KeptCounts};
+use crate::catalog::{BuildCounts, Catalog};
 use crate::from_symbols::modules_of;
 use crate::gathering::gather;
 use crate::lines::{KernelBounds, ModuleLine, RegionLine};
@@ -79,13 +79,14 @@ fn regions_in(modules: &[Module]) -> usize
     count
 }
 
-/// Puts each symbol where it is kept, and indexes symbols, where it pays, and names.
+/// Puts each symbol where it is kept, and indexes symbols, where it pays, and names. Counts the
+/// modules, their regions and the symbols.
 fn catalog_with<'a>(
     alloc: Global,
     placed: PlacedModules<'a>,
     symbols: SymbolLines<'a>,
     asked: Asked<'_>,
-) -> Result<(Catalog<'a>, KeptCounts), AllocError>
+) -> Result<(Catalog<'a>, BuildCounts), AllocError>
     requires sound { AreSoundModules placed }
     requires few { length (taken_regions placed) < 2 ^ 64 }
     ensures built { IfOk result (λ r. r.0 ≡ catalog_with placed.entry symbols.entry) }
@@ -97,9 +98,12 @@ fn catalog_with<'a>(
     let modules = modules_from(alloc, placed.modules, gathered.modules, asked)?;
     let by_name = by_name(alloc, modules.as_slice())?;
     let regions = regions_in(modules.as_slice());
-    let counts = KeptCounts {
+    let counts = BuildCounts {
         modules: modules.len() as u64,
+        double: 0,
+        overlap: 0,
         regions: regions as u64,
+        stray_regions: 0,
         symbols: gathered.kept,
         stray: gathered.stray,
     };
@@ -207,7 +211,7 @@ pub(crate) fn assemble_symbols<'a>(
     names: Option<&KernelBounds>,
     symbols: SymbolLines<'a>,
     asked: Asked<'_>,
-) -> Result<(Catalog<'a>, KeptCounts), AllocError>
+) -> Result<(Catalog<'a>, BuildCounts), AllocError>
     ensures { IfOk result (λ r. (a : Accepted)
         × IsFromSymbols (option_copied names.entry) symbols.entry a
         × (r.0 ≡ catalog_with a symbols.entry) × (r.1 ≡ kept_counts a symbols.entry)) }

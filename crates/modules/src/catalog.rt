@@ -6,7 +6,7 @@ ghost use Rattle.std.specs.Option.{option_copied};
 ghost use Rattle.modules.specs.Accepted.{Accepted};
 ghost use Rattle.modules.specs.Lines.{fits, region_fits};
 ghost use Rattle.modules.specs.Catalogs.{catalog_of, catalog_with, counts_of, IsBuildRefusal};
-ghost use Rattle.modules.specs.Catalogs.{build_of_listed, kept_counts, kept_of_listed, module_of};
+ghost use Rattle.modules.specs.Catalogs.{build_of_listed, kept_counts, module_of};
 ghost use Rattle.modules.specs.Catalogs.{module_number_of, number_for, regions_of, IsNoneAbsent};
 ghost use Rattle.modules.specs.Catalogs.{IsSoundCatalog};
 ghost use Rattle.modules.specs.FromSymbols.{IsFromSymbols};
@@ -34,14 +34,15 @@ pub const ABSENT_MODULE: u64 = 4294967295;
 /// How many lines went where. Each line of a listing is counted once.
 #[derive(Clone, Copy, Debug, PartialEq, Eq, Drop)]
 pub struct BuildCounts {
-    /// Accepted lines of the listing of modules.
+    /// Accepted lines of the listing of modules; the modules if symbols alone are listed.
     pub modules: u64,
     /// Lines with the name of a line that was accepted before.
     pub double: u64,
     /// Other lines of modules whose regions are not all apart from each other, from the region of
     /// the kernel itself and from those of the modules accepted before.
     pub overlap: u64,
-    /// Lines of the listing of regions that an accepted module has its regions from.
+    /// Lines of the listing of regions that an accepted module has its regions from; the regions of
+    /// the modules if symbols alone are listed.
     pub regions: u64,
     /// Lines of the listing of regions that no module has a region from.
     pub stray_regions: u64,
@@ -63,34 +64,6 @@ impl BuildCounts {
             overlap: self.overlap,
             regions: self.regions,
             stray_regions: self.stray_regions,
-            symbols: self.symbols,
-            stray: (listed as u64).saturating_sub(self.symbols),
-        }
-    }
-}
-
-/// What a catalog of symbols alone has, and how many lines are not in it.
-#[derive(Clone, Copy, Debug, PartialEq, Eq, Drop)]
-pub struct KeptCounts {
-    /// The modules, the kernel itself not counted.
-    pub modules: u64,
-    /// The regions of these modules.
-    pub regions: u64,
-    /// Kept lines.
-    pub symbols: u64,
-    /// Lines that are not kept.
-    pub stray: u64,
-}
-
-impl KeptCounts {
-    /// The same where so many symbols are listed, some of which were left out before: those that
-    /// are not kept are stray.
-    pub fn of_listed(self, listed: usize) -> KeptCounts
-        ensures { result ≡ kept_of_listed listed self }
-    {
-        KeptCounts {
-            modules: self.modules,
-            regions: self.regions,
             symbols: self.symbols,
             stray: (listed as u64).saturating_sub(self.symbols),
         }
@@ -195,7 +168,7 @@ impl<'a> Catalog<'a> {
         names: Option<&KernelBounds>,
         symbols: SymbolLines<'a>,
         asked: Asked<'_>,
-    ) -> Result<(Catalog<'a>, KeptCounts), AllocError>
+    ) -> Result<(Catalog<'a>, BuildCounts), AllocError>
         ensures built { IfOk result (λ r. (a : Accepted)
             × IsFromSymbols (option_copied names.entry) symbols.entry a
             × (r.0 ≡ catalog_with a symbols.entry) × (r.1 ≡ kept_counts a symbols.entry)) }

@@ -29,7 +29,7 @@ pub mod symbol_lines;
 pub mod symbols;
 
 pub use asked::Asked;
-pub use catalog::{ABSENT_MODULE, BuildCounts, Catalog, Held, KeptCounts};
+pub use catalog::{ABSENT_MODULE, BuildCounts, Catalog, Held};
 pub use finder::{Finder, MOST_EXPECTED};
 pub use found_symbols::{FoundSymbol, symbol_in, symbol_of};
 pub use lines::{KernelBounds, ModuleLine, Part, RegionLine, SymbolLine};
@@ -37,4 +37,4 @@ pub use module::{MOST_REGIONS, Module};
 pub use region_index::IndexedCatalog;
 pub use regions::Region;
 pub use symbol_lines::SymbolLines;
-pub use symbols::{IndexEntry, Symbol};
+pub use symbols::{IndexEntry, Symbol, is_rising};

@@ -7,16 +7,15 @@
 //!      | region |      | region  |   | region |
 //!                        ^ addr        the last that begins at or below it, if it ends above it
 //! ```
-ghost use Rattle.std.specs.Prelude.{◌≡◌, ◌≤◌, ◌<◌, ◌++◌, true, length, map, slice_index_or};
+ghost use Rattle.std.specs.Prelude.{◌≡◌, ◌≤◌, ◌<◌, ◌++◌, map};
 ghost use Rattle.std.specs.Prelude.{IfOk, IfSome};
 ghost use Rattle.order_laws.specs.declared.items.Item.{Item};
-ghost use Rattle.std.specs.List.Sorted.{IsNonDecreasingBy};
 ghost use Rattle.modules.specs.Items.{items_at, items_below, items_of};
 ghost use Rattle.modules.specs.Loads.{item_of};
-ghost use Rattle.modules.specs.RegionIndexes.{IsIndexOf, IsItemSplit};
+ghost use Rattle.modules.specs.RegionIndexes.{IsIndexOf};
 ghost use Rattle.modules.specs.Items.{item_of_address};
 
-use crate::buckets::{Addressed, Buckets};
+use crate::buckets::{Addressed, Buckets, split_at};
 use crate::catalog::Catalog;
 use crate::module::Module;
 use crate::regions::Region;
@@ -90,35 +89,6 @@ fn items_of(alloc: Global, catalog: &Catalog) -> Result<Vec<Item>, AllocError>
     Ok(items)
 }
 
-/// Whether the item at a place, if there is one, begins above the address.
-fn begins_above(items: &[Item], place: usize, addr: u64) -> bool
-    ensures { (d : Item) → result ≡ true → place < length items.now
-        → addr < (slice_index_or items.now place d).a }
-{
-    items.get(place).is_none_or(|item| addr < item.a)
-}
-
-/// How many items begin at or below the address.
-#[cold]
-#[inline(never)]
-fn seek_split(items: &[Item], addr: u64) -> usize
-    requires { IsNonDecreasingBy (λ i. i.a) items.now }
-    ensures { IsItemSplit items.now addr result }
-{
-    items.partition_point(|item| item.a <= addr)
-}
-
-/// The same. The item at a place is tried first.
-fn split_at(items: &[Item], near: usize, addr: u64) -> usize
-    requires { IsNonDecreasingBy (λ i. i.a) items.now }
-    ensures { IsItemSplit items.now addr result }
-{
-    if near < items.len() && items[near].a <= addr && begins_above(items, near + 1, addr) {
-        return near + 1;
-    }
-    seek_split(items, addr)
-}
-
 impl<'a> IndexedCatalog<'a> {
     /// Indexes the regions of a catalog. Refused only when out of memory.
     pub fn new(alloc: Global, catalog: Catalog<'a>) -> Result<IndexedCatalog<'a>, AllocError>
@@ -163,7 +133,7 @@ impl<'a> IndexedCatalog<'a> {
         ensures is { result ≡ item_of_address self.now addr }
         ensures holds { IfSome result (λ i. (i.a ≤ addr) × (addr < i.b)) }
     {
-        let split = split_at(&self.items, near, addr);
+        let split = split_at(&self.items, near.saturating_add(1), addr);
         if split == 0 {
             return None;
         }

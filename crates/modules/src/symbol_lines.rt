@@ -8,9 +8,8 @@
 //! runs:     none: a b c   "ext4": d e   none: f
 //! ```
 
-ghost use Rattle.std.specs.Prelude.{◌≡◌, ◌++◌, ◌∷◌, [], length, find, is_none, is_some, IfOk, OnOk};
+ghost use Rattle.std.specs.Prelude.{◌≡◌, ◌++◌, ◌∷◌, [], length, find, is_some, IfOk, OnOk};
 ghost use Rattle.std.specs.Prelude.{OnErr, None};
-ghost use Rattle.std.specs.List.{list_any};
 ghost use Rattle.modules.specs.Lines.{first_address, built_in_region, code_regions};
 ghost use Rattle.modules.specs.Lines.{kernel_regions, usual_bounds_of, usual_end, with_apart};
 ghost use Rattle.std.specs.Option.{option_copied, option_map, option_to_list};
@@ -80,13 +79,6 @@ impl<'a> Run<'a> {
         }
         first_named(self.symbols.as_slice(), name)
     }
-
-    /// Whether it has a line, and is of the kernel itself.
-    fn is_in_kernel(&self) -> bool
-        ensures { result ≡ list_any (λ l. is_none l.owner) (lines_of_run self.now) }
-    {
-        self.module.is_none() && !self.symbols.is_empty()
-    }
 }
 
 /// The address of the first symbol of this name.
@@ -144,20 +136,6 @@ impl<'a> SymbolLines<'a> {
         ensures { result ≡ length self.now }
     {
         self.count
-    }
-
-    /// Whether a line has no module.
-    pub fn has_kernel_line(&self) -> bool
-        ensures { result ≡ list_any (λ l. is_none l.owner) self.now }
-    {
-        is_some_in_kernel(self.runs.as_slice()) || self.last.is_in_kernel()
-    }
-
-    /// Whether a line without a module has this name.
-    pub fn has_kernel_symbol(&self, name: &[u8]) -> bool
-        ensures { result ≡ is_some (first_address name.now self.now) }
-    {
-        lists_kernel_symbol(self, name)
     }
 
     /// Puts a line after these. An error leaves these as they were.
@@ -238,26 +216,11 @@ fn first_address(lines: &SymbolLines, name: &[u8]) -> Option<u64>
     }
 }
 
-/// Whether a line without a module has this name.
-fn lists_kernel_symbol(lines: &SymbolLines, name: &[u8]) -> bool
-    ensures { result ≡ is_some (first_address name.now lines.now) }
-{
-    first_address(lines, name).is_some()
-}
-
-/// Whether one of the runs has a line and is of the kernel itself.
-fn is_some_in_kernel(runs: &[Run]) -> bool
-    ensures { result
-        ≡ list_any (λ r. list_any (λ l. is_none l.owner) (lines_of_run r)) runs.now }
-{
-    runs.iter().any(|run| run.is_in_kernel())
-}
-
 /// The name of the symbol at which the usual regions end. Many kernels list no `_end`.
 fn usual_end(lines: &SymbolLines) -> &'static [u8]
     ensures { result.now ≡ usual_end lines.now }
 {
-    if lists_kernel_symbol(lines, b"_end") {
+    if first_address(lines, b"_end").is_some() {
         b"_end"
     } else {
         b"_etext"

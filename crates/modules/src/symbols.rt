@@ -344,7 +344,7 @@ pub(crate) fn around_in_list<'s, 'a>(
 }
 
 /// Whether the symbols stand by rising address.
-pub(crate) fn is_rising(symbols: &[Symbol]) -> bool
+pub fn is_rising(symbols: &[Symbol]) -> bool
     ensures { result ≡ true → IsRising symbols.now }
 {
     symbols.is_sorted_by(|x, y| x.addr <= y.addr)

@@ -1,4 +1,4 @@
-use Rattle.catalog_engines.proofs.Words.{[], map, subst, sym, unwrap_or, option_copied, IsAddressed, words_text, AnswersGiven, IsSought, found_by, kept_symbols, IsCatalogOf, given_in, symbols_in, lines_of, then_flushed}
+use Rattle.catalog_engines.proofs.Words.{[], map, subst, sym, unwrap_or, option_copied, IsAddressed, words_text, AnswersGiven, IsSought, found_by, kept_symbols, catalog_opened, IsCatalogOf, texts_in, symbols_in, lines_of, then_flushed}
 use Rattle.command_io.proofs.FaultLemmas.{handed_on}
 use Rattle.catalog_engines.proofs.GivenLemmas.{not_opened, said_or_not}
 use Rattle.catalog_engines.proofs.SoughtLemmas.{text_by_map}
@@ -9,7 +9,7 @@ returns-in_err-opened g c =
     let a = c.args in
     let kernel = option_copied a.kernel in
     let Is = IsAddressed a.form kernel (map (λ w. w.now) a.words.now) in
-    let given = given_in a.texts.now in
+    let given = texts_in a.texts.now in
     let fault = c.in_err-opened.field-0.0 in
     handed_on (AnswersGiven g.W.Write.contents Is given a.writer.now a.writer.now) c.from_residual.result fault c.from_residual.ensures.1
     (not_opened g.W.Write.contents Is kernel given a.writer.now fault c.in_err-opened.ensures)
@@ -19,12 +19,12 @@ returns g c =
     let a = c.args in
     let kernel = option_copied a.kernel in
     let words = map (λ w. w.now) a.words.now in
-    let given = given_in a.texts.now in
+    let given = texts_in a.texts.now in
     let index = c.in_ok-index.index in
     let notes = c.in_ok-opened.opened.notes in
     let m = c.in_ok-sought.sought in
     let kept = kept_symbols index (symbols_in (lines_of given.kallsyms)) in
-    let says = subst (λ x. IsCatalogOf kernel given x notes) (sym c.in_ok-index.ensures) c.in_ok-opened.ensures in
+    let says = subst (λ x. IsCatalogOf kernel given x notes) (sym c.in_ok-index.ensures) (catalog_opened kernel given c.in_ok-opened.opened c.in_ok-opened.ensures) in
     let has = subst (λ text. IsSought words (kept_symbols index (symbols_in (lines_of text))) m) c.deref.ensures.value c.in_ok-sought.ensures in
     said_or_not g.W.Write.contents (IsAddressed a.form kernel words) given a.writer.now c.flush.new.self notes
     (words_text a.form (λ name. unwrap_or (found_by m name) []) words) (index, says, text_by_map a.form words kept m has)

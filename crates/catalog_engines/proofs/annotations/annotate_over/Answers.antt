@@ -1,4 +1,4 @@
-use Rattle.catalog_engines.proofs.Words.{[], ◌∙◌, ap, Err, Some, inl, refl, subst, sym, IsNoted, is_some_noted, note_lines, is_narrow, lines_of, IsCatalogOf, OpensCatalog, given_in, Refused, AnnotatesBy, AnnotatesLog, answered_by}
+use Rattle.catalog_engines.proofs.Words.{[], ◌∙◌, ap, Err, Some, inl, refl, subst, sym, IsNoted, is_some_noted, note_lines, is_narrow, lines_of, catalog_opened, IsCatalogOf, OpensCatalog, texts_in, Refused, AnnotatesBy, AnnotatesLog, answered_by}
 use Rattle.order_laws.specs.declared.refusals.Refusal.TheVariants as refusal
 use Rattle.command_io.proofs.FaultLemmas.{handed_on}
 use Rattle.catalog_engines.proofs.AnnotationLemmas.{log_annotated, not_opened}
@@ -7,7 +7,7 @@ use Rattle.catalog_engines.proofs.annotations.annotate_over.Goals as goal
 pub returns-in_err-opened : goal.returns-in_err-opened
 returns-in_err-opened g c =
     let a = c.args in
-    let given = given_in a.texts.now in
+    let given = texts_in a.texts.now in
     let fault = c.in_err-opened.field-0.0 in
     handed_on (AnnotatesLog g.L.Read.remaining g.W.Write.contents g.E.Write.contents a.sources.now a.job.now (Some given) [] a.log.now a.log.now a.writer.now a.writer.now a.errors.now a.errors.now)
     c.from_residual.result fault c.from_residual.ensures.1
@@ -17,13 +17,13 @@ returns-in_err-opened g c =
 pub returns-in_err-index : goal.returns-in_err-index
 returns-in_err-index g c =
     let a = c.args in
-    handed_on (AnnotatesLog g.L.Read.remaining g.W.Write.contents g.E.Write.contents a.sources.now a.job.now (Some (given_in a.texts.now)) [] a.log.now a.log.now a.writer.now a.writer.now a.errors.now a.errors.now)
+    handed_on (AnnotatesLog g.L.Read.remaining g.W.Write.contents g.E.Write.contents a.sources.now a.job.now (Some (texts_in a.texts.now)) [] a.log.now a.log.now a.writer.now a.writer.now a.errors.now a.errors.now)
     c.from_residual-in_err-index.result (Refused refusal.OutOfMemory) c.from_residual-in_err-index.ensures.1 (tt, inl (refl, refl, refl))
 
 pub returns : goal.returns
 returns g c =
     let a = c.args in
-    let given = given_in a.texts.now in
+    let given = texts_in a.texts.now in
     let opened = c.in_ok-opened.opened in
     log_annotated g.L.Read.remaining g.W.Write.contents g.E.Write.contents a.sources.now a.job.now a.log.now c.annotate_by.new.log a.writer.now c.annotate_by.new.writer a.errors.now c.annotate_by.new.errors
     (Some given) c.annotate_by.result (record {
@@ -33,7 +33,7 @@ returns g c =
       noted = c.note_listings.new.writer;
       sized = c.new-answers.ensures.narrow ∙ c.is_narrow-is_narrow.ensures ∙ ap (λ t. is_narrow (lines_of t)) c.deref.ensures.value;
       said = subst (λ x. IsCatalogOf a.sources.now.kernel given x opened.notes) (sym (c.new-answers.ensures.index ∙ c.in_ok-index.ensures))
-          (subst (λ k. IsCatalogOf k given opened.catalog opened.notes) c.as_ref-kernel.ensures.value c.in_ok-opened.ensures);
+          (subst (λ k. IsCatalogOf k given opened.catalog opened.notes) c.as_ref-kernel.ensures.value (catalog_opened _ given opened c.in_ok-opened.ensures));
       told = subst (λ k. IsNoted g.E.Write.contents a.errors.now c.note_listings.new.writer (is_some_noted opened.notes) (note_lines k a.sources.now.files opened.notes)) c.as_ref-kernel.ensures.value c.note_listings.ensures;
       holds = subst
           (λ rule. AnnotatesBy g.L.Read.remaining g.W.Write.contents g.E.Write.contents a.job.now.log.now

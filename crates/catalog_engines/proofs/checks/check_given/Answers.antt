@@ -1,15 +1,50 @@
-use Rattle.catalog_engines.proofs.Words.{List, ℕ, Option, Some, ap, option_map, subst, sym, option_copied, given_in, IsChecked, with_modules, AnswersGiven}
+use Rattle.catalog_engines.proofs.Words.{◌≡◌, ◌∙◌, ℕ, List, Option, ap, false, subst, sym, option_copied, lines_of, texts_in, bounds_are, bounds_for, BoundNames, HoldsOf, IsOpened, Tallies, are_modules_hidden, are_symbols_hidden, holds_at, listings_of, same_texts, symbols_of, tallies_of, tallies_said, IsChecked, IsReport, opened_report, report, report_by, AnswersGiven}
+use Rattle.std.specs.Option.{option_map_or}
+use Rattle.command_io.proofs.FaultLemmas.{handed_on}
+use Rattle.catalog_engines.proofs.GivenLemmas.{not_opened, said_or_not}
 use Rattle.catalog_engines.proofs.checks.check_given.Goals as goal
 
-pub returns-in-Some : goal.returns-in-Some
-returns-in-Some g c =
+pub returns-in_err-opened : goal.returns-in_err-opened
+returns-in_err-opened g c =
     let a = c.args in
-    let May : Option (List ℕ) → Type 0 = λ m. AnswersGiven g.W.Write.contents (IsChecked (option_copied a.kernel) a.files.now) (with_modules m (given_in a.texts.now)) a.writer.now c.check_modules.new.writer c.check_modules.result in
-    subst May (sym (ap (option_map (λ text. text.items)) c.in-Some.is)) (subst (λ m. May (Some m)) c.deref.ensures.value c.check_modules.ensures)
+    let kernel = option_copied a.kernel in
+    let Is = IsChecked kernel a.files.now in
+    let given = texts_in a.texts.now in
+    let fault = c.in_err-opened.field-0.0 in
+    handed_on (AnswersGiven g.W.Write.contents Is given a.writer.now a.writer.now) c.from_residual.result fault c.from_residual.ensures.1
+    (not_opened g.W.Write.contents Is kernel given a.writer.now fault c.in_err-opened.ensures)
 
-pub returns-in-None : goal.returns-in-None
-returns-in-None g c =
+pub put_report-requires-clause-modules : goal.put_report-requires-clause-modules
+put_report-requires-clause-modules g c = λ text listed.
+    let given = texts_in c.args.texts.now in
+    let (l, at, is) = holds_at (λ x. IsOpened (option_copied c.args.kernel) false x c.in_ok-opened.opened) (listings_of given) c.in_ok-opened.ensures in
+    is.modules_hidden ∙ ap (λ m. option_map_or (λ t. are_modules_hidden (lines_of t)) m false) ((same_texts given l at).0 ∙ listed)
+
+pub put_report-requires-clause-symbols : goal.put_report-requires-clause-symbols
+put_report-requires-clause-symbols g c =
+    let given = texts_in c.args.texts.now in
+    let (l, at, is) = holds_at (λ x. IsOpened (option_copied c.args.kernel) false x c.in_ok-opened.opened) (listings_of given) c.in_ok-opened.ensures in
+    is.symbols_hidden ∙ ap (λ t. are_symbols_hidden (lines_of t)) (same_texts given l at).1
+
+pub returns : goal.returns
+returns g c =
     let a = c.args in
-    subst
-    (λ m. AnswersGiven g.W.Write.contents (IsChecked (option_copied a.kernel) a.files.now) (with_modules m (given_in a.texts.now)) a.writer.now c.check_symbols.new.writer c.check_symbols.result)
-    (sym (ap (option_map (λ text. text.items)) c.in-None.is)) c.check_symbols.ensures
+    let kernel = option_copied a.kernel in
+    let files = a.files.now in
+    let given = texts_in a.texts.now in
+    let o = c.in_ok-opened.opened in
+    let names = c.unwrap_or-names.result.now in
+    let status = c.status_of_kept.result in
+    let text = opened_report names files given o in
+    let (l, at, is) = holds_at (λ x. IsOpened kernel false x o) (listings_of given) c.in_ok-opened.ensures in
+    let (modules, kallsyms) = same_texts given l at in
+    let by : BoundNames → Option (List ℕ) → List ℕ → Tallies → List ℕ = λ n m k t. report_by n files m k o.catalog o.built.symbols t in
+    let named = bounds_are a.kernel _ c.unwrap_or-names.result (symbols_of false l.kallsyms) c.unwrap_or-names.ensures is.usual in
+    let text_is : text ≡ report kernel files l o.catalog o.built =
+    ap (λ m. by names m given.kallsyms (tallies_of o)) (sym modules)
+    ∙ ap (λ k. by names l.modules k (tallies_of o)) (sym kallsyms)
+    ∙ ap (λ n. by n l.modules l.kallsyms (tallies_of o)) named
+    ∙ ap (by (bounds_for kernel (symbols_of false l.kallsyms)) l.modules l.kallsyms) (tallies_said kernel false l o is) in
+    said_or_not g.W.Write.contents (IsChecked kernel files) given a.writer.now c.put_report.new.writer status text
+    (subst (HoldsOf (IsReport kernel files text status)) (sym at) (o.catalog, o.built, is.said, text_is, c.status_of_kept.ensures))
+    c.put_report.ensures c.unless_failed.result c.unless_failed.ensures

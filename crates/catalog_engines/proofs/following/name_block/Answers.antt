@@ -1,4 +1,4 @@
-use Rattle.catalog_engines.proofs.Words.{◌∙◌, ap, inr, is_narrow, lines_of, given_in}
+use Rattle.catalog_engines.proofs.Words.{◌∙◌, ap, inr, is_narrow, lines_of, texts_in}
 use Rattle.catalog_engines.proofs.FollowingLemmas.{answers_are}
 use Rattle.catalog_engines.proofs.following.name_block.Goals as goal
 
@@ -8,7 +8,7 @@ returns g c =
     let r = c.new-answers.result in
     inr (
       _,
-      answers_are g.W.Write.contents a.sources.now a.job.now (given_in a.texts.now) c.in_ok-index.index r.index r.rule r.is_narrow c.in_ok-index.ensures c.new-answers.ensures.index c.new-answers.ensures.rule
+      answers_are g.W.Write.contents a.sources.now a.job.now (texts_in a.texts.now) c.in_ok-index.index r.index r.rule r.is_narrow c.in_ok-index.ensures c.new-answers.ensures.index c.new-answers.ensures.rule
           (c.new-answers.ensures.narrow ∙ c.is_narrow-narrow.ensures ∙ ap (λ t. is_narrow (lines_of t)) c.deref.ensures.value),
       c.pass.result,
       c.pass.ensures,

@@ -1,7 +1,7 @@
 use Rattle.std.proofs.Common.{[], Some, subst, sym}
 use Rattle.run_files.specs.Scripts.{script_of}
-use Rattle.engines.specs.LookupInputs.{inputs_in}
-use Rattle.engines.specs.RunInputs.{run_inputs_with}
+use Rattle.listing.specs.Opening.{listed_in}
+use Rattle.engines.specs.Inputs.{inputs_with}
 use Rattle.engines.specs.Runs.{AnswersRun}
 use Rattle.engines.proofs.RunLemmas.{script_answered}
 use Rattle.engines.proofs.runs.run_with.Goals as goal
@@ -9,11 +9,8 @@ use Rattle.engines.proofs.runs.run_with.Goals as goal
 pub returns : goal.returns
 returns g c =
     let contents = g.W.Write.contents in
-    let said = c.in_ok-listings.ensures.said in
-    let lines = c.in-Ok.lines.items in
-    let listings = c.in_ok-listings.listings in
-    subst (AnswersRun contents c.args.readers (Some (run_inputs_with (inputs_in c.args.inputs.now) (script_of c.args.readers c.args.script.now))) [] c.args.writer.now c.run_lines-status.new.writer) (sym c.with_notes.ensures)
-    (script_answered contents (inputs_in c.args.inputs.now) c.args.readers c.args.script.now lines
-    c.in-Ok.ensures.lines c.args.writer.now c.run_lines-status.new.writer listings.catalog listings.notes said.few said.catalog
-    said.notes c.run_lines-status.result
-    c.run_lines-status.ensures)
+    let a = c.args in
+    let opened = c.in_ok-opened.opened in
+    subst (AnswersRun contents a.kernel.now a.readers (Some (inputs_with (listed_in a.listings.now) (script_of a.readers a.script.now))) [] a.writer.now c.run_lines-status.new.writer) (sym c.with_notes.ensures)
+    (script_answered contents a.kernel.now (listed_in a.listings.now) a.readers a.script.now c.in-Ok.lines.items c.in-Ok.ensures.lines
+    opened c.in_ok-opened.ensures.opened a.writer.now c.run_lines-status.new.writer c.run_lines-status.result c.run_lines-status.ensures)

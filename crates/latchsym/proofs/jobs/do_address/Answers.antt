@@ -4,7 +4,7 @@ use Rattle.latchsym.proofs.jobs.do_address.Goals as goal
 pub returns : goal.returns
 returns g c =
     let remaining = g.R.Read.remaining in
-    let r = c.args.readers.now in
+    let r = c.args.listings.now in
     let known = known_given remaining remaining remaining r in
     let form = c.args.address.now.form in
     let done = c.address_engine-done in (

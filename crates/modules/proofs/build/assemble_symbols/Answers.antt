@@ -1,9 +1,9 @@
 use Rattle.modules.proofs.Words.{◌≡◌, ℕ, List, Ok, Err, Option, Result, sym, subst, length-append, arith, ◌∙◌, IfOk, option_copied, AllocError}
-use Rattle.modules.proofs.Definitions.{Accepted, accepted_with, catalog_with, kept_counts, CatalogEntries, IsFromSymbols, BoundNames, ListedSymbol, PlacedModule, KeptCounts}
+use Rattle.modules.proofs.Definitions.{Accepted, accepted_with, catalog_with, kept_counts, CatalogEntries, IsFromSymbols, BoundNames, ListedSymbol, PlacedModule, BuildCounts}
 use Rattle.modules.proofs.AloneLemmas.{sound_alone}
 use Rattle.modules.proofs.build.assemble_symbols.Goals as goal
 
-answered : (names : Option BoundNames) (lines : List ListedSymbol) (a : Accepted) (result : Result (CatalogEntries × KeptCounts) AllocError) → IsFromSymbols names lines a
+answered : (names : Option BoundNames) (lines : List ListedSymbol) (a : Accepted) (result : Result (CatalogEntries × BuildCounts) AllocError) → IsFromSymbols names lines a
     → IfOk result (λ r. r.0 ≡ catalog_with a lines) → IfOk result (λ r. r.1 ≡ kept_counts a lines)
     → IfOk result (λ r. (b : Accepted) × IsFromSymbols names lines b × (r.0 ≡ catalog_with b lines) × (r.1 ≡ kept_counts b lines))
 answered names lines a (Ok r) h built counted = (a, h, built, counted)

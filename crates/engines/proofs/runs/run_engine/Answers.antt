@@ -1,0 +1,37 @@
+use Rattle.texts.specs.Counted.{failures_of}
+use Rattle.command_io.proofs.FaultLemmas.{handed_on}
+use Rattle.command_io.specs.OpenedCatalogs.{known_given, listing_failures, texts_in}
+use Rattle.command_io.specs.Readings.{failures_in}
+use Rattle.texts.specs.Counted.{device_of}
+use Rattle.engines.specs.Inputs.{failures_behind, inputs_of, known_inputs}
+use Rattle.engines.specs.Runs.{AnswersRun, IsRunOf, script_known}
+use Rattle.engines.proofs.InputLemmas.{answered_behind, given_known, not_read}
+use Rattle.engines.proofs.runs.run_engine.Goals as goal
+
+pub returns-in_err-texts : goal.returns-in_err-texts
+returns-in_err-texts g c =
+    let a = c.args in
+    let old = a.listings.now in
+    let new = c.read_given.new.readers in
+    let n = failures_of a.script.now in
+    let known = known_inputs (script_known a.count (g.S.Read.remaining (device_of a.script.now))) (known_given g.M.Read.remaining g.K.Read.remaining g.R.Read.remaining old) in
+    let fault = c.in_err-texts.field-0.0 in
+    handed_on (AnswersRun g.W.Write.contents a.kernel.now a.count known (failures_behind (listing_failures old new) n n) a.writer.now a.writer.now) c.from_residual.result fault c.from_residual.ensures.1
+    (not_read (IsRunOf g.W.Write.contents a.kernel.now a.count a.writer.now a.writer.now) known
+    (failures_in old.modules, failures_in new.modules) (failures_of old.kallsyms, failures_of new.kallsyms) (failures_in old.regions, failures_in new.regions)
+    n a.writer.now fault c.in_err-texts.ensures.read)
+
+pub returns : goal.returns
+returns g c =
+    let a = c.args in
+    let old = a.listings.now in
+    let new = c.read_given.new.readers in
+    let said = script_known a.count (g.S.Read.remaining (device_of a.script.now)) in
+    let known = known_given g.M.Read.remaining g.K.Read.remaining g.R.Read.remaining old in
+    let texts = texts_in c.in_ok-texts.texts in
+    let read = c.in_ok-texts.ensures.read in
+    answered_behind (IsRunOf g.W.Write.contents a.kernel.now a.count a.writer.now c.run_over.new.writer) (inputs_of said texts) (known_inputs said known)
+    (λ P p. given_known P said texts known c.in_ok-texts.ensures.bytes p)
+    (failures_in old.modules, failures_in new.modules) (failures_of old.kallsyms, failures_of new.kallsyms) (failures_in old.regions, failures_in new.regions)
+    read.0 read.1.0 read.1.1.0
+    (failures_of a.script.now) (failures_of c.run_over.new.script) a.writer.now c.run_over.new.writer c.run_over.result c.run_over.ensures

@@ -1,0 +1,43 @@
+use Rattle.std.proofs.Common.{◌≡◌, Option, Some, None, IfSome, List, [], ℕ, Result, option_map, refl, subst, sym, ap}
+use Rattle.command_io.proofs.FaultLemmas.{handed_on}
+use Rattle.listing.specs.Opening.{listed_in}
+use Rattle.command_io.specs.OpenedCatalogs.{texts_in}
+use Rattle.command_io.specs.Readings.{last_failures}
+use Rattle.run_files.specs.Scripts.{script_of}
+use Rattle.texts.specs.Counted.{device_of, failures_of}
+use Rattle.engines.specs.Inputs.{inputs_of, inputs_with}
+use Rattle.engines.specs.Runs.{AnswersRun, IsRunOf, script_known}
+use Rattle.engines.proofs.InputLemmas.{listed_known, not_listed, still_answered}
+use Rattle.engines.proofs.runs.run_over.Goals as goal
+
+-- what is known of the text of the script is known of what it says
+said_of : {X : Type 0} (says : List ℕ → Result X ℕ) (text : List ℕ) (script : Option (List ℕ)) → IfSome script (λ x. text ≡ x) → IfSome (option_map says script) (λ s. s ≡ says text)
+said_of says text None read = tt
+said_of says text (Some x) read = ap says (sym read)
+
+pub returns-in_err-listings : goal.returns-in_err-listings
+returns-in_err-listings g c =
+    let a = c.args in
+    let w = a.writer.now in
+    let n = failures_of a.script.now in
+    let said = script_known a.readers (g.S.Read.remaining (device_of a.script.now)) in
+    let texts = texts_in a.texts.now in
+    let fault = c.in_err-listings.field-0.0 in
+    handed_on (AnswersRun g.W.Write.contents a.kernel.now a.readers (inputs_of said texts) (last_failures n n) w w) c.from_residual.result fault c.from_residual.ensures.1
+    (not_listed (IsRunOf g.W.Write.contents a.kernel.now a.readers w w) said texts n w fault c.in_err-listings.ensures.listings)
+
+pub returns : goal.returns
+returns g c =
+    let a = c.args in
+    let w = a.writer.now in
+    let w' = c.run_with.new.writer in
+    let script = g.S.Read.remaining (device_of a.script.now) in
+    let says = script_of a.readers in
+    let texts = texts_in a.texts.now in
+    let l = listed_in c.in_ok-listings.listings in
+    let text = c.in_ok-text.text.items in
+    let answered = subst (λ x. AnswersRun g.W.Write.contents a.kernel.now a.readers (Some (inputs_with l (says x))) [] w w' c.run_with.result) c.deref.ensures.value c.run_with.ensures in
+    still_answered (IsRunOf g.W.Write.contents a.kernel.now a.readers w w') (Some (inputs_with l (says text))) (inputs_of (script_known a.readers script) texts)
+    (λ P p. listed_known P texts l c.in_ok-listings.ensures.listings (says text) (script_known a.readers script) (said_of says text script c.in_ok-text.ensures.bytes) p)
+    [] (last_failures (failures_of a.script.now) (failures_of c.read_at.new.reader)) (λ _. (refl, (refl, (refl, (c.in_ok-text.ensures.read, tt)))))
+    (λ place bad. absurd bad) w w' c.run_with.result answered
