@@ -1,12 +1,18 @@
 # SPDX-License-Identifier: MIT OR Apache-2.0
+import os
 import pathlib
 import tempfile
+import threading
+import time
 import unittest
+import warnings
+from unittest import mock
 
 import latchsym
-from latchsym import Follower
+from latchsym import Follower, Sample
 
 START, PAGE = 0xFFFFFFFFC0000000, 0x1000
+KERNEL = [f"ffffffff8100{place:02x}00 T {name}\n" for place, name in enumerate(("_stext", "one", "two", "_end"))]
 
 
 def line(page, name):
@@ -63,3 +69,91 @@ class Following(unittest.TestCase):
         self.put(line(0, "third"))
         self.assertTrue(follower.poll())
         self.assertEqual(follower.name(follower.find(START)).name, "third")
+
+    def test_of_threads_that_poll_none_shows_an_older_listing(self):
+        read, versions = pathlib.Path.read_bytes, 60
+
+        def slowly(path):
+            text = read(path)
+            time.sleep(len(text) % 5 / 1000)
+            return text
+
+        def put(version):
+            new = self.file.with_name("new")
+            new.write_text(line(0, f"load{version}") + "#" * (version * 7 % 5))
+            os.replace(new, self.file)
+
+        def poll():
+            while not ended.is_set():
+                follower.poll()
+
+        put(0)
+        follower, ended = self.follower(), threading.Event()
+        threads = [threading.Thread(target=poll) for _ in range(8)]
+        with mock.patch("pathlib.Path.read_bytes", slowly):
+            for thread in threads:
+                thread.start()
+            for version in range(1, versions):
+                put(version)
+                time.sleep(0.002)
+            ended.set()
+            for thread in threads:
+                thread.join()
+        follower.poll()
+        last = follower.find(START).generation
+        names = [follower.name(Sample(START, None, generation)).name for generation in range(1, last + 1)]
+        loads = [int(name[len("load") :]) for name in names]
+        self.assertEqual(loads, sorted(set(loads)))
+        self.assertEqual(loads[-1], versions - 1)
+
+    def refuses(self, follower, *lines):
+        """The listing is not taken, which is warned of, once for each poll."""
+        self.put(*lines)
+        with warnings.catch_warnings(record=True) as said:
+            warnings.simplefilter("always")
+            self.assertFalse(follower.poll())
+        self.assertEqual([warning.filename for warning in said], [__file__])
+        self.assertEqual(follower.name(follower.find(START)).name, "first")
+        return str(said[0].message)
+
+    def test_a_listing_with_a_note_is_not_taken(self):
+        whole = [*KERNEL, line(0, "first")]
+        self.put(*whole)
+        follower = self.follower()
+        for lines in range(len(KERNEL)):
+            self.refuses(follower, *whole[:lines])
+        zeros = [f"{0:016x}{text[16:]}" for text in whole]
+        self.assertIn("every address is 0", self.refuses(follower, *zeros))
+        self.assertIn("every address is 0", self.refuses(follower, *zeros[1:]))
+        self.put(*whole)
+        self.assertFalse(follower.poll())
+        self.put(*KERNEL, line(0, "second"))
+        self.assertTrue(follower.poll())
+        self.assertEqual(follower.name(follower.find(START)).name, "second")
+
+    def test_a_listing_of_modules_with_a_note_is_not_taken(self):
+        modules, text = self.file.with_name("modules"), "first 4096 1 - Live 0x{:016x}\n"
+        modules.write_text(text.format(START))
+        self.put(*KERNEL, line(0, "first"))
+        follower = self.follower(modules=modules)
+        modules.write_text(text.format(0))
+        self.assertIn(f"{modules}: every address is 0", self.refuses(follower, *KERNEL, line(0, "first")))
+
+    def test_a_note_that_stays_refuses_nothing(self):
+        without_end = KERNEL[:-1]
+        self.put(*without_end, line(0, "first"))
+        with self.assertWarns(UserWarning):
+            follower = self.follower()
+        self.put(*without_end, line(0, "second"))
+        self.assertTrue(follower.poll())
+        self.assertEqual(follower.name(follower.find(START)).name, "second")
+
+    def test_a_listing_is_another_by_its_bytes_and_not_by_its_time(self):
+        self.put(line(0, "first"))
+        before = self.file.stat()
+        follower = self.follower()
+        self.put(line(0, "later"))
+        os.utime(self.file, ns=(before.st_atime_ns, before.st_mtime_ns))
+        self.assertEqual(self.file.stat().st_size, before.st_size)
+        self.assertTrue(follower.poll())
+        self.assertEqual(follower.name(follower.find(START)).name, "later")

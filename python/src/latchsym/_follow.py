@@ -10,7 +10,7 @@ from pathlib import Path
 from types import TracebackType
 from typing import Iterable, NamedTuple, Type
 
-from ._catalog import Catalog, Item, Symbol, warn_of
+from ._catalog import Catalog, Counts, Item, Symbol, warn_of
 from ._table import Table
 
 
@@ -40,8 +40,8 @@ class Follower:
     xfs_a
 
     `poll` reads the files again, and shows the regions that they have then to all readers in one
-    update. Each listing is kept until `forget_below`. Any thread may call. If nothing of the first
-    listings is of use, that is warned of.
+    update. Each listing is kept until `forget_below`. Any thread may call. What is noted of the first
+    listings is warned of.
     """
 
     def __init__(
@@ -53,6 +53,7 @@ class Follower:
     ) -> None:
         self._paths = (kallsyms, modules)
         self._texts: list[bytes | None] = []
+        self._polling = threading.RLock()
         self._lock = threading.RLock()
         self._starts: list[int] = []
         self._catalogs: list[Catalog] = []
@@ -61,12 +62,44 @@ class Follower:
         warn_of(self._catalogs[0].counts, self._paths, 3)
 
     def poll(self) -> bool:
-        """Reads the files again; whether they had changed. New regions take nodes beside old ones."""
-        texts = [None if path is None else Path(path).read_bytes() for path in self._paths]
-        with self._lock:
+        """Reads the files again; whether their bytes had changed and are shown.
+
+        Files of which something is noted that is not noted of those shown, as of one read without
+        rights or cut before the kernel's end, are warned of and not taken: those shown stay. One
+        call polls at a time: a second one waits for it and then reads for itself, so that no older
+        listing is shown over a newer one. New regions take nodes beside old ones.
+        """
+        with self._polling:
+            texts = [None if path is None else Path(path).read_bytes() for path in self._paths]
             if texts == self._texts:
                 return False
-            catalog, writer = Catalog(*texts), self._table.writer
+            catalog = Catalog(*texts)
+            if self._is_worse(catalog.counts):
+                catalog.close()
+                warn_of(catalog.counts, self._paths, 3)
+                return False
+            self._show(catalog)
+            self._texts = texts
+        return True
+
+    def _is_worse(self, counts: Counts) -> bool:
+        """Whether something is noted that is not noted of the listings shown, if there are any."""
+        with self._lock:
+            if not self._catalogs:
+                return False
+            shown = self._catalogs[-1].counts
+        return any(
+            note not in (None, of_shown)
+            for note, of_shown in (
+                (counts.symbols_note, shown.symbols_note),
+                (counts.modules_note, shown.modules_note),
+            )
+        )
+
+    def _show(self, catalog: Catalog) -> None:
+        """Shows the regions of a catalog in one update; closes it if that is refused."""
+        writer = self._table.writer
+        with self._lock:
             try:
                 writer.begin_replace(catalog.items())
             except Exception:
@@ -76,8 +109,6 @@ class Follower:
             self._starts.append(self._starts[-1] + 1 if self._starts else 1)
             self._catalogs.append(catalog)
             writer.finish()
-            self._texts = texts
-        return True
 
     def find(self, address: int) -> Sample:
         """The region that the address lies in now, with the generation of this answer."""
