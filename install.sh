@@ -64,7 +64,7 @@ esac
 here=$(cd "$(dirname "${BASH_SOURCE[0]}")" && pwd)
 version=$(cat "$here/VERSION")
 
-files=(bin/latchsym include/latchsym.h include/latchsym.hpp
+files=(bin/latchsym include/latchsym.h include/latchsym.hpp include/latchsym_read.h
     "$lib"/{liblatchsym.a,"liblatchsym.so.$version",pkgconfig/latchsym.pc}
     share/bash-completion/completions/latchsym share/fish/vendor_completions.d/latchsym.fish
     share/man/man1/latchsym.1 share/man/man3/latchsym.3 share/zsh/site-functions/_latchsym)

@@ -3,11 +3,11 @@
 # each number, null pointers, which refusal comes first, what is found of addresses, views on
 # several threads, the table on threads, beside signals and at each stop of its writer, calls inside
 # calls, readers that are added and taken back, readers that calls share, each request for memory
-# refused, items replaced, code that is sampled while it comes and goes, a listing that is followed
-# while it changes, the listings of examples/ as `latchsym lookup` answers, and its logs as
-# `latchsym annotate` writes them; under valgrind and sanitizers where these are there, and names of
-# 700 bytes under gcc's own for addresses. Looks at the object code that a call for signal handlers
-# takes no memory. Needs gcc.
+# refused, files that are read and each call for that refused, items replaced, code that is sampled
+# while it comes and goes, a listing that is followed while it changes, the listings of examples/ as
+# `latchsym lookup` answers, and its logs as `latchsym annotate` writes them; under valgrind and
+# sanitizers where these are there, and names of 700 bytes under gcc's own for addresses. Looks at the
+# object code that a call for signal handlers takes no memory. Needs gcc.
 set -euo pipefail
 . "$(dirname "$0")/program.sh"
 . "$top/tests/library.sh"
@@ -22,6 +22,8 @@ for name in numbers nulls order find view table adding pool stops nested replace
     compile $name
     "$work/$name"
 done
+compile read
+"$work/read" "$work/file"
 # What claims readers for a call is of the header, and no proof sees what is wrong there: pool.c does.
 for edit in "$top"/tests/wrong_headers/*.edit; do
     rm -rf "$work/wrong"
@@ -35,6 +37,7 @@ if command -v valgrind >/dev/null; then
     for name in nulls view refused; do
         valgrind -q --error-exitcode=1 --leak-check=full "$work/$name"
     done
+    valgrind -q --error-exitcode=1 --leak-check=full "$work/read" "$work/file"
 fi
 compile table -g
 compile adding -g
@@ -58,12 +61,12 @@ if compile view -g -fsanitize=thread 2>/dev/null; then
     "$work/view"
 fi
 
-echo '#include <latchsym.h>
+echo '#include <latchsym_read.h>
 int main() { latchsym_catalog c = {}; latchsym_catalog_close(&c); }' >"$work/guards.cc"
 g++ -Wall -Wextra -Wpedantic -Werror -I"$top/include" "$work/guards.cc" "$library" -o "$work/guards"
 "$work/guards"
-echo '#include <latchsym.h>
-int main(void) { struct latchsym_listings none = LATCHSYM_LISTINGS_INIT; return none.size != sizeof none || !latchsym_text(0); }' >"$work/guards.c"
+echo '#include <latchsym_read.h>
+int main(void) { struct latchsym_listings none = LATCHSYM_LISTINGS_INIT; return none.size != sizeof none || !latchsym_text(0) || !latchsym_read_file("/", &none.kallsyms); }' >"$work/guards.c"
 for standard in c99 c11 c17; do
     gcc -std=$standard -Wall -Wextra -Wpedantic -Werror -I"$top/include" "$work/guards.c" "$library" -o "$work/guards"
     "$work/guards"
@@ -102,7 +105,7 @@ for sanitizer in address thread; do
     fi
 done
 
-# a listing that is rewritten 1,000 times while it is followed; fewer times under two sanitizers
+# a listing that is followed while it is of no use, and while it is rewritten 1,000 times; fewer times under two sanitizers
 follower() {
     gcc -std=gnu11 -Wall -Wextra -Werror -O2 -g -I"$top/include" "$top/examples/c/follow.c" "$library" -lpthread -o "$1" "${@:2}"
 }
@@ -124,7 +127,7 @@ printf 'ffffffffc0000010 t %s\t[%s]\n' "s$long" "m$long" >"$work/kallsyms"
 "$work/lookup" "$work/modules" "$work/kallsyms" 0xffffffffc0000018 >"$work/lines"
 echo "0xffffffffc0000018 s$long+0x8/0xff0 [m$long]" | cmp "$work/lines" -
 # the program that the page begins with, over this listing in place of the kernel's
-sed -n '/^    #include <latchsym.h>/,/^    }$/s/^    //p' "$top/docs/C_LIBRARY.md" |
+sed -n '/^    #include <latchsym_read.h>/,/^    }$/s/^    //p' "$top/docs/C_LIBRARY.md" |
     sed "s|/proc/kallsyms|$work/kallsyms|" >"$work/sample.c"
 watched "$work/sample.c" "$work/sample"
 echo 0xffffffffc0000018 nothing | "$work/sample" >"$work/lines"

@@ -16,7 +16,7 @@ fail() {
 # installed FOLDER: what lies under it
 installed() { (cd "$1" && find . ! -type d | LC_ALL=C sort | tr '\n' ' '); }
 version=$(cat "$top/VERSION")
-whole='./bin/latchsym ./include/latchsym.h ./include/latchsym.hpp ./lib/liblatchsym.a ./lib/liblatchsym.so '
+whole='./bin/latchsym ./include/latchsym.h ./include/latchsym.hpp ./include/latchsym_read.h ./lib/liblatchsym.a ./lib/liblatchsym.so '
 whole+="./lib/liblatchsym.so.${version%%.*} ./lib/liblatchsym.so.$version ./lib/pkgconfig/latchsym.pc "
 whole+='./share/bash-completion/completions/latchsym ./share/fish/vendor_completions.d/latchsym.fish '
 whole+='./share/man/man1/latchsym.1 ./share/man/man3/latchsym.3 ./share/zsh/site-functions/_latchsym '

@@ -145,13 +145,13 @@ warnings=$({ groff -man -ww -Tutf8 -z "$top/docs/latchsym.3"; } 2>&1)
 groff -man -Tutf8 -P-cbou -rLL=400n "$top/docs/latchsym.3" >"$work/page"
 tail -n 1 "$work/page" | grep -q "^$("$program" --version) " || fail "the page of the library is of another version"
 # (of a call that the header lets take null pointers, the library's own has the arguments; a pool's
-# calls are the header's alone)
+# calls and the reading of a file are the headers' alone)
 calls() {
-    tr -s ' \n' ' ' | sed -E 's/static inline (uint32_t latchsym_pool_(open|try_find|enlarge|close)\()/\1/g
-        s/static inline (uint32_t|void) //g; s/_nonnull\(/(/g' |
-        grep -oE '(const char \*|uint32_t |void )latchsym_[a-z_]+\([^)]*\)' | sort
+    tr -s ' \n' ' ' | sed -E 's/static inline (uint32_t latchsym_pool_(open|try_find|enlarge|close)\(|int latchsym_read_file\()/\1/g
+        s/static inline (uint32_t|int|void) //g; s/_nonnull\(/(/g' |
+        grep -oE '(const char \*|uint32_t |int |void )latchsym_[a-z_]+\([^)]*\)' | sort
 }
-same "the calls of the library's page" "$(calls <"$header")" "$(section SYNOPSIS | calls)"
+same "the calls of the library's page" "$(cat "$header" "$top/include/latchsym_read.h" | calls)" "$(section SYNOPSIS | calls)"
 same "the numbers of the library's page" \
     "$(sed -nE 's/^ +(LATCHSYM_[A-Z_]+) = ([0-9]+).*/\2 \1/p' "$header" | grep -v '^0 ' | sort)" \
     "$(section ERRORS | sed -nE 's/^ +([0-9]+ LATCHSYM_[A-Z_]+)$/\1/p' | sort)"

@@ -15,6 +15,8 @@ for name in numbers nulls find view adding nested replace; do
     gcc -std=gnu11 -Wall -Wextra -Werror -O2 -I"$top/include" "$top/tests/c/$name.c" "$library" -lpthread -o "$work/$name"
     "$work/$name"
 done
+gcc -std=gnu11 -Wall -Wextra -Werror -O2 -I"$top/include" "$top/tests/c/read.c" "$library" -o "$work/read"
+"$work/read" "$work/file"
 gcc -shared -o "$work/liblatchsym.so.1" -Wl,--version-script="$top/packaging/liblatchsym.map" \
     -Wl,--whole-archive "$library" -Wl,--no-whole-archive
 (cd "$top/python" && LATCHSYM_LIBRARY=$work/liblatchsym.so.1 PYTHONPATH=src PYTHONDONTWRITEBYTECODE=1 \

@@ -4,26 +4,15 @@
  * cc annotate.c $(pkg-config --cflags --libs latchsym) -o annotate */
 #define _POSIX_C_SOURCE 200809L
 #include <ctype.h>
-#include <latchsym.h>
+#include <latchsym_read.h>
 #include <stdio.h>
 #include <stdlib.h>
 #include <string.h>
 
-/* all bytes of a file */
-static struct latchsym_place read_file(const char *path) {
-    FILE *file = fopen(path, "rb");
-    uint8_t *bytes = NULL;
-    size_t len = 0, room = 0;
-    while (file && !feof(file) && !ferror(file)) {
-        if (len == room && !(bytes = realloc(bytes, room = 2 * room + 4096))) break;
-        len += fread(bytes + len, 1, room - len, file);
-    }
-    if (!file || !bytes || ferror(file)) {
-        fprintf(stderr, "annotate: %s: cannot be read\n", path);
-        exit(1);
-    }
-    fclose(file);
-    return (struct latchsym_place){bytes, len};
+static void read_file(const char *path, struct latchsym_place *place) {
+    if (!latchsym_read_file(path, place)) return;
+    fprintf(stderr, "annotate: %s: %s\n", path, strerror(errno));
+    exit(1);
 }
 
 static int is_of_word(char c) { return isalnum((unsigned char)c) || c == '_'; }
@@ -89,9 +78,9 @@ int main(int argc, char **argv) {
     FILE *texts = open_memstream(&text, &text_len);
     if (argc < 2 || argc > 3 || !texts)
         return fprintf(stderr, "usage: annotate KALLSYMS [MODULES] <LOG\n"), 2;
-    listings.kallsyms = read_file(argv[1]);
+    read_file(argv[1], &listings.kallsyms);
     listings.has_modules = argc == 3;
-    if (listings.has_modules) listings.modules = read_file(argv[2]);
+    if (listings.has_modules) read_file(argv[2], &listings.modules);
     uint32_t refused = latchsym_catalog_open(&listings, &catalog, &counts, &bad_line);
     if (refused) return fprintf(stderr, "annotate: %s\n", latchsym_text(refused)), 1;
     if (counts.symbols_note != LATCHSYM_NOTHING)

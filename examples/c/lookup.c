@@ -2,29 +2,15 @@
 /* Looks addresses up in listings: lookup MODULES KALLSYMS ADDRESS.., where `-` in place of MODULES takes modules from
  * KALLSYMS alone.
  * cc lookup.c $(pkg-config --cflags --libs latchsym) -o lookup */
-#include <latchsym.h>
+#include <latchsym_read.h>
 #include <stdio.h>
 #include <stdlib.h>
 #include <string.h>
 
-static uint8_t *read_file(const char *path, size_t *len) {
-    FILE *file = fopen(path, "rb");
-    uint8_t *bytes = NULL, *more;
-    size_t room = 0;
-    int has_all = 0;
-    for (*len = 0; file && !has_all; has_all = feof(file)) {
-        if (*len == room) {
-            if (!(more = realloc(bytes, room = 2 * room + 4096))) break;
-            bytes = more;
-        }
-        *len += fread(bytes + *len, 1, room - *len, file);
-        if (ferror(file)) break;
-    }
-    if (file) fclose(file);
-    if (has_all) return bytes;
-    fprintf(stderr, "lookup: %s: cannot be read\n", path);
-    free(bytes);
-    return NULL;
+static void read_file(const char *path, struct latchsym_place *place) {
+    if (!latchsym_read_file(path, place)) return;
+    fprintf(stderr, "lookup: %s: %s\n", path, strerror(errno));
+    exit(1);
 }
 
 static void print_name(struct latchsym_place name) { fwrite(name.at, 1, name.len, stdout); }
@@ -52,26 +38,21 @@ int main(int argc, char **argv) {
     struct latchsym_listings listings = LATCHSYM_LISTINGS_INIT;
     struct latchsym_counts counts;
     uint64_t bad_line;
-    uint8_t *modules = NULL, *kallsyms;
-    uint32_t refused = LATCHSYM_OUT_OF_MEMORY;
+    uint32_t refused;
     if (argc < 3) {
         fprintf(stderr, "usage: lookup MODULES KALLSYMS ADDRESS..\n");
         return 2;
     }
     listings.has_modules = strcmp(argv[1], "-") != 0;
-    if (listings.has_modules && !(modules = read_file(argv[1], &listings.modules.len))) return 1;
-    kallsyms = read_file(argv[2], &listings.kallsyms.len);
-    if (kallsyms) {
-        if (modules) listings.modules.at = modules;
-        listings.kallsyms.at = kallsyms;
-        refused = latchsym_catalog_open(&listings, &catalog, &counts, &bad_line);
-        if (refused) fprintf(stderr, "lookup: %s\n", latchsym_text(refused));
-        else if (counts.symbols_note != LATCHSYM_NOTHING)
-            fprintf(stderr, "lookup: note: %s: %s\n", argv[2], latchsym_text(counts.symbols_note));
-    }
+    if (listings.has_modules) read_file(argv[1], &listings.modules);
+    read_file(argv[2], &listings.kallsyms);
+    refused = latchsym_catalog_open(&listings, &catalog, &counts, &bad_line);
+    if (refused) fprintf(stderr, "lookup: %s\n", latchsym_text(refused));
+    else if (counts.symbols_note != LATCHSYM_NOTHING)
+        fprintf(stderr, "lookup: note: %s: %s\n", argv[2], latchsym_text(counts.symbols_note));
     for (int i = 3; !refused && i < argc; i++) print_symbol(&catalog, strtoull(argv[i], NULL, 0));
     latchsym_catalog_close(&catalog); /* and only now the bytes that it points into */
-    free(modules);
-    free(kallsyms);
+    if (listings.has_modules) free((void *)listings.modules.at);
+    free((void *)listings.kallsyms.at);
     return refused != 0;
 }
