@@ -1,6 +1,8 @@
 /* SPDX-License-Identifier: MIT OR Apache-2.0 */
-/* A profiler that follows a listing as it changes. One thread reads the listing again when its file has changed, or
- * when it is told to by a line, and gives the table the regions that it has then, all at once. SIGPROF samples other
+/* A profiler that follows a listing as it changes. One thread reads the listing again each second, and when it is told
+ * to by a line; where its bytes have changed it gives the table the regions that it has then, all at once. (The time of
+ * /proc/kallsyms stands still.) A listing that cannot be read, or of which something is noted that is not noted of the
+ * one before, as of one read without rights or cut before the kernel's end, is told of and not taken. SIGPROF samples other
  * threads, which look the address up in the handler and keep it with the generation of the answer. The main thread
  * names each sample by the catalog that stood at its generation, and closes the catalogs that no sample can need any
  * more.
@@ -10,7 +12,7 @@
  * This sampler has no kernel below it, so a handler draws an address in place of the one that it would be given.
  * cc follow.c $(pkg-config --cflags --libs latchsym) -lpthread -o follow */
 #define _GNU_SOURCE
-#include <latchsym.h>
+#include <latchsym_read.h>
 #include <poll.h>
 #include <pthread.h>
 #include <signal.h>
@@ -18,7 +20,6 @@
 #include <stdio.h>
 #include <stdlib.h>
 #include <string.h>
-#include <sys/stat.h>
 #include <sys/time.h>
 #include <unistd.h>
 
@@ -28,8 +29,8 @@ enum { THREADS = 3, NODES = 4096, ROOM = 4096, MOST_TRIES = 1000, SECOND = 1000 
 struct listing {
     uint64_t generation;
     struct latchsym_catalog catalog;
-    uint8_t *symbols, *modules;
-    size_t len; /* of the symbols */
+    struct latchsym_place symbols, modules;
+    uint32_t symbols_note, modules_note;
     struct listing *newer;
 };
 
@@ -103,21 +104,6 @@ static void *work(void *thread) {
 
 /* ---- the listing ---- */
 
-/* The bytes of a file, with a place of their own also where there are none. */
-static uint8_t *read_file(const char *name, size_t *len) {
-    FILE *file = fopen(name, "rb");
-    size_t room = 1 << 16;
-    uint8_t *bytes = malloc(room);
-    if (!file || !bytes) perror(name), exit(1);
-    for (*len = 0; (room - *len) || (bytes = realloc(bytes, room *= 2));) {
-        size_t got = fread(bytes + *len, 1, room - *len, file);
-        if (!got) break;
-        *len += got;
-    }
-    fclose(file);
-    return bytes;
-}
-
 /* Shows the regions of the catalog to all readers, in one update. */
 static void show(struct listing *new) {
     struct latchsym_sizes sizes;
@@ -138,48 +124,70 @@ static void show(struct listing *new) {
         atomic_store(&first_addr, items[0].a);
         atomic_store(&span, items[sizes.regions - 1].b - items[0].a);
     }
-    printf("listing %llu: %zu regions of %zu bytes\n", (unsigned long long)shown, sizes.regions, new->len);
+    printf("listing %llu: %zu regions of %zu bytes\n", (unsigned long long)shown, sizes.regions, new->symbols.len);
     fflush(stdout);
     free(items);
 }
 
-static void read_listing(void) {
-    struct listing *new = calloc(1, sizeof *new);
+static void close_listing(struct listing *old) {
+    latchsym_catalog_close(&old->catalog); /* and only now the bytes that it points into */
+    free((void *)old->symbols.at), free((void *)old->modules.at), free(old);
+}
+
+/* Whether the files could be read. */
+static int read_files(struct listing *new) {
+    const char *name = symbols_name;
+    int failed = latchsym_read_file(name, &new->symbols);
+    if (!failed && *modules_name) failed = latchsym_read_file(name = modules_name, &new->modules);
+    if (failed) fprintf(stderr, "follow: %s: %s\n", name, strerror(errno));
+    return !failed;
+}
+
+static int are_same(struct latchsym_place x, struct latchsym_place y) {
+    return x.len == y.len && (!x.len || !memcmp(x.at, y.at, x.len));
+}
+
+static void open_listing(struct listing *new) {
     struct latchsym_listings given = LATCHSYM_LISTINGS_INIT;
     struct latchsym_counts counts;
     uint64_t line;
-    if (!new) must(LATCHSYM_OUT_OF_MEMORY);
-    new->symbols = read_file(symbols_name, &new->len);
-    given.kallsyms = (struct latchsym_place){new->symbols, new->len};
-    if (*modules_name) {
-        new->modules = read_file(modules_name, &given.modules.len);
-        given.modules.at = new->modules;
-        given.has_modules = 1;
-    }
+    given.kallsyms = new->symbols, given.modules = new->modules, given.has_modules = *modules_name != 0;
     must(latchsym_catalog_open(&given, &new->catalog, &counts, &line));
-    show(new);
+    new->symbols_note = counts.symbols_note, new->modules_note = counts.modules_note;
 }
 
-/* Whether the file is another than when this was asked last, which is always before it is read: a change beside the
- * reading is seen the next time. */
-static int has_changed(void) {
-    static struct timespec seen;
-    struct stat file;
-    if (stat(symbols_name, &file)) return 0;
-    if (file.st_mtim.tv_sec == seen.tv_sec && file.st_mtim.tv_nsec == seen.tv_nsec) return 0;
-    seen = file.st_mtim;
+/* Whether something is noted that is not noted of the listing shown, which is told. */
+static int is_noted(const char *name, uint32_t note, uint32_t of_shown) {
+    if (note == LATCHSYM_NOTHING || note == of_shown) return 0;
+    fprintf(stderr, "follow: note: %s: %s\n", name, latchsym_text(note));
     return 1;
 }
 
-/* Reads the listing again each time that a line says so, and each second in which it has changed. */
+/* Whether a listing is to be shown: the first one, and each that is another than the one shown and no worse. */
+static int is_to_be_shown(struct listing *new) {
+    int is_worse;
+    if (newest && are_same(new->symbols, newest->symbols) && are_same(new->modules, newest->modules)) return 0;
+    open_listing(new);
+    is_worse = is_noted(symbols_name, new->symbols_note, newest ? newest->symbols_note : LATCHSYM_NOTHING);
+    is_worse |= is_noted(modules_name, new->modules_note, newest ? newest->modules_note : LATCHSYM_NOTHING);
+    return !newest || !is_worse;
+}
+
+static void read_listing(void) {
+    struct listing *new = calloc(1, sizeof *new);
+    if (!new) must(LATCHSYM_OUT_OF_MEMORY);
+    if (read_files(new) && is_to_be_shown(new)) show(new);
+    else close_listing(new);
+}
+
+/* Reads the listing again each time that a line says so, and each second. */
 static void *watch(void *unused) {
     struct pollfd told = {STDIN_FILENO, POLLIN, 0};
     char bytes[256];
     for (;;) {
         ssize_t got = 0;
-        int ready = poll(&told, 1, SECOND);
-        if (ready > 0 && (got = read(STDIN_FILENO, bytes, sizeof bytes)) <= 0) break;
-        if (has_changed() || ready > 0) read_listing();
+        if (poll(&told, 1, SECOND) > 0 && (got = read(STDIN_FILENO, bytes, sizeof bytes)) <= 0) break;
+        read_listing();
     }
     atomic_store(&ended, 1);
     return unused;
@@ -221,11 +229,6 @@ static long name_samples(struct thread *thread) {
     return named;
 }
 
-static void close_listing(struct listing *old) {
-    latchsym_catalog_close(&old->catalog);
-    free(old->symbols), free(old->modules), free(old);
-}
-
 /* Closes each listing whose successor every thread has passed. */
 static void forget_what_all_passed(void) {
     uint64_t passed = UINT64_MAX;
@@ -255,8 +258,8 @@ int main(int count, char **words) {
     sigaddset(&prof, SIGPROF);
     pthread_sigmask(SIG_BLOCK, &prof, NULL);
     must(latchsym_table_open(NODES, &writer, readers, THREADS));
-    has_changed();
     read_listing();
+    if (!newest) return 1;
     sigaction(SIGPROF, &action, NULL);
     for (int i = 0; i < THREADS; i++) {
         threads[i].reader = &readers[i], threads[i].drawn = 88172645463325252u + (uint64_t)i, threads[i].passed = 1;

@@ -6,8 +6,11 @@ Modules come, go and move, each time with names of symbols that no other version
 A name has to be the one that `latchsym lookup` gives for the address in the version that stood at
 the sample's generation, and its symbol has to lie there by this file's own account. The program may
 hold 20 MB more in the end than after a tenth of the rounds; 1,000 listings take some 150.
+
+Before that: a listing that is cut, hidden or gone leaves the one before in its place, and is told
+of; and one is taken whose bytes alone have changed, without a line that says so.
 """
-import os, pathlib, random, subprocess, sys, tempfile
+import os, pathlib, random, subprocess, sys, tempfile, threading
 
 PAGE, START, MODULES, SYMBOLS, MARK = 0x1000, 0xFFFFFFFFC0000000, 60, 40, 1 << 16
 
@@ -43,9 +46,10 @@ class Listing:
 class Follower:
     """The program with what it has said: the version that each generation shows, and the samples."""
 
-    def __init__(self, program, file):
+    def __init__(self, program, file, modules="", **pipes):
         self.file, self.versions, self.samples, self.memory = file, {}, {}, []
-        self.process = subprocess.Popen([program, file, ""], stdin=subprocess.PIPE, stdout=subprocess.PIPE, text=True)
+        self.process = subprocess.Popen(
+            [program, file, modules], stdin=subprocess.PIPE, stdout=subprocess.PIPE, text=True, **pipes)
 
     def hear(self, line):
         """Takes a line; the version that it tells of, if it is one of a listing."""
@@ -59,8 +63,25 @@ class Follower:
         return None
 
     def hear_of(self, version):
-        while self.hear(self.process.stdout.readline()) != version:
+        """Waits until a version is shown, for half a minute."""
+        late = threading.Timer(30, self.process.kill)
+        late.start()
+        while (line := self.process.stdout.readline()).endswith("\n") and self.hear(line) != version:
             pass
+        late.cancel()
+        if not line.endswith("\n"):
+            sys.exit(f"follow: version {version} was not shown")
+
+    def is_told(self, text):
+        """Has the listing read again, and waits until this is said of it, for half a minute."""
+        late = threading.Timer(30, self.process.kill)
+        late.start()
+        self.tell()
+        while (line := self.process.stderr.readline()) and text not in line:
+            pass
+        late.cancel()
+        if not line:
+            sys.exit(f"follow: {text!r} was not told")
 
     def tell(self):
         self.process.stdin.write("\n")
@@ -104,8 +125,59 @@ def wrong_names(latchsym, folder, samples, text, symbols):
     return wrong
 
 
+KERNEL = [f"ffffffff8100{place:02x}00 T {name}\n" for place, name in enumerate(("_stext", "one", "two", "_end"))]
+
+
+def whole(length):
+    """A listing of this length, whose module has a symbol of a name of its own."""
+    lines = "".join(KERNEL) + f"{START:016x} t load{length}\t[m]\n"
+    return lines + "#" * (length - len(lines))
+
+
+def keeps_the_old(program, file, modules, useless):
+    """How many listings are shown where a good one follows each file that is of no use."""
+    version = 1000
+    put(file, whole(version))
+    follower = Follower(program, file, modules, stderr=subprocess.PIPE)
+    follower.hear_of(version)
+    for changed, text, said in useless:
+        kept = pathlib.Path(changed).read_text(encoding="utf-8")
+        if text is None:
+            os.remove(changed)
+        else:
+            put(changed, text)
+        follower.is_told(said)
+        put(changed, kept)
+        version += 1
+        put(file, whole(version))
+        follower.tell()
+        follower.hear_of(version)
+    before = os.stat(file)
+    pathlib.Path(file).write_text(whole(version).replace("load", "lord"), encoding="utf-8")
+    os.utime(file, ns=(before.st_atime_ns, before.st_mtime_ns))
+    follower.hear_of(version)
+    shown = len(follower.versions)
+    return shown if not follower.end() and len(follower.versions) == shown else 0
+
+
+def live(program, folder):
+    """Whether listings of no use are told of and not shown, of symbols and of modules."""
+    file, modules = os.path.join(folder, "live"), os.path.join(folder, "live.modules")
+    put(modules, f"m 4096 1 - Live 0x{START:016x}\n")
+    of_symbols = [(file, "".join(KERNEL[:lines]), "note") for lines in range(len(KERNEL))]
+    hidden = "".join(f"{0:016x}{line[16:]}" for line in KERNEL)
+    of_symbols += [(file, hidden, "every address is 0"), (file, None, "No such file")]
+    of_modules = [(modules, f"m 4096 1 - Live 0x{0:016x}\n", "live.modules: every address is 0"), (modules, None, "No such file")]
+    shown = [keeps_the_old(program, file, *words) for words in (("", of_symbols), (modules, of_modules))]
+    print(f"follow: {shown} listings shown, beside {[len(of_symbols), len(of_modules)]} of no use")
+    return shown == [len(of_symbols) + 2, len(of_modules) + 2]
+
+
 def main(program, latchsym, rounds):
     listing, kept = Listing(), {}
+    with tempfile.TemporaryDirectory() as folder:
+        if not live(program, folder):
+            sys.exit("follow: a listing of no use was shown")
     with tempfile.TemporaryDirectory() as folder:
         file = os.path.join(folder, "kallsyms")
 
