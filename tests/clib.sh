@@ -5,9 +5,10 @@
 # calls, readers that are added and taken back, readers that calls share, each request for memory
 # refused, files that are read and each call for that refused, items replaced, code that is sampled
 # while it comes and goes, a listing that is followed while it changes, the listings of examples/ as
-# `latchsym lookup` answers, and its logs as `latchsym annotate` writes them; under valgrind and
-# sanitizers where these are there, and names of 700 bytes under gcc's own for addresses. Looks at the
-# object code that a call for signal handlers takes no memory. Needs gcc.
+# `latchsym lookup` answers, its logs as `latchsym annotate` writes them, and addresses of this
+# machine's kernel as libbcc answers; under valgrind and sanitizers where these are there, and names of
+# 700 bytes under gcc's own for addresses. Looks at the object code that a call for signal handlers
+# takes no memory. Needs gcc.
 set -euo pipefail
 . "$(dirname "$0")/program.sh"
 . "$top/tests/library.sh"
@@ -118,6 +119,20 @@ if command -v python3 >/dev/null; then
             python3 "$top/tests/c/follow.py" "$work/follow_sanitize" "$program" 100
         fi
     done
+fi
+
+# the calls of libbcc, beside libbcc itself where Debian's libbpfcc-dev is there
+bcc() {
+    gcc -std=gnu11 -Wall -Wextra -Werror -O2 -g -I"$top/examples/c" -I"$top/include" "$top/tests/c/bcc.c" "${@:2}" -o "$1"
+}
+g++ -std=c++17 -Wall -Wextra -Wpedantic -Werror -fsyntax-only -DBCC_SYMS='"bcc_syms.h"' -I"$top/examples/c" \
+    -I"$top/include" -x c++ "$top/tests/c/bcc.c"
+if command -v python3 >/dev/null; then
+    bcc "$work/bcc" -DBCC_SYMS='"bcc_syms.h"' "$library"
+    bcc "$work/bcc_of_file" -DBCC_SYMS='"bcc_syms.h"' -DBCC_KALLSYMS='"kallsyms"' -fsanitize=address "$library"
+    libbcc=()
+    if bcc "$work/libbcc" -DBCC_SYMS='<bcc/bcc_syms.h>' -lbcc 2>/dev/null; then libbcc=("$work/libbcc"); fi
+    python3 "$top/tests/c/bcc.py" "$work/bcc" "$work/bcc_of_file" "${libbcc[@]}"
 fi
 
 # names of 700 bytes: those of a module and of a symbol

@@ -125,6 +125,8 @@ class Following(unittest.TestCase):
         zeros = [f"{0:016x}{text[16:]}" for text in whole]
         self.assertIn("every address is 0", self.refuses(follower, *zeros))
         self.assertIn("every address is 0", self.refuses(follower, *zeros[1:]))
+        self.file.unlink()
+        self.assertRaises(OSError, follower.poll)
         self.put(*whole)
         self.assertFalse(follower.poll())
         self.put(*KERNEL, line(0, "second"))
