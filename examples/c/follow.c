@@ -2,11 +2,12 @@
 /* A profiler that follows a listing as it changes. One thread reads the listing again each second, and when it is told
  * to by a line; where its bytes have changed it gives the table the regions that it has then, all at once. (The time of
  * /proc/kallsyms stands still.) A listing that cannot be read, or of which something is noted that is not noted of the
- * one shown, as of one read without rights or cut before the kernel's end, is told of and not taken.
+ * one shown, as of one read without rights, is told of and not taken. (Nothing is noted of one that is cut behind
+ * _etext.)
  *
- * SIGPROF samples other threads, which look the address up in the handler and keep it with the generation of the answer.
- * The main thread names each sample by the catalog that stood at its generation, and closes the catalogs that no sample
- * can need any more.
+ * SIGPROF samples other threads, which look the address up in the handler and keep it with the generation of the
+ * answer. The main thread names each sample by the catalog that stood at its generation, and closes the catalogs that
+ * no sample can need any more.
  *
  *     follow KALLSYMS MODULES    an empty name of MODULES: modules come from the symbols
  *

@@ -65,9 +65,10 @@ class Follower:
         """Reads the files again; whether their bytes had changed and are shown.
 
         Files of which something is noted that is not noted of those shown, as of one read without
-        rights or cut before the kernel's end, are warned of and not taken: those shown stay. One
-        call polls at a time: a second one waits for it and then reads for itself, so that no older
-        listing is shown over a newer one. New regions take nodes beside old ones.
+        rights, are warned of and not taken: those shown stay. (Of a listing that is cut behind
+        `_etext` nothing is noted.) One call polls at a time: a second one waits for it and then
+        reads for itself, so that no older listing is shown over a newer one. New regions take nodes
+        beside old ones.
         """
         with self._polling:
             texts = [None if path is None else Path(path).read_bytes() for path in self._paths]
