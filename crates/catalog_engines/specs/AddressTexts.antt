@@ -25,7 +25,7 @@ is_of (Some name) (Some owner) = not (bytes_eq name (codes "-")) && bytes_eq own
 abbrev pub size_of : Kept → ℕ
 size_of k = k.end - k.addr
 
--- the offset is below the size; where a size is said this is it, and the offset may equal it, as
+-- the offset is below the size; if a size is said this is it, and the offset may equal it, as
 -- that of a return address does
 abbrev pub is_within : Distance → ℕ → Bool
 is_within above size =
@@ -78,7 +78,7 @@ told_lines form word a symbols =
 abbrev pub no_address : List ℕ → List ℕ
 no_address word = word ++ codes " -\n"
 
--- the module that is asked for, and nothing where that is the kernel itself or none is named
+-- the module that is asked for, and nothing if that is the kernel itself or none is named
 abbrev pub asked_member : Option (List ℕ) → List ℕ
 asked_member None = []
 asked_member (Some name) = if bytes_eq name (codes "-") then [] else named_module name
@@ -98,7 +98,7 @@ symbols_text form word a symbols =
     if list_any (is_told form a) symbols then told_lines form word a symbols
     else untold_line form word a
 
--- the same where the symbols of each name are known
+-- what is written for a word, if `found` gives the symbols of each name
 abbrev pub word_text : AddressForm → (List ℕ → List Kept) → List ℕ → List ℕ
 word_text form found word = symbols_text form word (asked_of word) (found (asked_of word).symbol)
 

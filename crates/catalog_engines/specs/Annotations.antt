@@ -28,7 +28,7 @@ use Rattle.catalog_engines.specs.declared.annotations.Stop.TheVariants as stop
 use Rattle.catalog_engines.specs.declared.annotations.Annotate.{Annotate}
 use Rattle.catalog_engines.specs.declared.sources.Sources.{Sources}
 
--- Why a log is annotated no further, where there is this fault. The log is the file at place 3.
+-- Why a log is annotated no further, if there is this fault. The log is the file at place 3.
 abbrev pub stop_of : LogFault → Stop
 stop_of log_fault.Closed = stop.Closed
 stop_of log_fault.OutOfMemory = stop.Failed (Refused refusal.OutOfMemory)
@@ -40,9 +40,9 @@ abbrev pub stopped : {X : Type 0} → Result X LogFault → Result X Stop
 stopped (Ok x) = Ok x
 stopped (Err fault) = Err (stop_of fault)
 
--- How the end of the log in this file is told: if what was found of it tells that it is packed, or that
--- the listing is another one, this is noted. A status of 1 stands for a reader of the output that is
--- gone, of which nothing is said.
+-- How the end of the log in this file is told: if what was found of it tells that it is packed, or
+-- that the listing is another one, this is noted. A status of 1 stands for a reader of the output
+-- that is gone, of which nothing is said.
 abbrev pub IsEndTold : {E : Type 0} → (E → Option (List ℕ)) → List ℕ → Output E → Output E
     → Result Findings Stop → Result ℕ Fault → Type 0
 IsEndTold errors log e e' (Ok found) result =
@@ -59,9 +59,9 @@ AnnotatesBy remaining contents errors log answer l l' w w' e e' result =
     (end : Result Findings LogFault) × Annotates remaining contents answer l l' w w' end
     × IsEndTold errors log e e' (stopped end) result
 
--- There is a catalog of the listings, where these are known; what is noted of them was told; and
+-- There is a catalog of the listings, if these are known; what is noted of them was told; and
 -- this holds of the catalog, of whether the listing of symbols is that of a 32-bit kernel, and of
--- what was told to behind the notes.
+-- what was told to after the notes.
 pub record IsTold {E : Type 0} (contents : E → Option (List ℕ)) (kernel : Option BoundNames)
     (files : ListingFiles) (known : Option Given) (e : Output E)
     (P : CatalogEntries → Bool → Output E → Type 0)
@@ -82,7 +82,7 @@ IsUntouched l l' w w' e e' = (l' ≡ l) × (w' ≡ w) × (e' ≡ e)
 
 -- What is returned after listings were read, whose texts may be known: before anything else was
 -- touched, or after the notes were told, where `Told` says what came of the log. A call of a
--- listing's reader failed where the answer says so, and else none.
+-- listing's reader failed if the answer says so, and else none.
 abbrev pub AnnotatesAfter : Option Given → Failures → Type 0 → (Result ℕ Fault → Type 0)
     → Result ℕ Fault → Type 0
 AnnotatesAfter known counts Untouched Told (Ok done) = NoReaderFailed counts × Told (Ok done)

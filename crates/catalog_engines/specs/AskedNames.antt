@@ -7,20 +7,20 @@ use Rattle.texts.specs.Numbers.{number_of}
 use Rattle.listing.specs.SymbolListing.{cut_at}
 use Rattle.catalog_engines.specs.declared.asked_names.Distance.{Distance}
 
--- the symbols of one name, how far above them, and how long they are, where that is said: those of
--- the module of a name, `-` for the kernel itself, or of any where no module is named
+-- the symbols of one name, how far above them, and how long they are, if that is said: those of
+-- the module of a name, `-` for the kernel itself, or of any if no module is named
 pub record AskedSymbols : Type 0 where
   pub owner : Option (List ℕ)
   pub symbol : List ℕ
   pub above : Distance
 
--- the parts before and after a byte behind which none of it stands, where these are those of the
+-- the parts before and after a byte after which none of it stands, if these are those of the
 -- rest of the text, and the byte is it or is not
 abbrev pub cut_before : ℕ → ℕ → List ℕ → Option (List ℕ × List ℕ) → Option (List ℕ × List ℕ)
 cut_before b x xs (Some p) = Some (x ∷ p.0, p.1)
 cut_before b x xs None = if x == b then Some ([], xs) else None
 
--- what stands before the last such byte, and what stands after it
+-- what is before the last such byte, and what is after it
 abbrev pub cut_at_last : ℕ → List ℕ → Option (List ℕ × List ℕ)
 cut_at_last b [] = None
 cut_at_last b (x ∷ xs) = cut_before b x xs (cut_at_last b xs)
@@ -63,7 +63,7 @@ asked_with owner text (Some p) = record { owner = owner; symbol = p.0; above = p
 abbrev pub asked_in : Option (List ℕ) → List ℕ → AskedSymbols
 asked_in owner text = asked_with owner text (symbol_and_distance text)
 
--- what stands before the first `:` (58) is the name of a module
+-- what is before the first `:` (58) is the name of a module
 abbrev pub asked_by : List ℕ → Option (List ℕ × List ℕ) → AskedSymbols
 asked_by word None = asked_in None word
 asked_by word (Some p) = asked_in (Some p.0) p.1

@@ -14,7 +14,7 @@ use Rattle.command_io.specs.Readings.{HoldsOf}
 use Rattle.catalog_engines.specs.NoteTexts.{applying_lines}
 use Rattle.catalog_engines.specs.declared.sources.ListingFiles.{ListingFiles}
 
--- the name of the file of modules, which is empty where there is none
+-- the name of the file of modules, which is empty if there is none
 abbrev pub modules_name : ListingFiles → List ℕ
 modules_name files = unwrap_or (option_map (λ f. f.now) files.modules) []
 

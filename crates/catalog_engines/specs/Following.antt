@@ -1,4 +1,4 @@
--- What is written for a log that lasts, whose listings are read again behind each of its blocks.
+-- What is written for a log that lasts, whose listings are read again after each of its blocks.
 use Rattle.std.specs.Prelude.{◌≡◌, ◌≤◌, ◌⊎◌, ℕ, ◌-◌, ◌^◌, List, [], ◌∷◌, ◌++◌, flat_map, length, take}
 use Rattle.std.specs.Prelude.{Option, Some, Result, Ok, Err, IfSome, false}
 use Rattle.std.specs.Io.KnownBytes.{Appends}
@@ -57,11 +57,11 @@ IsFaultOfListings (Refused refusal.OutOfMemory) = Unit {0}
 IsFaultOfListings (Read place) = Unit {0}
 IsFaultOfListings _ = ⊥
 
--- these events came behind the earlier ones, where those are known
+-- these events came after the earlier ones, if those are known
 abbrev pub Happen : Option (List Event) → Option (List Event) → List Event → Type 0
 Happen before after events = IfSome before (λ earlier. after ≡ Some (earlier ++ events))
 
--- A turn: a block, and the texts of the listings as they were read behind it.
+-- A turn: a block, and the texts of the listings as they were read after it.
 pub record Turn : Type 0 where
   pub block : List ℕ
   pub listings : Given
@@ -82,8 +82,8 @@ AreAnswersOf q a g answer =
     (c : CatalogEntries) × (notes : ListingNotes) × IsCatalogOf q.kernel g c notes
     × (answer ≡ answered_by c a.rule (is_narrow (lines_of g.kallsyms)))
 
--- With a block, behind a line that is open, the lines that have their end now are put, each named by
--- these answers, and what is put of the line that is open behind them.
+-- With a block, after a line that is open, the lines that have their end now are put, each named by
+-- these answers, and what is put of the line that is open after them.
 pub record NamesBlock (answer : Answering) (held held' : Held) (line block line' text : List ℕ)
     : Type 0 where
   pub ended : List ℕ
@@ -97,8 +97,8 @@ abbrev pub NamesSome : Held → List ℕ → List ℕ → Answering → List ℕ
 NamesSome held line block answer text =
     (held' : Held) × (line' : List ℕ) × NamesBlock answer held held' line block line' text
 
--- The line that is open behind the last block is put, named by these answers, and these are the names
--- of the log.
+-- The line that is open after the last block is put, named by these answers, and these are the
+-- names of the log.
 pub record NamesLast (held : Held) (line : List ℕ) (answer : Answering) (names : LogNames)
     (text : List ℕ)
     : Type 0 where
@@ -106,7 +106,7 @@ pub record NamesLast (held : Held) (line : List ℕ) (answer : Answering) (names
   pub put : put_of line ++ text ≡ annotated_lines answer held (lines line)
 
 -- After these turns, in which the listings had these texts last, this text is put, each line of it
--- named by the listings of the turn in whose block it ends; this line is open behind it, and this is
+-- named by the listings of the turn in whose block it ends; this line is open after it, and this is
 -- carried on.
 pub data IsNamed (q : Sources) (a : Annotate) (first : Given)
     : List Turn → Given → Held → List ℕ → List ℕ → Type 0 where
@@ -117,8 +117,8 @@ pub data IsNamed (q : Sources) (a : Annotate) (first : Given)
       → NamesBlock answer held held' line t.block line' more
       → IsNamed q a first (turns ++ t ∷ []) t.listings held' line' (text ++ more)
 
--- Listings with these texts say no catalog, and nothing is written; or what is returned and the text
--- that is put go with their answers as this says.
+-- Listings with these texts say no catalog, and nothing is written; or what is returned and the
+-- text that is put go with their answers as this says.
 abbrev pub NamesBy : {W X : Type 0} → (W → Option (List ℕ)) → Sources → Annotate → Given
     → (Answering → X → List ℕ → Type 0) → Output W → Output W → Result X Stop → Type 0
 NamesBy {W} {X} contents q a g P w w' result =
@@ -151,7 +151,7 @@ abbrev pub IsUnread : {W : Type 0} → Option (List Event) → Option (List Even
 IsUnread before after w w' result =
     Happen before after (Failed (Read 3) ∷ []) × (w' ≡ w) × (result ≡ Err (stop.Failed (Read 3)))
 
--- or, behind one block more, the listings cannot be read;
+-- or, after one block more, the listings cannot be read;
 abbrev pub IsUnlisted : {W : Type 0} → Option (List Event) → Option (List Event) → Output W
     → Output W → Result Findings Stop → Type 0
 IsUnlisted before after w w' result =
@@ -215,8 +215,9 @@ abbrev pub IsRefused : {W E : Type 0} → Output W → Output W → Output E →
     → Result ℕ Fault → Type 0
 IsRefused w w' e e' f result = (w' ≡ w) × (e' ≡ e) × (result ≡ Err f)
 
--- What the engine returns. There is no memory; or the listings cannot be read; or they were read before
--- the log was begun, and say no catalog, or what is noted of them was told, and the log was followed.
+-- What the engine returns. There is no memory; or the listings cannot be read; or they were read
+-- before the log was begun, and say no catalog, or what is noted of them was told, and the log was
+-- followed.
 abbrev pub FollowsLog : {W E : Type 0} → (W → Option (List ℕ)) → (E → Option (List ℕ)) → Sources
     → Annotate → Option (List Event) → Option (List Event) → Output W → Output W → Output E
     → Output E → Result ℕ Fault → Type 0

@@ -14,8 +14,8 @@ abbrev pub IsTextWritten : {V : Type 0} → (List ℕ → Type 0) → (List ℕ 
 IsTextWritten Wrote Is v = (text : List ℕ) × Is text v × Wrote text
 
 -- What is returned for listings that were read, from one state of the writer to another, where `Is`
--- says which text goes with which value. Every fault but a failed write leaves the writer as it was,
--- and a call of it failed then alone.
+-- says which text goes with which value. Every fault but a failed write leaves the writer as it
+-- was, and a call of it failed then alone.
 abbrev pub AnswersGiven : {V W : Type 0} → (W → Option (List ℕ)) → (Given → List ℕ → V → Type 0)
     → Given → Output W → Output W → Result V Fault → Type 0
 AnswersGiven contents Is g w w' (Ok v) = IsTextWritten (Delivered contents w w') (Is g) v
@@ -28,8 +28,8 @@ AnswersGiven {V} contents Is g w w' (Err Write) =
     (v : V) × IsTextWritten (WrotePart contents w w') (Is g) v
 AnswersGiven contents Is g w w' (Err _) = ⊥
 
--- What the engine returns that also read the listings, where these are known. A call of a reader or
--- of the writer failed where the answer says so, and else none.
+-- What the engine returns that also read the listings, if these are known. A call of a reader or
+-- of the writer failed if the answer says so, and else none.
 abbrev pub AnswersListings : {V W : Type 0} → (W → Option (List ℕ))
     → (Given → List ℕ → V → Type 0) → Option Given → Failures → Output W → Output W
     → Result V Fault → Type 0

@@ -36,7 +36,7 @@ is_owner c number (Some name) =
 abbrev pub end_of : Found → ℕ
 end_of f = f.symbol.addr + f.size
 
--- the symbol as it is kept in the region that holds its address, where that is one of its module
+-- the symbol as it is kept in the region that holds its address, if that is one of its module
 abbrev pub kept_in : CatalogEntries → ListedSymbol → Item → Option Kept
 kept_in c s item =
     if is_owner c item.tag s.owner

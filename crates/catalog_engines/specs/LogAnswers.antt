@@ -44,7 +44,7 @@ abbrev pub is_alias_in : CatalogEntries → Item → ℕ → List ℕ → Bool
 is_alias_in c item addr name =
     option_map_or (λ m. is_alias_of m item addr name) (module_of c item.tag) false
 
--- the same for an address that is taken by this rule
+-- a name is an alias for an address that this rule takes
 abbrev pub is_alias_by : CatalogEntries → LogRule → Bool → ℕ → List ℕ → Bool
 is_alias_by c rule says_so addr name =
     let r = rule_at rule says_so in

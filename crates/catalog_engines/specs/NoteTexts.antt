@@ -23,7 +23,7 @@ use Rattle.listing.specs.declared.listing_notes.ListingNotes.{ListingNotes}
 use Rattle.logs.specs.LogNames.{is_of_another_boot, is_unnamed}
 use Rattle.logs.specs.declared.log_names.LogNames.{LogNames}
 
--- what to try where a name is missing: many kernels list no `_end`
+-- what to try if a name is missing: many kernels list no `_end`
 abbrev pub remedy_text : List ℕ → List ℕ
 remedy_text name =
     if bytes_eq name (codes "_end") then codes "; try --kernel _stext _einittext" else []
@@ -31,7 +31,7 @@ remedy_text name =
 abbrev pub missing_text : List ℕ → List ℕ
 missing_text name = codes "has no symbol " ++ name ++ remedy_text name
 
--- what a note says, where these names bound the kernel
+-- what a note says, if these names bound the kernel
 abbrev pub message_of : BoundNames → ListingNote → List ℕ
 message_of names Empty = codes "is empty"
 message_of names Gzip = codes "is compressed by gzip; unpack it first"
@@ -91,7 +91,7 @@ abbrev pub lines_for : BoundNames → List ℕ → List ℕ → ListingNotes →
 lines_for names modules kallsyms notes =
     line_if_noted names modules notes.modules ++ line_if_noted names kallsyms notes.kallsyms
 
--- the line of a note, where it applies
+-- the line of a note, if it applies
 abbrev pub line_where : Bool → List ℕ → List ℕ
 line_where applies line = if applies then line else []
 
@@ -100,25 +100,25 @@ abbrev pub applying_lines : BoundNames → List ℕ → (ListingNote → Bool) �
 applying_lines names file applies =
     flat_map (λ note. line_where (applies note) (note_line names file note)) all_notes
 
--- the names of the bounds that a listing of symbols may miss: those that are given, or else the last
--- of the usual ones
+-- the names of the bounds that a listing of symbols may miss: those that are given, or else the
+-- last of the usual ones
 abbrev pub noted_bounds : Option BoundNames → BoundNames
 noted_bounds kernel = unwrap_or kernel (record { start = codes "_stext"; end = codes "_etext" })
 
--- the lines for files of listings, of which that of modules may be missing, where these names bound
+-- the lines for files of listings, of which that of modules may be missing, if these names bound
 -- the kernel
 abbrev pub lines_by : BoundNames → Option (Bor (List ℕ)) → List ℕ → ListingNotes → List ℕ
 lines_by names (Some modules) kallsyms notes = lines_for names modules.now kallsyms notes
 lines_by names None kallsyms notes = line_if_noted names kallsyms notes.kallsyms
 
--- the same, where these names are given for the kernel's bounds
+-- the lines for files of listings, if these names are given for the kernel's bounds
 abbrev pub note_lines : Option BoundNames → ListingFiles → ListingNotes → List ℕ
 note_lines kernel files notes =
     lines_by (noted_bounds kernel) files.modules files.kallsyms.now notes
 
 -- ---- told, or not
 
--- where something is noted these lines were said, and else nothing was
+-- if something is noted these lines were said, and else nothing was
 abbrev pub IsNoted : {D : Type 0} → (D → Option (List ℕ)) → Output D → Output D → Bool
     → List ℕ → Type 0
 IsNoted contents old new true lines = Says contents old new lines

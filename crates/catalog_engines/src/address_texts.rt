@@ -1,5 +1,5 @@
-//! The lines that are written for names, as text or as objects of JSON, byte for byte, with no memory
-//! taken.
+//! The lines that are written for names, as text or as objects of JSON, byte for byte, with no
+//! memory taken.
 ghost use Rattle.std.specs.Prelude.{◌≡◌, ◌+◌, ◌^◌, true, nat_lt, [], map, unwrap_or};
 ghost use Rattle.std.specs.List.{list_any};
 ghost use Rattle.std.specs.Option.{option_copied};
@@ -121,7 +121,7 @@ fn put_asked_object<W: Write>(writer: &mut Output<W>, asked: &AskedName<'_>)
     writer.put(b"}\n");
 }
 
-/// Writes the module that is asked for, or nothing for the kernel itself or where none is named.
+/// Writes the module that is asked for, or nothing for the kernel itself or if none is named.
 fn put_asked_member<W: Write>(writer: &mut Output<W>, asked: Option<&[u8]>)
     ensures { Says W.contents writer.old writer.new
         (asked_member (option_copied asked.entry)) }
@@ -286,7 +286,7 @@ fn is_address(addr: u64, offset: u64, higher: u64) -> bool
     }
 }
 
-/// Whether a symbol of this module is asked for, where one is named: `-` is the kernel itself
+/// Whether a symbol of this module is asked for, if one is named: `-` is the kernel itself
 /// alone.
 fn is_of(asked: Option<&[u8]>, owner: Option<&[u8]>) -> bool
     ensures { result ≡ is_of (option_copied asked.entry) (option_copied owner.entry) }

@@ -16,7 +16,7 @@ use texts::Output;
 
 /// Writes where the kept symbols of each name are, in the order listed, as objects of JSON or as
 /// lines of text, and returns what is noted of the listings. A name may have the module in front of
-/// it, and an offset behind.
+/// it, and an offset after it.
 ///
 /// All is read, and the catalog is there, before the first byte is written; so every fault but a
 /// failed write leaves the writer as it was. docs/FORMATS.md has the names and the lines.

@@ -1,4 +1,4 @@
-//! From the bytes of the listings and of a log to the log with the text of the answer behind each
+//! From the bytes of the listings and of a log to the log with the text of the answer after each
 //! address.
 //!
 //! The listings are read whole, and what is noted of them is told, before the log is begun: it may
@@ -28,7 +28,7 @@ use texts::{Counted, Output};
 pub struct Annotate<'a> {
     /// How the addresses of the log are taken.
     pub rule: LogRule,
-    /// Whether the listings are read again behind each block of the log.
+    /// Whether the listings are read again after each block of the log.
     pub follow: bool,
     /// The file of the log; `-` is the standard input.
     pub log: &'a str,
@@ -68,18 +68,18 @@ impl From<AllocError> for Stop {
 /// The place of the log among the files that are read.
 pub const LOG_PLACE: u64 = 3;
 
-/// Writes a log again, with the text of the answer behind each address in it that the listings
-/// have. The sources say between which symbols the kernel itself lies, and the job how the addresses
-/// are taken; the listing of symbols says whether the log is of a 32-bit kernel.
+/// Writes a log again, with the text of the answer after each address in it that the listings have.
+/// The sources say between which symbols the kernel itself lies, and the job how the addresses are
+/// taken; the listing of symbols says whether the log is of a 32-bit kernel.
 ///
-/// What is noted of the listings is told to `errors` before the log is begun. Every
-/// fault that comes before that leaves the log, the writer and `errors` as they were. Each line of
-/// the log is written, and the writer flushed, after the block that its end is in was read; so
-/// whatever ends it, what was written is a beginning of the annotated log. The status is 1 where
-/// nobody reads any more what is written, as before `head`. Behind a log that was annotated to its
-/// end it is noted if it is packed or of wide characters, if the names that it has itself are not those
-/// of the listing, or if none of its addresses has a name. docs/FORMATS.md has the listings, and says
-/// what is inserted.
+/// What is noted of the listings is told to `errors` before the log is begun. Every fault that
+/// comes before that leaves the log, the writer and `errors` as they were. Each line of the log is
+/// written, and the writer flushed, after the block that its end is in was read; so whatever ends
+/// it, what was written is a beginning of the annotated log. The status is 1 if nobody reads any
+/// more what is written, as before `head`. After a log that was annotated to its end it is noted if
+/// it is packed or of wide characters, if the names that it has itself are not those of the
+/// listing, or if none of its addresses has a name. docs/FORMATS.md has the listings, and says what
+/// is inserted.
 pub fn annotate_engine<M: Read, K: Read, R: Read, L: Read, E: Write, W: Write>(
     alloc: Global,
     listings: &mut ListingReaders<M, K, R>,
@@ -150,7 +150,7 @@ pub(crate) fn stopped<T>(put: Result<T, LogFault>) -> Result<T, Stop>
     }
 }
 
-/// Why a log is annotated no further where there is this fault.
+/// Why a log is annotated no further if there is this fault.
 fn stop_of(fault: LogFault) -> Stop
     ensures { result ≡ stop_of fault }
 {
@@ -163,8 +163,8 @@ fn stop_of(fault: LogFault) -> Stop
     }
 }
 
-/// Tells the end of the log in this file: what is noted of one that was annotated to its end, or the
-/// fault. Returns the program's status, which is 1 where nobody reads any more what is written.
+/// Tells the end of the log in this file: what is noted of one that was annotated to its end, or
+/// the fault. Returns the program's status, which is 1 if nobody reads any more what is written.
 pub(crate) fn tell_end<E: Write>(
     end: Result<Findings, Stop>,
     log: &str,

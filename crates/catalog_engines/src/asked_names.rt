@@ -19,7 +19,7 @@ use texts::number;
 pub struct Distance {
     /// How many bytes above it.
     pub offset: u64,
-    /// How many bytes the symbol has, where that is said.
+    /// How many bytes the symbol has, if that is said.
     pub size: Option<u64>,
 }
 
@@ -34,7 +34,7 @@ impl Distance {
 /// The symbols of one name, and how far above them.
 #[derive(Debug, Drop)]
 pub struct AskedName<'a> {
-    /// The name of their module, `-` for the kernel itself; none where any will do.
+    /// The name of their module, `-` for the kernel itself; none if any will do.
     pub owner: Option<&'a [u8]>,
     /// Their name.
     pub symbol: &'a [u8],
@@ -56,7 +56,7 @@ impl<'a> Model for AskedName<'a> {
 }
 
 /// What a NAME asks for: `SYMBOL`, `SYMBOL+0xOFFSET` or `SYMBOL+0xOFFSET/0xSIZE`, with `MODULE:` in
-/// front or ` [MODULE]` behind or neither.
+/// front or ` [MODULE]` after it or neither.
 pub fn asked_name(word: &[u8]) -> AskedName<'_>
     ensures { result ≡ asked_of word.now }
 {
@@ -97,7 +97,7 @@ fn without_last(byte: u8, text: &[u8]) -> Option<&[u8]>
     }
 }
 
-/// What `SYMBOL`, or such a text with its distance, asks for of the symbols of a module. Where no
+/// What `SYMBOL`, or such a text with its distance, asks for of the symbols of a module. If no
 /// distance stands at the end it is all the name of a symbol.
 fn asked_in<'a>(owner: Option<&'a [u8]>, text: &'a [u8]) -> AskedName<'a>
     ensures { result ≡ asked_in (option_copied owner.entry) text.now }

@@ -1,6 +1,6 @@
 //! All that is noted of listings, and how many of their lines went where.
 //!
-//! A lookup tells of each listing the first note that applies; a check tells them all, and where
+//! A lookup tells of each listing the first note that applies; a check tells them all, and if
 //! they are its answer it writes them.
 ghost use Rattle.std.specs.Prelude.{◌≡◌, List, Some, true, ℕ};
 ghost use Rattle.std.specs.Option.{option_copied};
@@ -29,7 +29,7 @@ use std::io::{Read, Write};
 use texts::Output;
 
 /// Writes a line for each note that applies to the listings in these files, and then how many of
-/// their lines went where. Returns the program's status: 1 where no symbol is
+/// their lines went where. Returns the program's status: 1 if no symbol is
 /// kept.
 ///
 /// All is read, and the catalog is there, before the first byte is written; so every fault but a
@@ -134,7 +134,7 @@ fn put_notes_if_listed<W: Write>(
     }
 }
 
-/// The name of the file of modules, which is empty where there is none.
+/// The name of the file of modules, which is empty if there is none.
 fn modules_name<'a>(files: &ListingFiles<'a>) -> &'a str
     ensures { result.now ≡ modules_name files.now }
 {
@@ -142,7 +142,7 @@ fn modules_name<'a>(files: &ListingFiles<'a>) -> &'a str
 }
 
 /// Writes the line of each note that applies to a listing of modules with this text beside one of
-/// symbols, where this catalog is built of both, and all its well-formed lines are hidden or not.
+/// symbols, if this catalog is built of both, and all its well-formed lines are hidden or not.
 fn put_module_notes<W: Write>(
     writer: &mut Output<W>,
     names: &KernelBounds,

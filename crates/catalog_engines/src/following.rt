@@ -1,5 +1,5 @@
-//! From a log that lasts, and its listings as they are again and again, to the log with the text of the
-//! answer behind each address.
+//! From a log that lasts, and its listings as they are again and again, to the log with the text of
+//! the answer after each address.
 //!
 //! ```text
 //!     listings   A           A'                  A''
@@ -9,7 +9,7 @@
 //! ```
 //!
 //! So a module that was loaded since has its name, and a line is named by the listings as they were
-//! read behind the block that its end is in.
+//! read after the block that its end is in.
 ghost use Rattle.logs.specs.Annotation.{Ends, Passes};
 ghost use Rattle.command_io.specs.OpenedCatalogs.{texts_in};
 ghost use Rattle.catalog_engines.specs.Following.{FollowsLog, FollowsTurns, GivesCatalog, NamesBy};
@@ -28,13 +28,14 @@ use std::alloc::Global;
 use std::io::Write;
 use texts::{BLOCK, Output};
 
-/// Writes a log that lasts again, with the text of the answer behind each address in it that the
-/// listings have, which are read again behind each of its blocks.
+/// Writes a log that lasts again, with the text of the answer after each address in it that the
+/// listings have, which are read again after each of its blocks.
 ///
-/// A line is named by the listings as they were read behind the block that its end is in, and the last
-/// line, which has no end, by the listings as they were read last. What is noted of the listings is told
-/// to `errors` once, as they are before the log is begun. A listing that cannot be read or understood
-/// ends it, whenever that is; what was written stays. Else it is as `annotate_engine` does it.
+/// A line is named by the listings as they were read after the block that its end is in, and the
+/// last line, which has no end, by the listings as they were read last. What is noted of the
+/// listings is told to `errors` once, as they are before the log is begun. A listing that cannot be
+/// read or understood ends it, whenever that is; what was written stays. Else it is as
+/// `annotate_engine` does it.
 pub fn follow_engine<L: LastingLog, E: Write, W: Write>(
     alloc: Global,
     log: &mut L,
@@ -69,7 +70,8 @@ fn tell_notes<E: Write>(
     Ok(())
 }
 
-/// Writes the lines of a log, block by block. These are the texts of the listings before it is begun.
+/// Writes the lines of a log, block by block. These are the texts of the listings before it is
+/// begun.
 fn follow_blocks<L: LastingLog, W: Write>(
     alloc: Global,
     log: &mut L,
@@ -119,8 +121,8 @@ fn name_block<W: Write>(
     stopped(annotator.pass(alloc, &answers, bytes, writer))
 }
 
-/// Writes the last line, which has no end, named by the listings with these texts. Returns the names of
-/// the log.
+/// Writes the last line, which has no end, named by the listings with these texts. Returns the
+/// names of the log.
 fn name_last<W: Write>(
     alloc: Global,
     texts: &ListingTexts,

@@ -91,8 +91,8 @@ fn names_sought<'n, 'a>(
     Ok(sought)
 }
 
-/// Puts the symbol that a line is, whose first tab stands at this place, after those of its name, if
-/// that is sought and the symbol is kept.
+/// Puts the symbol that a line is, whose first tab is at this place, after those of its name,
+/// if that is sought and the symbol is kept.
 fn take_line<'a>(
     sought: &mut SoughtSymbols<'_, 'a>,
     index: &IndexedCatalog<'_>,
@@ -117,7 +117,7 @@ fn take_line<'a>(
     Ok(())
 }
 
-/// The symbol as the catalog keeps it, which it does not where it is a mapping symbol.
+/// The symbol as the catalog keeps it, which it does not if it is a mapping symbol.
 fn kept_symbol<'a>(index: &IndexedCatalog<'_>, symbol: &SymbolLine<'a>) -> Option<KeptSymbol<'a>>
     ensures { result ≡ kept_symbol index.now symbol.now }
 {
@@ -128,7 +128,7 @@ fn kept_symbol<'a>(index: &IndexedCatalog<'_>, symbol: &SymbolLine<'a>) -> Optio
     }
 }
 
-/// The symbol where the region that holds its address is one of its module.
+/// The symbol if the region that holds its address is one of its module.
 fn kept_at_its_address<'a>(
     index: &IndexedCatalog<'_>,
     symbol: &SymbolLine<'a>,

@@ -9,10 +9,10 @@ use std::alloc::Global;
 
 /// A log that lasts, and the listings that say what its addresses are.
 pub trait LastingLog {
-    /// What was read of them until now, in order, where that is known.
+    /// What was read of them until now, in order, if that is known.
     ghost events: { Self → Option (List Event) };
 
-    /// Reads a block of the log. Returns how many bytes it has: none where the log is at its end.
+    /// Reads a block of the log. Returns how many bytes it has: none if the log is at its end.
     fn read_block(&mut self, room: &mut [u8]) -> Result<usize, Fault>
         ensures bound { IfOk result (λ n. n ≤ length room.new) }
         ensures event { Happen (events self.old) (events self.new)

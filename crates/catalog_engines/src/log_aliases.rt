@@ -1,5 +1,5 @@
-//! Whether an address of a log may have another name than that of its answer: that of a symbol at the
-//! address of the answer's.
+//! Whether an address of a log may have another name than that of its answer: that of a symbol at
+//! the address of the answer's.
 ghost use Rattle.std.specs.Prelude.{◌≡◌, ◌≤◌, ◌<◌, ℕ, List, true};
 ghost use Rattle.modules.specs.Index.{IsRising};
 ghost use Rattle.catalog_engines.specs.LogAnswers.{is_alias_in, lists_symbol};
@@ -48,7 +48,7 @@ fn not_above<'s, 'a>(symbols: &'s [Symbol<'a>], addr: u64) -> &'s [Symbol<'a>]
     &symbols[..end]
 }
 
-/// Symbols among which are all that have the address: no others where they are known to rise.
+/// Symbols among which are all that have the address: no others if they are known to rise.
 fn around<'s, 'a>(symbols: &'s [Symbol<'a>], rising: bool, addr: u64) -> &'s [Symbol<'a>]
     requires { rising ≡ true → IsRising symbols.now }
     ensures { (name : List ℕ)
@@ -69,7 +69,7 @@ fn lists_symbol(symbols: &[Symbol], rising: bool, addr: u64, name: &[u8]) -> boo
     has_symbol(around(symbols, rising, addr), addr, name)
 }
 
-/// The same, where each of them is asked.
+/// Whether one of the symbols has this address and this name.
 fn has_symbol(symbols: &[Symbol], addr: u64, name: &[u8]) -> bool
     ensures { result ≡ lists_symbol symbols.now addr name.now }
 {

@@ -1,6 +1,6 @@
 //! The catalog that the addresses of a log are answered from.
 //!
-//! Each name that a log has itself behind an address, and that is not the answer's, is sought among
+//! Each name that a log has itself after an address, and that is not the answer's, is sought among
 //! the symbols at the address. Those of the kernel itself are many, and mostly listed by rising
 //! address: whether they are is found once for a log, and then they are not gone through for each
 //! name.
@@ -16,7 +16,7 @@ use std::marker::Model;
 #[derive(Drop)]
 pub(crate) struct LogIndex<'i, 'c> {
     index: &'i IndexedCatalog<'c>,
-    /// Whether the symbols of the kernel itself are known to stand by rising address.
+    /// Whether the symbols of the kernel itself are known to be by rising address.
     kernel_rises: bool,
 }
 
@@ -57,7 +57,7 @@ impl<'i, 'c> LogIndex<'i, 'c> {
         self.index.find(addr)
     }
 
-    /// Whether the symbols of the module of this number are known to stand by rising address.
+    /// Whether the symbols of the module of this number are known to be by rising address.
     pub(crate) fn rises(&self, number: u64) -> bool
         ensures { result ≡ true → DoesRise self.now number }
     {

@@ -13,7 +13,7 @@ use modules::KernelBounds;
 use std::io::Write;
 use texts::Output;
 
-/// Writes what is noted of the listings in these files, where these names are given for the kernel's
+/// Writes what is noted of the listings in these files, if these names are given for the kernel's
 /// bounds.
 pub fn put_notes_of<W: Write>(
     writer: &mut Output<W>,
@@ -24,7 +24,7 @@ pub fn put_notes_of<W: Write>(
     ensures { Says W.contents writer.old writer.new
         (note_lines (option_copied kernel.entry) files.now notes.now) }
 {
-    // a usual bound is missed where the listing has none of the names that it may have
+    // a usual bound is missed if the listing has none of the names that it may have
     let missed = KernelBounds {
         start: b"_stext",
         end: b"_etext",
@@ -32,7 +32,7 @@ pub fn put_notes_of<W: Write>(
     put_listing_notes(writer, kernel.unwrap_or(&missed), files, notes);
 }
 
-/// Writes what is noted of the listings in these files, where these names bound the kernel.
+/// Writes what is noted of the listings in these files, if these names bound the kernel.
 pub fn put_listing_notes<W: Write>(
     writer: &mut Output<W>,
     names: &KernelBounds,
@@ -68,7 +68,7 @@ pub fn put_if_noted<W: Write>(
     }
 }
 
-/// Writes the line of a note on the listing in this file, where it applies.
+/// Writes the line of a note on the listing in this file, if it applies.
 pub(crate) fn put_note_where<W: Write>(
     writer: &mut Output<W>,
     names: &KernelBounds,
@@ -95,8 +95,8 @@ fn put_note<W: Write>(writer: &mut Output<W>, names: &KernelBounds, file: &[u8],
     writer.put(b"\n");
 }
 
-/// Writes what is noted of the log in this file, by its first two bytes and what its addresses tell of
-/// the listing.
+/// Writes what is noted of the log in this file, by its first two bytes and what its addresses tell
+/// of the listing.
 pub fn put_log_note<W: Write>(writer: &mut Output<W>, log: &str, head: &[u8], names: LogNames)
     ensures { Says W.contents writer.old writer.new (log_line log.now head.now names) }
 {
@@ -172,7 +172,7 @@ fn put_missing<W: Write>(writer: &mut Output<W>, name: &[u8])
     writer.put(remedy(name));
 }
 
-/// What to try where a symbol of this name is missing.
+/// What to try if a symbol of this name is missing.
 fn remedy(name: &[u8]) -> &'static [u8]
     ensures { result.now ≡ remedy_text name.now }
 {

@@ -12,7 +12,7 @@ use modules::KernelBounds;
 use std::io::Write;
 use texts::Output;
 
-/// Writes what is noted of the listings in these files, if something is, where these names are given
+/// Writes what is noted of the listings in these files, if something is, if these names are given
 /// for the kernel's bounds.
 pub fn note_listings<W: Write>(
     notes: &ListingNotes,
@@ -28,7 +28,7 @@ pub fn note_listings<W: Write>(
     }
 }
 
-/// Writes what is noted of the log in this file, if something is, where this was found of it.
+/// Writes what is noted of the log in this file, if something is, if this was found of it.
 pub fn note_log<W: Write>(found: &Findings, log: &str, writer: &mut Output<W>)
     ensures { IsNoted W.contents writer.old writer.new
         (is_log_noted found.now.head.items found.now.names)

@@ -6,17 +6,17 @@ use modules::KernelBounds;
 pub struct Sources<'a> {
     /// The files of the listings.
     pub files: ListingFiles<'a>,
-    /// The names of the symbols that bound the kernel's own region, where they are given.
+    /// The names of the symbols that bound the kernel's own region, if they are given.
     pub kernel: Option<KernelBounds<'a>>,
 }
 
 /// The files of listings.
 #[derive(Debug, Drop)]
 pub struct ListingFiles<'a> {
-    /// That of the listing of modules; where there is none, the symbols say where modules lie.
+    /// That of the listing of modules; if there is none, the symbols say where modules lie.
     pub modules: Option<&'a str>,
     /// That of the listing of symbols.
     pub kallsyms: &'a str,
-    /// That of the listing of regions, where there is one beside that of modules.
+    /// That of the listing of regions, if there is one beside that of modules.
     pub regions: Option<&'a str>,
 }

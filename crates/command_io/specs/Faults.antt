@@ -10,7 +10,7 @@ use Rattle.command_io.specs.declared.fault.Finished.{Finished}
 use Rattle.command_io.specs.declared.fault.Fault.TheVariants.{Refused, BadLine, Read, TooLong, Write}
 use Rattle.listing.specs.declared.listing_notes.ListingNotes.{ListingNotes}
 
--- the number that stands for a fault
+-- the number of a fault
 abbrev pub fault_number : Fault → ℕ
 fault_number (Refused refusal) = refusal_number refusal
 fault_number (BadLine place line) = 15

@@ -11,7 +11,7 @@ text_within (suc most) bytes =
     if nat_eq n (length bytes) then bytes
     else take n bytes ++ replacement_bytes ++ text_within most (drop (n + 1) bytes)
 
--- the same for all of them
+-- the bytes with U+FFFD in place of each that is no part of a character
 unfoldable pub text_of : List ℕ → List ℕ
 text_of bytes = text_within (length bytes) bytes
 
@@ -19,7 +19,7 @@ text_of bytes = text_within (length bytes) bytes
 abbrev pub hexadecimal_digit : ℕ → ℕ
 hexadecimal_digit n = if nat_lt n 10 then 48 + n else 87 + n
 
--- a byte as it stands in a string: a quote and a backslash behind a backslash, a control character
+-- a byte as it would be in a string: a quote and a backslash after a backslash, a control character
 -- by its number
 abbrev pub escaped : ℕ → List ℕ
 escaped byte =

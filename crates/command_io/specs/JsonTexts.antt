@@ -1,5 +1,5 @@
--- The lines that are written as JSON, an object each: those of a lookup of addresses, and the members
--- that those of names share with them.
+-- The lines that are written as JSON, an object each: those of a lookup of addresses, and the
+-- members that those of names share with them.
 use Rattle.std.specs.Prelude.{ℕ, List, [], ◌++◌, codes, flat_map}
 use Rattle.std.specs.Option.{option_map_or}
 use Rattle.texts.specs.Exact.{hexadecimal}
@@ -17,7 +17,7 @@ unfoldable pub offset_members : List ℕ → ℕ → List ℕ
 offset_members name offset =
     codes "\"symbol\":" ++ json_string name ++ codes ",\"offset\":" ++ json_number offset
 
--- the same, and how far the symbol reaches
+-- a symbol, how far an address lies above it, and how far it reaches
 unfoldable pub symbol_members : List ℕ → ℕ → ℕ → List ℕ
 symbol_members name offset size =
     codes "," ++ offset_members name offset ++ codes ",\"size\":" ++ json_number size
@@ -38,7 +38,7 @@ answer_members k = option_map_or found_members k.found [] ++ option_map_or named
 unfoldable pub json_line : ℕ → Known → List ℕ
 json_line addr k = address_member addr ++ answer_members k ++ codes "}\n"
 
--- what stands before a count, and the count
+-- the text before a count, and the count
 abbrev pub json_count : List ℕ → ℕ → List ℕ
 json_count before count = before ++ json_number count
 
@@ -46,7 +46,7 @@ json_count before count = before ++ json_number count
 unfoldable pub row_member : List ℕ × ℕ → List ℕ
 row_member row = codes ",\"" ++ row.0 ++ json_count (codes "\":") row.1
 
--- `"TITLE":{"kept":KEPT`, and each row, behind this text
+-- `"TITLE":{"kept":KEPT`, and each row, after this text
 unfoldable pub tally_member : List ℕ → Tally → List ℕ
 tally_member before t =
     before ++ codes "\"" ++ t.title ++ json_count (codes "\":{\"kept\":") t.kept

@@ -29,7 +29,7 @@ texts_in t = record {
   regions = option_map (λ text. text.items) t.regions;
 }
 
--- the texts, where each of them is known
+-- the texts, if each of them is known
 abbrev pub given_of : Option (Option (List ℕ)) → Option (List ℕ) → Option (Option (List ℕ))
     → Option Given
 given_of (Some modules) (Some kallsyms) (Some regions) = Some (given modules kallsyms regions)
@@ -73,8 +73,8 @@ GivesListings g (Err (Refused refusal.OutOfMemory)) = Unit {0}
 GivesListings g (Err (BadLine place n)) = (place ≡ 2) × HasBadRegion n g
 GivesListings g (Err _) = ⊥
 
--- The catalog and the notes are those of listings, without mapping symbols. The kernel lies between the
--- names that are given, or else in its usual regions.
+-- The catalog and the notes are those of listings, without mapping symbols. The kernel lies between
+-- the names that are given, or else in its usual regions.
 abbrev pub IsCatalogBy : Option BoundNames → CatalogEntries → ListingNotes → Listed → Type 0
 IsCatalogBy kernel c notes l =
     (n : BuildCounts) × Say kernel false l c n × (notes ≡ notes_of kernel false l c n)

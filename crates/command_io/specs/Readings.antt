@@ -10,7 +10,7 @@ use Rattle.order_laws.specs.declared.refusals.Refusal.TheVariants as refusal
 use Rattle.command_io.specs.declared.fault.Fault.{Fault}
 use Rattle.command_io.specs.declared.fault.Fault.TheVariants.{Refused, BadLine, Read, Write}
 
--- what a reader gives that may be there, where that is known
+-- what a reader gives that may be there, if that is known
 abbrev pub known_text : {A : Type 0} → (A → Option (List ℕ)) → Option (Counted A)
     → Option (Option (List ℕ))
 known_text remaining None = Some None
@@ -24,7 +24,7 @@ failures_in reader = option_map_or failures_of reader 0
 abbrev pub Failures : Type 0
 Failures = List (ℕ × ℕ)
 
--- the counts of the fourth reader, where it alone is read
+-- the counts of the fourth reader, if it alone is read
 abbrev pub last_failures : ℕ → ℕ → Failures
 last_failures before after = (0, 0) ∷ (0, 0) ∷ (0, 0) ∷ (before, after) ∷ []
 
@@ -54,8 +54,8 @@ HoldsOf P (Err bad) = ⊥
 abbrev pub IsLinesPlace : ℕ → Type 0
 IsLinesPlace place = (place ≡ 2) ⊎ (place ≡ 3)
 
--- What an engine returns that read its inputs, where these are known, by what it says of them. A
--- call of a reader or of the writer failed where the answer says so, and else none; and every fault
+-- What an engine returns that read its inputs, if these are known, by what it says of them. A
+-- call of a reader or of the writer failed if the answer says so, and else none; and every fault
 -- but a failed write leaves the writer as it was.
 abbrev pub AnswersInputs : {I V W : Type 0} → (I → Result V Fault → Type 0)
     → Option (Result I (ℕ × ℕ)) → Failures

@@ -11,10 +11,10 @@ use std::alloc::AllocError;
 use texts::{LineFault, Output};
 use thiserror::Error;
 
-/// The program's status where it did what it was asked.
+/// The program's status if it did what it was asked.
 pub const SUCCEEDED: u8 = 0;
 
-/// The program's status where a run failed.
+/// The program's status if a run failed.
 pub const FAILED: u8 = 1;
 
 /// Why a run of the program failed.
@@ -53,7 +53,7 @@ impl Fault {
         }
     }
 
-    /// The number that stands for the fault: that of the refusal, 15 for a bad line, 16 where a
+    /// The number of the fault: that of the refusal, 15 for a bad line, 16 if a
     /// reader or the writer failed, 17 for a file that is too long. The program writes texts; who
     /// runs an engine has the number.
     pub fn number(&self) -> u32
@@ -145,7 +145,7 @@ pub struct Finished {
     pub notes: ListingNotes,
 }
 
-/// The end of a job whose engine has no status of its own: 0 where it succeeded.
+/// The end of a job whose engine has no status of its own: 0 if it succeeded.
 pub fn with_status(done: Result<ListingNotes, Fault>) -> Result<Finished, Fault>
     ensures { result ≡ with_status done }
 {

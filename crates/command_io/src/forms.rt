@@ -5,6 +5,6 @@
 pub struct AnswerForm {
     /// As objects of JSON, in place of lines of text.
     pub json: bool,
-    /// With the counts of the listings behind the answers.
+    /// With the counts of the listings after the answers.
     pub counts: bool,
 }

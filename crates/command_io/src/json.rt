@@ -24,7 +24,7 @@ pub fn put_json_string<W: Write>(writer: &mut Output<W>, bytes: &[u8])
     writer.put(b"\"");
 }
 
-/// Writes the text that bytes are, as it stands in a string.
+/// Writes the text that bytes are, as it would be in a string.
 fn put_text<W: Write>(writer: &mut Output<W>, bytes: &[u8])
     ensures { Says W.contents writer.old writer.new
         (flat_map escaped (text_of bytes.now)) }
@@ -39,7 +39,7 @@ fn put_text<W: Write>(writer: &mut Output<W>, bytes: &[u8])
     put_escaped(writer, rest);
 }
 
-/// Writes characters as they stand in a string.
+/// Writes characters as they would be in a string.
 fn put_escaped<W: Write>(writer: &mut Output<W>, text: &[u8])
     ensures { Says W.contents writer.old writer.new (flat_map escaped text.now) }
 {
@@ -48,7 +48,7 @@ fn put_escaped<W: Write>(writer: &mut Output<W>, text: &[u8])
     }
 }
 
-/// Writes a byte as it stands in a string.
+/// Writes a byte as it would be in a string.
 fn put_byte<W: Write>(writer: &mut Output<W>, byte: u8)
     ensures { Says W.contents writer.old writer.new (escaped byte) }
 {
@@ -71,7 +71,7 @@ pub fn digit(n: u8) -> u8
     if n < 10 { b'0' + n } else { b'a' - 10 + n }
 }
 
-/// Writes a number, as a text where a reader may round it.
+/// Writes a number, as a text if a reader may round it.
 #[tactic(auto, unfolding(crate::specs::Json::json_number))]
 pub fn put_json_number<W: Write>(writer: &mut Output<W>, n: u64)
     ensures { Says W.contents writer.old writer.new (json_number n) }

@@ -34,7 +34,7 @@ fn put_answer_members<W: Write>(writer: &mut Output<W>, answer: &Answer)
     put_owner(writer, answer.owner);
 }
 
-/// Writes the name of a module, where it is there.
+/// Writes the name of a module, if it is there.
 fn put_owner<W: Write>(writer: &mut Output<W>, owner: Option<&[u8]>)
     ensures { Says W.contents writer.old writer.new
         (option_map_or named_module (option_copied owner.entry) []) }
@@ -105,7 +105,7 @@ pub fn put_json_counts<W: Write>(writer: &mut Output<W>, tallies: &LineTallies)
     writer.put(b"}\n");
 }
 
-/// Writes the object of the counts of a listing under its title, behind this text.
+/// Writes the object of the counts of a listing under its title, after this text.
 #[tactic(auto, unfolding(crate::specs::JsonTexts::tally_member))]
 fn put_tally<W: Write>(writer: &mut Output<W>, before: &[u8], tally: &LineTally)
     ensures { Says W.contents writer.old writer.new (tally_member before.now tally.now) }
@@ -136,7 +136,7 @@ fn put_row<W: Write>(writer: &mut Output<W>, row: &Row)
     put_json_count(writer, b"\":", row.count);
 }
 
-/// Writes what stands before a count, and the count.
+/// Writes the text before a count, and the count.
 pub fn put_json_count<W: Write>(writer: &mut Output<W>, before: &[u8], count: u64)
     ensures { Says W.contents writer.old writer.new (json_count before.now count) }
 {

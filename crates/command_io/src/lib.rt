@@ -1,5 +1,5 @@
-//! What the commands of the program share: why one fails or the status that it comes to, the listings
-//! that it reads with the catalog that they say, and the members of its objects of JSON.
+//! What the commands of the program share: why one fails or the status that it comes to, the
+//! listings that it reads with the catalog that they say, and the members of its objects of JSON.
 //!
 //! ```text
 //!     readers of listings     read_given    ListingTexts    open_catalog     catalog, notes

@@ -71,9 +71,9 @@ pub fn read_given<M: Read, K: Read, R: Read>(
     })
 }
 
-/// Builds the catalog that listings with these texts say, without mapping symbols. The kernel itself
-/// lies between the given names, or else in its usual regions. The addresses that will be looked up are
-/// a hint for the build.
+/// Builds the catalog that listings with these texts say, without mapping symbols. The kernel
+/// itself lies between the given names, or else in its usual regions. The addresses that will be
+/// looked up are a hint for the build.
 pub fn open_catalog<'a>(
     alloc: Global,
     texts: &'a ListingTexts,

@@ -18,7 +18,7 @@ pub(crate) const KALLSYMS_PLACE: u64 = 1;
 /// The place of the listing of regions.
 pub(crate) const REGIONS_PLACE: u64 = 2;
 
-/// Reads the file at a place of the order in which they are read, where there is one.
+/// Reads the file at a place of the order in which they are read, if there is one.
 pub(crate) fn read_if_given<R: Read>(
     alloc: Global,
     reader: &mut Option<Counted<R>>,

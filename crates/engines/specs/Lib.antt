@@ -21,7 +21,7 @@ pub mod LineRooms
 pub mod StepTraces
 -- what one event and one command of it do, while it is run
 pub mod StepRuns
--- what the listings of a job and the file behind them say
+-- what the listings of a job and the file after them say
 pub mod Inputs
 -- what is written for the listings and the addresses that are asked for
 pub mod Lookups

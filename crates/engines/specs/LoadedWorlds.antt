@@ -47,7 +47,7 @@ pub record HoldsBelow (c : CatalogEntries) (number : ℕ) (w : World HalfOpen �
   pub holds : HasTable (items_below c number) w
   pub room : HasRoomFor c w
 
--- a table of all regions is refused where there are too many, and else when out of memory
+-- a table of all regions is refused if there are too many, and else when out of memory
 abbrev pub IsRefusedFor : CatalogEntries → Refusal → Type 0
 IsRefusedFor c BadCapacity = HasManyRegions c
 IsRefusedFor c OutOfMemory = Unit {0}

@@ -31,7 +31,7 @@ known_line form addr k = if form.json then json_line addr k else answer_line add
 abbrev pub line_by : AnswerForm → CatalogEntries → AddressRule → AddressAnswer → List ℕ
 line_by form c rule a = known_line form a.addr (answer_of c rule a.item a.addr)
 
--- the counts, where the form has them
+-- the counts, if the form has them
 unfoldable pub counts_by : AnswerForm → Tallies → List ℕ
 counts_by form t =
     if form.counts then if form.json then json_counts t else counts_text t else []

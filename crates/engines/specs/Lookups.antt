@@ -35,11 +35,11 @@ listed_addresses (Some text) = addresses_of text
 abbrev pub all_addresses : List ℕ → Option (List ℕ) → Result (List ℕ) ℕ
 all_addresses given text = entries_after given (listed_addresses text)
 
--- the same, where the text of the file is known
+-- all addresses of a query, if the text of the file is known
 abbrev pub addresses_known : Query → Option (Option (List ℕ)) → Option (Result (List ℕ) ℕ)
 addresses_known query file = option_map (all_addresses query.addresses) file
 
--- the addresses of both places, where the text of the file is known, or why they are not there
+-- the addresses of both places, if the text of the file is known, or why they are not there
 abbrev pub GivesAddresses : List ℕ → Option (Option (List ℕ)) → ℕ → ℕ
     → Result (Vec ℕ) Fault → Type 0
 GivesAddresses given known before after (Ok v) =
@@ -52,7 +52,8 @@ GivesAddresses given known before after (Err _) = ⊥
 
 -- ---- what is answered
 
--- the names that bound the kernel: those that are given, or else the usual ones if modules are listed
+-- the names that bound the kernel: those that are given, or else the usual ones if modules are
+-- listed
 abbrev pub bounds_beside : BoundNames → Option BoundNames → Option (List ℕ) → Option BoundNames
 bounds_beside usual kernel (Some text) = Some (unwrap_or kernel usual)
 bounds_beside usual kernel None = kernel
@@ -60,13 +61,13 @@ bounds_beside usual kernel None = kernel
 abbrev pub bounds_of_lookup : Query → Listed → Option BoundNames
 bounds_of_lookup query l = bounds_beside usual_bounds query.kernel l.modules
 
--- listings say this catalog and these counts to a lookup, which keeps mapping symbols if modules are
--- listed
+-- listings say this catalog and these counts to a lookup, which keeps mapping symbols if modules
+-- are listed
 abbrev pub SayToLookup : Query → Listed → CatalogEntries → BuildCounts → Type 0
 SayToLookup query l c n = Say (bounds_of_lookup query l) (is_some l.modules) l c n
 
--- A line for each address and then the counts were written, as far as this says, by the catalog of the
--- listings, which a table can have. This is noted of them.
+-- A line for each address and then the counts were written, as far as this says, by the catalog of
+-- the listings, which a table can have. This is noted of them.
 pub record IsLookedUp (Wrote : List ℕ → Type 0) (query : Query) (i : Inputs (List ℕ))
     (notes : ListingNotes)
     : Type 0 where
@@ -97,7 +98,7 @@ WritesLookup contents c text w w' (Err (Refused refusal.BadCapacity)) =
 WritesLookup contents c text w w' (Err Write) = HasFewRegions c × WrotePart contents w w' text
 WritesLookup contents c text w w' (Err _) = ⊥
 
--- what is said of the inputs where this is returned
+-- what is said of the inputs if this is returned
 abbrev pub IsLookupOf : {W : Type 0} → (W → Option (List ℕ)) → Query → Output W → Output W
     → Inputs (List ℕ) → Result ListingNotes Fault → Type 0
 IsLookupOf contents query w w' i (Ok notes) =
@@ -110,7 +111,7 @@ IsLookupOf contents query w w' i (Err Write) =
     (notes : ListingNotes) × IsLookedUp (WrotePart contents w w') query i notes
 IsLookupOf contents query w w' i (Err _) = Unit {0}
 
--- what is returned where the inputs were read, if these are known
+-- what is returned if the inputs were read, if these are known
 abbrev pub AnswersLookup : {W : Type 0} → (W → Option (List ℕ)) → Query
     → Option (Result (Inputs (List ℕ)) (ℕ × ℕ)) → Failures → Output W → Output W
     → Result ListingNotes Fault → Type 0

@@ -30,7 +30,7 @@ use Rattle.command_io.specs.declared.fault.Fault.{Fault}
 use Rattle.command_io.specs.declared.fault.Finished.{Finished}
 use Rattle.command_io.specs.declared.fault.Fault.TheVariants.{Refused, Write}
 
--- the lines of a script for so many readers, where its text is known
+-- the lines of a script for so many readers, if its text is known
 abbrev pub script_known : ℕ → Option (List ℕ) → Option (Result (List ScriptLine) ℕ)
 script_known readers text = option_map (script_of readers) text
 
@@ -51,11 +51,11 @@ pub record IsServed (c : CatalogEntries) (a : Assignments) (s : Served) : Type 0
   pub whole : list_any (λ e. e) s.ended.items ≡ false
   pub wrong : IsWrongCount c a.changes.items s.changes.items s.answers.items s.log.items s.wrong
 
--- the program's status where so many are wrong
+-- the program's status if so many are wrong
 abbrev pub status_of : ℕ → ℕ
 status_of wrong = if wrong == 0 then 0 else 1
 
--- What is returned for what came back, where the changes are of modules of these names.
+-- What is returned for what came back, if the changes are of modules of these names.
 abbrev pub TellsServed : {W : Type 0} → (W → Option (List ℕ)) → CatalogEntries
     → List (Vec (List ℕ)) → Served
     → Output W → Output W → Result ℕ Fault → Type 0
@@ -91,7 +91,8 @@ AnswersLines contents c readers lines w w' (Err Write) =
 AnswersLines contents c readers lines w w' (Err _) = ⊥
 
 -- Something that came back of the lines of a script, done in the regions of the catalog that the
--- listings say, was written as far as this says. It had this status, and this is noted of the listings.
+-- listings say, was written as far as this says. It had this status, and this is noted of the
+-- listings.
 pub record IsScriptRun (Wrote : List ℕ → Type 0) (kernel : BoundNames) (readers : ℕ)
     (i : Inputs (List ScriptLine)) (status : ℕ) (notes : ListingNotes)
     : Type 0 where
@@ -108,7 +109,7 @@ FitsNoRun kernel readers l =
     (c : CatalogEntries) × (n : BuildCounts) × Say (Some kernel) true l c n
     × (MayRun c readers → ⊥)
 
--- what is said of the inputs where this is returned
+-- what is said of the inputs if this is returned
 abbrev pub IsRunOf : {W : Type 0} → (W → Option (List ℕ)) → BoundNames → ℕ → Output W → Output W
     → Inputs (List ScriptLine) → Result Finished Fault → Type 0
 IsRunOf contents kernel readers w w' i (Ok finished) =
@@ -122,7 +123,7 @@ IsRunOf contents kernel readers w w' i (Err Write) =
     × IsScriptRun (WrotePart contents w w') kernel readers i status notes
 IsRunOf contents kernel readers w w' i (Err _) = Unit {0}
 
--- what is returned where the inputs were read, if these are known
+-- what is returned if the inputs were read, if these are known
 abbrev pub AnswersRun : {W : Type 0} → (W → Option (List ℕ)) → BoundNames → ℕ
     → Option (Result (Inputs (List ScriptLine)) (ℕ × ℕ)) → Failures → Output W → Output W
     → Result Finished Fault → Type 0

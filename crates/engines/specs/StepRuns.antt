@@ -43,7 +43,7 @@ TellsEvent o contents line e old new a b reply =
     (w : Moment ℕ) → RepresentsMoment o old w
     → (next : Moment ℕ) × Tells o contents line old new a b w (step_done e reply next ∷ [])
 
--- the event of a command as often as the command says, or not so often where the writer failed
+-- the event of a command as often as the command says, or not so often if the writer failed
 abbrev pub TellsCommand : {O W : Type 0} → Order ℕ → (W → Option (List ℕ)) → ℕ → Command ℕ
     → World O ℕ → World O ℕ → Output W → Output W → Type 0
 TellsCommand o contents line c old new a b =

@@ -69,7 +69,7 @@ load_members r load =
     reader_members r load.key ++ word_members load.word load.value
     ++ json_count (codes ",\"loads\":") load.loads ++ json_count (codes ",\"tries\":") load.attempts
 
--- the same of a reader that may load something
+-- the next load of a reader, if it has one
 abbrev pub loaded_members : ℕ → Option (NextLoad ℕ) → List ℕ
 loaded_members r load = option_map_or (load_members r) load []
 
@@ -120,7 +120,7 @@ read_members r load (Refused why) =
     json_count (codes "\"refusal\",\"of\":\"load\",\"reader\":") r ++ refused_member why
 read_members r load _ = codes "null"
 
--- what was done, from its kind on; `null` stands where no run has such a reply
+-- what was done, from its kind on; `null` if no run has such a reply
 abbrev pub done_members : Option (NextLoad ℕ) → Event ℕ → Reply ℕ → List ℕ
 done_members load (Begin u) reply = begun_members u reply
 done_members load Write reply = written_members reply
@@ -138,7 +138,7 @@ event_text number line load e reply sequence =
     json_count (codes "{\"event\":") number ++ json_count (codes ",\"line\":") line
     ++ codes ",\"kind\":" ++ done_members load e reply ++ line_end sequence
 
--- what an event loads at a moment, where it is a load
+-- what an event loads at a moment, if it is a load
 abbrev pub load_by : {K : Type 0} → Order K → ℕ → Moment K → Event K → Option (NextLoad K)
 load_by o n w (Read r) = load_of o n w r
 load_by o n w _ = None

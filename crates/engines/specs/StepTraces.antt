@@ -58,7 +58,7 @@ pub record IsStepTraceText (read written : List ℕ) : Type 0 where
   pub opens : HeaderMayOpen said.header
   pub runs : IsStepsText (order_by said.header.closed) said (command_lines read) written
 
--- What is written of it where memory ran out at a command: the opening, and the steps of the
+-- What is written of it if memory ran out at a command: the opening, and the steps of the
 -- commands before that.
 pub record IsBegunText (o : Order ℕ) (said : Contents) (lines written : List ℕ) : Type 0 where
   pub opens : HeaderMayOpen said.header
@@ -87,7 +87,7 @@ pub record IsCutTraceText (read written : List ℕ) : Type 0 where
   pub reads : trace_of read ≡ Ok said
   pub cut : IsCutText (order_by said.header.closed) said (command_lines read) written
 
--- the bytes that are read and those that are written where memory ran out
+-- the bytes that are read and those that are written if memory ran out
 pub record IsBegunTraceText (read written : List ℕ) : Type 0 where
   pub said : Contents
   pub reads : trace_of read ≡ Ok said

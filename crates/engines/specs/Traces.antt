@@ -47,7 +47,7 @@ order_by false = half_open
 
 -- what some run of these commands in this order writes: its notes and its last sequence. The run is
 -- safe and quiet, its lookups that the writer leaves alone are as short as in a red-black tree, and
--- where it is plain each lookup is that of one table.
+-- if it is plain each lookup is that of one table.
 pub record IsRunText (o : Order ℕ) (said : Contents) (written : List ℕ) : Type 0 where
   pub run : List (Done ℕ)
   pub steps : Run (machine o said.header.capacity (greatest_of said.header.version))
@@ -76,9 +76,9 @@ pub record IsTraceWith (P : Header → Type 0) (read : List ℕ) : Type 0 where
   pub header : P said.header
 
 -- What an engine returns that ran a trace of this header from one state of the writer to another,
--- where `IsText` says what a run writes, `IsBegun` what it writes until a call fails, and `IsRefused`
--- what became of the writer where memory ran out. A call of it failed where the answer says so, and
--- else none.
+-- where `IsText` says what a run writes, `IsBegun` what it writes until a call fails, and
+-- `IsRefused` what became of the writer if memory ran out. A call of it failed if the answer says
+-- so, and else none.
 abbrev pub AnswersBy : {W : Type 0} → (List ℕ → Type 0) → (List ℕ → Type 0) → (Output W → Output W → Type 0)
     → (W → Option (List ℕ)) → Header → Output W → Output W → Result (Unit {0}) Fault → Type 0
 AnswersBy IsText IsBegun IsRefused contents header w w' (Ok _) =
@@ -90,7 +90,7 @@ AnswersBy IsText IsBegun IsRefused contents header w w' (Err Write) =
     HeaderMayOpen header × ((text : List ℕ) × IsBegun text × WrotePart contents w w' text)
 AnswersBy IsText IsBegun IsRefused contents header w w' (Err _) = ⊥
 
--- The same of an engine that also read the trace, where the bytes of the reader are known: `IsText`
+-- What an engine returns that also read the trace, if the bytes of the reader are known: `IsText`
 -- and `IsBegun` take them and those that are written. A bad line leaves the writer as it was.
 abbrev pub AnswersReadBy : {R W : Type 0} → (List ℕ → List ℕ → Type 0) → (List ℕ → List ℕ → Type 0)
     → (Output W → Output W → Type 0) → (R → Option (List ℕ)) → (W → Option (List ℕ))

@@ -63,7 +63,7 @@ fn enlist<T: Drop>(lists: &mut Vec<Vec<T>>, number: u32, entry: T) -> Result<(),
     Ok(())
 }
 
-/// The number of the module of this name, and one that no module has where there is none.
+/// The number of the module of this name, and one that no module has if there is none.
 fn number_for(catalog: &Catalog<'_>, name: &ModuleName<'_>) -> u64
     ensures { result ≡ number_for catalog.now name.now }
 {

@@ -3,7 +3,7 @@
 //!
 //! An engine is generic over its readers and its writer. It knows no word of a command line and no
 //! name of a file: a fault tells of a file by its place in the order in which they are read. The
-//! commands that need no table stand in `catalog_engines`.
+//! commands that need no table are in `catalog_engines`.
 #![tactic(auto)]
 
 mod assignments;

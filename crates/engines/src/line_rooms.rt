@@ -1,6 +1,6 @@
 //! Room for a line that is put together from its end.
 //!
-//! What is put in stands in front of what stands there already. So the digits of a number are
+//! What is put in comes in front of what is there already. So the digits of a number are
 //! written where they stay, the last one first, with none counted before and none copied after, and
 //! the whole line goes to a writer by one call: such a call costs more than the digits of a number.
 ghost use Rattle.std.specs.Prelude.{◌≡◌, ◌+◌, ◌≤◌, [], ◌++◌, decimal, length};
@@ -20,7 +20,7 @@ pub const ROOM: usize = 400;
 /// The most bytes of a number in decimal.
 const LONGEST_DECIMAL: usize = 20;
 
-/// The most bytes of a number of JSON, which may stand between quotes.
+/// The most bytes of a number of JSON, which may be between quotes.
 pub const LONGEST_NUMBER: usize = 22;
 
 /// The end of a line, and room in front of it.
@@ -52,7 +52,7 @@ impl LineRoom {
         }
     }
 
-    /// What stands in it.
+    /// What is in it.
     #[inline]
     pub fn line(&self) -> &[u8]
         ensures { result.now ≡ self.now }
@@ -79,7 +79,7 @@ impl LineRoom {
         self.bytes[self.start..end].copy_from_slice(text);
     }
 
-    /// Puts a number of JSON in front: a text where a reader may round it.
+    /// Puts a number of JSON in front: a text if a reader may round it.
     #[inline(always)]
     pub fn before_number(&mut self, n: u64)
         requires { length self.old + LONGEST_NUMBER ≤ ROOM }

@@ -52,10 +52,10 @@ impl<'a> Model for LookupOptions<'a> {
     } };
 }
 
-/// Looks addresses up in listings, and writes a line for each address and the counts of each listing.
-/// Returns what is noted of the listings. A listing of modules says where modules lie, perhaps with one
-/// of regions; without it that of symbols says so by the order of its addresses. A file of addresses
-/// says which are looked up after the given ones.
+/// Looks addresses up in listings, and writes a line for each address and the counts of each
+/// listing. Returns what is noted of the listings. A listing of modules says where modules lie,
+/// perhaps with one of regions; without it that of symbols says so by the order of its addresses. A
+/// file of addresses says which are looked up after the given ones.
 ///
 /// All is read, and all answers are there, before the first byte is written; so every fault but a
 /// failed write leaves the writer as it was. docs/FORMATS.md has the files and the lines.
@@ -76,8 +76,8 @@ pub fn lookup_engine<M: Read, K: Read, R: Read, A: Read, W: Write>(
     answer_over(alloc, &texts, file, options, writer)
 }
 
-/// Looks addresses up in listings with these texts: those that are given, and after them those of the
-/// file.
+/// Looks addresses up in listings with these texts: those that are given, and after them those of
+/// the file.
 fn answer_over<A: Read, W: Write>(
     alloc: Global,
     texts: &ListingTexts,
@@ -114,7 +114,8 @@ fn all_addresses<A: Read>(
     Ok(addresses)
 }
 
-/// Looks the addresses up, and writes what is found. Mapping symbols are kept if modules are listed.
+/// Looks the addresses up, and writes what is found. Mapping symbols are kept if modules are
+/// listed.
 fn answer_with<W: Write>(
     alloc: Global,
     listings: &Listings<'_>,
@@ -136,7 +137,8 @@ fn answer_with<W: Write>(
     noted(done, opened.notes)
 }
 
-/// The names that bound the kernel: those that are given, or else the usual ones if modules are listed.
+/// The names that bound the kernel: those that are given, or else the usual ones if modules are
+/// listed.
 fn bounds_beside<'k>(
     kernel: Option<&'k KernelBounds<'k>>,
     modules: Option<&[u8]>,

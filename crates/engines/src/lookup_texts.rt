@@ -12,7 +12,7 @@ use std::io::Write;
 use texts::Output;
 
 /// Writes the line of each answer, in order and in this form, for addresses that are taken by this
-/// rule, and the counts, where the form has them; and lets the writer keep nothing back.
+/// rule, and the counts, if the form has them; and lets the writer keep nothing back.
 pub fn put_lookup<W: Write>(
     writer: &mut Output<W>,
     catalog: &Catalog,
@@ -71,7 +71,7 @@ fn put_answer_line<W: Write>(writer: &mut Output<W>, addr: u64, known: &Answer)
     writer.put(b"\n");
 }
 
-/// Writes the counts of the listings, where the form has them.
+/// Writes the counts of the listings, if the form has them.
 #[tactic(auto, unfolding(crate::specs::LookupTexts::counts_by))]
 fn put_counts_by<W: Write>(writer: &mut Output<W>, form: AnswerForm, tallies: &LineTallies)
     ensures { Says W.contents writer.old writer.new (counts_by form tallies.now) }

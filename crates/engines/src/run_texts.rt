@@ -125,7 +125,7 @@ fn put_list<W: Write>(
     }
 }
 
-/// Writes answers at once, or piece by piece where there is no memory to gather them.
+/// Writes answers at once, or piece by piece if there is no memory to gather them.
 fn put_gathered<W: Write>(
     writer: &mut Output<W>,
     alloc: Global,

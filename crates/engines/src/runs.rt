@@ -37,9 +37,9 @@ const SCRIPT_PLACE: u64 = 3;
 
 /// Does what a script for `count` readers says, over a table that is empty at first, and writes a
 /// line for each refused change and each lookup and the line of the totals. The kernel's own region
-/// lies between the symbols of these names. Returns what is noted of the listings, and the program's
-/// status, 1 where an answer was not that of its generation or a change is not in the log as it was
-/// accepted.
+/// lies between the symbols of these names. Returns what is noted of the listings, and the
+/// program's status, 1 if an answer was not that of its generation or a change is not in the log as
+/// it was accepted.
 ///
 /// All is read, done and checked before the first byte is written, so every fault but a failed
 /// write leaves the writer as it was. Refused when out of memory, even if a reader's thread was not
@@ -84,8 +84,8 @@ fn run_over<T: Threads + Wait + Sync, S: Read, W: Write>(
     run_with(rt, alloc, &listings, &text, kernel, readers, writer)
 }
 
-/// Does what the text of a script for `readers` readers says, over these listings. Mapping symbols are
-/// kept.
+/// Does what the text of a script for `readers` readers says, over these listings. Mapping symbols
+/// are kept.
 fn run_with<T: Threads + Wait + Sync, W: Write>(
     rt: &T,
     alloc: Global,
@@ -110,7 +110,7 @@ fn run_with<T: Threads + Wait + Sync, W: Write>(
 }
 
 /// Does what these lines of a script for `readers` readers say, writes the lines of what came back,
-/// and returns the program's status, 1 where something is wrong. The lines themselves go once each
+/// and returns the program's status, 1 if something is wrong. The lines themselves go once each
 /// writer and each reader has its list, so that they are not held beside what comes back.
 fn run_lines<T: Threads + Wait + Sync, W: Write>(
     rt: &T,
@@ -134,8 +134,8 @@ fn run_lines<T: Threads + Wait + Sync, W: Write>(
     tell(writer, alloc, catalog, &names, &served)
 }
 
-/// Frees the lines, shrinking their block first: freeing a large block raises glibc's mmap threshold,
-/// and the readers' lists would then grow by copies in the heap.
+/// Frees the lines, shrinking their block first: freeing a large block raises glibc's mmap
+/// threshold, and the readers' lists would then grow by copies in the heap.
 fn give_back(lines: Vec<ScriptLine<'_>>) {
     let mut lines = lines;
     lines.truncate(1);
@@ -143,8 +143,8 @@ fn give_back(lines: Vec<ScriptLine<'_>>) {
 }
 
 /// Writes the lines of what came back, from writers whose changes are of modules of these names and
-/// from readers, and returns the program's status, 1 where something is wrong. Refused as out of
-/// memory where some list of addresses ended early.
+/// from readers, and returns the program's status, 1 if something is wrong. Refused as out of
+/// memory if some list of addresses ended early.
 fn tell<W: Write>(
     writer: &mut Output<W>,
     alloc: Global,

@@ -120,7 +120,7 @@ pub fn put_event<W: Write>(
     }
 }
 
-/// Writes the start of a line, and behind it what stands in the room.
+/// Writes the start of a line, and after it what is in the room.
 fn put_behind_start<W: Write>(writer: &mut Output<W>, place: EventPlace, line: &mut LineRoom)
     requires { length line.old + 70 ≤ ROOM }
     ensures { Says W.contents writer.old writer.new
@@ -248,7 +248,7 @@ fn put_list<T: Json, W: Write>(writer: &mut Output<W>, values: &[T])
     writer.put(b"]");
 }
 
-/// Writes each of the values behind a comma.
+/// Writes each of the values after a comma.
 fn put_further<T: Json, W: Write>(writer: &mut Output<W>, values: &[T])
     ensures { Says W.contents writer.old writer.new
         (flat_map (λ x. codes "," ++ T.json_of x) values.now) }

@@ -70,7 +70,7 @@ fn run_steps<O: TreeOrder<Key = u64>, W: Write>(
     Ok(())
 }
 
-/// Does these commands, and writes what each event did; the commands stand on these lines. Where
+/// Does these commands, and writes what each event did; the commands are on these lines. If
 /// the writer failed it goes on with none.
 fn tell_commands<O: TreeOrder<Key = u64>, W: Write>(
     world: &mut World<O>,
@@ -103,7 +103,7 @@ fn line_at(lines: &[u64], place: usize) -> u64
 }
 
 /// Does the event of a command as often as the command says, and writes what each time did. It ends
-/// before, where the writer failed.
+/// before, if the writer failed.
 fn tell_command<O: TreeOrder<Key = u64>, W: Write>(
     world: &mut World<O>,
     room: &mut LineRoom,
@@ -173,7 +173,7 @@ fn tell<O: TreeOrder<Key = u64>, W: Write>(
     put_event(room, writer, place, load, event, reply);
 }
 
-/// What an event loads, where it is a load.
+/// What an event loads, if it is a load.
 fn load_by<O: TreeOrder<Key = u64>>(world: &World<O>, event: &Event<u64>) -> Option<NextLoad<u64>>
     ensures { IsLoadBy O.order world.now event.now result }
 {

@@ -21,7 +21,7 @@ pub struct AddressAnswer {
 
 /// Looks each address up, as the rule takes it, in the table of all regions of a catalog.
 ///
-/// Refused by [`Refusal::BadCapacity`] where there are more regions than a table has nodes, and by
+/// Refused by [`Refusal::BadCapacity`] if there are more regions than a table has nodes, and by
 /// [`Refusal::OutOfMemory`].
 pub fn answers_of(
     alloc: Global,

@@ -1,6 +1,6 @@
 //! From the bytes of a trace to the lines that it writes.
 //!
-//! A command is run as soon as it is read, and what it came to is put behind the text: neither
+//! A command is run as soon as it is read, and what it came to is put after the text: neither
 //! commands nor notes are kept. The text goes out at the end, so that a bad line, or memory that
 //! runs out, leaves the output empty.
 ghost use Rattle.std.specs.Prelude.{◌≡◌, ◌<◌, ◌++◌, ◌↔◌, ◌⊎◌, [], IfErr, IfOk, IsErr, OnOk};
@@ -55,7 +55,7 @@ fn run_text<W: Write>(alloc: Global, bytes: &[u8], writer: &mut Output<W>) -> Re
     }
 }
 
-/// Runs the commands behind this header, in the order that it names.
+/// Runs the commands after this header, in the order that it names.
 fn run_lines<O: TreeOrder<Key = u64>, W: Write>(
     alloc: Global,
     header: Header,
@@ -106,7 +106,7 @@ pub fn layout_for(version: Version, capacity: u32) -> Result<Layout, Refusal>
     }
 }
 
-/// Runs the commands of lines, and puts behind the text what they came to.
+/// Runs the commands of lines, and puts after the text what they came to.
 fn gather_lines<O: TreeOrder<Key = u64>>(
     driver: &mut Driver<O>,
     lines: &mut CommandLines<'_>,
@@ -122,7 +122,7 @@ fn gather_lines<O: TreeOrder<Key = u64>>(
     Ok(())
 }
 
-/// Goes past the commands of lines: each line has to be in the grammar, also where nothing runs.
+/// Goes past the commands of lines: each line has to be in the grammar, also if nothing runs.
 fn understand(lines: &mut CommandLines<'_>) -> Result<(), Fault>
     ensures understood { OnOk result (IsUnderstood lines.old.said) }
     ensures fault { IfErr result (IsLinesFault lines.old.said) }
@@ -131,7 +131,7 @@ fn understand(lines: &mut CommandLines<'_>) -> Result<(), Fault>
     understood.map_err(|fault| Fault::of_lines(0, fault))
 }
 
-/// The next command of lines, with the fault of the program where there is none.
+/// The next command of lines, with the fault of the program if there is none.
 fn next_command(lines: &mut CommandLines<'_>) -> Result<Option<Command<u64>>, Fault>
     ensures next { IfOk result (IsNext lines.old lines.new) }
     ensures fault { IfErr result (IsLinesFault lines.old.said) }
@@ -140,7 +140,7 @@ fn next_command(lines: &mut CommandLines<'_>) -> Result<Option<Command<u64>>, Fa
     next.map_err(|fault| Fault::of_lines(0, fault))
 }
 
-/// Runs a command, and puts behind the text what it came to.
+/// Runs a command, and puts after the text what it came to.
 fn gather_command<O: TreeOrder<Key = u64>>(
     driver: &mut Driver<O>,
     command: &Command<u64>,
@@ -156,7 +156,7 @@ fn gather_command<O: TreeOrder<Key = u64>>(
     Ok(())
 }
 
-/// Puts the lines of notes behind the text.
+/// Puts the lines of notes after the text.
 fn gather_notes(notes: &[Note<u64>], text: &mut Vec<u8>) -> Result<(), AllocError>
     ensures { OnOk result (text.new.items ≡ text.old.items ++ flat_map note_text notes.now) }
 {

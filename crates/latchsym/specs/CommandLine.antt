@@ -41,7 +41,7 @@ words_rule id = record (new_rule id) {
   value_names = 1;
 }
 
--- the same, where there has to be one
+-- words of which there has to be one
 abbrev pub some_words_rule : Text → Rule
 some_words_rule id = record (words_rule id) { required = true }
 

@@ -16,7 +16,7 @@ use Rattle.latchsym.specs.declared.requests.Subcommand.{Subcommand}
 use Rattle.latchsym.specs.declared.requests.Subcommand.TheVariants as sub
 use Rattle.command_io.specs.declared.opened_catalogs.ListingReaders.{ListingReaders}
 
--- the file that is read behind the listings
+-- the file that is read after the listings
 abbrev pub input_of : Subcommand → Option Text
 input_of (sub.Lookup lookup) = option_map (λ f. f.now) lookup.file
 input_of (sub.Run run) = Some run.script.now
@@ -42,7 +42,7 @@ request_file_at q place = option_and_then (λ f. f) (slice_get (files_of_request
 abbrev pub file_at : Job → ℕ → Option Text
 file_at job place = option_and_then (λ f. f) (slice_get (files_of job) place)
 
--- what the file of each name holds, where that is known
+-- what the file of each name holds, if that is known
 abbrev pub Held : Type 0
 Held = Text → Option (List ℕ)
 

@@ -16,7 +16,7 @@ use Rattle.latchsym.specs.declared.requests.Request.{Request}
 use Rattle.latchsym.specs.declared.requests.Subcommand.{Subcommand}
 use Rattle.latchsym.specs.declared.requests.Subcommand.TheVariants.{Lookup, Run}
 
--- The bounds of a lookup: where modules are listed, the kernel lies between `_stext` and `_end` if no
+-- The bounds of a lookup: if modules are listed, the kernel lies between `_stext` and `_end` if no
 -- names are given.
 abbrev pub bounds_of_lookup : Option BoundNames → Option (Bor Text) → BoundNames
 bounds_of_lookup kernel (Some modules) = unwrap_or kernel usual_bounds

@@ -76,7 +76,7 @@ clash_in name rows =
 
 -- ---- the listings
 
--- the files of the listings; that of the symbols is the kernel's own where none is named
+-- the files of the listings; that of the symbols is the kernel's own if none is named
 pub record AreFilesIn (rows : List Row) (files : ListingFiles) : Type 0 where
   pub modules : option_map (λ f. f.now) files.modules ≡ first_of (codes "modules") rows
   pub kallsyms : files.kallsyms.now
@@ -110,7 +110,7 @@ pub record HasBadEnd (words : List Text) (word : Text) : Type 0 where
 
 -- ---- what the subcommands ask for
 
--- the number that a word is, or 0 where none is given
+-- the number that a word is, or 0 if none is given
 abbrev pub offset_of : Option Text → Option ℕ
 offset_of None = Some 0
 offset_of (Some word) = number_of word
@@ -179,7 +179,7 @@ callers_in rows =
     else if has_flag (codes "exact") rows then Never
     else ByPlace
 
--- the log, which is the standard input where none is named, how its addresses are taken, and whether
+-- the log, which is the standard input if none is named, how its addresses are taken, and whether
 -- the listings are read again while it lasts
 pub record IsAnnotateIn (rows : List Row) (annotate : Annotate) : Type 0 where
   pub callers : annotate.rule.callers ≡ callers_in rows
@@ -236,7 +236,8 @@ subcommand_names =
     codes "trace" ∷ codes "lookup" ∷ codes "run" ∷ codes "annotate" ∷ codes "check"
     ∷ codes "address" ∷ []
 
--- there is no such subcommand, or it lacks a word that it needs, or there are bounds that are not two
+-- there is no such subcommand, or it lacks a word that it needs, or there are bounds that are not
+-- two
 abbrev pub IsIncomplete : Text → List Row → Type 0
 IsIncomplete name rows =
     (list_any (bytes_eq name) subcommand_names ≡ false)
@@ -271,7 +272,7 @@ AnswersSubcommand name rows (Err fault) =
     (clash_in name rows ≡ Some fault)
     ⊎ ((clash_in name rows ≡ None) × HasBadValue name rows fault)
 
--- the answer where a parse entered this subcommand
+-- the answer if a parse entered this subcommand
 abbrev pub AnswersMatches : Option (Text × List Row) → Result Job JobFault → Type 0
 AnswersMatches None result = result ≡ Err NoJob
 AnswersMatches (Some (name, rows)) result = AnswersSubcommand name rows result
@@ -288,7 +289,7 @@ IsUnparsed words (Err OutOfMemory) = Unit {0}
 IsUnparsed words (Err (CommandLine e)) = IsAmong (kind_of e) (fault_of latchsym_app words)
 IsUnparsed words _ = ⊥
 
--- The answer to these words. A job is returned only where the parser finds no fault in them, and is
+-- The answer to these words. A job is returned only if the parser finds no fault in them, and is
 -- what they say; a fault of the command line is one that the parser finds.
 abbrev pub AnswersWords : List Text → Result Job JobFault → Type 0
 AnswersWords words result =

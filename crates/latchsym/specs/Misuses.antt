@@ -39,7 +39,8 @@ IsMisused contents old new message word status =
 abbrev pub IsParseFault : Error → Type 0
 IsParseFault e = (kind_of e ≢ kind.DisplayHelp) × (kind_of e ≢ kind.DisplayVersion)
 
--- This help was written, and nothing is kept back; or a call of the writer failed, and that was said.
+-- This help was written, and nothing is kept back; or a call of the writer failed, and that was
+-- said.
 abbrev pub IsHelped : {W E : Type 0} → (W → Option (List ℕ)) → (E → Option (List ℕ)) → Output W
     → Output W → Output E → Output E → List ℕ → ℕ → Type 0
 IsHelped contents errors w w' e e' text status =
@@ -47,8 +48,8 @@ IsHelped contents errors w w' e e' text status =
     × (((status ≡ 0) × (has_failed w' ≡ false) × (e' ≡ e))
     ⊎ ((status ≡ 1) × (has_failed w' ≡ true) × Says errors e e' (fault_text [] None Write)))
 
--- What the parser has to say was said: a fault, or help; or there was no memory for it. Which text it
--- is the parser's contract does not say.
+-- What the parser has to say was said: a fault, or help; or there was no memory for it. Which text
+-- it is the parser's contract does not say.
 abbrev pub IsExplained : {W E : Type 0} → (W → Option (List ℕ)) → (E → Option (List ℕ)) → Output W
     → Output W → Output E → Output E → Error → ℕ → Type 0
 IsExplained contents errors w w' e e' error status =

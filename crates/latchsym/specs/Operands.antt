@@ -10,7 +10,7 @@ use Rattle.clap.specs.Words.{Text}
 abbrev pub is_kernel_name : Text → Bool
 is_kernel_name word = starts_with nat_eq word (codes "-:")
 
--- no word behind this one is an option
+-- no word after this one is an option
 abbrev pub ends_options : Text → Bool
 ends_options word = bytes_eq word (codes "--") || is_kernel_name word
 

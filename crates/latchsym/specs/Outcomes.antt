@@ -43,7 +43,7 @@ abbrev pub Ends : {A : Type 0} → (Result A Fault → Type 0) → (Result A Fau
     → Result Finished Fault → Type 0
 Ends {A} May finish outcome = (result : Result A Fault) × May result × (outcome ≡ finish result)
 
--- This holds of the reader of the file behind the listings, before and after. If it has none, the file
+-- This holds of the reader of a request's own file, before and after. If it has none, the file
 -- is one that cannot be read.
 abbrev pub HoldsOfInput : {R : Type 0} → (Counted R → Counted R → Type 0) → Option (Counted R)
     → Option (Counted R) → Result Finished Fault → Type 0
@@ -72,8 +72,8 @@ IsOutcomeOfRun remaining contents s readers l l' i i' w w' outcome =
     (failures_behind (listing_failures l l') (failures_of r) (failures_of r')) w w' outcome)
     i i' outcome
 
--- A log is followed, or annotated by the listings as they are at its beginning. Nothing is known of what
--- files give that are opened again.
+-- A log is followed, or annotated by the listings as they are at its beginning. Nothing is known of
+-- what files give that are opened again.
 abbrev pub IsLogBy : {R W E : Type 0} → (R → Option (List ℕ)) → (W → Option (List ℕ))
     → (E → Option (List ℕ)) → Sources → Annotate → Bool → ListingReaders R R R
     → ListingReaders R R R → Output W → Output W → Output E → Output E
@@ -96,9 +96,9 @@ abbrev pub query_of : Sources → Lookup → Query
 query_of s l =
     record { kernel = s.kernel; rule = l.rule; form = l.form; addresses = l.addresses.items }
 
--- What is asked for over listings comes to this. A lookup that succeeds has status 0; of a log or of
--- listings that are checked nothing is left to be noted. Only an annotation says something while it is
--- done.
+-- What is asked for over listings comes to this. A lookup that succeeds has status 0; of a log or
+-- of listings that are checked nothing is left to be noted. Only an annotation says something while
+-- it is done.
 abbrev pub IsOutcomeBy : {R W E : Type 0} → (R → Option (List ℕ)) → (W → Option (List ℕ))
     → (E → Option (List ℕ)) → Sources → Subcommand → ListingReaders R R R → ListingReaders R R R
     → Option (Counted R) → Option (Counted R) → Output W → Output W → Output E → Output E

@@ -12,7 +12,7 @@ use Rattle.latchsym.specs.declared.jobs.OpenedJob.TheVariants.{Request}
 use Rattle.latchsym.specs.declared.requests.Subcommand.{Subcommand}
 use Rattle.latchsym.specs.declared.requests.Subcommand.TheVariants as sub
 
--- the error that a reader gave last, where there is a reader
+-- the error that a reader gave last, if there is a reader
 abbrev pub error_if_given : {R : Type 0} → Option (Counted R) → Option Error
 error_if_given None = None
 error_if_given (Some r) = error_of r
@@ -44,13 +44,14 @@ error_at (Request q r input) place =
     if does_tell q.now.subcommand then error_of_request r input place else None
 error_at _ place = None
 
--- the error behind a fault of such a job, of its readers, or of its writer, which gave this one last
+-- the error behind a fault of such a job, of its readers, or of its writer, which gave this one
+-- last
 abbrev pub error_behind : {R : Type 0} → OpenedJob R → Option Error → Fault → Option Error
 error_behind job written (Read place) = error_at job place
 error_behind job written Write = if tells_errors job then written else None
 error_behind job written _ = None
 
--- what the system said, in brackets, where it said something
+-- what the system said, in brackets, if it said something
 abbrev pub reason_text : Option (List ℕ) → List ℕ
 reason_text None = []
 reason_text (Some words) = codes " (" ++ words ++ codes ")"

@@ -59,7 +59,7 @@ fn job_in<'a>(alloc: Global, matches: &ArgMatches<'a>) -> Result<Job<'a>, JobFau
     }
 }
 
-/// The job that a subcommand of this name asks for. Where its options do not go together, that is
+/// The job that a subcommand of this name asks for. If its options do not go together, that is
 /// told before all else.
 fn job_of_subcommand<'a>(
     alloc: Global,
@@ -152,7 +152,7 @@ fn files_in<'a>(found: &ArgMatches<'a>) -> ListingFiles<'a>
     }
 }
 
-/// The names of the symbols that are given for the kernel's bounds. Where a lookup is asked for with
+/// The names of the symbols that are given for the kernel's bounds. If a lookup is asked for with
 /// one name alone, its first address is taken for the other, which is what a `0x` in front of it
 /// tells.
 fn bounds_in<'a>(found: &ArgMatches<'a>) -> Result<Option<KernelBounds<'a>>, JobFault<'a>>
@@ -309,7 +309,7 @@ fn address_in<'a>(alloc: Global, found: &ArgMatches<'a>) -> Result<Address<'a>, 
     })
 }
 
-/// By how many bytes the addresses are moved: none where no word says it.
+/// By how many bytes the addresses are moved: none if no word says it.
 fn offset_in<'a>(found: &ArgMatches<'a>) -> Result<u64, JobFault<'a>>
     ensures { (name : Text) → Gives IsOffsetIn name (rows_in found.now) result }
 {

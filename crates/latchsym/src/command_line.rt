@@ -37,7 +37,7 @@ pub fn latchsym_command<'a>(alloc: Global) -> Result<Command<'a>, AllocError>
     with_subcommand(command, run_command(alloc))
 }
 
-/// The command with one subcommand more, where memory did not run out for it.
+/// The command with one subcommand more, if memory did not run out for it.
 fn with_subcommand<'a>(
     command: Command<'a>,
     subcommand: Result<Command<'a>, AllocError>,

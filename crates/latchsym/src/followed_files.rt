@@ -7,8 +7,8 @@ use std::alloc::Global;
 use std::io::Read;
 use texts::Counted;
 
-/// The readers of a log that lasts and of its listings. The files of the listings are opened by their
-/// names each time that these are read, but for the first: then they are open.
+/// The readers of a log that lasts and of its listings. The files of the listings are opened by
+/// their names each time that these are read, but for the first: then they are open.
 #[derive(Drop)]
 pub struct FollowedFiles<'f, 'a, F: FileSource> {
     files: &'f F,

@@ -7,7 +7,7 @@ use std::io::{ErrorKind, Read, Stdin};
 use std::{fs, io};
 use texts::Counted;
 
-/// A file that was to be opened, or the standard input. Where a file cannot be opened, reading it
+/// A file that was to be opened, or the standard input. If a file cannot be opened, reading it
 /// fails, so that of several files the first in the order of reading is the one whose fault is
 /// told.
 #[derive(Drop)]

@@ -121,7 +121,7 @@ fn put_overlap<W: Write>(writer: &mut Output<W>, file: &[u8])
     writer.put(b": modules overlap, as sizes do from Linux 6.4 on; give --regions\n");
 }
 
-/// Writes what is noted of the listings of a lookup. Where modules are listed, the kernel lies between
+/// Writes what is noted of the listings of a lookup. If modules are listed, the kernel lies between
 /// `_stext` and `_end` if no names are given.
 fn put_notes_of_lookup<W: Write>(
     writer: &mut Output<W>,

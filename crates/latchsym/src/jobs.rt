@@ -40,10 +40,10 @@ pub trait FileSource {
     /// A reader of a file.
     type File: Read + Drop;
 
-    /// What the file of each name holds, where that is known.
+    /// What the file of each name holds, if that is known.
     ghost held: { Self → List ℕ → Option (List ℕ) };
 
-    /// What the standard input holds, where that is known.
+    /// What the standard input holds, if that is known.
     ghost standard: { Self → Option (List ℕ) };
 
     /// A reader of the file of this name. Refused only when out of memory.
@@ -61,7 +61,7 @@ pub trait FileSource {
 pub enum OpenedJob<'j, 'a, R> {
     Trace(Counted<R>),
     Steps(Counted<R>),
-    /// A request with the readers of its listings and of the file behind them, if there is one.
+    /// A request with the readers of its listings and of the file after them, if there is one.
     Request(&'j Request<'a>, ListingReaders<R, R, R>, Option<Counted<R>>),
 }
 
@@ -378,7 +378,7 @@ fn open_if_given<F: FileSource>(
     }
 }
 
-/// Opens the file behind the listings, if one is named.
+/// Opens the file after the listings, if one is named.
 fn open_input<F: FileSource>(
     files: &F,
     name: Option<&str>,

@@ -9,9 +9,9 @@
 //! - `check` says what is wrong with listings, and how many of their lines are of use
 //! - `address` says where the symbols of some names are
 //!
-//! The options of each stand in `command_line`, and what they ask for in `requests`.
+//! The options of each are in `command_line`, and what they ask for in `requests`.
 //!
-//! What `trace`, `lookup` and `run` do stands in `engines`, and what needs no table in
+//! What `trace`, `lookup` and `run` do is in `engines`, and what needs no table in
 //! `catalog_engines`.
 #![tactic(auto)]
 

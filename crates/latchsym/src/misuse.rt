@@ -13,11 +13,11 @@ use std::alloc::Global;
 use std::io::Write;
 use texts::{Output, hexadecimal};
 
-/// The program's status where the command line is at fault.
+/// The program's status if the command line is at fault.
 const MISUSED: u8 = 2;
 
-/// Says why the command line gives no job, and returns the program's status. Help that was asked for
-/// goes to the writer.
+/// Says why the command line gives no job, and returns the program's status. Help that was asked
+/// for goes to the writer.
 pub fn refuse<W: Write, E: Write>(
     alloc: Global,
     fault: JobFault<'_>,
@@ -51,8 +51,8 @@ pub fn refuse<W: Write, E: Write>(
     }
 }
 
-/// What is wrong with an offset: it may be a hexadecimal number that lacks its prefix, as the kernel
-/// writes it in vmcoreinfo.
+/// What is wrong with an offset: it may be a hexadecimal number that lacks its prefix, as the
+/// kernel writes it in vmcoreinfo.
 fn offset_message(word: &str) -> &'static [u8]
     ensures { result.now ≡ offset_message word.now }
 {
@@ -97,7 +97,7 @@ fn help<W: Write, E: Write>(text: &str, writer: &mut Output<W>, errors: &mut Out
     SUCCEEDED
 }
 
-/// Says what is wrong with the command line, and with which word. Where the writer fails, the
+/// Says what is wrong with the command line, and with which word. If the writer fails, the
 /// status is all that there is to tell.
 fn misused<E: Write>(message: &[u8], word: &str, errors: &mut Output<E>) -> u8
     ensures { IsMisused E.contents errors.old errors.new message.now word.now result }

@@ -7,7 +7,7 @@ use std::alloc::{AllocError, Global};
 use std::convert::AsStr;
 
 /// The words, with `--` before the first that begins with `-:`. This is a NAME of a symbol of the
-/// kernel itself, so that it and the words behind it are no options.
+/// kernel itself, so that it and the words after it are no options.
 pub fn with_operands<'a, S: AsStr>(
     alloc: Global,
     words: &'a [S],
@@ -39,7 +39,7 @@ fn operand_place(words: &[&str]) -> Option<usize>
     }
 }
 
-/// The place of the first word behind which no word is an option.
+/// The place of the first word after which no word is an option.
 fn first_ending(words: &[&str]) -> Option<usize>
     ensures place { result ≡ position (λ w. ends_options w.now) words.now }
     ensures within { IfSome result (λ n. n < length words.now) }
@@ -47,7 +47,7 @@ fn first_ending(words: &[&str]) -> Option<usize>
     words.iter().position(|word| ends_options(word))
 }
 
-/// Whether no word behind this one is an option.
+/// Whether no word after this one is an option.
 fn ends_options(word: &str) -> bool
     ensures { result ≡ ends_options word.now }
 {

@@ -21,8 +21,8 @@ use std::io;
 use std::io::Write;
 use texts::Output;
 
-/// Ends a job: returns the program's status, which is the job's own where it came to one. Writes
-/// what is noted of its listings, or, where it failed, the line that says why, with what the system
+/// Ends a job: returns the program's status, which is the job's own if it came to one. Writes
+/// what is noted of its listings, or, if it failed, the line that says why, with what the system
 /// said of the error behind it.
 pub fn conclude<W: Write>(
     outcome: Result<Finished, Fault>,
@@ -51,7 +51,7 @@ fn note<W: Write>(notes: &ListingNotes, job: &Job<'_>, writer: &mut Output<W>)
     }
 }
 
-/// Writes the line that says why the job failed, and returns the program's status. Where the writer
+/// Writes the line that says why the job failed, and returns the program's status. If the writer
 /// fails too, the status is all that there is to tell.
 fn report<W: Write>(
     fault: &Fault,
@@ -84,8 +84,8 @@ fn words_of(error: &io::Error) -> ArrayString<LONGEST_WORDS> {
     words
 }
 
-/// Writes the line of a fault that came before there was a job, and returns the program's status. The
-/// fault is about no file.
+/// Writes the line of a fault that came before there was a job, and returns the program's status.
+/// The fault is about no file.
 pub fn report_before_job<W: Write>(fault: &Fault, writer: &mut Output<W>) -> u8
     ensures status { result ≡ 1 }
     ensures line { Says W.contents writer.old writer.new (fault_text [] None fault.now) }
@@ -164,7 +164,7 @@ fn put_unwritten<W: Write>(writer: &mut Output<W>, words: Option<&str>)
     writer.put(b"\n");
 }
 
-/// Writes what the system says, in brackets, where it says something.
+/// Writes what the system says, in brackets, if it says something.
 fn put_reason<W: Write>(writer: &mut Output<W>, words: Option<&str>)
     ensures { Says W.contents writer.old writer.new
         (reason_text (option_copied words.entry)) }

@@ -31,19 +31,19 @@ pub struct Request<'a> {
 /// `[--regions FILE]` and `[--kernel START END]`.
 #[derive(Debug, Drop)]
 pub enum Subcommand<'a> {
-    /// `latchsym lookup [--modules-from-symbols] [--addresses FILE] [--callers] [--offset N] [--json]
-    /// [--no-counts] [ADDR]..`: look addresses up.
+    /// `latchsym lookup [--modules-from-symbols] [--addresses FILE] [--callers] [--offset N]
+    /// [--json] [--no-counts] [ADDR]..`: look addresses up.
     Lookup(Lookup<'a>),
     /// `latchsym run --readers N SCRIPT`: do what a script says, each writer and each reader on a
     /// thread.
     Run(Run<'a>),
-    /// `latchsym annotate [--callers | --exact] [--offset N] [--follow] [LOG]`: write a log again, with
-    /// a symbol behind each address.
+    /// `latchsym annotate [--callers | --exact] [--offset N] [--follow] [LOG]`: write a log again,
+    /// with a symbol after each address.
     Annotate(Annotate<'a>),
     /// `latchsym check`: write all that is noted of listings, and their counts.
     Check,
-    /// `latchsym address [--offset N] [--json] [--no-counts] NAME..`: write where the symbols of these
-    /// names are.
+    /// `latchsym address [--offset N] [--json] [--no-counts] NAME..`: write where the symbols of
+    /// these names are.
     Address(Address<'a>),
 }
 
@@ -52,7 +52,7 @@ pub enum Subcommand<'a> {
 pub struct Lookup<'a> {
     /// The addresses of the command line, in the order of their words.
     pub addresses: Vec<u64>,
-    /// The file of further addresses, where there is one; `-` is the standard input.
+    /// The file of further addresses, if there is one; `-` is the standard input.
     pub file: Option<&'a str>,
     /// How the addresses are taken that are looked up.
     pub rule: AddressRule,
@@ -82,7 +82,7 @@ impl<'a> Job<'a> {
     ghost use Rattle.latchsym.specs.Files.{file_at};
 
     /// The file at this place among those that the job reads, in the order in which it reads them.
-    /// The listing of regions has place 2 and the file of addresses 3, where they are given; the
+    /// The listing of regions has place 2 and the file of addresses 3, if they are given; the
     /// script and the log have place 3.
     pub fn file(&self, place: u64) -> Option<&'a str>
         ensures { option_map (λ f. f.now) result ≡ file_at self.now place }
@@ -99,7 +99,8 @@ impl<'a> Job<'a> {
 impl<'a> Request<'a> {
     ghost use Rattle.latchsym.specs.Files.{request_file_at};
 
-    /// The file at this place among those that the request reads, in the order in which it reads them.
+    /// The file at this place among those that the request reads, in the order in which it reads
+    /// them.
     fn file(&self, place: u64) -> Option<&'a str>
         ensures { option_map (λ f. f.now) result ≡ request_file_at self.now place }
     {
@@ -117,7 +118,7 @@ impl<'a> Subcommand<'a> {
     ghost use Rattle.latchsym.specs.Files.{input_of};
     ghost use Rattle.latchsym.specs.Reasons.{does_tell};
 
-    /// The file that is read behind the listings, if there is one.
+    /// The file that is read after the listings, if there is one.
     pub(crate) fn input(&self) -> Option<&'a str>
         ensures { option_map (λ f. f.now) result ≡ input_of self.now }
     {

@@ -82,7 +82,7 @@ refusal_text refusal.NotLoaded = codes "the module is not in the table"
 refusal_text refusal.TooManyRegions = codes "more than 7 region lines have one name"
 refusal_text refusal.NoInit = codes "the table has no init region of the module"
 
--- what is said of a listing behind its name
+-- what is said of a listing after its name
 abbrev pub note_text : ListingNote → List ℕ
 note_text note.Empty = codes "is empty"
 note_text note.Gzip = codes "is compressed by gzip; unpack it first"
@@ -116,7 +116,7 @@ answer_text BadHandle = codes "the handle does not hold what is wanted"
 answer_text BadLength = codes "the room is not for as many answers as there are addresses"
 answer_text BadListings = codes "the listings are not as this version has them"
 
--- the number of a note where there is one, and else that of nothing
+-- the number of a note if there is one, and else that of nothing
 abbrev pub number_if_noted : Option ListingNote → ℕ
 number_if_noted None = answer_number Nothing
 number_if_noted (Some n) = note_number n

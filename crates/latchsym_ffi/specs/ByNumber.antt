@@ -30,12 +30,12 @@ abbrev pub named_from : List SymbolEntry → List ℕ → ℕ → Option ℕ
 named_from symbols name from =
     option_map (λ n. from + n) (position (λ s. bytes_eq s.name name) (drop from symbols))
 
--- the same among the symbols of the module of a number
+-- the place of a name among the symbols of the module of a number
 abbrev pub place_named : CatalogEntries → ℕ → List ℕ → ℕ → Option ℕ
 place_named c number name from =
     option_and_then (λ m. named_from m.symbols name from) (module_of c number)
 
--- what is returned and told of a module, where there is one; nothing is told of none
+-- what is returned and told of a module, if there is one; nothing is told of none
 abbrev pub TellsModule : Option ModuleEntry → ℕ → CatalogModule → CatalogModule → Type 0
 TellsModule None result old new = (result ≡ answer_number Nothing) × (new ≡ old)
 TellsModule (Some m) result old new =

@@ -23,7 +23,7 @@ pub record IsMoved (nodes : ℕ) (w w' : WriterState) (readers : List ReaderStat
   pub wide : IsWide nodes layout
   pub enlarges : Enlarges w layout w' readers
 
--- the same, and each of the handles holds such a reader
+-- the writer goes on with so many nodes, and each of the handles holds one of its readers
 pub record IsEnlarged (nodes : ℕ) (w w' : WriterState) (handles : List Handle) : Type 0 where
   pub readers : List ReaderState
   pub moved : IsMoved nodes w w' readers

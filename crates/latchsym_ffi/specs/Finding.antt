@@ -22,15 +22,15 @@ Known = Option (Item × Option Found)
 abbrev pub known_at : CatalogEntries → ℕ → Known
 known_at c addr = option_map (λ i. (i, symbol_at c i addr)) (item_of_address c addr)
 
--- the same of a return address: the address one byte lower is looked up, and the offset is that of
--- the return address
+-- what is known of a return address: the address one byte lower is looked up, and the offset is
+-- that of the return address
 abbrev pub known_call : CatalogEntries → ℕ → Known
 known_call c addr =
     option_and_then
     (λ place. option_map (λ k. (k.0, option_map (farther 1) k.1)) (known_at c place))
     (lower_by 1 addr)
 
--- the same in an item that a table has for the address
+-- what is known of an address in the item that a table has for it
 abbrev pub known_in : CatalogEntries → ℕ → Option Item → Known
 known_in c addr x = option_map (λ i. (i, symbol_at c i addr)) x
 

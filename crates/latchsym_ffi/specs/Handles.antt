@@ -24,7 +24,7 @@ abbrev pub WriterGoes : (WriterState → WriterState → Type 0) → Handle → 
 WriterGoes P h h' =
     (w : WriterState) → HoldsWriter w h → (w' : WriterState) × HoldsWriter w' h' × P w w'
 
--- the same of a reader
+-- the reader that the handle held, and the one that it then holds, are so
 abbrev pub ReaderGoes : (ReaderState → ReaderState → Type 0) → Handle → Handle → Type 0
 ReaderGoes P h h' =
     (r : ReaderState) → HoldsReader r h → (r' : ReaderState) × HoldsReader r' h' × P r r'

@@ -12,16 +12,16 @@ size_of_listings = 96
 abbrev pub is_empty : List ℕ → Bool
 is_empty text = nat_eq (length text) 0
 
--- a text that is none where it has no byte
+-- a text that is none if it has no byte
 abbrev pub text_if_any : List ℕ → Option (List ℕ)
 text_if_any text = if is_empty text then None else Some text
 
--- the names of both bounds of the kernel, which are none where neither has a byte
+-- the names of both bounds of the kernel, which are none if neither has a byte
 abbrev pub bounds_if_any : List ℕ → List ℕ → Option BoundNames
 bounds_if_any start end =
     if is_empty start && is_empty end then None else Some (record { start = start; end = end })
 
--- the struct is one of this version, and has no byte of a listing of modules or of regions where it
+-- the struct is one of this version, and has no byte of a listing of modules or of regions if it
 -- says that there are none of modules
 abbrev pub is_understood : CatalogListings → Bool
 is_understood l =

@@ -35,7 +35,7 @@ abbrev pub try_code : Try → ℕ
 try_code (Answered x g) = found_code x
 try_code Retry = answer_number answer.Retry
 
--- what a lookup tells; nothing where another is to be made
+-- what a lookup tells; nothing if another is to be made
 abbrev pub Shows : Try → TableAnswer → TableAnswer → Type 0
 Shows (Answered x g) old new = new ≡ answer_from x g
 Shows Retry old new = new ≡ old

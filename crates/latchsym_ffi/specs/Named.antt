@@ -12,7 +12,7 @@ pub record IsNamed (c : CatalogEntries) (k : Known) (s : CatalogSymbol) : Type 0
   pub name : s.name.now ≡ symbol_named k
   pub owner : s.«module».now ≡ owner_named c k
 
--- the same, with the number that is returned
+-- the symbol is told, and this number is returned
 pub record IsTold (c : CatalogEntries) (k : Known) (result : ℕ) (s : CatalogSymbol) : Type 0 where
   pub code : result ≡ known_code k
   pub symbol : IsNamed c k s

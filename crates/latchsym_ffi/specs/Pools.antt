@@ -1,5 +1,5 @@
--- The claims of a pool's slots, as include/latchsym.h counts them: a number for each slot, to which a
--- claim adds 1 and so does its end.
+-- The claims of a pool's slots, as include/latchsym.h counts them: a number for each slot, to which
+-- a claim adds 1 and so does its end.
 use Rattle.std.specs.Prelude.{◌≡◌, ◌≤◌, ◌%◌, ℕ, List, [], ◌∷◌}
 
 -- a call has the reader of the slot

@@ -34,7 +34,7 @@ pub record IsOpenedTable (nodes : ℕ) (w : Handle) (readers : List Handle) : Ty
   pub writer : HoldsWriter (new_writer place layout 0 (length readers)) w
   pub each : All (HoldsReader (first_reader place layout)) readers
 
--- the same, in boxes
+-- an empty table of so many nodes: its writer and its readers in boxes
 pub record AreOpened (nodes readers : ℕ) (b : Boxes) : Type 0 where
   pub place : TableId
   pub layout : Layout

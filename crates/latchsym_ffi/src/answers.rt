@@ -219,7 +219,7 @@ fn number_of_note(note: ListingNote) -> u32
     }
 }
 
-/// The number of a note where there is one, and else that of nothing.
+/// The number of a note if there is one, and else that of nothing.
 pub(crate) fn number_if_noted(note: Option<ListingNote>) -> u32
     ensures { result ≡ number_if_noted note }
 {

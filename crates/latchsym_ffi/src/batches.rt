@@ -29,7 +29,7 @@ fn told(catalog: &Catalog<'static>, seen: Option<Seen<'_>>) -> CatalogTold
     }
 }
 
-/// Tells of each address, in the room of its place, where there is just as much room.
+/// Tells of each address, in the room of its place, if there is just as much room.
 pub(crate) fn tell_in_order(
     catalog: &IndexedCatalog<'static>,
     addrs: &[u64],

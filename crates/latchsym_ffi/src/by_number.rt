@@ -1,5 +1,5 @@
-//! What C calls, to go through the modules, the regions and the symbols of a catalog, and from names
-//! to addresses.
+//! What C calls, to go through the modules, the regions and the symbols of a catalog, and from
+//! names to addresses.
 
 ghost use Rattle.std.specs.Prelude.{◌≡◌, ◌≢◌, ◌<◌, IfSome, length, position};
 ghost use Rattle.std.specs.Str.{bytes_eq};

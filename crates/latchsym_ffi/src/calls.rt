@@ -2,8 +2,9 @@
 //!
 //! The content is taken out of the handle, the call is made with it, and it is put back: the kit
 //! lends no borrow through the handle's raw pointer. What is to be done with a writer comes as a
-//! closure. No closure takes a catalog, which has names of lifetime `'static`, so that is a macro. A
-//! lookup of a reader does the same by itself, as the compiler keeps a closure a function of its own.
+//! closure. No closure takes a catalog, which has names of lifetime `'static`, so that is a macro.
+//! A lookup of a reader does the same by itself, as the compiler keeps a closure a function of its
+//! own.
 
 ghost use Rattle.std.specs.Prelude.{◌≡◌, ◌≢◌, IfNone, IfSome, Some};
 ghost use Rattle.std.specs.Fn.{CalledAtMut};

@@ -68,7 +68,7 @@ fn copy_name(room: &mut [u8], name: &[u8])
     room[..count].copy_from_slice(&name[..count]);
 }
 
-/// The name of the module of a number, which is empty where there is none.
+/// The name of the module of a number, which is empty if there is none.
 fn name_of<'a>(catalog: &Catalog<'a>, number: u64) -> &'a [u8]
     ensures { result.now ≡ module_name catalog.now number }
 {
@@ -78,7 +78,7 @@ fn name_of<'a>(catalog: &Catalog<'a>, number: u64) -> &'a [u8]
     }
 }
 
-/// The region that the address lies in, and the symbol, the offset and the size where there is one.
+/// The region that the address lies in, and the symbol, the offset and the size if there is one.
 ///
 /// It is compiled into its callers: handed on through memory the answer was stored by words and
 /// loaded by pairs of them, which waits.
@@ -93,7 +93,7 @@ pub(crate) fn seek<'c>(catalog: &'c IndexedCatalog<'static>, addr: u64) -> Optio
     })
 }
 
-/// The same of one of several addresses.
+/// The region of one of several addresses, and its symbol, if there is one.
 pub(crate) fn seek_next<'c>(finder: &mut Finder<'c, 'static>, addr: u64) -> Option<Seen<'c>>
     ensures seen { option_map shown_seen result ≡ known_at finder.old addr }
     ensures stays { finder.new ≡ finder.old }
@@ -102,8 +102,8 @@ pub(crate) fn seek_next<'c>(finder: &mut Finder<'c, 'static>, addr: u64) -> Opti
     Some(Seen { item, found })
 }
 
-/// The same of a return address. The call before it may be the last instruction of its symbol, so
-/// the address one byte lower is looked up, and the offset is that of the return address.
+/// The region of the address one byte lower, and its symbol, with the offset of the return address
+/// itself: the call before it may be the last instruction of its symbol.
 pub(crate) fn seek_call<'c>(catalog: &'c IndexedCatalog<'static>, addr: u64) -> Option<Seen<'c>>
     ensures { option_map shown_seen result ≡ known_call catalog.now addr }
 {
@@ -156,7 +156,7 @@ pub(crate) fn description_of(catalog: &Catalog<'static>, seen: Option<Seen<'_>>)
 }
 
 /// Tells of what was seen, with the names where they lie in the listings: DONE with a symbol,
-/// NO_SYMBOL where no symbol of its region is at or below the address, and NOTHING, with all
+/// NO_SYMBOL if no symbol of its region is at or below the address, and NOTHING, with all
 /// numbers 0, where it lies in no region.
 pub(crate) fn name_places(
     catalog: &Catalog<'static>,

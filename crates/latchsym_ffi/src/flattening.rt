@@ -92,7 +92,7 @@ fn rows_of<'s>(
     ModuleRows { symbols, addresses }
 }
 
-/// Puts the regions of a module behind the others, of which there are so many, and tells how many
+/// Puts the regions of a module after the others, of which there are so many, and tells how many
 /// there are then.
 fn put_regions<'s>(
     owner: &Module<'static>,

@@ -9,7 +9,7 @@ use std::alloc::Global;
 use std::mem;
 use std::sync::atomic::{AtomicU64, Ordering};
 
-/// A catalog, a writer or a reader, as `kind` says, or nothing where it is closed. All bytes 0 are
+/// A catalog, a writer or a reader, as `kind` says, or nothing if it is closed. All bytes 0 are
 /// a closed one.
 #[repr(C)]
 #[derive(Drop)]
@@ -21,8 +21,8 @@ pub struct Handle {
 }
 
 /// Keeps the stores before it in front of those behind it, as a signal handler of this thread sees
-/// them. It costs no instruction but a load of the stack: the compiler moves nothing across a step on
-/// an atomic word.
+/// them. It costs no instruction but a load of the stack: the compiler moves nothing across a step
+/// on an atomic word.
 #[inline(always)]
 fn keep_order() {
     let word = AtomicU64::new(0);
@@ -40,8 +40,8 @@ impl Handle {
         }
     }
 
-    /// Takes the content out, and leaves the handle closed: its kind is cleared before its pointer, so
-    /// that a signal handler of the thread meets a closed handle or a whole one.
+    /// Takes the content out, and leaves the handle closed: its kind is cleared before its pointer,
+    /// so that a signal handler of the thread meets a closed handle or a whole one.
     pub(crate) fn take(&mut self) -> Box<Content, Global>
         requires open { self.old.kind ≢ 0 }
         ensures content { self.old.pointer.content ≡ Some result.value }

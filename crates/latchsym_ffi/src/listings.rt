@@ -17,7 +17,7 @@ use texts::LineFault;
 const SIZE: usize = 96;
 
 /// The bytes of the listings, as C hands them in. Those that are not given have no byte, and one of
-/// modules is there only where `has_modules` is not 0.
+/// modules is there only if `has_modules` is not 0.
 #[repr(C)]
 #[derive(Clone, Copy, Drop)]
 pub struct CatalogListings {
@@ -32,14 +32,14 @@ pub struct CatalogListings {
     pub has_modules: u32,
 }
 
-/// A text, which is none where it has no byte.
+/// A text, which is none if it has no byte.
 fn if_any(text: &'static [u8]) -> Option<&'static [u8]>
     ensures { option_copied result ≡ text_if_any text.now }
 {
     if text.is_empty() { None } else { Some(text) }
 }
 
-/// The names of both bounds of the kernel, which are none where neither has a byte.
+/// The names of both bounds of the kernel, which are none if neither has a byte.
 fn bounds_if_any(start: &'static [u8], end: &'static [u8]) -> Option<KernelBounds<'static>>
     ensures { result ≡ bounds_if_any start.now end.now }
 {

@@ -134,7 +134,7 @@ fn counts_of(opened: &OpenedCatalog) -> CatalogCounts
     }
 }
 
-/// Reads the listings, and builds the catalog of them, or of that of symbols alone where that of
+/// Reads the listings, and builds the catalog of them, or of that of symbols alone if that of
 /// modules is not given. Mapping symbols are stray.
 fn catalog_of(
     alloc: Global,

@@ -1,4 +1,4 @@
-//! Opening a table: all of it, or nothing where memory is refused.
+//! Opening a table: all of it, or nothing if memory is refused.
 
 ghost use Rattle.std.specs.Prelude.{◌≡◌, ◌≢◌, ◌↔◌, All, IfOk, IfErr, IsTrue, length};
 ghost use Rattle.std.specs.Prelude.{vec_len};

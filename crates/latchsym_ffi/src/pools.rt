@@ -3,7 +3,7 @@
 ghost use Rattle.std.specs.Prelude.{◌≡◌, ℕ, All, List, sum};
 ghost use Rattle.latchsym_ffi.specs.Pools.{HaveRisen, IsClaimed};
 
-/// Where two rounds over the slots meet claimed ones alone, and their claims add up to the same, all
+/// If two rounds over the slots meet claimed ones alone, and their claims add up to the same, all
 /// slots are claimed at each moment between the rounds.
 #[tactic(auto, using(crate::proofs::PoolLemmas::claimed_between))]
 fn all_were_claimed()

@@ -35,7 +35,7 @@ fn put_items(items: &[Item], out: &mut [TableItem])
     }
 }
 
-/// Writes an item for each region of the catalog, where there is room for just as many.
+/// Writes an item for each region of the catalog, if there is room for just as many.
 fn tell_items(catalog: &IndexedCatalog<'static>, out: &mut [TableItem]) -> u32
     ensures told { result ≡ 0 → TellsItems catalog.now out.new }
     ensures done { length out.old ≡ length (regions_of catalog.now) → result ≡ 0 }

@@ -120,7 +120,7 @@ fn symbol_in_rows<'s>(region: &ViewRegion<'s>, addr: u64) -> Option<FoundRow<'s>
     })
 }
 
-/// The region that the address lies in, and the symbol, the offset and the size where there is one.
+/// The region that the address lies in, and the symbol, the offset and the size if there is one.
 pub(crate) fn seek<'c, 's>(view: &CatalogView<'c, 's>, addr: u64) -> Option<SeenRow<'c, 's>>
     ensures known { (c : CatalogEntries) → IsViewOf c view.now.regions.now
         → option_map known_row result ≡ known_at c addr }
@@ -146,8 +146,8 @@ fn farther<'s>(found: FoundRow<'s>) -> FoundRow<'s>
     }
 }
 
-/// The same of a return address: the address one byte lower is looked up, and the offset is that of
-/// the return address.
+/// The region of the address one byte lower, and its symbol, with the offset of the return address
+/// itself.
 pub(crate) fn seek_call<'c, 's>(view: &CatalogView<'c, 's>, addr: u64) -> Option<SeenRow<'c, 's>>
     ensures known { (c : CatalogEntries) → IsViewOf c view.now.regions.now
         → option_map known_row result ≡ known_call c addr }

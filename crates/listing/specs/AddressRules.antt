@@ -7,11 +7,11 @@ use Rattle.listing.specs.declared.address_rules.Callers.{Callers}
 use Rattle.listing.specs.declared.address_rules.Callers.TheVariants.{ByPlace, Every, Never}
 use Rattle.listing.specs.declared.address_rules.LogRule.{LogRule}
 
--- the address so many bytes lower, where there is one
+-- the address so many bytes lower, if there is one
 abbrev pub lower_by : ℕ → ℕ → Option ℕ
 lower_by bytes addr = if nat_le bytes addr then Some (addr - bytes) else None
 
--- how many bytes before the address that is told of the looked up one lies: one, where it is a
+-- how many bytes before the address that is told of the looked up one lies: one, if it is a
 -- return address
 abbrev pub before_of : AddressRule → ℕ
 before_of rule = if rule.callers then 1 else 0

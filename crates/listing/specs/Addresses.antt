@@ -26,7 +26,7 @@ sixteen_digits digits = if length digits == 16 then numeral 16 16 digits else No
 abbrev pub address_of_text : List ℕ → Option ℕ
 address_of_text text = option_or (sixteen_digits text) (number_of text)
 
--- the same of a line, whatever blanks it ends in
+-- the address of a line, whatever blanks it ends in
 abbrev pub address_in_line : List ℕ → Option ℕ
 address_in_line line = address_of_text (without_blank_end line)
 

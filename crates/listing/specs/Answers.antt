@@ -12,7 +12,7 @@ use Rattle.modules.specs.Found.{Found, found_in, symbols_from}
 
 -- ---- what is known
 
--- the symbol that an address belongs to, as it is told of it, and the name of its module, where
+-- the symbol that an address belongs to, as it is told of it, and the name of its module, if
 -- that is not the kernel itself
 pub record Known : Type 0 where
   pub found : Option Found
@@ -41,13 +41,13 @@ abbrev pub held_answer : CatalogEntries → Item → ℕ → ℕ → Known
 held_answer c item before addr =
     option_map_or (λ m. answer_in m item before addr) (module_of c item.tag) nothing
 
--- the item and the address, where the item holds it
+-- the item and the address, if the item holds it
 abbrev pub held_at : Option Item → ℕ → Option (Item × ℕ)
 held_at None addr = None
 held_at (Some item) addr =
     if nat_le item.a addr && nat_lt addr item.b then Some (item, addr) else None
 
--- the same of the address that is looked up by a rule, for which the item was found
+-- the item and the address that a rule looks up, for which the item was found
 abbrev pub sought : AddressRule → Option Item → ℕ → Option (Item × ℕ)
 sought rule item addr = option_and_then (held_at item) (place_of rule addr)
 
@@ -68,7 +68,7 @@ unfoldable pub owner_text : Option (List ℕ) → List ℕ
 owner_text None = []
 owner_text (Some name) = codes " [" ++ name ++ codes "]"
 
--- a symbol, `?` where the module alone is known, and `-` where nothing is
+-- a symbol, `?` if the module alone is known, and `-` if nothing is
 abbrev pub text_of : Known → List ℕ
 text_of k =
     option_map_or symbol_text k.found (if is_nothing k then codes "-" else codes "?")

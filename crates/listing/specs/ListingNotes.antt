@@ -52,7 +52,7 @@ HasBounds names symbols =
     (list_any (is_kernel_symbol names.start) symbols ≡ true)
     × (list_any (is_kernel_symbol names.end) symbols ≡ true)
 
--- what is noted of a listing of modules with this text, where the listing of symbols has that one
+-- what is noted of a listing of modules with this text, if the listing of symbols has that one
 -- and the catalog of both is this
 abbrev pub is_of_modules : List ℕ → List ℕ → CatalogEntries → ListingNote → Bool
 is_of_modules text kallsyms c Gzip = is_gzip text
@@ -67,7 +67,7 @@ is_of_modules text kallsyms c ModulesOverlap =
 is_of_modules text kallsyms c NoModuleLine = has_no_module c && lacks_lines is_module_line text
 is_of_modules text kallsyms c _ = false
 
--- what is noted of a listing of symbols with this text, of which so many are kept, where these
+-- what is noted of a listing of symbols with this text, of which so many are kept, if these
 -- names bound the kernel; it is alone if there is no listing of modules
 abbrev pub is_of_kallsyms : BoundNames → Bool → List ℕ → ℕ → ListingNote → Bool
 is_of_kallsyms names alone text kept Empty = alone && nat_eq (length text) 0

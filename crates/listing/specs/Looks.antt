@@ -42,7 +42,7 @@ is_shown_module (Err module_cause.Empty) = true
 is_shown_module (Err module_cause.Wraps) = true
 is_shown_module _ = false
 
--- the same of a listing of symbols
+-- a well-formed line of a listing of symbols is hidden
 abbrev pub is_hidden_symbol : Result ListedSymbol SkippedSymbol → Bool
 is_hidden_symbol (Err symbol_cause.Hidden) = true
 is_hidden_symbol _ = false
@@ -74,8 +74,8 @@ is_symbol_line line = is_hidden_symbol (symbol_of line) || is_shown_symbol (symb
 abbrev pub begins_wide : List ℕ → Bool
 begins_wide line = nat_lt 8 (length line) && list_all (λ b. is_digit b 16) (take 9 line)
 
--- The listing is that of a 32-bit kernel: a line is well formed, and none of these has an address that
--- is written with more than 8 digits.
+-- The listing is that of a 32-bit kernel: a line is well formed, and none of these has an address
+-- that is written with more than 8 digits.
 abbrev pub is_narrow : List (List ℕ) → Bool
 is_narrow lines =
     list_any is_symbol_line lines

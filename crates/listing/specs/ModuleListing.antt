@@ -23,13 +23,13 @@ runs_of line = filter (λ w. nat_lt 0 (length w)) (slice_split is_gap line)
 abbrev pub base_of : List ℕ → Option ℕ
 base_of word = if starts_with nat_eq word (codes "0x") then numeral 16 16 (drop 2 word) else None
 
--- the module of this name, where its size and its base are there
+-- the module of this name, if its size and its base are there
 abbrev pub module_of_parts : List ℕ → Option ℕ → Option ℕ → Option ListedModule
 module_of_parts name (Some size) (Some base) =
     Some (record { name = name; base = base; size = size })
 module_of_parts name _ _ = None
 
--- `NAME SIZE USES USERS STATE BASE`, and whatever stands after
+-- `NAME SIZE USES USERS STATE BASE`, and whatever follows
 abbrev pub module_of_words : List (List ℕ) → Option ListedModule
 module_of_words (name ∷ size ∷ uses ∷ users ∷ state ∷ base ∷ more) =
     module_of_parts name (numeral 10 20 size) (base_of base)
@@ -57,7 +57,7 @@ module_of_line line =
 abbrev pub module_causes : List SkippedModule
 module_causes = Hidden ∷ Empty ∷ Wraps ∷ Long ∷ Malformed ∷ []
 
--- where a cause stands in that order
+-- the place of a cause in that order
 abbrev pub module_place : SkippedModule → ℕ
 module_place Hidden = 0
 module_place Empty = 1

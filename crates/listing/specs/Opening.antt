@@ -34,7 +34,7 @@ abbrev pub given : Option (List ℕ) → List ℕ → Option (List ℕ) → Give
 given modules kallsyms regions =
     record { modules = modules; kallsyms = kallsyms; regions = regions }
 
--- the same with the lines of the listing of regions
+-- listings with the lines of that of regions
 pub record Listed : Type 0 where
   pub modules : Option (List ℕ)
   pub kallsyms : List ℕ
@@ -54,7 +54,7 @@ with_lines g (Ok lines) =
     Ok (record { modules = g.modules; kallsyms = g.kallsyms; regions = Some lines })
 with_lines g (Err n) = Err n
 
--- the listings with these texts, where that of regions may be one of them
+-- the listings with these texts, if that of regions may be one of them
 abbrev pub listings_with : Given → Option (List ℕ) → Result Listed ℕ
 listings_with g None =
     Ok (record { modules = g.modules; kallsyms = g.kallsyms; regions = None })
@@ -78,8 +78,8 @@ lines_beside l = if is_some l.modules then unwrap_or l.regions [] else []
 abbrev pub symbols_of : Bool → List ℕ → List ListedSymbol
 symbols_of mapping text = symbols_with mapping (symbols_in (lines_of text))
 
--- The catalog and the counts are those of a listing of modules with this text, of these region lines
--- and of these symbols. The names of the kernel's bounds may be given.
+-- The catalog and the counts are those of a listing of modules with this text, of these region
+-- lines and of these symbols. The names of the kernel's bounds may be given.
 pub record AreByModules (kernel : Option BoundNames) (text : List ℕ) (lines : List ListedRegion)
     (symbols : List ListedSymbol) (c : CatalogEntries) (n : BuildCounts)
     : Type 0 where
@@ -96,16 +96,16 @@ pub record AreBySymbols (kernel : Option BoundNames) (symbols : List ListedSymbo
   pub catalog : c ≡ catalog_with modules symbols
   pub counts : n ≡ kept_counts modules symbols
 
--- The catalog and the counts are those of listings, of whose symbols these may be kept. Without one of
--- modules the symbols say where modules lie.
+-- The catalog and the counts are those of listings, of whose symbols these may be kept. Without one
+-- of modules the symbols say where modules lie.
 abbrev pub AreBy : Option BoundNames → Listed → List ListedSymbol → Option (List ℕ)
     → CatalogEntries → BuildCounts → Type 0
 AreBy kernel l symbols (Some text) c n =
     AreByModules kernel text (unwrap_or l.regions []) symbols c n
 AreBy kernel l symbols None c n = AreBySymbols kernel symbols c n
 
--- Listings say this catalog, and that so many of their lines went where. A symbol that is not kept is
--- stray.
+-- Listings say this catalog, and that so many of their lines went where. A symbol that is not kept
+-- is stray.
 pub record Say (kernel : Option BoundNames) (mapping : Bool) (l : Listed) (c : CatalogEntries)
     (n : BuildCounts)
     : Type 0 where

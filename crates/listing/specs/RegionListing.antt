@@ -19,11 +19,11 @@ part_of word =
     else if bytes_eq word (codes "init") then Some Init
     else None
 
--- a region, where there is one of so many bytes at this address
+-- a region, if there is one of so many bytes at this address
 abbrev pub placed_region : ListedRegion → Option ListedRegion
 placed_region r = if region_fits r then Some r else None
 
--- the region of this name, where its part, its base and its size are there
+-- the region of this name, if its part, its base and its size are there
 abbrev pub region_of_parts : List ℕ → Option Part → Option ℕ → Option ℕ → Option ListedRegion
 region_of_parts name (Some part) (Some base) (Some size) =
     placed_region (record { name = name; part = part; base = base; size = size })

@@ -13,7 +13,7 @@ use Rattle.listing.specs.Skipping.{counts_by, taken_by}
 use Rattle.listing.specs.declared.symbol_listing.SkippedSymbol.{SkippedSymbol}
 use Rattle.listing.specs.declared.symbol_listing.SkippedSymbol.TheVariants.{Hidden, Long, Malformed}
 
--- what stands before the first such byte, and what stands after it
+-- what is before the first such byte, and what is after it
 abbrev pub cut_at : ℕ → List ℕ → Option (List ℕ × List ℕ)
 cut_at b [] = None
 cut_at b (x ∷ xs) = if x == b then Some ([], xs) else option_map (λ p. (x ∷ p.0, p.1)) (cut_at b xs)
@@ -36,7 +36,7 @@ symbol_with owner (letter ∷ blank ∷ first ∷ name) addr =
     else None
 symbol_with owner _ addr = None
 
--- the address that a text begins with, and what stands after the blank that ends it
+-- the address that a text begins with, and what follows the blank that ends it
 abbrev pub address_in : List ℕ → Option (ℕ × List ℕ)
 address_in text =
     option_and_then (λ p. option_map (λ addr. (addr, p.1)) (numeral 16 16 p.0)) (cut_at 32 text)
@@ -68,7 +68,7 @@ symbol_of line =
 abbrev pub symbol_causes : List SkippedSymbol
 symbol_causes = Hidden ∷ Long ∷ Malformed ∷ []
 
--- where a cause stands in that order
+-- the place of a cause in that order
 abbrev pub symbol_place : SkippedSymbol → ℕ
 symbol_place Hidden = 0
 symbol_place Long = 1

@@ -27,7 +27,7 @@ pub record Tallies : Type 0 where
 abbrev pub rows_of : {E : Type 0} → (E → ℕ) → (E → List ℕ) → List ℕ → List E → List (List ℕ × ℕ)
 rows_of place name counts causes = map (λ c. (name c, slice_index counts (place c))) causes
 
--- of a listing of modules: the causes that the build finds stand before the first cause of a line's
+-- of a listing of modules: the causes that the build finds come before the first cause of a line's
 -- form, which is that it is long
 abbrev pub modules_tally : List ℕ → BuildCounts → Tally
 modules_tally skipped built = record {

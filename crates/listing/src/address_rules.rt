@@ -7,7 +7,7 @@ ghost use Rattle.listing.specs.AddressRules.{place_of, rule_at};
 /// How the addresses are taken that are looked up.
 #[derive(Clone, Copy, Debug, Drop)]
 pub struct AddressRule {
-    /// Whether they are return addresses. Such a one lies behind the call that it belongs to, which
+    /// Whether they are return addresses. Such a one lies after the call that it belongs to, which
     /// may be the last instruction of its symbol; so the address one byte lower is looked up, and
     /// the offset told is that of the return address itself.
     pub callers: bool,

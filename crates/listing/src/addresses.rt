@@ -33,7 +33,7 @@ fn address_in_line(line: &[u8]) -> Option<u64>
 }
 
 /// The address that a text is: what just 16 hexadecimal digits write, as the kernel does, or else a
-/// number, decimal or hexadecimal behind `0x`.
+/// number, decimal or hexadecimal after `0x`.
 pub fn address_of_text(text: &[u8]) -> Option<u64>
     ensures { result ≡ address_of_text text.now }
 {
@@ -67,7 +67,7 @@ fn without_blank_end(text: &[u8]) -> &[u8]
     &text[..end]
 }
 
-/// Whether a line may end in the byte behind its address.
+/// Whether a line may end in the byte after its address.
 fn is_blank_end(byte: u8) -> bool
     ensures { result ≡ is_blank_end byte }
 {
@@ -76,8 +76,8 @@ fn is_blank_end(byte: u8) -> bool
 
 /// Reads a file of addresses, in their order.
 ///
-/// Each line is 16 hexadecimal digits, or a NUMBER (as [`number`] reads it), behind which blanks,
-/// tabs and carriage returns may stand; or it is passed over: it is empty, or a comment that begins
+/// Each line is 16 hexadecimal digits, or a NUMBER (as [`number`] reads it), after which blanks,
+/// tabs and carriage returns may come; or it is passed over: it is empty, or a comment that begins
 /// with `#`. No line, also no comment, has more than [`LONGEST_LINE`](texts::LONGEST_LINE) bytes.
 /// Bytes after the last line's end are a line too. A file of no bytes has no address.
 pub fn read_addresses<R: Read>(

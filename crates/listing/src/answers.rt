@@ -19,7 +19,7 @@ use texts::Output;
 pub struct Answer<'c, 'a> {
     /// The symbol that the address belongs to, with the offset that is told.
     pub found: Option<FoundSymbol<'c, 'a>>,
-    /// The name of its module, where that is not the kernel itself.
+    /// The name of its module, if that is not the kernel itself.
     pub owner: Option<&'a [u8]>,
 }
 
@@ -68,7 +68,7 @@ pub fn farther<'c, 'a>(found: FoundSymbol<'c, 'a>, bytes: u64) -> FoundSymbol<'c
     }
 }
 
-/// The item and the address, where the item holds it.
+/// The item and the address, if the item holds it.
 fn held_at(item: Option<Item>, addr: u64) -> Option<(Item, u64)>
     ensures is { result ≡ held_at item addr }
     ensures holds { IfSome result (λ s. (s.0.a ≤ s.1) × (s.1 < s.0.b)) }
@@ -81,7 +81,7 @@ fn held_at(item: Option<Item>, addr: u64) -> Option<(Item, u64)>
     }
 }
 
-/// The item that was found for the address that the rule looks up, and this address, where the item
+/// The item that was found for the address that the rule looks up, and this address, if the item
 /// holds it.
 pub fn sought(rule: AddressRule, item: Option<Item>, addr: u64) -> Option<(Item, u64)>
     ensures is { result ≡ sought rule item addr }
@@ -90,10 +90,10 @@ pub fn sought(rule: AddressRule, item: Option<Item>, addr: u64) -> Option<(Item,
     held_at(item, rule.place_of(addr)?)
 }
 
-/// What is known of an address, where `item` was found for the address that the rule looks up in its
+/// What is known of an address, if `item` was found for the address that the rule looks up in its
 /// place.
 ///
-/// It is nothing where the rule looks nothing up, there is no item, the item does not hold the
+/// It is nothing if the rule looks nothing up, there is no item, the item does not hold the
 /// address, its tag is the number of no module, or the kernel itself has no symbol at or below the
 /// address. It takes no memory.
 ///
@@ -141,8 +141,8 @@ fn held_answer<'c, 'a>(
     Answer { found, owner }
 }
 
-/// Writes the text of an answer: `NAME+0xOFFSET/0xSIZE [MODULE]`, without ` [MODULE]` for the kernel
-/// itself, `? [MODULE]` where the module alone is known, and `-` where nothing is.
+/// Writes the text of an answer: `NAME+0xOFFSET/0xSIZE [MODULE]`, without ` [MODULE]` for the
+/// kernel itself, `? [MODULE]` if the module alone is known, and `-` if nothing is.
 pub fn put_answer<W: Write>(writer: &mut Output<W>, answer: &Answer)
     ensures { Says W.contents writer.old writer.new (text_of answer.now) }
 {

@@ -13,7 +13,7 @@ pub trait Cause<const N: usize>: Copy {
     /// The causes of the listing, in the order in which their counts are written.
     ghost causes: { List Self };
 
-    /// Where a cause stands in that order, from 0.
+    /// The place of a cause in that order, from 0.
     ghost place_of: { Self → ℕ };
 
     /// What the cause is called.
@@ -23,7 +23,7 @@ pub trait Cause<const N: usize>: Copy {
     fn all() -> &'static [Self]
         ensures { result.now ≡ causes };
 
-    /// Where the cause stands in that order, from 0.
+    /// The place of the cause in that order, from 0.
     fn place(self) -> usize
         ensures place { result ≡ place_of self }
         ensures low { result < N };
@@ -32,10 +32,10 @@ pub trait Cause<const N: usize>: Copy {
     fn name(self) -> &'static str
         ensures { result.now ≡ name_of self };
 
-    /// Each cause stands at its place.
+    /// Each cause is at its place.
     ghost at_place: { (cause : Self) → slice_get causes (place_of cause) ≡ Some cause };
 
-    /// No cause stands at two places.
+    /// No cause is at two places.
     ghost in_order: { map place_of causes ≡ range_with_len 0 N };
 }
 

@@ -18,7 +18,7 @@ fn cut_at_gap(line: &[u8]) -> (&[u8], Option<&[u8]>)
     }
 }
 
-/// The first word of a line, and what stands after it.
+/// The first word of a line, and what follows it.
 fn next_word(line: &[u8]) -> Option<(&[u8], &[u8])>
     ensures { MatchOption result (runs_of line.now ≡ [])
         (λ p. runs_of line.now ≡ p.0.now ∷ runs_of p.1.now) }

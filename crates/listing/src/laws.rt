@@ -16,7 +16,7 @@ use crate::module_listing::SkippedModule;
 use crate::symbol_listing::SkippedSymbol;
 use modules::{ModuleLine, SymbolLine};
 
-/// A text is a listing of regions exactly where each of its lines is in the grammar, and its
+/// A text is a listing of regions exactly if each of its lines is in the grammar, and its
 /// regions are then those of its lines, in their order; otherwise the line that is named is the
 /// first one that is not.
 pub fn regions_by_their_lines()

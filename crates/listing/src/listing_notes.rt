@@ -1,8 +1,8 @@
 //! Notes on unusable listings, so that a run over one does not look like a success.
 //!
-//! Notes are decided when the catalog is built, mostly from what was counted for it. That of symbols
-//! is gone through again only where none of its lines is kept, where the kernel itself has no region
-//! or where a module is left out.
+//! Notes are decided when the catalog is built, mostly from what was counted for it. That of
+//! symbols is gone through again only if none of its lines is kept, if the kernel itself has no
+//! region or if a module is left out.
 ghost use Rattle.std.specs.Prelude.{◌≡◌, find, true};
 ghost use Rattle.std.specs.Option.{option_copied};
 ghost use Rattle.texts.specs.Lines.{lines_of};
@@ -19,7 +19,7 @@ use crate::looks::{
 use crate::overlaps::do_modules_overlap;
 use modules::{Catalog, KernelBounds, Module};
 
-/// What is noted of a listing. The notes stand in the order in which the first that applies to a
+/// What is noted of a listing. The notes are in the order in which the first that applies to a
 /// listing is sought.
 #[derive(Clone, Copy, Debug, PartialEq, Eq, Drop)]
 pub enum ListingNote {
@@ -51,7 +51,7 @@ pub enum ListingNote {
     NoSymbolLine,
 }
 
-/// The first note that applies to each listing, where one does.
+/// The first note that applies to each listing, if one does.
 #[derive(Clone, Copy, Debug, PartialEq, Eq, Drop)]
 pub struct ListingNotes {
     pub modules: Option<ListingNote>,
@@ -126,7 +126,7 @@ fn has_symbols(found: Option<&Module>) -> bool
     }
 }
 
-/// Whether a note applies to a listing of modules with this text beside one of symbols, where this
+/// Whether a note applies to a listing of modules with this text beside one of symbols, if this
 /// catalog is built of both, and all its well-formed lines are hidden or not.
 pub fn applies_to_modules(
     note: ListingNote,
@@ -184,13 +184,13 @@ pub struct SymbolFacts {
     pub hidden: bool,
     /// How many lines are kept.
     pub kept: u64,
-    /// Both names that bound the kernel are known to be listed. Where it is not set, they are
+    /// Both names that bound the kernel are known to be listed. If it is not set, they are
     /// sought in the text.
     pub has_kernel: bool,
 }
 
-/// Whether a note applies to a listing of symbols with this text, if these facts are known and these
-/// names bound the kernel.
+/// Whether a note applies to a listing of symbols with this text, if these facts are known and
+/// these names bound the kernel.
 pub fn applies_to_kallsyms(
     note: ListingNote,
     text: &[u8],
@@ -241,8 +241,8 @@ pub fn note_of_kallsyms(
     None
 }
 
-/// Whether symbols of the kernel itself are listed, and none at its first address. If both its bounds
-/// are known to be listed, nothing is sought.
+/// Whether symbols of the kernel itself are listed, and none at its first address. If both its
+/// bounds are known to be listed, nothing is sought.
 fn lacks_start(text: &[u8], names: &KernelBounds, has_kernel: bool) -> bool
     requires { has_kernel ≡ true → HasBounds names.now (symbols_in (lines_of text.now)) }
     ensures { result ≡ lacks_symbol names.now.start (symbols_in (lines_of text.now)) }
@@ -254,8 +254,8 @@ fn lacks_start(text: &[u8], names: &KernelBounds, has_kernel: bool) -> bool
     shown.any && !shown.start
 }
 
-/// Whether symbols of the kernel itself are listed, and none at its end. If both its bounds are known
-/// to be listed, nothing is sought.
+/// Whether symbols of the kernel itself are listed, and none at its end. If both its bounds are
+/// known to be listed, nothing is sought.
 fn lacks_end(text: &[u8], names: &KernelBounds, has_kernel: bool) -> bool
     requires { has_kernel ≡ true → HasBounds names.now (symbols_in (lines_of text.now)) }
     ensures { result ≡ lacks_symbol names.now.end (symbols_in (lines_of text.now)) }

@@ -1,5 +1,5 @@
-//! Why no line of a listing is of use: it is compressed or in UTF-16, hidden from its reader, a listing
-//! of the other kind, or its lines end as another system ends them.
+//! Why no line of a listing is of use: it is compressed or in UTF-16, hidden from its reader, a
+//! listing of the other kind, or its lines end as another system ends them.
 ghost use Rattle.std.specs.Prelude.{◌≡◌, ◌&&◌, ◌||◌, List, ℕ, find, length, nat_lt, not};
 ghost use Rattle.std.specs.Prelude.{option_map};
 ghost use Rattle.std.specs.Char.{is_digit};
@@ -44,8 +44,8 @@ pub fn first_line_ends_in_cr(text: &[u8]) -> bool
     line.ends_with(b"\r")
 }
 
-/// Whether a listing of modules has well-formed lines and all are hidden, if `listed` lines are modules
-/// and the others were skipped for these causes.
+/// Whether a listing of modules has well-formed lines and all are hidden, if `listed` lines are
+/// modules and the others were skipped for these causes.
 pub fn are_modules_hidden(listed: usize, skipped: &ModuleCounts) -> bool
     ensures { (lines : List (List ℕ)) → listed ≡ length (modules_in lines)
         → skipped.now.by_place ≡ module_counts lines → result ≡ are_modules_hidden lines }
@@ -65,8 +65,8 @@ fn hides_all(hidden: u64, listed: usize, empty: u64, wraps: u64) -> bool
     hidden > 0 && listed == 0 && empty == 0 && wraps == 0
 }
 
-/// Whether a listing of symbols has well-formed lines and all are hidden, if `listed` lines are symbols
-/// and the others were skipped for these causes.
+/// Whether a listing of symbols has well-formed lines and all are hidden, if `listed` lines are
+/// symbols and the others were skipped for these causes.
 pub fn are_symbols_hidden(listed: usize, skipped: &SymbolCounts) -> bool
     ensures { (lines : List (List ℕ)) → listed ≡ length (symbols_in lines)
         → skipped.now.by_place ≡ symbol_counts lines → result ≡ are_symbols_hidden lines }
@@ -99,8 +99,8 @@ fn is_symbol_line(line: &[u8]) -> bool
 /// The most digits that a 32-bit kernel writes of an address.
 const NARROW_DIGITS: usize = 8;
 
-/// Whether a listing of symbols is that of a 32-bit kernel: it has a well-formed line, and none whose
-/// address is written with more than 8 digits. It is read up to the first that is.
+/// Whether a listing of symbols is that of a 32-bit kernel: it has a well-formed line, and none
+/// whose address is written with more than 8 digits. It is read up to the first that is.
 pub fn is_narrow(text: &[u8]) -> bool
     ensures { result ≡ is_narrow (lines_of text.now) }
 {
@@ -231,7 +231,7 @@ impl KernelSymbols {
     }
 }
 
-/// Which symbols of the kernel itself a listing of symbols shows, where these names bound it.
+/// Which symbols of the kernel itself a listing of symbols shows, if these names bound it.
 pub fn kernel_symbols(text: &[u8], names: &KernelBounds) -> KernelSymbols
     ensures { AreKernelSymbols names.now (symbols_in (lines_of text.now)) result }
 {

@@ -24,7 +24,7 @@ use modules::ModuleLine;
 use std::alloc::{AllocError, Global};
 use texts::{LONGEST_LINE, cut_line, decimal, hexadecimal};
 
-/// Why a line of a listing of modules is skipped. The causes stand in the order in which their
+/// Why a line of a listing of modules is skipped. The causes are in the order in which their
 /// counts are written, and a line is skipped for the first that holds of it in the order long,
 /// malformed, hidden, empty, wraps.
 #[derive(Clone, Copy, Debug, PartialEq, Eq, Drop)]
@@ -99,7 +99,7 @@ fn base(word: &[u8]) -> Option<u64>
     }
 }
 
-/// The module of this name, where its size and its base are numbers.
+/// The module of this name, if its size and its base are numbers.
 fn make_module<'a>(name: &'a [u8], size: &[u8], start: &[u8]) -> Option<ModuleLine<'a>>
     ensures { result ≡ module_of_parts name.now (numeral 10 20 size.now) (base_of start.now) }
 {
@@ -144,11 +144,11 @@ pub(crate) fn module_in<'a>(line: &'a [u8]) -> Result<ModuleLine<'a>, SkippedMod
 
 /// The modules of a listing in the form of /proc/modules, and how many of its lines were skipped.
 ///
-/// Words are separated by blanks and tabs, any number of them. A line is skipped as long where it
-/// has more than [`LONGEST_LINE`](texts::LONGEST_LINE) bytes, else as malformed where it has fewer
+/// Words are separated by blanks and tabs, any number of them. A line is skipped as long if it
+/// has more than [`LONGEST_LINE`](texts::LONGEST_LINE) bytes, else as malformed if it has fewer
 /// than six words, or the second is not 1 to 20 decimal digits of a 64-bit number (the size) or the
-/// sixth not `0x` and 1 to 16 hexadecimal digits (the base), else as hidden where the base is 0, as
-/// empty where the size is 0, and as one that wraps where the region goes past the greatest
+/// sixth not `0x` and 1 to 16 hexadecimal digits (the base), else as hidden if the base is 0, as
+/// empty if the size is 0, and as one that wraps if the region goes past the greatest
 /// address. The names are those of the text.
 pub fn read_modules<'a>(
     alloc: Global,

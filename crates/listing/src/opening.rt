@@ -29,15 +29,16 @@ use order_laws::Refusal;
 use std::alloc::Global;
 use texts::LineFault;
 
-/// The listings that are given: the texts of those of modules and of symbols, and the lines of that of
-/// regions.
+/// The listings that are given: the texts of those of modules and of symbols, and the lines of that
+/// of regions.
 #[derive(Drop)]
 pub struct Listings<'a> {
     /// The text of the listing of modules; if there is none, the symbols say where modules lie.
     pub modules: Option<&'a [u8]>,
     /// The text of the listing of symbols.
     pub kallsyms: &'a [u8],
-    /// The lines of the listing of regions, if there is one. They count beside a listing of modules.
+    /// The lines of the listing of regions, if there is one. They count beside a listing of
+    /// modules.
     pub regions: Option<Vec<RegionLine<'a>>>,
 }
 
@@ -159,8 +160,8 @@ fn build<'a>(
 }
 
 /// Opens listings. The kernel itself lies between the given names, or else in its usual regions;
-/// mapping symbols are kept or stray. The addresses that will be looked up are a hint for the build.
-/// Refused if more than 7 region lines have one name, and when out of memory.
+/// mapping symbols are kept or stray. The addresses that will be looked up are a hint for the
+/// build. Refused if more than 7 region lines have one name, and when out of memory.
 pub fn open<'a>(
     alloc: Global,
     listings: &Listings<'a>,

@@ -14,7 +14,7 @@ use modules::{Catalog, Module, SymbolLine};
 use texts::cut_line;
 
 /// Whether a symbol names a module that is listed and left out. The symbols are gone through only
-/// where a module is left out.
+/// if a module is left out.
 pub(crate) fn do_modules_overlap(text: &[u8], kallsyms: &[u8], catalog: &Catalog) -> bool
     ensures { result ≡ do_modules_overlap (modules_in (lines_of text.now))
         (symbols_in (lines_of kallsyms.now)) catalog.now }

@@ -26,7 +26,7 @@ use modules::{SymbolLine, SymbolLines};
 use std::alloc::{AllocError, Global};
 use texts::{LONGEST_LINE, hexadecimal, sixteen_digits};
 
-/// Why a line of a listing of symbols is skipped. The causes stand in the order in which their
+/// Why a line of a listing of symbols is skipped. The causes are in the order in which their
 /// counts are written, and a line is skipped for the first that holds of it in the order long,
 /// malformed, hidden.
 #[derive(Clone, Copy, Debug, PartialEq, Eq, Drop)]
@@ -111,7 +111,7 @@ pub fn cut_tabbed_line(bytes: &[u8]) -> (&[u8], Option<usize>, &[u8])
     }
 }
 
-/// What stands before the first such byte, and what stands after it.
+/// What is before the first such byte, and what is after it.
 #[inline(always)]
 pub fn cut(text: &[u8], byte: u8) -> Option<(&[u8], &[u8])>
     ensures { option_map (λ p. (p.0.now, p.1.now)) result ≡ cut_at byte text.now }
@@ -135,7 +135,7 @@ fn name_in_brackets(text: &[u8]) -> Option<&[u8]>
     }
 }
 
-/// The address that a text begins with, and what stands after the blank that ends it. Most
+/// The address that a text begins with, and what follows the blank that ends it. Most
 /// addresses have all sixteen digits, and then the blank need not be sought.
 #[inline(always)]
 fn cut_address(text: &[u8]) -> Option<(u64, &[u8])>
@@ -168,7 +168,7 @@ fn named_symbol<'a>(text: &'a [u8], owner: Option<&'a [u8]>) -> Option<SymbolLin
     }
 }
 
-/// The symbol that a line is whose first tab stands at this place, if it is of the form.
+/// The symbol that a line is whose first tab is at this place, if it is of the form.
 #[inline(always)]
 fn symbol_in_form<'a>(line: &'a [u8], tab: Option<usize>) -> Option<SymbolLine<'a>>
     requires { IsFirstByte (is_byte 9) line.now tab }
@@ -180,7 +180,7 @@ fn symbol_in_form<'a>(line: &'a [u8], tab: Option<usize>) -> Option<SymbolLine<'
     }
 }
 
-/// The symbol that a line is whose first tab stands at this place, or the first cause for which it
+/// The symbol that a line is whose first tab is at this place, or the first cause for which it
 /// is skipped.
 #[inline(always)]
 pub fn symbol_of_line<'a>(
@@ -241,10 +241,10 @@ fn put_symbol<'a>(
 /// The symbols of a listing in the form of /proc/kallsyms, with mapping symbols or without, and how
 /// many of its lines were skipped.
 ///
-/// A line is 1 to 16 hexadecimal digits, a blank, a letter, a blank and a name, and where the
+/// A line is 1 to 16 hexadecimal digits, a blank, a letter, a blank and a name, and if the
 /// symbol is one of a module, a tab and the module's name in brackets. A line is skipped as long
-/// where it has more than [`LONGEST_LINE`](texts::LONGEST_LINE) bytes, else as malformed where it
-/// is not of that form, else as hidden where its address is 0. The names are those of the text.
+/// if it has more than [`LONGEST_LINE`](texts::LONGEST_LINE) bytes, else as malformed if it
+/// is not of that form, else as hidden if its address is 0. The names are those of the text.
 pub fn read_kallsyms<'a>(
     alloc: Global,
     text: &'a [u8],

@@ -92,7 +92,7 @@ impl LineTally {
 pub struct LineTallies {
     pub modules: LineTally,
     pub symbols: LineTally,
-    /// Where there is a listing of regions.
+    /// If there is a listing of regions.
     pub regions: Option<LineTally>,
 }
 
@@ -111,7 +111,8 @@ impl Model for LineTallies {
 impl OpenedCatalog<'_> {
     ghost use Rattle.listing.specs.Tallies.{tallies_of};
 
-    /// Where the lines of the listings went; of symbols alone, how many modules and regions they say.
+    /// Where the lines of the listings went; of symbols alone, how many modules and regions they
+    /// say.
     pub fn tallies(&self) -> LineTallies
         ensures { result ≡ tallies_of self.now }
     {
@@ -131,7 +132,7 @@ impl OpenedCatalog<'_> {
 }
 
 /// Of a listing of modules: the accepted ones, and the others by the cause for which they were
-/// skipped. Causes of a line's content stand before those of its form, the first of which is that
+/// skipped. Causes of a line's content come before those of its form, the first of which is that
 /// it is long.
 fn modules_tally(skipped: &ModuleCounts, built: &BuildCounts) -> LineTally
     ensures { result ≡ modules_tally skipped.now.by_place built.now }
