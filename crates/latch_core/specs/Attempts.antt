@@ -1,4 +1,4 @@
--- How a reader looks a key up: by one load at a time, where each next step depends on its key and
+-- How a reader looks a key up: by one load at a time, whose next step depends on its key and
 -- on the values that it has loaded, and on nothing else.
 use Rattle.std.specs.Prelude.{◌≡◌, ℕ, zero, suc, List, [], ◌∷◌, Option, Some, None, if◌then◌else◌}
 use Rattle.std.specs.Prelude.{◌==◌, nat_lt}
@@ -35,7 +35,7 @@ outcome s t AtEmptyLink = if s == t then Answer None (generation_of s) else Agai
 abbrev pub last_load : ℕ → WalkEnd → Reading
 last_load s found = Load 0 (λ t. Ends (outcome s t found))
 
--- where a walk goes on from an item
+-- the link by which a walk goes on from an item
 abbrev pub after_item : ℕ → ℕ → Item → (ℕ → Reading) → Ordering → Reading
 after_item s i x go Less = Load (left_word (stable_copy_of s) i) go
 after_item s i x go Equal = last_load s (AtItem x)
@@ -69,7 +69,7 @@ attempt_after o n k s = Load (root_word (stable_copy_of s)) (walk o n k s n)
 abbrev pub attempt : {K : Type 0} → Order K → ℕ → K → Reading
 attempt o n k = Load 0 (attempt_after o n k)
 
--- what is left after these values were loaded; none where there are values after the end
+-- what is left after these values were loaded; none if there are values after the end
 abbrev pub rest_after : Reading → List ℕ → Option Reading
 rest_after r [] = Some r
 rest_after (Load w go) (x ∷ v) = rest_after (go x) v
@@ -79,7 +79,7 @@ rest_after (Ends out) (x ∷ v) = None
 abbrev pub IsAttempt : {K : Type 0} → Order K → ℕ → K → List ℕ → Outcome → Type 0
 IsAttempt o n k v out = rest_after (attempt o n k) v ≡ Some (Ends out)
 
--- each of the values that were loaded stands in its word
+-- each of the values that were loaded is in its word
 abbrev pub Stand : List ℕ → Reading → List ℕ → Type 0
 Stand m r [] = Unit {0}
 Stand m (Load w go) (x ∷ v) = (at m w ≡ x) × Stand m (go x) v

@@ -15,7 +15,7 @@ use Rattle.table_updates.specs.Updates.{with_items}
 use Rattle.latch_core.specs.Plans.{update_stores}
 use Rattle.latch_core.specs.FreeNodes.{AreAllNodes}
 
--- items, each with the node that it goes into; the stores of their words; and that these stand
+-- items, each with the node that it goes into; the stores of their words; and that these are
 abbrev pub PlacedItems : Type 0
 PlacedItems = List (ℕ × Item)
 
@@ -26,7 +26,7 @@ stores_of_placed (p ∷ rest) = item_stores p.0 p.1 ++ stores_of_placed rest
 abbrev pub AreInPlace : List ℕ → PlacedItems → Type 0
 AreInPlace m placed = AllByRecursion (λ p. item_at m p.0 ≡ p.1) placed
 
--- where the words of new items stand, these links lead a copy from the old picture to the new
+-- once the words of new items are stored, these links lead a copy from the old picture to the new
 pub record RelinksCopy (old new : Picture) (placed : PlacedItems) (links : List Store)
     : Type 0 where
   pub capacity : new.capacity ≡ old.capacity
@@ -41,8 +41,8 @@ pub record RelinksBoth (old new : Picture) (placed : PlacedItems) (links : List 
   pub zero : RelinksCopy old new placed links
   pub one : RelinksCopy (second_picture old) (second_picture new) placed (mirror_stores links)
 
--- These stores change both copies in the same way, from a sequence on: they place the items, flip,
--- lead copy 0 by links, flip again, and lead copy 1 by the same links, mirrored.
+-- These stores change both copies alike, from a sequence on: they place the items, flip,
+-- lead copy 0 by links, flip again, and lead copy 1 by these links, mirrored.
 pub record PlansBoth (old new : Picture) (seq : ℕ) (placed : PlacedItems) (stores : List Store)
     : Type 0 where
   pub links : List Store
@@ -50,7 +50,7 @@ pub record PlansBoth (old new : Picture) (seq : ℕ) (placed : PlacedItems) (sto
       ≡ update_stores seq (stores_of_placed placed) links (mirror_stores links)
   pub both : RelinksBoth old new placed links
 
--- the items of these first words are erased by these links, and their nodes stand after those that
+-- the items of these first words are erased by these links, and their nodes come after those that
 -- were free
 pub record ErasesWords (old new : Picture) (erase : List ℕ) (links : List Store)
     (free free' : List ℕ) : Type 0 where

@@ -28,7 +28,7 @@ key_of_core c = c.key
 abbrev pub walk_from : {K : Type 0} → Order K → K → Progress → ℕ → Reading
 walk_from o k s = walk o s.capacity k s.first s.visits_left
 
--- what is left of a key's attempt that stands at a spot, by the place whose value it waits for
+-- what is left of a key's attempt at a spot, by the place whose value it waits for
 abbrev pub rest_of_attempt : {K : Type 0} → Order K → K → Progress → Awaited → Reading
 rest_of_attempt o k s First = attempt o s.capacity k
 rest_of_attempt o k s Root = attempt_after o s.capacity k s.first
@@ -99,7 +99,7 @@ abbrev pub StartsAgain : {O K : Type 0} → Order K → Taken O K → Type 0
 StartsAgain o (Retrying c) = rest_of_core o c ≡ attempt o (capacity_of_core c) (key_of_core c)
 StartsAgain o _ = Unit {0}
 
--- a core that is handed back looks the same key up among as many nodes
+-- a core that is handed back looks its key up among as many nodes
 abbrev pub IsSameLookup : {O K : Type 0} → ReaderCore O K → Taken O K → Type 0
 IsSameLookup old (Going c) =
     (capacity_of_core c ≡ capacity_of_core old) × (key_of_core c ≡ key_of_core old)

@@ -1,4 +1,4 @@
--- The nodes of a memory, shared out between the free ones and those of the trees.
+-- The nodes of a memory, shared out between the free ones and the ones of the trees.
 use Rattle.std.specs.Prelude.{◌≡◌, ℕ, ◌<◌, List, length, All, nat_eq}
 use Rattle.std.specs.List.{IsDistinct}
 

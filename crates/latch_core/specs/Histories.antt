@@ -7,7 +7,7 @@ use Rattle.table_updates.specs.declared.updates.Update.{Update}
 use Rattle.table_updates.specs.Updates.{replay}
 use Rattle.latch_core.specs.Sequences.{generation_of}
 
--- the table at a generation, where the opening sequence is start
+-- the table at a generation, if the opening sequence is start
 abbrev pub table_at : {K : Type 0} → Order K → ℕ → List Update → ℕ → List Item
 table_at o start us g = replay o [] (take (g - generation_of start) us)
 

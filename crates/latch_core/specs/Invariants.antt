@@ -12,7 +12,7 @@ use Rattle.latch_core.specs.Attempts.{Reading, Stand}
 use Rattle.latch_core.specs.Latches.{PendingUpdate, Latch}
 
 -- a reader's attempt: its first number is not above the sequence, and while it is the sequence,
--- each value that was loaded still stands in its word
+-- each value that was loaded still is in its word
 abbrev pub IsStanding : List ℕ → Reading → List ℕ → Type 0
 IsStanding m r [] = Unit {0}
 IsStanding m r (s ∷ v) = (s ≤ at m 0) × (s ≡ at m 0 → Stand m r (s ∷ v))

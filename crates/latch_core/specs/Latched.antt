@@ -19,13 +19,13 @@ loads_of (Ends out) (x ∷ v) = []
 abbrev pub IsKept : ℕ → List ℕ → ℕ → Type 0
 IsKept n m w = (w ≡ 0) ⊎ InUse m n (stable_copy_of (at m 0)) w
 
--- each load still stands in its word, which is kept
+-- each load still is in its word, which is kept
 abbrev pub StandAll : ℕ → List ℕ → List (ℕ × ℕ) → Type 0
 StandAll n m [] = Unit {0}
 StandAll n m (l ∷ ls) = IsKept n m l.0 × (at m l.0 ≡ l.1) × StandAll n m ls
 
 -- the loads of an attempt: its first number is not above the sequence, and while it is the
--- sequence, all of them stand
+-- sequence, all of them still hold
 abbrev pub IsSteady : ℕ → List ℕ → List (ℕ × ℕ) → Type 0
 IsSteady n m [] = Unit {0}
 IsSteady n m (l ∷ ls) = (l.1 ≤ at m 0) × (l.1 ≡ at m 0 → StandAll n m (l ∷ ls))

@@ -29,7 +29,7 @@ pub record Latch : Type 0 where
 abbrev pub BothHold : List ℕ → ℕ → List Item → Type 0
 BothHold m n table = HoldsTable m n 0 table × HoldsTable m n 1 table
 
--- a store that no reader of the stable copy can see; an item word only where the node was free at
+-- a store that no reader of the stable copy can see; an item word only if the node was free at
 -- the beginning and is free
 pub record IsHidden (n : ℕ) (m : List ℕ) (began : List ℕ) (w : ℕ) : Type 0 where
   pub in_range : w < length m

@@ -11,7 +11,7 @@ pub mod Latches
 pub mod Invariants
 -- lists of stores that the writer plans, and when they carry an update out
 pub mod Plans
--- the nodes of a memory, shared out between the free ones and those of the trees
+-- the nodes of a memory, shared out between the free ones and the ones of the trees
 pub mod FreeNodes
 -- several changes of both copies, planned one after another
 pub mod Changes

@@ -26,7 +26,7 @@ pub record IsReady {S : Type 0} (can : S → ℕ → Type 0) (gives : S → ℕ 
       → 0 < w → can m w
   pub ends : (v : List ℕ) (m : S) (r' : Reading) → Leads gives s r v m r' → can_end m
 
--- so many loads led from here to there, and leave so much of the reading; one more was made before
+-- `count` loads led from here to there, and leave this of the reading; one more was made before
 pub record HasLoaded {S : Type 0} (gives : S → ℕ → ℕ → S → Type 0) (s : S) (r : Reading) (m : S)
     (left : Reading) (loads : ℕ) : Type 0 where
   pub values : List ℕ

@@ -27,6 +27,6 @@ plan_code =
     (λ p. record { stores_left = p.0; room = p.1 })
     (λ _. refl)
 
--- of the stores of an update so many were made, and a list has this room after them
+-- the first `made` stores of an update were made, and a list has this room after them
 abbrev pub plan_view : List Store → ℕ → ℕ → PlanView
 plan_view stores made room = record { stores_left = drop made stores; room = room }

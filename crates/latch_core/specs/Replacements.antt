@@ -11,7 +11,7 @@ use Rattle.table_updates.specs.declared.updates.Update.TheVariants.{Batch}
 use Rattle.table_updates.specs.Updates.{refusal_for}
 use Rattle.latch_core.specs.declared.replacements.Difference.{Difference}
 
--- two items have the same words
+-- two items have equal words
 abbrev pub is_same : Item → Item → Bool
 is_same x y = x.a == y.a && x.b == y.b && x.tag == y.tag
 
@@ -20,7 +20,7 @@ abbrev pub not_among : List Item → List Item → List Item
 not_among others list = filter (λ x. not (list_any (λ y. is_same x y) others)) list
 
 -- the update by which a table comes to have these items: it erases the items of the table that are
--- not among them, and inserts those of them that are not in the table
+-- not among them, and inserts the ones of them that are not in the table
 abbrev pub replacement : List Item → List Item → Update
 replacement table items =
     Batch (map (λ x. x.a) (not_among items table)) (not_among table items)
@@ -30,7 +30,7 @@ abbrev pub is_rising : {K : Type 0} → Order K → List Item → Bool
 is_rising o [] = true
 is_rising o (x ∷ xs) = list_all (λ y. o.less x y) xs && is_rising o xs
 
--- why a table is not to have these items, or none: where no update is pending, that they do not
+-- why a table is not to have these items, or none: if no update is pending, that they do not
 -- rise; and else what is tested of the update
 abbrev pub replacing_refusal : {K : Type 0} → Order K → ℕ → ℕ → Bool → List Item → ℕ → List Item
     → Option Refusal
@@ -39,7 +39,7 @@ replacing_refusal o n limit busy table seq items =
     then Some Overlap
     else refusal_for o n limit busy table seq (replacement table items)
 
--- the update that is found, where these items of the table are still to be told
+-- the update that is found, while these items of the table are still to be given
 abbrev pub update_found : Difference → List Item → List Item → Update
 update_found d items table =
     let rest = drop d.place items in

@@ -7,7 +7,7 @@ use Rattle.latch_core.specs.Attempts.{rest_after}
 use Rattle.latch_core.specs.declared.attempts.Attempted.{Attempted}
 use Rattle.latch_core.specs.declared.attempts.Attempted.TheVariants.{Answered, Failed}
 
--- what it comes to in words that stand still, where each load gives what its word holds
+-- what it comes to in words that nobody changes: each load gives what its word holds
 abbrev pub outcome_in : List ℕ → Reading → Outcome
 outcome_in m (Load w go) = outcome_in m (go (at m w))
 outcome_in m (Ends out) = out

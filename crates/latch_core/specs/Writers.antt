@@ -125,7 +125,7 @@ abbrev pub writer_after_step : WriterView → Store → WriterView
 writer_after_step w s =
     record w { sequence = sequence_after w.sequence s; stores_left = drop 1 w.stores_left }
 
--- Both copies are in step: they list the same nodes with the same items, and these and the free
+-- Both copies are in step: they list equal nodes with equal items, and these and the free
 -- nodes are all that there are. The stores that are left lie in the memory.
 pub record AreInStep (n : ℕ) (zero one : Picture) (free : List ℕ) (left : List Store) : Type 0 where
   pub zero_capacity : zero.capacity ≡ n

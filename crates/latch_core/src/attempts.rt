@@ -1,6 +1,6 @@
 //! A whole attempt in locals.
 //!
-//! [`ReaderCore`](crate::ReaderCore) stops at each load, since each may be a step of its own. Where
+//! [`ReaderCore`](crate::ReaderCore) stops at each load, since each may be a step of its own. If
 //! nothing is between two loads a reader goes through its attempt in one function, which keeps the
 //! copy, the link and the visits left in locals:
 //!
@@ -60,12 +60,12 @@ pub trait Loads {
 
     ghost load_gives: { Self → Self.Seat → ℕ → ℕ → Self.Seat → Type 0 };
 
-    /// The same of the second load of the sequence.
+    /// What the second load of the sequence needs, and what it gives.
     ghost can_end: { Self → Self.Seat → Type 0 };
 
     ghost end_gives: { Self → Self.Seat → ℕ → Self.Seat → Type 0 };
 
-    /// Loads the word that lies so far behind `word`.
+    /// Loads the word that lies `skipped` words after `word`.
     fn load(&self, seat: &mut Self::Seat, word: usize, skipped: usize) -> u64
         requires fits { word + skipped < 2 ^ 64 }
         requires within { word + skipped < size self.now }
@@ -79,7 +79,7 @@ pub trait Loads {
         ensures { end_gives self.now seat.old result seat.new };
 }
 
-/// How many words behind the left link stands the link that a walk follows from an item that the
+/// How many words after the left link lies the link that a walk follows from an item that the
 /// key is not in. It is a number, since the processor would mispredict a branch at every other node.
 #[inline(always)]
 fn words_aside(compared: Ordering) -> usize
@@ -173,7 +173,7 @@ pub fn attempt_from<O: TreeOrder, W: Loads>(
     (came_to, loads + 1)
 }
 
-/// Words that stand still. Nobody learns by a load.
+/// Words that nobody changes. Nobody learns by a load.
 #[derive(Drop)]
 struct Still<'a> {
     words: &'a [u64],
@@ -203,7 +203,7 @@ impl Loads for Still<'_> {
     }
 }
 
-/// Makes an attempt in words that stand still, and counts its loads. The second load of the
+/// Makes an attempt in words that nobody changes, and counts its loads. The second load of the
 /// sequence is counted and not made.
 pub fn attempt_in<O: TreeOrder>(words: &[u64], l: Layout, key: O::Key) -> (Attempted, u32)
     requires { length words.now ≡ words_for (capacity_of l) }

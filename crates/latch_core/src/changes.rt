@@ -1,7 +1,7 @@
 //! Several changes of one update, planned one after another.
 
 ghost use Rattle.std.specs.Prelude.{◌≡◌, ◌+◌, ◌*◌, ◌<◌, ◌≤◌, ◌++◌, [], false, List, length, take};
-ghost use Rattle.std.specs.Prelude.{drop, vec_len, vec_capacity};
+ghost use Rattle.std.specs.Prelude.{vec_len, vec_capacity};
 ghost use Rattle.order_laws.specs.Orders.{Order};
 ghost use Rattle.word_layout.specs.declared.stores.Store.{Store};
 ghost use Rattle.word_layout.specs.Words.{listed};
@@ -12,10 +12,10 @@ ghost use Rattle.latch_core.specs.FreeNodes.{AreAllNodes};
 ghost use Rattle.latch_core.specs.Changes.{PlacedItems, stores_of_placed, ErasesWords};
 ghost use Rattle.latch_core.specs.Changes.{InsertsItems};
 
-use crate::plans::{ITEM_STORES, Plan};
+use crate::plans::Plan;
 use order_laws::{Item, TreeOrder};
-use rb_words::{STORES, Shape};
-use word_layout::{Store, append};
+use rb_words::{STORES, Shape, item_stores};
+use word_layout::Store;
 
 /// Plans to erase the items of these first words, and puts their nodes after the free ones.
 pub fn plan_erases<O: TreeOrder>(
@@ -44,14 +44,13 @@ pub fn plan_erases<O: TreeOrder>(
 }
 
 /// Plans to insert these items in as many of the first `fresh` free nodes: the stores of their
-/// words go into the plan, those of links into a list of their own.
+/// words go into the plan, the ones of links into a list of their own.
 ///
-/// Nodes that stand after the fresh ones are not taken.
+/// No node after the fresh ones is taken.
 pub fn plan_inserts<O: TreeOrder>(
     shape: &mut Shape<O>,
     free: &mut Vec<u32>,
     fresh: usize,
-    planned: &mut Vec<Store>,
     plan: &mut Plan,
     links: &mut Vec<Store>,
     insert: &[Item],
@@ -60,7 +59,6 @@ pub fn plan_inserts<O: TreeOrder>(
     requires apart { some_overlap O.order insert.now ≡ false }
     requires off { some_meet O.order insert.now shape.old.table ≡ false }
     requires shape_room { length insert.now ≤ shape.old.room }
-    requires one_plan { STORES ≤ vec_capacity planned.old }
     requires plan_room { length insert.now * 3 ≤ plan.old.room }
     requires links_room { vec_len links.old + length insert.now * STORES ≤ vec_capacity links.old }
     requires enough { length insert.now ≤ fresh }
@@ -80,25 +78,8 @@ pub fn plan_inserts<O: TreeOrder>(
     ensures free_capacity { vec_capacity free.new ≡ vec_capacity free.old }
 {
     for (taken, item) in insert.iter().enumerate() {
-        planned.clear();
         let node = free.swap_remove(fresh - 1 - taken);
-        shape.plan_insert(planned, node, *item);
-        separate(planned, plan, links);
+        plan.add(&item_stores(node, *item));
+        shape.plan_links(links, node, *item);
     }
-}
-
-// Parts what was planned for an insert: the stores of the item's words go into the plan, those of
-// links into their list.
-fn separate(planned: &[Store], plan: &mut Plan, links: &mut Vec<Store>)
-    requires items_first { 3 ≤ length planned.now }
-    requires plan_room { 3 ≤ plan.old.room }
-    requires links_room { vec_len links.old + length planned.now ≤ vec_capacity links.old + 3 }
-    ensures left { plan.new.stores_left ≡ plan.old.stores_left ++ take 3 planned.now }
-    ensures room { plan.new.room + 3 ≡ plan.old.room }
-    ensures items { links.new.items ≡ links.old.items ++ drop 3 planned.now }
-    ensures len { vec_len links.new + 3 ≡ vec_len links.old + length planned.now }
-    ensures capacity { vec_capacity links.new ≡ vec_capacity links.old }
-{
-    plan.add(&planned[..ITEM_STORES]);
-    append(links, &planned[ITEM_STORES..]);
 }

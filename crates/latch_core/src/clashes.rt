@@ -1,6 +1,6 @@
-//! Whether some entries of a batch stand against each other, in few comparisons.
+//! Whether some entries of a batch clash, in few comparisons.
 //!
-//! Entries that clash stand side by side in a sorted copy. Where there is no memory for the copy,
+//! Entries that clash are side by side in a sorted copy. If there is no memory for the copy,
 //! and in an order in which items that clash need not be neighbours, each is compared with each.
 
 ghost use Rattle.std.specs.Prelude.{◌≡◌, false, IsTrue, IfOk};
@@ -13,7 +13,7 @@ use crate::plain;
 use order_laws::{Item, TreeOrder};
 use std::alloc::{AllocError, Global};
 
-/// The same numbers in order.
+/// The numbers of a list in order.
 pub fn in_order(alloc: Global, words: &[u64]) -> Result<Vec<u64>, AllocError>
     ensures permutation { IfOk result (λ sorted. IsPermutation words.now sorted.items) }
     ensures sorted { IfOk result (λ sorted. IsNonDecreasing sorted.items) }
@@ -29,7 +29,7 @@ fn copied(alloc: Global, words: &[u64]) -> Result<Vec<u64>, AllocError>
     words.to_vec(alloc)
 }
 
-/// Whether some number stands twice in the list, of which only neighbours are compared where it is
+/// Whether some number is in the list twice. Only neighbours are compared if the list is
 /// `rising`.
 pub fn some_twice(words: &[u64], rising: bool) -> bool
     requires { IsTrue rising → IsNonDecreasing words.now }
@@ -42,7 +42,7 @@ pub fn some_twice(words: &[u64], rising: bool) -> bool
     }
 }
 
-// Whether a sorted list has two equal neighbours, as it has where some number stands in it twice.
+// Whether a sorted list has two equal neighbours, as it has if some number is in it twice.
 fn has_equal_neighbours(words: &[u64]) -> bool
     requires sorted { IsNonDecreasing words.now }
     ensures { result ≡ some_twice words.now }
@@ -69,7 +69,7 @@ pub fn some_overlap<O: TreeOrder>(alloc: Global, items: &[Item]) -> bool
     }
 }
 
-// The same items in the order of their first words.
+// The items of a list in the order of their first words.
 fn by_first_word(alloc: Global, items: &[Item]) -> Result<Vec<Item>, AllocError>
     ensures permutation { IfOk result (λ sorted. IsPermutation items.now sorted.items) }
     ensures sorted { IfOk result (λ sorted. IsNonDecreasingBy (λ (i : Item). i.a) sorted.items) }
@@ -85,7 +85,7 @@ fn copied_items(alloc: Global, items: &[Item]) -> Result<Vec<Item>, AllocError>
     items.to_vec(alloc)
 }
 
-// Whether two neighbours are not apart in a list that is sorted by first words, as they are where
+// Whether two neighbours are not apart in a list that is sorted by first words, as they are if
 // any two items of it are not.
 fn has_overlapping_neighbours<O: TreeOrder>(items: &[Item]) -> bool
     requires in_line { IsInLine O.order }

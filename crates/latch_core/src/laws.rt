@@ -23,7 +23,7 @@ ghost use Rattle.latch_core.specs.Replacements.{replacement, is_rising};
 
 use order_laws::TreeOrder;
 
-/// An attempt whose values all stand in one memory gives what the key finds in the table of the
+/// An attempt whose values all are in one memory gives what the key finds in the table of the
 /// stable copy, with the generation of the sequence, and takes at most four loads for each item and
 /// three.
 pub fn attempt_answers<O: TreeOrder>()
@@ -35,7 +35,7 @@ pub fn attempt_answers<O: TreeOrder>()
         × (length values ≤ 4 * length table + 3) }
 {}
 
-/// An attempt whose values so far all stand in one memory, and that is not at its end, has taken
+/// An attempt whose values so far all are in one memory, and that is not at its end, has taken
 /// fewer than that.
 pub fn attempt_is_short<O: TreeOrder>()
     ensures { (m : List ℕ) (n : ℕ) (k : O.Key) (table : List Item) (tree : Nodes)
@@ -46,7 +46,7 @@ pub fn attempt_is_short<O: TreeOrder>()
         → length values < 4 * length table + 3 }
 {}
 
-/// Where the stable copy's tree is red-black, an attempt takes at most four loads for each node on
+/// If the stable copy's tree is red-black, an attempt takes at most four loads for each node on
 /// a way down and three, and no way down is longer than twice the binary logarithm of the number of
 /// items and one.
 pub fn attempt_is_shallow<O: TreeOrder>()
@@ -73,7 +73,7 @@ pub fn attempt_ends<O: TreeOrder>()
         → length values ≤ 4 * n + 2 }
 {}
 
-/// While the sequence is what an attempt read first, each value that it loaded still stands in its
+/// While the sequence is what an attempt read first, each value that it loaded still is in its
 /// word: each step that the writer may make keeps this, and so does each load of the word that the
 /// attempt asks for.
 pub fn loaded_values_stand<O: TreeOrder>()
@@ -112,7 +112,7 @@ pub fn latch_stays_sound<O: TreeOrder>()
         → IsSound O.order n' start us (widened_latch n n' l) }
 {}
 
-/// A table whose items are replaced by a list that rises is that list, where nothing stands against
+/// A table whose items are replaced by a list that rises is that list, if nothing is against
 /// the update. Replaced by itself, it is left alone: the update is the batch of no entries.
 pub fn a_replacement_leaves_its_items<O: TreeOrder>()
     ensures table { (n limit seq : ℕ) (table items : List Item)

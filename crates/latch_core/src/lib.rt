@@ -4,7 +4,7 @@
 //! half of a change. A sequence lock has readers try again until the writer is done; but a reader
 //! in an interrupt that stopped the writer would try for ever. A *latch*
 //! (`raw_write_seqcount_latch` of include/linux/seqlock.h, include/linux/rbtree_latch.h) keeps two
-//! copies of the tree behind one counter, the *sequence* in word 0, whose lowest bit names the
+//! copies of the tree under one counter, the *sequence* in word 0, whose lowest bit names the
 //! *stable copy*: the one that readers walk and that the writer leaves alone.
 //!
 //! ```text
@@ -17,17 +17,17 @@
 //! ```
 //!
 //! **Two equal readings are enough.** An attempt loads the sequence, walks the stable copy that it
-//! names and loads the sequence again. The sequence only rises, so where both are equal no flip
+//! names and loads the sequence again. The sequence only rises, so if both are equal no flip
 //! came between, and the writer has stored nothing but links of the other copy and words of nodes
-//! that no link led to. So each value that the attempt loaded still stands in its word at its last
+//! that no link led to. So each value that the attempt loaded still is in its word at its last
 //! load: the attempt is one in a memory that stood still, and its stable copy holds the table that
-//! the sequence names. Where they differ a new attempt begins.
+//! the sequence names. If they differ a new attempt begins.
 //!
 //! **An item's words serve both copies.** A node has three words for its item and two links for
 //! each copy. The item's words are stored once, while no link of either copy leads to the node. An
 //! erase takes the node out of copy 0 and then out of copy 1 and leaves its words as they are. From
 //! then on the node is free: the next update, which begins after the last store of this one, may
-//! store another item there. A reader that still stands on the node began before the last flip, so
+//! store another item there. A reader that still is at the node began before the last flip, so
 //! its second reading differs and what it loaded is thrown away.
 //!
 //! **A walk over torn words ends.** Between its two readings a reader may load words of different

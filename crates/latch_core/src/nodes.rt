@@ -19,7 +19,7 @@ pub fn all_nodes(alloc: Global, capacity: u32) -> Result<Vec<u32>, AllocError>
 }
 
 /// Puts the nodes from `capacity` up to `more` after the free ones, in a list that then has room
-/// for all nodes. With the used ones they are all nodes, where they were before.
+/// for all nodes. With the used ones they are all nodes, if they were before.
 pub fn add_nodes(free: &mut Vec<u32>, capacity: u32, more: u32) -> Result<(), AllocError>
     requires more { capacity ≤ more }
     requires fits { vec_len free.old ≤ capacity }

@@ -101,7 +101,7 @@ fn batch_test<O: TreeOrder>(
     }
 }
 
-// Whether some first word is in no item of the table or stands twice.
+// Whether some first word is in no item of the table or is named twice.
 fn cannot_erase(table: &[Item], erase: &[u64]) -> bool
     ensures { result ≡ cannot_erase erase.now table.now }
 {
@@ -129,7 +129,7 @@ fn some_missing(table: &[Item], words: &[u64]) -> bool
     words.iter().any(|a| !has(table, *a))
 }
 
-/// Whether some number stands twice in the list.
+/// Whether some number is in the list twice.
 pub fn some_twice(words: &[u64]) -> bool
     ensures { result ≡ some_twice words.now }
 {

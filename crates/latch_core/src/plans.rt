@@ -90,7 +90,7 @@ impl Plan {
         store
     }
 
-    /// Makes room for the stores of an update, where none are left.
+    /// Makes room for the stores of an update, when none are left.
     pub fn reserve(&mut self, count: usize) -> Result<(), AllocError>
         requires { self.old.stores_left ≡ [] }
         ensures left { self.new.stores_left ≡ [] }
@@ -101,7 +101,7 @@ impl Plan {
         self.stores.reserve(count)
     }
 
-    /// Makes room for an update of one item, where none are left: here and in the picture of
+    /// Makes room for an update of one item, when none are left: here and in the picture of
     /// copy 0.
     #[inline(always)]
     pub fn reserve_with<O: TreeOrder>(&mut self, shape: &mut Shape<O>) -> Result<(), Refusal>
@@ -197,7 +197,7 @@ impl Plan {
     }
 
     /// Takes in all that follows the stores of items: the first flip, the links of copy 0, the
-    /// second flip, the same links in copy 1.
+    /// second flip, these links in copy 1.
     #[inline(always)]
     pub fn close(&mut self, l: Layout, sequence: u64, links: &[Store])
         requires links_only { AreLinkStores (capacity_of l) 0 links.now }
@@ -251,7 +251,7 @@ fn item_and_flip(stores: &mut Vec<Store>, node: u32, item: Item, sequence: u64)
 }
 
 /// Appends the store that makes this number the sequence, and for each store of copy 0 from the
-/// place `from` on that of copy 1.
+/// place `from` on the one of copy 1.
 #[inline(always)]
 fn flip_and_mirror(l: Layout, stores: &mut Vec<Store>, sequence: u64, from: usize)
     requires place { from ≤ vec_len stores.old }

@@ -1,4 +1,4 @@
-//! Where a reader stands in its attempt.
+//! How far a reader is in its attempt.
 
 ghost use Rattle.std.specs.Prelude.{◌<◌, ◌≤◌};
 ghost use Rattle.word_layout.specs.Limits.{most_nodes};
@@ -20,11 +20,11 @@ pub enum Awaited {
     Left,
     /// The node's right link.
     Right,
-    /// The second reading of the sequence, where the key is in the node's item.
+    /// The second reading of the sequence, after a node whose item has the key.
     Found,
-    /// The second reading of the sequence, where the walk ended at link 0.
+    /// The second reading of the sequence, after a walk that ended at link 0.
     Missing,
-    /// The second reading of the sequence, where the walk came to a link that no tree has.
+    /// The second reading of the sequence, after a walk that came to a link that no tree has.
     Stuck,
 }
 

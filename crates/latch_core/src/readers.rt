@@ -11,7 +11,7 @@ use order_laws::{Item, TreeOrder};
 use std::cmp::Ordering;
 use word_layout::{Layout, places};
 
-/// A pending lookup: its key, and where it stands in its attempt.
+/// A pending lookup: its key, and how far it is in its attempt.
 ///
 /// An attempt reads the sequence, walks the stable copy and reads the sequence again
 /// (`read_seqcount_latch` and `read_seqcount_latch_retry` of include/linux/seqlock.h, `__lt_find`
@@ -82,7 +82,7 @@ impl<O: TreeOrder> ReaderCore<O> {
         }
     }
 
-    /// Goes where a link leads.
+    /// Follows a link.
     fn follow(mut self, link: u64) -> Self
         ensures capacity { capacity_of_core result ≡ capacity_of_core self }
         ensures key { key_of_core result ≡ key_of_core self }

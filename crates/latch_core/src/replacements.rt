@@ -34,7 +34,7 @@ pub struct Difference {
 }
 
 impl Difference {
-    /// Of a table of which nothing was told. Takes no memory.
+    /// The difference from a table before any of its items is given. Takes no memory.
     pub fn new(alloc: Global) -> Self
         ensures { (table items : List Item) → update_found result items table
             ≡ replacement table items }
@@ -46,7 +46,7 @@ impl Difference {
         }
     }
 
-    /// The next item of the table, where the list is this one.
+    /// Takes the next item of the table, for this list.
     pub fn tell<O: TreeOrder>(&mut self, items: &[Item], item: Item) -> Result<(), AllocError>
         requires { is_rising O.order items.now ≡ true }
         ensures { OnOk result (Tells O.order items.now self.old (item ∷ []) self.new) }
@@ -74,7 +74,7 @@ impl Difference {
         Ok(())
     }
 
-    /// The update, where the whole table was told.
+    /// The update, after the whole table was given.
     pub fn into_update(self, items: &[Item]) -> Result<Update, AllocError>
         ensures { IfOk result (λ u. u ≡ update_found self items.now []) }
     {

@@ -40,7 +40,7 @@ use word_layout::{Layout, Store, TreeCopy};
 /// The writer's side of a latch (`latch_tree_insert`, `latch_tree_erase` and
 /// `raw_write_seqcount_latch` of include/linux/rbtree_latch.h and include/linux/seqlock.h).
 ///
-/// An update flips the sequence, changes copy 0, flips again and changes copy 1 in the same way, so
+/// An update flips the sequence, changes copy 0, flips again and changes copy 1 likewise, so
 /// one picture serves both copies. All stores are planned when the update begins, and all memory is
 /// taken then; after that [`next`](WriterCore::next) tells one store and [`did`](WriterCore::did)
 /// is told that it was made. One update is pending at a time.
@@ -50,7 +50,6 @@ pub struct WriterCore<O: TreeOrder> {
     sequence: u64,
     shape: Shape<O>,
     free: Vec<u32>,
-    planned: Vec<Store>,
     plan: Plan,
 }
 
@@ -85,7 +84,7 @@ impl<O: TreeOrder> Model for WriterCore<O> {
 impl<O: TreeOrder> WriterCore<O> {
     /// The writer of an empty table, at an opening sequence.
     ///
-    /// Refused by [`Refusal::BadCapacity`] where the sequence is odd or above the layout's limit,
+    /// Refused by [`Refusal::BadCapacity`] if the sequence is odd or above the layout's limit,
     /// and else by [`Refusal::OutOfMemory`].
     pub fn open(alloc: Global, l: Layout, start: u64) -> Result<Self, Refusal>
         ensures opened { IfOk result (λ w. w ≡ opening_writer l start) }
@@ -102,7 +101,6 @@ impl<O: TreeOrder> WriterCore<O> {
             sequence: start,
             shape: Shape::new(alloc, l, TreeCopy::Zero),
             free: all_nodes(alloc, l.capacity())?,
-            planned: Vec::new(alloc),
             plan: Plan::new(alloc),
         })
     }
@@ -112,7 +110,7 @@ impl<O: TreeOrder> WriterCore<O> {
     ///
     /// The list of free nodes gets its memory here. Whoever keeps the words puts seven words of 0
     /// after them for each new node. Refused by [`Refusal::UpdateInHand`], then by
-    /// [`Refusal::BadCapacity`] where the layout has fewer nodes or a smaller greatest sequence,
+    /// [`Refusal::BadCapacity`] if the layout has fewer nodes or a smaller greatest sequence,
     /// and last by [`Refusal::OutOfMemory`]; a refusal changes nothing.
     pub fn widen(&mut self, l: Layout) -> Result<(), Refusal>
         ensures accepted { OnOk result (why_not_widened self.old l ≡ None) }
@@ -130,7 +128,7 @@ impl<O: TreeOrder> WriterCore<O> {
         Ok(())
     }
 
-    /// Why [`widen`](WriterCore::widen) would refuse a layout before it asks for memory; none where
+    /// Why [`widen`](WriterCore::widen) would refuse a layout before it asks for memory; none if
     /// it would ask.
     pub fn why_not_widened(&self, l: Layout) -> Option<Refusal>
         ensures { result ≡ why_not_widened self.now l }
@@ -163,7 +161,7 @@ impl<O: TreeOrder> WriterCore<O> {
         self.begin_from(&u)
     }
 
-    /// The same for a caller that keeps its update.
+    /// Begins an update, for a caller that keeps it.
     pub fn begin_from(&mut self, u: &Update) -> Result<u64, Refusal>
         ensures accepted { IfOk result (λ left. why_refused O.order self.old u.now ≡ None) }
         ensures begun { IfOk result (λ left. (left ≡ length self.new.stores_left)
@@ -267,7 +265,7 @@ impl<O: TreeOrder> WriterCore<O> {
 
     /// Why a batch is not to be carried out, if it is not.
     ///
-    /// Its first words are tested in order, and as they came where there is no memory for a copy.
+    /// Its first words are tested in order, and as they came if there is no memory for a copy.
     fn batch_test(&self, erase: &[u64], insert: &[Item]) -> Option<Refusal>
         ensures { result ≡ failed_test O.order self.now.capacity self.now.table
             (Update.Batch erase.now insert.now) }
@@ -278,7 +276,7 @@ impl<O: TreeOrder> WriterCore<O> {
         }
     }
 
-    /// The same, where the first words may be `rising`.
+    /// Why a batch is refused whose first words may be `rising`, if it is.
     fn batch_test_of(&self, erase: &[u64], rising: bool, insert: &[Item]) -> Option<Refusal>
         requires { IsTrue rising → IsNonDecreasing erase.now }
         ensures { result ≡ failed_test O.order self.now.capacity self.now.table
@@ -297,7 +295,7 @@ impl<O: TreeOrder> WriterCore<O> {
         }
     }
 
-    /// Whether some first word is in no item of the table or stands twice.
+    /// Whether some first word is in no item of the table or is named twice.
     fn cannot_erase(&self, erase: &[u64], rising: bool) -> bool
         requires { IsTrue rising → IsNonDecreasing erase.now }
         ensures { result ≡ cannot_erase erase.now self.now.table }
@@ -404,7 +402,7 @@ impl<O: TreeOrder> WriterCore<O> {
         ensures unchanged { OnErr result (self.new ≡ self.old) }
     {
         let size = erase.len() + insert.len();
-        let mut links = reserve_all(&mut self.shape, &mut self.planned, &mut self.plan, size)?;
+        let mut links = reserve_all(&mut self.shape, &mut self.plan, size)?;
         let fresh = self.free.len();
         self.shape.stays_sound();
         plan_erases(&mut self.shape, &mut self.free, &mut links, erase);
@@ -412,7 +410,6 @@ impl<O: TreeOrder> WriterCore<O> {
             &mut self.shape,
             &mut self.free,
             fresh,
-            &mut self.planned,
             &mut self.plan,
             &mut links,
             insert,
@@ -422,7 +419,7 @@ impl<O: TreeOrder> WriterCore<O> {
         Ok(())
     }
 
-    /// The store to be made next; none where no update is pending.
+    /// The store to be made next; none if no update is pending.
     ///
     /// Its word lies in the memory. On any words that the core pictures it is a step that a writer
     /// may make.
@@ -496,7 +493,7 @@ impl<O: TreeOrder> WriterCore<O> {
         self.plan.stores_left()
     }
 
-    /// How many stores are left until the pending update is at its end; 0 where none is pending.
+    /// How many stores are left until the pending update is at its end; 0 if none is pending.
     pub fn remaining(&self) -> u64
         ensures count { result ≡ length self.now.stores_left }
         ensures left { (l : Latch) (h : PendingUpdate) → RepresentsLatch self.now l
@@ -540,7 +537,7 @@ impl<O: TreeOrder> WriterCore<O> {
         self.len() == 0
     }
 
-    /// What the table differs in from other items, of which nothing was told yet: whoever keeps the
+    /// What the table differs in from other items, before any is given: whoever keeps the
     /// words tells it the items. Takes no memory.
     pub fn difference(&self) -> Difference
         ensures { (table items : List Item) → update_found result items table
@@ -558,11 +555,10 @@ impl<O: TreeOrder> WriterCore<O> {
     }
 }
 
-/// Makes room for an update of so many items: in the picture, in the list of what is planned for
-/// one of them, and in the plan. Hands out an empty list with room for all their stores of links.
+/// Makes room for an update of `size` items, in the picture and in the plan. Hands out an empty
+/// list with room for all their stores of links.
 fn reserve_all<O: TreeOrder>(
     shape: &mut Shape<O>,
-    planned: &mut Vec<Store>,
     plan: &mut Plan,
     size: usize,
 ) -> Result<Vec<Store>, Refusal>
@@ -571,13 +567,11 @@ fn reserve_all<O: TreeOrder>(
     ensures kept { shape.new ≡ record shape.old { room = shape.new.room } }
     ensures plan_kept { plan.new.stores_left ≡ [] }
     ensures room { OnOk result (size ≤ shape.new.room) }
-    ensures list_room { OnOk result (STORES ≤ vec_capacity planned.new) }
     ensures plan_room { OnOk result (2 * (size * STORES) + 2 ≤ plan.new.room) }
     ensures links { IfOk result (λ links. (links.items ≡ []) × (vec_len links ≡ 0)
         × (size * STORES ≤ vec_capacity links)) }
     ensures refusal { IfErr result (λ e. e ≡ Refusal.OutOfMemory) }
 {
-    shape.reserve_in(1, planned)?;
     plan.reserve(2 * (size * STORES) + 2)?;
     shape.reserve(size as u32)
 }

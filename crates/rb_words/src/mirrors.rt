@@ -1,8 +1,8 @@
 //! The second copy's plan, made from the first's.
 //!
 //! Both copies hold their table in trees of one form, so that a writer keeps one
-//! [`Shape`](crate::Shape), of copy 0, and plans a change once. The links of copy 1 stand beside
-//! those of copy 0:
+//! [`Shape`](crate::Shape), of copy 0, and plans a change once. The links of copy 1 lie beside
+//! the ones of copy 0:
 //!
 //! ```text
 //!   word     1      2      ..   3+7i  4+7i  5+7i   6+7i   7+7i   8+7i   9+7i
@@ -22,7 +22,7 @@ ghost use Rattle.rb_words.specs.Mirrors.{AreErasesMirrored, ArePlansByLinksMirro
 use order_laws::TreeOrder;
 use word_layout::{Layout, Store};
 
-/// Appends for each of these stores of copy 0's root and links the store of the same value in copy
+/// Appends for each of these stores of copy 0's root and links the store of its value in copy
 /// 1. Takes no memory.
 pub fn mirrored(l: Layout, links: &[Store], out: &mut Vec<Store>)
     requires first_copy { AreLinkStores (capacity_of l) 0 links.now }
@@ -49,8 +49,8 @@ pub fn mirror_store(link: Store) -> Store
     }
 }
 
-/// What a change is in copy 0, the mirrored change is in copy 1: the same item goes in or out, at
-/// the same place, and the mirrored links lead copy 1 as the links lead copy 0.
+/// What a change is in copy 0, the mirrored change is in copy 1: its item goes in or out, at its
+/// place, and the mirrored links lead copy 1 as the links lead copy 0.
 pub fn a_change_is_mirrored<O: TreeOrder>()
     ensures sound { (p : Picture) → IsPicture O.order p → IsPicture O.order (second_picture p) }
     ensures inserts { (old new : Picture) → AreInsertsMirrored O.order old new }

@@ -1,6 +1,6 @@
 //! A copy as its writer sees it, and the plans of its changes.
 //!
-//! The tree is red-black: colours stand in the writer's nodes alone, so a change of colours stores
+//! The tree is red-black: the writer's nodes alone have colours, so a change of colours stores
 //! nothing.
 
 ghost use Rattle.std.specs.Prelude.{◌≡◌, ◌↔◌, ◌+◌, ◌*◌, ◌<◌, ◌≤◌, ◌++◌, [], true, false, List};
@@ -33,7 +33,7 @@ use std::marker::{Model, PhantomData};
 use word_layout::places::{a_of, b_of, tag_of};
 use word_layout::{Layout, Store, TreeCopy, append};
 
-/// A plan has at most so many stores for each item, whatever the table.
+/// The most stores that a plan has for each item, whatever the table.
 pub const STORES: usize = 16;
 
 /// The writer's private picture of one copy.
@@ -88,8 +88,8 @@ impl<O: TreeOrder> Shape<O> {
         }
     }
 
-    /// Pictures the same items in the same tree, in a memory of the nodes of this layout, which has
-    /// no fewer. Takes no memory.
+    /// Pictures its items in their tree, in a memory of the nodes of this layout, which has no
+    /// fewer. Takes no memory.
     pub fn widen(&mut self, l: Layout)
         requires { self.old.capacity ≤ capacity_of l }
         ensures widened { self.new ≡ record self.old { capacity = capacity_of l } }
@@ -104,7 +104,7 @@ impl<O: TreeOrder> Shape<O> {
     pub fn stays_sound(&self)
         ensures { IsPicture O.order self.now }
     {
-        // A method learns its type's invariant where it reads a field.
+        // A method learns its type's invariant from a field that it reads.
         let _ = &self.layout;
     }
 
@@ -141,9 +141,9 @@ impl<O: TreeOrder> Shape<O> {
         self.meets_with(item, but, false)
     }
 
-    /// The same where the first words that are left out rise: each item that is met costs a search
-    /// by halves among them, so k of them cost O((k + 1) log n + k log k) where items lie in line
-    /// ([`TreeOrder::in_line`]).
+    /// Whether some item, but those with one of the rising first words `but`, is not apart from this
+    /// one. Each item that is met costs a search by halves among `but`, so k of them cost
+    /// O((k + 1) log n + k log k) in an order of items in line ([`TreeOrder::in_line`]).
     pub fn meets_rising(&self, item: &Item, but: &[u64]) -> bool
         requires { IsNonDecreasing but.now }
         ensures { result ≡ meets O.order item.now (without_all but.now self.now.table) }
@@ -151,7 +151,8 @@ impl<O: TreeOrder> Shape<O> {
         self.meets_with(item, but, true)
     }
 
-    // Either.
+    // Whether some item but those that are left out is not apart from this one, by halves if the
+    // first words that are left out rise.
     fn meets_with(&self, item: &Item, but: &[u64], rising: bool) -> bool
         requires { IsTrue rising → IsNonDecreasing but.now }
         ensures { result ≡ meets O.order item.now (without_all but.now self.now.table) }
@@ -211,7 +212,7 @@ impl<O: TreeOrder> Shape<O> {
 
     /// Plans to insert an item in a free node, and pictures the copy with it.
     ///
-    /// Appends the stores of the item's words, and then those of links. Takes no memory. There must
+    /// Appends the stores of the item's words, and then stores of links. Takes no memory. There must
     /// be room for one item and for [`STORES`] stores ([`Shape::reserve`]); the item must be valid
     /// and meet none ([`Shape::meets`]).
     pub fn plan_insert(&mut self, out: &mut Vec<Store>, node: u32, item: Item)
@@ -232,8 +233,9 @@ impl<O: TreeOrder> Shape<O> {
         self.plan_links(out, node, item);
     }
 
-    // Plans the links of an insert alone.
-    fn plan_links(&mut self, out: &mut Vec<Store>, node: u32, item: Item)
+    /// Plans the links of an insert alone, as [`Shape::plan_insert`] does after the stores of the
+    /// item's words. There must be room for one item and for [`STORES`] stores less three.
+    pub fn plan_links(&mut self, out: &mut Vec<Store>, node: u32, item: Item)
         requires room { 0 < self.old.room }
         requires list { vec_len out.old + STORES ≤ vec_capacity out.old + 3 }
         requires in_range { node < self.old.capacity }
@@ -251,45 +253,12 @@ impl<O: TreeOrder> Shape<O> {
         self.count += 1;
     }
 
-    /// Plans to insert an item in a free node, unless it meets one of the table. Returns whether it
-    /// does.
+    /// Plans the links of an insert alone, unless the item meets one of the table. Returns whether
+    /// it does; then what is pictured and what is listed stay.
     ///
-    /// Where it meets none, it has planned what [`Shape::plan_insert`] does; where it meets one,
-    /// what is pictured and what is listed stay. Takes no memory. There must be room for one item
-    /// and for [`STORES`] stores, and the item must be valid. Where items lie in line
-    /// ([`TreeOrder::in_line`]), it goes down once.
-    pub fn plan_insert_apart(&mut self, out: &mut Vec<Store>, node: u32, item: Item) -> bool
-        requires room { 0 < self.old.room }
-        requires list { vec_len out.old + STORES ≤ vec_capacity out.old }
-        requires in_range { node < self.old.capacity }
-        requires free { Contains (listed self.old.tree) node → ⊥ }
-        requires valid { O.order.valid item ≡ true }
-        ensures met { result ≡ meets O.order item self.old.table }
-        ensures unchanged { result ≡ true →
-            (self.new ≡ self.old) × (out.new.items ≡ out.old.items) }
-        ensures pictures { result ≡ false → Inserts O.order self.old self.new node item }
-        ensures plan { result ≡ false → (links : List Store)
-            × (out.new.items ≡ out.old.items ++ (item_stores node item ++ links))
-            × LeadsWithItem self.old self.new node item links }
-        ensures few { vec_len out.new ≤ vec_len out.old + STORES }
-        ensures capacity { vec_capacity out.new ≡ vec_capacity out.old }
-    {
-        let listed = out.len();
-        let words = item_stores(node, item);
-        append(out, &words);
-        let met = self.plan_links_apart(out, node, item);
-        if met {
-            out.truncate(listed);
-        }
-        met
-    }
-
-    /// Plans the links of an insert alone, for a caller that has listed the stores of the item's
-    /// words, unless the item meets one of the table. Returns whether it does.
-    ///
-    /// Where it meets one, what is pictured and what is listed stay. Takes no memory. There must
-    /// be room for one item and for [`STORES`] stores, the item's three among them, and the item
-    /// must be valid. Where items lie in line ([`TreeOrder::in_line`]), it goes down once.
+    /// Takes no memory. There must be room for one item and for [`STORES`] stores less three, and
+    /// the item must be valid. In an order of items in line ([`TreeOrder::in_line`]) it goes down
+    /// once.
     #[inline(always)]
     pub fn plan_links_apart(&mut self, out: &mut Vec<Store>, node: u32, item: Item) -> bool
         requires room { 0 < self.old.room }
@@ -346,7 +315,7 @@ impl<O: TreeOrder> Shape<O> {
     /// is free then, and has planned what [`Shape::plan_erase`] does. With none, what is pictured
     /// and what is listed stay.
     ///
-    /// Takes no memory. There must be room for [`STORES`] stores. Where first words lead
+    /// Takes no memory. There must be room for [`STORES`] stores. If first words lead
     /// ([`TreeOrder::in_line`]), it goes down once.
     pub fn plan_erase_found(&mut self, out: &mut Vec<Store>, a: u64) -> Option<u32>
         requires list { vec_len out.old + STORES ≤ vec_capacity out.old }
@@ -366,8 +335,8 @@ impl<O: TreeOrder> Shape<O> {
 }
 
 // Takes the record of a first word out of the tree, if there is one, and appends the stores of
-// links. Returns its node. An order that is in no line has the item looked for among all first,
-// since first words say nothing there of where it stands.
+// links. Returns its node. In an order that is in no line the item is looked for among all first,
+// since its first word tells nothing of its place there.
 fn without_word<O: TreeOrder>(
     out: &mut Vec<Store>,
     copy: TreeCopy,

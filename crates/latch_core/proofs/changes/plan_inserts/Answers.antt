@@ -1,4 +1,4 @@
-use Rattle.std.proofs.Common.{◌≡◌, ◌<◌, ◌-◌, ◌++◌, length, take, drop, get_or, true, refl, sym, ◌∙◌, ap, subst, arith, length-append}
+use Rattle.std.proofs.Common.{◌≡◌, ◌<◌, ◌-◌, ◌++◌, length, take, get_or, true, refl, sym, ◌∙◌, ap, subst, arith, length-append}
 use Rattle.std.specs.List.{AllByRecursion}
 use Rattle.std.proofs.lemmas.List.{take_all, drop_more}
 use Rattle.order_laws.specs.declared.items.Item.{Item}
@@ -16,7 +16,6 @@ loop-taken-init g c =
       few = omega arith;
       links_len = omega arith;
       links_capacity = refl;
-      planned_capacity = refl;
       plan_len = omega arith;
       plan_room = omega arith;
       shape_room = omega arith;
@@ -29,13 +28,13 @@ swap_remove-node-requires g c =
     let lt = c.loop-taken-test.true in
     omega (arith, lt, c.requires.enough, c.requires.free, c.loop-taken.invariant.free_len)
 
-pub plan_insert-requires-clause-room : goal.plan_insert-requires-clause-room
-plan_insert-requires-clause-room g c =
+pub plan_links-requires-clause-room : goal.plan_links-requires-clause-room
+plan_links-requires-clause-room g c =
     let lt = c.loop-taken-test.true in
     omega (arith, lt, c.requires.shape_room, c.loop-taken.invariant.shape_room)
 
-pub plan_insert-requires-clause-in_range : goal.plan_insert-requires-clause-in_range
-plan_insert-requires-clause-in_range g c =
+pub plan_links-requires-clause-in_range : goal.plan_links-requires-clause-in_range
+plan_links-requires-clause-in_range g c =
     let inv = c.loop-taken.invariant in
     let lt = c.loop-taken-test.true in
     let room : c.loop-taken.taken < c.args.fresh = omega (arith, lt, c.requires.enough) in
@@ -44,8 +43,8 @@ plan_insert-requires-clause-in_range g c =
     subst (λ n. c.swap_remove-node.result < n) (sym inv.state.done.both.zero.capacity)
     (next_node g.O.TreeOrder.order c.args.shape.now c.loop-taken.shape c.args.insert.now c.loop-taken.taken c.args.fresh c.args.plan.now.stores_left c.loop-taken.plan.stores_left c.args.links.now.items c.loop-taken.links.items c.args.free.now.items c.loop-taken.free.items c.swap_remove-node.result inv.state room within c.swap_remove-node.ensures.value).in_range
 
-pub plan_insert-requires-clause-free : goal.plan_insert-requires-clause-free
-plan_insert-requires-clause-free g c =
+pub plan_links-requires-clause-free : goal.plan_links-requires-clause-free
+plan_links-requires-clause-free g c =
     let inv = c.loop-taken.invariant in
     let lt = c.loop-taken-test.true in
     let room : c.loop-taken.taken < c.args.fresh = omega (arith, lt, c.requires.enough) in
@@ -53,38 +52,31 @@ plan_insert-requires-clause-free g c =
     let within : c.args.fresh - 1 - c.loop-taken.taken < length c.loop-taken.free.items = omega (arith, room, count, inv.free_len, c.requires.free) in
     (next_node g.O.TreeOrder.order c.args.shape.now c.loop-taken.shape c.args.insert.now c.loop-taken.taken c.args.fresh c.args.plan.now.stores_left c.loop-taken.plan.stores_left c.args.links.now.items c.loop-taken.links.items c.args.free.now.items c.loop-taken.free.items c.swap_remove-node.result inv.state room within c.swap_remove-node.ensures.value).not_there
 
-pub plan_insert-requires-clause-valid : goal.plan_insert-requires-clause-valid
-plan_insert-requires-clause-valid g c =
+pub plan_links-requires-clause-valid : goal.plan_links-requires-clause-valid
+plan_links-requires-clause-valid g c =
     let none : Item = record { a = 0; b = 0; tag = 0 } in
     let here = drop_more c.args.insert.now c.loop-taken.taken none c.loop-taken-test.true in
     (subst (AllByRecursion (λ i. g.O.TreeOrder.order.valid i ≡ true)) here c.loop-taken.invariant.state.valid).0
 
-pub plan_insert-requires-clause-apart : goal.plan_insert-requires-clause-apart
-plan_insert-requires-clause-apart g c =
+pub plan_links-requires-clause-apart : goal.plan_links-requires-clause-apart
+plan_links-requires-clause-apart g c =
     let o = g.O.TreeOrder.order in
     let none : Item = record { a = 0; b = 0; tag = 0 } in
     let here = drop_more c.args.insert.now c.loop-taken.taken none c.loop-taken-test.true in
     no_meeting o (get_or c.args.insert.now c.loop-taken.taken none) c.loop-taken.shape.table
     (subst (λ xs. AreOff o xs c.loop-taken.shape.table) here c.loop-taken.invariant.state.off).0
 
-pub separate-requires-clause-items_first : goal.separate-requires-clause-items_first
-separate-requires-clause-items_first g c =
-    let p = c.plan_insert.ensures.plan in
-    let item = get_or c.args.insert.now c.loop-taken.taken (record { a = 0; b = 0; tag = 0 }) in
-    let planned = c.deref.ensures.value ∙ p.1 ∙ ap (λ xs. xs ++ (item_stores c.swap_remove-node.result item ++ p.0)) c.clear.ensures.items in
-    let count = ap length planned in
-    omega (arith, count)
-
-pub separate-requires-clause-plan_room : goal.separate-requires-clause-plan_room
-separate-requires-clause-plan_room g c =
+pub add-requires : goal.add-requires
+add-requires g c =
     let lt = c.loop-taken-test.true in
-    omega (arith, lt, c.requires.plan_room, c.loop-taken.invariant.plan_room)
+    let count = ap length c.item_stores.ensures in
+    omega (arith, lt, count, c.requires.plan_room, c.loop-taken.invariant.plan_room)
 
-pub separate-requires-clause-links_room : goal.separate-requires-clause-links_room
-separate-requires-clause-links_room g c =
+pub plan_links-requires-clause-list : goal.plan_links-requires-clause-list
+plan_links-requires-clause-list g c =
     let lt = c.loop-taken-test.true in
     let inv = c.loop-taken.invariant in
-    omega (arith, lt, c.deref.ensures.len, c.plan_insert.ensures.few, c.clear.ensures.len, inv.links_len, inv.links_capacity, c.requires.links_room)
+    omega (arith, lt, inv.links_len, inv.links_capacity, c.requires.links_room)
 
 pub loop-taken-preserved : goal.loop-taken-preserved
 loop-taken-preserved g c =
@@ -97,25 +89,21 @@ loop-taken-preserved g c =
     let none : Item = record { a = 0; b = 0; tag = 0 } in
     let item = get_or c.args.insert.now c.loop-taken.taken none in
     let node = c.swap_remove-node.result in
-    let p = c.plan_insert.ensures.plan in
-    let planned = c.deref.ensures.value ∙ p.1 ∙ ap (λ xs. xs ++ (item_stores node item ++ p.0)) c.clear.ensures.items in
-    let left = c.separate.ensures.left ∙ ap (λ xs. c.loop-taken.plan.stores_left ++ take 3 xs) planned in
+    let p = c.plan_links.ensures.plan in
+    let left = c.add.ensures.left ∙ ap (λ xs. c.loop-taken.plan.stores_left ++ xs) c.item_stores.ensures in
     let longer = ap length left ∙ length-append c.loop-taken.plan.stores_left (item_stores node item) in
     record {
-      state = inserting_step o g.met.O.TreeOrder.lawful c.args.shape.now c.loop-taken.shape c.plan_insert.new.self c.args.insert.now c.loop-taken.taken c.args.fresh item none node
-          c.args.plan.now.stores_left c.loop-taken.plan.stores_left c.separate.new.plan.stores_left c.args.links.now.items c.loop-taken.links.items c.separate.new.links.items
+      state = inserting_step o g.met.O.TreeOrder.lawful c.args.shape.now c.loop-taken.shape c.plan_links.new.self c.args.insert.now c.loop-taken.taken c.args.fresh item none node
+          c.args.plan.now.stores_left c.loop-taken.plan.stores_left c.add.new.self.stores_left c.args.links.now.items c.loop-taken.links.items c.plan_links.new.out.items
           c.args.free.now.items c.loop-taken.free.items c.swap_remove-node.new.self.items p.0
-          c.requires.first_copy lt room within refl c.swap_remove-node.ensures.value inv.state c.plan_insert.ensures.pictures p.2
-          left
-          (c.separate.ensures.items ∙ ap (λ xs. c.loop-taken.links.items ++ drop 3 xs) planned)
-          c.swap_remove-node.ensures.items;
-      few = omega (arith, inv.few, longer, c.separate.ensures.len, c.deref.ensures.len, c.plan_insert.ensures.few, c.clear.ensures.len);
-      links_len = omega (arith, inv.links_len, c.separate.ensures.len, c.deref.ensures.len, c.plan_insert.ensures.few, c.clear.ensures.len);
-      links_capacity = c.separate.ensures.capacity ∙ inv.links_capacity;
-      planned_capacity = c.plan_insert.ensures.capacity ∙ c.clear.ensures.capacity ∙ inv.planned_capacity;
+          c.requires.first_copy lt room within refl c.swap_remove-node.ensures.value inv.state c.plan_links.ensures.pictures p.2
+          left p.1 c.swap_remove-node.ensures.items;
+      few = omega (arith, inv.few, longer, c.plan_links.ensures.few);
+      links_len = omega (arith, inv.links_len, c.plan_links.ensures.few);
+      links_capacity = c.plan_links.ensures.capacity ∙ inv.links_capacity;
       plan_len = omega (arith, inv.plan_len, longer);
-      plan_room = omega (arith, inv.plan_room, c.separate.ensures.room);
-      shape_room = omega (arith, inv.shape_room, c.plan_insert.ensures.pictures.room);
+      plan_room = omega (arith, inv.plan_room, c.add.ensures.room);
+      shape_room = omega (arith, inv.shape_room, c.plan_links.ensures.pictures.room);
       free_len = omega (arith, inv.free_len, c.swap_remove-node.ensures.len);
       free_capacity = c.swap_remove-node.ensures.capacity ∙ inv.free_capacity;
     }

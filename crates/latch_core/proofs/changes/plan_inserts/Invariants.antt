@@ -10,7 +10,6 @@ invariant-loop-taken g l =
       few : length l.plan.stores_left + vec_len l.links ≤ length l.initial.plan.stores_left + vec_len l.initial.links + l.taken * STORES;
       links_len : vec_len l.links ≤ vec_len l.initial.links + l.taken * STORES;
       links_capacity : vec_capacity l.links ≡ vec_capacity l.initial.links;
-      planned_capacity : vec_capacity l.planned ≡ vec_capacity l.initial.planned;
       plan_len : length l.plan.stores_left ≡ length l.initial.plan.stores_left + l.taken * 3;
       plan_room : l.plan.room + l.taken * 3 ≡ l.initial.plan.room;
       shape_room : l.shape.room + l.taken ≡ l.initial.shape.room;
