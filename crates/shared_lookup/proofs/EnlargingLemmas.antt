@@ -1,10 +1,10 @@
 -- A writer at rest that goes on with more nodes.
-use Rattle.std.proofs.Common.{◌≡◌, ℕ, ◌*◌, ◌≤◌, List, [], length, take, sym, ◌∙◌, ap, subst}
-use Rattle.std.specs.Prelude.{Result, Ok, Err, IfOk, OnErr}
+use Rattle.std.proofs.Common.{◌≡◌, ℕ, ◌*◌, ◌≤◌, List, [], length, take, sym, ◌∙◌, ap, subst, arith}
 use Rattle.order_laws.specs.Orders.{half_open}
 use Rattle.atomic_table.specs.Seated.{TableId}
 use Rattle.word_layout.specs.declared.layouts.Layout.{Layout}
 use Rattle.word_layout.specs.Layouts.{capacity_of, limit_of}
+use Rattle.table_updates.specs.declared.updates.Update.{Update}
 use Rattle.table_updates.specs.Updates.{replay}
 use Rattle.latch_core.specs.Invariants.{IsSound}
 use Rattle.latch_core.proofs.TestLemmas.{none_wider}
@@ -13,6 +13,7 @@ use Rattle.latch_table.specs.Writers.{WriterState, shown_updates}
 use Rattle.latch_table.specs.Enlarging.{Enlarges}
 use Rattle.shared_lookup.specs.Ledgers.{LedgerState, AreAccepted, HasNothingPending, ledger_of}
 use Rattle.shared_lookup.specs.Enlarging.{enlarged_ledger}
+use Rattle.shared_lookup.specs.Logs.{IsLedger}
 
 -- a log stays accepted with more nodes and a greater limit
 pub accepted_wider : (w : LedgerState) (place : TableId) (l : Layout) → w.capacity ≤ capacity_of l → w.limit ≤ limit_of l
@@ -30,7 +31,7 @@ module _ (w : WriterState) (l : Layout) (w' : WriterState) (readers : List Reade
   all_shown = e.shown ∙ resting.shown ∙ sym (ap (λ (v : WriterState). v.history) e.state)
 
   -- and rests again
-  pub rests_enlarged : HasNothingPending w'
+  rests_enlarged : HasNothingPending w'
   rests_enlarged =
       record {
         rests = ap (λ (v : WriterState). v.latch.pending) e.state ∙ resting.rests;
@@ -38,9 +39,14 @@ module _ (w : WriterState) (l : Layout) (w' : WriterState) (readers : List Reade
         accepted = subst AreAccepted (sym same_ledger) (accepted_wider (ledger_of w) w'.place l e.may.1.0 e.may.1.1 (λ j. (sound.tables j).1) resting.accepted);
       }
 
--- a writer at rest that was asked to go on with more nodes rests
-pub rests_after_enlarging : {R E : Type 0} (w : WriterState) (l : Layout) (w' : WriterState) (resting : HasNothingPending w)
-    (sound : IsSound half_open w.capacity (2 * w.base) w.history w.latch) (given : R → List ReaderState) (r : Result R E)
-    → IfOk r (λ all. Enlarges w l w' (given all)) → OnErr r (w' ≡ w) → HasNothingPending w'
-rests_after_enlarging w l w' resting sound given (Ok all) ok err = rests_enlarged w l w' (given all) ok resting sound
-rests_after_enlarging w l w' resting sound given (Err e) ok err = subst HasNothingPending (sym err) resting
+  -- so does what a ledger keeps of it
+  pub ledger_enlarged : (log : List Update) (was : Layout) (start : ℕ) → IsLedger w log was start → IsLedger w' log l start
+  ledger_enlarged log was start is =
+      record {
+        rests = rests_enlarged;
+        logged = is.logged ∙ sym (ap (λ (v : LedgerState). v.log) same_ledger);
+        capacity = ap (λ (v : LedgerState). v.capacity) same_ledger;
+        limit = ap (λ (v : LedgerState). v.limit) same_ledger;
+        base = ap (λ (v : LedgerState). v.base) same_ledger ∙ is.base;
+        opened = (is.opened.0, omega (arith, is.opened.1, is.limit, e.may.1.1));
+      }

@@ -14,7 +14,7 @@ use Rattle.table_updates.specs.declared.updates.Update.{Update}
 use Rattle.modules.specs.Entries.{CatalogEntries}
 use Rattle.shared_lookup.specs.declared.changes.Change.{Change}
 use Rattle.shared_lookup.specs.Changes.{Changes, IsOutcomeOf, RefusesChange}
-use Rattle.shared_lookup.specs.declared.threads.Made.{Made}
+use Rattle.shared_lookup.specs.declared.threads.ChangeResults.{ChangeResults}
 use Rattle.shared_lookup.specs.Threads.{AreAllMade}
 use Rattle.shared_lookup.specs.Readers.{known_by}
 use Rattle.shared_lookup.specs.Checks.{with_log}
@@ -202,7 +202,7 @@ known_named table opened l o c changes outcomes (Some r) there as_opened is (pla
       subst (λ x. FollowLog c x 0 changes outcomes) same (follow o as_opened),
 )
 
-pub made_named : (table : Option TableId) (opened : Option LedgerState) (l o : LedgerState) (c : CatalogEntries) (changes : List (Vec Change)) (all : List Made) → table ≡ Some l.place → opened ≡ Some o → l ≡ with_log l.log o
+pub made_named : (table : Option TableId) (opened : Option LedgerState) (l o : LedgerState) (c : CatalogEntries) (changes : List (Vec Change)) (all : List ChangeResults) → table ≡ Some l.place → opened ≡ Some o → l ≡ with_log l.log o
     → AreAllMade table opened c changes all → AreAllMade (Some l.place) (Some l) c changes all
 made_named table opened l o c changes all there as_opened is made = record {
   same = made.same;

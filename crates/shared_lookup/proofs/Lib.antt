@@ -4,7 +4,6 @@ pub mod CountLemmas
 pub mod CheckLemmas
 pub mod FoundLemmas
 pub mod ReaderLemmas
-pub mod ReplacingLemmas
 pub mod ThreadLemmas
 pub mod LookedLemmas
 pub mod FollowingLemmas

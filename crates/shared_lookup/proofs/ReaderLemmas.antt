@@ -7,7 +7,7 @@ use Rattle.word_layout.specs.declared.layouts.Layout.{Layout}
 use Rattle.latch_table.specs.declared.knowledge.Origin.TheVariants.{Start}
 use Rattle.latch_table.specs.Readers.{ReaderState, new_reader}
 use Rattle.latch_table.specs.Seats.{first_knowledge}
-use Rattle.shared_lookup.specs.declared.threads.Found.{Found}
+use Rattle.shared_lookup.specs.declared.threads.LookupResults.{LookupResults}
 use Rattle.shared_lookup.specs.Ledgers.{IsNamed}
 use Rattle.shared_lookup.specs.Readers.{IsNewReaderOf}
 use Rattle.shared_lookup.specs.Threads.{AreHeard}
@@ -32,6 +32,6 @@ readers_opened l place all new = λ k d less.
     )
 
 -- what came back is of the table of the ledger that comes out of the lock
-pub heard_named : (table : Option TableId) (place there : TableId) (keys : List (Vec ℕ)) (all : List Found) → table ≡ Some place → IsNamed table there → AreHeard table keys all → AreHeard (Some there) keys all
+pub heard_named : (table : Option TableId) (place there : TableId) (keys : List (Vec ℕ)) (all : List LookupResults) → table ≡ Some place → IsNamed table there → AreHeard table keys all → AreHeard (Some there) keys all
 heard_named table place there keys all is named heard =
     subst (λ (t : Option TableId). AreHeard t keys all) (is ∙ ap (λ (p : TableId). Some p) (sym (named place is))) heard

@@ -9,13 +9,13 @@ use Rattle.latch_table.specs.Readers.{ReaderState}
 use Rattle.facts.proofs.Lists.{slice_get-between, slice_get-push_cases, slice_get_some}
 use Rattle.facts.proofs.Pairs.{both_pushed}
 use Rattle.shared_lookup.specs.declared.served.Answer.{Answer}
-use Rattle.shared_lookup.specs.declared.threads.Found.{Found}
+use Rattle.shared_lookup.specs.declared.threads.LookupResults.{LookupResults}
 use Rattle.shared_lookup.specs.declared.threads.ReaderThread.{ReaderThread}
 use Rattle.modules.specs.Entries.{CatalogEntries}
 use Rattle.shared_lookup.specs.declared.changes.Change.{Change}
 use Rattle.shared_lookup.specs.declared.threads.Changing.{Changing}
 use Rattle.shared_lookup.specs.declared.threads.WriterThread.{WriterThread}
-use Rattle.shared_lookup.specs.declared.threads.Made.{Made}
+use Rattle.shared_lookup.specs.declared.threads.ChangeResults.{ChangeResults}
 use Rattle.shared_lookup.specs.Followings.{AreMade, EachFollowsLog, FollowLog}
 use Rattle.shared_lookup.specs.Ledgers.{LedgerState}
 use Rattle.shared_lookup.specs.Servings.{AreAnswered, AreNotMade, AreOutcomesOf, ChangeOutcome, EachHasOutcome, EachIsAnswered}
@@ -92,7 +92,7 @@ module _ {X : Type 0} (lists : List (Vec X)) (n : ℕ) (less : n < length lists)
       take_more lists n next_list less ∙ ap (λ (k : Vec X). take n lists ++ k ∷ []) (get_or_from_slice_get lists n next_list next_list (slice_get_some lists n less).1)
 
 -- one thread more has come back
-pub heard_more : {W : Type 0} (table : W → Option TableId) (c : W) (keys : List (Vec ℕ)) (done rest : List (ReaderThread W)) (r : ReaderThread W) (all : List Found) (f : Found)
+pub heard_more : {W : Type 0} (table : W → Option TableId) (c : W) (keys : List (Vec ℕ)) (done rest : List (ReaderThread W)) (r : ReaderThread W) (all : List LookupResults) (f : LookupResults)
     → AreReading c keys (done ++ r ∷ rest) → AreHeard (table c) (take (length done) keys) all
     → IsHeard (table r.changer.now) r.reader r.keys.now f.answers.items f.ended f.seat
     → AreHeard (table c) (take (length (done ++ r ∷ [])) keys) (all ++ f ∷ [])
@@ -110,7 +110,7 @@ heard_more table c keys done rest r all f reading before last =
     subst (λ (ks : List (Vec ℕ)). AreHeard (table c) ks (all ++ f ∷ [])) (sym more)
     (record {
       same = length-append all (f ∷ []) ∙ (let s = before.same in omega (arith, s)) ∙ sym (length-append (take n keys) (list ∷ []));
-      each = both_pushed (λ place (k : Vec ℕ) (g : Found). IsHeard (table c) place k.items g.answers.items g.ended g.seat) (take n keys) all list f before.same before.each here;
+      each = both_pushed (λ place (k : Vec ℕ) (g : LookupResults). IsHeard (table c) place k.items g.answers.items g.ended g.seat) (take n keys) all list f before.same before.each here;
     })
 
 at_place : (table : Option TableId) (place : TableId) → table ≡ Some place → (back : Option ReaderState) → IfSome back (IsReaderOf table) → IfSome back (λ r. r.place ≡ place)
@@ -118,7 +118,7 @@ at_place table place is None h = tt
 at_place table place is (Some r) h = h.0 place is
 
 -- what came back of the list at the place behind those whose reader has met the writer
-module _ (table : Option TableId) (keys : List (Vec ℕ)) (done rest : List Found) (f : Found) (heard : AreHeard table keys (done ++ f ∷ rest)) where
+module _ (table : Option TableId) (keys : List (Vec ℕ)) (done rest : List LookupResults) (f : LookupResults) (heard : AreHeard table keys (done ++ f ∷ rest)) where
   pub left : length done < length keys
   left = let s = heard.same in let m = length-append done (f ∷ rest) in omega (arith, s, m)
 
@@ -171,7 +171,7 @@ changing_more c changes done rest l ws w room all ec ek =
     })
 
 -- one list more whose thread has come back
-pub made_more : {W : Type 0} (table : W → Option TableId) (opened : W → Option LedgerState) (catalog : W → CatalogEntries) (c : W) (changes : List (Vec Change)) (done rest : List (WriterThread W)) (w : WriterThread W) (all : List Made) (made : Made)
+pub made_more : {W : Type 0} (table : W → Option TableId) (opened : W → Option LedgerState) (catalog : W → CatalogEntries) (c : W) (changes : List (Vec Change)) (done rest : List (WriterThread W)) (w : WriterThread W) (all : List ChangeResults) (made : ChangeResults)
     → AreChanging c changes (done ++ w ∷ rest) → AreAllMade (table c) (opened c) (catalog c) (take (length done) changes) all
     → AreMade (table w.changer.now) (opened w.changer.now) (catalog w.changer.now) w.changes.now made.outcomes.items made.seat
     → AreAllMade (table c) (opened c) (catalog c) (take (length (done ++ w ∷ [])) changes) (all ++ made ∷ [])
@@ -186,11 +186,11 @@ made_more table opened catalog c changes done rest w all made changing before la
     subst (λ (ks : List (Vec Change)). AreAllMade (table c) (opened c) (catalog c) ks (all ++ made ∷ [])) (sym more)
     (record {
       same = length-append all (made ∷ []) ∙ (let s = before.same in omega (arith, s)) ∙ sym (length-append (take n changes) (list ∷ []));
-      each = both_pushed (λ place (k : Vec Change) (m : Made). AreMade (table c) (opened c) (catalog c) k.items m.outcomes.items m.seat) (take n changes) all list made before.same before.each here;
+      each = both_pushed (λ place (k : Vec Change) (m : ChangeResults). AreMade (table c) (opened c) (catalog c) k.items m.outcomes.items m.seat) (take n changes) all list made before.same before.each here;
     })
 
 -- what came back of the list of changes at the place behind those that are settled
-module _ (table : Option TableId) (opened : Option LedgerState) (c : CatalogEntries) (changes : List (Vec Change)) (done rest : List Made) (m : Made) (all : AreAllMade table opened c changes (done ++ m ∷ rest)) where
+module _ (table : Option TableId) (opened : Option LedgerState) (c : CatalogEntries) (changes : List (Vec Change)) (done rest : List ChangeResults) (m : ChangeResults) (all : AreAllMade table opened c changes (done ++ m ∷ rest)) where
   pub made_left : length done < length changes
   made_left = let s = all.same in let n = length-append done (m ∷ rest) in omega (arith, s, n)
 

@@ -27,7 +27,7 @@ asked c (Load n) held = load_of c n held
 asked c (Unload n) held = unload_of c n held
 asked c (DropInit n) held = drop_init_of c n held
 
--- the table has an item that begins there; not where there is no such place
+-- the table has an item that begins there; false without such a place
 abbrev pub holds_start : List Item → Option ℕ → Bool
 holds_start table start = option_map_or (λ a. has a table) start false
 

@@ -10,10 +10,11 @@ use Rattle.order_laws.specs.Tables.{look}
 use Rattle.table_updates.specs.declared.updates.Update.{Update}
 use Rattle.table_updates.specs.Updates.{replay}
 use Rattle.shared_lookup.specs.declared.served.Answer.{Answer}
-use Rattle.shared_lookup.specs.Ledgers.{LedgerState}
+use Rattle.latch_table.specs.Writers.{WriterState}
+use Rattle.shared_lookup.specs.Ledgers.{HasNothingPending, LedgerState, ledger_of}
 use Rattle.shared_lookup.specs.Servings.{ChangeOutcome, has_generation}
 
--- both are none, or items of the same words
+-- both are none, or items of equal words
 abbrev pub is_same_item : Option Item → Option Item → Bool
 is_same_item = option_eq (λ i j. nat_eq i.a j.a && nat_eq i.b j.b && nat_eq i.tag j.tag)
 
@@ -36,8 +37,12 @@ AreReferredInOrder all = IsNonDecreasingBy (λ a. a.now.generation) all
 abbrev pub with_log : List Update → LedgerState → LedgerState
 with_log log l = record l { log = log }
 
--- for each entry of the log behind so many how many of the accepted changes have its generation:
--- none, one or more
+-- a writer went on to these updates, and none is pending
+abbrev pub HasReplayed : List Update → WriterState → WriterState → Type 0
+HasReplayed log w w' = HasNothingPending w' × (ledger_of w' ≡ with_log log (ledger_of w))
+
+-- for each entry of the log after the first `from` how many of the accepted changes have its
+-- generation: none, one or more
 abbrev pub AreTallied : ℕ → List ChangeOutcome → List ℕ → Type 0
 AreTallied from outcomes times =
     (place : ℕ) → place < length times
@@ -50,7 +55,7 @@ no_answer = record { reader = 0; place = 0; key = 0; generation = 0; item = None
 abbrev pub no_reference : Bor Answer
 no_reference = record { ref_ptr = (0, 0); now = no_answer }
 
--- the same after these outcomes more
+-- the times of the entries after the first `from` ones, once these outcomes are counted too
 abbrev pub IsTalliedBy : ℕ → List ChangeOutcome → List ℕ → List ℕ → Type 0
 IsTalliedBy from outcomes times times' =
     (place : ℕ) → place < length times

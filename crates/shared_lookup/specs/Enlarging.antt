@@ -19,7 +19,7 @@ RefusesEnlargingLedger w l e =
     ((e ≡ BadCapacity) × (IsNoSmaller w.capacity w.limit l → ⊥))
     ⊎ ((e ≡ OutOfMemory) × IsNoSmaller w.capacity w.limit l)
 
--- the same ledger, with its log, in the words of another layout
+-- the ledger, with its log, in the words of another layout
 abbrev pub enlarged_ledger : TableId → Layout → LedgerState → LedgerState
 enlarged_ledger place l w =
     record w { place = place; capacity = capacity_of l; limit = limit_of l }

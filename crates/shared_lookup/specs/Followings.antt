@@ -16,7 +16,7 @@ use Rattle.shared_lookup.specs.Checks.{with_log}
 use Rattle.shared_lookup.specs.Ledgers.{IsNamed, LedgerState, with_first}
 use Rattle.shared_lookup.specs.Servings.{AreNotMade, AreOutcomesOf, ChangeOutcome}
 
--- what becomes of a change behind so many updates of the log: it is the next one, or it is refused
+-- what becomes of a change after the first updates of the log: it is the next one, or it is refused
 -- there
 abbrev pub IsOutcomeBehind : CatalogEntries → LedgerState → ℕ → Change → ChangeOutcome → Type 0
 IsOutcomeBehind c l n ch (Ok g) =
@@ -28,7 +28,7 @@ abbrev pub count_after : ℕ → ChangeOutcome → ℕ
 count_after n (Ok g) = suc n
 count_after n (Err e) = n
 
--- the changes have these outcomes, each behind no fewer updates of the log than the one before left
+-- the changes have these outcomes, each after no fewer updates of the log than the one before left
 abbrev pub FollowLog : CatalogEntries → LedgerState → ℕ → List Change → List ChangeOutcome → Type 0
 FollowLog c l from [] outcomes = outcomes ≡ []
 FollowLog c l from (ch ∷ rest) [] = ⊥
@@ -36,7 +36,7 @@ FollowLog c l from (ch ∷ rest) (r ∷ more) =
     (n : ℕ) × (from ≤ n) × IsOutcomeBehind c l n ch r × FollowLog c l (count_after n r) rest more
 
 -- a change was made beside a reader, at a log that begins with what it knew before, and is among
--- what it knows after; it came to this there, where it is named how the ledger was opened
+-- what it knows after; it came to this there, if it is named how the ledger was opened
 pub record IsMadeBeside (c : CatalogEntries) (opened : Option LedgerState) (ch : Change)
     (known known' : List Update) (r : ChangeOutcome) : Type 0 where
   pub before : List Update

@@ -53,15 +53,15 @@ with_entry u l = record l { log = l.log ++ u ∷ [] }
 abbrev pub with_first : ℕ → LedgerState → LedgerState
 with_first count l = record l { log = take count l.log }
 
--- the update stands against nothing, and is the last of the log, whose generation this is
+-- nothing is against the update, and it is the last of the log, whose generation this is
 abbrev pub Applies : Update → LedgerState → LedgerState → ℕ → Type 0
 Applies u l l' g = (refusal_at l u ≡ None) × (l' ≡ with_entry u l) × (g ≡ ledger_generation l')
 
--- what stands against an update, or out of memory
+-- what is against an update, or out of memory
 abbrev pub RefusesEntry : Update → LedgerState → Refusal → Type 0
 RefusesEntry u l e = (refusal_at l u ≡ Some e) ⊎ (e ≡ OutOfMemory)
 
--- what stands against an update, or out of memory where nothing does
+-- what is against an update, or out of memory if nothing is
 abbrev pub RefusesUpdate : Update → LedgerState → Refusal → Type 0
 RefusesUpdate u l e = (refusal_at l u ≡ Some e) ⊎ ((refusal_at l u ≡ None) × (e ≡ OutOfMemory))
 

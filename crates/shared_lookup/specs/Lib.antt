@@ -17,7 +17,5 @@ pub mod Readers
 pub mod Checks
 -- what became of the changes of a list, in the order of a log
 pub mod Followings
--- a ledger whose table is replaced by other items
-pub mod Replacing
 -- what their threads are given
 pub mod Threads

@@ -22,7 +22,7 @@ abbrev pub IsNewReaderOf : Option TableId → ReaderState → Type 0
 IsNewReaderOf table r =
     IsReaderOf table r × (r.knowledge.seen ≡ []) × (r.memory ≡ None)
 
--- the updates that a reader knows, and the sequences that it loaded; none where there is no reader
+-- the updates that a reader knows, and the sequences that it loaded; none without a reader
 abbrev pub known_by : Option ReaderState → List Update
 known_by None = []
 known_by (Some r) = r.knowledge.known
@@ -32,7 +32,7 @@ seen_by None = []
 seen_by (Some r) = r.knowledge.seen
 
 -- a reader that remembers this loaded these sequences for an answer: for each attempt without one
--- two that differ, and then that of its generation twice; or this one once, where it remembers the
+-- two that differ, and then the one of its generation twice; or this one once, if it remembers the
 -- item of the answer, and this generation
 abbrev pub IsLookedUp : Option (Item × ℕ) → Option Item → ℕ → List ℕ → Type 0
 IsLookedUp memory item g loads =

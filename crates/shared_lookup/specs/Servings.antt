@@ -28,7 +28,7 @@ ChangeOutcome = Result ℕ Refusal
 abbrev pub entries : {X : Type 0} → List (Vec X) → List X
 entries lists = flat_map (λ list. list.items) lists
 
--- each list of the one has as many entries as that of the other
+-- each list has as many entries as its partner
 abbrev pub AreAsLong : {X Y : Type 0} → List (Vec X) → List (Vec Y) → Type 0
 AreAsLong xs ys = map (λ list. length list.items) ys ≡ map (λ list. length list.items) xs
 
@@ -56,7 +56,7 @@ pub record EachHasOutcome (c : CatalogEntries) (changes : List (Vec Change))
       → slice_get changes writer ≡ Some list → slice_get outcomes writer ≡ Some made
       → AreOutcomesOf c list.items made.items
 
--- the answer is that of this reader to the key at this place
+-- this reader gave the answer to the key at this place
 pub record IsAnswerTo (reader place key : ℕ) (a : Answer) : Type 0 where
   pub reader_is : a.reader ≡ reader
   pub place_is : a.place ≡ place
@@ -87,7 +87,7 @@ IsFoundIn log a =
     (a.generation ≤ length log)
     × (a.item ≡ look half_open a.key (replay half_open [] (take a.generation log)))
 
--- the answers stand by rising generation
+-- the answers come by rising generation
 abbrev pub AreInOrder : List Answer → Type 0
 AreInOrder answers = IsNonDecreasingBy (λ a. a.generation) answers
 
@@ -120,7 +120,7 @@ abbrev pub has_generation : ℕ → ChangeOutcome → Bool
 has_generation g (Ok h) = h == g
 has_generation g (Err e) = false
 
--- an entry of the log, by its place, whose generation is not that of exactly one accepted change
+-- an entry of the log, by its place, whose generation not exactly one accepted change has
 abbrev pub IsWrongEntry : List ChangeOutcome → ℕ → Type 0
 IsWrongEntry outcomes place = count_by (has_generation (place + 1)) outcomes ≢ 1
 
@@ -134,7 +134,7 @@ IsWrongCount c changes outcomes answers log wrong =
     × ((d : ℕ) × Counts (IsWrongEntry (entries outcomes)) (range_with_len 0 (length log)) d
     × (wrong ≡ min (a + b + d) (2 ^ 64 - 1))))
 
--- a table can have so many regions, and so many readers
+-- a table can have the regions of the catalog, and a reader for each list of keys
 abbrev pub MayServe : CatalogEntries → List (Vec ℕ) → Type 0
 MayServe c keys =
     (length (regions_of c) ≤ most_nodes) × (0 < length keys)

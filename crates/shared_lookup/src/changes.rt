@@ -29,7 +29,7 @@ impl Change {
         }
     }
 
-    /// The update that the catalog gives for this change, where so much of the module is held.
+    /// The update that the catalog gives for this change, by what of the module is held.
     pub(crate) fn asked(self, c: &Catalog<'_>, held: Held) -> Result<Update, Refusal>
         ensures { GivesOrLacksMemory (asked c.now self held) result }
     {

@@ -26,7 +26,7 @@ fn replayed(alloc: Global, ledger: &Ledger, answers: &[Vec<Answer>]) -> Result<u
 /// stays at the greatest number.
 ///
 /// No answer is wrong once each reader has met the writer. The replay sees it once more, from what
-/// came back alone; where there is no memory for it, what the readers know stands.
+/// came back alone; without memory for it, what the readers know decides.
 pub(crate) fn wrong_count(
     alloc: Global,
     ledger: &Ledger,

@@ -10,7 +10,7 @@ pub enum Point {
         seq: u64,
         remaining: u64,
     },
-    /// A writer has made its last change, and holds no lock. That of an empty list is never told.
+    /// A writer has made its last change, and holds no lock. An empty list has no such point.
     WriterDone {
         writer: u32,
     },

@@ -8,13 +8,13 @@ ghost use Rattle.latch_table.specs.Seats.{first_knowledge};
 ghost use Rattle.latch_table.specs.Writers.{MayOpenWith, RefusesOpening};
 ghost use Rattle.shared_lookup.specs.Checks.{with_log};
 ghost use Rattle.shared_lookup.specs.Changes.{Changes, RefusesChange, held_in};
-ghost use Rattle.shared_lookup.specs.Ledgers.{Applies, AreAccepted, RefusesEntry, new_ledger};
-ghost use Rattle.shared_lookup.specs.Ledgers.{ledger_table};
+ghost use Rattle.shared_lookup.specs.Ledgers.{Applies, AreAccepted, HasNothingPending, RefusesEntry};
+ghost use Rattle.shared_lookup.specs.Ledgers.{ledger_of, ledger_table, new_ledger};
 
 use crate::changes::Change;
 use crate::gates::Gate;
-use crate::resting::RestingWriter;
-use latch_table::Reader;
+use crate::resting::apply;
+use latch_table::{Reader, Writer, meet, open};
 use modules::{Catalog, Held};
 use order_laws::{HalfOpen, Refusal};
 use std::alloc::Global;
@@ -23,31 +23,30 @@ use table_updates::Update;
 use word_layout::Layout;
 
 mod enlarging;
-mod replacing;
 
 /// The one writer of a table, with no pending update between its calls, and every update that it
 /// accepted, in order.
 #[derive(Drop)]
 pub struct Ledger {
-    writer: RestingWriter,
+    writer: Writer<HalfOpen>,
     log: Vec<Update>,
     layout: Layout,
     start: u64,
 }
 
 impl Model for Ledger {
-    ghost use Rattle.shared_lookup.specs.Ledgers.{LedgerState};
+    ghost use Rattle.shared_lookup.specs.Ledgers.{LedgerState, ledger_of};
     ghost use Rattle.shared_lookup.specs.Logs.{IsLedger};
 
     ghost Value = { LedgerState };
 
-    ghost view = { λ l. l.writer };
+    ghost view = { λ l. ledger_of l.writer };
 
     ghost invariant = { λ l. IsLedger l.writer l.log.items l.layout l.start };
 }
 
 impl Ledger {
-    /// An empty table, with its sequence at `start`, and so many readers.
+    /// An empty table, with its sequence at `start` and `readers` readers.
     ///
     /// Refused as [`latch_table::open`] refuses.
     pub fn open(
@@ -62,7 +61,7 @@ impl Ledger {
             × All (λ x. x ≡ new_reader r.0.place (first_knowledge (Start l start))) r.1.items) }
         ensures refusal { IfErr result (RefusesOpening l start readers) }
     {
-        let (writer, readers) = RestingWriter::open(alloc, l, start, readers)?;
+        let (writer, readers) = open::<HalfOpen>(alloc, l, start, readers)?;
         let ledger = Ledger {
             writer,
             log: Vec::new(alloc),
@@ -75,11 +74,11 @@ impl Ledger {
     /// Makes one whole update and adds it to the log. The gate is told of each step as a step of
     /// the writer `who`. Returns the new generation.
     ///
-    /// Room in the log is made first, and where it is refused the answer is
+    /// Room in the log is made first, and if it is refused the answer is
     /// [`Refusal::OutOfMemory`]. Else the update is refused by [`Refusal::BadItem`],
     /// [`Refusal::Overlap`], [`Refusal::NoSuchItem`], [`Refusal::Full`] and
     /// [`Refusal::SequenceSpent`] as the table after the log's updates has it, and by
-    /// [`Refusal::OutOfMemory`]. A refusal changes nothing. It waits where the gate waits.
+    /// [`Refusal::OutOfMemory`]. A refusal changes nothing. It waits while the gate waits.
     pub fn apply<G: Gate>(&mut self, g: &G, who: u32, u: Update) -> Result<u64, Refusal>
         ensures applied { IfOk result (Applies u self.old self.new) }
         ensures unchanged { OnErr result (self.new ≡ self.old) }
@@ -87,7 +86,7 @@ impl Ledger {
     {
         self.log.reserve(1)?;
         let entry = u.copy()?;
-        let generation = self.writer.apply(g, who, u)?;
+        let generation = apply(&mut self.writer, g, who, u)?;
         self.log.push_reserved(entry);
         Ok(generation)
     }
@@ -149,7 +148,7 @@ impl Ledger {
         self.writer.readers()
     }
 
-    /// A reader of the same table meets the writer: it then knows the whole log.
+    /// A reader of the table meets the writer: it then knows the whole log.
     pub fn meet(self, reader: Reader<HalfOpen>) -> (Ledger, Reader<HalfOpen>)
         requires { reader.place ≡ self.place }
         ensures ledger { result.0 ≡ self }
@@ -162,7 +161,7 @@ impl Ledger {
             layout,
             start,
         } = self;
-        let (writer, reader) = writer.meet(reader);
+        let (reader, writer) = meet(reader, writer);
         let ledger = Ledger {
             writer,
             log,
@@ -177,11 +176,10 @@ impl Ledger {
         ensures log { result.now ≡ self.now.log }
         ensures accepted { AreAccepted self.now }
     {
-        self.writer.log_is_accepted();
         self.log.as_slice()
     }
 
-    /// The same, where the ledger is not needed any more.
+    /// Every update that was accepted, in order, of a ledger that is not needed any more.
     pub fn into_log(self) -> Vec<Update>
         ensures { result.items ≡ self.log }
     {
@@ -194,14 +192,15 @@ impl Ledger {
         log
     }
 
-    /// An empty table that accepts the same updates. Refused by [`Refusal::OutOfMemory`] alone.
-    pub(crate) fn blank(&self, alloc: Global) -> Result<RestingWriter, Refusal>
-        ensures blank { IfOk result (λ w. w.log ≡ []) }
-        ensures accepts { IfOk result (λ w. AreAccepted (with_log self.now.log w)) }
+    /// The writer of an empty table that accepts the log's updates. Refused by
+    /// [`Refusal::OutOfMemory`] alone.
+    pub(crate) fn blank(&self, alloc: Global) -> Result<Writer<HalfOpen>, Refusal>
+        ensures rests { IfOk result HasNothingPending }
+        ensures blank { IfOk result (λ w. w.history ≡ []) }
+        ensures accepts { IfOk result (λ w. AreAccepted (with_log self.now.log (ledger_of w))) }
         ensures refusal { IfErr result (λ e. e ≡ OutOfMemory) }
     {
-        self.writer.log_is_accepted();
-        let (table, _) = RestingWriter::open(alloc, self.layout, self.start, 1)?;
+        let (table, _) = open::<HalfOpen>(alloc, self.layout, self.start, 1)?;
         Ok(table)
     }
 }

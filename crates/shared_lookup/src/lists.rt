@@ -10,8 +10,8 @@ use crate::changes::Change;
 use crate::gates::Gate;
 use crate::shared::Changer;
 use crate::threads::{
-    Changing, Found, Made, ReaderThread, WriterThread, join_reader, join_writer, list_with_room,
-    start_reader, start_writer,
+    ChangeResults, Changing, LookupResults, ReaderThread, WriterThread, join_reader, join_writer,
+    list_with_room, start_reader, start_writer,
 };
 use latch_table::Reader;
 use order_laws::HalfOpen;
@@ -95,8 +95,8 @@ pub(crate) fn join_writers<R: Threads, W: Changer>(
     changer: &W,
     changes: &[Vec<Change>],
     writers: Vec<WriterThread<'_, W>>,
-    mut made: Vec<Made>,
-) -> Vec<Made>
+    mut made: Vec<ChangeResults>,
+) -> Vec<ChangeResults>
     requires blank { made.items ≡ [] }
     requires long { length changes.now ≤ vec_capacity made }
     requires changing { AreChanging changer.now changes.now writers.items }
@@ -116,8 +116,8 @@ pub(crate) fn join_readers<R: Threads, W: Changer>(
     changer: &W,
     keys: &[Vec<u64>],
     readers: Vec<ReaderThread<'_, W>>,
-    mut heard: Vec<Found>,
-) -> Vec<Found>
+    mut heard: Vec<LookupResults>,
+) -> Vec<LookupResults>
     requires blank { heard.items ≡ [] }
     requires long { length keys.now ≤ vec_capacity heard }
     requires reading { AreReading changer.now keys.now readers.items }

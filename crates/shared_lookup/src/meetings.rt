@@ -1,7 +1,7 @@
 //! The readers that came back meet the writer.
 //!
 //! What a reader knew when it gave its last answer is a beginning of what it knows once it has met
-//! the writer, which is the whole log. So all its answers are those of the log, and the changes
+//! the writer, which is the whole log. So all its answers are answers of the log, and the changes
 //! that were made beside a reader follow the log.
 
 ghost use Rattle.std.specs.Prelude.{◌≡◌, ◌≤◌, [], length, Some, IfSome, vec_capacity};
@@ -14,7 +14,7 @@ ghost use Rattle.shared_lookup.specs.Threads.{AreAllMade, AreHeard};
 use crate::changes::Change;
 use crate::ledgers::Ledger;
 use crate::served::Answer;
-use crate::threads::{Found, Made, Outcomes};
+use crate::threads::{ChangeResults, LookupResults, Outcomes};
 use latch_table::Reader;
 use modules::Catalog;
 use order_laws::HalfOpen;
@@ -40,7 +40,7 @@ fn met(ledger: Ledger, seat: Option<Reader<HalfOpen>>) -> (Ledger, Option<Reader
 pub(crate) fn meet_all(
     ledger: Ledger,
     keys: &[Vec<u64>],
-    heard: Vec<Found>,
+    heard: Vec<LookupResults>,
     mut answers: Vec<Vec<Answer>>,
     mut ended: Vec<bool>,
     mut readers: Vec<Option<Reader<HalfOpen>>>,
@@ -62,7 +62,7 @@ pub(crate) fn meet_all(
 {
     let mut ledger = ledger;
     for found in heard {
-        let Found {
+        let LookupResults {
             answers: list,
             ended: end,
             seat,
@@ -82,7 +82,7 @@ pub(crate) fn settle_all(
     ledger: Ledger,
     _c: &Catalog<'_>,
     changes: &[Vec<Change>],
-    all: Vec<Made>,
+    all: Vec<ChangeResults>,
     mut outcomes: Vec<Outcomes>,
 ) -> (Ledger, Vec<Outcomes>)
     requires made { AreAllMade (Some ledger.place) (Some ledger) _c.now changes.now all.items }
@@ -94,7 +94,7 @@ pub(crate) fn settle_all(
 {
     let mut ledger = ledger;
     for made in all {
-        let Made {
+        let ChangeResults {
             outcomes: list,
             seat,
         } = made;

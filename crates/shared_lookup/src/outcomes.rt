@@ -58,7 +58,8 @@ fn wrong_in_list(
     wrong
 }
 
-/// The same of all lists.
+/// How many of the accepted changes of all lists the log has no entry for; it stays at the greatest
+/// number.
 pub(crate) fn wrong_changes(
     c: &Catalog<'_>,
     log: &[Update],
@@ -77,8 +78,8 @@ pub(crate) fn wrong_changes(
     wrong
 }
 
-/// Counts the accepted changes of one list at the entries of their generations, of which the first
-/// `from` are left out; each count stays at the greatest number.
+/// Counts the accepted changes of one list at the entries of their generations, but for the first
+/// `from` entries; each count stays at the greatest number.
 fn tally(outcomes: &[Result<u64, Refusal>], from: usize, times: &mut [u8])
     ensures length { length times.new ≡ length times.old }
     ensures tallied { IsTalliedBy from outcomes.now times.old times.new }
@@ -94,7 +95,7 @@ fn tally(outcomes: &[Result<u64, Refusal>], from: usize, times: &mut [u8])
     }
 }
 
-/// For each of the entries of the log behind the first `from` ones how many accepted changes have
+/// For each of the entries of the log after the first `from` ones how many accepted changes have
 /// its generation; it stays at the greatest number.
 fn tally_all(outcomes: &[Vec<Result<u64, Refusal>>], from: usize, times: &mut [u8])
     ensures length { length times.new ≡ length times.old }
@@ -106,8 +107,8 @@ fn tally_all(outcomes: &[Vec<Result<u64, Refusal>>], from: usize, times: &mut [u
     }
 }
 
-/// How many of the entries behind the first `from` ones, as many as there are times, have a
-/// generation that is not that of exactly one accepted change; it stays at the greatest number.
+/// How many of the entries after the first `from` ones, as many as there are times, are not the
+/// entry of exactly one accepted change; it stays at the greatest number.
 fn wrong_behind(outcomes: &[Vec<Result<u64, Refusal>>], from: usize, times: &mut [u8]) -> u64
     ensures length { length times.new ≡ length times.old }
     ensures counted { CountsUpTo (IsWrongEntry (entries outcomes.now))
@@ -123,9 +124,9 @@ fn wrong_behind(outcomes: &[Vec<Result<u64, Refusal>>], from: usize, times: &mut
     wrong
 }
 
-/// How many of the first entries of the log have a generation that is not that of exactly one
-/// accepted change; it stays at the greatest number. Takes as many entries at a time as there are
-/// times: all at once, where these are as many as the changes.
+/// How many of the first entries of the log are not the entry of exactly one accepted change; it
+/// stays at the greatest number. Takes as many entries at a time as there are
+/// times: all at once, if these are as many as the changes.
 pub(crate) fn wrong_entries(
     count: usize,
     outcomes: &[Vec<Result<u64, Refusal>>],

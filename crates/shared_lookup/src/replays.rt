@@ -7,14 +7,16 @@
 ghost use Rattle.std.specs.Prelude.{◌≡◌, ◌≤◌, ◌++◌, [], take, length, count_by, IfOk, IfErr, OnOk};
 ghost use Rattle.std.specs.List.Sorted.{IsPermutation};
 ghost use Rattle.order_laws.specs.declared.refusals.Refusal.TheVariants.{OutOfMemory};
-ghost use Rattle.shared_lookup.specs.Checks.{AreReferredInOrder, answers_at, is_wrong_answer, with_log};
-ghost use Rattle.shared_lookup.specs.Ledgers.{AreAccepted};
+ghost use Rattle.shared_lookup.specs.Checks.{AreReferredInOrder, HasReplayed, answers_at};
+ghost use Rattle.shared_lookup.specs.Checks.{is_wrong_answer, with_log};
+ghost use Rattle.shared_lookup.specs.Ledgers.{AreAccepted, HasNothingPending, ledger_of};
 ghost use Rattle.shared_lookup.specs.Servings.{entries};
 
 use crate::gates::Open;
-use crate::resting::RestingWriter;
+use crate::resting::{apply, find};
 use crate::served::Answer;
-use order_laws::Refusal;
+use latch_table::Writer;
+use order_laws::{HalfOpen, Refusal};
 use std::alloc::{AllocError, Global};
 use table_updates::Update;
 
@@ -55,20 +57,21 @@ fn by_generation(alloc: Global, answers: &[Vec<Answer>]) -> Result<Vec<&Answer>,
 
 /// Brings a table that has made the first `done` updates of the log on to the first `count`.
 fn replay_up_to(
-    table: &mut RestingWriter,
+    table: &mut Writer<HalfOpen>,
     log: &[Update],
     done: usize,
     count: usize,
 ) -> Result<(), Refusal>
-    requires done { table.old.log ≡ take done log.now }
+    requires rests { HasNothingPending table.old }
+    requires done { table.old.history ≡ take done log.now }
     requires further { done ≤ count }
     requires within { count ≤ length log.now }
-    requires accepted { AreAccepted (with_log log.now table.old) }
-    ensures replayed { OnOk result (table.new ≡ with_log (take count log.now) table.old) }
+    requires accepted { AreAccepted (with_log log.now (ledger_of table.old)) }
+    ensures replayed { OnOk result (HasReplayed (take count log.now) table.old table.new) }
     ensures refusal { IfErr result (λ e. e ≡ OutOfMemory) }
 {
     for update in &log[done..count] {
-        table.apply(&Open, 0, update.copy()?)?;
+        apply(table, &Open, 0, update.copy()?)?;
     }
     Ok(())
 }
@@ -76,18 +79,19 @@ fn replay_up_to(
 /// Whether an answer is wrong, of a generation that is not below the `done` updates of the log that
 /// the table has made. Returns with it how many it has made then.
 fn is_wrong(
-    table: &mut RestingWriter,
+    table: &mut Writer<HalfOpen>,
     log: &[Update],
     done: usize,
     answer: &Answer,
 ) -> Result<(bool, usize), Refusal>
-    requires done { table.old.log ≡ take done log.now }
+    requires rests { HasNothingPending table.old }
+    requires done { table.old.history ≡ take done log.now }
     requires within { done ≤ length log.now }
     requires further { done ≤ answer.now.generation }
-    requires accepted { AreAccepted (with_log log.now table.old) }
+    requires accepted { AreAccepted (with_log log.now (ledger_of table.old)) }
     ensures wrong { IfOk result (λ r. r.0 ≡ is_wrong_answer log.now answer.now) }
     ensures done { IfOk result (λ r. (r.1 ≤ length log.now) × (r.1 ≤ answer.now.generation)
-        × (table.new ≡ with_log (take r.1 log.now) table.old)) }
+        × HasReplayed (take r.1 log.now) table.old table.new) }
     ensures refusal { IfErr result (λ e. e ≡ OutOfMemory) }
 {
     if answer.generation > log.len() as u64 {
@@ -95,19 +99,20 @@ fn is_wrong(
     }
     let count = answer.generation as usize;
     replay_up_to(table, log, done, count)?;
-    let found = table.find(answer.key);
+    let found = find(table, answer.key);
     Ok((answer.item != found, count))
 }
 
 /// How many answers are wrong, of answers in order, by a table that has made no update.
 #[tactic(auto, using(crate::proofs::CheckLemmas::count_referred))]
 fn wrong_in_order(
-    table: &mut RestingWriter,
+    table: &mut Writer<HalfOpen>,
     log: &[Update],
     answers: &[&Answer],
 ) -> Result<u64, Refusal>
-    requires blank { table.old.log ≡ [] }
-    requires accepted { AreAccepted (with_log log.now table.old) }
+    requires rests { HasNothingPending table.old }
+    requires blank { table.old.history ≡ [] }
+    requires accepted { AreAccepted (with_log log.now (ledger_of table.old)) }
     requires ordered { AreReferredInOrder answers.now }
     ensures count { IfOk result (λ n.
         n ≡ count_by (is_wrong_answer log.now) (answers_at answers.now)) }
@@ -128,12 +133,13 @@ fn wrong_in_order(
 /// How many answers of these lists are wrong, by a table that has made no update.
 pub(crate) fn wrong_answers(
     alloc: Global,
-    table: &mut RestingWriter,
+    table: &mut Writer<HalfOpen>,
     log: &[Update],
     answers: &[Vec<Answer>],
 ) -> Result<u64, Refusal>
-    requires blank { table.old.log ≡ [] }
-    requires accepted { AreAccepted (with_log log.now table.old) }
+    requires rests { HasNothingPending table.old }
+    requires blank { table.old.history ≡ [] }
+    requires accepted { AreAccepted (with_log log.now (ledger_of table.old)) }
     ensures count { IfOk result (λ n.
         n ≡ count_by (is_wrong_answer log.now) (entries answers.now)) }
     ensures refusal { IfErr result (λ e. e ≡ OutOfMemory) }

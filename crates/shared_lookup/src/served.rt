@@ -28,7 +28,7 @@ pub struct Served {
     pub answers: Vec<Vec<Answer>>,
     /// For each list of keys whether it ended early, because memory ran out.
     pub ended: Vec<bool>,
-    /// For each list of keys its reader, which has met the writer since; none where there was no
+    /// For each list of keys its reader, which has met the writer since; none if there was no
     /// thread.
     pub readers: Vec<Option<Reader<HalfOpen>>>,
     /// Every accepted update, in order.

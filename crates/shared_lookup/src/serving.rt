@@ -20,7 +20,7 @@ use crate::lists::{join_readers, join_writers, start_readers, start_writers, wit
 use crate::meetings::{meet_all, settle_all};
 use crate::served::Served;
 use crate::shared::{CatalogWriter, Changer, NamesTable, SharedWriter};
-use crate::threads::{Found, Made};
+use crate::threads::{ChangeResults, LookupResults};
 use latch_table::{MOST_READERS, Reader};
 use modules::Catalog;
 use order_laws::{HalfOpen, Refusal};
@@ -34,8 +34,8 @@ use word_layout::Layout;
 /// What all threads came back with.
 #[derive(Drop)]
 struct ThreadResults {
-    made: Vec<Made>,
-    heard: Vec<Found>,
+    made: Vec<ChangeResults>,
+    heard: Vec<LookupResults>,
 }
 
 /// Runs a thread for each list that is not empty, all at once, and waits for them. Refused before
@@ -100,7 +100,7 @@ fn times_for(alloc: Global, changes: &[Vec<Change>]) -> Result<Vec<u8>, AllocErr
     vec![in alloc; 0u8; count.max(1)]
 }
 
-/// Runs the threads over a ledger that was opened with so many readers, lets each reader that came
+/// Runs the threads over a ledger that was opened with these readers, lets each reader that came
 /// back meet its writer, and counts what is wrong. Refused by [`Refusal::OutOfMemory`] alone, before
 /// the first thread starts.
 fn serve_from<K: NamesTable + Send + Sync, R: Threads + Wait + Sync, G: Gate + Sync>(
@@ -181,7 +181,7 @@ fn readers_beside(
 }
 
 /// The layout of a table for all regions of a catalog, with 64-bit sequences. Refused by
-/// [`Refusal::BadCapacity`] where they are more than a table can have.
+/// [`Refusal::BadCapacity`] if they are more than a table can have.
 fn layout_for(c: &Catalog<'_>) -> Result<Layout, Refusal>
     ensures may { IfOk result (λ _. length (regions_of c.now) ≤ most_nodes) }
     ensures room { IfOk result (λ l. length (regions_of c.now) ≤ capacity_of l) }
@@ -199,26 +199,26 @@ fn layout_for(c: &Catalog<'_>) -> Result<Layout, Refusal>
 /// waits for them, and counts what is wrong.
 ///
 /// Each change is one [`SharedWriter::change`], each key one
-/// [`Reader::look`](latch_table::Reader::look), and where this gives no answer a
+/// [`Reader::look`](latch_table::Reader::look), and if this gives no answer a
 /// [`Reader::find`](latch_table::Reader::find). Writers, readers and places are numbered from 0.
 /// The gate is told of each step of each update, and of each place before its lookup and after it.
-/// Where no thread can be made for a list, its changes are refused by [`Refusal::OutOfMemory`], or
-/// it ends at its first key; so does a list of keys end where there is no memory for an answer.
+/// If no thread can be made for a list, its changes are refused by [`Refusal::OutOfMemory`], or
+/// it ends at its first key; so does a list of keys end without memory for an answer.
 ///
 /// Each answer is what its key lies in after as many updates of the log as its generation says, and
 /// the generations of a list never fall. For each answer the list's reader looked: it loaded the
-/// sequence at the start and at the end of each attempt, or once where it remembered the item.
+/// sequence at the start and at the end of each attempt, or once if it remembered the item.
 ///
 /// The changes of a list follow the log: each is accepted as a later update of it than those before,
 /// or refused as a beginning of the log refuses it that is no shorter than theirs. For that a reader
 /// of its own is beside each list, and meets the writer before and after each change.
 ///
 /// Counted as wrong are each answer whose generation is above the log's length or that is not what
-/// the key lies in after as many updates of the log, of which there is none; each accepted change
-/// whose generation's entry of the log is none that the catalog gives for it; and each entry whose
-/// generation is not that of exactly one accepted change.
+/// the key lies in after as many updates of the log: there is none; each accepted change
+/// whose generation's entry of the log is none that the catalog gives for it; and each entry that
+/// is not the one of exactly one accepted change.
 ///
-/// Refused by [`Refusal::BadCapacity`] where the catalog has more than 65536 regions or there are
+/// Refused by [`Refusal::BadCapacity`] if the catalog has more than 65536 regions or there are
 /// not 1 to 64 lists of keys, and else by [`Refusal::OutOfMemory`]; in either case no thread has
 /// started.
 #[tactic(auto, using(crate::proofs::ReaderLemmas::readers_opened))]

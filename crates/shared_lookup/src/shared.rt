@@ -4,21 +4,19 @@ ghost use Rattle.std.specs.Prelude.{◌≡◌, None, Some};
 ghost use Rattle.shared_lookup.specs.Changes.{IsOutcomeOf};
 ghost use Rattle.shared_lookup.specs.Followings.{IsMadeBeside, IsOpenedAs};
 ghost use Rattle.shared_lookup.specs.Ledgers.{IsNamed};
-ghost use Rattle.shared_lookup.specs.Replacing.{IsOutcomeOfReplacing, IsReplacedBeside};
-ghost use Rattle.shared_lookup.specs.Replacing.{ReplacesHeld};
 
 use crate::changes::Change;
 use crate::gates::Gate;
 use crate::ledgers::Ledger;
 use latch_table::Reader;
 use modules::Catalog;
-use order_laws::{HalfOpen, Item, Refusal};
+use order_laws::{HalfOpen, Refusal};
 use std::marker::{Brand, Model, PhantomData};
 use std::sync::{Mutex, Wait};
 
-/// Names the table of a ledger, in proofs alone. Of what lies under a lock only its type is known,
-/// so this is how the readers beside it are known to be of the same table. A caller that has no
-/// need of it takes [`Brand`], which names none.
+/// Names the table of a ledger, in proofs alone. Only the type of a value under a lock is known, so
+/// this is how the readers beside it are known to be of its table. A caller that has no need of it
+/// takes [`Brand`], which names none.
 pub trait NamesTable {
     ghost use Rattle.std.specs.Prelude.{Option};
     ghost use Rattle.atomic_table.specs.Seated.{TableId};
@@ -73,7 +71,8 @@ impl<K: NamesTable> NamedLedger<K> {
         ledger.change(g, who, c, ch)
     }
 
-    /// The same beside a reader of the table, which meets the writer before and after it.
+    /// One [`Ledger::change`] beside a reader of the table, which meets the writer before and after
+    /// it.
     fn change_beside<G: Gate>(
         &mut self,
         g: &G,
@@ -93,42 +92,6 @@ impl<K: NamesTable> NamedLedger<K> {
         };
         let (mut ledger, seat) = ledger.meet(seat);
         let outcome = ledger.change(g, who, c, ch);
-        let (ledger, seat) = ledger.meet(seat);
-        self.ledger = Some(ledger);
-        (outcome, seat)
-    }
-
-    /// One [`Ledger::replace`].
-    fn replace<G: Gate>(&mut self, g: &G, who: u32, list: &[Item]) -> Result<u64, Refusal>
-        ensures { ReplacesHeld list.now self.old self.new result }
-    {
-        let Some(mut ledger) = self.ledger.take() else {
-            unreachable!()
-        };
-        let replaced = ledger.replace(g, who, list);
-        self.ledger = Some(ledger);
-        replaced
-    }
-
-    /// One [`Ledger::replace`] beside a reader of the table, which meets the writer before and after
-    /// it.
-    fn replace_beside<G: Gate>(
-        &mut self,
-        g: &G,
-        who: u32,
-        seat: Reader<HalfOpen>,
-        list: &[Item],
-    ) -> (Result<u64, Refusal>, Reader<HalfOpen>)
-        requires { K.table ≡ Some seat.place }
-        ensures place { result.1.place ≡ seat.place }
-        ensures replaced { IsReplacedBeside K.opened list.now seat.knowledge.known
-            result.1.knowledge.known result.0 }
-    {
-        let Some(ledger) = self.ledger.take() else {
-            unreachable!()
-        };
-        let (mut ledger, seat) = ledger.meet(seat);
-        let outcome = ledger.replace(g, who, list);
         let (ledger, seat) = ledger.meet(seat);
         self.ledger = Some(ledger);
         (outcome, seat)
@@ -170,7 +133,8 @@ impl<K: NamesTable> SharedWriter<K> {
         self.ledger.lock(rt).change(g, who, c, ch)
     }
 
-    /// The same beside a reader of the table, which meets the writer before and after it.
+    /// One [`Ledger::change`] in one taking of the lock, beside a reader of the table, which meets
+    /// the writer before and after it.
     pub(crate) fn change_beside<R: Wait, G: Gate>(
         &self,
         rt: &R,
@@ -189,40 +153,7 @@ impl<K: NamesTable> SharedWriter<K> {
         self.ledger.lock(rt).change_beside(g, who, seat, c, ch)
     }
 
-    /// One [`Ledger::replace`] in one taking of the lock: what it returns, the replacement returns
-    /// at some ledger. [`SharedWriter::replace_beside`] tells what it leaves.
-    pub fn replace<R: Wait, G: Gate>(
-        &self,
-        rt: &R,
-        g: &G,
-        who: u32,
-        list: &[Item],
-    ) -> Result<u64, Refusal>
-        ensures { IsOutcomeOfReplacing list.now result }
-    {
-        self.ledger.lock(rt).replace(g, who, list)
-    }
-
-    /// One [`Ledger::replace`] in one taking of the lock, beside a reader of the table, which meets
-    /// the writer before and after it. The reader comes back and knows the log that the replacement
-    /// left: at `Ok` what was shown before and the replacement, at `Err` what was shown before.
-    pub fn replace_beside<R: Wait, G: Gate>(
-        &self,
-        rt: &R,
-        g: &G,
-        who: u32,
-        seat: Reader<HalfOpen>,
-        list: &[Item],
-    ) -> (Result<u64, Refusal>, Reader<HalfOpen>)
-        requires { K.table ≡ Some seat.place }
-        ensures place { result.1.place ≡ seat.place }
-        ensures replaced { IsReplacedBeside K.opened list.now seat.knowledge.known
-            result.1.knowledge.known result.0 }
-    {
-        self.ledger.lock(rt).replace_beside(g, who, seat, list)
-    }
-
-    /// The ledger, where nobody else shares it.
+    /// The ledger, which nobody else shares any more.
     pub fn into_ledger(self) -> Ledger
         ensures table { IsNamed K.table result.place }
         ensures opened { IsOpenedAs K.opened result }
@@ -243,9 +174,10 @@ pub(crate) trait Changer {
 
     ghost catalog: { Self → CatalogEntries };
 
-    /// The table, and its ledger as it was opened, where they are named.
+    /// The table, if it is named.
     ghost table: { Self → Option TableId };
 
+    /// Its ledger as it was opened, if that is named.
     ghost opened: { Self → Option LedgerState };
 
     /// The new generation, or why the change was refused, and the reader of the table, which meets

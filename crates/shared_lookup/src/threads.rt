@@ -36,13 +36,13 @@ pub(crate) struct Changing<'s> {
     ghost room: { length outcomes.items ≡ length changes.now },
 }
 
-/// The thread of a list of changes, or the room for their outcomes where there is none: the list is
+/// The thread of a list of changes, or the room for their outcomes if there is none: the list is
 /// empty or no thread could be made.
 #[derive(Drop)]
 pub(crate) struct WriterThread<'s, W: Changer> {
     pub(crate) changer: &'s W,
     pub(crate) changes: &'s [Change],
-    thread: Option<PromisedHandle<Made, OutcomesOf<'s, W>>>,
+    thread: Option<PromisedHandle<ChangeResults, OutcomesOf<'s, W>>>,
     outcomes: Outcomes,
     ghost same: { ForSome thread (λ h.
         (h.promise.changer.now ≡ changer.now) × (h.promise.changes.now ≡ changes.now)) },
@@ -51,9 +51,9 @@ pub(crate) struct WriterThread<'s, W: Changer> {
 
 /// What a writer's thread comes back with.
 #[derive(Drop)]
-pub(crate) struct Made {
+pub(crate) struct ChangeResults {
     pub(crate) outcomes: Outcomes,
-    /// The reader beside which the changes were made, where there was a thread.
+    /// The reader beside which the changes were made, if there was a thread.
     pub(crate) seat: Option<Reader<HalfOpen>>,
 }
 
@@ -80,29 +80,29 @@ impl<'s, W: Changer> WriterThread<'s, W> {
     }
 }
 
-impl<'a, W: Changer> Promise<Made> for OutcomesOf<'a, W> {
+impl<'a, W: Changer> Promise<ChangeResults> for OutcomesOf<'a, W> {
     ghost kept_by = { λ p r. AreMade (W.table p.changer.now) (W.opened p.changer.now)
         (W.catalog p.changer.now) p.changes.now r.outcomes.items r.seat };
 }
 
-/// The thread of a list of keys; none where the list is empty or no thread could be made.
+/// The thread of a list of keys; none if the list is empty or no thread could be made.
 #[derive(Drop)]
 pub(crate) struct ReaderThread<'s, W: Changer> {
     pub(crate) changer: &'s W,
     pub(crate) reader: u32,
     keys: &'s [u64],
-    thread: Option<PromisedHandle<Found, AnswersTo<'s, W>>>,
+    thread: Option<PromisedHandle<LookupResults, AnswersTo<'s, W>>>,
     ghost same: { ForSome thread (λ h. (h.promise.changer.now ≡ changer.now)
         × (h.promise.reader ≡ reader) × (h.promise.keys.now ≡ keys.now)) },
 }
 
 /// What a reader's thread comes back with.
 #[derive(Drop)]
-pub(crate) struct Found {
+pub(crate) struct LookupResults {
     pub(crate) answers: Vec<Answer>,
     /// Whether the list ended early, because memory ran out.
     pub(crate) ended: bool,
-    /// The reader itself, where there was a thread.
+    /// The reader itself, if there was a thread.
     pub(crate) seat: Option<Reader<HalfOpen>>,
 }
 
@@ -115,7 +115,7 @@ pub(crate) struct AnswersTo<'a, W: Changer> {
     keys: &'a [u64],
 }
 
-impl<'a, W: Changer> Promise<Found> for AnswersTo<'a, W> {
+impl<'a, W: Changer> Promise<LookupResults> for AnswersTo<'a, W> {
     ghost kept_by = { λ p r. IsHeard (W.table p.changer.now) p.reader p.keys.now r.answers.items
         r.ended r.seat };
 }
@@ -146,7 +146,7 @@ fn make_changes<R: Wait, G: Gate, W: Changer>(
     changes: &[Change],
     outcomes: Outcomes,
     seat: Reader<HalfOpen>,
-) -> Made
+) -> ChangeResults
     requires room { length outcomes.items ≡ length changes.now }
     requires seat { W.table changer.now ≡ Some seat.place }
     ensures { AreMade (W.table changer.now) (W.opened changer.now) (W.catalog changer.now)
@@ -160,7 +160,7 @@ fn make_changes<R: Wait, G: Gate, W: Changer>(
         seat = back;
     }
     g.tell(Point::WriterDone { writer });
-    Made {
+    ChangeResults {
         outcomes,
         seat: Some(seat),
     }
@@ -193,7 +193,7 @@ fn look_up<R: Wait, G: Gate, W: Changer>(
     reader: u32,
     mut seat: Reader<HalfOpen>,
     keys: &[u64],
-) -> Found
+) -> LookupResults
     requires { IsNewReaderOf (W.table _changer.now) seat }
     ensures { IsHeard (W.table _changer.now) reader keys.now result.answers.items result.ended
         result.seat }
@@ -201,7 +201,7 @@ fn look_up<R: Wait, G: Gate, W: Changer>(
     let mut answers = Vec::new(alloc);
     for (index, key) in keys.iter().enumerate() {
         if answers.reserve(1).is_err() {
-            return Found {
+            return LookupResults {
                 answers,
                 ended: true,
                 seat: Some(seat),
@@ -219,7 +219,7 @@ fn look_up<R: Wait, G: Gate, W: Changer>(
             item,
         });
     }
-    Found {
+    LookupResults {
         answers,
         ended: false,
         seat: Some(seat),
@@ -227,7 +227,7 @@ fn look_up<R: Wait, G: Gate, W: Changer>(
 }
 
 /// Starts the thread of one list of changes, unless it is empty or has no reader beside it. The
-/// room for the outcomes goes with the thread, even where none can be made; so there is to be room
+/// room for the outcomes goes with the thread, even if none can be made; so there is to be room
 /// once more before.
 pub(crate) fn start_writer<'s, E, R: Threads + Wait + Sync, G: Gate + Sync, W: Changer + Sync>(
     scope: &Scope<'s, E>,
@@ -257,7 +257,7 @@ pub(crate) fn start_writer<'s, E, R: Threads + Wait + Sync, G: Gate + Sync, W: C
     let started = Stack::new().stack_size(STACK_SIZE).spawn_scoped_with(
         scope,
         OutcomesOf { changer, changes },
-        move || -> Made
+        move || -> ChangeResults
             requires room { length outcomes.items ≡ length changes.now }
             requires seat { W.table changer.now ≡ Some seat.place }
             ensures { AreMade (W.table changer.entry.now) (W.opened changer.entry.now)
@@ -300,7 +300,7 @@ pub(crate) fn start_reader<'s, E, R: Threads + Wait + Sync, G: Gate + Sync, W: C
                 reader,
                 keys,
             },
-            move || -> Found
+            move || -> LookupResults
                 requires { IsNewReaderOf (W.table changer.now) seat }
                 ensures { IsHeard (W.table changer.entry.now) reader keys.entry.now
                     result.answers.items result.ended result.seat }
@@ -316,8 +316,11 @@ pub(crate) fn start_reader<'s, E, R: Threads + Wait + Sync, G: Gate + Sync, W: C
     }
 }
 
-/// Waits for the thread of one list of changes. Where there was none, each change is refused.
-pub(crate) fn join_writer<R: Threads, W: Changer>(rt: &R, writer: WriterThread<'_, W>) -> Made
+/// Waits for the thread of one list of changes. If there was none, each change is refused.
+pub(crate) fn join_writer<R: Threads, W: Changer>(
+    rt: &R,
+    writer: WriterThread<'_, W>,
+) -> ChangeResults
     ensures { AreMade (W.table writer.entry.changer.now) (W.opened writer.entry.changer.now)
         (W.catalog writer.entry.changer.now) writer.entry.changes.now result.outcomes.items
         result.seat }
@@ -330,21 +333,21 @@ pub(crate) fn join_writer<R: Threads, W: Changer>(rt: &R, writer: WriterThread<'
     } = writer;
     match thread {
         Some(thread) => thread.join(rt),
-        None => Made {
+        None => ChangeResults {
             outcomes: refused(outcomes),
             seat: None,
         },
     }
 }
 
-/// Waits for the thread of one list of keys. Where there was none, no key has an answer, and the
+/// Waits for the thread of one list of keys. If there was none, no key has an answer, and the
 /// list has ended unless it is empty.
 #[tactic(auto, using(crate::proofs::FoundLemmas::none_found))]
 pub(crate) fn join_reader<R: Threads, W: Changer>(
     rt: &R,
     alloc: Global,
     reader: ReaderThread<'_, W>,
-) -> Found
+) -> LookupResults
     ensures { IsHeard (W.table reader.entry.changer.now) reader.entry.reader reader.entry.keys.now
         result.answers.items result.ended result.seat }
 {
@@ -356,7 +359,7 @@ pub(crate) fn join_reader<R: Threads, W: Changer>(
     } = reader;
     match thread {
         Some(thread) => thread.join(rt),
-        None => Found {
+        None => LookupResults {
             answers: Vec::new(alloc),
             ended: !keys.is_empty(),
             seat: None,

@@ -15,8 +15,8 @@ impl Ledger {
     /// table, its generation and the log stay. Takes all readers of the old row, which is given up
     /// with them, and hands out as many of the new one.
     ///
-    /// Refused by [`Refusal::BadCapacity`] where the layout has fewer nodes or a smaller greatest
-    /// sequence, and else by [`Refusal::OutOfMemory`]; a refusal changes nothing and hands the same
+    /// Refused by [`Refusal::BadCapacity`] if the layout has fewer nodes or a smaller greatest
+    /// sequence, and else by [`Refusal::OutOfMemory`]; a refusal changes nothing and hands the
     /// readers back.
     pub fn enlarge(
         &mut self,
@@ -30,6 +30,8 @@ impl Ledger {
         ensures handed_back { IfErr result (λ e. e.1 ≡ readers) }
         ensures unchanged { OnErr result (self.new ≡ self.old) }
     {
+        // Its clause `sound` says that the writer's tables come of its history.
+        let _generation = self.writer.generation();
         let readers = self.writer.enlarge(alloc, l, readers)?;
         self.layout = l;
         Ok(readers)

@@ -5,7 +5,7 @@ use Rattle.std.specs.Vec.Iter.{into_iter_items}
 use Rattle.std.proofs.lemmas.List.Elements.{All-push}
 use mathlib.Core.List.{IsPrefix}
 use Rattle.shared_lookup.specs.declared.served.Answer.{Answer}
-use Rattle.shared_lookup.specs.declared.threads.Found.{Found}
+use Rattle.shared_lookup.specs.declared.threads.LookupResults.{LookupResults}
 use Rattle.shared_lookup.specs.Ledgers.{LedgerState}
 use Rattle.shared_lookup.specs.Readers.{EachHasLooked, HasMet, known_by}
 use Rattle.shared_lookup.specs.Servings.{AreFoundIn, EachIsAnswered, EachIsFoundIn}
@@ -25,7 +25,7 @@ met-same-requires c =
     let keys = c.args.keys.now in
     let place = c.args.ledger.place in
     let step = c.in-Some.ensures.steps.0 in
-    let all : c.args.heard.items ≡ done ++ f ∷ rest = i.gone ∙ ap (λ (xs : List Found). done ++ xs) step in
+    let all : c.args.heard.items ≡ done ++ f ∷ rest = i.gone ∙ ap (λ (xs : List LookupResults). done ++ xs) step in
     let heard = subst (AreHeard (Some place) keys) all c.requires.heard in
     subst (λ (l : LedgerState). IfSome f.seat (λ r. r.place ≡ l.place)) (sym i.same) (met_here (Some place) keys done rest f heard place refl)
 
@@ -39,7 +39,7 @@ loop-found-preserved c =
     let place = c.args.ledger.place in
     let log = c.args.ledger.log in
     let step = c.in-Some.ensures.steps.0 in
-    let all : c.args.heard.items ≡ done ++ f ∷ rest = i.gone ∙ ap (λ (xs : List Found). done ++ xs) step in
+    let all : c.args.heard.items ≡ done ++ f ∷ rest = i.gone ∙ ap (λ (xs : List LookupResults). done ++ xs) step in
     let heard = subst (AreHeard (Some place) keys) all c.requires.heard in
     let here = heard_here (Some place) keys done rest f heard in
     let known : IsPrefix (known_by f.seat) log = subst (λ (l : LedgerState). IsPrefix (known_by f.seat) l.log) i.same c.met-same.ensures.known in
@@ -50,7 +50,7 @@ loop-found-preserved c =
     let met : HasMet log f.seat back = subst (λ (l : LedgerState). HasMet l.log f.seat back) i.same c.met-same.ensures.reader in
     let looked = all_looked_more log c.loop-found.answers.items c.loop-found.readers.items f.answers back i.looked (looked_met log f.answers.items f.seat back here.looked met) in
     record {
-      gone = i.gone ∙ ap (λ (xs : List Found). done ++ xs) step ∙ sym (append_assoc done (f ∷ []) rest);
+      gone = i.gone ∙ ap (λ (xs : List LookupResults). done ++ xs) step ∙ sym (append_assoc done (f ∷ []) rest);
       same = c.met-same.ensures.same ∙ i.same;
       answered =
           subst (λ (xs : List (Vec Answer)). EachIsAnswered (take (length (done ++ f ∷ [])) keys) xs c.push_reserved-in-loop-found.new.self.items) (sym c.push_reserved.ensures.items)
@@ -70,7 +70,7 @@ push_reserved-requires c =
     let done = c.loop-found.yielded in
     let rest = into_iter_items c.next.new.self in
     let f = c.in-Some.found in
-    let all : c.args.heard.items ≡ done ++ f ∷ rest = i.gone ∙ ap (λ (xs : List Found). done ++ xs) c.in-Some.ensures.steps.0 in
+    let all : c.args.heard.items ≡ done ++ f ∷ rest = i.gone ∙ ap (λ (xs : List LookupResults). done ++ xs) c.in-Some.ensures.steps.0 in
     room_left c.args.keys.now done rest f c.loop-found.answers (ap length (sym all) ∙ c.requires.heard.same) i.answered.same i.long
 
 pub push_reserved-requires-in-loop-found : goal.push_reserved-requires-in-loop-found
@@ -79,7 +79,7 @@ push_reserved-requires-in-loop-found c =
     let done = c.loop-found.yielded in
     let rest = into_iter_items c.next.new.self in
     let f = c.in-Some.found in
-    let all : c.args.heard.items ≡ done ++ f ∷ rest = i.gone ∙ ap (λ (xs : List Found). done ++ xs) c.in-Some.ensures.steps.0 in
+    let all : c.args.heard.items ≡ done ++ f ∷ rest = i.gone ∙ ap (λ (xs : List LookupResults). done ++ xs) c.in-Some.ensures.steps.0 in
     room_left c.args.keys.now done rest f c.loop-found.ended (ap length (sym all) ∙ c.requires.heard.same) i.answered.told i.told
 
 pub push_reserved-requires-in-loop-found-2 : goal.push_reserved-requires-in-loop-found-2
@@ -88,5 +88,5 @@ push_reserved-requires-in-loop-found-2 c =
     let done = c.loop-found.yielded in
     let rest = into_iter_items c.next.new.self in
     let f = c.in-Some.found in
-    let all : c.args.heard.items ≡ done ++ f ∷ rest = i.gone ∙ ap (λ (xs : List Found). done ++ xs) c.in-Some.ensures.steps.0 in
+    let all : c.args.heard.items ≡ done ++ f ∷ rest = i.gone ∙ ap (λ (xs : List LookupResults). done ++ xs) c.in-Some.ensures.steps.0 in
     room_left c.args.keys.now done rest f c.loop-found.readers (ap length (sym all) ∙ c.requires.heard.same) (i.looked.same ∙ i.answered.same) i.back

@@ -17,7 +17,8 @@ loop-answer-preserved c =
     let more = c.loop-answer.invariant.count in
     record {
       within = e.done.0;
-      table = e.done.2 ∙ ap (λ (t : LedgerState). with_log (take c.in_ok-here.now log) t) c.loop-answer.invariant.table;
+      rests = e.done.2.0;
+      table = e.done.2.1 ∙ ap (λ (t : LedgerState). with_log (take c.in_ok-here.now log) t) c.loop-answer.invariant.table;
       further = λ k l h. let rises = c.requires.ordered i k no_reference (omega (arith, l)) h in let now = e.done.1 in omega (arith, rises, now);
       count =
           elim c.if-here.branch [
