@@ -14,7 +14,7 @@ use Rattle.latch_steps.specs.declared.replies.Note.{Note}
 use Rattle.latch_steps.specs.declared.replies.Note.TheVariants.{Returned as ReturnedNote, Refused as RefusedNote}
 use Rattle.latch_steps.specs.declared.replies.Reply.TheVariants.{Loaded, Retried, Refused, Returned as ReturnedReply}
 use Rattle.latch_steps.specs.declared.lookups.Lookup.{Lookup}
-use Rattle.latch_steps.specs.declared.lookups.Loaded.TheVariants.{Going, Retrying, Returned as ReturnedLoad}
+use Rattle.latch_steps.specs.declared.lookups.LoadOutcome.TheVariants.{Going, Retrying, Returned as ReturnedLoad}
 use Rattle.latch_steps.specs.declared.lookups.LookupState.TheVariants.{Going as Holds, Returned as Ends}
 use Rattle.latch_steps.specs.Runs.{PendingLookup, Moment, Done, step_done, last_of}
 use Rattle.latch_steps.specs.Steps.{machine, counted_up, with_lookups, after_load, load_done, read_done, Run}

@@ -10,7 +10,7 @@ use Rattle.latch_core.specs.Cores.{capacity_of_core, key_of_core, rest_of_core, 
 use Rattle.latch_core.proofs.ReaderLemmas.{core_loads}
 use Rattle.latch_core.proofs.ReadingLemmas.{rest_push}
 use Rattle.latch_steps.specs.declared.lookups.Lookup.{Lookup}
-use Rattle.latch_steps.specs.declared.lookups.Loaded.TheVariants.{Going as GoingLoad, Retrying as RetryingLoad, Returned as ReturnedLoad}
+use Rattle.latch_steps.specs.declared.lookups.LoadOutcome.TheVariants.{Going as GoingLoad, Retrying as RetryingLoad, Returned as ReturnedLoad}
 use Rattle.latch_steps.specs.Runs.{PendingLookup, Moment}
 use Rattle.latch_steps.specs.Steps.{counted_up, with_value, next_attempt, Returns, after_value, load_left, after_load}
 use Rattle.latch_steps.specs.Lookups.{IsLookupOf, LoadsTo}

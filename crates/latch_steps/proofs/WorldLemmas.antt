@@ -25,7 +25,7 @@ use Rattle.latch_steps.specs.declared.replies.Returned.{Returned}
 use Rattle.latch_steps.specs.declared.replies.Reply.{Reply}
 use Rattle.latch_steps.specs.declared.replies.Reply.TheVariants.{Begun, Wrote, Idle, Started, Loaded, Retried, Returned as ReturnedReply, Refused}
 use Rattle.latch_steps.specs.declared.lookups.Lookup.{Lookup}
-use Rattle.latch_steps.specs.declared.lookups.Loaded.TheVariants.{Going, Retrying, Returned as ReturnedLoad}
+use Rattle.latch_steps.specs.declared.lookups.LoadOutcome.TheVariants.{Going, Retrying, Returned as ReturnedLoad}
 use Rattle.latch_steps.specs.declared.worlds.World.{World}
 use Rattle.latch_steps.specs.Runs.{PendingLookup, Moment}
 use Rattle.latch_steps.specs.Steps.{counted_up, with_event, new_lookup, with_latch, with_lookups, IsBegin, IsWrite, after_load, start_done, load_done, read_done}

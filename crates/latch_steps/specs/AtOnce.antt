@@ -70,7 +70,7 @@ pub record FindsNow {O K : Type 0} (o : Order K) (old : World O K) (w : Moment K
       (step_done (Start r k) Started begun ∷ run ++ step_done (Read r) (ReturnedReply x) done ∷ [])
   pub shows : RepresentsMoment o new done
 
--- a lookup that was not begun: because memory ran out, where the reader has none pending, with
+-- a lookup that was not begun: because memory ran out, if the reader has none pending, with
 -- nothing changed; or since it has
 abbrev pub IsNotBegun : {O K : Type 0} (o : Order K) {start' : ℕ} {us : List Update} {c : World O K}
     → IsAfter o start' us c → ℕ → Refusal → World O K → Type 0
@@ -79,14 +79,14 @@ IsNotBegun o h r why new =
     ⊎ ((why ≡ ReaderBusy) × (is_some (get h.moment.lookups r) ≡ true)
     × RepresentsMoment o new (with_event h.moment))
 
--- an attempt in the world's words gives this, of this generation, after so many loads
+-- an attempt in the world's words gives this, of this generation, after this many loads
 pub record LooksUp {O K : Type 0} (o : Order K) (c : World O K) (k : K) (answer : Option Item)
     (g loads : ℕ) : Type 0 where
   pub comes_to : outcome_in c.words.items (attempt o (capacity_of (layout_in c)) k)
       ≡ Answer answer g
   pub counts : loads_in c.words.items (attempt o (capacity_of (layout_in c)) k) ≡ loads
 
--- the words are not those of its layout, or no attempt in them gives an answer
+-- the words do not fit its layout, or no attempt in them gives an answer
 abbrev pub HasNoAnswer : {O K : Type 0} → Order K → World O K → K → Type 0
 HasNoAnswer o c k =
     (length c.words.items ≢ words_for (capacity_of (layout_in c)))

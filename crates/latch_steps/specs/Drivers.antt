@@ -47,7 +47,7 @@ IsTakenFrom {O} {K} o old new =
     → HasDriven o l start commands taken old
     → HasDriven o l start commands (taken ++ notes_in old) new
 
--- these notes behind those that were taken, and this last sequence, are those of a run of whatever
+-- the notes that were taken and then these, and this last sequence, come of a run of whatever
 -- it has carried out
 abbrev pub LeavesNotes : {O K : Type 0} → Order K → Driver O K → Notes O K → Type 0
 LeavesNotes {O} {K} o d left =

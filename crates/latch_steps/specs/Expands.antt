@@ -1,4 +1,4 @@
--- The events that a list of commands stands for.
+-- The events that a list of commands means.
 use Rattle.std.specs.Prelude.{◌≡◌, ℕ, ◌-◌, ◌<◌, Bool, true, false, ◌||◌, List, [], ◌∷◌, ◌++◌}
 use Rattle.std.specs.Prelude.{Option, Some, None, is_none, if◌then◌else◌}
 use Rattle.std.specs.FinMap.{get}
@@ -25,7 +25,7 @@ event_of WriteEnd = Write
 event_of (StartCommand r k) = Start r k
 event_of (ReadCommand r most) = Read r
 
--- with no pending update the writer makes no step; with a pending update it has so many left
+-- with no pending update the writer makes no step; with a pending update it has its steps left
 abbrev pub writes_within : Option PendingUpdate → ℕ → ℕ
 writes_within None most = 0
 writes_within (Some h) most = most
@@ -61,7 +61,7 @@ ends WriteEnd reply w = is_none w.latch.pending
 ends (ReadCommand r most) reply w = is_return reply
 ends _ reply w = false
 
--- the command's event again and again, up to the first that ends it, or so many where that takes
+-- the command's event again and again, up to the first that ends it, or `turns` times if that takes
 -- more
 abbrev pub Repeats : {K : Type 0} → Command K → ℕ → List (Done K) → Type 0
 Repeats c most [] = most ≡ 0

@@ -48,7 +48,7 @@ pub record LoadsOn {O K : Type 0} (m : Machine K) (w : Moment K) (r most : ℕ)
   pub holding : ChangesOneLookup m.order m.capacity w (last_of w run) r
       (lookup_of loads.held) loads.events
 
--- they came to it from each moment of these words that has this pending lookup, after so many
+-- they came to it from each moment of these words that has this pending lookup, after `events`
 -- events
 abbrev pub LoadsFrom :
     {O K : Type 0} → Order K → List ℕ → Lookup O K → ℕ → ℕ → ℕ → LookupProgress O K → Type 0
@@ -57,7 +57,7 @@ LoadsFrom {O} {K} o words c r most events loads =
     → IsPendingLookup o n (Some c) (get w.lookups r) → events ≡ w.events
     → LoadsOn (machine o n limit) w r most loads
 
--- the same of a whole world, from a moment that it shows: how many loads, and what is to be noted
+-- loads of a reader in a world, from a moment that it shows: how many, and what is to be noted
 pub record ReadsOn {O K : Type 0} (o : Order K) (old : World O K) (w : Moment K) (r most : ℕ)
     (reads : ℕ × Option (Note K)) (new : World O K) : Type 0 where
   pub run : List (Done K)

@@ -9,7 +9,7 @@ pub mod Safe
 pub mod Memory
 -- a lookup that the writer leaves alone returns at its first attempt, soon
 pub mod Quiet
--- the same within fewer loads, since the writer's trees are red-black
+-- and within fewer loads, since the writer's trees are red-black
 pub mod Near
 -- a run whose updates and lookups come one after another gives what a plain table gives
 pub mod Plain
@@ -18,9 +18,9 @@ pub mod Plain
 pub mod Steps
 -- what a trace says of its run
 pub mod Traces
--- the run that a list of commands stands for
+-- the run that a list of commands means
 pub mod Expands
--- What the code stands for: a lookup, a world, and what one event and a whole call do to it.
+-- What the code means: a lookup, a world, and what one event and a whole call do to it.
 -- a lookup of the code
 pub mod Lookups
 -- a world, and one after a history of accepted updates

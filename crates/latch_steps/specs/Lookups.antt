@@ -1,4 +1,4 @@
--- What a lookup of the code stands for, and what one load of it does.
+-- What a lookup of the code means, and what one load of it does.
 use Rattle.std.specs.Prelude.{◌≡◌, ℕ, List, Option, Some, None}
 use Rattle.std.specs.Ordering.{nat_cmp}
 use Rattle.std.specs.Option.{option_flatten}
@@ -6,8 +6,8 @@ use Rattle.std.specs.BTreeMap.{BTreeMap, get as tree_get}
 use Rattle.order_laws.specs.Orders.{Order}
 use Rattle.latch_core.specs.Cores.{capacity_of_core, key_of_core, HasTaken}
 use Rattle.latch_steps.specs.declared.lookups.Lookup.{Lookup}
-use Rattle.latch_steps.specs.declared.lookups.Loaded.{Loaded}
-use Rattle.latch_steps.specs.declared.lookups.Loaded.TheVariants.{Going, Retrying, Returned}
+use Rattle.latch_steps.specs.declared.lookups.LoadOutcome.{LoadOutcome}
+use Rattle.latch_steps.specs.declared.lookups.LoadOutcome.TheVariants.{Going, Retrying, Returned}
 use Rattle.latch_steps.specs.Runs.{PendingLookup, Moment}
 use Rattle.latch_steps.specs.Steps.{counted_up, Goes, Retries, Returns, after_load}
 
@@ -34,8 +34,8 @@ abbrev pub lookup_at : {O K : Type 0} → BTreeMap ℕ (Option (Lookup O K)) →
 lookup_at places r = option_flatten (tree_get nat_cmp places r)
 
 -- one load of this reader's pending lookup, from these words, as event number `last`
-abbrev pub LoadsTo : {O K : Type 0} → Order K → ℕ → List ℕ → ℕ → ℕ → PendingLookup K → Loaded O K
-    → Type 0
+abbrev pub LoadsTo : {O K : Type 0} → Order K → ℕ → List ℕ → ℕ → ℕ → PendingLookup K
+    → LoadOutcome O K → Type 0
 LoadsTo {O} {K} o n words r last l (Going c) =
     (next : PendingLookup K) × IsLookupOf o n c next
     × ((w : Moment K) → w.latch.words ≡ words → after_load o n w r l ≡ Goes next)
@@ -47,7 +47,7 @@ LoadsTo {O} {K} o n words r last l (Returned x) =
     → after_load o n w r l ≡ Returns x
 
 -- so from whatever lookup of the definitions the code's is
-abbrev pub LoadsFromAny : {O K : Type 0} → Order K → Lookup O K → List ℕ → ℕ → ℕ → Loaded O K
+abbrev pub LoadsFromAny : {O K : Type 0} → Order K → Lookup O K → List ℕ → ℕ → ℕ → LoadOutcome O K
     → Type 0
 LoadsFromAny {O} {K} o c words r last loaded =
     (n : ℕ) (l : PendingLookup K) → IsLookupOf o n c l → LoadsTo o n words r last l loaded

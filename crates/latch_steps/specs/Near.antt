@@ -1,4 +1,4 @@
--- What is promised of a lookup that the writer leaves alone, where the writer keeps its trees red-
+-- What is promised of a lookup that the writer leaves alone, if the writer keeps its trees red-
 -- black.
 use Rattle.std.specs.Prelude.{ℕ, ◌+◌, ◌*◌, ◌^◌, ◌≤◌, List, [], ◌∷◌, length}
 use Rattle.std.specs.List.{AllByRecursion}

@@ -31,7 +31,7 @@ next_load o n words l =
       attempts = l.attempts;
     }
 
--- and what that of this reader does, at a moment
+-- and what the lookup of this reader does, at a moment
 abbrev pub load_of : {K : Type 0} → Order K → ℕ → Moment K → ℕ → Option (NextLoad K)
 load_of o n w r = option_map (next_load o n w.latch.words) (get w.lookups r)
 

@@ -28,13 +28,13 @@ IsPlain w [] = Unit {0}
 IsPlain w (d ∷ run) = IsPlainEvent w d.event × IsPlain d.after run
 
 -- and at each command, whose part of the run is plain then: an update that is accepted is followed
--- by writes up to its end, and a start by reads of the same reader that end the lookup
+-- by writes up to its end, and a start by reads of its reader that end the lookup
 abbrev pub ArePlain : {K : Type 0} → Moment K → List (Command K) → List (Done K) → Type 0
 ArePlain w [] run = run ≡ []
 ArePlain w (c ∷ cs) run =
     IsPlainEvent w (event_of c) × IsPartAndRest w c (λ v rest. ArePlain v cs rest) run
 
--- a lookup gives that of its key in this table, with this generation, at its first attempt and
+-- a lookup gives what its key finds in this table, with this generation, at its first attempt and
 -- within four loads for each item and three
 pub record IsLookIn {K : Type 0} (o : Order K) (table : List Item) (g : ℕ) (x : Returned K)
     : Type 0 where
@@ -43,7 +43,7 @@ pub record IsLookIn {K : Type 0} (o : Order K) (table : List Item) (g : ℕ) (x 
   pub attempts : x.attempts ≡ 1
   pub loads : x.loads ≤ most_loads table
 
--- that of the table after these updates, with their generation
+-- and in the table after these updates, with their generation
 abbrev pub IsLookAfter : {K : Type 0} → Order K → ℕ → List Update → Returned K → Type 0
 IsLookAfter o start us x = IsLookIn o (replay o [] us) (generation_of start + length us) x
 

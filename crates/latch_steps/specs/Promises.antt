@@ -39,19 +39,19 @@ abbrev pub IsQuietTrace : {O K : Type 0} → Order K → Layout → ℕ → Trac
 IsQuietTrace {O} {K} o l start t =
     (run : List (Done K)) → IsTraceOf o l start t run → IsQuiet o start run
 
--- and some run has it in which these lookups return within 4d + 3 loads, where 2^d is at most the
+-- and some run has it in which these lookups return within 4d + 3 loads, for 2^d at most the
 -- square of n + 1
 abbrev pub IsNearTrace : {O K : Type 0} → Order K → Layout → ℕ → Trace O K → Type 0
 IsNearTrace {O} {K} o l start t =
     (run : List (Done K)) × IsTraceOf o l start t run × AreNear o start (history run) run
 
--- where updates and lookups come one after another, each lookup that returned is that of the table
+-- if updates and lookups come one after another, each lookup that returned is right in the table
 -- after all updates accepted before it
 abbrev pub IsExactWherePlain : {K : Type 0} → Order K → ℕ → ℕ → List (Done K) → Type 0
 IsExactWherePlain o n start run = IsPlain (opening n start) run → AreLooksAfter o start [] run
 
 -- some run that carries out these commands has these notes and this last sequence, is safe and
--- quiet, and its lookups that the writer leaves alone return so; and it is exact where it is plain
+-- quiet, and its lookups that the writer leaves alone return so; and it is exact if it is plain
 pub record AreNotesOfCommands {K : Type 0} (o : Order K) (l : Layout) (start : ℕ)
     (commands : List (Command K)) (noted : List (Note K)) (last : ℕ) : Type 0 where
   pub run : List (Done K)
@@ -81,7 +81,7 @@ AllRunsAreRemembered o = AllRunsAre o (λ n start run. IsRemembered o n start ru
 abbrev pub AllRunsAreQuiet : {K : Type 0} → Order K → Type 0
 AllRunsAreQuiet o = AllRunsAre o (λ n start run. IsQuiet o start run)
 
--- and every run from an even sequence, however long, is exact where it is plain
+-- and every run from an even sequence, however long, is exact if it is plain
 abbrev pub AllPlainRunsAreExact : {K : Type 0} → Order K → Type 0
 AllPlainRunsAreExact {K} o =
     (n limit start : ℕ) (run : List (Done K)) → stable_copy_of start ≡ 0

@@ -23,7 +23,7 @@ abbrev pub is_flip : {K : Type 0} → Reply K → Bool
 is_flip (Wrote s) = s.word == 0
 is_flip _ = false
 
--- a run up to the writer's next step: refusals, accepted updates and any reader's steps may stand
+-- a run up to the writer's next step: refusals, accepted updates and any reader's steps may be
 -- in it
 abbrev pub up_to_next_step : {K : Type 0} → List (Done K) → List (Done K)
 up_to_next_step [] = []
@@ -41,14 +41,14 @@ replies_to r (d ∷ run) =
     if is_load_of r d.event then d.reply ∷ replies_to r run else replies_to r run
 
 -- These replies to a reader's loads lead on to its return at the first attempt, with the last of at
--- most so many loads. The replies may end before it.
+-- most `most` loads. The replies may end before it.
 abbrev pub ReturnsWithin : {K : Type 0} → ℕ → List (Reply K) → Type 0
 ReturnsWithin most [] = Unit {0}
 ReturnsWithin most (Loaded ∷ rest) = (1 < most) × ReturnsWithin (most - 1) rest
 ReturnsWithin most (ReturnedReply x ∷ rest) = x.attempts ≡ 1
 ReturnsWithin most (_ ∷ rest) = ⊥
 
--- a lookup that was started returns so, within so many loads, if the writer makes no step before
+-- a lookup that was started returns so, within `most` loads, if the writer makes no step before
 abbrev pub ReturnsFromStart : {K : Type 0} → ℕ → Event K → Reply K → List (Done K) → Type 0
 ReturnsFromStart most (Start r k) Started rest =
     ReturnsWithin most (replies_to r (up_to_next_step rest))

@@ -32,7 +32,7 @@ pub record IsNew {O K : Type 0} (o : Order K) (l : Layout) (start : ℕ) (r : Re
   pub notes : r.notes.items ≡ []
   pub opened : MayOpen l start
 
--- a trace of all that was recorded, and the notes of it where the events were counted
+-- a trace of all that was recorded, and the notes of it if the events were counted
 pub record IsWhole {O K : Type 0} (o : Order K) (r : Recorder O K) (t : Trace O K) : Type 0 where
   pub events : t.events.items ≡ r.events.items
   pub few : length t.events.items < 2 ^ 64
@@ -45,7 +45,7 @@ pub record AreWhole {O K : Type 0} (o : Order K) (r : Recorder O K) (t : Notes O
   pub sequence : HasSequence o r.world t.sequence
 
 -- from a moment that its world shows, a recorder did this run, over red-black trees, kept its
--- events where it keeps them, and noted its replies
+-- events if it keeps them, and noted its replies
 pub record Records {O K : Type 0} (o : Order K) (keeps : Bool) (old : Recorder O K)
     (w : Moment K) (new : Recorder O K) (run : List (Done K)) : Type 0 where
   pub layout : layout_in new.world ≡ layout_in old.world
@@ -62,7 +62,7 @@ RecordsEvent {O} {K} o keeps e old new reply =
     (w : Moment K) → RepresentsMoment o old.world w
     → (next : Moment K) × Records o keeps old w new (step_done e reply next ∷ [])
 
--- an event is appended so many times, where events are kept
+-- an event is appended `times` times, if events are kept
 abbrev pub AppendsCopies :
     {K : Type 0} → Bool → Event K → ℕ → List (Event K) → List (Event K) → Type 0
 AppendsCopies keeps e times old new = new ≡ old ++ kept keeps (replicate times e)

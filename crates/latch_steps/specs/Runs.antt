@@ -53,6 +53,6 @@ abbrev pub last_of : {K : Type 0} → Moment K → List (Done K) → Moment K
 last_of w [] = w
 last_of w (d ∷ run) = last_of d.after run
 
--- the moment after so many of its events
+-- the moment after some of its events
 abbrev pub moment_at : {K : Type 0} → Moment K → List (Done K) → ℕ → Moment K
 moment_at w run i = last_of w (take i run)

@@ -11,7 +11,7 @@ use Rattle.latch_steps.specs.declared.replies.Reply.{Reply}
 use Rattle.latch_steps.specs.declared.replies.Reply.TheVariants.{Returned as ReturnedReply}
 use Rattle.latch_steps.specs.Runs.{Done, opening, history, moment_at}
 
--- a lookup that returned gives what was current after so many events of a run from the opening, no
+-- a lookup that returned gives what was current after some events of a run from the opening, no
 -- fewer than those up to its start and no more than those up to its last load. The history is that
 -- of the whole run: the current table at a moment is made by the first of its updates, as many as
 -- word 0 names then.

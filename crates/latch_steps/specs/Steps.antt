@@ -34,7 +34,7 @@ pub record Machine (K : Type 0) : Type 0 where
 abbrev pub machine : {K : Type 0} → Order K → ℕ → ℕ → Machine K
 machine o capacity limit = record { order = o; capacity = capacity; limit = limit }
 
--- that of an order and a layout
+-- the machine of an order and a layout
 abbrev pub machine_of : {K : Type 0} → Order K → Layout → Machine K
 machine_of o l = machine o (capacity_of l) (limit_of l)
 
@@ -75,7 +75,7 @@ IsWrite n w (Some h) reply w' =
 abbrev pub new_lookup : {K : Type 0} → K → ℕ → PendingLookup K
 new_lookup k first = record { key = k; first = first; loads = 0; attempts = 1; values = [] }
 
--- A start: refused where the reader has a pending lookup; else it has a new one
+-- A start: refused if the reader has a pending lookup; else it has a new one
 abbrev pub start_done :
     {K : Type 0} → Moment K → ℕ → K → Option (PendingLookup K) → Reply K × Moment K
 start_done w r k (Some l) = (Refused ReaderBusy, with_event w)
@@ -131,7 +131,7 @@ load_done w r (Goes l) = (Loaded, with_lookups w (insert w.lookups r l))
 load_done w r (Retries l) = (Retried, with_lookups w (insert w.lookups r l))
 load_done w r (Returns x) = (ReturnedReply x, with_lookups w (remove w.lookups r))
 
--- A read: refused where the reader has no pending lookup; else one load
+-- A read: refused if the reader has no pending lookup; else one load
 abbrev pub read_done :
     {K : Type 0} → Order K → ℕ → Moment K → ℕ → Option (PendingLookup K) → Reply K × Moment K
 read_done o n w r None = (Refused ReaderIdle, with_event w)

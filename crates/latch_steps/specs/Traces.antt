@@ -20,7 +20,7 @@ abbrev pub events_of : {K : Type 0} → List (Done K) → List (Event K)
 events_of [] = []
 events_of (d ∷ run) = d.event ∷ events_of run
 
--- a list where it is kept, and else nothing
+-- a list if it is kept, and else nothing
 abbrev pub kept : {X : Type 0} → Bool → List X → List X
 kept true xs = xs
 kept false xs = []

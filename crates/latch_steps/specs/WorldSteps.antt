@@ -21,7 +21,7 @@ Does {O} {K} o old e reply new =
     × Step (machine_in o old) w e reply next
     × RepresentsMoment o new next
 
--- nothing stands against the event but that memory ran out, which only these two may meet
+-- nothing is against the event but that memory ran out, which only these two may meet
 abbrev pub IsUnopposed : {K : Type 0} → Machine K → Moment K → Event K → Type 0
 IsUnopposed m w (Begin u) = refusal_of m w.latch u ≡ None
 IsUnopposed m w (Start r k) = get w.lookups r ≡ None
@@ -32,7 +32,7 @@ abbrev pub is_refused_for_memory : {K : Type 0} → Reply K → Bool
 is_refused_for_memory (Refused OutOfMemory) = true
 is_refused_for_memory _ = false
 
--- it is refused because memory ran out, where nothing else stands against it, and nothing has
+-- it is refused because memory ran out, when nothing else is against it, and nothing has
 -- changed
 abbrev pub GivesUp : {O K : Type 0} → Order K → World O K → Event K → Reply K → World O K → Type 0
 GivesUp {O} {K} o old e reply new =

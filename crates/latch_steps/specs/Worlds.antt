@@ -1,4 +1,4 @@
--- What a world of the code stands for: a moment of the definitions, and one after a history of
+-- What a world of the code means: a moment of the definitions, and one after a history of
 -- accepted updates.
 use Rattle.std.specs.Prelude.{◌≡◌, ℕ, ◌-◌, ◌^◌, ◌<◌, List, ◌++◌, Option, None}
 use Rattle.std.specs.Ordering.{nat_cmp}

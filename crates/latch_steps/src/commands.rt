@@ -9,7 +9,7 @@ pub enum Command<K> {
     Begin(Update),
     /// At most this many steps of the writer, up to the end of the pending update.
     Write(u32),
-    /// Steps of the writer up to and with its next flip; where none remains, up to the end of the
+    /// Steps of the writer up to and with its next flip; if none remains, up to the end of the
     /// pending update.
     WriteFlip,
     /// Steps of the writer up to the end of the pending update.

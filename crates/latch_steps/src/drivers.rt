@@ -21,7 +21,7 @@ pub struct Driver<O: TreeOrder> {
 impl<O: TreeOrder> Driver<O> {
     /// An empty table with its sequence at `start`, before any command.
     ///
-    /// Refused by [`Refusal::BadCapacity`] where the start is odd or above the layout's limit, and
+    /// Refused by [`Refusal::BadCapacity`] if the start is odd or above the layout's limit, and
     /// by [`Refusal::OutOfMemory`].
     #[tactic(auto, using(crate::proofs::DriverLemmas::driven_none))]
     pub fn open(alloc: Global, l: Layout, start: u64) -> Result<Self, Refusal>

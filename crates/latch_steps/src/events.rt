@@ -19,7 +19,7 @@ pub enum Event<K> {
 }
 
 impl<K: Copy> Event<K> {
-    /// The same event once more. Refused by [`Refusal::OutOfMemory`] alone.
+    /// A copy of the event. Refused by [`Refusal::OutOfMemory`] alone.
     pub fn copy(&self) -> Result<Event<K>, Refusal>
         ensures same { IfOk result (λ e. e ≡ self.now) }
         ensures refusal { IfErr result (λ why. why ≡ Refusal.OutOfMemory) }

@@ -11,9 +11,9 @@ pub fn every_run_is_safe<O: TreeOrder>()
     ensures { AllRunsAreSafe O.order }
 {}
 
-/// An item that a lookup returned answers from memory, by one load of word 0: where this names the
+/// An item that a lookup returned answers from memory, by one load of word 0: if this names the
 /// generation of that lookup, the item is for each key in it the lookup of the table that is
-/// current at that load, even when the writer stands inside an update.
+/// current at that load, even in the middle of an update.
 pub fn every_answer_is_remembered<O: TreeOrder>()
     ensures { AllRunsAreRemembered O.order }
 {}
@@ -25,7 +25,7 @@ pub fn every_run_is_quiet<O: TreeOrder>()
     ensures { AllRunsAreQuiet O.order }
 {}
 
-/// Where each update is ended at once and each lookup is read to its end at once, each lookup that
+/// If each update is ended at once and each lookup is read to its end at once, each lookup that
 /// returns gives the lookup of the table after all updates accepted before it, with their
 /// generation, at its first attempt and within four loads for each item of that table and three.
 pub fn every_plain_run_is_exact<O: TreeOrder>()

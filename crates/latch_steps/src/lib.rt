@@ -1,7 +1,7 @@
 //! The step machine: one writer and any number of readers, one load or store of one word at a time.
 //!
 //! A list of events is any interleaving of single steps; an interrupt that stops the writer in the
-//! middle of an update is a lookup that stands between two of its steps.
+//! middle of an update is a lookup between two of its steps.
 #![tactic(auto)]
 
 pub mod commands;
@@ -23,6 +23,6 @@ pub use laws::{
     plain_commands_run_plainly,
 };
 pub use replies::{NextLoad, Note, Reply, Returned};
-pub use runs::{drive, drive_notes, run};
+pub use runs::{drive, run};
 pub use traces::{Notes, Trace};
 pub use worlds::World;

@@ -22,7 +22,7 @@ pub(crate) struct Lookup<O: TreeOrder> {
 }
 
 /// What a lookup becomes with one load.
-pub(crate) enum Loaded<O: TreeOrder> {
+pub(crate) enum LoadOutcome<O: TreeOrder> {
     /// Its attempt goes on.
     Going(Lookup<O>),
     /// Its attempt came to nothing, and the next one begins.
@@ -80,7 +80,7 @@ impl<O: TreeOrder> Lookup<O> {
         }
     }
 
-    /// Loads of the reader, at most so many and up to its return, after `events` events.
+    /// Makes at most `most` loads of the reader, up to its return, after `events` events.
     pub(crate) fn load_on(
         self,
         words: &[u64],
@@ -94,9 +94,9 @@ impl<O: TreeOrder> Lookup<O> {
         for turn in 0..most {
             events = events.saturating_add(1);
             match lookup.load(words, reader, events) {
-                Loaded::Going(next) => lookup = next,
-                Loaded::Retrying(next) => lookup = next,
-                Loaded::Returned(returned) => {
+                LoadOutcome::Going(next) => lookup = next,
+                LoadOutcome::Retrying(next) => lookup = next,
+                LoadOutcome::Returned(returned) => {
                     return LookupProgress {
                         held: LookupState::Returned(returned),
                         count: turn + 1,
@@ -116,7 +116,7 @@ impl<O: TreeOrder> Lookup<O> {
     ///
     /// It is part of each loop over loads, so that these go on with a lookup that is where it was.
     #[inline(always)]
-    pub(crate) fn load(self, words: &[u64], reader: u32, last: u64) -> Loaded<O>
+    pub(crate) fn load(self, words: &[u64], reader: u32, last: u64) -> LoadOutcome<O>
         ensures { LoadsFromAny O.order self words.now reader last result }
     {
         let Lookup {
@@ -129,19 +129,19 @@ impl<O: TreeOrder> Lookup<O> {
         let value = word_at(words, core.wanted());
         let loads = loads.saturating_add(1);
         match core.take(value) {
-            Taken::Going(core) => Loaded::Going(Lookup {
+            Taken::Going(core) => LoadOutcome::Going(Lookup {
                 core,
                 first,
                 loads,
                 attempts,
             }),
-            Taken::Retrying(core) => Loaded::Retrying(Lookup {
+            Taken::Retrying(core) => LoadOutcome::Retrying(Lookup {
                 core,
                 first,
                 loads,
                 attempts: attempts.saturating_add(1),
             }),
-            Taken::Returned(answer, generation) => Loaded::Returned(Returned {
+            Taken::Returned(answer, generation) => LoadOutcome::Returned(Returned {
                 reader,
                 key,
                 answer,

@@ -1,5 +1,9 @@
 //! What a step replies, and what a run notes.
 
+ghost use Rattle.std.specs.Prelude.{◌≡◌};
+ghost use Rattle.latch_steps.specs.Quiet.{is_flip};
+ghost use Rattle.latch_steps.specs.WorldSteps.{is_refused_for_memory};
+
 use order_laws::{Item, Refusal};
 use word_layout::Store;
 
@@ -58,6 +62,28 @@ pub enum Reply<K> {
     Returned(Returned<K>),
     /// Nothing was done.
     Refused(Refusal),
+}
+
+impl<K> Reply<K> {
+    /// Whether the step flipped the sequence.
+    pub fn is_flip(&self) -> bool
+        ensures { result ≡ is_flip self.now }
+    {
+        match self {
+            Reply::Wrote(store) => store.word == 0,
+            _ => false,
+        }
+    }
+
+    /// Whether the step was refused because memory ran out.
+    pub fn is_refused_for_memory(&self) -> bool
+        ensures { result ≡ is_refused_for_memory self.now }
+    {
+        match self {
+            Reply::Refused(Refusal::OutOfMemory) => true,
+            _ => false,
+        }
+    }
 }
 
 /// What a run notes: each lookup that returned and each refusal.

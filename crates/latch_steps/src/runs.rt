@@ -3,12 +3,11 @@
 ghost use Rattle.std.specs.Prelude.{◌≡◌, ◌≤◌, IfOk, IfErr, length};
 ghost use Rattle.latch_core.specs.Writers.{MayOpen, IsOpeningRefused};
 ghost use Rattle.latch_steps.specs.Promises.{IsTrace, IsTraceOfCommands, IsSafeTrace, IsQuietTrace};
-ghost use Rattle.latch_steps.specs.Promises.{IsNearTrace, AreNotesOfCommands};
+ghost use Rattle.latch_steps.specs.Promises.{IsNearTrace};
 
 use crate::commands::Command;
-use crate::drivers::Driver;
 use crate::events::Event;
-use crate::traces::{Notes, Recorder, Trace};
+use crate::traces::{Recorder, Trace};
 use order_laws::{Refusal, TreeOrder};
 use std::alloc::Global;
 use word_layout::Layout;
@@ -18,10 +17,10 @@ use word_layout::Layout;
 /// Each lookup that returns gives the lookup of the table after some whole number of accepted
 /// updates, which was current at a moment between its first and its last step; and a lookup whose
 /// steps meet no writer step returns at its first attempt within `4n + 3` loads at a table of `n`
-/// items, even where the writer stands inside an update. These loads are also at most `4d + 3` for
+/// items, even in the middle of an update. These loads are also at most `4d + 3` for
 /// a `d` with 2 to the power `d` at most the square of `n + 1`.
 ///
-/// Refused by [`Refusal::BadCapacity`] where the start is odd or above the layout's limit, and by
+/// Refused by [`Refusal::BadCapacity`] if the start is odd or above the layout's limit, and by
 /// [`Refusal::OutOfMemory`], which gives up the whole run.
 pub fn run<O: TreeOrder>(
     alloc: Global,
@@ -47,8 +46,8 @@ pub fn run<O: TreeOrder>(
 /// Does the events of these commands one after another, from an empty table with its sequence at
 /// `start`.
 ///
-/// The trace is a run of its events, under the same promise as that of [`run`], and its events are
-/// those that the commands stand for.
+/// The trace is a run of its events, under the promise of [`run`], and its events are
+/// the ones that the commands mean.
 pub fn drive<O: TreeOrder>(
     alloc: Global,
     l: Layout,
@@ -69,31 +68,7 @@ pub fn drive<O: TreeOrder>(
     Ok(recorder.finish())
 }
 
-/// Does the events of these commands as [`drive`] does, and keeps no list of them.
-///
-/// The notes and the sequence are those of a run of the events that the commands stand for, under
-/// the same promise as that of [`run`]. A run of 2 to the power 64 events less one, or of more, is
-/// refused as too large.
-pub fn drive_notes<O: TreeOrder>(
-    alloc: Global,
-    l: Layout,
-    start: u64,
-    commands: &[Command<O::Key>],
-) -> Result<Notes<O>, Refusal>
-    ensures notes { IfOk result (λ t. AreNotesOfCommands O.order l start commands.now
-        t.notes.items t.sequence) }
-    ensures may { IfOk result (λ t. MayOpen l start) }
-    ensures refusal { IfErr result (IsOpeningRefused l start) }
-{
-    let mut driver = Driver::<O>::open(alloc, l, start)?;
-    for command in commands {
-        driver.obey(command)?;
-    }
-    let notes = driver.finish()?;
-    Ok(notes)
-}
-
-/// How many of the commands ask for loads, of which each may return a lookup: a list of notes that
+/// How many of the commands ask for loads, with which a lookup may return: a list of notes that
 /// has this room need not move while it grows.
 fn reads_among<K>(commands: &[Command<K>]) -> usize
     ensures { result ≤ length commands.now }

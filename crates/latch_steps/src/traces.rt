@@ -7,7 +7,6 @@ ghost use Rattle.latch_steps.specs.declared.events.Event.TheVariants.{Begin};
 ghost use Rattle.latch_steps.specs.Traces.{note_of};
 ghost use Rattle.latch_steps.specs.WorldSteps.{is_refused_for_memory};
 ghost use Rattle.latch_steps.specs.Recorders.{AppendsCopies};
-ghost use Rattle.latch_steps.specs.Quiet.{is_flip};
 
 use crate::commands::Command;
 use crate::events::Event;
@@ -29,7 +28,7 @@ pub struct Trace<O: TreeOrder> {
     pub sequence: u64,
 }
 
-/// What a run leaves where its events are not kept.
+/// What a run leaves whose events are not kept.
 #[derive(Drop)]
 pub struct Notes<O: TreeOrder> {
     /// The lookups that returned and the refusals, in the order of events.
@@ -38,7 +37,7 @@ pub struct Notes<O: TreeOrder> {
     pub sequence: u64,
 }
 
-/// A world, with the events that it did, where these are kept, and what they are noted as.
+/// A world, with the events that it did, if these are kept, and what they are noted as.
 #[derive(Drop)]
 pub(crate) struct Recorder<O: TreeOrder> {
     world: World<O>,
@@ -57,27 +56,7 @@ fn note_of<K: Copy>(reply: &Reply<K>) -> Option<Note<K>>
     }
 }
 
-/// Whether a reply says that memory ran out.
-fn gives_up<K: Copy>(reply: &Reply<K>) -> bool
-    ensures { result ≡ is_refused_for_memory reply.now }
-{
-    match reply {
-        Reply::Refused(Refusal::OutOfMemory) => true,
-        _ => false,
-    }
-}
-
-/// Whether a reply is a flip of the sequence.
-fn is_flip<K: Copy>(reply: &Reply<K>) -> bool
-    ensures { result ≡ is_flip reply.now }
-{
-    match reply {
-        Reply::Wrote(store) => store.word == 0,
-        _ => false,
-    }
-}
-
-/// Appends copies of an event that is done so many times, where events are kept. Refused by
+/// Appends a copy of an event for each of the times that it is done, if events are kept. Refused by
 /// [`Refusal::OutOfMemory`] alone.
 fn keep<K: Copy, const KEEPS: bool>(
     events: &mut Vec<Event<K>>,
@@ -96,7 +75,7 @@ fn keep<K: Copy, const KEEPS: bool>(
     Ok(())
 }
 
-/// Appends a copy of this update's beginning, where events are kept. Refused by
+/// Appends a copy of this update's beginning, if events are kept. Refused by
 /// [`Refusal::OutOfMemory`] alone.
 fn keep_beginning<K: Copy, const KEEPS: bool>(
     events: &mut Vec<Event<K>>,
@@ -119,7 +98,7 @@ fn keep_note<K: Copy>(notes: &mut Vec<Note<K>>, reply: &Reply<K>) -> Result<(), 
     ensures goes_on { OnOk result (is_refused_for_memory reply.now ≡ false) }
     ensures refusal { IfErr result (λ e. e ≡ Refusal.OutOfMemory) }
 {
-    if gives_up(reply) {
+    if reply.is_refused_for_memory() {
         return Err(Refusal::OutOfMemory);
     }
     if let Some(note) = note_of(reply) {
@@ -133,7 +112,7 @@ impl<O: TreeOrder> Recorder<O> {
     ghost use Rattle.latch_steps.specs.Recorders.{RecordsEvent, ObeysFromAny, ObeysWriting};
     ghost use Rattle.latch_steps.specs.Recorders.{ObeysReading, EndsAt};
 
-    /// A world before any event, with nothing recorded, and room for so many notes.
+    /// A world before any event, with nothing recorded, and room for `room` notes.
     pub(crate) fn open(alloc: Global, l: Layout, start: u64, room: usize) -> Result<Self, Refusal>
         ensures new { IfOk result (IsNew O.order l start) }
         ensures refusal { IfErr result (IsOpeningRefused l start) }
@@ -146,7 +125,7 @@ impl<O: TreeOrder> Recorder<O> {
         })
     }
 
-    /// Does one event and records it. A copy is made only where events are kept.
+    /// Does one event and records it. A copy is made only if events are kept.
     pub(crate) fn record<const KEEPS: bool>(
         &mut self,
         event: &Event<O::Key>,
@@ -209,8 +188,8 @@ impl<O: TreeOrder> Recorder<O> {
         }
     }
 
-    /// Steps of the writer, at most so many and up to the end of the pending update; where
-    /// `to_flip`, up to the next flip.
+    /// Makes at most `most` steps of the writer, up to the end of the pending update; if `to_flip`,
+    /// up to the next flip.
     fn write_on<const KEEPS: bool>(&mut self, most: u64, to_flip: bool) -> Result<(), Refusal>
         ensures written { OnOk result (ObeysWriting O.order KEEPS to_flip most self.old self.new) }
         ensures refusal { IfErr result (λ e. e ≡ Refusal.OutOfMemory) }
@@ -228,11 +207,11 @@ impl<O: TreeOrder> Recorder<O> {
     fn ends(&self, reply: &Reply<O::Key>, to_flip: bool) -> bool
         ensures { EndsAt O.order self.now to_flip reply.now result }
     {
-        (to_flip && is_flip(reply)) || !self.world.is_writing()
+        (to_flip && reply.is_flip()) || !self.world.is_writing()
     }
 
-    /// Loads of a reader, at most so many and up to the return of its lookup. One without a pending
-    /// lookup is refused once.
+    /// Makes at most `most` loads of a reader, up to the return of its lookup. A reader without a
+    /// pending lookup is refused once.
     fn read_on<const KEEPS: bool>(&mut self, reader: u32, most: u32) -> Result<(), Refusal>
         ensures read { OnOk result (ObeysReading O.order KEEPS reader most self.old self.new) }
         ensures refusal { IfErr result (λ e. e ≡ Refusal.OutOfMemory) }

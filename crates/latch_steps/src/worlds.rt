@@ -10,7 +10,7 @@ ghost use Rattle.latch_steps.specs.declared.events.Event.TheVariants.{Begin, Wri
 ghost use Rattle.latch_steps.specs.Runs.{Moment, accepted, opening};
 
 use crate::events::Event;
-use crate::lookups::{Loaded, Lookup, LookupProgress, LookupState};
+use crate::lookups::{LoadOutcome, Lookup, LookupProgress, LookupState};
 use crate::replies::{NextLoad, Note, Reply, Returned};
 use crate::words::{opening_words, put, word_at};
 use latch_core::{Attempted, WriterCore, attempt_in};
@@ -48,7 +48,7 @@ impl<O: TreeOrder> World<O> {
 
     /// A world before any event, with its sequence at `start`.
     ///
-    /// Refused by [`Refusal::BadCapacity`] where the start is odd or above the layout's limit, and
+    /// Refused by [`Refusal::BadCapacity`] if the start is odd or above the layout's limit, and
     /// by [`Refusal::OutOfMemory`].
     pub fn open(alloc: Global, l: Layout, start: u64) -> Result<Self, Refusal>
         ensures layout { IfOk result (λ w. layout_in w ≡ l) }
@@ -71,7 +71,7 @@ impl<O: TreeOrder> World<O> {
 
     /// Does one event.
     ///
-    /// Begin and Start may be refused by [`Refusal::OutOfMemory`] where nothing else stands against
+    /// Begin and Start may be refused by [`Refusal::OutOfMemory`] if nothing else is against
     /// them, and nothing has changed then.
     pub fn step(&mut self, event: Event<O::Key>) -> Reply<O::Key>
         ensures layout { layout_in self.new ≡ layout_in self.old }
@@ -81,7 +81,7 @@ impl<O: TreeOrder> World<O> {
         self.step_from(&event)
     }
 
-    /// The same for a caller that keeps its event.
+    /// Does one event, for a caller that keeps it.
     pub fn step_from(&mut self, event: &Event<O::Key>) -> Reply<O::Key>
         ensures layout { layout_in self.new ≡ layout_in self.old }
         ensures steps { IsWorldStep O.order self.old event.now result self.new }
@@ -115,7 +115,7 @@ impl<O: TreeOrder> World<O> {
         }
     }
 
-    /// The writer makes one store, where it has a pending update.
+    /// The writer makes one store, if it has a pending update.
     fn write(&mut self) -> Reply<O::Key>
         ensures layout { layout_in self.new ≡ layout_in self.old }
         ensures steps { Does O.order self.old Write result self.new }
@@ -184,15 +184,15 @@ impl<O: TreeOrder> World<O> {
             return Reply::Refused(Refusal::ReaderIdle);
         };
         match lookup.load(self.words.as_slice(), reader, self.events) {
-            Loaded::Going(next) => {
+            LoadOutcome::Going(next) => {
                 *place = Some(next);
                 Reply::Loaded
             }
-            Loaded::Retrying(next) => {
+            LoadOutcome::Retrying(next) => {
                 *place = Some(next);
                 Reply::Retried
             }
-            Loaded::Returned(returned) => Reply::Returned(returned),
+            LoadOutcome::Returned(returned) => Reply::Returned(returned),
         }
     }
 
@@ -208,9 +208,9 @@ impl<O: TreeOrder> World<O> {
     /// Looks a key up at once, as a lookup from its start to its return.
     ///
     /// No step of the writer comes between, so the lookup returns at its first attempt within `4n +
-    /// 3` loads at a table of `n` items, and within `4d + 3` where 2 to the power d is at most the
-    /// square of `n + 1`, even if the writer stands inside an update. Refused by
-    /// [`Refusal::ReaderBusy`] where the reader has a pending lookup.
+    /// 3` loads at a table of `n` items, and within `4d + 3` if 2 to the power d is at most the
+    /// square of `n + 1`, even in the middle of an update. Refused by
+    /// [`Refusal::ReaderBusy`] if the reader has a pending lookup.
     pub fn find_now(&mut self, reader: u32, key: O::Key) -> Result<Returned<O::Key>, Refusal>
         ensures layout { layout_in self.new ≡ layout_in self.old }
         ensures finds { IfOk result (FindsFromAny O.order self.old reader key self.new) }
@@ -260,7 +260,7 @@ impl<O: TreeOrder> World<O> {
         }
     }
 
-    /// Loads of a reader, at most so many and up to the return of its lookup; a reader without a
+    /// Makes at most `most` loads of a reader, up to the return of its lookup; a reader without a
     /// pending lookup is refused once. Returns how many events these are, and what is to be noted.
     /// The lookup is looked up once and held apart while its loads run.
     pub(crate) fn read_on(&mut self, reader: u32, most: u32) -> (u32, Option<Note<O::Key>>)
