@@ -11,13 +11,13 @@ numbers_of [] = Some []
 numbers_of (word ∷ words) =
     option_and_then (λ n. option_map (λ ns. n ∷ ns) (numbers_of words)) (number_of word)
 
--- the items of which each is three numbers
+-- the items that each three numbers are
 abbrev pub items_of_numbers : List ℕ → List Item
 items_of_numbers (a ∷ b ∷ tag ∷ numbers) =
     record { a = a; b = b; tag = tag } ∷ items_of_numbers numbers
 items_of_numbers _ = []
 
--- so many first words, and so many items, where there are just as many numbers
+-- first words and items, of these counts, if there are just as many numbers
 abbrev pub batch_with : List ℕ → Option (List ℕ × List Item)
 batch_with (erased ∷ inserted ∷ numbers) =
     if length numbers == erased + 3 * inserted
@@ -25,6 +25,6 @@ batch_with (erased ∷ inserted ∷ numbers) =
     else None
 batch_with _ = None
 
--- what the words after `batch` are: numbers, of which the first two say how many the others are
+-- what the words after `batch` are: numbers, and the first two say how many the others are
 abbrev pub batch_of : List (List ℕ) → Option (List ℕ × List Item)
 batch_of words = option_and_then batch_with (numbers_of words)

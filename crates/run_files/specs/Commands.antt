@@ -77,7 +77,7 @@ abbrev pub batch_command : Option (List ℕ × List Item) → Option (Command �
 batch_command (Some (erase, insert)) = Some (Begin (Batch erase insert))
 batch_command None = None
 
--- the same, where the trace may have lines `batch` or not
+-- the command of a line, if the trace may have lines `batch` or not
 abbrev pub command_with : Bool → List (List ℕ) → Option (Command ℕ)
 command_with batches [] = None
 command_with batches (word ∷ words) =

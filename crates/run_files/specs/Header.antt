@@ -36,13 +36,13 @@ is_wide First = false
 is_wide Second = false
 is_wide Third = true
 
--- a header, where each of its parts is there
+-- a header, if each of its parts is there
 abbrev pub header_of_parts : Option Version → Option Bool → Option ℕ → Option ℕ → Option Header
 header_of_parts (Some version) (Some closed) (Some capacity) (Some start) =
     Some (record { version = version; closed = closed; capacity = capacity; start = start })
 header_of_parts _ _ _ _ = None
 
--- the header of these words and this start, where each of them is one
+-- the header of these words and this start, if each of them is one
 abbrev pub header_with : List ℕ → List ℕ → List ℕ → List ℕ → Option ℕ → Option Header
 header_with name version order capacity start =
     if bytes_eq name (codes "latchtrace")

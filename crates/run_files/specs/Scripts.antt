@@ -31,7 +31,7 @@ abbrev pub look_with : Option ℕ → Option ℕ → Option ScriptLine
 look_with (Some reader) (Some address) = Some (Look reader address)
 look_with _ _ = None
 
--- what three words are, where there are so many readers
+-- what three words are, for this many readers
 abbrev pub script_line_with : ℕ → List ℕ → List ℕ → List ℕ → Option ScriptLine
 script_line_with readers verb actor what =
     if bytes_eq verb (codes "look")
@@ -57,7 +57,7 @@ script_of readers text = entries_from (script_line_by readers) 1 (lines_of text)
 abbrev pub lies_between : ℕ → ℕ → ℕ → Bool
 lies_between low high n = nat_le low n && nat_le n high
 
--- its writer is one of those that a script may have, or its reader one of so many
+-- its writer is one that a script may have, or its reader one of this many
 abbrev pub has_actor : ℕ → ScriptLine → Bool
 has_actor readers (Load writer name) = lies_between 1 most_writers writer
 has_actor readers (Unload writer name) = lies_between 1 most_writers writer

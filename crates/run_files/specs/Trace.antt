@@ -22,7 +22,7 @@ abbrev pub with_header : Header → Result (List (Command ℕ)) ℕ → Result C
 with_header header (Ok commands) = Ok (record { header = header; commands = commands })
 with_header header (Err n) = Err n
 
--- what the later lines say, where the first is this header
+-- what the later lines say, if the first is this header
 abbrev pub contents_with : Option Header → List (List ℕ) → Result Contents ℕ
 contents_with None lines = Err 1
 contents_with (Some header) lines =
@@ -36,6 +36,7 @@ trace_of_lines (first ∷ lines) = contents_with (header_of first) lines
 abbrev pub trace_of : List ℕ → Result Contents ℕ
 trace_of bytes = trace_of_lines (lines_of bytes)
 
--- the numbers of the lines of its commands: those behind line 1 that are neither empty nor comments
+-- the numbers of the lines of its commands: the ones after line 1 that are neither empty nor
+-- comments
 abbrev pub command_lines : List ℕ → List ℕ
 command_lines bytes = said_lines 2 (drop 1 (lines_of bytes))

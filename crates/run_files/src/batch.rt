@@ -59,7 +59,7 @@ fn numbers_in(alloc: Global, line: &[u8]) -> Result<Option<Vec<u64>>, AllocError
     }
 }
 
-/// The first numbers, and those of the items after them, where there are just as many.
+/// The first numbers, and the ones of the items after them, if there are just as many.
 fn parts(numbers: &[u64], erased: u64, inserted: u64) -> Option<(&[u64], &[u64])>
     ensures { MatchOption result (length numbers.now ≢ erased + 3 * inserted)
         (λ p. (length numbers.now ≡ erased + 3 * inserted) × (p.0.now ≡ take erased numbers.now)

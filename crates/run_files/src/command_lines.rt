@@ -33,7 +33,7 @@ impl<'a> Model for CommandLines<'a> {
     ghost invariant = { λ c. AreNumbered c.number c.rest.now };
 }
 
-/// The header of a trace, and the lines behind it; nothing where line 1 is no header.
+/// The header of a trace, and the lines after it; nothing if line 1 is no header.
 pub fn open_trace<'a>(alloc: Global, bytes: &'a [u8]) -> Option<(Header, CommandLines<'a>)>
     ensures { trace_of bytes.now
         ≡ option_map_or (λ opened. with_header opened.0 opened.1.said) result (Err 1) }

@@ -50,7 +50,7 @@ fn batch_command(alloc: Global, arguments: &[u8]) -> Result<Option<Command<u64>>
     })))
 }
 
-/// The command of a verb, where it has no more arguments than a line of fixed length.
+/// The command of a verb, if it has no more arguments than a line of fixed length.
 #[tactic(auto, using(crate::proofs::FormLemmas::command_long))]
 fn short_command_in(verb: &[u8], arguments: &[u8]) -> Option<Command<u64>>
     ensures { result ≡ command_of (verb.now ∷ words_of arguments.now) }

@@ -10,9 +10,9 @@ use texts::{is_too_long, number, short_number, words_in};
 pub enum Version {
     /// Insertions and erasures of one item, and the sequence of a narrow table.
     First,
-    /// The same, and the line `batch`.
+    /// The first, and the line `batch`.
     Second,
-    /// The same as the second, and the sequence of a wide table.
+    /// The second, and the sequence of a wide table.
     Third,
 }
 
@@ -76,7 +76,7 @@ fn header_in_words(words: &[&[u8]]) -> Option<Header>
     }
 }
 
-/// The header of these words and this start, where each of them is one.
+/// The header of these words and this start, if each of them is one.
 fn make_header(
     name: &[u8],
     version: &[u8],

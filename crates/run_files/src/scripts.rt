@@ -90,7 +90,7 @@ fn line_in<'a>(line: &'a [u8], readers: u32) -> Option<ScriptLine<'a>>
     line_in_words(&words_in::<3>(line)?, readers)
 }
 
-/// The form of a line, where there are so many readers.
+/// The form of a line of a script for this many readers.
 #[derive(Drop)]
 struct ScriptForm {
     readers: u32,
@@ -106,7 +106,7 @@ impl<'a> Form<'a> for ScriptForm {
     }
 }
 
-/// The lines of a script for so many readers, in their order.
+/// The lines of a script for this many readers, in their order.
 ///
 /// Each line is `load W NAME`, `unload W NAME`, `init W NAME` or `look R ADDR` with exactly one
 /// blank between two words, or is passed over: it is empty, or a comment that begins with `#`. W is
@@ -114,7 +114,7 @@ impl<'a> Form<'a> for ScriptForm {
 /// [`number`] reads them); NAME is one byte or more and has no blank. No line, also no comment, has
 /// more than [`LONGEST_LINE`](texts::LONGEST_LINE) bytes. Bytes after the last line's end are a
 /// line too. Any other line is [`LineFault::BadLine`], the first of them. No reader is asked here,
-/// so that [`LineFault::Read`] is never returned. The names are those of the text.
+/// so that [`LineFault::Read`] is never returned. The names are parts of the text.
 pub fn read_script<'a>(
     alloc: Global,
     text: &'a [u8],

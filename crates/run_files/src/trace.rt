@@ -20,7 +20,7 @@ pub struct TraceFile {
     pub commands: Vec<Command<u64>>,
 }
 
-/// A trace, and on which lines its commands stand.
+/// A trace, and on which lines its commands are.
 #[derive(Drop)]
 pub struct NumberedTrace {
     /// What it says.
