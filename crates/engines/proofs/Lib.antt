@@ -8,8 +8,6 @@ mod InputLemmas
 mod WrittenLemmas
 -- from the lines of a script to its text
 mod RunLemmas
--- digits in front of what stands in a room for a line
-mod LineRoomLemmas
 -- lines of events from their parts
 mod EventLineLemmas
 -- what is done and written of a trace whose steps are told, one event and one command after another

@@ -16,7 +16,7 @@ use Rattle.engines.specs.declared.assignments.Assignments.{Assignments}
 abbrev pub listed_for : {T : Type 0} → ℕ → List (ℕ × T) → List T
 listed_for number entries = map (λ e. e.1) (filter (λ e. e.0 == number) entries)
 
--- there are so many lists, the first of the entries with number 1
+-- there are `count` lists, the first of them for entries with number 1
 pub record AreListed {T : Type 0} (count : ℕ) (entries : List (ℕ × T))
     (lists : List (Vec T)) : Type 0 where
   pub same : length lists ≡ count

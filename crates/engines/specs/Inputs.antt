@@ -34,6 +34,6 @@ abbrev pub known_inputs : {X : Type 0} → Option (Result X ℕ) → Option Give
     → Option (Result (Inputs X) (ℕ × ℕ))
 known_inputs said known = option_and_then (inputs_of said) known
 
--- the counts of failed calls, those of the file after those of the listings
+-- the counts of failed calls, of the file after the listings
 abbrev pub failures_behind : Failures → ℕ → ℕ → Failures
 failures_behind listings before after = listings ++ (before, after) ∷ []

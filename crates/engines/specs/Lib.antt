@@ -1,8 +1,6 @@
 -- The definitions of this crate, in the order in which to read them.
 -- the lines that a trace writes
 pub mod TraceTexts
--- text that is appended in room that is there
-pub mod Blocks
 -- what is written for a trace that is read
 pub mod Traces
 -- the text of a trace whose commands are run one after another
@@ -15,8 +13,6 @@ pub mod LoadedWorlds
 pub mod LookupTexts
 -- the lines that the steps of a trace write
 pub mod StepTexts
--- what is put into a room for such a line
-pub mod LineRooms
 -- what is written for a trace whose steps are asked for
 pub mod StepTraces
 -- what one event and one command of it do, while it is run

@@ -41,7 +41,7 @@ pub record HasRoomFor (c : CatalogEntries) (w : World HalfOpen ℕ) : Type 0 whe
   pub capacity : length (items_of c) ≤ capacity_of (layout_in w)
   pub limit : limit_of (layout_in w) ≡ greatest_wide_sequence
 
--- it has the items of the modules of all lesser numbers, and room for those of the others
+-- it has the items of the modules of all lesser numbers, and room for the ones of the others
 pub record HoldsBelow (c : CatalogEntries) (number : ℕ) (w : World HalfOpen ℕ) : Type 0 where
   pub sound : IsSoundCatalog c
   pub holds : HasTable (items_below c number) w

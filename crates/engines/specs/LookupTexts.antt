@@ -11,8 +11,8 @@ use Rattle.command_io.specs.JsonTexts.{json_counts, json_line}
 use Rattle.command_io.specs.declared.forms.AnswerForm.{AnswerForm}
 use Rattle.engines.specs.declared.table.AddressAnswer.{AddressAnswer}
 
--- which addresses are looked up before those of a file, how they are taken, and how the answers are
--- written; the names of the kernel's bounds may be given
+-- which addresses are looked up before the ones of a file, how they are taken, and how the answers
+-- are written; the names of the kernel's bounds may be given
 pub record Query : Type 0 where
   pub kernel : Option BoundNames
   pub rule : AddressRule
@@ -23,7 +23,7 @@ pub record Query : Type 0 where
 unfoldable pub answer_line : ℕ → Known → List ℕ
 answer_line addr k = hexadecimal addr ++ codes " " ++ text_of k ++ codes "\n"
 
--- the line of an address of which this is known
+-- the line of an address with this known of it
 unfoldable pub known_line : AnswerForm → ℕ → Known → List ℕ
 known_line form addr k = if form.json then json_line addr k else answer_line addr k
 

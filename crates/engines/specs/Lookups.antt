@@ -31,7 +31,7 @@ abbrev pub listed_addresses : Option (List ℕ) → Result (List ℕ) ℕ
 listed_addresses None = Ok []
 listed_addresses (Some text) = addresses_of text
 
--- the addresses that are given, and after them those of the file
+-- the addresses that are given, and after them the ones of the file
 abbrev pub all_addresses : List ℕ → Option (List ℕ) → Result (List ℕ) ℕ
 all_addresses given text = entries_after given (listed_addresses text)
 

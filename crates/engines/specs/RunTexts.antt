@@ -28,7 +28,7 @@ writer_text writer names outcomes = flat_map (change_text writer) (zip names out
 abbrev pub numbered_text : ℕ × (Vec (List ℕ) × Vec ChangeOutcome) → List ℕ
 numbered_text (writer, (names, outcomes)) = writer_text writer names.items outcomes.items
 
--- the changes of each writer, the first of which is number 1
+-- the changes of each writer, the first being number 1
 abbrev pub refusals_text : List (Vec (List ℕ)) → List (Vec ChangeOutcome) → List ℕ
 refusals_text names outcomes =
     flat_map numbered_text (zip (range_with_len 1 (length names)) (zip names outcomes))
@@ -51,7 +51,7 @@ greatest_count = 2 ^ 64 - 1
 abbrev pub count_of_answers : List (Vec Answer) → ℕ
 count_of_answers answers = min (sum_by (λ list. length list.items) answers) greatest_count
 
--- `checked C wrong D seq K gen J`, where the sequence is twice the number of updates
+-- `checked C wrong D seq K gen J`: the sequence is twice the number of updates
 unfoldable pub totals_text : ℕ → ℕ → ℕ → List ℕ
 totals_text checked wrong updates =
     count_text (codes "checked ") checked ++ count_text (codes " wrong ") wrong

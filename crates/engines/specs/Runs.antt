@@ -30,18 +30,18 @@ use Rattle.command_io.specs.declared.fault.Fault.{Fault}
 use Rattle.command_io.specs.declared.fault.Finished.{Finished}
 use Rattle.command_io.specs.declared.fault.Fault.TheVariants.{Refused, Write}
 
--- the lines of a script for so many readers, if its text is known
+-- the lines of a script for this many readers, if its text is known
 abbrev pub script_known : ℕ → Option (List ℕ) → Option (Result (List ScriptLine) ℕ)
 script_known readers text = option_map (script_of readers) text
 
--- a table can have the regions of the catalog, and so many readers
+-- a table can have the regions of the catalog, and this many readers
 abbrev pub MayRun : CatalogEntries → ℕ → Type 0
 MayRun c readers = HasFewRegions c × (0 < readers) × (readers ≤ most_readers)
 
 -- What writers and readers may come back with for what they were assigned. The changes of each
 -- writer follow the log of a table with 64-bit sequences; no list of addresses ended early; each
 -- answer is what its address lies in at its generation; and some readers, whose loads these are,
--- looked for the answers. That those of a run did, `serve` says of what it gives back.
+-- looked for the answers. That the readers of a run did, `serve` says of what it gives back.
 pub record IsServed (c : CatalogEntries) (a : Assignments) (s : Served) : Type 0 where
   pub outcomes : EachHasOutcome c a.changes.items s.changes.items
   pub follow : FollowServed c s.log.items a.changes.items s.changes.items
@@ -51,7 +51,7 @@ pub record IsServed (c : CatalogEntries) (a : Assignments) (s : Served) : Type 0
   pub whole : list_any (λ e. e) s.ended.items ≡ false
   pub wrong : IsWrongCount c a.changes.items s.changes.items s.answers.items s.log.items s.wrong
 
--- the program's status if so many are wrong
+-- the program's status if this many are wrong
 abbrev pub status_of : ℕ → ℕ
 status_of wrong = if wrong == 0 then 0 else 1
 
@@ -103,7 +103,7 @@ pub record IsScriptRun (Wrote : List ℕ → Type 0) (kernel : BoundNames) (read
   pub run : IsRun Wrote catalog readers i.said status
   pub noted : notes ≡ notes_of (Some kernel) true i.listings catalog counts
 
--- a table can not have the regions of the catalog that the listings say, or not so many readers
+-- a table can not have the regions of the catalog that the listings say, or not this many readers
 abbrev pub FitsNoRun : BoundNames → ℕ → Listed → Type 0
 FitsNoRun kernel readers l =
     (c : CatalogEntries) × (n : BuildCounts) × Say (Some kernel) true l c n

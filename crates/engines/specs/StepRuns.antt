@@ -29,7 +29,7 @@ pub record Tells {O W : Type 0} (o : Order ℕ) (contents : W → Option (List �
   pub shows : RepresentsMoment o new (last_of w run)
   pub said : Says contents a b (steps_text o (capacity_of (layout_in old)) line w run)
 
--- the line of an event was written, after which the world shows what is told of it
+-- the line of an event was written, after which the world shows what it reports
 abbrev pub IsTold : {O W : Type 0} → Order ℕ → (W → Option (List ℕ)) → ℕ → Option (NextLoad ℕ)
     → Event ℕ → Reply ℕ → World O ℕ → Output W → Output W → Type 0
 IsTold o contents line load e reply new a b =

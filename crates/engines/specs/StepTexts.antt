@@ -62,7 +62,7 @@ loaded_word load = option_map_or (λ l. word_members l.word l.value) load []
 unfoldable pub plain_load_members : ℕ → Option (NextLoad ℕ) → List ℕ
 plain_load_members r load = json_count (codes "\"load\",\"reader\":") r ++ loaded_word load
 
--- the last load of an attempt: of which lookup, what it loads, and how many loads and attempts
+-- the last load of an attempt: its lookup, what it loads, and how many loads and attempts
 -- these are
 unfoldable pub load_members : ℕ → NextLoad ℕ → List ℕ
 load_members r load =
@@ -77,7 +77,7 @@ loaded_members r load = option_map_or (load_members r) load []
 abbrev pub json_tag : Option Item → List ℕ
 json_tag answer = option_map_or (λ item. json_number item.tag) answer (codes "null")
 
--- what a lookup found, and of which generation
+-- what a lookup found, and its generation
 unfoldable pub answer_members : Returned ℕ → List ℕ
 answer_members x =
     codes ",\"tag\":" ++ json_tag x.answer ++ json_count (codes ",\"generation\":") x.generation

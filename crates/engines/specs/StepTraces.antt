@@ -16,7 +16,7 @@ use Rattle.engines.specs.StepTexts.{opening_text, steps_text}
 use Rattle.engines.specs.Traces.{AnswersBy, AnswersReadBy, HeaderMayOpen, greatest_of, order_by}
 use Rattle.command_io.specs.declared.fault.Fault.{Fault}
 
--- a run from a moment, and its text, are those of a part that a command on this line asks for, and
+-- a run from a moment, and its text, consist of a part that a command on this line asks for, and
 -- of a rest
 pub record IsPartTold (o : Order ℕ) (n line : ℕ) (w : Moment ℕ) (c : Command ℕ)
     (IsRest : Moment ℕ → List (Done ℕ) → List ℕ → Type 0) (run : List (Done ℕ)) (text : List ℕ)
@@ -38,7 +38,7 @@ AreTold o n lines place w (c ∷ cs) run text =
     IsPartTold o n (at lines place) w c
     (λ v rest rest_text. AreTold o n lines (place + 1) v cs rest rest_text) run text
 
--- What some run of these commands in this order writes, of which each event has the number of its
+-- What some run of these commands in this order writes: each event has the number of its
 -- command's line: the opening, and its steps. Whatever holds of all runs (`every_run_is_safe` and
 -- the other laws of latch_steps) holds of it.
 pub record IsStepsText (o : Order ℕ) (said : Contents) (lines written : List ℕ) : Type 0 where
@@ -67,7 +67,7 @@ pub record IsBegunText (o : Order ℕ) (said : Contents) (lines written : List �
   pub begun : IsStepsText o (record said { commands = take place said.commands }) lines written
 
 -- What is said of it until a call of the writer fails: the opening, the steps of the commands
--- before one, and those of some of its turns, or all.
+-- before one, and some of its turns, or all.
 pub record IsCutText (o : Order ℕ) (said : Contents) (lines written : List ℕ) : Type 0 where
   pub opens : HeaderMayOpen said.header
   pub place : ℕ

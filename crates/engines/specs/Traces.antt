@@ -47,7 +47,7 @@ order_by false = half_open
 
 -- what some run of these commands in this order writes: its notes and its last sequence. The run is
 -- safe and quiet, its lookups that the writer leaves alone are as short as in a red-black tree, and
--- if it is plain each lookup is that of one table.
+-- if it is plain each lookup is right in one table.
 pub record IsRunText (o : Order ℕ) (said : Contents) (written : List ℕ) : Type 0 where
   pub run : List (Done ℕ)
   pub steps : Run (machine o said.header.capacity (greatest_of said.header.version))
@@ -76,7 +76,7 @@ pub record IsTraceWith (P : Header → Type 0) (read : List ℕ) : Type 0 where
   pub header : P said.header
 
 -- What an engine returns that ran a trace of this header from one state of the writer to another,
--- where `IsText` says what a run writes, `IsBegun` what it writes until a call fails, and
+-- if `IsText` says what a run writes, `IsBegun` what it writes until a call fails, and
 -- `IsRefused` what became of the writer if memory ran out. A call of it failed if the answer says
 -- so, and else none.
 abbrev pub AnswersBy : {W : Type 0} → (List ℕ → Type 0) → (List ℕ → Type 0) → (Output W → Output W → Type 0)
@@ -119,7 +119,7 @@ AnswersReadBy IsText IsBegun IsRefused remaining contents r r' w w' (Err _) = �
 abbrev pub Stays : {W : Type 0} → Output W → Output W → Type 0
 Stays w w' = w' ≡ w
 
--- What an engine returns that ran a trace of which the lines say this, and wrote its notes at the
+-- What an engine returns that ran a trace whose lines say this, and wrote its notes at the
 -- end.
 abbrev pub AnswersSaid : {W : Type 0} → (W → Option (List ℕ)) → Result Contents ℕ
     → Output W → Output W → Result (Unit {0}) Fault → Type 0

@@ -41,7 +41,7 @@ pub fn assign<'a>(
     Ok(assigned)
 }
 
-/// So many lists without an entry.
+/// Lists without an entry, `count` of them.
 fn empty_lists<T: Drop>(alloc: Global, count: u32) -> Result<Vec<Vec<T>>, AllocError>
     ensures { IfOk result (λ lists. AreListed count [] lists.items) }
 {

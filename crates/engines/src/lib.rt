@@ -7,7 +7,6 @@
 #![tactic(auto)]
 
 mod assignments;
-mod line_rooms;
 mod lookup;
 mod lookup_texts;
 mod run_texts;

@@ -34,7 +34,7 @@ pub struct LookupOptions<'a> {
     pub rule: AddressRule,
     /// How the answers are written.
     pub form: AnswerForm,
-    /// The addresses that are looked up before those of a file.
+    /// The addresses that are looked up before the ones of a file.
     pub addresses: &'a [u64],
 }
 
@@ -53,9 +53,9 @@ impl<'a> Model for LookupOptions<'a> {
 }
 
 /// Looks addresses up in listings, and writes a line for each address and the counts of each
-/// listing. Returns what is noted of the listings. A listing of modules says where modules lie,
-/// perhaps with one of regions; without it that of symbols says so by the order of its addresses. A
-/// file of addresses says which are looked up after the given ones.
+/// listing. Returns what is noted of the listings. A listing of modules tells the places of
+/// modules, perhaps with one of regions; without it the order of the addresses of the listing of
+/// symbols does. A file of addresses says which are looked up after the given ones.
 ///
 /// All is read, and all answers are there, before the first byte is written; so every fault but a
 /// failed write leaves the writer as it was. docs/FORMATS.md has the files and the lines.
@@ -76,8 +76,8 @@ pub fn lookup_engine<M: Read, K: Read, R: Read, A: Read, W: Write>(
     answer_over(alloc, &texts, file, options, writer)
 }
 
-/// Looks addresses up in listings with these texts: those that are given, and after them those of
-/// the file.
+/// Looks addresses up in listings with these texts: the ones that are given, and after them the
+/// ones of the file.
 fn answer_over<A: Read, W: Write>(
     alloc: Global,
     texts: &ListingTexts,
@@ -95,7 +95,7 @@ fn answer_over<A: Read, W: Write>(
     answer_with(alloc, &listings, options, &addresses, writer)
 }
 
-/// The addresses that are given, and after them those of the file, if there is one.
+/// The addresses that are given, and after them the ones of the file, if there is one.
 fn all_addresses<A: Read>(
     alloc: Global,
     given: &[u64],

@@ -10,7 +10,6 @@ ghost use Rattle.engines.specs.RunTexts.{answered_text, answers_text, change_tex
 ghost use Rattle.engines.specs.RunTexts.{count_of_answers, refusals_text, run_text, totals_text};
 ghost use Rattle.engines.specs.RunTexts.{writer_text};
 
-use crate::line_rooms::LineRoom;
 use crate::lookup_texts::put_count;
 use listing::{AddressRule, answer_of, put_answer};
 use modules::Catalog;
@@ -169,35 +168,14 @@ fn put_pieces<W: Write>(writer: &mut Output<W>, catalog: &Catalog<'_>, answers: 
 fn put_answered<W: Write>(writer: &mut Output<W>, catalog: &Catalog<'_>, answer: &Answer)
     ensures { Says W.contents writer.old writer.new (answered_text catalog.now answer.now) }
 {
-    put_asked(writer, answer.reader, answer.key);
+    writer.put_decimal(u64::from(answer.reader) + 1);
+    writer.put(b" ");
+    writer.put_hexadecimal(answer.key);
+    writer.put(b" -> ");
     let known = answer_of(catalog, AddressRule::AS_GIVEN, answer.item, answer.key);
     put_answer(writer, &known);
-    put_generation(writer, answer.generation);
-}
-
-/// Writes `R ADDR -> ` for the reader at this place, at once.
-fn put_asked<W: Write>(writer: &mut Output<W>, reader: u32, key: u64)
-    ensures { Says W.contents writer.old writer.new
-        (decimal (reader + 1) ++ codes " " ++ hexadecimal key ++ codes " -> ") }
-{
-    let mut line = LineRoom::new();
-    line.before(b" -> ");
-    line.before_hexadecimal(key);
-    line.before(b" ");
-    line.before_decimal(u64::from(reader) + 1);
-    writer.put(line.line());
-}
-
-/// Writes ` gen J` and a line's end, at once.
-fn put_generation<W: Write>(writer: &mut Output<W>, generation: u64)
-    ensures { Says W.contents writer.old writer.new
-        (count_text (codes " gen ") generation ++ codes "\n") }
-{
-    let mut line = LineRoom::new();
-    line.before(b"\n");
-    line.before_decimal(generation);
-    line.before(b" gen ");
-    writer.put(line.line());
+    put_count(writer, b" gen ", answer.generation);
+    writer.put(b"\n");
 }
 
 /// How many answers there are in all lists; it stays at the greatest number.

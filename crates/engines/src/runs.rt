@@ -38,8 +38,8 @@ const SCRIPT_PLACE: u64 = 3;
 /// Does what a script for `count` readers says, over a table that is empty at first, and writes a
 /// line for each refused change and each lookup and the line of the totals. The kernel's own region
 /// lies between the symbols of these names. Returns what is noted of the listings, and the
-/// program's status, 1 if an answer was not that of its generation or a change is not in the log as
-/// it was accepted.
+/// program's status, 1 if an answer was not right at its generation or a change is not in the log
+/// as it was accepted.
 ///
 /// All is read, done and checked before the first byte is written, so every fault but a failed
 /// write leaves the writer as it was. Refused when out of memory, even if a reader's thread was not

@@ -1,20 +1,16 @@
 //! The lines that the steps of a trace write, an object of JSON each, byte for byte, with no memory
 //! taken.
-ghost use Rattle.std.specs.Prelude.{◌≡◌, ◌+◌, ◌≤◌, ◌==◌, ◌++◌, if◌then◌else◌, codes, flat_map};
-ghost use Rattle.std.specs.Prelude.{length};
+ghost use Rattle.std.specs.Prelude.{◌≡◌, ◌==◌, ◌++◌, if◌then◌else◌, codes, flat_map};
 ghost use Rattle.texts.specs.Output.{Says};
 ghost use Rattle.command_io.specs.Json.{json_number};
-ghost use Rattle.command_io.specs.JsonTexts.{json_count};
-ghost use Rattle.engines.specs.LineRooms.{IsPutBefore};
-ghost use Rattle.engines.specs.StepTexts.{answer_members, begun_members, event_text, json_item};
-ghost use Rattle.engines.specs.StepTexts.{json_list, json_tag, load_members, loaded_members};
-ghost use Rattle.engines.specs.StepTexts.{line_end, loaded_word, opening_text, order_text};
+ghost use Rattle.engines.specs.StepTexts.{answer_members, begun_members, done_members, event_text};
+ghost use Rattle.engines.specs.StepTexts.{json_item, json_list, json_tag, load_members};
+ghost use Rattle.engines.specs.StepTexts.{loaded_members, loaded_word, opening_text, order_text};
 ghost use Rattle.engines.specs.StepTexts.{plain_load_members, read_members, reader_members};
 ghost use Rattle.engines.specs.StepTexts.{refused_member, started_members, stored_members};
 ghost use Rattle.engines.specs.StepTexts.{update_members, version_number, word_members};
 ghost use Rattle.engines.specs.StepTexts.{written_members};
 
-use crate::line_rooms::{LONGEST_NUMBER, LineRoom, ROOM};
 use command_io::{put_json_count, put_json_number};
 use latch_steps::{Event, NextLoad, Reply, Returned};
 use order_laws::{Item, Refusal};
@@ -69,30 +65,12 @@ fn order_text(closed: bool) -> &'static [u8]
     }
 }
 
-/// The most bytes of what an event did that has no list.
-const LONGEST_DONE: usize = 290;
-
 /// No event has such a reply.
 const NO_REPLY: &[u8] = b"null";
 
-/// Has nothing in the room but the end of a line with this sequence.
-#[inline(always)]
-fn end_alone(room: &mut LineRoom, sequence: u64)
-    ensures end { room.new ≡ line_end sequence }
-    ensures short { length room.new ≤ 40 }
-{
-    room.clear();
-    room.before(b"}\n");
-    room.before_count(b",\"sequence\":", sequence);
-}
-
 /// Writes the line of an event that had this reply; of a load there is also what is loaded.
-///
-/// A line is put together from its end in the room, and written by one call; but the lists of an
-/// update, which may be of any length, are written between its start and its end.
-#[inline(always)]
+#[tactic(auto, unfolding(crate::specs::StepTexts::event_text))]
 pub fn put_event<W: Write>(
-    room: &mut LineRoom,
     writer: &mut Output<W>,
     place: EventPlace,
     load: Option<NextLoad<u64>>,
@@ -102,84 +80,48 @@ pub fn put_event<W: Write>(
     ensures { Says W.contents writer.old writer.new
         (event_text place.number place.line load event.now reply.now place.sequence) }
 {
-    end_alone(room, place.sequence);
+    put_json_count(writer, b"{\"event\":", place.number);
+    put_json_count(writer, b",\"line\":", place.line);
+    writer.put(b",\"kind\":");
+    put_done(writer, load, event, reply);
+    put_json_count(writer, b",\"sequence\":", place.sequence);
+    writer.put(b"}\n");
+}
+
+/// Writes what an event did, from its kind on.
+fn put_done<W: Write>(
+    writer: &mut Output<W>,
+    load: Option<NextLoad<u64>>,
+    event: &Event<u64>,
+    reply: &Reply<u64>,
+)
+    ensures { Says W.contents writer.old writer.new (done_members load event.now reply.now) }
+{
     match event {
-        Event::Begin(update) => put_begun(writer, place, update, reply, room),
-        Event::Write => {
-            before_written(room, reply);
-            put_behind_start(writer, place, room)
-        }
-        Event::Start(reader, key) => {
-            before_started(room, *reader, *key, reply);
-            put_behind_start(writer, place, room)
-        }
-        Event::Read(reader) => {
-            before_read(room, *reader, load, reply);
-            put_behind_start(writer, place, room)
-        }
+        Event::Begin(update) => put_begun(writer, update, reply),
+        Event::Write => put_written(writer, reply),
+        Event::Start(reader, key) => put_started(writer, *reader, *key, reply),
+        Event::Read(reader) => put_read(writer, *reader, load, reply),
     }
 }
 
-/// Writes the start of a line, and after it what is in the room.
-fn put_behind_start<W: Write>(writer: &mut Output<W>, place: EventPlace, line: &mut LineRoom)
-    requires { length line.old + 70 ≤ ROOM }
-    ensures { Says W.contents writer.old writer.new
-        (json_count (codes "{\"event\":") place.number ++ json_count (codes ",\"line\":") place.line
-        ++ codes ",\"kind\":" ++ line.old) }
-{
-    line.before(b",\"kind\":");
-    line.before_count(b",\"line\":", place.line);
-    line.before_count(b"{\"event\":", place.number);
-    writer.put(line.line());
-}
-
-/// Writes a line of what the writer began, whose end is in the room.
-fn put_begun<W: Write>(
-    writer: &mut Output<W>,
-    place: EventPlace,
-    update: &Update,
-    reply: &Reply<u64>,
-    end: &mut LineRoom,
-)
-    requires { length end.old + 110 ≤ ROOM }
-    ensures { Says W.contents writer.old writer.new
-        (json_count (codes "{\"event\":") place.number ++ json_count (codes ",\"line\":") place.line
-        ++ codes ",\"kind\":" ++ begun_members update.now reply.now ++ end.old) }
+/// Writes what the writer began.
+fn put_begun<W: Write>(writer: &mut Output<W>, update: &Update, reply: &Reply<u64>)
+    ensures { Says W.contents writer.old writer.new (begun_members update.now reply.now) }
 {
     match reply {
         Reply::Begun(left) => {
-            end.before_count(b",\"steps\":", *left);
-            put_updating(writer, place, b"\"begin\"", update, end)
+            writer.put(b"\"begin\"");
+            put_update(writer, update);
+            put_json_count(writer, b",\"steps\":", *left);
         }
         Reply::Refused(why) => {
-            before_refused(end, *why);
-            put_updating(writer, place, b"\"refusal\",\"of\":\"begin\"", update, end)
+            writer.put(b"\"refusal\",\"of\":\"begin\"");
+            put_update(writer, update);
+            put_refused(writer, *why);
         }
-        _ => {
-            end.before(NO_REPLY);
-            put_behind_start(writer, place, end)
-        }
+        _ => writer.put(NO_REPLY),
     }
-}
-
-/// Writes a line of this kind with an update in it, whose end is in the room.
-fn put_updating<W: Write>(
-    writer: &mut Output<W>,
-    place: EventPlace,
-    kind: &[u8],
-    update: &Update,
-    end: &LineRoom,
-)
-    requires { length kind.now ≤ 30 }
-    ensures { Says W.contents writer.old writer.new
-        (json_count (codes "{\"event\":") place.number ++ json_count (codes ",\"line\":") place.line
-        ++ codes ",\"kind\":" ++ kind.now ++ update_members update.now ++ end.now) }
-{
-    let mut start = LineRoom::new();
-    start.before(kind);
-    put_behind_start(writer, place, &mut start);
-    put_update(writer, update);
-    writer.put(end.line());
 }
 
 /// Writes what an update erases, and what it inserts.
@@ -269,30 +211,27 @@ fn put_item<W: Write>(writer: &mut Output<W>, item: Item)
     writer.put(b"}");
 }
 
-/// Puts what the writer stored in front.
-fn before_written(line: &mut LineRoom, reply: &Reply<u64>)
-    requires { length line.old + LONGEST_DONE ≤ ROOM }
-    ensures { IsPutBefore line.old line.new LONGEST_DONE (written_members reply.now) }
+/// Writes what the writer stored.
+fn put_written<W: Write>(writer: &mut Output<W>, reply: &Reply<u64>)
+    ensures { Says W.contents writer.old writer.new (written_members reply.now) }
 {
     match reply {
-        Reply::Wrote(store) => before_stored(line, *store),
-        _ => line.before(NO_REPLY),
+        Reply::Wrote(store) => put_stored(writer, *store),
+        _ => writer.put(NO_REPLY),
     }
 }
 
 #[tactic(auto, unfolding(crate::specs::StepTexts::stored_members))]
-fn before_stored(line: &mut LineRoom, store: Store)
-    requires { length line.old + 80 ≤ ROOM }
-    ensures { IsPutBefore line.old line.new 80 (stored_members store) }
+fn put_stored<W: Write>(writer: &mut Output<W>, store: Store)
+    ensures { Says W.contents writer.old writer.new (stored_members store) }
 {
-    before_word(line, store.word, store.value);
-    line.before(store_kind(store));
+    writer.put(store_kind(store));
+    put_word(writer, store.word, store.value);
 }
 
 /// A store to word 0 is a flip.
 fn store_kind(store: Store) -> &'static [u8]
-    ensures kind { result.now ≡ (if store.word == 0 then codes "\"flip\"" else codes "\"store\"") }
-    ensures short { length result.now ≤ 10 }
+    ensures { result.now ≡ (if store.word == 0 then codes "\"flip\"" else codes "\"store\"") }
 {
     if store.word == 0 {
         b"\"flip\""
@@ -301,141 +240,135 @@ fn store_kind(store: Store) -> &'static [u8]
     }
 }
 
-/// Puts a word and what it holds in front.
-#[inline]
-fn before_word(line: &mut LineRoom, word: usize, value: u64)
-    requires { length line.old + 70 ≤ ROOM }
-    ensures { IsPutBefore line.old line.new 70 (word_members word value) }
+/// Writes a word and what it holds.
+fn put_word<W: Write>(writer: &mut Output<W>, word: usize, value: u64)
+    ensures { Says W.contents writer.old writer.new (word_members word value) }
 {
-    line.before_count(b",\"value\":", value);
-    line.before_count(b",\"word\":", word as u64);
+    put_json_count(writer, b",\"word\":", word as u64);
+    put_json_count(writer, b",\"value\":", value);
 }
 
-/// Puts what a reader began in front.
-fn before_started(line: &mut LineRoom, reader: u32, key: u64, reply: &Reply<u64>)
-    requires { length line.old + LONGEST_DONE ≤ ROOM }
-    ensures { IsPutBefore line.old line.new LONGEST_DONE (started_members reader key reply.now) }
+/// Writes what a reader began.
+fn put_started<W: Write>(writer: &mut Output<W>, reader: u32, key: u64, reply: &Reply<u64>)
+    ensures { Says W.contents writer.old writer.new (started_members reader key reply.now) }
 {
     match reply {
         Reply::Started => {
-            before_reader(line, reader, key);
-            line.before(b"\"start\"");
+            writer.put(b"\"start\"");
+            put_reader(writer, reader, key);
         }
         Reply::Refused(why) => {
-            before_refused(line, *why);
-            before_reader(line, reader, key);
-            line.before(b"\"refusal\",\"of\":\"start\"");
+            writer.put(b"\"refusal\",\"of\":\"start\"");
+            put_reader(writer, reader, key);
+            put_refused(writer, *why);
         }
-        _ => line.before(NO_REPLY),
+        _ => writer.put(NO_REPLY),
     }
 }
 
-/// Puts a reader, and the key of its lookup, in front.
+/// Writes a reader, and the key of its lookup.
 #[tactic(auto, unfolding(crate::specs::StepTexts::reader_members))]
-fn before_reader(line: &mut LineRoom, reader: u32, key: u64)
-    requires { length line.old + 70 ≤ ROOM }
-    ensures { IsPutBefore line.old line.new 70 (reader_members reader key) }
+fn put_reader<W: Write>(writer: &mut Output<W>, reader: u32, key: u64)
+    ensures { Says W.contents writer.old writer.new (reader_members reader key) }
 {
-    line.before(b"\"");
-    line.before_hexadecimal(key);
-    line.before(b",\"address\":\"");
-    line.before_count(b",\"reader\":", u64::from(reader));
+    put_json_count(writer, b",\"reader\":", u64::from(reader));
+    writer.put(b",\"address\":\"");
+    writer.put_hexadecimal(key);
+    writer.put(b"\"");
 }
 
-/// Puts what a reader loaded, and what this came to, in front.
-fn before_read(line: &mut LineRoom, reader: u32, load: Option<NextLoad<u64>>, reply: &Reply<u64>)
-    requires { length line.old + LONGEST_DONE ≤ ROOM }
-    ensures { IsPutBefore line.old line.new LONGEST_DONE (read_members reader load reply.now) }
+/// Writes what a reader loaded, and what this came to.
+fn put_read<W: Write>(
+    writer: &mut Output<W>,
+    reader: u32,
+    load: Option<NextLoad<u64>>,
+    reply: &Reply<u64>,
+)
+    ensures { Says W.contents writer.old writer.new (read_members reader load reply.now) }
 {
     match reply {
-        Reply::Loaded => before_plain_load(line, reader, load),
+        Reply::Loaded => put_plain_load(writer, reader, load),
         Reply::Retried => {
-            before_load(line, reader, load);
-            line.before(b"\"retry\"");
+            writer.put(b"\"retry\"");
+            put_load(writer, reader, load);
         }
         Reply::Returned(returned) => {
-            before_answer(line, returned);
-            before_load(line, reader, load);
-            line.before(b"\"return\"");
+            writer.put(b"\"return\"");
+            put_load(writer, reader, load);
+            put_answer(writer, returned);
         }
         Reply::Refused(why) => {
-            before_refused(line, *why);
-            line.before_count(
+            put_json_count(
+                writer,
                 b"\"refusal\",\"of\":\"load\",\"reader\":",
                 u64::from(reader),
             );
+            put_refused(writer, *why);
         }
-        _ => line.before(NO_REPLY),
+        _ => writer.put(NO_REPLY),
     }
 }
 
-/// Puts a load after which its attempt goes on in front.
+/// Writes a load after which its attempt goes on.
 #[tactic(auto, unfolding(crate::specs::StepTexts::plain_load_members))]
-fn before_plain_load(line: &mut LineRoom, reader: u32, load: Option<NextLoad<u64>>)
-    requires { length line.old + 110 ≤ ROOM }
-    ensures { IsPutBefore line.old line.new 110 (plain_load_members reader load) }
+fn put_plain_load<W: Write>(writer: &mut Output<W>, reader: u32, load: Option<NextLoad<u64>>)
+    ensures { Says W.contents writer.old writer.new (plain_load_members reader load) }
 {
-    before_loaded_word(line, load);
-    line.before_count(b"\"load\",\"reader\":", u64::from(reader));
+    put_json_count(writer, b"\"load\",\"reader\":", u64::from(reader));
+    put_loaded_word(writer, load);
 }
 
-/// Puts what a reader loads in front, if it may load something.
-fn before_loaded_word(line: &mut LineRoom, load: Option<NextLoad<u64>>)
-    requires { length line.old + 70 ≤ ROOM }
-    ensures { IsPutBefore line.old line.new 70 (loaded_word load) }
+/// Writes what a reader loads, if it may load something.
+fn put_loaded_word<W: Write>(writer: &mut Output<W>, load: Option<NextLoad<u64>>)
+    ensures { Says W.contents writer.old writer.new (loaded_word load) }
 {
     if let Some(load) = load {
-        before_word(line, load.word, load.value);
+        put_word(writer, load.word, load.value);
     }
 }
 
-/// Puts the load of a reader in front, if it has one.
-fn before_load(line: &mut LineRoom, reader: u32, load: Option<NextLoad<u64>>)
-    requires { length line.old + 210 ≤ ROOM }
-    ensures { IsPutBefore line.old line.new 210 (loaded_members reader load) }
+/// Writes the load of a reader, if it has one.
+fn put_load<W: Write>(writer: &mut Output<W>, reader: u32, load: Option<NextLoad<u64>>)
+    ensures { Says W.contents writer.old writer.new (loaded_members reader load) }
 {
     if let Some(load) = load {
-        before_next_load(line, reader, load);
+        put_next_load(writer, reader, load);
     }
 }
 
 #[tactic(auto, unfolding(crate::specs::StepTexts::load_members))]
-fn before_next_load(line: &mut LineRoom, reader: u32, load: NextLoad<u64>)
-    requires { length line.old + 210 ≤ ROOM }
-    ensures { IsPutBefore line.old line.new 210 (load_members reader load) }
+fn put_next_load<W: Write>(writer: &mut Output<W>, reader: u32, load: NextLoad<u64>)
+    ensures { Says W.contents writer.old writer.new (load_members reader load) }
 {
-    line.before_count(b",\"tries\":", load.attempts);
-    line.before_count(b",\"loads\":", load.loads);
-    before_word(line, load.word, load.value);
-    before_reader(line, reader, load.key);
+    put_reader(writer, reader, load.key);
+    put_word(writer, load.word, load.value);
+    put_json_count(writer, b",\"loads\":", load.loads);
+    put_json_count(writer, b",\"tries\":", load.attempts);
 }
 
-/// Puts what a lookup found, and its generation, in front.
+/// Writes what a lookup found, and its generation.
 #[tactic(auto, unfolding(crate::specs::StepTexts::answer_members))]
-fn before_answer(line: &mut LineRoom, returned: &Returned<u64>)
-    requires { length line.old + 70 ≤ ROOM }
-    ensures { IsPutBefore line.old line.new 70 (answer_members returned.now) }
+fn put_answer<W: Write>(writer: &mut Output<W>, returned: &Returned<u64>)
+    ensures { Says W.contents writer.old writer.new (answer_members returned.now) }
 {
-    line.before_count(b",\"generation\":", returned.generation);
-    before_tag(line, returned.answer);
-    line.before(b",\"tag\":");
+    writer.put(b",\"tag\":");
+    put_tag(writer, returned.answer);
+    put_json_count(writer, b",\"generation\":", returned.generation);
 }
 
-fn before_tag(line: &mut LineRoom, answer: Option<Item>)
-    requires { length line.old + LONGEST_NUMBER ≤ ROOM }
-    ensures { IsPutBefore line.old line.new LONGEST_NUMBER (json_tag answer) }
+fn put_tag<W: Write>(writer: &mut Output<W>, answer: Option<Item>)
+    ensures { Says W.contents writer.old writer.new (json_tag answer) }
 {
     match answer {
-        Some(item) => line.before_number(item.tag),
-        None => line.before(b"null"),
+        Some(item) => put_json_number(writer, item.tag),
+        None => writer.put(b"null"),
     }
 }
 
-/// Puts why something was refused in front.
+/// Writes why something was refused.
 #[tactic(auto, unfolding(crate::specs::StepTexts::refused_member))]
-fn before_refused(line: &mut LineRoom, why: Refusal)
-    requires { length line.old + 40 ≤ ROOM }
-    ensures { IsPutBefore line.old line.new 40 (refused_member why) }
+fn put_refused<W: Write>(writer: &mut Output<W>, why: Refusal)
+    ensures { Says W.contents writer.old writer.new (refused_member why) }
 {
-    line.before_count(b",\"refused\":", u64::from(why.number()));
+    put_json_count(writer, b",\"refused\":", u64::from(why.number()));
 }

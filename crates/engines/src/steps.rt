@@ -2,20 +2,17 @@
 //!
 //! The trace is read whole, so that a bad line leaves the output empty. Then each command repeats
 //! its event as often as it says, and what each event did is written as soon as it is done: nothing
-//! of it is kept. How a command stands for events is in `Expands` of latch_steps, whose `event_of`,
+//! of it is kept. Which events a command means is in `Expands` of latch_steps, whose `event_of`,
 //! `most_of` and `ends` are the functions of these names here.
 ghost use Rattle.std.specs.Prelude.{◌≡◌, false, IfErr, IfOk, OnOk};
 ghost use Rattle.run_files.specs.Trace.{contents_of};
 ghost use Rattle.texts.specs.Output.{has_failed};
 ghost use Rattle.word_layout.specs.Words.{at};
 ghost use Rattle.latch_steps.specs.Expands.{event_of};
-ghost use Rattle.latch_steps.specs.Quiet.{is_flip};
-ghost use Rattle.latch_steps.specs.WorldSteps.{is_refused_for_memory};
 ghost use Rattle.engines.specs.StepRuns.{EndsCommand, IsLoadBy, IsMemoryFault, IsMostOf, IsTold};
 ghost use Rattle.engines.specs.StepRuns.{StopsTelling, TellsCommand, TellsCommands};
 ghost use Rattle.engines.specs.StepTraces.{AnswersSteps, AnswersStepsIn};
 
-use crate::line_rooms::LineRoom;
 use crate::step_texts::{EventPlace, put_event, put_opening};
 use crate::trace::layout_for;
 use command_io::Fault;
@@ -84,10 +81,9 @@ fn tell_commands<O: TreeOrder<Key = u64>, W: Write>(
     ensures fault { IfErr result (StopsTelling O.order W.contents lines.now commands.now
         world.old writer.old writer.new) }
 {
-    let mut room = LineRoom::new();
     for (place, command) in commands.iter().enumerate() {
         let line = line_at(lines, place);
-        tell_command(world, &mut room, writer, line, command)?;
+        tell_command(world, writer, line, command)?;
         if writer.has_failed() {
             return Err(Fault::Write);
         }
@@ -106,7 +102,6 @@ fn line_at(lines: &[u64], place: usize) -> u64
 /// before, if the writer failed.
 fn tell_command<O: TreeOrder<Key = u64>, W: Write>(
     world: &mut World<O>,
-    room: &mut LineRoom,
     writer: &mut Output<W>,
     line: u64,
     command: &Command<u64>,
@@ -116,13 +111,12 @@ fn tell_command<O: TreeOrder<Key = u64>, W: Write>(
     ensures fault { IfErr result (IsMemoryFault O.order world.old writer.old writer.new) }
 {
     let event = event_of(command)?;
-    tell_turns(world, room, writer, line, command, &event)
+    tell_turns(world, writer, line, command, &event)
 }
 
 /// Does this event, which is the command's. One for which memory may run out is done once.
 fn tell_turns<O: TreeOrder<Key = u64>, W: Write>(
     world: &mut World<O>,
-    room: &mut LineRoom,
     writer: &mut Output<W>,
     line: u64,
     command: &Command<u64>,
@@ -137,10 +131,10 @@ fn tell_turns<O: TreeOrder<Key = u64>, W: Write>(
     for _turn in 0..most {
         let load = load_by(world, event);
         let reply = world.step_from(event);
-        if is_refused_for_memory(&reply) {
+        if reply.is_refused_for_memory() {
             return Err(Fault::Refused(Refusal::OutOfMemory));
         }
-        tell(world, room, writer, line, load, event, &reply);
+        tell(world, writer, line, load, event, &reply);
         if ends(world, command, &reply) {
             return Ok(());
         }
@@ -155,7 +149,6 @@ fn tell_turns<O: TreeOrder<Key = u64>, W: Write>(
 #[inline(always)]
 fn tell<O: TreeOrder<Key = u64>, W: Write>(
     world: &World<O>,
-    room: &mut LineRoom,
     writer: &mut Output<W>,
     line: u64,
     load: Option<NextLoad<u64>>,
@@ -170,7 +163,7 @@ fn tell<O: TreeOrder<Key = u64>, W: Write>(
         line,
         sequence: world.sequence(),
     };
-    put_event(room, writer, place, load, event, reply);
+    put_event(writer, place, load, event, reply);
 }
 
 /// What an event loads, if it is a load.
@@ -181,13 +174,6 @@ fn load_by<O: TreeOrder<Key = u64>>(world: &World<O>, event: &Event<u64>) -> Opt
         Event::Read(reader) => world.next_load(*reader),
         _ => None,
     }
-}
-
-/// Whether a reply says that memory ran out.
-fn is_refused_for_memory(reply: &Reply<u64>) -> bool
-    ensures { result ≡ is_refused_for_memory reply.now }
-{
-    matches!(reply, Reply::Refused(Refusal::OutOfMemory))
 }
 
 /// The event that a command repeats. Refused by [`Refusal::OutOfMemory`] alone.
@@ -238,17 +224,7 @@ fn ends<O: TreeOrder<Key = u64>>(
     match command {
         Command::Begin(_) | Command::Start(_, _) => false,
         Command::Write(_) | Command::WriteEnd => !world.is_writing(),
-        Command::WriteFlip => is_flip(reply) || !world.is_writing(),
+        Command::WriteFlip => reply.is_flip() || !world.is_writing(),
         Command::Read(_, _) => matches!(reply, Reply::Returned(_)),
-    }
-}
-
-/// Whether a reply is a flip of the sequence.
-fn is_flip(reply: &Reply<u64>) -> bool
-    ensures { result ≡ is_flip reply.now }
-{
-    match reply {
-        Reply::Wrote(store) => store.word == 0,
-        _ => false,
     }
 }

@@ -6,7 +6,6 @@
 ghost use Rattle.std.specs.Prelude.{◌≡◌, ◌<◌, ◌++◌, ◌↔◌, ◌⊎◌, [], IfErr, IfOk, IsErr, OnOk};
 ghost use Rattle.std.specs.Prelude.{flat_map};
 ghost use Rattle.run_files.specs.CommandLines.{IsUnderstood};
-ghost use Rattle.texts.specs.Output.{Delivers};
 ghost use Rattle.run_files.specs.Trace.{trace_of, with_header};
 ghost use Rattle.word_layout.specs.Layouts.{capacity_of, limit_of};
 ghost use Rattle.word_layout.specs.Limits.{most_nodes};
@@ -14,7 +13,7 @@ ghost use Rattle.engines.specs.TraceTexts.{note_text};
 ghost use Rattle.engines.specs.GatheredTraces.{IsLinesFault, IsNext, IsNotOpened, HasGathered, GathersCommand, GathersLines};
 ghost use Rattle.engines.specs.Traces.{AnswersSaid, AnswersTrace, greatest_of, order_by};
 
-use crate::trace_texts::{LONGEST_LINE, append_end, append_note};
+use crate::trace_texts::{put_end, put_notes};
 use command_io::{Fault, all_written, read_at};
 use latch_steps::{Command, Driver, Note};
 use order_laws::{Closed, HalfOpen, Refusal, TreeOrder};
@@ -73,12 +72,11 @@ fn run_lines<O: TreeOrder<Key = u64>, W: Write>(
             return Err(Fault::Refused(why));
         }
     };
-    let mut text = Vec::new(alloc);
-    gather_lines(&mut driver, lines, &mut text)?;
+    let text = gather_lines(&mut driver, lines, Vec::new(alloc))?;
     let left = driver.finish()?;
-    text.reserve(LONGEST_LINE)?;
-    append_end(&mut text, left.sequence);
-    put_text(writer, &text);
+    writer.put(&text);
+    put_end(writer, left.sequence);
+    writer.flush();
     all_written(writer)
 }
 
@@ -110,16 +108,17 @@ pub fn layout_for(version: Version, capacity: u32) -> Result<Layout, Refusal>
 fn gather_lines<O: TreeOrder<Key = u64>>(
     driver: &mut Driver<O>,
     lines: &mut CommandLines<'_>,
-    text: &mut Vec<u8>,
-) -> Result<(), Fault>
-    ensures gathered { OnOk result (GathersLines O.order lines.old.said driver.old text.old.items
-        driver.new text.new.items) }
+    text: Vec<u8>,
+) -> Result<Vec<u8>, Fault>
+    ensures gathered { IfOk result (λ more. GathersLines O.order lines.old.said driver.old
+        text.items driver.new more.items) }
     ensures fault { IfErr result (IsLinesFault lines.old.said) }
 {
+    let mut gathered = text;
     while let Some(command) = next_command(lines)? {
-        gather_command(driver, &command, text)?;
+        gathered = gather_command(driver, &command, gathered)?;
     }
-    Ok(())
+    Ok(gathered)
 }
 
 /// Goes past the commands of lines: each line has to be in the grammar, also if nothing runs.
@@ -144,33 +143,26 @@ fn next_command(lines: &mut CommandLines<'_>) -> Result<Option<Command<u64>>, Fa
 fn gather_command<O: TreeOrder<Key = u64>>(
     driver: &mut Driver<O>,
     command: &Command<u64>,
-    text: &mut Vec<u8>,
-) -> Result<(), Refusal>
-    ensures gathered { OnOk result (GathersCommand O.order command.now driver.old text.old.items
-        driver.new text.new.items) }
+    text: Vec<u8>,
+) -> Result<Vec<u8>, Refusal>
+    ensures gathered { IfOk result (λ more. GathersCommand O.order command.now driver.old
+        text.items driver.new more.items) }
     ensures refusal { IfErr result (λ why. why ≡ Refusal.OutOfMemory) }
 {
     driver.obey(command)?;
-    gather_notes(driver.notes(), text)?;
+    let text = gather_notes(driver.notes(), text)?;
     driver.forget_notes();
-    Ok(())
+    Ok(text)
 }
 
 /// Puts the lines of notes after the text.
-fn gather_notes(notes: &[Note<u64>], text: &mut Vec<u8>) -> Result<(), AllocError>
-    ensures { OnOk result (text.new.items ≡ text.old.items ++ flat_map note_text notes.now) }
+fn gather_notes(notes: &[Note<u64>], text: Vec<u8>) -> Result<Vec<u8>, AllocError>
+    ensures { IfOk result (λ more. more.items ≡ text.items ++ flat_map note_text notes.now) }
 {
-    for note in notes {
-        text.reserve(LONGEST_LINE)?;
-        append_note(text, note);
+    let mut output = Output::new(text);
+    put_notes(&mut output, notes);
+    if output.has_failed() {
+        return Err(AllocError);
     }
-    Ok(())
-}
-
-/// Writes the text, and lets the writer keep nothing back.
-fn put_text<W: Write>(writer: &mut Output<W>, text: &[u8])
-    ensures { Delivers W.contents writer.old writer.new text.now }
-{
-    writer.put(text);
-    writer.flush();
+    Ok(output.into_inner())
 }

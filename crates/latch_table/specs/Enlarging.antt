@@ -13,7 +13,7 @@ use Rattle.latch_table.specs.Seats.{blank_reader}
 use Rattle.latch_table.specs.Readers.{ReaderState}
 use Rattle.latch_table.specs.Writers.{WriterState, shown_updates, steps_left_of}
 
--- these are so many readers, all of the words at the place
+-- these are `count` readers, all of the words at the place
 abbrev pub AreReadersAt : ℕ → TableId → List ReaderState → Type 0
 AreReadersAt count place all = (length all ≡ count) × All (λ x. x.place ≡ place) all
 
@@ -35,8 +35,8 @@ RefusesEnlarging w l e =
     ⊎ ((e ≡ BadCapacity) × (w.latch.pending ≡ None) × (IsNoSmaller w.capacity w.limit l → ⊥))
     ⊎ ((e ≡ OutOfMemory) × MayEnlarge w l)
 
--- the same updates, shown and accepted, and the same table, in the words of another layout, where
--- those of the new nodes are 0
+-- the updates, shown and accepted, and the table, in the words of another layout; the words of the
+-- new nodes are 0
 abbrev pub enlarged_state : TableId → Layout → WriterState → WriterState
 enlarged_state place l w =
     record w {

@@ -33,7 +33,7 @@ memory_after memory (Answered (Some x) g) = Some (x, g)
 memory_after memory (Answered None g) = memory
 memory_after memory Retry = memory
 
--- what memory gives for the key at this generation: the item that is remembered, where its answer
+-- what memory gives for the key at this generation: the item that is remembered, if its answer
 -- was of this generation and the key lies in it; else nothing
 abbrev pub IsRecalled : {K : Type 0} → Order K → K → ℕ → Option (Item × ℕ) → Option (Item × ℕ)
     → Type 0

@@ -24,7 +24,7 @@ pub record ReaderState : Type 0 where
   pub knowledge : ReaderKnowledge
   pub memory : Option (Item × ℕ)
 
--- the reader now knows more updates, or the same ones
+-- the reader now knows more updates, or no fewer
 pub record KnowsMore (e e' : ReaderKnowledge) : Type 0 where
   pub base : e'.base ≡ e.base
   pub capacity : e'.capacity ≡ e.capacity
@@ -44,7 +44,7 @@ pub record Attempted {K : Type 0} (o : Order K) (k : K) (e : ReaderKnowledge) (o
   pub few : length values ≤ 4 * e.capacity + 3
 
 -- the answer is what the key lies in, in the table after the updates that the reader now knows,
--- which are those of the generation g
+-- which are the updates of the generation g
 pub record Answers {K : Type 0} (o : Order K) (k : K) (e : ReaderKnowledge) (x : Option Item)
     (g : ℕ)
     : Type 0 where
@@ -67,7 +67,7 @@ AreRetries [] = Unit {0}
 AreRetries (s ∷ []) = ⊥
 AreRetries (s ∷ t ∷ more) = (t ≢ s) × AreRetries more
 
--- one or more attempts, of which the last gave an answer
+-- one or more attempts, and the last gave an answer
 abbrev pub Searched : {K : Type 0} → Order K → K → ReaderKnowledge → ReaderKnowledge
     → Option Item × ℕ → Type 0
 Searched o k e e' r =
@@ -75,7 +75,7 @@ Searched o k e e' r =
     × KnowsMore e e' × Attempted o k e' (Answer r.0 r.1) × Answers o k e' r.0 r.1
     × AreRetries more
 
--- none or more attempts, of which none gave an answer
+-- none or more attempts, and none gave an answer
 abbrev pub Searches : ReaderKnowledge → ReaderKnowledge → Type 0
 Searches e e' =
     (more : List ℕ) × (e'.seen ≡ e.seen ++ more) × KnowsMore e e' × AreRetries more

@@ -12,7 +12,7 @@ use Rattle.latch_core.specs.declared.replacements.Difference.{Difference}
 use Rattle.latch_core.specs.Replacements.{replacement, is_rising, replacing_refusal, Tells}
 use Rattle.latch_table.specs.Writers.{WriterState, writer_refusal, Begins}
 
--- a link of copy 0 leads to a tree of so many nodes at most
+-- a link of copy 0 leads to a tree of `most` nodes at most
 abbrev pub LeadsToFew : List ℕ → ℕ → ℕ → ℕ → Type 0
 LeadsToFew m n link most = (t : Nodes) × Leads m n 0 link t × (length (listed t) ≤ most)
 
@@ -21,7 +21,7 @@ abbrev pub TellsTree : {K : Type 0} → Order K → List Item → List ℕ → �
     → Type 0
 TellsTree o list m n link d d' = (t : Nodes) → Leads m n 0 link t → Tells o list d (items m t) d'
 
--- the update makes the table these items, where it is accepted
+-- the update makes the table these items, if it is accepted
 pub record IsReplacement {K : Type 0} (o : Order K) (w : WriterState) (list : List Item)
     (u : Update) : Type 0 where
   pub rests : w.latch.pending ≡ None
@@ -47,7 +47,7 @@ abbrev pub RefusesList : {K : Type 0} → Order K → WriterState → List Item 
 RefusesList o w list e =
     (list_refusal o w list ≡ Some e) ⊎ ((list_refusal o w list ≡ None) × (e ≡ OutOfMemory))
 
--- what stands against a table of these items; or memory ran out, where no update is pending and the
+-- what is against a table of these items; or memory ran out, if no update is pending and the
 -- items rise
 abbrev pub RefusesReplacing : {K : Type 0} → Order K → WriterState → List Item → Refusal → Type 0
 RefusesReplacing o w list e =

@@ -36,7 +36,7 @@ abbrev pub Rises : ℕ → List ℕ → ℕ → Type 0
 Rises low [] top = low ≤ top
 Rises low (x ∷ xs) top = (low ≤ x) × Rises x xs top
 
--- where the reader's last step ended an attempt with its first sequence, the attempt gives an
+-- if the reader's last step ended an attempt with its first sequence, the attempt gives an
 -- answer, from the table after what it knows
 abbrev pub EndsRight : {K : Type 0} → Order K → ReaderKnowledge → Type 0
 EndsRight {K} o e =
@@ -81,8 +81,8 @@ SeatKnows o n base words known writer_seat seat v =
     WriterPart n base words known writer_seat seat v.writer
     × ReaderPart o n base words known v.reader
 
--- The rule of the shared words: there are updates that were shown, of which the stable copy holds
--- the table; one seat alone may be the writer's; and what each seat knows is true.
+-- The rule of the shared words: there are updates that were shown, and the stable copy
+-- holds their table; one seat alone may be the writer's; and what each seat knows is true.
 pub record KnowledgeHolds {S K : Type 0} (o : Order K) (n base : ℕ) (s : State S Knowledge)
     : Type 0 where
   pub known : List Update
@@ -107,7 +107,7 @@ pub record LoadsSequence {K : Type 0} (o : Order K) (e : ReaderKnowledge) (s : �
   pub right : EndsRight o (with_sequence s known e)
 
 module _ {S : Type 0} where
-  -- the same seat, with this in place of what it knew as the writer, or as a reader
+  -- the seat, with this in place of what it knew as the writer, or as a reader
   abbrev pub as_writer : WriterKnowledge → Me S Knowledge → Me S Knowledge
   as_writer p m = (record { writer = Some p; reader = m.0.reader }, m.1)
 

@@ -121,7 +121,7 @@ shown_after w p = if w == 0 && stable_copy_of (at p.picture 0) == 1 then p.accep
 abbrev pub with_store : ℕ → ℕ → WriterKnowledge → WriterKnowledge
 with_store w x p = record p { picture = slice_set p.picture w x; known = shown_after w p }
 
--- the last sequence that a reader loaded; before the first, that of the opening generation
+-- the last sequence that a reader loaded; before the first, the one of the opening generation
 abbrev pub last_or : ℕ → List ℕ → ℕ
 last_or n [] = n
 last_or n (x ∷ xs) = last_or x xs

@@ -12,7 +12,7 @@ use Rattle.latch_table.specs.Seats.{reader_of, reader_knowledge, with_sequence, 
 use Rattle.latch_table.specs.Seats.{writer_of, writer_knowledge, with_loads}
 use Rattle.latch_table.specs.Rule.{LoadsSequence}
 
--- the word is kept, wherever what the reader has loaded stands
+-- the word is kept, while what the reader has loaded is in its words
 abbrev pub MayLoad : ReaderKnowledge → ℕ → Type 0
 MayLoad e word =
     (l : ℕ × ℕ) × (ls : List (ℕ × ℕ)) × (e.loads ≡ l ∷ ls)

@@ -20,7 +20,7 @@ impl<O: TreeOrder> Writer<O> {
     /// nothing, and will know at least what was shown. [`Writer::move_to`] counts it with the
     /// others.
     ///
-    /// Refused by [`Refusal::BadCapacity`] where the table has 65536 readers already, and else by
+    /// Refused by [`Refusal::BadCapacity`] if the table has 65536 readers already, and else by
     /// [`Refusal::OutOfMemory`]; a refusal changes nothing.
     pub fn add_reader(&mut self) -> Result<Reader<O>, Refusal>
         ensures added { IfOk result (AddsReader self.old self.new) }

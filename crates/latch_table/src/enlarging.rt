@@ -1,7 +1,7 @@
 //! The table in a larger row of words.
 //!
-//! The writer alone stores, so with no pending update it copies the words as they stand, and puts 0
-//! in those of the new nodes. All memory is taken before anything changes; then the writer goes
+//! The writer alone stores, so with no pending update it copies the words as they are, and puts 0
+//! in the words of the new nodes. All memory is taken before anything changes; then the writer goes
 //! over to the new row, and the old row is freed with the readers that it has.
 
 ghost use Rattle.std.specs.Prelude.{◌≡◌, ◌≤◌, [], length, OnErr, IfOk, IfErr};
@@ -52,9 +52,9 @@ impl<O: TreeOrder> Writer<O> {
     /// table, the updates that were shown and the generation stay. Takes all readers of the old
     /// row, which is given up with them, and hands out as many of the new one.
     ///
-    /// Refused by [`Refusal::UpdateInHand`], then by [`Refusal::BadCapacity`] where the layout has
+    /// Refused by [`Refusal::UpdateInHand`], then by [`Refusal::BadCapacity`] if the layout has
     /// fewer nodes or a smaller greatest sequence, and last by [`Refusal::OutOfMemory`]; a refusal
-    /// changes nothing and hands the same readers back.
+    /// changes nothing and hands the readers back.
     pub fn enlarge(
         &mut self,
         alloc: Global,
@@ -73,8 +73,8 @@ impl<O: TreeOrder> Writer<O> {
         }
     }
 
-    /// The same, but that it leaves the old readers alone: they keep the old row, in which nothing
-    /// changes any more.
+    /// Goes on with the nodes and the greatest sequence of a layout, and leaves the old readers
+    /// alone: they keep the old row, in which nothing changes any more.
     pub fn move_to(&mut self, alloc: Global, l: Layout) -> Result<Vec<Reader<O>>, Refusal>
         ensures enlarged { IfOk result (λ all. Enlarges self.old l self.new all.items) }
         ensures refusal { IfErr result (RefusesEnlarging self.old l) }

@@ -1,6 +1,6 @@
 //! What a seat knows.
 //!
-//! No value of these types is made: they stand in the clauses of a seat, which a proof reads and no
+//! No value of these types is made: they are in the clauses of a seat, which a proof reads and no
 //! program keeps. A clause reads an array as a list, of any length.
 
 use atomic_table::Seat;
@@ -22,7 +22,7 @@ pub struct ReaderKnowledge {
     pub floor: [Update; 0],
     /// Its loads since its last load of word 0, that one at their head: each word with its value.
     pub loads: [(u64, u64); 0],
-    /// Those from one load of word 0 to the next, with both, where it has loaded nothing since.
+    /// The loads from one load of word 0 to the next, with both, if it has loaded nothing since.
     pub ended: [(u64, u64); 0],
 }
 
@@ -54,7 +54,7 @@ pub struct Knowledge {
 /// A seat of the table.
 pub type TableSeat = Seat<(), Knowledge>;
 
-/// Where a row of words comes from.
+/// The origin of a row of words.
 #[derive(Drop)]
 pub enum Origin {
     /// An empty table, with its sequence at this number.

@@ -2,7 +2,7 @@
 //!
 //! [`open`] makes a row of atomic words with one [`Writer`] and some [`Reader`]s, each of which may
 //! go to a thread of its own. Readers look keys up while the writer changes the tree; neither takes
-//! a lock. The algorithm is that of `latch_core`: here each of its loads and stores is one atomic
+//! a lock. The algorithm is latch_core's: here each of its loads and stores is one atomic
 //! step on a word.
 //!
 //! ```text
@@ -37,15 +37,15 @@
 //! **The rule of the words** (`specs/Rule.antt`) holds between any two steps of any threads: the
 //! stable copy holds the table after the updates that were shown, as many as the sequence says;
 //! what each seat knows is true; and while the sequence is what a reader first loaded in its
-//! attempt, each value that it loaded since still stands in its word. A step of the writer keeps
+//! attempt, each value that it loaded since still is in its word. A step of the writer keeps
 //! it, since the writer stores nothing that a reader of the stable copy can reach. So a reader that
-//! loads the same number again knows that its whole attempt stood still, and its answer is that of
-//! the table after the updates that were shown.
+//! loads that number again knows that nothing changed in its whole attempt, and its answer is right
+//! in the table after the updates that were shown.
 //!
-//! **A reader remembers** the item that it found last, and the generation of that answer. Where a
+//! **A reader remembers** the item that it found last, and the generation of that answer. If a
 //! load of the sequence gives that generation again and the key lies in the item, the item is the
 //! answer ([`Reader::recall`]), also in the midst of an update; [`Reader::look`] goes on with an
-//! attempt where it is not, which begins with the same load.
+//! attempt if it is not, which begins with that load.
 //!
 //! ```text
 //! known at the answer    u1 u2 u3        generation 3
@@ -56,7 +56,7 @@
 //! as the generation says. So they are equal, and the item is still in the table.
 //!
 //! **A larger table** ([`Writer::enlarge`]) is a new row of words. Between two updates the writer
-//! copies the words, puts those of the new nodes after them, and its seat of the new row begins
+//! copies the words, puts the words of the new nodes after them, and its seat of the new row begins
 //! with what its seat of the old one knew. New readers part from it; the old ones are given up with
 //! their row.
 //!

@@ -31,7 +31,7 @@ pub(crate) struct BuiltTable<O: TreeOrder> {
     pub(crate) readers: Vec<Reader<O>>,
 }
 
-/// A row of these words, with so many readers.
+/// A row of these words, with `readers` readers.
 pub(crate) fn build<O: TreeOrder>(
     alloc: Global,
     l: Layout,
@@ -73,9 +73,9 @@ fn opening_words(alloc: Global, l: Layout, start: u64) -> Result<Vec<u64>, Alloc
     Ok(words)
 }
 
-/// An empty table, with its sequence at `start`: its writer, and so many readers.
+/// An empty table, with its sequence at `start`: its writer, and `readers` readers.
 ///
-/// The start is a sequence. Refused by [`Refusal::BadCapacity`] where it is odd or above the
+/// The start is a sequence. Refused by [`Refusal::BadCapacity`] if it is odd or above the
 /// layout's limit, or the readers are not 1 to 64; and else by [`Refusal::OutOfMemory`].
 pub fn open<O: TreeOrder>(
     alloc: Global,

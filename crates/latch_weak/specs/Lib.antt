@@ -1,5 +1,5 @@
 -- The definitions of this crate, in the order in which to read them.
--- what the writer of a latch does, and the words after so many of its stores
+-- what the writer of a latch does, and the words after some of its stores
 pub mod Works
 -- what a writer has made so far
 pub mod Recordings

@@ -50,7 +50,7 @@ abbrev pub Looks : Choice → Barriers → List ℕ → List Store → ReaderVie
 Looks chooses b m ss r w x r' =
     Gives chooses m ss r (view_of r) w x r' (after_load b ss (view_of r) w r'.last.moment)
 
--- a reader before a later load: it stands behind a read barrier where this is of word 0
+-- a reader before a later load: it is after a read barrier if this is of word 0
 pub record StandsBefore (b : Barriers) (r r' : ReaderView) (w : ℕ) : Type 0 where
   pub view : view_of r' ≡ before_load b (view_of r) w
   pub words : r'.least.items ≡ r.least.items
@@ -102,7 +102,7 @@ last_of last [] = last
 last_of last (g ∷ gs) = last_of g gs
 
 -- a whole attempt: its loads, each of which the schedule chose, its outcome, the view that it
--- leaves, and that the reader goes on behind its last load
+-- leaves, and that the reader goes on after its last load
 pub record HasAttempted {K : Type 0} (chooses : Choice) (b : Barriers) (o : Order K) (n : ℕ)
     (m : List ℕ) (ss : List Store) (r : ReaderView) (k : K) (out : Outcome) (r' : ReaderView)
     : Type 0 where

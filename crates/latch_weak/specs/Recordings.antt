@@ -58,7 +58,7 @@ CarriesOutAll o w (u ∷ us) ss w' =
     (made : List Store) × (rest : List Store) × (m : WriterView) × CarriesOut o w u made m
     × (ss ≡ made ++ rest) × CarriesOutAll o m us rest w'
 
--- the stores are those of a core that is opened at this layout and sequence, and carries these
+-- the stores are made by a core that is opened at this layout and sequence, and carries these
 -- updates out, each to its end
 abbrev pub AreStoresOfCore : {K : Type 0} → Order K → Layout → ℕ → List Update → List Store
     → Type 0

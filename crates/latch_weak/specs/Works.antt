@@ -1,5 +1,5 @@
 -- What the writer of a latch does. It alone stores, so the words of a moment are the opening words
--- after so many of its stores.
+-- after some of its stores.
 use Rattle.std.specs.Prelude.{◌≡◌, ℕ, ◌<◌, ◌≤◌, List, [], ◌∷◌, take, Some, None}
 use Rattle.order_laws.specs.Orders.{Order}
 use Rattle.word_layout.specs.declared.stores.Store.{Store}
@@ -10,7 +10,7 @@ use Rattle.latch_core.specs.Latches.{PendingUpdate, Latch, IsWriterStep, latch_a
 use Rattle.latch_core.specs.Latches.{latch_with_update, opening_latch}
 use Rattle.latch_core.specs.Writers.{latch_refusal}
 
--- one thing that the writer does: it begins an update that is to take so many steps, or stores
+-- one thing that the writer does: it begins an update that is to take some steps, or stores
 pub data Deed : Type 0 where
   Begins : Update → ℕ → Deed
   Stores : Store → Deed
@@ -45,6 +45,6 @@ pub record AreStoresOf {K : Type 0} (o : Order K) (n limit start : ℕ) (us : Li
   pub updates_are : updates_of deeds ≡ us
   pub stores_are : stores_of deeds ≡ ss
 
--- the words at a moment: after so many of the stores
+-- the words at a moment: after that many of the stores
 abbrev pub words_at : List ℕ → List Store → ℕ → List ℕ
 words_at m ss i = words_after_all m (take i ss)

@@ -9,7 +9,7 @@
 //! last load of word 0       raised by the read barrier before it
 //! ```
 //!
-//! The walk itself is that of every other reader ([`latch_core::attempt_from`]).
+//! The walk itself is the one of every other reader ([`latch_core::attempt_from`]).
 
 ghost use Rattle.std.specs.Prelude.{◌≡◌, ◌<◌, ◌≤◌, ℕ, length, IfOk};
 ghost use Rattle.word_layout.specs.Layouts.{capacity_of};
@@ -25,7 +25,7 @@ use order_laws::TreeOrder;
 use std::alloc::{AllocError, Global};
 use word_layout::{Layout, Store};
 
-/// One load: the moment of which it gives the value, and how many stores the writer had made.
+/// One load: the moment whose value it gives, and how many stores the writer had made.
 #[derive(Clone, Copy, Debug, PartialEq, Eq, Drop)]
 pub struct Glance {
     /// The moment, a number of stores.
@@ -40,7 +40,7 @@ pub trait LoadSchedule {
     /// that it may show and the number of all stores.
     ghost chooses: { Self → ℕ → ℕ → Glance → ℕ → ℕ → Glance → Type 0 };
 
-    /// What load number `load` of the reader gives, of `word`: a moment from `least` on, where the
+    /// What load number `load` of the reader gives, of `word`: a moment from `least` on, if the
     /// writer makes at most `most` stores and had made `last.made` at the load before.
     fn glance(&self, load: u64, word: usize, last: Glance, least: usize, most: usize) -> Glance
         requires may { least ≤ most }
@@ -94,7 +94,7 @@ pub struct Moments<'a, S: LoadSchedule> {
 }
 
 impl<S: LoadSchedule> Moments<'_, S> {
-    /// A reader that has to see the first so many stores.
+    /// A reader that has to see the first `from` stores.
     pub fn reader(&self, alloc: Global, from: usize) -> Result<ReaderView, AllocError>
         requires { from ≤ length self.now.stores.now }
         ensures reader { IfOk result (IsReaderOf self.now.opening.now self.now.stores.now) }
@@ -136,7 +136,7 @@ impl<S: LoadSchedule> Moments<'_, S> {
         value_at(self.opening, self.stores, word, glance.moment)
     }
 
-    /// The first load of an attempt, on which those of its walk depend.
+    /// The first load of an attempt, on which the loads of its walk depend.
     fn look_first(&self, reader: &mut ReaderView) -> u64
         requires word { 0 < length self.now.opening.now }
         requires reader { IsReaderOf self.now.opening.now self.now.stores.now reader.old }
@@ -151,7 +151,7 @@ impl<S: LoadSchedule> Moments<'_, S> {
         first
     }
 
-    /// Before a later one: a read barrier stands before that of word 0.
+    /// Before a later one: a read barrier precedes the one of word 0.
     fn stand_before(&self, reader: &mut ReaderView, word: usize)
         ensures { StandsBefore self.now.barriers reader.old reader.new word }
     {

@@ -17,7 +17,7 @@ use word_layout::{Layout, Store};
 /// The stores that a writer makes for these updates, one after another, from an empty table whose
 /// sequence begins at `start`: those that a [`WriterCore`] hands out, to the end of each update.
 ///
-/// Refused as the first update that is refused, as [`WriterCore::open`] where the sequence may not
+/// Refused as the first update that is refused, as [`WriterCore::open`] if the sequence may not
 /// begin there, and by [`Refusal::OutOfMemory`].
 pub fn record<O: TreeOrder>(
     alloc: Global,

@@ -7,7 +7,7 @@ use Rattle.facts.proofs.Pairs.{flat_map-zip_more, zip-past}
 use Rattle.std.specs.Io.KnownBytes.{Appends, Keeps}
 use Rattle.std.proofs.KnownBytes.{Appends-nil, Appends-trans}
 use Rattle.texts.specs.declared.output.Output.{Output}
-use Rattle.texts.specs.Output.{Awaits, Says, Delivered, Delivers, WroteAll, WrotePart, error_in, has_failed, is_flushed, writer_of}
+use Rattle.texts.specs.Output.{Awaits, Says, Delivered, Delivers, WroteAll, WrotePart, error_in, has_failed, writer_of}
 
 -- where nothing failed, what the writer took was said
 pub taken_is_said : {W : Type 0} {contents : W → Option (List ℕ)} {old new : Output W} {text : List ℕ} → has_failed old ≡ false → (has_failed new ≡ false → error_in new ≡ error_in old)

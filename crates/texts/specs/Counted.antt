@@ -20,7 +20,7 @@ error_of c = c.error
 abbrev pub one_failure_more : ℕ → ℕ
 one_failure_more n = min (n + 1) (2 ^ 64 - 1)
 
--- the count after a call of which only an error is a failure
+-- the count after a call that fails by an error alone
 abbrev pub after_call : {A E : Type 0} → ℕ → Result A E → ℕ
 after_call n (Ok _) = n
 after_call n (Err _) = one_failure_more n

@@ -19,12 +19,12 @@ error_kept d = d.error
 abbrev pub is_settled : {W : Type 0} → Device W → Bool
 is_settled d = d.flushed
 
--- whether an answer to bytes is that of a failed call: none were taken, or an error came
+-- whether an answer to bytes tells of a failed call: none were taken, or an error came
 abbrev pub is_failed_write : {E : Type 0} → Result ℕ E → Bool
 is_failed_write (Ok taken) = nat_eq taken 0
 is_failed_write (Err e) = true
 
--- the same of an answer to a flush
+-- whether an answer to a flush does
 abbrev pub is_failed_flush : {E : Type 0} → Result (Unit {0}) E → Bool
 is_failed_flush (Ok u) = false
 is_failed_flush (Err e) = true

@@ -3,8 +3,6 @@
 pub mod Counted
 -- the text of an address
 pub mod Exact
--- what a clause reads of a device that fails at one call
-pub mod FailAt
 -- what a clause reads of a writer whose calls tell what they came to
 pub mod Device
 -- what is said to an output, and what its device takes of it
@@ -13,7 +11,7 @@ pub mod Output
 pub mod Lines
 -- the numbers that words are
 pub mod Numbers
--- what lines say, each of which has to be understood
+-- what lines say, if each has to be understood
 pub mod Said
 -- what a text is, line by line
 pub mod Understood

@@ -2,7 +2,7 @@
 use Rattle.std.specs.Prelude.{ℕ, List, [], ◌∷◌, ◌==◌, if◌then◌else◌}
 use Rattle.std.specs.List.{slice_split, onto_first}
 
--- Each line ends at a byte 10, and what stands after the last 10 is a line too, unless it is
+-- Each line ends at a byte 10, and what comes after the last 10 is a line too, unless it is
 -- nothing.
 abbrev pub lines_of : List ℕ → List (List ℕ)
 lines_of [] = []

@@ -20,7 +20,7 @@ number_of word =
     if starts_with nat_eq word (codes "0x") then numeral 16 16 (drop 2 word)
     else numeral 10 20 word
 
--- the number, where it lies between two others
+-- the number, if it lies between two others
 abbrev pub between : ℕ → ℕ → Option ℕ → Option ℕ
 between low high (Some n) = if nat_le low n && nat_le n high then Some n else None
 between low high None = None

@@ -33,8 +33,8 @@ abbrev pub IsNoBrokenPipe : Option Error → Type 0
 IsNoBrokenPipe error = IfSome error (λ e. error_kind e ≢ BrokenPipe)
 
 -- Of a whole text this rest is still to be said: since the output was opened, its device has taken
--- all that was said before, or a beginning of that where a call of it failed. One that had failed
--- when it was opened was not called, and no error is kept but that of a failed call.
+-- all that was said before, or a beginning of it if a call of it failed. One that had failed
+-- when it was opened was not called, and no error is kept but the one of a failed call.
 pub record Awaits {W : Type 0} (contents : W → Option (List ℕ)) (opened : Output W)
     (whole rest : List ℕ) (o : Output W) : Type 0 where
   pub taken : List ℕ
@@ -45,15 +45,15 @@ pub record Awaits {W : Type 0} (contents : W → Option (List ℕ)) (opened : Ou
   pub no_error : has_failed o ≡ false → error_in o ≡ error_in opened
   pub uncalled : has_failed opened ≡ true → o ≡ opened
 
--- This text was said: of each whole text of which it was the next to be said, what comes behind it
--- is. What failed stays so.
+-- This text was said: of each whole text that it was the next part of, what comes after it is
+-- next. What failed stays so.
 pub record Says {W : Type 0} (contents : W → Option (List ℕ)) (old new : Output W)
     (text : List ℕ) : Type 0 where
   pub next : (opened : Output W) (whole rest : List ℕ)
       → Awaits contents opened whole (text ++ rest) old → Awaits contents opened whole rest new
   pub stays : has_failed old ≡ true → has_failed new ≡ true
 
--- This text was said, and then the device was flushed: it keeps nothing back where no call failed.
+-- This text was said, and then the device was flushed: it keeps nothing back if no call failed.
 abbrev pub Delivers : {W : Type 0} → (W → Option (List ℕ)) → Output W → Output W → List ℕ → Type 0
 Delivers contents old new text =
     Says contents old new text × (has_failed new ≡ false → is_flushed new ≡ true)

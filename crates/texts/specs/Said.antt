@@ -1,4 +1,4 @@
--- What the lines of a text say, where each of them has to be understood.
+-- What the lines of a text say, if each of them has to be understood.
 use Rattle.std.specs.Prelude.{ℕ, ◌+◌, ◌^◌, ◌<◌, ◌≤◌, ◌==◌, nat_lt, Bool, true, if◌then◌else◌}
 use Rattle.std.specs.Prelude.{List, [], ◌∷◌, ◌++◌, length, Option, Some, None, Result, Ok, Err, ◌≡◌}
 use Rattle.std.specs.Option.{option_map_or}
@@ -20,7 +20,7 @@ abbrev pub is_passed_over : List ℕ → Bool
 is_passed_over [] = true
 is_passed_over (b ∷ line) = b == 35
 
--- what a line says, where `form` gives the entry that a line is, if it is one
+-- what a line says, if `form` gives the entry that a line is, if it is one
 abbrev pub said_by : {T : Type 0} → (List ℕ → Option T) → List ℕ → Said T
 said_by form line =
     if is_too_long line then Bad
@@ -32,7 +32,7 @@ abbrev pub entries_after : {T : Type 0} → List T → Result (List T) ℕ → R
 entries_after front (Ok rest) = Ok (front ++ rest)
 entries_after front (Err n) = Err n
 
--- the entries of lines of which the first has the number n, or the number of the first bad line
+-- the entries of lines, the first of them number n, or the number of the first bad line
 abbrev pub entries_from : {T : Type 0} → (List ℕ → Option T) → ℕ → List (List ℕ) → Result (List T) ℕ
 entries_from form n [] = Ok []
 entries_from form n (line ∷ lines) =
@@ -42,13 +42,13 @@ entries_from form n (line ∷ lines) =
       | Bad ↦ Err n
     ]
 
--- what a fault says of the text, where it is one of its lines
+-- what a fault says of the text, if it is one of its lines
 abbrev pub Faults : {C : Type 0} → LineFault → Result C ℕ → Type 0
 Faults line.OutOfMemory said = Unit {0}
 Faults line.Read said = Unit {0}
 Faults (line.BadLine n) said = said ≡ Err n
 
--- the numbers of the lines that are not passed over, where the first has the number n
+-- the numbers of the lines that are not passed over, the first line being number n
 abbrev pub said_lines : ℕ → List (List ℕ) → List ℕ
 said_lines n [] = []
 said_lines n (line ∷ lines) =
@@ -64,7 +64,7 @@ abbrev pub fault_of_reading : ReadFault → LineFault
 fault_of_reading read.OutOfMemory = line.OutOfMemory
 fault_of_reading read.Read = line.Read
 
--- The same of a call that is given the bytes, so that no reader can fail.
+-- What a fault says after a call that is given the bytes, so that no reader can fail.
 abbrev pub FaultsInGrammar : {C : Type 0} → LineFault → Result C ℕ → Type 0
 FaultsInGrammar line.OutOfMemory said = Unit {0}
 FaultsInGrammar line.Read said = ⊥
@@ -74,11 +74,11 @@ abbrev pub GivesInGrammar : {V C : Type 0} → (V → C) → Result V LineFault 
 GivesInGrammar view (Ok v) said = said ≡ Ok (view v)
 GivesInGrammar view (Err fault) said = FaultsInGrammar fault said
 
--- a number can be told of each of these lines
+-- each of these lines has a number
 abbrev pub AreNumbered : ℕ → List ℕ → Type 0
 AreNumbered number text = number + length text < 2 ^ 64
 
--- the first entry that lines are of which the first has this number, and what those behind it are
+-- the first entry that lines are, the first line being number n, and what the lines after it are
 abbrev pub GivesNext : {T : Type 0} → (List ℕ → Option T) → ℕ → List ℕ
     → Result (Option (NextEntry T)) LineFault → Type 0
 GivesNext form n text (Ok None) = entries_from form n (lines_of text) ≡ Ok []
@@ -87,7 +87,7 @@ GivesNext form n text (Ok (Some next)) =
     ≡ entries_after (next.entry ∷ []) (entries_from form next.number (lines_of next.rest.now))
 GivesNext form n text (Err fault) = FaultsInGrammar fault (entries_from form n (lines_of text))
 
--- behind an entry there are fewer bytes, and no number is too great for them
+-- after an entry there are fewer bytes, and no number is too great for them
 abbrev pub LeavesFewer : {T : Type 0} → ℕ → List ℕ → Option (NextEntry T) → Type 0
 LeavesFewer n text None = Unit {0}
 LeavesFewer n text (Some next) =

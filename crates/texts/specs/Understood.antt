@@ -1,4 +1,4 @@
--- What a text is, line by line, where each of its lines has to be understood.
+-- What a text is, line by line, if each of its lines has to be understood.
 use Rattle.std.specs.Prelude.{◌≡◌, ◌≢◌, ℕ, ◌+◌, ◌<◌, List, [], length, slice_index_or, All}
 use Rattle.std.specs.Prelude.{Option, Some, None}
 use Rattle.std.specs.List.{filter_map}
@@ -22,7 +22,7 @@ pub record IsFirstBadAt {T : Type 0} (form : List ℕ → Option T) (lines : Lis
   pub bad : said_by form (slice_index_or lines place []) ≡ Bad
   pub before : (k : ℕ) → k < place → said_by form (slice_index_or lines k []) ≢ Bad
 
--- the first bad line has this number, where the first of the lines has the number n
+-- the first bad line has this number, the first of the lines being number n
 abbrev pub IsFirstBadFrom : {T : Type 0} → (List ℕ → Option T) → ℕ → List (List ℕ) → ℕ → Type 0
 IsFirstBadFrom form n lines number =
     (place : ℕ) × (number ≡ place + n) × IsFirstBadAt form lines place

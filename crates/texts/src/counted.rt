@@ -12,7 +12,7 @@ pub const BLOCK: usize = 65536;
 /// A reader, how many of its calls failed, and the error that it gave last.
 ///
 /// A failed call is an error of any kind. The count stays at the greatest `u64` once it is there.
-/// What is left to be read is that of the reader inside.
+/// What is left to be read is what the reader inside has.
 #[derive(Drop)]
 pub struct Counted<D> {
     device: D,

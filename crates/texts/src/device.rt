@@ -1,6 +1,6 @@
 //! The calls of a writer, each of which tells what it came to.
 //!
-//! Whatever else is said to fail, or not to, rests on the three calls that stand alone: `write` and
+//! Whatever else is said to fail, or not to, rests on the three calls by themselves: `write` and
 //! `flush` here, and `read` of [`crate::Counted`]. A clause can say what becomes of the answer of
 //! such a call, but not that the answer is what the writer or the reader itself gave.
 ghost use Rattle.std.specs.Prelude.{◌≡◌, ◌<◌, None, Some, false, true, length, is_ok};

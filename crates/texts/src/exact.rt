@@ -3,10 +3,11 @@ ghost use Rattle.std.specs.Prelude.{◌≡◌, ◌<◌, ◌≤◌, drop, false};
 ghost use Rattle.std.specs.Fmt.{digits, digit_glyph};
 ghost use Rattle.texts.specs.Exact.{hexadecimal};
 
-use crate::gathered::LONGEST_HEXADECIMAL;
+/// The most bytes that an address takes: `0x` and a digit for every four bits.
+pub(crate) const LONGEST_HEXADECIMAL: usize = 18;
 
-/// Writes `0x` and the hexadecimal digits of a number at the end of the buffer, and returns where
-/// they begin.
+/// Writes `0x` and the hexadecimal digits of a number at the end of the buffer, and returns their
+/// place.
 #[tactic(auto, using(crate::proofs::HexadecimalLemmas::prefixed))]
 pub(crate) fn write_hexadecimal(n: u64, buffer: &mut [u8; LONGEST_HEXADECIMAL]) -> usize
     ensures start { result < 16 }
@@ -18,8 +19,8 @@ pub(crate) fn write_hexadecimal(n: u64, buffer: &mut [u8; LONGEST_HEXADECIMAL]) 
     start - 2
 }
 
-/// Writes the hexadecimal digits of a number at the end of the buffer, and returns where they
-/// begin. Room for two more is left before them.
+/// Writes the hexadecimal digits of a number at the end of the buffer, and returns their
+/// place. Room for two more is left before them.
 fn write_digits(n: u64, buffer: &mut [u8; LONGEST_HEXADECIMAL]) -> usize
     ensures room { 2 ≤ result }
     ensures start { result < 18 }

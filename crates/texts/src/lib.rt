@@ -3,7 +3,7 @@
 //!
 //! A text is read whole, then cut into lines, and a line into words, in time linear in its length.
 //!
-//! A fault of input or output may be reported only where a call of the device failed. So a reader is
+//! A fault of input or output may be reported only if a call of the device failed. So a reader is
 //! called through [`Counted`] and a writer through [`Output`], and each contract that speaks of a
 //! fault speaks of what these count or keep.
 #![tactic(auto)]
@@ -11,9 +11,7 @@
 mod counted;
 mod device;
 mod exact;
-mod fail_at;
 mod faults;
-mod gathered;
 mod input;
 mod lines;
 mod numbers;
@@ -21,9 +19,7 @@ mod output;
 mod said;
 
 pub use counted::{BLOCK, Counted};
-pub use fail_at::FailAt;
 pub use faults::{LineFault, ReadFault};
-pub use gathered::{LONGEST_HEXADECIMAL, append, append_hexadecimal};
 pub use input::read_whole;
 pub use lines::{LONGEST_LINE, cut_line, cut_word, words_in};
 pub use numbers::{

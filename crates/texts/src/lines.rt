@@ -20,7 +20,7 @@ pub fn cut_line(bytes: &[u8]) -> (&[u8], &[u8])
     }
 }
 
-/// Cuts off the first word of a line, and gives what stands after the blank that ends it.
+/// Cuts off the first word of a line, and gives what comes after the blank that ends it.
 pub fn cut_word(line: &[u8]) -> (&[u8], Option<&[u8]>)
     ensures cut { MatchOption result.1 (words_of line.now ≡ result.0.now ∷ [])
         (λ rest. words_of line.now ≡ result.0.now ∷ words_of rest.now) }

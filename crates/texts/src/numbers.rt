@@ -17,14 +17,14 @@ pub fn number(word: &[u8]) -> Option<u64>
     }
 }
 
-/// The number that a word is, where it fits 32 bits.
+/// The number that a word is, if it fits 32 bits.
 pub fn short_number(word: &[u8]) -> Option<u32>
     ensures { result ≡ short_number_of word.now }
 {
     u32::try_from(number(word)?).ok()
 }
 
-/// The number from 1 on that a word is, where it fits 32 bits.
+/// The number from 1 on that a word is, if it fits 32 bits.
 pub fn count(word: &[u8]) -> Option<u32>
     ensures { result ≡ count_of word.now }
 {
@@ -47,10 +47,10 @@ pub fn number_up_to(word: &[u8], greatest: u32) -> Option<u32>
 /// The most digits of a decimal number.
 const DECIMAL_DIGITS: usize = 20;
 
-/// The most digits of a hexadecimal number. So many fit 64 bits, whatever they are.
+/// The most digits of a hexadecimal number. Sixteen fit 64 bits, whatever they are.
 const HEXADECIMAL_DIGITS: usize = 16;
 
-/// The number that 1 to 20 decimal digits write, where it is below 2 ^ 64.
+/// The number that 1 to 20 decimal digits write, if it is below 2 ^ 64.
 pub fn decimal(text: &[u8]) -> Option<u64>
     ensures { result ≡ numeral 10 20 text.now }
 {
@@ -120,7 +120,7 @@ fn upper_digits(text: &[u8]) -> (u64, u64)
 }
 
 /// What eight bytes write as hexadecimal digits, and the bits of all of the digits, which are 16 or
-/// more where a byte is no such digit. No eight of them pass 64 bits.
+/// more if a byte is no such digit. No eight of them pass 64 bits.
 #[inline]
 fn eight_digits(text: &[u8]) -> (u64, u64)
     requires { length text.now ≡ 8 }

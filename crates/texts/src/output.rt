@@ -11,8 +11,7 @@ ghost use Rattle.std.specs.Prelude.{◌≡◌, ◌≤◌, ◌<◌, [], None, dec
 ghost use Rattle.texts.specs.Exact.{hexadecimal};
 
 use crate::device::Device;
-use crate::exact::write_hexadecimal;
-use crate::gathered::LONGEST_HEXADECIMAL;
+use crate::exact::{LONGEST_HEXADECIMAL, write_hexadecimal};
 use itoa::Buffer;
 use std::io;
 use std::io::Write;
@@ -68,7 +67,7 @@ impl<W> Output<W> {
 impl<W: Write> Output<W> {
     ghost use Rattle.texts.specs.Output.{Awaits, Delivers, Says, has_failed};
 
-    /// Says bytes. Mostly a buffer takes all at once: what comes else stands apart, so that this is
+    /// Says bytes. Mostly a buffer takes all at once: the rest is a function apart, so that this is
     /// inlined.
     #[inline(always)]
     pub fn put(&mut self, bytes: &[u8])

@@ -1,4 +1,4 @@
-//! What the lines of a text say, each of which has to be understood.
+//! What the lines of a text say, if each has to be understood.
 ghost use Rattle.std.specs.Prelude.{◌≡◌, length, IfOk};
 ghost use Rattle.texts.specs.Lines.{lines_of};
 ghost use Rattle.texts.specs.Said.{entries_from, is_passed_over, is_too_long, said_by};
@@ -67,7 +67,7 @@ fn said_by<'a, F: Form<'a>>(form: &F, line: &'a [u8]) -> Result<Said<F::Entry>, 
     }
 }
 
-/// An entry of a text, and the lines behind it, of which the first has this number.
+/// An entry of a text, the lines after it, and the number of the first of these.
 #[derive(Drop)]
 pub struct NextEntry<'a, T> {
     pub entry: T,

@@ -38,7 +38,7 @@ pub(super) fn attempt<O: TreeOrder>(
     }
 }
 
-/// What is remembered, where one load of the sequence tells that it is the answer; else one
+/// What is remembered, if one load of the sequence tells that it is the answer; else one
 /// attempt, which begins with that load.
 #[inline(always)]
 pub(super) fn look<O: TreeOrder>(

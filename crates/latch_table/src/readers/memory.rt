@@ -9,7 +9,7 @@ use latch_core::sequences::generation;
 use order_laws::{Item, TreeOrder};
 use std::cmp::Ordering;
 
-/// Remembers what an attempt found; where it found no item, what was remembered stays.
+/// Remembers what an attempt found; if it found no item, what was remembered stays.
 #[inline(always)]
 pub(super) fn remember(memory: &mut Option<(Item, u64)>, tried: Try)
     ensures { memory.new ≡ memory_after memory.old tried }

@@ -111,7 +111,7 @@ impl<O: TreeOrder> Reader<O> {
         tried
     }
 
-    /// What a key lies in, where memory tells: it lies in the item that was found last, and no
+    /// What a key lies in, if memory tells: it lies in the item that was found last, and no
     /// update was shown since. One load of the sequence shows whether.
     pub fn recall(&mut self, k: O::Key) -> Option<(Item, u64)>
         ensures place { self.new.place ≡ self.old.place }
@@ -124,7 +124,7 @@ impl<O: TreeOrder> Reader<O> {
         recalled::<O>(&self.memory, k, first)
     }
 
-    /// What a key lies in: recalled, or else sought by one attempt, which begins with the same
+    /// What a key lies in: recalled, or else sought by one attempt, which begins with that
     /// load.
     ///
     /// It is compiled into its callers: an answer of 48 bytes would be handed on through memory.

@@ -86,12 +86,12 @@ fn tell_tree<O: TreeOrder>(
 }
 
 impl<O: TreeOrder> Writer<O> {
-    /// The update that makes these items of the table: a batch that erases those of the table that
-    /// are not among them, and inserts those of them that are not in the table, both in order.
+    /// The update that makes these items of the table: a batch that erases the items of the table
+    /// that are not among them, and inserts the ones that are not in the table, both in order.
     ///
     /// The items have to rise, each less than the next. It goes once over both, and takes memory
     /// for the entries of the batch alone. Refused by [`Refusal::UpdateInHand`], then by
-    /// [`Refusal::Overlap`] where the items do not rise, and last by [`Refusal::OutOfMemory`].
+    /// [`Refusal::Overlap`] if the items do not rise, and last by [`Refusal::OutOfMemory`].
     /// Nothing changes.
     pub fn replacement(&mut self, list: &[Item]) -> Result<Update, Refusal>
         ensures found { IfOk result (IsReplacement O.order self.old list.now) }
@@ -126,7 +126,7 @@ impl<O: TreeOrder> Writer<O> {
     ///
     /// The items have to be valid and apart, and to rise, each less than the next. A table that has
     /// them already gets the batch of no entries, which counts as any update does. Refused by
-    /// [`Refusal::UpdateInHand`]; by [`Refusal::Overlap`] where the items do not rise; else as
+    /// [`Refusal::UpdateInHand`]; by [`Refusal::Overlap`] if the items do not rise; else as
     /// [`Writer::begin`] refuses the batch: by [`Refusal::BadItem`], [`Refusal::Overlap`],
     /// [`Refusal::Full`], [`Refusal::SequenceSpent`] and [`Refusal::OutOfMemory`]. New items take
     /// nodes that were free before, so there have to be as many. A refusal changes nothing.

@@ -37,7 +37,7 @@ impl<O: TreeOrder> Writer<O> {
 
     /// The generation: how many updates were shown, above the opening one.
     ///
-    /// What its clause `sound` says holds of every writer: the tables of its latch are those of its
+    /// What its clause `sound` says holds of every writer: the tables of its latch come of its
     /// history.
     pub fn generation(&self) -> u64
         ensures is { result ≡ generation_of (at self.now.latch.words 0) }
@@ -63,7 +63,7 @@ impl<O: TreeOrder> Writer<O> {
         self.readers
     }
 
-    /// Makes one step of the pending update; none where it is at its end, or none is pending.
+    /// Makes one step of the pending update; none if it is at its end, or none is pending.
     pub fn step(&mut self) -> Option<Did>
         ensures { Steps self.old self.new result }
     {
@@ -91,7 +91,7 @@ impl<O: TreeOrder> Writer<O> {
 }
 
 impl<O: TreeOrder> InHand<'_, O> {
-    /// Makes one step; none where the update is at its end.
+    /// Makes one step; none if the update is at its end.
     pub fn step(&mut self) -> Option<Did>
         ensures same_reference { self.new.writer.ghost_name ≡ self.old.writer.ghost_name }
         ensures step { Steps self.old.writer.now self.new.writer.now result }

@@ -29,7 +29,7 @@ impl<'a, O: TreeOrder> UnreadWords<'a, O> {
         UnreadWords { words }
     }
 
-    /// Makes the first load of a lookup, that of the sequence.
+    /// Makes the first load of a lookup, the one of the sequence.
     #[inline(always)]
     pub(super) fn begin(self, seat: &mut TableSeat) -> (WriterWords<'a, O>, u64)
         requires table { seat.old.table_id ≡ self.words.now.table_id }

@@ -6,5 +6,5 @@ use Rattle.engines.proofs.trace.gather_command.Goals as goal
 pub returns-clause-gathered : goal.returns-clause-gathered
 returns-clause-gathered g c =
     command_gathered g.O.TreeOrder.order c.args.command.now c.args.driver.now c.obey.new.self c.forget_notes.new.self
-    c.args.text.now.items c.gather_notes.new.text.items c.in_ok-obey.ensures.driven c.forget_notes.ensures.taken c.forget_notes.ensures.none
-    (c.in_ok-gather_notes.ensures ∙ ap (λ ns. c.args.text.now.items ++ flat_map note_text ns) c.notes.ensures)
+    c.args.text.items c.in_ok-text.text.items c.in_ok-obey.ensures.driven c.forget_notes.ensures.taken c.forget_notes.ensures.none
+    (c.in_ok-text.ensures ∙ ap (λ ns. c.args.text.items ++ flat_map note_text ns) c.notes.ensures)

@@ -1,4 +1,5 @@
-use Rattle.std.proofs.Common.{rules, ◌++◌}
+use Rattle.std.proofs.Common.{◌++◌}
+use Rattle.texts.proofs.OutputLemmas.{same_text, then, then_flushed}
 use Rattle.texts.specs.Output.{Delivered, Delivers, WrotePart}
 use Rattle.run_files.specs.Trace.{with_header}
 use Rattle.engines.specs.TraceTexts.{end_text}
@@ -16,12 +17,12 @@ pub returns : goal.returns
 returns g c =
     let contents = g.W.Write.contents in
     let w = c.args.writer.now in
-    let w' = c.put_text.new.writer in
-    let text = c.gather_lines.new.text.items in
+    let w' = c.flush.new.self in
+    let text = c.in_ok-text.text.items in
     let whole = text ++ end_text c.in_ok-left.left.sequence in
-    let delivers : Delivers contents w w' whole = search rules in
+    let delivers : Delivers contents w w' whole = then_flushed (then (same_text c.deref.ensures.value c.put.ensures) c.put_end.ensures) c.flush.ensures in
     let answer = answered contents c.args.header c.args.lines.now.said w w' g.O.TreeOrder.order c.requires
-    c.in-Ok.driver c.gather_lines.new.driver c.new-text.result.items text c.new-text.ensures.items c.in-Ok.ensures.opened c.in_ok-gather_lines.ensures.gathered
+    c.in-Ok.driver c.gather_lines.new.driver c.new.result.items text c.new.ensures.items c.in-Ok.ensures.opened c.in_ok-text.ensures.gathered
     c.in_ok-left.left c.in_ok-left.ensures.notes c.in_ok-left.ensures.left in
     said_written contents w w' whole delivers (AnswersSaid contents (with_header c.args.header c.args.lines.now.said) w w')
     (λ u all. answer (Delivered contents w w') all) (λ part. answer (WrotePart contents w w') part)

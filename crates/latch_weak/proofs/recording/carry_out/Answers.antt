@@ -1,4 +1,4 @@
-use Rattle.std.proofs.Common.{sym, ap, refl, ◌∙◌, subst, ◌++◌, ◌∷◌, [], append_assoc, append-nil}
+use Rattle.std.proofs.Common.{sym, ap, ◌∙◌, subst, ◌++◌, ◌∷◌, [], append_assoc, append-nil}
 use Rattle.latch_weak.specs.Recordings.{CarriesOut, HasMade}
 use Rattle.latch_weak.proofs.RecordingLemmas.{made_begun, made_stored, carrying_begun, carrying_stored, carried}
 use Rattle.latch_weak.proofs.recording.carry_out.Goals as goal

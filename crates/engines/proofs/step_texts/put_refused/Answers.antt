@@ -1,0 +1,9 @@
+use Rattle.std.proofs.Common.{◌∙◌, ap, codes}
+use Rattle.texts.proofs.OutputLemmas.{same_text}
+use Rattle.command_io.specs.JsonTexts.{json_count}
+use Rattle.engines.specs.StepTexts.{refused_member}
+use Rattle.engines.proofs.step_texts.put_refused.Goals as goal
+
+pub returns : goal.returns
+unfolding refused_member
+returns g c = same_text (ap (json_count (codes ",\"refused\":")) (c.from.ensures ∙ c.number.ensures)) c.put_json_count.ensures
