@@ -1,28 +1,62 @@
--- Catalogs by generation.
-use Rattle.std.specs.Prelude.{◌≡◌, ℕ, ◌<◌, ◌≤◌, List, [], ◌∷◌, ◌++◌, All, IfSome, drop}
+-- Catalogs by generation and by stamp.
+use Rattle.std.specs.Prelude.{◌≡◌, ℕ, ◌≤◌, ◌<◌, List, [], ◌∷◌, All, IfSome, drop}
 use Rattle.std.specs.Prelude.{if◌then◌else◌, nat_le, unwrap_or, Option, Some, None}
 use Rattle.std.specs.List.Sorted.{IsNonDecreasingBy}
 use Rattle.modules.specs.Entries.{CatalogEntries}
 use Rattle.follower.specs.declared.catalogs.DatedCatalog.{DatedCatalog}
+use Rattle.follower.specs.declared.catalogs.Moment.{Moment}
+use Rattle.follower.specs.declared.catalogs.Moment.TheVariants.{Generation, Stamp}
 
--- the catalogs stand by rising generation
-abbrev pub IsRising : List DatedCatalog → Type 0
-IsRising dated = IsNonDecreasingBy (λ d. d.generation) dated
+-- the number of a moment, by its clock
+abbrev pub number_of : Moment → ℕ
+number_of (Generation generation) = generation
+number_of (Stamp at) = at
 
--- the last of the catalogs that stand from the generation or an earlier one on
-abbrev pub standing_at : List DatedCatalog → ℕ → Option CatalogEntries
-standing_at [] generation = None
-standing_at (d ∷ rest) generation =
-    if nat_le d.generation generation then Some (unwrap_or (standing_at rest generation) d.catalog)
-    else standing_at rest generation
+-- the moment of this number by the clock of another
+abbrev pub at_number : Moment → ℕ → Moment
+at_number (Generation _) number = Generation number
+at_number (Stamp _) number = Stamp number
 
--- the catalogs that stand at no generation from this one on are gone: the same stands at each of
--- these, and all but the first that is left begin later
-pub record Forgets (generation : ℕ) (old new : List DatedCatalog) : Type 0 where
-  pub left : List DatedCatalog
-  pub dropped : old ≡ left ++ new
-  pub same : (later : ℕ) → generation ≤ later → standing_at new later ≡ standing_at old later
-  pub few : All (λ d. generation < d.generation) (drop 1 new)
+-- from which number on a catalog stands, by the clock of a moment
+abbrev pub start_by : Moment → DatedCatalog → ℕ
+start_by (Generation _) d = d.generation
+start_by (Stamp _) d = d.since
+
+-- the catalogs rise by generation, and none has a stamp below that of the one before
+pub record AreInOrder (dated : List DatedCatalog) : Type 0 where
+  pub generations : IsNonDecreasingBy (λ d. d.generation) dated
+  pub stamps : IsNonDecreasingBy (λ d. d.since) dated
+
+-- the last of the catalogs that were shown at or before the moment
+abbrev pub standing_at : List DatedCatalog → Moment → Option DatedCatalog
+standing_at [] moment = None
+standing_at (d ∷ rest) moment =
+    if nat_le (start_by moment d) (number_of moment)
+    then Some (unwrap_or (standing_at rest moment) d)
+    else standing_at rest moment
+
+-- the oldest catalog is gone, and the next one stands by the moment: at that and at each later one
+-- by its clock stands what stood there
+pub record ForgetsOldest (moment : Moment) (old new : List DatedCatalog) (tag : ℕ) : Type 0 where
+  pub oldest : DatedCatalog
+  pub gone : old ≡ oldest ∷ new
+  pub told : tag ≡ oldest.tag
+  pub same : (later : ℕ) → number_of moment ≤ later
+      → standing_at new (at_number moment later) ≡ standing_at old (at_number moment later)
+
+-- each catalog but the oldest was shown after the moment
+abbrev pub AreAllNeeded : Moment → List DatedCatalog → Type 0
+AreAllNeeded moment dated = All (λ d. number_of moment < start_by moment d) (drop 1 dated)
+
+-- one catalog is forgotten, if the next one stands by the moment
+abbrev pub Forgets : Moment → List DatedCatalog → List DatedCatalog → Option ℕ → Type 0
+Forgets moment old new None = (new ≡ old) × AreAllNeeded moment old
+Forgets moment old new (Some tag) = ForgetsOldest moment old new tag
+
+-- the oldest catalog is gone, if there is one
+abbrev pub DropsOldest : List DatedCatalog → List DatedCatalog → Option ℕ → Type 0
+DropsOldest old new None = (old ≡ []) × (new ≡ [])
+DropsOldest old new (Some tag) = (d : DatedCatalog) × (old ≡ d ∷ new) × (tag ≡ d.tag)
 
 -- each catalog stands from a generation on that was reached, and one that stands at such a generation
 -- is right there
@@ -30,4 +64,4 @@ pub record EachStands (IsRight : ℕ → CatalogEntries → Type 0) (now : ℕ)
     (dated : List DatedCatalog) : Type 0 where
   pub reached : All (λ d. d.generation ≤ now) dated
   pub right : (generation : ℕ) → generation ≤ now
-      → IfSome (standing_at dated generation) (IsRight generation)
+      → IfSome (standing_at dated (Generation generation)) (λ d. IsRight generation d.catalog)

@@ -1,47 +1,70 @@
 -- A table whose regions are those of the catalog that was shown last.
-use Rattle.std.specs.Prelude.{◌≡◌, ◌⊎◌, ℕ, ◌-◌, List, [], ◌∷◌, ◌++◌}
+use Rattle.std.specs.Prelude.{◌≡◌, ◌⊎◌, ◌≤◌, ℕ, ◌+◌, ◌-◌, List, [], ◌∷◌, ◌++◌, All, length, take}
+use Rattle.std.specs.Prelude.{None}
 use Rattle.order_laws.specs.declared.items.Item.{Item}
-use Rattle.order_laws.specs.declared.refusals.Refusal.{Refusal}
+use Rattle.order_laws.specs.declared.refusals.Refusal.{Refusal as Why}
 use Rattle.order_laws.specs.declared.refusals.Refusal.TheVariants.{OutOfMemory}
 use Rattle.order_laws.specs.Orders.{half_open}
 use Rattle.order_laws.specs.Tables.{look}
+use Rattle.table_updates.specs.Updates.{replay}
+use Rattle.latch_table.specs.Replacing.{BeginsReplacing, RefusesReplacing}
+use Rattle.latch_table.specs.Writers.{Finishes, WriterState}
 use Rattle.modules.specs.Entries.{CatalogEntries}
 use Rattle.modules.specs.Items.{item_of_address}
 use Rattle.modules.specs.RegionIndexes.{IsIndexOf}
-use Rattle.shared_lookup.specs.Ledgers.{LedgerState, ledger_generation, ledger_table, with_first}
-use Rattle.shared_lookup.specs.Replacing.{Replaces, RefusesReplacement}
 use Rattle.follower.specs.declared.catalogs.DatedCatalog.{DatedCatalog}
-use Rattle.follower.specs.Catalogs.{EachStands}
+use Rattle.follower.specs.declared.follower.NotShown.{NotShown}
+use Rattle.follower.specs.declared.follower.NotShown.TheVariants.{Refused, StampFalls}
+use Rattle.follower.specs.Catalogs.{AreInOrder, EachStands}
 
--- a table with the log of its updates, and the catalogs that it showed
+-- the writer of a table, and the catalogs that it showed
 pub record Followed : Type 0 where
-  pub ledger : LedgerState
+  pub writer : WriterState
   pub catalogs : List DatedCatalog
 
+-- how many updates were accepted, above the opening generation: at rest all of them are shown
+abbrev pub generation_of : WriterState → ℕ
+generation_of w = w.base + length w.history
+
 -- the table at a generation that was reached
-abbrev pub table_at : LedgerState → ℕ → List Item
-table_at l generation = ledger_table (with_first (generation - l.base) l)
+abbrev pub table_at : WriterState → ℕ → List Item
+table_at w generation = replay half_open [] (take (generation - w.base) w.history)
 
 -- at the generation each address lay in the region that it lies in by the catalog
-abbrev pub IsShownAt : LedgerState → ℕ → CatalogEntries → Type 0
-IsShownAt l generation c =
-    (addr : ℕ) → look half_open addr (table_at l generation) ≡ item_of_address c addr
+abbrev pub IsShownAt : WriterState → ℕ → CatalogEntries → Type 0
+IsShownAt w generation c =
+    (addr : ℕ) → look half_open addr (table_at w generation) ≡ item_of_address c addr
 
--- at each generation that was reached the table shows the catalog that stands there, if one does
-abbrev pub IsFollowed : LedgerState → List DatedCatalog → Type 0
-IsFollowed l dated = EachStands (IsShownAt l) (ledger_generation l) dated
+-- no update is pending, and at each generation that was reached the table showed the catalog that
+-- stands there, if one does
+pub record IsFollowed (w : WriterState) (dated : List DatedCatalog) : Type 0 where
+  pub rests : w.latch.pending ≡ None
+  pub ordered : AreInOrder dated
+  pub stands : EachStands (IsShownAt w) (generation_of w) dated
 
--- the regions of the catalog, by rising first address, replace the table in one update, and the
--- catalog stands from its generation on
-pub record Shows (c : CatalogEntries) (old new : Followed) (generation : ℕ) : Type 0 where
+-- the update is pending after which the table has the regions of the catalog, which is kept already,
+-- and stands from the generation of this update on
+pub record BeginsToShow (d : DatedCatalog) (w w' : WriterState) (dated dated' : List DatedCatalog)
+    : Type 0 where
   pub items : List Item
-  pub indexed : IsIndexOf c items
-  pub replaced : Replaces items old.ledger new.ledger generation
-  pub kept : new.catalogs
-      ≡ old.catalogs ++ (record { generation = generation; catalog = c }) ∷ []
+  pub indexed : IsIndexOf d.catalog items
+  pub begun : BeginsReplacing half_open w items w'
+  pub next : d.generation ≡ generation_of w'
+  pub since : All (λ e. e.since ≤ d.since) dated
+  pub kept : dated' ≡ dated ++ d ∷ []
 
--- what stands against a table of the catalog's regions, or out of memory
-pub record RefusesToShow (c : CatalogEntries) (old : Followed) (why : Refusal) : Type 0 where
-  pub items : List Item
-  pub indexed : IsIndexOf c items
-  pub refuses : RefusesReplacement items old.ledger why ⊎ (why ≡ OutOfMemory)
+-- the regions of the catalog replaced the table in one update, and it stands from its generation on
+pub record Shows (c : CatalogEntries) (since tag : ℕ) (old new : Followed) (generation : ℕ)
+    : Type 0 where
+  pub pending : WriterState
+  pub begun : BeginsToShow
+      (record { generation = generation; since = since; tag = tag; catalog = c })
+      old.writer pending old.catalogs new.catalogs
+  pub finished : Finishes pending new.writer generation
+
+-- its stamp lies below that of a catalog before, or the table refuses its regions, or memory ran out
+abbrev pub RefusesToShow : CatalogEntries → ℕ → WriterState → List DatedCatalog → NotShown → Type 0
+RefusesToShow c since w dated StampFalls = All (λ d. d.since ≤ since) dated → ⊥
+RefusesToShow c since w dated (Refused why) =
+    (items : List Item) × IsIndexOf c items
+    × (RefusesReplacing half_open w items why ⊎ (why ≡ OutOfMemory))

@@ -1,23 +1,92 @@
-//! Catalogs by generation.
+//! Catalogs by generation and by stamp.
 
-ghost use Rattle.std.specs.Prelude.{◌≡◌, ◌<◌, ◌++◌, [], ◌∷◌, All, OnOk, vec_len, vec_capacity};
+ghost use Rattle.std.specs.Prelude.{◌≡◌, ◌↔◌, ◌≤◌, ◌<◌, ◌++◌, [], ◌∷◌, nat_le, All, IfOk, IsTrue};
+ghost use Rattle.std.specs.Prelude.{OnOk, vec_len, vec_capacity};
 ghost use Rattle.std.specs.Option.{option_copied};
 ghost use Rattle.modules.specs.Index.{IsSplitBy};
-ghost use Rattle.follower.specs.Catalogs.{Forgets, standing_at};
+ghost use Rattle.follower.specs.Catalogs.{DropsOldest, Forgets, number_of, standing_at, start_by};
 
 use modules::IndexedCatalog;
 use std::alloc::{AllocError, Global};
 use std::marker::Model;
+use std::sync::Arc;
 
-/// A catalog, and the first generation that it stands at.
+/// A catalog that several owners share.
+#[derive(Drop)]
+pub struct SharedCatalog<'a> {
+    shared: Arc<IndexedCatalog<'a>, Global>,
+}
+
+impl<'a> Model for SharedCatalog<'a> {
+    ghost use Rattle.std.specs.Arc.{arc_value};
+    ghost use Rattle.modules.specs.Entries.{CatalogEntries};
+
+    ghost Value = { CatalogEntries };
+
+    ghost view = { λ c. arc_value c.shared };
+}
+
+impl<'a> SharedCatalog<'a> {
+    /// Puts a catalog where owners can share it. Refused only when out of memory.
+    pub fn new(
+        alloc: Global,
+        catalog: IndexedCatalog<'a>,
+    ) -> Result<SharedCatalog<'a>, AllocError>
+        ensures { IfOk result (λ c. c ≡ catalog.entry) }
+    {
+        Ok(SharedCatalog {
+            shared: Arc::new(alloc, catalog)?,
+        })
+    }
+
+    /// One owner more of this catalog.
+    pub fn share(&self) -> Result<SharedCatalog<'a>, AllocError>
+        ensures { IfOk result (λ c. c ≡ self.now) }
+    {
+        Ok(SharedCatalog {
+            shared: Arc::try_clone(&self.shared)?,
+        })
+    }
+
+    /// The catalog with its index.
+    pub fn indexed(&self) -> &IndexedCatalog<'a>
+        ensures { result.now ≡ self.now }
+    {
+        &self.shared
+    }
+}
+
+/// A moment: a generation of the table, or a stamp by the caller's clock.
+#[derive(Clone, Copy, Debug, Drop)]
+pub enum Moment {
+    Generation(u64),
+    Stamp(u64),
+}
+
+/// A catalog, with the generation of the update that showed it, the caller's stamp of that moment
+/// and the caller's tag.
 #[derive(Drop)]
 pub struct DatedCatalog<'a> {
     pub generation: u64,
-    pub catalog: IndexedCatalog<'a>,
+    pub since: u64,
+    pub tag: u64,
+    pub catalog: SharedCatalog<'a>,
 }
 
-/// Catalogs by rising generation. Each stands from its own generation up to that of the next, the
-/// last one from its own on.
+impl DatedCatalog<'_> {
+    /// Whether the catalog was shown at or before the moment.
+    fn has_begun(&self, moment: Moment) -> bool
+        ensures { result ≡ nat_le (start_by moment self.now) (number_of moment) }
+    {
+        match moment {
+            Moment::Generation(generation) => self.generation <= generation,
+            Moment::Stamp(at) => self.since <= at,
+        }
+    }
+}
+
+/// Catalogs in the order in which they were shown. One stands from its own generation and stamp up
+/// to those of the next, the last one from its own on.
 #[derive(Drop)]
 pub struct Catalogs<'a> {
     dated: Vec<DatedCatalog<'a>>,
@@ -26,13 +95,13 @@ pub struct Catalogs<'a> {
 impl<'a> Model for Catalogs<'a> {
     ghost use Rattle.std.specs.Global.{Vec};
     ghost use Rattle.follower.specs.declared.catalogs.DatedCatalog.{DatedCatalog};
-    ghost use Rattle.follower.specs.Catalogs.{IsRising};
+    ghost use Rattle.follower.specs.Catalogs.{AreInOrder};
 
     ghost Value = { Vec DatedCatalog };
 
     ghost view = { λ c. c.dated };
 
-    ghost invariant = { λ c. IsRising c.dated.items };
+    ghost invariant = { λ c. AreInOrder c.dated.items };
 }
 
 impl<'a> Catalogs<'a> {
@@ -53,44 +122,61 @@ impl<'a> Catalogs<'a> {
         self.dated.reserve(1)
     }
 
-    /// Keeps a catalog that stands from this generation on, which lies above those of the others.
-    /// Takes no memory: there is room.
-    pub fn keep_reserved(&mut self, generation: u64, catalog: IndexedCatalog<'a>)
-        requires later { All (λ d. d.generation < generation) self.old.items }
-        requires room { vec_len self.old < vec_capacity self.old }
-        ensures { self.new.items ≡ self.old.items
-            ++ (record { generation = generation; catalog = catalog.entry }) ∷ [] }
+    /// Whether no catalog has a stamp above this one.
+    pub fn may_begin(&self, since: u64) -> bool
+        ensures { IsTrue result ↔ All (λ d. d.since ≤ since) self.now.items }
     {
-        self.dated.push_reserved(DatedCatalog {
-            generation,
-            catalog,
-        });
+        self.dated.last().is_none_or(|newest| newest.since <= since)
     }
 
-    /// The catalog that stands at a generation. There is none below the generation of the first.
-    pub fn of(&self, generation: u64) -> Option<&IndexedCatalog<'a>>
-        ensures { option_copied result ≡ standing_at self.now.items generation }
+    /// Keeps a catalog that stands from a later generation on than the others, and whose stamp is not
+    /// below theirs. Takes no memory: there is room.
+    pub fn keep_reserved(&mut self, dated: DatedCatalog<'a>)
+        requires later { All (λ d. d.generation < dated.generation) self.old.items }
+        requires since { All (λ d. d.since ≤ dated.since) self.old.items }
+        requires room { vec_len self.old < vec_capacity self.old }
+        ensures { self.new.items ≡ self.old.items ++ dated ∷ [] }
     {
-        match self.begun_at(generation) {
+        self.dated.push_reserved(dated);
+    }
+
+    /// The catalog that stands at a moment, if one does: the last that was shown at or before it.
+    pub fn of(&self, moment: Moment) -> Option<&DatedCatalog<'a>>
+        ensures { option_copied result ≡ standing_at self.now.items moment }
+    {
+        match self.begun_by(moment) {
             0 => None,
-            begun => Some(&self.dated[begun - 1].catalog),
+            begun => Some(&self.dated[begun - 1]),
         }
     }
 
-    /// Drops each catalog that stands at no generation from this one on.
-    pub fn forget_below(&mut self, generation: u64)
-        ensures { Forgets generation self.old.items self.new.items }
+    /// Drops the oldest catalog if the next one was shown at or before the moment, and returns its
+    /// tag: at that moment and later ones no other catalog stands then.
+    pub fn forget(&mut self, moment: Moment) -> Option<u64>
+        ensures { Forgets moment self.old.items self.new.items result }
     {
-        let others = self.begun_at(generation).saturating_sub(1);
-        self.dated.rotate_left(others);
-        self.dated.truncate(self.dated.len() - others);
+        if self.begun_by(moment) < 2 {
+            return None;
+        }
+        self.drop_oldest()
     }
 
-    /// How many catalogs stand from this generation or an earlier one on.
-    fn begun_at(&self, generation: u64) -> usize
-        ensures { IsSplitBy (λ d. d.generation) self.now.items generation result }
+    /// Drops the oldest catalog, if there is one, and returns its tag.
+    pub fn drop_oldest(&mut self) -> Option<u64>
+        ensures { DropsOldest self.old.items self.new.items result }
+    {
+        if self.dated.is_empty() {
+            return None;
+        }
+        let oldest = self.dated.remove(0);
+        Some(oldest.tag)
+    }
+
+    /// How many catalogs were shown at or before the moment.
+    fn begun_by(&self, moment: Moment) -> usize
+        ensures { IsSplitBy (start_by moment) self.now.items (number_of moment) result }
     {
         self.dated
-            .partition_point(|dated| dated.generation <= generation)
+            .partition_point(|dated| dated.has_begun(moment))
     }
 }

@@ -3,26 +3,56 @@
 ghost use Rattle.std.specs.Prelude.{◌≡◌, ◌≤◌, [], All, IfErr, IfOk, IfSome, OnErr, vec_len};
 ghost use Rattle.std.specs.Option.{option_copied};
 ghost use Rattle.latch_table.specs.declared.knowledge.Origin.TheVariants.{Start};
+ghost use Rattle.latch_table.specs.Adding.{AddsReader, RefusesReader};
 ghost use Rattle.latch_table.specs.Readers.{new_reader};
 ghost use Rattle.latch_table.specs.Seats.{first_knowledge};
-ghost use Rattle.latch_table.specs.Writers.{MayOpenWith, RefusesOpening};
-ghost use Rattle.shared_lookup.specs.Ledgers.{ledger_generation, new_ledger};
-ghost use Rattle.follower.specs.Catalogs.{Forgets, standing_at};
-ghost use Rattle.follower.specs.Following.{IsShownAt, RefusesToShow, Shows};
+ghost use Rattle.latch_table.specs.Writers.{MayOpenWith, RefusesOpening, new_writer};
+ghost use Rattle.modules.specs.Catalogs.{IsSoundCatalog};
+ghost use Rattle.follower.specs.Catalogs.{DropsOldest, Forgets, standing_at};
+ghost use Rattle.follower.specs.Following.{BeginsToShow, IsShownAt, RefusesToShow, Shows};
+ghost use Rattle.follower.specs.Following.{generation_of};
 
-use crate::catalogs::Catalogs;
-use latch_table::Reader;
-use modules::IndexedCatalog;
+use crate::catalogs::{Catalogs, DatedCatalog, Moment, SharedCatalog};
+use latch_table::{Reader, Writer, open};
 use order_laws::{HalfOpen, Refusal};
-use shared_lookup::{Gate, Ledger};
-use std::alloc::Global;
+use std::alloc::{AllocError, Global};
 use std::marker::Model;
 use word_layout::Layout;
+
+/// Why a catalog is not shown.
+#[derive(Clone, Copy, Debug, PartialEq, Eq, Drop)]
+pub enum NotShown {
+    /// Its stamp lies below that of a catalog that was shown before.
+    StampFalls,
+    /// The table refuses its regions, or memory ran out.
+    Refused(Refusal),
+}
+
+impl From<Refusal> for NotShown {
+    ghost use Rattle.follower.specs.declared.follower.NotShown.TheVariants.{Refused};
+
+    ghost from_gives = { λ refusal why. why ≡ Refused refusal };
+
+    fn from(refusal: Refusal) -> NotShown {
+        NotShown::Refused(refusal)
+    }
+}
+
+impl From<AllocError> for NotShown {
+    ghost use Rattle.order_laws.specs.declared.refusals.Refusal.TheVariants.{OutOfMemory};
+    ghost use Rattle.follower.specs.declared.follower.NotShown.TheVariants.{Refused};
+
+    ghost from_gives = { λ _ why. why ≡ Refused OutOfMemory };
+
+    fn from(_error: AllocError) -> NotShown {
+        NotShown::Refused(Refusal::OutOfMemory)
+    }
+}
 
 /// The one writer of a table, and the catalogs that it showed.
 #[derive(Drop)]
 pub struct Follower<'a> {
-    ledger: Ledger,
+    writer: Writer<HalfOpen>,
     catalogs: Catalogs<'a>,
 }
 
@@ -31,13 +61,47 @@ impl<'a> Model for Follower<'a> {
 
     ghost Value = { Followed };
 
-    ghost view = { λ f. record { ledger = f.ledger; catalogs = f.catalogs.items } };
+    ghost view = { λ f. record { writer = f.writer; catalogs = f.catalogs.items } };
 
-    ghost invariant = { λ f. IsFollowed f.ledger f.catalogs.items };
+    ghost invariant = { λ f. IsFollowed f.writer f.catalogs.items };
+}
+
+/// Keeps a catalog, and begins the update after which the table has its regions, for the generation
+/// of this update, which is returned: so it is found by its generation before a reader can give that.
+fn begin_to_show<'a>(
+    writer: &mut Writer<HalfOpen>,
+    catalogs: &mut Catalogs<'a>,
+    catalog: &SharedCatalog<'a>,
+    since: u64,
+    tag: u64,
+) -> Result<u64, NotShown>
+    requires reached { All (λ d. d.generation ≤ generation_of writer.old) catalogs.old.items }
+    ensures begun { IfOk result (λ generation. BeginsToShow
+        (record { generation = generation; since = since; tag = tag; catalog = catalog.now })
+        writer.old writer.new catalogs.old.items catalogs.new.items) }
+    ensures unchanged { OnErr result ((writer.new ≡ writer.old)
+        × (catalogs.new.items ≡ catalogs.old.items)) }
+    ensures refused { IfErr result
+        (RefusesToShow catalog.now since writer.old catalogs.old.items) }
+{
+    if !catalogs.may_begin(since) {
+        return Err(NotShown::StampFalls);
+    }
+    catalogs.reserve_one()?;
+    let catalog = catalog.share()?;
+    let generation = writer.generation() + 1;
+    writer.begin_replace(catalog.indexed().items())?.leave();
+    catalogs.keep_reserved(DatedCatalog {
+        generation,
+        since,
+        tag,
+        catalog,
+    });
+    Ok(generation)
 }
 
 impl<'a> Follower<'a> {
-    /// An empty table with its sequence at `start`, so many readers, and no catalog.
+    /// An empty table with its sequence at `start`, this many readers, and no catalog.
     ///
     /// Refused as [`latch_table::open`] refuses.
     pub fn open(
@@ -47,75 +111,83 @@ impl<'a> Follower<'a> {
         readers: u32,
     ) -> Result<(Follower<'a>, Vec<Reader<HalfOpen>>), Refusal>
         ensures may { IfOk result (λ r. MayOpenWith l start readers) }
-        ensures ledger { IfOk result
-            (λ r. r.0.ledger ≡ new_ledger r.0.ledger.place l start readers) }
+        ensures writer { IfOk result
+            (λ r. r.0.writer ≡ new_writer r.0.writer.place l start readers) }
         ensures catalogs { IfOk result (λ r. r.0.catalogs ≡ []) }
         ensures readers { IfOk result (λ r. (vec_len r.1 ≡ readers)
-            × All (λ x. x ≡ new_reader r.0.ledger.place (first_knowledge (Start l start)))
+            × All (λ x. x ≡ new_reader r.0.writer.place (first_knowledge (Start l start)))
             r.1.items) }
         ensures refusal { IfErr result (RefusesOpening l start readers) }
     {
-        let (ledger, readers) = Ledger::open(alloc, l, start, readers)?;
+        let (writer, readers) = open::<HalfOpen>(alloc, l, start, readers)?;
         let catalogs = Catalogs::new(alloc);
-        Ok((Follower { ledger, catalogs }, readers))
+        Ok((Follower { writer, catalogs }, readers))
     }
 
-    /// Shows the regions of a catalog in place of those in the table, in one whole update, and
-    /// keeps the catalog with the generation of that update, which it returns. The gate is told of
-    /// each step as a step of the writer `who`.
+    /// Shows the regions of a catalog in place of those in the table, in one whole update, and keeps
+    /// the catalog with `since`, the caller's stamp of now, and the caller's tag. Returns the
+    /// generation of the update.
     ///
-    /// Refused as [`Ledger::replace`] refuses the regions. A refusal changes nothing, but the
-    /// catalog is gone. It waits where the gate waits.
-    pub fn show<G: Gate>(
+    /// Refused by [`NotShown::StampFalls`], else as [`Writer::begin_replace`] refuses the regions. A
+    /// refusal changes nothing.
+    pub fn show(
         &mut self,
-        g: &G,
-        who: u32,
-        catalog: IndexedCatalog<'a>,
-    ) -> Result<u64, Refusal>
-        ensures shown { IfOk result (Shows catalog.entry self.old self.new) }
+        catalog: &SharedCatalog<'a>,
+        since: u64,
+        tag: u64,
+    ) -> Result<u64, NotShown>
+        ensures shown { IfOk result (Shows catalog.now since tag self.old self.new) }
         ensures unchanged { OnErr result (self.new ≡ self.old) }
-        ensures refused { IfErr result (RefusesToShow catalog.entry self.old) }
+        ensures refused { IfErr result
+            (RefusesToShow catalog.now since self.old.writer self.old.catalogs) }
     {
-        catalog.catalog().stays_sound();
-        self.catalogs.reserve_one()?;
-        let generation = self.ledger.replace(g, who, catalog.items())?;
-        self.catalogs.keep_reserved(generation, catalog);
-        Ok(generation)
+        catalog.indexed().catalog().stays_sound();
+        begin_to_show(
+            &mut self.writer,
+            &mut self.catalogs,
+            catalog,
+            since,
+            tag,
+        )?;
+        self.writer.generation();
+        Ok(self.writer.finish())
     }
 
-    /// The catalog that stands at a generation, if it is not forgotten. An answer of a reader is
-    /// named by the catalog of its generation: that has of each address the region that the table
-    /// then had.
-    pub fn catalog_at(&self, generation: u64) -> Option<&IndexedCatalog<'a>>
-        ensures stands { option_copied result ≡ standing_at self.now.catalogs generation }
-        ensures shown { generation ≤ ledger_generation self.now.ledger
-            → IfSome result (λ c. IsShownAt self.now.ledger generation c.now) }
+    /// The catalog that stands at a moment, if it is not forgotten. An answer of a reader is named by
+    /// the catalog of its generation: that has of each address the region that the table then had.
+    pub fn catalog_at(&self, moment: Moment) -> Option<&DatedCatalog<'a>>
+        ensures stands { option_copied result ≡ standing_at self.now.catalogs moment }
+        ensures shown { (generation : ℕ) → moment ≡ Generation generation
+            → generation ≤ generation_of self.now.writer
+            → IfSome result (λ d. IsShownAt self.now.writer generation d.now.catalog) }
     {
-        self.catalogs.of(generation)
+        self.catalogs.of(moment)
     }
 
-    /// Drops each catalog that stands at no generation from this one on: those that no answer
-    /// needs, once every reader has given one of this generation.
-    pub fn forget_below(&mut self, generation: u64)
-        ensures forgotten { Forgets generation self.old.catalogs self.new.catalogs }
-        ensures ledger { self.new.ledger ≡ self.old.ledger }
+    /// Drops the oldest catalog if the next one was shown at or before the moment, and returns its
+    /// tag. No answer of a generation from this one on needs it, nor a stamp that is not below.
+    pub fn forget(&mut self, moment: Moment) -> Option<u64>
+        ensures forgotten { Forgets moment self.old.catalogs self.new.catalogs result }
+        ensures writer { self.new.writer ≡ self.old.writer }
     {
-        self.catalogs.forget_below(generation);
+        self.catalogs.forget(moment)
     }
 
-    /// The table's writer with its log.
-    pub fn ledger(&self) -> &Ledger
-        ensures { result.now ≡ self.now.ledger }
+    /// Drops the oldest catalog, if there is one, and returns its tag.
+    pub fn drop_oldest(&mut self) -> Option<u64>
+        ensures dropped { DropsOldest self.old.catalogs self.new.catalogs result }
+        ensures writer { self.new.writer ≡ self.old.writer }
     {
-        &self.ledger
+        self.catalogs.drop_oldest()
     }
 
-    /// The table's writer with its log, and the catalogs, where the table follows no more.
-    pub fn into_parts(self) -> (Ledger, Catalogs<'a>)
-        ensures ledger { result.0 ≡ self.entry.ledger }
-        ensures catalogs { result.1.items ≡ self.entry.catalogs }
+    /// One more reader of the table ([`Writer::add_reader`]).
+    pub fn add_reader(&mut self) -> Result<Reader<HalfOpen>, Refusal>
+        ensures added { IfOk result (AddsReader self.old.writer self.new.writer) }
+        ensures refusal { IfErr result (RefusesReader self.old.writer) }
+        ensures unchanged { OnErr result (self.new ≡ self.old) }
+        ensures catalogs { self.new.catalogs ≡ self.old.catalogs }
     {
-        let Follower { ledger, catalogs } = self;
-        (ledger, catalogs)
+        self.writer.add_reader()
     }
 }

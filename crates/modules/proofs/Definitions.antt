@@ -8,7 +8,8 @@ pub use Rattle.modules.specs.Entries.{CatalogEntries, ModuleEntry, SymbolEntry}
 pub use Rattle.modules.specs.Found.{Found, IsFound, ReachesUpTo, found_in, symbol_at, symbol_found_at, symbols_from}
 pub use Rattle.modules.specs.FromSymbols.{HasItsRegions, IsFromSymbols, is_kept_line, owner_names, with_name}
 pub use Rattle.modules.specs.Gathering.{BelongsOnlyAt, CountsStay, Gathers, HasRoom, Keeps, KeepsRun, lies_for, owner_for}
-pub use Rattle.modules.specs.Grouped.{IsCut, comes_first, lines_at}
+pub use Rattle.modules.specs.ByName.{IsCut, IsSortedByName, comes_first}
+pub use Rattle.modules.specs.Grouped.{lines_at}
 pub use Rattle.modules.specs.Index.{IsFirstBorder, IsFirstOf, IsIndex, IsOrdered, IsRising, IsSplit, IsSplitBy, IsSplitOf, comes_before, index_entries_of, symbol_of_entry}
 pub use Rattle.modules.specs.Items.{item_of_address, items_at, items_below, items_of}
 pub use Rattle.modules.specs.Kept.{AreDistinctNames, belongs, entry_of, is_built_in, is_kept, is_used, lies_in, symbols_that}
@@ -30,6 +31,7 @@ pub use Rattle.modules.specs.RegionIndexes.{IsIndexOf, IsItemSplit}
 pub use Rattle.modules.specs.Regions.{AreApart, AreRising, are_beside, holds, is_apart, lie_apart, lies_in_any}
 pub use Rattle.modules.specs.Runs.{line_of, lines_of_all, lines_of_run}
 pub use Rattle.modules.specs.Spread.{IsSpread}
+pub use Rattle.modules.specs.SymbolNames.{IsNamesOf, SymbolName, named_symbols, names_of_symbols, names_below, names_in_module, all_of_name}
 pub use Rattle.modules.specs.Starts.{first_start, start_at, start_where, starts_of}
 pub use Rattle.modules.specs.declared.admission.Admission.{Admission}
 pub use Rattle.modules.specs.declared.catalog.BuildCounts.{BuildCounts}

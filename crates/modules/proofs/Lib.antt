@@ -7,6 +7,7 @@ pub mod Definitions
 -- a region beside regions that are spread
 pub mod SpreadLemmas
 -- the region lines of one name stand side by side
+pub mod ByNameLemmas
 pub mod GroupLemmas
 -- each module has 1 to 7 regions
 pub mod RegionLemmas
@@ -94,6 +95,7 @@ pub mod LineMarkLemmas
 pub mod TakenLemmas
 -- the modules of a listing that is kept in runs
 pub mod SymbolModuleLemmas
+pub mod SymbolNameLemmas
 -- the modules of symbols alone lie apart, and have distinct names
 pub mod AloneLemmas
 -- one answer for all addresses that a found symbol reaches to

@@ -1,5 +1,5 @@
 -- What a search of the list by rising first address finds.
-use Rattle.modules.proofs.Words.{◌≡◌, ℕ, ◌-◌, ◌<◌, ◌≤◌, ⊎_elim, List, length, get_or, Some, None, ap, ◌∙◌, arith, Contains, IsNonDecreasingBy, common_steps, nat_tests}
+use Rattle.modules.proofs.Words.{◌≡◌, ℕ, ◌-◌, ◌<◌, ◌≤◌, ⊎_elim, List, length, get_or, Some, None, ap, ◌∙◌, arith, Contains, common_steps, nat_tests}
 use Rattle.modules.proofs.Lemmas.{cases_lt, get_or_default, Contains-permutation, IsPermutation-sym, look_is}
 use Rattle.modules.proofs.Definitions.{Item, half_open, IsSoundCatalog, CatalogEntries, items_of, IsIndexOf, IsItemSplit, item_of_address}
 use Rattle.modules.proofs.ApartItemLemmas.{each_has_addresses, none_found, same_or_apart, some_found}

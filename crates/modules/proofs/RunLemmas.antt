@@ -1,6 +1,6 @@
 -- Lines that have the name of their module by their run.
-use Rattle.modules.proofs.Words.{◌≡◌, ℕ, zero, suc, ◌<◌, Bool, true, false, not, ◌&&◌, ◌||◌, ◌==◌, List, [], ◌∷◌, ◌++◌, length, map, take, drop, get_or, Some, None, Option, refl, sym, ap, ◌∙◌, arith, append_assoc, find, is_none, is_some, Bor, list_any, option_copied, option_map, bytes_eq, common_steps, nat_tests}
-use Rattle.modules.proofs.Lemmas.{map-append, append-nil, ne_eqb, list_any-append, flat_map-append}
+use Rattle.modules.proofs.Words.{◌≡◌, ℕ, zero, suc, ◌<◌, true, false, ◌&&◌, List, [], ◌∷◌, ◌++◌, length, map, take, drop, get_or, Some, None, Option, refl, sym, ap, ◌∙◌, arith, append_assoc, find, is_none, is_some, Bor, option_copied, option_map, bytes_eq, common_steps, nat_tests}
+use Rattle.modules.proofs.Lemmas.{map-append, append-nil, flat_map-append}
 use Rattle.modules.proofs.Definitions.{SymbolEntry, first_address, ListedSymbol, line_of, lines_of_run, lines_of_all, Run}
 
 -- the lines of all runs, and those of the last

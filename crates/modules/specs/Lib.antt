@@ -37,6 +37,8 @@ pub mod Starts
 pub mod Loads
 -- an item for each region of a catalog, and that of an address
 pub mod Items
+-- from a name to the symbols of all modules that have it
+pub mod SymbolNames
 -- From here on how the crate keeps all this: no public clause cites it.
 -- marks, and the regions that they stand for
 pub mod Marks
@@ -50,6 +52,8 @@ pub mod Numbered
 pub mod Runs
 -- regions in the order of their first addresses
 pub mod Spread
+-- what has a name, in the order of names
+pub mod ByName
 -- the region lines by name
 pub mod Grouped
 -- modules in their regions, with the place of each name

@@ -1,23 +1,15 @@
 //! Where the modules of a listing lie.
 //!
-//! The region lines are sorted by name once, those of one name as they were listed, so that the
-//! lines of a module are found side by side:
-//!
-//! ```text
-//! listed:  ext4 core   nfs core   ext4 init
-//! sorted:  ext4 core   ext4 init  nfs core
-//! ```
-//!
-//! A module has up to seven regions there, in the order of its lines. One of symbols alone may have
-//! many, but they rise, and then a binary search tells whether an address lies in one.
+//! The region lines are sorted by name once, so that the lines of a module lie side by side. A module
+//! has up to seven regions there, in the order of its lines. One of symbols alone may have many, but
+//! they rise, and then a binary search tells whether an address lies in one.
 
 ghost use Rattle.std.specs.Prelude.{◌≡◌, ◌<◌, nat_le, true, [], ◌∷◌, length, All, IfOk, map};
-ghost use Rattle.std.specs.Cmp.Lexicographic.{slice_cmp};
 ghost use Rattle.std.specs.List.{AllPairs, list_any};
 ghost use Rattle.std.specs.List.Sorted.{IsSortedBy};
-ghost use Rattle.std.specs.Ordering.{is_le, is_lt, nat_cmp};
 ghost use Rattle.modules.specs.Building.{kernel_at};
-ghost use Rattle.modules.specs.Grouped.{comes_first, IsCut, IsGrouped, lines_at};
+ghost use Rattle.modules.specs.ByName.{comes_first};
+ghost use Rattle.modules.specs.Grouped.{IsGrouped, lines_at};
 ghost use Rattle.modules.specs.Kept.{lies_in};
 ghost use Rattle.modules.specs.Lines.{region_line_region, fits, region_fits};
 ghost use Rattle.modules.specs.Parts.{is_core};
@@ -25,11 +17,11 @@ ghost use Rattle.modules.specs.Placed.{are_few, has_core, lines_named, placed_li
 ghost use Rattle.modules.specs.Regions.{AreRising, lies_in_any};
 ghost use Rattle.modules.specs.declared.lines.Part.TheVariants.{Core};
 
+use crate::by_name::{Named, all_named, sort_by_name};
 use crate::lines::{ModuleLine, Part, RegionLine};
 use crate::module::MOST_REGIONS;
 use crate::regions::Region;
 use std::alloc::{AllocError, Global};
-use std::cmp::Ordering;
 use std::marker::Model;
 
 /// A module and its regions.
@@ -169,37 +161,20 @@ impl<'a> Placed<'a> {
     }
 }
 
-/// How the name of a line compares to this one.
-fn compare_to(line: &RegionLine, name: &[u8]) -> Ordering
-    ensures { result ≡ slice_cmp nat_cmp line.now.name name.now }
-{
-    line.name.cmp(name)
+impl<'l, 'a> Named for &'l RegionLine<'a> {
+    ghost name_of = { λ l. l.now.name };
+
+    fn name(&self) -> &[u8] {
+        self.name
+    }
 }
 
-/// How many lines have a lesser name.
-fn lesser_than(index: &[&RegionLine], name: &[u8]) -> usize
-    requires { IsSortedBy comes_first index.now }
-    ensures { IsCut (λ l. is_lt (slice_cmp nat_cmp l.now.name name.now)) index.now result }
-{
-    index.partition_point(|line| compare_to(line, name).is_lt())
-}
-
-/// How many lines have a name that is not greater.
-fn up_to(index: &[&RegionLine], name: &[u8]) -> usize
-    requires { IsSortedBy comes_first index.now }
-    ensures { IsCut (λ l. is_le (slice_cmp nat_cmp l.now.name name.now)) index.now result }
-{
-    index.partition_point(|line| compare_to(line, name).is_le())
-}
-
-/// The lines of this name, which stand side by side.
+/// The lines of this name, which lie side by side in the order of names.
 fn lines_in<'i, 'l, 'a>(index: &'i [&'l RegionLine<'a>], name: &[u8]) -> &'i [&'l RegionLine<'a>]
-    requires { IsSortedBy comes_first index.now }
+    requires { IsSortedBy (comes_first (λ l. l.now.name)) index.now }
     ensures { lines_at result.now ≡ lines_named name.now (lines_at index.now) }
 {
-    let start = lesser_than(index, name);
-    let end = up_to(index, name);
-    &index[start..end]
+    all_named(index, name)
 }
 
 /// The lines in the order of their names, those of one name as they were listed.
@@ -210,7 +185,7 @@ fn by_name<'l, 'a>(
     ensures { IfOk result (λ v. IsGrouped lines.now v.items) }
 {
     let mut index: Vec<&RegionLine> = lines.iter().collect(alloc)?;
-    index.sort_by(|x, y| compare_to(x, y.name))?;
+    sort_by_name(&mut index)?;
     Ok(index)
 }
 

@@ -1,0 +1,6 @@
+use Rattle.std.proofs.Common.{◌≡◌}
+use Rattle.modules.specs.SymbolNames.{names_below}
+use Rattle.modules.proofs.symbol_names.listed_names.Given as goal
+
+abbrev pub invariant-loop-number : goal.invariant-loop-number
+invariant-loop-number l = l.names.items ≡ names_below l.catalog l.number

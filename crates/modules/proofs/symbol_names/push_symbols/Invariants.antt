@@ -1,0 +1,6 @@
+use Rattle.std.proofs.Common.{◌≡◌, ◌++◌, take}
+use Rattle.modules.specs.SymbolNames.{names_of_symbols}
+use Rattle.modules.proofs.symbol_names.push_symbols.Given as goal
+
+abbrev pub invariant-loop-place : goal.invariant-loop-place
+invariant-loop-place l = l.names.items ≡ l.initial.names.items ++ take l.place (names_of_symbols l.number l.symbols)
