@@ -1,16 +1,16 @@
 -- Which catalog stands at a moment, by the place up to which the catalogs were shown at or before it.
-use Rattle.std.proofs.Common.{◌≡◌, ℕ, suc, zero, ◌+◌, ◌-◌, ◌<◌, ◌≤◌, nat_le, Bool, true, false, cond}
-use Rattle.std.proofs.Common.{List, [], ◌∷◌, ◌++◌, length, drop, get_or, Option, Some, None}
-use Rattle.std.proofs.Common.{IfSome, refl, sym, ap, subst, ◌∙◌, arith, All}
+use Rattle.std.proofs.Common.{◌≡◌, ℕ, suc, zero, ◌-◌, ◌<◌, ◌≤◌, nat_le, Bool, true, false, cond}
+use Rattle.std.proofs.Common.{List, [], ◌∷◌, ◌++◌, get_or, Option, Some, None}
+use Rattle.std.proofs.Common.{IfSome, refl, sym, subst, ◌∙◌, arith}
 use Rattle.std.proofs.Common.{⊎_elim}
 use Rattle.std.proofs.lemmas.Bool.{cases_lt, le-leb, lt-leb}
-use Rattle.std.proofs.lemmas.List.{get_or-append-add, length-append}
 use Rattle.std.proofs.lemmas.Option.{IfSome_then}
 use Rattle.std.proofs.lemmas.List.Elements.{All-append, All-cons, All-nil}
 use Rattle.follower.specs.declared.catalogs.DatedCatalog.{DatedCatalog}
 use Rattle.follower.specs.declared.catalogs.Moment.{Moment}
 use Rattle.follower.specs.declared.catalogs.Moment.TheVariants.{Generation, Stamp}
 use Rattle.modules.specs.Entries.{CatalogEntries}
+use Rattle.std.specs.List.Sorted.{IsNonDecreasingBy}
 use Rattle.follower.specs.Catalogs.{AreAllNeeded, AreInOrder, EachStands, ForgetsOldest, at_number, number_of, standing_at, start_by}
 use Rattle.modules.specs.Index.{IsSplitBy}
 
@@ -40,7 +40,7 @@ none_stands (d ∷ ds) m s =
     (none_stands ds m (none_split d ds m s))
 
 -- and else the last that does not
-pub last_stands : (ds : List DatedCatalog) (m : Moment) (p : ℕ) (e : DatedCatalog) → IsSplit ds m (suc p) → standing_at ds m ≡ Some (get_or ds p e)
+last_stands : (ds : List DatedCatalog) (m : Moment) (p : ℕ) (e : DatedCatalog) → IsSplit ds m (suc p) → standing_at ds m ≡ Some (get_or ds p e)
 last_stands [] m p e s = absurd (omega (arith, s.bound))
 last_stands (d ∷ ds) m zero e s =
     rw (le-leb (start_by m d) (number_of m) (s.below 0 d (omega arith)))
@@ -48,6 +48,9 @@ last_stands (d ∷ ds) m zero e s =
 last_stands (d ∷ ds) m (suc p) e s =
     rw (le-leb (start_by m d) (number_of m) (s.below 0 d (omega arith)))
     (rw (last_stands ds m p e (rest_split d ds m (suc p) s)) refl)
+
+pub stands_last : (ds : List DatedCatalog) (m : Moment) (p : ℕ) → IsSplit ds m p → (e : DatedCatalog) → 0 < p → standing_at ds m ≡ Some (get_or ds (p - 1) e)
+stands_last ds m p s e some = last_stands ds m (p - 1) e (subst (IsSplit ds m) (let f : p ≡ suc (p - 1) = omega arith in f) s)
 
 -- what stands there of the later ones stands there of all
 pub later_stands : (ds es : List DatedCatalog) (m : Moment) (c : DatedCatalog) → standing_at es m ≡ Some c → standing_at (ds ++ es) m ≡ Some c
@@ -78,7 +81,7 @@ number_at (Generation g) n = refl
 number_at (Stamp s) n = refl
 
 -- without the first the same stands where the second does
-pub forgets : (d e : DatedCatalog) (ds : List DatedCatalog) (m : Moment) → start_by m e ≤ number_of m → ForgetsOldest m (d ∷ e ∷ ds) (e ∷ ds) d.tag
+forgets : (d e : DatedCatalog) (ds : List DatedCatalog) (m : Moment) → start_by m e ≤ number_of m → ForgetsOldest m (d ∷ e ∷ ds) (e ∷ ds) d.tag
 forgets d e ds m begun = record {
   oldest = d;
   gone = refl;
@@ -87,6 +90,14 @@ forgets d e ds m begun = record {
       let (c, is) = first_stands e ds (at_number m later) (let s = start_at m later e in let n = number_at m later in omega (arith, begun)) in
       is ∙ sym (later_stands (d ∷ []) (e ∷ ds) (at_number m later) c is);
 }
+
+-- where two were shown by the moment the oldest goes
+pub oldest_goes : (ds es : List DatedCatalog) (m : Moment) (p : ℕ) (d : DatedCatalog) → ds ≡ d ∷ es → IsSplit ds m p → 2 ≤ p → ForgetsOldest m ds es d.tag
+oldest_goes ds es m p d is s some = subst (λ (xs : List DatedCatalog). ForgetsOldest m xs es d.tag) (sym is) (by_second es (subst (λ (xs : List DatedCatalog). IsSplit xs m p) is s))
+  where
+    by_second : (xs : List DatedCatalog) → IsSplit (d ∷ xs) m p → ForgetsOldest m (d ∷ xs) xs d.tag
+    by_second [] t = absurd (omega (arith, t.bound))
+    by_second (e ∷ rest) t = forgets d e rest m (t.below 1 e (omega arith))
 
 -- a split below the second leaves no other to be forgotten
 pub all_needed : (ds : List DatedCatalog) (m : Moment) (p : ℕ) → IsSplit ds m p → p < 2 → AreAllNeeded m ds
@@ -101,10 +112,10 @@ newest_stands ds e m le = later_stands ds (e ∷ []) m e (rw (le-leb (start_by m
 pub others_stand : (ds : List DatedCatalog) (e : DatedCatalog) (m : Moment) → number_of m < start_by m e → standing_at (ds ++ e ∷ []) m ≡ standing_at ds m
 others_stand ds e m lt = earlier_stands ds (e ∷ []) m (rw (lt-leb (start_by m e) (number_of m) lt) refl)
 
-module _ (P : ℕ → CatalogEntries → Type 0) (now : ℕ) (ds : List DatedCatalog) (newest : DatedCatalog) (next : newest.generation ≡ suc now) (stands : EachStands P now ds) where
+module _ (P : ℕ → CatalogEntries → Type 0) (now : ℕ) (ds : List DatedCatalog) (newest : DatedCatalog) (next : newest.previous ≡ now) (stands : EachStands P now ds) where
   pub newest_too : P (suc now) newest.catalog → EachStands P (suc now) (ds ++ newest ∷ [])
   newest_too is = record {
-    reached = All-append (λ d. d.generation ≤ suc now) ds (newest ∷ []) (λ k d lt. let r = stands.reached k d lt in omega arith) (All-cons (λ d. d.generation ≤ suc now) newest [] (omega (arith, next)) (All-nil (λ d. d.generation ≤ suc now)));
+    reached = All-append (λ (d : DatedCatalog). d.previous < suc now) ds (newest ∷ []) (λ k d lt. let r = stands.reached k d lt in omega arith) (All-cons (λ (d : DatedCatalog). d.previous < suc now) newest [] (omega (arith, next)) (All-nil (λ (d : DatedCatalog). d.previous < suc now)));
     right = λ g le. ⊎_elim
         (λ before. subst (λ o. IfSome o (λ d. P g d.catalog)) (sym (others_stand ds newest (Generation g) (omega (arith, next, before)))) (stands.right g (omega arith)))
         (λ at. subst (λ o. IfSome o (λ d. P g d.catalog)) (sym (newest_stands ds newest (Generation g) (omega (arith, next, at)))) (subst (λ h. P h newest.catalog) (let e : suc now ≡ g = omega arith in e) is))
@@ -128,3 +139,8 @@ still_stands P now d ds stands = record {
     each : (g : ℕ) (o : Option DatedCatalog) → standing_at ds (Generation g) ≡ o → IfSome (standing_at (d ∷ ds) (Generation g)) (λ e. P g e.catalog) → IfSome o (λ e. P g e.catalog)
     each g None e all = tt
     each g (Some c) e all = subst (λ o. IfSome o (λ x. P g x.catalog)) (later_stands (d ∷ []) ds (Generation g) c e) all
+
+-- by either clock they rise
+pub in_order : (m : Moment) (ds : List DatedCatalog) → AreInOrder ds → IsNonDecreasingBy (start_by m) ds
+in_order (Generation g) ds ordered = λ i j d le lt. let h = ordered.generations i j d le lt in omega (arith, h)
+in_order (Stamp s) ds ordered = ordered.stamps

@@ -1,6 +1,6 @@
 -- What a table shows at each generation.
-use Rattle.std.proofs.Common.{◌≡◌, ℕ, suc, ◌+◌, ◌-◌, ◌<◌, ◌≤◌, List, [], ◌∷◌, ◌++◌, length}
-use Rattle.std.proofs.Common.{Option, Some, None, sym, ap, subst, ◌∙◌, arith, All}
+use Rattle.std.proofs.Common.{◌≡◌, ℕ, suc, ◌+◌, ◌-◌, ◌*◌, ◌≤◌, List, [], ◌∷◌, ◌++◌, length, take}
+use Rattle.std.proofs.Common.{Option, Some, None, sym, ap, subst, ◌∙◌, arith}
 use Rattle.std.proofs.lemmas.List.{length-append, take-append-le, take_all}
 use Rattle.std.proofs.lemmas.List.Sorted.{Contains-permutation, IsPermutation-sym}
 use Rattle.order_laws.specs.declared.items.Item.{Item}
@@ -15,13 +15,17 @@ use Rattle.modules.specs.Entries.{CatalogEntries}
 use Rattle.modules.specs.Items.{item_of_address, items_of}
 use Rattle.modules.specs.RegionIndexes.{IsIndexOf}
 use Rattle.modules.proofs.ApartItemLemmas.{none_found, some_found}
+use Rattle.latch_core.specs.Invariants.{IsPendingOf, IsSound}
 use Rattle.latch_core.specs.Replacements.{replacement}
+use Rattle.latch_core.specs.Sequences.{generation_of as sequence_generation}
+use Rattle.word_layout.specs.Words.{at}
 use Rattle.latch_table.specs.Replacing.{BeginsReplacing}
-use Rattle.latch_table.specs.Writers.{Finishes, WriterState}
+use Rattle.latch_table.specs.Writers.{Finishes, WriterState, state_with_update}
 use Rattle.follower.specs.declared.catalogs.DatedCatalog.{DatedCatalog}
-use Rattle.follower.specs.Catalogs.{EachStands}
-use Rattle.follower.specs.Following.{BeginsToShow, IsShownAt, generation_of, table_at}
-use Rattle.follower.proofs.CatalogLemmas.{newest_too, right_too}
+use Rattle.follower.specs.declared.catalogs.Moment.{Moment}
+use Rattle.follower.specs.Catalogs.{DropsOldest, EachStands, Forgets}
+use Rattle.follower.specs.Following.{BeginsToShow, IsBegun, IsFollowed, IsShownAt, generation_of, table_at}
+use Rattle.follower.proofs.CatalogLemmas.{newest_too, right_too, still_stands}
 
 -- the items of a catalog in another order have at each address what the catalog has
 index_looks : (c : CatalogEntries) (items : List Item) → IsSoundCatalog c → IsIndexOf c items → (addr : ℕ) → look half_open addr items ≡ item_of_address c addr
@@ -37,7 +41,7 @@ index_looks c items sound index addr =
 module _ (w w' : WriterState) (u : Update) (base : w'.base ≡ w.base) (history : w'.history ≡ w.history ++ u ∷ []) where
   pub same_before : (g : ℕ) → g ≤ generation_of w → table_at w' g ≡ table_at w g
   same_before g le =
-      ap (λ us. replay half_open [] (mathlib_take g us)) history ∙ ap (λ b. replay half_open [] (take (g - b) (w.history ++ u ∷ []))) base ∙ ap (replay half_open []) (take-append-le (g - w.base) w.history (u ∷ []) (omega arith))
+      ap (λ us. replay half_open [] (take (g - w'.base) us)) history ∙ ap (λ b. replay half_open [] (take (g - b) (w.history ++ u ∷ []))) base ∙ ap (replay half_open []) (take-append-le (g - w.base) w.history (u ∷ []) (omega arith))
 
   pub one_more : generation_of w' ≡ suc (generation_of w)
   one_more = omega (arith, base, ap length history, length-append w.history (u ∷ []))
@@ -45,3 +49,62 @@ module _ (w w' : WriterState) (u : Update) (base : w'.base ≡ w.base) (history 
 -- the table of the last generation is that of the whole history
 table_now : (w : WriterState) → table_at w (generation_of w) ≡ replay half_open [] w.history
 table_now w = ap (replay half_open []) (take_all (w.base + length w.history - w.base) w.history (omega arith))
+
+-- a table that a catalog's regions replaced shows that catalog, and the others as before
+module _ (w p w' : WriterState) (d : DatedCatalog) (ds ds' : List DatedCatalog) (g : ℕ) (sound : IsSoundCatalog d.catalog) (is : BeginsToShow d w p ds ds') (end : Finishes p w' g) where
+  u : Update
+  u = replacement w.latch.newest_table is.items
+
+  same_base : w'.base ≡ w.base
+  same_base = ap (λ (x : WriterState). x.base) end.0 ∙ ap (λ (x : WriterState). x.base) is.begun.replaces.begins.1.3
+
+  same_history : w'.history ≡ p.history
+  same_history = ap (λ (x : WriterState). x.history) end.0
+
+  more : w'.history ≡ w.history ++ u ∷ []
+  unfolding u
+  more = same_history ∙ ap (λ (x : WriterState). x.history) is.begun.replaces.begins.1.3
+
+  shown_now : IsShownAt w' (generation_of w') d.catalog
+  shown_now addr = ap (look half_open addr) (table_now w' ∙ ap (replay half_open []) same_history ∙ is.begun.reaches) ∙ index_looks d.catalog is.items sound is.indexed addr
+
+  as_before : (h : ℕ) (c : CatalogEntries) → h ≤ generation_of w → IsShownAt w h c → IsShownAt w' h c
+  as_before h c le shown addr = ap (look half_open addr) (same_before w w' u same_base more h le) ∙ shown addr
+
+  next : generation_of w' ≡ suc (generation_of w)
+  next = one_more w w' u same_base more
+
+  pub follows_on : EachStands (IsShownAt w) (generation_of w) ds → EachStands (IsShownAt w') (generation_of w') ds'
+  follows_on followed =
+      subst (EachStands (IsShownAt w') (generation_of w')) (sym is.kept)
+      (subst (λ k. EachStands (IsShownAt w') k (ds ++ d ∷ [])) (sym next)
+      (newest_too (IsShownAt w') (generation_of w) ds d is.begun.before (right_too (IsShownAt w) (IsShownAt w') (generation_of w) ds (λ h c le shown. as_before h c le shown) followed) (subst (λ k. IsShownAt w' k d.catalog) next shown_now)))
+
+-- without the oldest the others stand as before
+pub without_oldest : (w : WriterState) (old new : List DatedCatalog) (tag : Option ℕ) → DropsOldest old new tag → IsFollowed w old → IsFollowed w new
+without_oldest w old new None d f = subst (IsFollowed w) (d.0 ∙ sym d.1) f
+without_oldest w old new (Some tag) d f = record {
+  rests = f.rests;
+  stands = still_stands (IsShownAt w) (generation_of w) d.0 new (subst (EachStands (IsShownAt w) (generation_of w)) d.1 f.stands);
+}
+
+pub forgotten : (w : WriterState) (m : Moment) (old new : List DatedCatalog) (tag : Option ℕ) → Forgets m old new tag → IsFollowed w old → IsFollowed w new
+forgotten w m old new None d f = subst (IsFollowed w) (sym d.0) f
+forgotten w m old new (Some tag) d f = without_oldest w old new (Some tag) (d.oldest, d.gone, d.told) f
+
+-- while no flip is made the sequence is that of the generation before
+module _ (w p : WriterState) (items : List Item) (b : BeginsReplacing half_open w items p) (sound : IsSound half_open p.capacity (2 * p.base) p.history p.latch) where
+  not_flipped : sequence_generation (at p.latch.words 0) ≡ generation_of w
+  not_flipped =
+      let u : Update = replacement w.latch.newest_table items in
+      let begun = state_with_update half_open w u b.begins.1.0 in
+      let hand : IsPendingOf half_open (2 * w.base) (at w.latch.words 0) (w.history ++ u ∷ []) begun.latch.pending =
+      subst (λ (x : WriterState). IsPendingOf half_open (2 * x.base) (at x.latch.words 0) x.history x.latch.pending) b.begins.1.3 sound.in_hand in
+      ap (λ (x : WriterState). sequence_generation (at x.latch.words 0)) b.begins.1.3 ∙ omega (arith, hand.count, length-append w.history (u ∷ []))
+
+  pub begun_so : (previous : ℕ) → previous ≡ sequence_generation (at p.latch.words 0) → IsBegun w items p previous
+  begun_so previous is = record {
+    replaces = b;
+    reaches = sym sound.table_is ∙ b.newest;
+    before = is ∙ not_flipped;
+  }

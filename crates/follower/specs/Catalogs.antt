@@ -1,5 +1,5 @@
 -- Catalogs by generation and by stamp.
-use Rattle.std.specs.Prelude.{◌≡◌, ℕ, ◌≤◌, ◌<◌, List, [], ◌∷◌, All, IfSome, drop}
+use Rattle.std.specs.Prelude.{◌≡◌, ℕ, ◌+◌, ◌≤◌, ◌<◌, List, [], ◌∷◌, All, IfSome, drop}
 use Rattle.std.specs.Prelude.{if◌then◌else◌, nat_le, unwrap_or, Option, Some, None}
 use Rattle.std.specs.List.Sorted.{IsNonDecreasingBy}
 use Rattle.modules.specs.Entries.{CatalogEntries}
@@ -17,14 +17,14 @@ abbrev pub at_number : Moment → ℕ → Moment
 at_number (Generation _) number = Generation number
 at_number (Stamp _) number = Stamp number
 
--- from which number on a catalog stands, by the clock of a moment
+-- the number at which a catalog was shown, by the clock of a moment
 abbrev pub start_by : Moment → DatedCatalog → ℕ
-start_by (Generation _) d = d.generation
+start_by (Generation _) d = d.previous + 1
 start_by (Stamp _) d = d.since
 
 -- the catalogs rise by generation, and none has a stamp below that of the one before
 pub record AreInOrder (dated : List DatedCatalog) : Type 0 where
-  pub generations : IsNonDecreasingBy (λ d. d.generation) dated
+  pub generations : IsNonDecreasingBy (λ d. d.previous) dated
   pub stamps : IsNonDecreasingBy (λ d. d.since) dated
 
 -- the last of the catalogs that were shown at or before the moment
@@ -62,6 +62,6 @@ DropsOldest old new (Some tag) = (d : DatedCatalog) × (old ≡ d ∷ new) × (t
 -- is right there
 pub record EachStands (IsRight : ℕ → CatalogEntries → Type 0) (now : ℕ)
     (dated : List DatedCatalog) : Type 0 where
-  pub reached : All (λ d. d.generation ≤ now) dated
+  pub reached : All (λ d. d.previous < now) dated
   pub right : (generation : ℕ) → generation ≤ now
       → IfSome (standing_at dated (Generation generation)) (λ d. IsRight generation d.catalog)

@@ -2,7 +2,6 @@
 use Rattle.std.specs.Prelude.{◌≡◌, ◌⊎◌, ◌≤◌, ℕ, ◌+◌, ◌-◌, List, [], ◌∷◌, ◌++◌, All, length, take}
 use Rattle.std.specs.Prelude.{None}
 use Rattle.order_laws.specs.declared.items.Item.{Item}
-use Rattle.order_laws.specs.declared.refusals.Refusal.{Refusal as Why}
 use Rattle.order_laws.specs.declared.refusals.Refusal.TheVariants.{OutOfMemory}
 use Rattle.order_laws.specs.Orders.{half_open}
 use Rattle.order_laws.specs.Tables.{look}
@@ -15,7 +14,7 @@ use Rattle.modules.specs.RegionIndexes.{IsIndexOf}
 use Rattle.follower.specs.declared.catalogs.DatedCatalog.{DatedCatalog}
 use Rattle.follower.specs.declared.follower.NotShown.{NotShown}
 use Rattle.follower.specs.declared.follower.NotShown.TheVariants.{Refused, StampFalls}
-use Rattle.follower.specs.Catalogs.{AreInOrder, EachStands}
+use Rattle.follower.specs.Catalogs.{EachStands}
 
 -- the writer of a table, and the catalogs that it showed
 pub record Followed : Type 0 where
@@ -39,32 +38,42 @@ IsShownAt w generation c =
 -- stands there, if one does
 pub record IsFollowed (w : WriterState) (dated : List DatedCatalog) : Type 0 where
   pub rests : w.latch.pending ≡ None
-  pub ordered : AreInOrder dated
   pub stands : EachStands (IsShownAt w) (generation_of w) dated
 
--- the update is pending after which the table has the regions of the catalog, which is kept already,
--- and stands from the generation of this update on
+-- the update is pending after which the table has these items, at this generation and no flip made
+pub record IsBegun (w : WriterState) (items : List Item) (w' : WriterState) (previous : ℕ)
+    : Type 0 where
+  pub replaces : BeginsReplacing half_open w items w'
+  pub reaches : replay half_open [] w'.history ≡ items
+  pub before : previous ≡ generation_of w
+
+-- the update is pending after which the table has the regions of the catalog; this is kept already,
+-- and stands from the generation of the update on
 pub record BeginsToShow (d : DatedCatalog) (w w' : WriterState) (dated dated' : List DatedCatalog)
     : Type 0 where
   pub items : List Item
   pub indexed : IsIndexOf d.catalog items
-  pub begun : BeginsReplacing half_open w items w'
-  pub next : d.generation ≡ generation_of w'
+  pub begun : IsBegun w items w' d.previous
   pub since : All (λ e. e.since ≤ d.since) dated
   pub kept : dated' ≡ dated ++ d ∷ []
 
--- the regions of the catalog replaced the table in one update, and it stands from its generation on
+-- the catalog as it is kept
+abbrev pub dated_as : CatalogEntries → ℕ → ℕ → WriterState → DatedCatalog
+dated_as c since tag w =
+    record { previous = generation_of w; since = since; tag = tag; catalog = c }
+
+-- the regions of the catalog replaced the table in one update, and it stands from the generation of
+-- this update on
 pub record Shows (c : CatalogEntries) (since tag : ℕ) (old new : Followed) (generation : ℕ)
     : Type 0 where
   pub pending : WriterState
-  pub begun : BeginsToShow
-      (record { generation = generation; since = since; tag = tag; catalog = c })
-      old.writer pending old.catalogs new.catalogs
+  pub begun : BeginsToShow (dated_as c since tag old.writer) old.writer pending old.catalogs
+      new.catalogs
   pub finished : Finishes pending new.writer generation
 
 -- its stamp lies below that of a catalog before, or the table refuses its regions, or memory ran out
 abbrev pub RefusesToShow : CatalogEntries → ℕ → WriterState → List DatedCatalog → NotShown → Type 0
 RefusesToShow c since w dated StampFalls = All (λ d. d.since ≤ since) dated → ⊥
 RefusesToShow c since w dated (Refused why) =
-    (items : List Item) × IsIndexOf c items
-    × (RefusesReplacing half_open w items why ⊎ (why ≡ OutOfMemory))
+    ((items : List Item) × IsIndexOf c items × RefusesReplacing half_open w items why)
+    ⊎ (why ≡ OutOfMemory)

@@ -63,12 +63,14 @@ pub enum Moment {
     Stamp(u64),
 }
 
-/// A catalog, with the generation of the update that showed it, the caller's stamp of that moment
-/// and the caller's tag.
+/// A catalog, and when it was shown.
 #[derive(Drop)]
 pub struct DatedCatalog<'a> {
-    pub generation: u64,
+    /// The last generation before the update that showed it.
+    pub previous: u64,
+    /// The caller's stamp of that moment.
     pub since: u64,
+    /// A number of the caller's.
     pub tag: u64,
     pub catalog: SharedCatalog<'a>,
 }
@@ -79,7 +81,7 @@ impl DatedCatalog<'_> {
         ensures { result ≡ nat_le (start_by moment self.now) (number_of moment) }
     {
         match moment {
-            Moment::Generation(generation) => self.generation <= generation,
+            Moment::Generation(generation) => self.previous < generation,
             Moment::Stamp(at) => self.since <= at,
         }
     }
@@ -129,13 +131,13 @@ impl<'a> Catalogs<'a> {
         self.dated.last().is_none_or(|newest| newest.since <= since)
     }
 
-    /// Keeps a catalog that stands from a later generation on than the others, and whose stamp is not
-    /// below theirs. Takes no memory: there is room.
+    /// Keeps a catalog that was shown after the others, and whose stamp is not below theirs. Takes no
+    /// memory: there is room.
     pub fn keep_reserved(&mut self, dated: DatedCatalog<'a>)
-        requires later { All (λ d. d.generation < dated.generation) self.old.items }
+        requires later { All (λ d. d.previous < dated.previous) self.old.items }
         requires since { All (λ d. d.since ≤ dated.since) self.old.items }
         requires room { vec_len self.old < vec_capacity self.old }
-        ensures { self.new.items ≡ self.old.items ++ dated ∷ [] }
+        ensures { self.new.items ≡ self.old.items ++ dated.entry ∷ [] }
     {
         self.dated.push_reserved(dated);
     }

@@ -1,20 +1,23 @@
 //! A table whose regions are those of the catalog that was shown last.
 
-ghost use Rattle.std.specs.Prelude.{◌≡◌, ◌≤◌, [], All, IfErr, IfOk, IfSome, OnErr, vec_len};
+ghost use Rattle.std.specs.Prelude.{◌≡◌, ℕ, ◌≤◌, [], All, IfErr, IfOk, IfSome, OnErr, vec_len};
 ghost use Rattle.std.specs.Option.{option_copied};
+ghost use Rattle.order_laws.specs.Orders.{half_open};
 ghost use Rattle.latch_table.specs.declared.knowledge.Origin.TheVariants.{Start};
 ghost use Rattle.latch_table.specs.Adding.{AddsReader, RefusesReader};
 ghost use Rattle.latch_table.specs.Readers.{new_reader};
+ghost use Rattle.latch_table.specs.Replacing.{RefusesReplacing};
 ghost use Rattle.latch_table.specs.Seats.{first_knowledge};
 ghost use Rattle.latch_table.specs.Writers.{MayOpenWith, RefusesOpening, new_writer};
 ghost use Rattle.modules.specs.Catalogs.{IsSoundCatalog};
 ghost use Rattle.follower.specs.Catalogs.{DropsOldest, Forgets, standing_at};
-ghost use Rattle.follower.specs.Following.{BeginsToShow, IsShownAt, RefusesToShow, Shows};
-ghost use Rattle.follower.specs.Following.{generation_of};
+ghost use Rattle.follower.specs.declared.catalogs.Moment.TheVariants.{Generation as At};
+ghost use Rattle.follower.specs.Following.{BeginsToShow, IsBegun, IsFollowed, IsShownAt};
+ghost use Rattle.follower.specs.Following.{RefusesToShow, Shows, dated_as, generation_of};
 
 use crate::catalogs::{Catalogs, DatedCatalog, Moment, SharedCatalog};
 use latch_table::{Reader, Writer, open};
-use order_laws::{HalfOpen, Refusal};
+use order_laws::{HalfOpen, Item, Refusal};
 use std::alloc::{AllocError, Global};
 use std::marker::Model;
 use word_layout::Layout;
@@ -66,18 +69,29 @@ impl<'a> Model for Follower<'a> {
     ghost invariant = { λ f. IsFollowed f.writer f.catalogs.items };
 }
 
-/// Keeps a catalog, and begins the update after which the table has its regions, for the generation
-/// of this update, which is returned: so it is found by its generation before a reader can give that.
+/// Begins the update after which the table has these items, and returns the generation before it.
+#[tactic(auto, using(crate::proofs::FollowingLemmas::begun_so))]
+fn begin_replacing(writer: &mut Writer<HalfOpen>, items: &[Item]) -> Result<u64, Refusal>
+    ensures begun { IfOk result (λ previous. IsBegun writer.old items.now writer.new previous) }
+    ensures unchanged { OnErr result (writer.new ≡ writer.old) }
+    ensures refused { IfErr result (RefusesReplacing half_open writer.old items.now) }
+{
+    writer.begin_replace(items)?.leave();
+    // (no flip is made yet)
+    Ok(writer.generation())
+}
+
+/// Keeps a catalog, and begins the update after which the table has its regions: so the catalog is
+/// found by the generation of this update before a reader can give that.
 fn begin_to_show<'a>(
     writer: &mut Writer<HalfOpen>,
     catalogs: &mut Catalogs<'a>,
     catalog: &SharedCatalog<'a>,
     since: u64,
     tag: u64,
-) -> Result<u64, NotShown>
-    requires reached { All (λ d. d.generation ≤ generation_of writer.old) catalogs.old.items }
-    ensures begun { IfOk result (λ generation. BeginsToShow
-        (record { generation = generation; since = since; tag = tag; catalog = catalog.now })
+) -> Result<(), NotShown>
+    requires followed { IsFollowed writer.old catalogs.old.items }
+    ensures begun { IfOk result (λ _. BeginsToShow (dated_as catalog.now since tag writer.old)
         writer.old writer.new catalogs.old.items catalogs.new.items) }
     ensures unchanged { OnErr result ((writer.new ≡ writer.old)
         × (catalogs.new.items ≡ catalogs.old.items)) }
@@ -89,15 +103,14 @@ fn begin_to_show<'a>(
     }
     catalogs.reserve_one()?;
     let catalog = catalog.share()?;
-    let generation = writer.generation() + 1;
-    writer.begin_replace(catalog.indexed().items())?.leave();
+    let previous = begin_replacing(writer, catalog.indexed().items())?;
     catalogs.keep_reserved(DatedCatalog {
-        generation,
+        previous,
         since,
         tag,
         catalog,
     });
-    Ok(generation)
+    Ok(())
 }
 
 impl<'a> Follower<'a> {
@@ -149,7 +162,6 @@ impl<'a> Follower<'a> {
             since,
             tag,
         )?;
-        self.writer.generation();
         Ok(self.writer.finish())
     }
 
@@ -157,7 +169,7 @@ impl<'a> Follower<'a> {
     /// the catalog of its generation: that has of each address the region that the table then had.
     pub fn catalog_at(&self, moment: Moment) -> Option<&DatedCatalog<'a>>
         ensures stands { option_copied result ≡ standing_at self.now.catalogs moment }
-        ensures shown { (generation : ℕ) → moment ≡ Generation generation
+        ensures shown { (generation : ℕ) → moment ≡ At generation
             → generation ≤ generation_of self.now.writer
             → IfSome result (λ d. IsShownAt self.now.writer generation d.now.catalog) }
     {

@@ -1,15 +1,16 @@
 use Rattle.std.proofs.Common.{◌≡◌, ◌-◌, ◌<◌, Some, subst, sym, arith, ap, ◌∙◌, get_or}
 use Rattle.follower.specs.declared.catalogs.DatedCatalog.{DatedCatalog}
+use Rattle.follower.specs.Catalogs.{number_of, start_by}
 use Rattle.modules.specs.Index.{IsSplitBy}
 use Rattle.follower.proofs.CatalogLemmas.{none_stands, stands_last}
 use Rattle.follower.proofs.catalogs.Catalogs.of.Goals as goal
 
 pub returns-in-0 : goal.returns-in-0
-returns-in-0 c = sym (none_stands c.args.self.now.items c.args.generation (subst (IsSplitBy (λ (d : DatedCatalog). d.generation) c.args.self.now.items c.args.generation) c.in-0.is c.begun_at.ensures))
+returns-in-0 c = sym (none_stands c.args.self.now.items c.args.moment (subst (IsSplitBy (start_by c.args.moment) c.args.self.now.items (number_of c.args.moment)) c.in-0.is c.begun_by.ensures))
 
 pub returns-in_default : goal.returns-in_default
 returns-in_default c =
     let d : DatedCatalog = c.index.result.now in
-    let some : 0 < c.begun_at.result = grind (arith) in
-    ap (λ (x : DatedCatalog). Some x.catalog) (subst (λ v. d ≡ get_or v.items (c.begun_at.result - 1) d) c.self.view_is c.index.ensures)
-    ∙ sym (stands_last c.args.self.now.items c.args.generation c.begun_at.result c.begun_at.ensures d some)
+    let some : 0 < c.begun_by.result = grind (arith) in
+    ap (λ x. Some x) (subst (λ v. d ≡ get_or v.items (c.begun_by.result - 1) d) c.self.view_is c.index.ensures)
+    ∙ sym (stands_last c.args.self.now.items c.args.moment c.begun_by.result c.begun_by.ensures d some)
