@@ -10,7 +10,7 @@ use Rattle.latchsym_ffi.specs.declared.answers.Answer.{Answer}
 use Rattle.latchsym_ffi.specs.declared.answers.Answer.TheVariants.{Done, Refused, BadLine}
 use Rattle.latchsym_ffi.specs.declared.answers.Answer.TheVariants.{NoSymbol, Nothing, Retry, Busy}
 use Rattle.latchsym_ffi.specs.declared.answers.Answer.TheVariants.{Flip, Store, Noted, BadHandle}
-use Rattle.latchsym_ffi.specs.declared.answers.Answer.TheVariants.{BadLength, BadListings}
+use Rattle.latchsym_ffi.specs.declared.answers.Answer.TheVariants.{BadLength, BadListings, BadStamp, Forgotten}
 
 -- the number of a note on a listing
 abbrev pub note_number : ListingNote → ℕ
@@ -37,12 +37,14 @@ answer_number NoSymbol = 21
 answer_number Nothing = 22
 answer_number Retry = 23
 answer_number Busy = 24
+answer_number Forgotten = 25
 answer_number Flip = 31
 answer_number Store = 32
 answer_number (Noted n) = note_number n
 answer_number BadHandle = 101
 answer_number BadLength = 102
 answer_number BadListings = 103
+answer_number BadStamp = 104
 
 -- all answers, by rising number
 abbrev pub all_answers : List Answer
@@ -52,11 +54,12 @@ all_answers =
     ∷ Refused refusal.OutOfMemory ∷ Refused refusal.ReaderBusy ∷ Refused refusal.ReaderIdle
     ∷ Refused refusal.BadCapacity ∷ Refused refusal.UnknownModule ∷ Refused refusal.AlreadyLoaded
     ∷ Refused refusal.NotLoaded ∷ Refused refusal.TooManyRegions ∷ BadLine ∷ Refused refusal.NoInit
-    ∷ NoSymbol ∷ Nothing ∷ Retry ∷ Busy ∷ Flip ∷ Store ∷ Noted note.Gzip ∷ Noted note.AllHidden
+    ∷ NoSymbol ∷ Nothing ∷ Retry ∷ Busy ∷ Forgotten ∷ Flip ∷ Store ∷ Noted note.Gzip
+    ∷ Noted note.AllHidden
     ∷ Noted note.LooksLikeSymbols ∷ Noted note.LooksLikeModules ∷ Noted note.LinesEndInCrLf
     ∷ Noted note.NoStart ∷ Noted note.NoEnd ∷ Noted note.OtherBoot
     ∷ Noted note.NoModuleLine ∷ Noted note.NoSymbolLine ∷ Noted note.ModulesOverlap
-    ∷ Noted note.Empty ∷ Noted note.Utf16 ∷ BadHandle ∷ BadLength ∷ BadListings ∷ []
+    ∷ Noted note.Empty ∷ Noted note.Utf16 ∷ BadHandle ∷ BadLength ∷ BadListings ∷ BadStamp ∷ []
 
 unfoldable pub has_number : ℕ → Answer → Bool
 has_number number a = nat_eq (answer_number a) number
@@ -109,12 +112,14 @@ answer_text NoSymbol = codes "no symbol of the region is at or below the address
 answer_text Nothing = codes "nothing is there"
 answer_text Retry = codes "the writer flipped meanwhile: try again"
 answer_text Busy = codes "other calls have all readers of the pool: try again"
+answer_text Forgotten = codes "the follower has no listing of that moment"
 answer_text Flip = codes "a flip of the sequence"
 answer_text Store = codes "a store of a word"
 answer_text (Noted n) = note_text n
 answer_text BadHandle = codes "the handle does not hold what is wanted"
 answer_text BadLength = codes "the room is not for as many answers as there are addresses"
 answer_text BadListings = codes "the listings are not as this version has them"
+answer_text BadStamp = codes "the stamp lies below that of a listing shown before"
 
 -- the number of a note if there is one, and else that of nothing
 abbrev pub number_if_noted : Option ListingNote → ℕ

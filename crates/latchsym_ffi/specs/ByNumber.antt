@@ -6,6 +6,7 @@ use Rattle.std.specs.Str.{bytes_eq}
 use Rattle.modules.specs.Catalogs.{module_of}
 use Rattle.modules.specs.Entries.{CatalogEntries, ModuleEntry, SymbolEntry}
 use Rattle.modules.specs.Parts.{is_init}
+use Rattle.modules.specs.SymbolNames.{symbols_named}
 use Rattle.modules.specs.declared.lines.Part.{Part}
 use Rattle.latchsym_ffi.specs.Answers.{answer_number}
 use Rattle.latchsym_ffi.specs.declared.answers.Answer.TheVariants.{Done, Nothing}
@@ -35,6 +36,11 @@ abbrev pub place_named : CatalogEntries → ℕ → List ℕ → ℕ → Option 
 place_named c number name from =
     option_and_then (λ m. named_from m.symbols name from) (module_of c number)
 
+-- the number of the module and the place in it of the symbol at a place among those of this name
+abbrev pub place_of_name : CatalogEntries → List ℕ → ℕ → Option (ℕ × ℕ)
+place_of_name c name from =
+    option_map (λ s. (s.number, s.place)) (slice_get (symbols_named c name) from)
+
 -- what is returned and told of a module, if there is one; nothing is told of none
 abbrev pub TellsModule : Option ModuleEntry → ℕ → CatalogModule → CatalogModule → Type 0
 TellsModule None result old new = (result ≡ answer_number Nothing) × (new ≡ old)
@@ -60,3 +66,8 @@ TellsSymbol (Some s) result old new =
 abbrev pub TellsPlace : Option ℕ → ℕ → ℕ → ℕ → Type 0
 TellsPlace None result old new = (result ≡ answer_number Nothing) × (new ≡ old)
 TellsPlace (Some place) result old new = (result ≡ answer_number Done) × (new ≡ place)
+
+-- of a module's number and a place
+abbrev pub TellsBoth : Option (ℕ × ℕ) → ℕ → ℕ × ℕ → ℕ × ℕ → Type 0
+TellsBoth None result old new = (result ≡ answer_number Nothing) × (new ≡ old)
+TellsBoth (Some both) result old new = (result ≡ answer_number Done) × (new ≡ both)

@@ -3,7 +3,8 @@ use Rattle.std.specs.Prelude.{◌≡◌, Some}
 use Rattle.latch_table.specs.Readers.{ReaderState}
 use Rattle.latch_table.specs.Writers.{WriterState}
 use Rattle.modules.specs.Entries.{CatalogEntries}
-use Rattle.latchsym_ffi.specs.declared.contents.Content.TheVariants.{Catalog, Writer, Reader}
+use Rattle.follower.specs.Following.{Followed}
+use Rattle.latchsym_ffi.specs.declared.contents.Content.TheVariants.{Catalog, Follower, Reader, Writer}
 use Rattle.latchsym_ffi.specs.declared.handles.Handle.{Handle}
 
 abbrev pub HoldsCatalog : CatalogEntries → Handle → Type 0
@@ -14,6 +15,9 @@ HoldsWriter w h = h.pointer.content ≡ Some (Writer w)
 
 abbrev pub HoldsReader : ReaderState → Handle → Type 0
 HoldsReader r h = h.pointer.content ≡ Some (Reader r)
+
+abbrev pub HoldsFollower : Followed → Handle → Type 0
+HoldsFollower f h = h.pointer.content ≡ Some (Follower f)
 
 -- the handle holds what it held
 abbrev pub Stays : Handle → Handle → Type 0
@@ -28,3 +32,8 @@ WriterGoes P h h' =
 abbrev pub ReaderGoes : (ReaderState → ReaderState → Type 0) → Handle → Handle → Type 0
 ReaderGoes P h h' =
     (r : ReaderState) → HoldsReader r h → (r' : ReaderState) × HoldsReader r' h' × P r r'
+
+-- the follower that the handle held, and the one that it then holds, are so
+abbrev pub FollowerGoes : (Followed → Followed → Type 0) → Handle → Handle → Type 0
+FollowerGoes P h h' =
+    (f : Followed) → HoldsFollower f h → (f' : Followed) × HoldsFollower f' h' × P f f'

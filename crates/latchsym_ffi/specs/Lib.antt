@@ -41,5 +41,7 @@ pub mod Enlarging
 pub mod Adding
 -- what the taking back of a reader gives
 pub mod Taking
+-- what a follower gives
+pub mod Following
 -- the claims of the slots of a pool
 pub mod Pools

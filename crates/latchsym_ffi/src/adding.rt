@@ -30,6 +30,7 @@ fn add(alloc: Global, writer: &mut Writer<HalfOpen>) -> Result<Box<Content, Glob
                 Content::Reader(reader) => writer.take_back(reader),
                 Content::Catalog(_catalog) => (),
                 Content::Writer(_writer) => (),
+                Content::Follower(_follower) => (),
             }
             Err(Refusal::OutOfMemory)
         }

@@ -28,6 +28,9 @@ pub(crate) const RETRY: u32 = 23;
 /// Other calls have all readers of a pool.
 const BUSY: u32 = 24;
 
+/// A follower has forgotten the catalog of the moment, or had none then.
+pub(crate) const FORGOTTEN: u32 = 25;
+
 /// A step was a flip of the sequence.
 pub(crate) const FLIP: u32 = 31;
 
@@ -43,6 +46,9 @@ pub(crate) const BAD_LENGTH: u32 = 102;
 /// The struct of the listings is not one of this version, or has one that it says is not there.
 pub(crate) const BAD_LISTINGS: u32 = 103;
 
+/// A stamp lies below that of a catalog that was shown before.
+pub(crate) const BAD_STAMP: u32 = 104;
+
 /// What a call returns.
 #[derive(Clone, Copy, Drop)]
 pub enum Answer {
@@ -53,16 +59,18 @@ pub enum Answer {
     Nothing,
     Retry,
     Busy,
+    Forgotten,
     Flip,
     Store,
     Noted(ListingNote),
     BadHandle,
     BadLength,
     BadListings,
+    BadStamp,
 }
 
 /// All that a call returns, of the crates below, of this one and of the header, by rising number.
-const ALL: [Answer; 39] = [
+const ALL: [Answer; 41] = [
     Answer::Done,
     Answer::Refused(Refusal::BadItem),
     Answer::Refused(Refusal::Overlap),
@@ -84,6 +92,7 @@ const ALL: [Answer; 39] = [
     Answer::Nothing,
     Answer::Retry,
     Answer::Busy,
+    Answer::Forgotten,
     Answer::Flip,
     Answer::Store,
     Answer::Noted(ListingNote::Gzip),
@@ -102,6 +111,7 @@ const ALL: [Answer; 39] = [
     Answer::BadHandle,
     Answer::BadLength,
     Answer::BadListings,
+    Answer::BadStamp,
 ];
 
 /// The first of these answers that has a number.
@@ -129,12 +139,14 @@ impl Answer {
             Answer::Nothing => NOTHING,
             Answer::Retry => RETRY,
             Answer::Busy => BUSY,
+            Answer::Forgotten => FORGOTTEN,
             Answer::Flip => FLIP,
             Answer::Store => STORE,
             Answer::Noted(note) => number_of_note(note),
             Answer::BadHandle => BAD_HANDLE,
             Answer::BadLength => BAD_LENGTH,
             Answer::BadListings => BAD_LISTINGS,
+            Answer::BadStamp => BAD_STAMP,
         }
     }
 
@@ -165,12 +177,14 @@ impl Answer {
             Answer::Nothing => b"nothing is there\0",
             Answer::Retry => b"the writer flipped meanwhile: try again\0",
             Answer::Busy => b"other calls have all readers of the pool: try again\0",
+            Answer::Forgotten => b"the follower has no listing of that moment\0",
             Answer::Flip => b"a flip of the sequence\0",
             Answer::Store => b"a store of a word\0",
             Answer::Noted(note) => text_of_note(note),
             Answer::BadHandle => b"the handle does not hold what is wanted\0",
             Answer::BadLength => b"the room is not for as many answers as there are addresses\0",
             Answer::BadListings => b"the listings are not as this version has them\0",
+            Answer::BadStamp => b"the stamp lies below that of a listing shown before\0",
         }
     }
 }

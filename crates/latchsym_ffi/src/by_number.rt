@@ -5,16 +5,21 @@ ghost use Rattle.std.specs.Prelude.{◌≡◌, ◌≢◌, ◌<◌, IfSome, lengt
 ghost use Rattle.std.specs.Str.{bytes_eq};
 ghost use Rattle.modules.specs.Catalogs.{module_of};
 ghost use Rattle.modules.specs.Entries.{CatalogEntries};
-ghost use Rattle.latchsym_ffi.specs.ByNumber.{TellsModule, TellsPlace, TellsRegion, TellsSymbol};
-ghost use Rattle.latchsym_ffi.specs.ByNumber.{named_from, part_at, place_named, region_at};
+ghost use Rattle.latchsym_ffi.specs.ByNumber.{TellsBoth, TellsModule, TellsPlace, TellsRegion};
+ghost use Rattle.latchsym_ffi.specs.ByNumber.{TellsSymbol, named_from, part_at, place_named};
+ghost use Rattle.latchsym_ffi.specs.ByNumber.{place_of_name, region_at};
 ghost use Rattle.latchsym_ffi.specs.ByNumber.{symbol_at_place};
 ghost use Rattle.latchsym_ffi.specs.Handles.{HoldsCatalog, Stays};
 ghost use Rattle.latchsym_ffi.specs.Kinds.{catalog_kind};
 
-use crate::answers::{DONE, NOTHING};
+use crate::answers::{BAD_HANDLE, DONE, NOTHING};
 use crate::calls::with_catalog;
+use crate::contents::{CATALOG, Content};
 use crate::handles::Handle;
+use crate::open_catalogs::OpenCatalog;
 use modules::{Catalog, Part, Symbol};
+use order_laws::Refusal;
+use std::alloc::Global;
 
 /// A module: its name, and how many regions and symbols it has.
 #[repr(C)]
@@ -235,4 +240,60 @@ pub extern "C" fn latchsym_catalog_place_of_name_nonnull(
         catalog,
         |open| tell_named(open.catalog(), number, name, from, out)
     )
+}
+
+/// Tells of the module and the place of the symbol at a place among those of a name.
+fn tell_place_of(
+    alloc: Global,
+    catalog: &mut OpenCatalog,
+    name: &[u8],
+    from: usize,
+    number: &mut u64,
+    place: &mut usize,
+) -> u32
+    ensures same { catalog.new ≡ catalog.old }
+    ensures told { result ≢ 7 → TellsBoth (place_of_name catalog.old name.now from) result
+        (number.old, place.old) (number.new, place.new) }
+    ensures refused { result ≡ 7 → (number.new ≡ number.old) × (place.new ≡ place.old) }
+{
+    match catalog.place_of(alloc, name, from) {
+        Ok(Some((found, at))) => {
+            *number = found;
+            *place = at;
+            DONE
+        }
+        Ok(None) => NOTHING,
+        Err(_) => Refusal::OutOfMemory.number(),
+    }
+}
+
+/// Tells where the symbol at a place is among those of all modules that have a name. The first call
+/// sorts the symbols of the catalog by name.
+#[unsafe(no_mangle)]
+pub extern "C" fn latchsym_catalog_find_name_nonnull(
+    alloc: Global,
+    catalog: &mut Handle,
+    name: &[u8],
+    from: usize,
+    number: &mut u64,
+    place: &mut usize,
+) -> u32
+    ensures stays { Stays catalog.old catalog.new }
+    ensures told { (c : CatalogEntries) → HoldsCatalog c catalog.old → result ≢ 7
+        → TellsBoth (place_of_name c name.now from) result (number.old, place.old)
+        (number.new, place.new) }
+    ensures refused { result ≡ 7 → (number.new ≡ number.old) × (place.new ≡ place.old) }
+    ensures other { catalog.old.kind ≢ catalog_kind → (result ≡ 101) × (catalog.new ≡ catalog.old)
+        × (number.new ≡ number.old) × (place.new ≡ place.old) }
+{
+    if catalog.kind != CATALOG {
+        return BAD_HANDLE;
+    }
+    let mut content = catalog.take();
+    let result = match &mut *content {
+        Content::Catalog(open) => tell_place_of(alloc, open, name, from, number, place),
+        _ => BAD_HANDLE,
+    };
+    catalog.put(content);
+    result
 }

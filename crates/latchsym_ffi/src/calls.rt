@@ -2,7 +2,8 @@
 //!
 //! The content is taken out of the handle, the call is made with it, and it is put back: the kit
 //! lends no borrow through the handle's raw pointer. What is to be done with a writer comes as a
-//! closure. No closure takes a catalog, which has names of lifetime `'static`, so that is a macro.
+//! closure. No closure takes a catalog, which has names of lifetime `'static`, nor a follower, so these
+//! are macros.
 //! A lookup of a reader does the same by itself, as the compiler keeps a closure a function of its
 //! own.
 
@@ -38,6 +39,25 @@ macro_rules! with_catalog {
 
 pub(crate) use with_catalog;
 
+/// Calls with the follower that a handle holds; a handle with none is a bad one.
+macro_rules! with_follower {
+    ($handle:ident, |$follower:ident| $call:expr) => {
+        if $handle.kind == $crate::contents::FOLLOWER {
+            let mut content = $handle.take();
+            let result = match &mut *content {
+                $crate::contents::Content::Follower($follower) => $call,
+                _ => $crate::answers::BAD_HANDLE,
+            };
+            $handle.put(content);
+            result
+        } else {
+            $crate::answers::BAD_HANDLE
+        }
+    };
+}
+
+pub(crate) use with_follower;
+
 /// A catalog out of its handle, in the box in which it is put back.
 #[derive(Drop)]
 pub(crate) struct TakenCatalog {
@@ -72,6 +92,7 @@ impl Handle {
     pub(crate) fn take_catalog(&mut self) -> Option<TakenCatalog>
         ensures taken { IfSome result (λ t. (self.old.kind ≡ catalog_kind)
             × (self.old.pointer.content ≡ Some t.content.value)) }
+        ensures closed { IfSome result (λ _. self.new.kind ≡ 0) }
         ensures other { IfNone result ((self.old.kind ≢ catalog_kind) × (self.new ≡ self.old)) }
     {
         if self.kind != CATALOG {

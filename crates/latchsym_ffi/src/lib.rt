@@ -27,6 +27,7 @@ mod contents;
 mod enlarging;
 mod finding;
 mod flattening;
+mod following;
 mod handles;
 mod listings;
 mod lookups;

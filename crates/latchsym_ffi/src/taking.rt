@@ -28,6 +28,7 @@ fn take_back(writer: &mut Writer<HalfOpen>, reader: &mut Handle) -> u32
         Content::Reader(inner) => writer.take_back(inner),
         Content::Catalog(_catalog) => (),
         Content::Writer(_writer) => (),
+        Content::Follower(_follower) => (),
     }
     DONE
 }

@@ -1,0 +1,48 @@
+-- What a follower gives.
+use Rattle.std.specs.Prelude.{◌≡◌, ◌≢◌, ◌⊎◌, ℕ, List, [], ◌∷◌, Option, Some, None}
+use Rattle.modules.specs.Entries.{CatalogEntries}
+use Rattle.order_laws.specs.Refusals.{refusal_number}
+use Rattle.follower.specs.Catalogs.{DropsOldest, Forgets}
+use Rattle.follower.specs.Following.{Followed, RefusesToShow}
+use Rattle.follower.specs.declared.catalogs.DatedCatalog.{DatedCatalog}
+use Rattle.follower.specs.declared.catalogs.Moment.{Moment}
+use Rattle.follower.specs.declared.follower.NotShown.{NotShown}
+use Rattle.follower.specs.declared.follower.NotShown.TheVariants.{Refused, StampFalls}
+use Rattle.latch_table.specs.Adding.{AddsReader}
+use Rattle.latch_table.specs.Readers.{ReaderState}
+use Rattle.latch_table.specs.Writers.{WriterState}
+use Rattle.latchsym_ffi.specs.Answers.{answer_number}
+use Rattle.latchsym_ffi.specs.Finding.{Known}
+use Rattle.latchsym_ffi.specs.Named.{IsTold}
+use Rattle.latchsym_ffi.specs.declared.answers.Answer.TheVariants.{BadStamp, Done, Forgotten}
+use Rattle.latchsym_ffi.specs.declared.answers.Answer.TheVariants.{Nothing}
+use Rattle.latchsym_ffi.specs.declared.finding.CatalogSymbol.{CatalogSymbol}
+
+-- the number of what stands against showing a catalog
+abbrev pub not_shown_number : NotShown → ℕ
+not_shown_number StampFalls = answer_number BadStamp
+not_shown_number (Refused why) = refusal_number why
+
+-- the number is that of what stands against it
+pub record RefusesShowing (c : CatalogEntries) (since : ℕ) (f : Followed) (result : ℕ)
+    : Type 0 where
+  pub why : NotShown
+  pub number : result ≡ not_shown_number why
+  pub refuses : RefusesToShow c since f.writer f.catalogs why
+
+-- what is known is told by the catalog that stands, and nothing if none does
+abbrev pub TellsStanding : Option DatedCatalog → (CatalogEntries → Known) → ℕ → CatalogSymbol
+    → CatalogSymbol → Type 0
+TellsStanding None known result old new = (result ≡ answer_number Forgotten) × (new ≡ old)
+TellsStanding (Some d) known result old new = IsTold d.catalog (known d.catalog) result new
+
+-- the number and the tag that tell of a catalog which is gone, or of none
+abbrev pub TellsTag : Option ℕ → ℕ → ℕ → ℕ → Type 0
+TellsTag None result old new = (result ≡ answer_number Nothing) × (new ≡ old)
+TellsTag (Some tag) result old new = (result ≡ answer_number Done) × (new ≡ tag)
+
+-- the oldest catalog is forgotten if the next one was shown by the moment, and its tag is told
+abbrev pub ForgetsAt : Moment → ℕ → ℕ → ℕ → Followed → Followed → Type 0
+ForgetsAt moment result old new f f' =
+    (tag : Option ℕ) × Forgets moment f.catalogs f'.catalogs tag × (f'.writer ≡ f.writer)
+    × TellsTag tag result old new

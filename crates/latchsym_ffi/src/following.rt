@@ -1,0 +1,279 @@
+//! What C calls, of followers: a table that follows a listing, and the catalogs that it showed.
+
+ghost use Rattle.std.specs.Prelude.{◌≡◌, ◌≢◌, ◌⊎◌, [], Some};
+ghost use Rattle.follower.specs.declared.catalogs.Moment.TheVariants.{Generation, Stamp};
+ghost use Rattle.follower.specs.Catalogs.{DropsOldest, standing_at};
+ghost use Rattle.follower.specs.Following.{Followed, Shows};
+ghost use Rattle.modules.specs.Entries.{CatalogEntries};
+ghost use Rattle.latchsym_ffi.specs.Finding.{known_at, known_call};
+ghost use Rattle.latchsym_ffi.specs.Following.{ForgetsAt, RefusesShowing, TellsStanding, TellsTag};
+ghost use Rattle.latchsym_ffi.specs.Handles.{FollowerGoes, HoldsCatalog, HoldsFollower, Stays};
+ghost use Rattle.latchsym_ffi.specs.Kinds.{catalog_kind, follower_kind};
+
+use crate::answers::{BAD_HANDLE, BAD_STAMP, DONE, FORGOTTEN, NOTHING};
+use crate::calls::with_follower;
+use crate::finding::{CatalogSymbol, name_places, seek, seek_call};
+use crate::handles::Handle;
+use follower::{Follower, Moment, NotShown, SharedCatalog};
+
+/// Shows a catalog, and tells the generation of its update.
+fn show(
+    follower: &mut Follower<'static>,
+    catalog: &SharedCatalog<'static>,
+    since: u64,
+    tag: u64,
+    generation: &mut u64,
+) -> u32
+    ensures shown { result ≡ 0
+        → Shows catalog.now since tag follower.old follower.new generation.new }
+    ensures unchanged { result ≢ 0 → (follower.new ≡ follower.old)
+        × (generation.new ≡ generation.old) }
+    ensures why { result ≢ 0 → RefusesShowing catalog.now since follower.old result }
+{
+    match follower.show(catalog, since, tag) {
+        Ok(shown) => {
+            *generation = shown;
+            DONE
+        }
+        Err(NotShown::StampFalls) => BAD_STAMP,
+        Err(NotShown::Refused(refusal)) => refusal.number(),
+    }
+}
+
+/// Shows a catalog by the follower that a handle holds.
+fn show_by(
+    follower: &mut Handle,
+    catalog: &SharedCatalog<'static>,
+    since: u64,
+    tag: u64,
+    generation: &mut u64,
+) -> u32
+    ensures shown { result ≡ 0 → FollowerGoes
+        (λ f f'. Shows catalog.now since tag f f' generation.new) follower.old follower.new }
+    ensures held { result ≡ 0 → follower.old.kind ≡ follower_kind }
+    ensures refused { result ≢ 0 → Stays follower.old follower.new
+        × (generation.new ≡ generation.old) }
+    ensures why { (f : Followed) → HoldsFollower f follower.old → result ≢ 0
+        → RefusesShowing catalog.now since f result }
+    ensures other { follower.old.kind ≢ follower_kind → result ≡ 101 }
+{
+    with_follower!(
+        follower,
+        |open| show(open, catalog, since, tag, generation)
+    )
+}
+
+/// Takes the content of a catalog's handle over into a follower, which shows its regions in one
+/// update. A refusal leaves both handles as they were.
+#[unsafe(no_mangle)]
+pub extern "C" fn latchsym_follower_show(
+    follower: &mut Handle,
+    catalog: &mut Handle,
+    since: u64,
+    tag: u64,
+    generation: &mut u64,
+) -> u32
+    ensures shown { (c : CatalogEntries) → HoldsCatalog c catalog.old → result ≡ 0
+        → FollowerGoes (λ f f'. Shows c since tag f f' generation.new) follower.old follower.new }
+    ensures taken { result ≡ 0 → (follower.old.kind ≡ follower_kind)
+        × (catalog.old.kind ≡ catalog_kind) × (catalog.new.kind ≡ 0) }
+    ensures refused { result ≢ 0 → Stays follower.old follower.new
+        × Stays catalog.old catalog.new × (generation.new ≡ generation.old) }
+    ensures why { (f : Followed) → HoldsFollower f follower.old → (c : CatalogEntries)
+        → HoldsCatalog c catalog.old → result ≢ 0 → RefusesShowing c since f result }
+    ensures other { (follower.old.kind ≢ follower_kind) ⊎ (catalog.old.kind ≢ catalog_kind)
+        → result ≡ 101 }
+{
+    let Some(taken) = catalog.take_catalog() else {
+        return BAD_HANDLE;
+    };
+    let result = show_by(
+        follower,
+        taken.open().shared(),
+        since,
+        tag,
+        generation,
+    );
+    if result != DONE {
+        catalog.put_catalog(taken);
+    }
+    result
+}
+
+/// Tells of an address by the catalog that stands at a moment.
+fn tell(
+    follower: &Follower<'static>,
+    moment: Moment,
+    addr: u64,
+    out: &mut CatalogSymbol,
+) -> u32
+    ensures { TellsStanding (standing_at follower.now.catalogs moment) (λ c. known_at c addr) result
+        out.old out.new }
+{
+    let Some(dated) = follower.catalog_at(moment) else {
+        return FORGOTTEN;
+    };
+    let catalog = dated.catalog.indexed();
+    name_places(catalog.catalog(), seek(catalog, addr), out)
+}
+
+/// Tells of a return address by the catalog that stands at a moment.
+fn tell_caller(
+    follower: &Follower<'static>,
+    moment: Moment,
+    addr: u64,
+    out: &mut CatalogSymbol,
+) -> u32
+    ensures { TellsStanding (standing_at follower.now.catalogs moment) (λ c. known_call c addr)
+        result out.old out.new }
+{
+    let Some(dated) = follower.catalog_at(moment) else {
+        return FORGOTTEN;
+    };
+    let catalog = dated.catalog.indexed();
+    name_places(catalog.catalog(), seek_call(catalog, addr), out)
+}
+
+/// Tells of an address by the catalog that stands at a generation.
+#[unsafe(no_mangle)]
+pub extern "C" fn latchsym_follower_find(
+    follower: &mut Handle,
+    generation: u64,
+    addr: u64,
+    out: &mut CatalogSymbol,
+) -> u32
+    ensures stays { Stays follower.old follower.new }
+    ensures told { (f : Followed) → HoldsFollower f follower.old → TellsStanding
+        (standing_at f.catalogs (Generation generation)) (λ c. known_at c addr) result
+        out.old out.new }
+    ensures other { follower.old.kind ≢ follower_kind
+        → (result ≡ 101) × (follower.new ≡ follower.old) × (out.new ≡ out.old) }
+{
+    with_follower!(follower, |open| tell(
+        open,
+        Moment::Generation(generation),
+        addr,
+        out
+    ))
+}
+
+/// Tells of a return address by the catalog that stands at a generation.
+#[unsafe(no_mangle)]
+pub extern "C" fn latchsym_follower_find_caller(
+    follower: &mut Handle,
+    generation: u64,
+    addr: u64,
+    out: &mut CatalogSymbol,
+) -> u32
+    ensures stays { Stays follower.old follower.new }
+    ensures told { (f : Followed) → HoldsFollower f follower.old → TellsStanding
+        (standing_at f.catalogs (Generation generation)) (λ c. known_call c addr) result
+        out.old out.new }
+    ensures other { follower.old.kind ≢ follower_kind
+        → (result ≡ 101) × (follower.new ≡ follower.old) × (out.new ≡ out.old) }
+{
+    with_follower!(follower, |open| tell_caller(
+        open,
+        Moment::Generation(generation),
+        addr,
+        out
+    ))
+}
+
+/// Tells of an address by the catalog that stands at a stamp.
+#[unsafe(no_mangle)]
+pub extern "C" fn latchsym_follower_find_since(
+    follower: &mut Handle,
+    at: u64,
+    addr: u64,
+    out: &mut CatalogSymbol,
+) -> u32
+    ensures stays { Stays follower.old follower.new }
+    ensures told { (f : Followed) → HoldsFollower f follower.old → TellsStanding
+        (standing_at f.catalogs (Stamp at)) (λ c. known_at c addr) result out.old out.new }
+    ensures other { follower.old.kind ≢ follower_kind
+        → (result ≡ 101) × (follower.new ≡ follower.old) × (out.new ≡ out.old) }
+{
+    with_follower!(follower, |open| tell(open, Moment::Stamp(at), addr, out))
+}
+
+/// Tells of a return address by the catalog that stands at a stamp.
+#[unsafe(no_mangle)]
+pub extern "C" fn latchsym_follower_find_caller_since(
+    follower: &mut Handle,
+    at: u64,
+    addr: u64,
+    out: &mut CatalogSymbol,
+) -> u32
+    ensures stays { Stays follower.old follower.new }
+    ensures told { (f : Followed) → HoldsFollower f follower.old → TellsStanding
+        (standing_at f.catalogs (Stamp at)) (λ c. known_call c addr) result out.old out.new }
+    ensures other { follower.old.kind ≢ follower_kind
+        → (result ≡ 101) × (follower.new ≡ follower.old) × (out.new ≡ out.old) }
+{
+    with_follower!(follower, |open| tell_caller(open, Moment::Stamp(at), addr, out))
+}
+
+/// Tells the tag of a catalog that is gone, or that none is.
+fn tell_tag(gone: Option<u64>, tag: &mut u64) -> u32
+    ensures { TellsTag gone result tag.old tag.new }
+{
+    match gone {
+        Some(told) => {
+            *tag = told;
+            DONE
+        }
+        None => NOTHING,
+    }
+}
+
+/// Forgets the oldest catalog, if the next one was shown at or before a generation, and tells its
+/// tag.
+#[unsafe(no_mangle)]
+pub extern "C" fn latchsym_follower_forget(
+    follower: &mut Handle,
+    generation: u64,
+    tag: &mut u64,
+) -> u32
+    ensures forgotten { FollowerGoes (ForgetsAt (Generation generation) result tag.old tag.new)
+        follower.old follower.new }
+    ensures other { follower.old.kind ≢ follower_kind
+        → (result ≡ 101) × (follower.new ≡ follower.old) × (tag.new ≡ tag.old) }
+{
+    with_follower!(follower, |open| tell_tag(
+        open.forget(Moment::Generation(generation)),
+        tag
+    ))
+}
+
+/// Forgets the oldest catalog, if the next one was shown at or before a stamp, and tells its tag.
+#[unsafe(no_mangle)]
+pub extern "C" fn latchsym_follower_forget_since(
+    follower: &mut Handle,
+    at: u64,
+    tag: &mut u64,
+) -> u32
+    ensures forgotten { FollowerGoes (ForgetsAt (Stamp at) result tag.old tag.new)
+        follower.old follower.new }
+    ensures other { follower.old.kind ≢ follower_kind
+        → (result ≡ 101) × (follower.new ≡ follower.old) × (tag.new ≡ tag.old) }
+{
+    with_follower!(follower, |open| tell_tag(open.forget(Moment::Stamp(at)), tag))
+}
+
+/// Drops the oldest catalog, and tells its tag; closes the handle if there is none.
+#[unsafe(no_mangle)]
+pub extern "C" fn latchsym_follower_close(follower: &mut Handle, tag: &mut u64) -> u32
+    ensures dropped { result ≡ 0 → FollowerGoes (λ f f'. DropsOldest f.catalogs f'.catalogs
+        (Some tag.new) × (f'.writer ≡ f.writer)) follower.old follower.new }
+    ensures closed { (f : Followed) → HoldsFollower f follower.old → result ≢ 0
+        → (result ≡ 22) × (f.catalogs ≡ []) × (follower.new.kind ≡ 0) × (tag.new ≡ tag.old) }
+    ensures other { follower.old.kind ≢ follower_kind
+        → (result ≡ 101) × (follower.new ≡ follower.old) × (tag.new ≡ tag.old) }
+{
+    let result = with_follower!(follower, |open| tell_tag(open.drop_oldest(), tag));
+    if result == NOTHING {
+        follower.close();
+    }
+    result
+}
