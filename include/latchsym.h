@@ -42,21 +42,23 @@
 extern "C" {
 #endif
 
-/* What a handle holds is the library's own. The library has one type of handle; its three names
- * here let the compiler tell a catalog, a writer and a reader apart. */
+/* What a handle holds is the library's own. The library has one type of handle; its four names
+ * here let the compiler tell a catalog, a writer, a reader and a follower apart. */
 struct latchsym_handle { uint32_t kind; void *at; };
 struct latchsym_catalog { struct latchsym_handle handle; };
 struct latchsym_writer { struct latchsym_handle handle; };
 struct latchsym_reader { struct latchsym_handle handle; };
+struct latchsym_follower { struct latchsym_handle handle; };
 #if (defined(__cplusplus) ? __cplusplus >= 201103L : __STDC_VERSION__ >= 201112L)
 static_assert(sizeof(struct latchsym_catalog) == sizeof(struct latchsym_handle), "one handle");
 static_assert(sizeof(struct latchsym_writer) == sizeof(struct latchsym_handle), "one handle");
 static_assert(sizeof(struct latchsym_reader) == sizeof(struct latchsym_handle), "one handle");
+static_assert(sizeof(struct latchsym_follower) == sizeof(struct latchsym_handle), "one handle");
 #endif
 
 /* The version of this header: 10000 of each major, 100 of each minor and 1 of each patch number.
  * What a program of one major version was compiled with, each later minor version gives it too. */
-#define LATCHSYM_VERSION 10100
+#define LATCHSYM_VERSION 10200
 
 /* What calls return. A number means one thing, whatever call returns it. Those below 20 are
  * refusals, and are the numbers that the program prints. */
@@ -76,6 +78,7 @@ enum {
     LATCHSYM_NOTHING = 22,   /* of a search: nothing is there */
     LATCHSYM_RETRY = 23,     /* of a search by a reader: the writer flipped meanwhile, try again */
     LATCHSYM_BUSY = 24,      /* of a pool: other calls have all its readers, try again */
+    LATCHSYM_FORGOTTEN = 25, /* of a follower: it has no listing of that moment */
     LATCHSYM_FLIP = 31,      /* of a step: a flip of the sequence; the second shows the update */
     LATCHSYM_STORE = 32,     /* of a step: another word was stored */
     LATCHSYM_NOTE_GZIP = 41, /* of a listing, here and up to 53: it is compressed by gzip */
@@ -93,7 +96,8 @@ enum {
     LATCHSYM_NOTE_UTF_16 = 53, /* it is in UTF-16 */
     LATCHSYM_BAD_HANDLE = 101, /* closed where open is wanted, the other way round, or of others */
     LATCHSYM_BAD_LENGTH = 102, /* not as much room as there are addresses */
-    LATCHSYM_BAD_LISTINGS = 103 /* of a struct of listings: not as this version has it */
+    LATCHSYM_BAD_LISTINGS = 103, /* of a struct of listings: not as this version has it */
+    LATCHSYM_BAD_STAMP = 104     /* the stamp lies below that of a listing shown before */
 };
 
 /* How many lines of each listing went where, as `latchsym lookup` prints them, but that mapping
@@ -300,6 +304,22 @@ static inline uint32_t latchsym_catalog_place_of_name(struct latchsym_catalog *c
     const uint8_t none = 0;
     return latchsym_catalog_place_of_name_nonnull(catalog, number, name_len ? name : &none,
                                                   name_len, from, place);
+}
+
+/* The same over all modules: the number of the module and the place in it of the symbol that `from`
+ * others of this name come before, by rising number of the module and then in the order listed. Ask
+ * with 0, 1, 2 .. for one after the other. The first call with a handle sorts the symbols by name, for
+ * which it takes memory; later ones are logarithmic. 0, LATCHSYM_NOTHING, LATCHSYM_OUT_OF_MEMORY or
+ * LATCHSYM_BAD_HANDLE; each but 0 writes nothing. */
+uint32_t latchsym_catalog_find_name_nonnull(struct latchsym_catalog *, const uint8_t *name,
+                                            size_t name_len, size_t from, uint64_t *number,
+                                            size_t *place);
+static inline uint32_t latchsym_catalog_find_name(struct latchsym_catalog *catalog,
+                                                  const uint8_t *name, size_t name_len, size_t from,
+                                                  uint64_t *number, size_t *place) {
+    const uint8_t none = 0;
+    return latchsym_catalog_find_name_nonnull(catalog, name_len ? name : &none, name_len, from,
+                                              number, place);
 }
 
 /* ---- a view of the catalog ---- */
@@ -591,21 +611,27 @@ static inline int latchsym_pool_claim_all(struct latchsym_pool *pool) {
     return 1;
 }
 
+/* Opens a closed pool with readers, 1 to 64, whose handles are no handles then. */
+static inline void latchsym_pool_fill(struct latchsym_pool *pool,
+                                      const struct latchsym_reader *readers, size_t slots) {
+    uint32_t i;
+    for (i = 0; i < slots; i++) pool->slots[i].reader = readers[i];
+    for (pool->shift = 32, i = 2; i <= slots; i *= 2) pool->shift--;
+    pool->slots_len = (uint32_t)slots;
+}
+
 /* Opens an empty table of 1 to 65536 nodes: its writer, and a pool with so many of its readers, 1 to
  * 64; both or neither. Refused as latchsym_table_open is, by LATCHSYM_BAD_HANDLE also where the pool
- * is open. */
+ * is open. (A pool of a follower's readers: latchsym_follower_open and latchsym_pool_fill.) */
 static inline uint32_t latchsym_pool_open(uint32_t nodes, size_t slots,
                                           struct latchsym_writer *writer,
                                           struct latchsym_pool *pool) {
     struct latchsym_reader readers[LATCHSYM_POOL_MOST] = { { { 0, NULL } } };
-    uint32_t i, answer;
+    uint32_t answer;
     if (pool->slots_len) return LATCHSYM_BAD_HANDLE;
     answer = latchsym_table_open(nodes, writer, readers, slots > LATCHSYM_POOL_MOST ? 0 : slots);
-    if (answer) return answer;
-    for (i = 0; i < slots; i++) pool->slots[i].reader = readers[i];
-    for (pool->shift = 32, i = 2; i <= slots; i *= 2) pool->shift--;
-    pool->slots_len = (uint32_t)slots;
-    return LATCHSYM_DONE;
+    if (!answer) latchsym_pool_fill(pool, readers, slots);
+    return answer;
 }
 
 /* The item of an address, as latchsym_reader_try_find tells it. Any number of threads call it with one
@@ -657,6 +683,59 @@ static inline uint32_t latchsym_pool_close(struct latchsym_pool *pool) {
     }
     return LATCHSYM_DONE;
 }
+
+/* ---- a table that follows a listing ---- */
+
+/* A follower changes a table of its own, so that it has the regions of the catalog that was shown
+ * last, and keeps each catalog with the generation of its update and a stamp of the caller's, any
+ * number that does not fall (of CLOCK_MONOTONIC, as perf has it). So the address of a sample is named
+ * by the listing that stood then: by the generation that a reader gave with it, or by its stamp. The
+ * bytes of a catalog's listings stay until its tag is told. */
+
+/* Opens a follower without a catalog over an empty table of 1 to 65536 nodes, and a reader of it in
+ * each of 1 to 64 closed handles. Refused as latchsym_table_open is. New regions take nodes beside
+ * those that they replace. */
+uint32_t latchsym_follower_open_nonnull(uint32_t nodes, struct latchsym_follower *,
+                                        struct latchsym_reader *readers, size_t count);
+static inline uint32_t latchsym_follower_open(uint32_t nodes, struct latchsym_follower *follower,
+                                              struct latchsym_reader *readers, size_t count) {
+    struct latchsym_reader none = { { 0, NULL } };
+    return latchsym_follower_open_nonnull(nodes, follower, count ? readers : &none, count);
+}
+
+/* Opens one more reader of the table in a closed handle, as latchsym_writer_add_reader does. */
+uint32_t latchsym_follower_add_reader(struct latchsym_follower *, struct latchsym_reader *out);
+
+/* Takes the catalog over out of its handle, which is closed then, and shows its regions in one whole
+ * update. Readers give this generation from then on; the catalog is found by it before they can. The
+ * tag is a number of the caller's, as the address of the listings. 0, LATCHSYM_BAD_HANDLE,
+ * LATCHSYM_BAD_STAMP, what latchsym_writer_begin_replace refuses, or LATCHSYM_OUT_OF_MEMORY: each but
+ * 0 leaves both handles as they were. */
+uint32_t latchsym_follower_show(struct latchsym_follower *, struct latchsym_catalog *,
+                                uint64_t since, uint64_t tag, uint64_t *generation);
+
+/* The symbol of an address, or of a return address, by the last catalog that was shown at or before a
+ * generation, or a stamp. Numbers are those of latchsym_catalog_find, or LATCHSYM_FORGOTTEN where the
+ * follower has no such catalog: nothing is written. */
+uint32_t latchsym_follower_find(struct latchsym_follower *, uint64_t generation, uint64_t addr,
+                                struct latchsym_symbol *out);
+uint32_t latchsym_follower_find_caller(struct latchsym_follower *, uint64_t generation,
+                                       uint64_t addr, struct latchsym_symbol *out);
+uint32_t latchsym_follower_find_since(struct latchsym_follower *, uint64_t at, uint64_t addr,
+                                      struct latchsym_symbol *out);
+uint32_t latchsym_follower_find_caller_since(struct latchsym_follower *, uint64_t at, uint64_t addr,
+                                             struct latchsym_symbol *out);
+
+/* Forgets the oldest catalog, if the next one was shown at or before a generation, or a stamp, and
+ * tells its tag: no sample from then on needs it. The newest stays. 0; LATCHSYM_NOTHING where none is
+ * to be forgotten, and LATCHSYM_BAD_HANDLE: these write nothing. Ask until it is LATCHSYM_NOTHING. */
+uint32_t latchsym_follower_forget(struct latchsym_follower *, uint64_t generation, uint64_t *tag);
+uint32_t latchsym_follower_forget_since(struct latchsym_follower *, uint64_t at, uint64_t *tag);
+
+/* Drops the oldest catalog and tells its tag: 0. Where there is none it closes the follower:
+ * LATCHSYM_NOTHING. Ask until then. LATCHSYM_BAD_HANDLE where it is closed. Readers that are open keep
+ * the table as it is. */
+uint32_t latchsym_follower_close(struct latchsym_follower *, uint64_t *tag);
 
 #ifdef __cplusplus
 }

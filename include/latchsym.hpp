@@ -246,6 +246,18 @@ public:
         return out;
     }
 
+    /* The number of the module and the place in it of the symbol that `from` others of this name come
+     * before, by rising number of the module. The first call sorts the symbols by name. */
+    std::optional<std::pair<std::uint64_t, std::size_t>> find_name(std::string_view name,
+                                                                   std::size_t from = 0) {
+        const latchsym_place bytes = detail::place(name);
+        std::pair<std::uint64_t, std::size_t> out{};
+        const auto got =
+            latchsym_catalog_find_name(get(), bytes.at, bytes.len, from, &out.first, &out.second);
+        if (!detail::is_there(got)) return std::nullopt;
+        return out;
+    }
+
 private:
     explicit catalog(const latchsym::counts &counts)
         : handle_(detail::closed<latchsym_catalog>()), counts_(counts) {}
@@ -406,7 +418,9 @@ public:
 
 private:
     friend class writer;
+    friend class follower;
     friend struct table;
+    friend struct followed_table;
     explicit readers(std::size_t room)
         : handles_(new latchsym_reader[room ? room : 1]{}), room_(room), count_(0) {}
 
@@ -557,6 +571,99 @@ struct table {
         : readers(most_readers < count && count <= 64 ? count : most_readers) {
         if (readers.room_ < count) throw error(LATCHSYM_BAD_CAPACITY);
         detail::check(latchsym_table_open(nodes, writer.get(), readers.handles_.get(), count));
+        readers.count_ = count;
+    }
+};
+
+/* A table that follows a listing as it changes, and the catalogs that it showed. The bytes of their
+ * listings stay until forget or forget_since gives the tag. */
+class follower {
+public:
+    follower(follower &&) noexcept = default;
+    follower &operator=(follower &&other) noexcept {
+        std::swap(handle_, other.handle_);
+        return *this;
+    }
+    ~follower() {
+        std::uint64_t tag = 0;
+        while (handle_ && latchsym_follower_close(get(), &tag) == LATCHSYM_DONE) {}
+    }
+
+    latchsym_follower *get() noexcept { return handle_.get(); }
+
+    /* Shows the regions of a catalog in one update, and takes it over: it is closed then. The stamp
+     * does not fall. Returns the generation from which it stands. */
+    std::uint64_t show(catalog &shown, std::uint64_t since, std::uint64_t tag = 0) {
+        std::uint64_t generation = 0;
+        detail::check(latchsym_follower_show(get(), shown.get(), since, tag, &generation));
+        return generation;
+    }
+
+    /* The symbol of an address, or of a return address, by the listing that stood at a generation or
+     * at a stamp; an error with LATCHSYM_FORGOTTEN where it is gone. */
+    std::optional<symbol> find(std::uint64_t generation, std::uint64_t addr) {
+        return found(latchsym_follower_find, generation, addr);
+    }
+    std::optional<symbol> find_caller(std::uint64_t generation, std::uint64_t addr) {
+        return found(latchsym_follower_find_caller, generation, addr);
+    }
+    std::optional<symbol> find_since(std::uint64_t at, std::uint64_t addr) {
+        return found(latchsym_follower_find_since, at, addr);
+    }
+    std::optional<symbol> find_caller_since(std::uint64_t at, std::uint64_t addr) {
+        return found(latchsym_follower_find_caller_since, at, addr);
+    }
+
+    /* Forgets the oldest catalog if no sample of this generation, or stamp, or a later one needs it, and
+     * gives its tag; none where none is to be forgotten. */
+    std::optional<std::uint64_t> forget(std::uint64_t generation) {
+        return gone(latchsym_follower_forget, generation);
+    }
+    std::optional<std::uint64_t> forget_since(std::uint64_t at) {
+        return gone(latchsym_follower_forget_since, at);
+    }
+
+    /* One more reader of this table among its readers, where there is room. */
+    reader add_reader(latchsym::readers &readers) {
+        if (readers.count_ == readers.room_) throw error(LATCHSYM_BAD_CAPACITY);
+        latchsym_reader *handle = &readers.handles_[readers.count_];
+        detail::check(latchsym_follower_add_reader(get(), handle));
+        readers.count_++;
+        return reader(handle);
+    }
+
+private:
+    friend struct followed_table;
+    follower() : handle_(new latchsym_follower{}) {}
+
+    template <class Call>
+    std::optional<symbol> found(Call call, std::uint64_t moment, std::uint64_t addr) {
+        latchsym_symbol out = LATCHSYM_SYMBOL_INIT;
+        const std::uint32_t number = call(get(), moment, addr, &out);
+        return detail::symbol_told(number, out);
+    }
+
+    template <class Call>
+    std::optional<std::uint64_t> gone(Call call, std::uint64_t moment) {
+        std::uint64_t tag = 0;
+        if (!detail::is_there(call(get(), moment, &tag))) return std::nullopt;
+        return tag;
+    }
+
+    std::unique_ptr<latchsym_follower> handle_;
+};
+
+/* A follower without a catalog over an empty table of 1 to 65536 nodes, and its readers, with room for
+ * `most_readers`. */
+struct followed_table {
+    latchsym::follower follower;
+    latchsym::readers readers;
+
+    explicit followed_table(std::uint32_t nodes, std::size_t count = 1,
+                            std::size_t most_readers = 64)
+        : readers(most_readers < count && count <= 64 ? count : most_readers) {
+        if (readers.room_ < count) throw error(LATCHSYM_BAD_CAPACITY);
+        detail::check(latchsym_follower_open(nodes, follower.get(), readers.handles_.get(), count));
         readers.count_ = count;
     }
 };

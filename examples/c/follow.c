@@ -2,11 +2,11 @@
 /* A profiler that follows a listing as it changes. One thread reads the listing again each second, and when it is told
  * to by a line; where its bytes have changed it gives the table the regions that it has then, all at once. (The time of
  * /proc/kallsyms stands still.) A listing that cannot be read, or of which something is noted that is not noted of the
- * one shown, as of one read without rights, is told of and not taken. (Nothing is noted of one that is cut behind
+ * one shown, as of one read without rights, is told of and not taken. (Nothing is noted of one that is cut after
  * _etext.)
  *
  * SIGPROF samples other threads, which look the address up in the handler and keep it with the generation of the
- * answer. The main thread names each sample by the catalog that stood at its generation, and closes the catalogs that
+ * answer. The main thread names each sample by the listing that stood at its generation, and frees the listings that
  * no sample can need any more.
  *
  *     follow KALLSYMS MODULES    an empty name of MODULES: modules come from the symbols
@@ -23,17 +23,15 @@
 #include <stdlib.h>
 #include <string.h>
 #include <sys/time.h>
+#include <time.h>
 #include <unistd.h>
 
 enum { THREADS = 3, NODES = 4096, ROOM = 4096, MOST_TRIES = 1000, SECOND = 1000 };
 
-/* A listing and its catalog, from the generation on that shows its regions. */
+/* The bytes of a listing, which its catalog points into. */
 struct listing {
-    uint64_t generation;
-    struct latchsym_catalog catalog;
     struct latchsym_place symbols, modules;
     uint32_t symbols_note, modules_note;
-    struct listing *newer;
 };
 
 struct sample { uint64_t addr, generation; };
@@ -52,9 +50,9 @@ struct thread {
 
 static const char *symbols_name, *modules_name;
 static struct thread threads[THREADS];
-static struct latchsym_writer writer;
-static struct listing *oldest, *newest;
-static pthread_mutex_t listings = PTHREAD_MUTEX_INITIALIZER;
+static struct latchsym_follower follower;
+static struct listing *shown; /* the newest, which is the watcher's alone */
+static pthread_mutex_t following = PTHREAD_MUTEX_INITIALIZER; /* one call on the follower at a time */
 static atomic_ullong first_addr, span;
 static atomic_int ended;
 static _Thread_local struct thread *self;
@@ -106,34 +104,40 @@ static void *work(void *thread) {
 
 /* ---- the listing ---- */
 
-/* Shows the regions of the catalog to all readers, in one update. */
-static void show(struct listing *new) {
+static void free_listing(struct listing *old) {
+    free((void *)old->symbols.at), free((void *)old->modules.at), free(old);
+}
+
+/* Where an address is drawn from: the regions of a catalog. */
+static size_t set_span(struct latchsym_catalog *catalog) {
     struct latchsym_sizes sizes;
     struct latchsym_item *items;
-    uint64_t shown;
-    must(latchsym_catalog_sizes(&new->catalog, &sizes));
+    must(latchsym_catalog_sizes(catalog, &sizes));
     items = calloc(sizes.regions + 1, sizeof *items);
     if (!items) must(LATCHSYM_OUT_OF_MEMORY);
-    must(latchsym_catalog_items(&new->catalog, items, sizes.regions));
-    must(latchsym_writer_begin_replace(&writer, items, sizes.regions));
-    /* It is in the list before a reader can find it: the next generation shows it. */
-    pthread_mutex_lock(&listings);
-    new->generation = newest ? newest->generation + 1 : 1;
-    newest = newest ? (newest->newer = new) : (oldest = new);
-    pthread_mutex_unlock(&listings);
-    must(latchsym_writer_finish(&writer, &shown));
+    must(latchsym_catalog_items(catalog, items, sizes.regions));
     if (sizes.regions) {
         atomic_store(&first_addr, items[0].a);
         atomic_store(&span, items[sizes.regions - 1].b - items[0].a);
     }
-    printf("listing %llu: %zu regions of %zu bytes\n", (unsigned long long)shown, sizes.regions, new->symbols.len);
-    fflush(stdout);
     free(items);
+    return sizes.regions;
 }
 
-static void close_listing(struct listing *old) {
-    latchsym_catalog_close(&old->catalog); /* and only now the bytes that it points into */
-    free((void *)old->symbols.at), free((void *)old->modules.at), free(old);
+/* Shows the catalog to all readers, in one update. The follower keeps it, and tells the listing when it has forgotten
+ * it. */
+static void show(struct listing *new, struct latchsym_catalog *catalog) {
+    size_t regions = set_span(catalog);
+    struct timespec now;
+    uint64_t generation;
+    clock_gettime(CLOCK_MONOTONIC, &now);
+    pthread_mutex_lock(&following);
+    must(latchsym_follower_show(&follower, catalog, now.tv_sec * 1000000000ull + (uint64_t)now.tv_nsec,
+                                (uintptr_t)new, &generation));
+    pthread_mutex_unlock(&following);
+    shown = new;
+    printf("listing %llu: %zu regions of %zu bytes\n", (unsigned long long)generation, regions, new->symbols.len);
+    fflush(stdout);
 }
 
 /* Whether the files could be read. */
@@ -149,12 +153,12 @@ static int are_same(struct latchsym_place x, struct latchsym_place y) {
     return x.len == y.len && (!x.len || !memcmp(x.at, y.at, x.len));
 }
 
-static void open_listing(struct listing *new) {
+static void open_listing(struct listing *new, struct latchsym_catalog *catalog) {
     struct latchsym_listings given = LATCHSYM_LISTINGS_INIT;
     struct latchsym_counts counts;
     uint64_t line;
     given.kallsyms = new->symbols, given.modules = new->modules, given.has_modules = *modules_name != 0;
-    must(latchsym_catalog_open(&given, &new->catalog, &counts, &line));
+    must(latchsym_catalog_open(&given, catalog, &counts, &line));
     new->symbols_note = counts.symbols_note, new->modules_note = counts.modules_note;
 }
 
@@ -165,21 +169,27 @@ static int is_noted(const char *name, uint32_t note, uint32_t of_shown) {
     return 1;
 }
 
-/* Whether a listing is to be shown: the first one, and each that is another than the one shown and no worse. */
-static int is_to_be_shown(struct listing *new) {
+/* Whether a listing is to be shown: the first one, and each that is another than the one shown and no worse. Its
+ * catalog is open then. */
+static int is_to_be_shown(struct listing *new, struct latchsym_catalog *catalog) {
     int is_worse;
-    if (newest && are_same(new->symbols, newest->symbols) && are_same(new->modules, newest->modules)) return 0;
-    open_listing(new);
-    is_worse = is_noted(symbols_name, new->symbols_note, newest ? newest->symbols_note : LATCHSYM_NOTHING);
-    is_worse |= is_noted(modules_name, new->modules_note, newest ? newest->modules_note : LATCHSYM_NOTHING);
-    return !newest || !is_worse;
+    if (shown && are_same(new->symbols, shown->symbols) && are_same(new->modules, shown->modules)) return 0;
+    open_listing(new, catalog);
+    is_worse = is_noted(symbols_name, new->symbols_note, shown ? shown->symbols_note : LATCHSYM_NOTHING);
+    is_worse |= is_noted(modules_name, new->modules_note, shown ? shown->modules_note : LATCHSYM_NOTHING);
+    return !shown || !is_worse;
 }
 
 static void read_listing(void) {
     struct listing *new = calloc(1, sizeof *new);
+    struct latchsym_catalog catalog = {0};
     if (!new) must(LATCHSYM_OUT_OF_MEMORY);
-    if (read_files(new) && is_to_be_shown(new)) show(new);
-    else close_listing(new);
+    if (read_files(new) && is_to_be_shown(new, &catalog)) {
+        show(new, &catalog);
+    } else {
+        latchsym_catalog_close(&catalog); /* and only now the bytes that it points into */
+        free_listing(new);
+    }
 }
 
 /* Reads the listing again each time that a line says so, and each second. */
@@ -197,18 +207,12 @@ static void *watch(void *unused) {
 
 /* ---- names ---- */
 
-/* The listing that stood at a generation: the last that was shown at it or before. */
-static struct listing *listing_of(uint64_t generation) {
-    struct listing *found;
-    pthread_mutex_lock(&listings);
-    for (found = oldest; found->newer && found->newer->generation <= generation;) found = found->newer;
-    pthread_mutex_unlock(&listings);
-    return found;
-}
-
 static void name_sample(const struct sample *it) {
     struct latchsym_symbol symbol = LATCHSYM_SYMBOL_INIT;
-    uint32_t answer = latchsym_catalog_find(&listing_of(it->generation)->catalog, it->addr, &symbol);
+    uint32_t answer;
+    pthread_mutex_lock(&following);
+    answer = latchsym_follower_find(&follower, it->generation, it->addr, &symbol);
+    pthread_mutex_unlock(&following);
     printf("%llu 0x%llx ", (unsigned long long)it->generation, (unsigned long long)it->addr);
     if (answer == LATCHSYM_DONE)
         printf("%.*s+0x%llx", (int)symbol.name.len, (const char *)symbol.name.at, (unsigned long long)symbol.offset);
@@ -231,19 +235,18 @@ static long name_samples(struct thread *thread) {
     return named;
 }
 
-/* Closes each listing whose successor every thread has passed. */
+/* Frees each listing that no sample can need any more: every thread has passed its successor. */
 static void forget_what_all_passed(void) {
-    uint64_t passed = UINT64_MAX;
+    uint64_t passed = UINT64_MAX, tag;
+    uint32_t answer;
     for (int i = 0; i < THREADS; i++)
         if (threads[i].passed < passed) passed = threads[i].passed;
-    for (;;) {
-        struct listing *old = NULL;
-        pthread_mutex_lock(&listings);
-        if (oldest->newer && oldest->newer->generation <= passed) old = oldest, oldest = old->newer;
-        pthread_mutex_unlock(&listings);
-        if (!old) return;
-        close_listing(old);
-    }
+    do {
+        pthread_mutex_lock(&following);
+        answer = latchsym_follower_forget(&follower, passed, &tag);
+        pthread_mutex_unlock(&following);
+        if (answer == LATCHSYM_DONE) free_listing((void *)(uintptr_t)tag);
+    } while (answer == LATCHSYM_DONE);
 }
 
 int main(int count, char **words) {
@@ -252,6 +255,7 @@ int main(int count, char **words) {
     struct itimerval each_ms = {{0, 1000}, {0, 1000}}, never = {{0, 0}, {0, 0}};
     long named = 0, given_up = 0, dropped = 0;
     pthread_t watcher;
+    uint64_t tag;
     sigset_t prof;
     if (count != 3) return fprintf(stderr, "usage: follow KALLSYMS MODULES\n"), 2;
     symbols_name = words[1], modules_name = words[2];
@@ -259,9 +263,9 @@ int main(int count, char **words) {
     sigemptyset(&prof);
     sigaddset(&prof, SIGPROF);
     pthread_sigmask(SIG_BLOCK, &prof, NULL);
-    must(latchsym_table_open(NODES, &writer, readers, THREADS));
+    must(latchsym_follower_open(NODES, &follower, readers, THREADS));
     read_listing();
-    if (!newest) return 1;
+    if (!shown) return 1;
     sigaction(SIGPROF, &action, NULL);
     for (int i = 0; i < THREADS; i++) {
         threads[i].reader = &readers[i], threads[i].drawn = 88172645463325252u + (uint64_t)i, threads[i].passed = 1;
@@ -282,8 +286,7 @@ int main(int count, char **words) {
         given_up += threads[i].given_up, dropped += threads[i].dropped;
         latchsym_reader_close(&readers[i]);
     }
-    for (struct listing *next; oldest; oldest = next) next = oldest->newer, close_listing(oldest);
-    latchsym_writer_close(&writer);
+    while (latchsym_follower_close(&follower, &tag) == LATCHSYM_DONE) free_listing((void *)(uintptr_t)tag);
     fprintf(stderr, "follow: %ld samples named, %ld given up, %ld without room\n", named, given_up, dropped);
     return 0;
 }

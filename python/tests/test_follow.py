@@ -60,6 +60,22 @@ class Following(unittest.TestCase):
         self.assertEqual(follower.name(new).name, "second")
         self.assertRaises(LookupError, follower.name, old)
 
+    def test_an_address_is_named_by_the_time(self):
+        before = time.monotonic_ns()
+        self.put(line(0, "first"))
+        follower = self.follower()
+        times = [time.monotonic_ns()]
+        for load in range(5):
+            self.put(line(0, f"load{load}"))
+            follower.poll()
+            times.append(time.monotonic_ns())
+        self.assertRaises(latchsym.Forgotten, follower.name_at, before, START)
+        names = [follower.name_at(at, START).name for at in times]
+        self.assertEqual(names, ["first", *(f"load{load}" for load in range(5))])
+        follower.forget_below(follower.find(START).generation)
+        self.assertRaises(latchsym.Forgotten, follower.name_at, times[-2], START)
+        self.assertEqual(follower.name_at(times[-1], START).name, "load4")
+
     def test_a_listing_that_is_refused_changes_nothing(self):
         self.put(line(0, "first"))
         follower = self.follower(nodes=1)

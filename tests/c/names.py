@@ -204,7 +204,7 @@ def numbers():
     place = Place(ctypes.addressof(NONE), 0)
     lib.latchsym_place_of_text(NOTHING, place)
     assert ctypes.string_at(place.at, place.len) == b"nothing is there\0"
-    assert lib.latchsym_version() == 10100
+    assert lib.latchsym_version() == 10200
 
 numbers()
 folder = pathlib.Path(sys.argv[2])

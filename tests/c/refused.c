@@ -43,6 +43,8 @@ static struct latchsym_catalog catalog, other;
 static struct latchsym_writer writer;
 static struct latchsym_reader readers[3], added;
 static struct latchsym_pool pool;
+static struct latchsym_follower follower;
+static uint64_t shown, since;
 static const struct latchsym_item items[] = {{0x1000, 0x2000, 1}, {0x2000, 0x3000, 1}};
 static const uint64_t starts[] = {0x1000};
 
@@ -69,13 +71,25 @@ static uint32_t insert(void) { return latchsym_writer_begin_insert(&writer, &ite
 static uint32_t replace(void) { return latchsym_writer_begin_replace(&writer, items, 2); }
 static uint32_t batch(void) { return latchsym_writer_begin_batch(&writer, starts, 1, items, 2); }
 
+static uint32_t open_follower(void) { return latchsym_follower_open(4, &follower, readers, 3); }
+static uint32_t add_following(void) { return latchsym_follower_add_reader(&follower, &added); }
+static uint32_t show(void) { return latchsym_follower_show(&follower, &catalog, since, since, &shown); }
+static uint32_t find_name(void) {
+    uint64_t number = 7;
+    size_t place = 7;
+    uint32_t answer = latchsym_catalog_find_name(&catalog, (const uint8_t *)"ext4_a", 6, 0, &number, &place);
+    CHECK(answer ? number == 7 && place == 7 : number == 1 && place == 0);
+    return answer;
+}
+
 /* All handles, as they lie in memory. */
 static void handles(unsigned char *to) {
     memcpy(to, &catalog, sizeof catalog), to += sizeof catalog;
     memcpy(to, &other, sizeof other), to += sizeof other;
     memcpy(to, &writer, sizeof writer), to += sizeof writer;
     memcpy(to, readers, sizeof readers), to += sizeof readers;
-    memcpy(to, &added, sizeof added);
+    memcpy(to, &added, sizeof added), to += sizeof added;
+    memcpy(to, &follower, sizeof follower);
 }
 
 static void close_catalog(void) { latchsym_catalog_close(&catalog); }
@@ -114,6 +128,24 @@ static void batch_back(void) {
     finish();
 }
 
+static void close_follower(void) {
+    uint64_t tag;
+    while (!latchsym_follower_close(&follower, &tag)) CHECK(tag <= since);
+    for (int i = 0; i < 3; i++) latchsym_reader_close(&readers[i]);
+}
+/* The next catalog, for the next request. */
+static void reopen_catalog(void) {
+    refused_request = 0;
+    since++;
+    CHECK(!open_catalog());
+}
+static void close_added(void) { latchsym_reader_close(&added); }
+static void close_found(void) {
+    refused_request = 0;
+    latchsym_catalog_close(&catalog);
+    CHECK(!open_catalog());
+}
+
 static void replace_back(void) {
     refused_request = 0;
     finish();
@@ -122,7 +154,7 @@ static void replace_back(void) {
 }
 
 static void each_request(const char *name, uint32_t (*call)(void), void (*undo)(void)) {
-    unsigned char before[7 * sizeof writer], after[7 * sizeof writer];
+    unsigned char before[8 * sizeof writer], after[8 * sizeof writer];
     long refused = 0;
     for (long request = 1;; request++) {
         long had = blocks;
@@ -182,6 +214,15 @@ int main(void) {
     each_request("pool_enlarge", enlarge_pool, leave);
     CHECK(!latchsym_pool_try_find(&pool, 0x1800, &found) && found.a == 0x1000);
     close_pool();
+    CHECK(blocks == had);
+    each_request("follower_open", open_follower, close_follower);
+    reopen_catalog();
+    each_request("catalog_find_name", find_name, close_found);
+    each_request("follower_show", show, reopen_catalog);
+    CHECK(!latchsym_reader_try_find(&readers[2], 0xffffffffc0000018, &found) && found.generation == shown);
+    each_request("follower_add_reader", add_following, close_added);
+    close_added();
+    close_follower();
     CHECK(blocks == had);
     puts("refused: ok");
 }

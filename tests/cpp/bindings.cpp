@@ -197,7 +197,32 @@ static void reads_on_threads() {
     CHECK(wrong == 0);
 }
 
+static void follows() {
+    const std::uint64_t addr = 0xffffffffc0000018;
+    const std::string texts[] = {"ffffffffc0000010 t one\t[a]\n", "ffffffffc0000010 t two\t[a]\nffffffffc0000020 t one\t[a]\n"};
+    latchsym::followed_table table(8, 1, 2);
+    table.follower.add_reader(table.readers);
+    for (std::size_t i = 0; i < 2; i++) {
+        latchsym::listings listings;
+        listings.kallsyms = texts[i];
+        latchsym::catalog catalog(listings);
+        if (i == 1) CHECK(catalog.find_name("one")->second == 1 && !catalog.find_name("one", 1) && !catalog.find_name("o"));
+        CHECK(refused([&] { table.follower.show(catalog, i ? 9 : 10, i); }) == (i ? LATCHSYM_BAD_STAMP : 0));
+        if (i == 1) CHECK(table.follower.show(catalog, 20, i) == 2);
+        CHECK(refused([&] { catalog.modules(); }) == LATCHSYM_BAD_HANDLE);
+    }
+    CHECK(table.readers[0].find(addr).generation == 2 && table.readers[1].find(addr).generation == 2);
+    CHECK(refused([&] { table.follower.add_reader(table.readers); }) == LATCHSYM_BAD_CAPACITY);
+    CHECK(table.follower.find(1, addr)->name == "one" && table.follower.find_since(19, addr)->name == "one");
+    CHECK(table.follower.find_caller(2, addr)->name == "two" && table.follower.find_caller_since(20, addr)->name == "two");
+    CHECK(!table.follower.forget(1) && table.follower.forget_since(20) == 0 && !table.follower.forget(2));
+    CHECK(refused([&] { table.follower.find(1, addr); }) == LATCHSYM_FORGOTTEN);
+    latchsym::follower moved = std::move(table.follower);
+    CHECK(moved.find(2, addr)->name == "two");
+}
+
 int main() {
+    follows();
     finds();
     finds_in_a_view();
     refuses_listings();

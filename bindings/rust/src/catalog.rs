@@ -375,6 +375,24 @@ impl<'l> Catalog<'l> {
         })
         .map(|entry| entry.addr)
     }
+
+    /// The number of the module and the place in it of the symbol that `from` others of this name
+    /// come before, by rising number of the module. The first call sorts the symbols by name.
+    pub fn find_name(&self, name: &[u8], from: usize) -> Result<Option<(u64, usize)>, Error> {
+        let (mut number, mut place) = (0, 0);
+        // SAFETY: the handle is open and in no other call; the name is a slice.
+        let got = unsafe {
+            sys::latchsym_catalog_find_name(
+                self.handle(),
+                name.as_ptr(),
+                name.len(),
+                from,
+                &mut number,
+                &mut place,
+            )
+        };
+        Ok(Error::is_there(got)?.then_some((number, place)))
+    }
 }
 
 impl Drop for Catalog<'_> {

@@ -26,6 +26,10 @@ pub enum Error {
     TooManyRegions,
     /// Other calls have all readers of a pool, or one of them where all are wanted: try again.
     Busy,
+    /// A follower has no listing of that moment.
+    Forgotten,
+    /// A stamp lies below that of a listing shown before.
+    BadStamp,
     /// The line of this number in the listing of regions is not one.
     BadLine(u64),
     /// There is no handle where one is wanted, as where a reader has been closed.
@@ -51,8 +55,10 @@ impl Error {
             Error::TooManyRegions => 14,
             Error::BadLine(_) => sys::BAD_LINE,
             Error::Busy => sys::BUSY,
+            Error::Forgotten => 25,
             Error::BadHandle => 101,
             Error::BadListings => 103,
+            Error::BadStamp => 104,
             Error::Other(number) => number,
         }
     }
@@ -69,8 +75,10 @@ impl Error {
             10 => Error::BadCapacity,
             14 => Error::TooManyRegions,
             sys::BUSY => Error::Busy,
+            25 => Error::Forgotten,
             101 => Error::BadHandle,
             103 => Error::BadListings,
+            104 => Error::BadStamp,
             _ => Error::Other(number),
         }
     }

@@ -53,6 +53,7 @@
 
 mod catalog;
 mod error;
+mod follower;
 mod pool;
 mod table;
 mod view;
@@ -62,6 +63,7 @@ mod sys;
 
 pub use catalog::{Answer, Catalog, Counts, Entry, Listings, Module, Region, Symbol};
 pub use error::Error;
+pub use follower::{follower, follower_with_room, Follower};
 pub use pool::{pooled_table, Pool};
 pub use table::{table, table_with_room, Found, Item, Reader, Readers, Step, Writer};
 pub use view::View;

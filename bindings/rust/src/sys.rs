@@ -206,6 +206,15 @@ extern "C" {
         from: usize,
         place: *mut usize,
     ) -> u32;
+    #[link_name = "latchsym_catalog_find_name_nonnull"]
+    pub fn latchsym_catalog_find_name(
+        catalog: *mut Handle,
+        name: *const u8,
+        name_len: usize,
+        from: usize,
+        number: *mut u64,
+        place: *mut usize,
+    ) -> u32;
     pub fn latchsym_catalog_sizes(catalog: *mut Handle, out: *mut Sizes) -> u32;
     #[link_name = "latchsym_catalog_flatten_nonnull"]
     pub fn latchsym_catalog_flatten(
@@ -277,4 +286,46 @@ extern "C" {
     ) -> u32;
     #[link_name = "latchsym_reader_close_nonnull"]
     pub fn latchsym_reader_close(reader: *mut Handle);
+    #[link_name = "latchsym_follower_open_nonnull"]
+    pub fn latchsym_follower_open(
+        nodes: u32,
+        follower: *mut Handle,
+        readers: *mut Handle,
+        count: usize,
+    ) -> u32;
+    pub fn latchsym_follower_add_reader(follower: *mut Handle, out: *mut Handle) -> u32;
+    pub fn latchsym_follower_show(
+        follower: *mut Handle,
+        catalog: *mut Handle,
+        since: u64,
+        tag: u64,
+        generation: *mut u64,
+    ) -> u32;
+    pub fn latchsym_follower_find(
+        follower: *mut Handle,
+        generation: u64,
+        addr: u64,
+        out: *mut Symbol,
+    ) -> u32;
+    pub fn latchsym_follower_find_caller(
+        follower: *mut Handle,
+        generation: u64,
+        addr: u64,
+        out: *mut Symbol,
+    ) -> u32;
+    pub fn latchsym_follower_find_since(
+        follower: *mut Handle,
+        at: u64,
+        addr: u64,
+        out: *mut Symbol,
+    ) -> u32;
+    pub fn latchsym_follower_find_caller_since(
+        follower: *mut Handle,
+        at: u64,
+        addr: u64,
+        out: *mut Symbol,
+    ) -> u32;
+    pub fn latchsym_follower_forget(follower: *mut Handle, generation: u64, tag: *mut u64) -> u32;
+    pub fn latchsym_follower_forget_since(follower: *mut Handle, at: u64, tag: *mut u64) -> u32;
+    pub fn latchsym_follower_close(follower: *mut Handle, tag: *mut u64) -> u32;
 }

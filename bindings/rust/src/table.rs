@@ -56,12 +56,7 @@ pub fn table(nodes: u32, readers: usize) -> Result<(Writer, Readers), Error> {
 
 /// Opens a table as [`table`] does, with room for so many readers in all: [`Writer::add_reader`].
 pub fn table_with_room(nodes: u32, count: usize, room: usize) -> Result<(Writer, Readers), Error> {
-    // (the call itself refuses these, and so many handles might not be had)
-    if !(1..=64).contains(&count) {
-        return Err(Error::BadCapacity);
-    }
-    let closed = (0..room.max(count)).map(|_| UnsafeCell::new(sys::Handle::CLOSED));
-    let readers = Readers { handles: closed.collect(), count };
+    let readers = Readers::closed(count, room)?;
     let writer = Writer::open(nodes, readers.handles(), count)?;
     Ok((writer, readers))
 }
@@ -175,11 +170,10 @@ impl Writer {
 
     /// One more reader, also amid an update, where the readers have room: [`table_with_room`].
     pub fn add_reader(&mut self, readers: &mut Readers) -> Result<(), Error> {
-        let handle = readers.handles.get(readers.count).ok_or(Error::BadCapacity)?;
-        // SAFETY: the reader's handle is closed, and the writer's is in no other call.
-        Error::check(unsafe { sys::latchsym_writer_add_reader(self.handle(), handle.get()) })?;
-        readers.count += 1;
-        Ok(())
+        readers.add(|reader| {
+            // SAFETY: the reader's handle is closed, and the writer's is in no other call.
+            unsafe { sys::latchsym_writer_add_reader(self.handle(), reader) }
+        })
     }
 
     /// Takes the last of its readers back, which leaves room for another.
@@ -236,8 +230,26 @@ pub struct Readers {
 unsafe impl Send for Readers {}
 
 impl Readers {
-    fn handles(&self) -> *mut sys::Handle {
+    /// Closed handles, of which the first `count` are to be opened.
+    pub(crate) fn closed(count: usize, room: usize) -> Result<Self, Error> {
+        // (the call itself refuses these, and so many handles might not be had)
+        if !(1..=64).contains(&count) {
+            return Err(Error::BadCapacity);
+        }
+        let closed = (0..room.max(count)).map(|_| UnsafeCell::new(sys::Handle::CLOSED));
+        Ok(Readers { handles: closed.collect(), count })
+    }
+
+    pub(crate) fn handles(&self) -> *mut sys::Handle {
         UnsafeCell::raw_get(self.handles.as_ptr())
+    }
+
+    /// Opens one more handle by this call.
+    pub(crate) fn add(&mut self, open: impl FnOnce(*mut sys::Handle) -> u32) -> Result<(), Error> {
+        let handle = self.handles.get(self.count).ok_or(Error::BadCapacity)?;
+        Error::check(open(handle.get()))?;
+        self.count += 1;
+        Ok(())
     }
 
     /// How many readers there are.

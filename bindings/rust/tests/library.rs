@@ -285,3 +285,40 @@ fn readers_look_up_on_threads() {
         is_over.store(true, Ordering::Relaxed);
     });
 }
+
+#[test]
+fn an_address_is_named_by_the_listing_of_its_time() {
+    const ADDR: u64 = 0xffffffffc0000018;
+    let text = |name: &str| format!("ffffffffc0000010 t {name}\t[{name}]\n").into_bytes();
+    let name = |found: Result<Option<latchsym::Symbol<'_>>, Error>| {
+        found.map(|symbol| String::from_utf8_lossy(symbol.unwrap().name.unwrap()).into_owned())
+    };
+    let (mut follower, mut readers) = latchsym::follower_with_room(8, 1, 2).unwrap();
+    follower.add_reader(&mut readers).unwrap();
+    assert_eq!(follower.find(1, ADDR).unwrap_err(), Error::Forgotten);
+    for load in 1..=4u64 {
+        let generation = follower.show(text(&format!("load{load}")), None, 10 * load).unwrap();
+        assert_eq!(generation, load);
+        assert_eq!(readers.get(1).unwrap().find(ADDR).unwrap().generation, load);
+    }
+    assert_eq!(follower.show(text("late"), None, 39), Err(Error::BadStamp));
+    assert_eq!(name(follower.find(2, ADDR)).unwrap(), "load2");
+    assert_eq!(name(follower.find_since(29, ADDR)).unwrap(), "load2");
+    assert_eq!(name(follower.find_caller(3, ADDR)).unwrap(), "load3");
+    assert_eq!(name(follower.find_caller_since(1000, ADDR)).unwrap(), "load4");
+    follower.forget(2);
+    assert_eq!(follower.find(1, ADDR).unwrap_err(), Error::Forgotten);
+    assert_eq!(name(follower.find(2, ADDR)).unwrap(), "load2");
+    follower.forget_since(40);
+    assert_eq!(follower.find_since(39, ADDR).unwrap_err(), Error::Forgotten);
+    assert_eq!(name(follower.find(4, ADDR)).unwrap(), "load4");
+}
+
+#[test]
+fn a_name_is_found_in_all_modules() {
+    let text = b"ffffffffc0000010 t one\t[a]\nffffffffc0001010 t two\t[b]\nffffffffc0001020 t one\t[b]\n";
+    let catalog = Listings::new(text).open().unwrap();
+    let places: Vec<_> = (0..).map_while(|from| catalog.find_name(b"one", from).unwrap()).collect();
+    assert_eq!(places, [(1, 0), (2, 1)]);
+    assert_eq!(catalog.find_name(b"three", 0), Ok(None));
+}

@@ -28,10 +28,7 @@ impl<'a> Model for SharedCatalog<'a> {
 
 impl<'a> SharedCatalog<'a> {
     /// Puts a catalog where owners can share it. Refused only when out of memory.
-    pub fn new(
-        alloc: Global,
-        catalog: IndexedCatalog<'a>,
-    ) -> Result<SharedCatalog<'a>, AllocError>
+    pub fn new(alloc: Global, catalog: IndexedCatalog<'a>) -> Result<SharedCatalog<'a>, AllocError>
         ensures { IfOk result (λ c. c ≡ catalog.entry) }
     {
         Ok(SharedCatalog {
@@ -178,7 +175,6 @@ impl<'a> Catalogs<'a> {
     fn begun_by(&self, moment: Moment) -> usize
         ensures { IsSplitBy (start_by moment) self.now.items (number_of moment) result }
     {
-        self.dated
-            .partition_point(|dated| dated.has_begun(moment))
+        self.dated.partition_point(|dated| dated.has_begun(moment))
     }
 }

@@ -1,6 +1,6 @@
 //! A table whose regions are those of the catalog that was shown last.
 
-ghost use Rattle.std.specs.Prelude.{◌≡◌, ℕ, ◌≤◌, [], All, IfErr, IfOk, IfSome, OnErr, vec_len};
+ghost use Rattle.std.specs.Prelude.{◌≡◌, ℕ, ◌-◌, ◌<◌, ◌≤◌, [], All, IfErr, IfOk, IfSome, OnErr, vec_len};
 ghost use Rattle.std.specs.Option.{option_copied};
 ghost use Rattle.order_laws.specs.Orders.{half_open};
 ghost use Rattle.latch_table.specs.declared.knowledge.Origin.TheVariants.{Start};
@@ -155,13 +155,7 @@ impl<'a> Follower<'a> {
             (RefusesToShow catalog.now since self.old.writer self.old.catalogs) }
     {
         catalog.indexed().catalog().stays_sound();
-        begin_to_show(
-            &mut self.writer,
-            &mut self.catalogs,
-            catalog,
-            since,
-            tag,
-        )?;
+        begin_to_show(&mut self.writer, &mut self.catalogs, catalog, since, tag)?;
         Ok(self.writer.finish())
     }
 
@@ -201,5 +195,15 @@ impl<'a> Follower<'a> {
         ensures catalogs { self.new.catalogs ≡ self.old.catalogs }
     {
         self.writer.add_reader()
+    }
+
+    /// Gives up a reader of the table, and counts one fewer ([`Writer::take_back`]).
+    pub fn take_back(&mut self, reader: Reader<HalfOpen>)
+        requires { 0 < self.old.writer.readers }
+        ensures writer { self.new.writer
+            ≡ record self.old.writer { readers = self.old.writer.readers - 1 } }
+        ensures catalogs { self.new.catalogs ≡ self.old.catalogs }
+    {
+        self.writer.take_back(reader);
     }
 }

@@ -11,7 +11,7 @@ use clap::{Arg, ArgAction, Command};
 use std::alloc::{AllocError, Global};
 
 /// The version that `--version` tells.
-const VERSION: &str = "1.1.0";
+const VERSION: &str = "1.2.0";
 
 /// What the help ends with.
 const STATUSES: &str = "\

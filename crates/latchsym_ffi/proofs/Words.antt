@@ -59,13 +59,13 @@ pub use Rattle.latchsym_ffi.specs.Named.{IsNamed}
 pub use Rattle.latchsym_ffi.specs.Opening.{AreRead, HasTooManyRegionLines, IsCounted, RefusesTexts, counts_in}
 pub use Rattle.latchsym_ffi.specs.Owning.{owns_content}
 pub use Rattle.latchsym_ffi.specs.Replacing.{RefusesReplacingAs, item_told}
-pub use Rattle.latchsym_ffi.specs.Tables.{first_reader}
+pub use Rattle.latchsym_ffi.specs.Tables.{first_follower, first_reader}
 pub use Rattle.latchsym_ffi.specs.Updates.{item_from}
 pub use Rattle.latchsym_ffi.specs.Viewing.{AreRooms}
 pub use Rattle.latchsym_ffi.specs.Views.{AreRowsOf, IsRegionRow, IsViewOf, entry_of_row, item_of_row, shown_row, symbol_of_row, symbols_at, symbols_below, symbols_of}
 pub use Rattle.latchsym_ffi.specs.declared.answers.Answer.TheVariants.{Done}
 pub use Rattle.latchsym_ffi.specs.declared.contents.Content.{Content}
-pub use Rattle.latchsym_ffi.specs.declared.contents.Content.TheVariants.{Catalog, Reader, Writer}
+pub use Rattle.latchsym_ffi.specs.declared.contents.Content.TheVariants.{Catalog, Follower, Reader, Writer}
 pub use Rattle.latchsym_ffi.specs.declared.handles.Handle.{Handle}
 pub use Rattle.latchsym_ffi.specs.declared.view_rows.ViewRegion.{ViewRegion}
 pub use Rattle.latchsym_ffi.specs.declared.view_rows.ViewSymbol.{ViewSymbol}

@@ -1,16 +1,13 @@
 -- What a follower gives.
-use Rattle.std.specs.Prelude.{◌≡◌, ◌≢◌, ◌⊎◌, ℕ, List, [], ◌∷◌, Option, Some, None}
+use Rattle.std.specs.Prelude.{◌≡◌, ℕ, Option, Some, None}
 use Rattle.modules.specs.Entries.{CatalogEntries}
 use Rattle.order_laws.specs.Refusals.{refusal_number}
-use Rattle.follower.specs.Catalogs.{DropsOldest, Forgets}
+use Rattle.follower.specs.Catalogs.{Forgets}
 use Rattle.follower.specs.Following.{Followed, RefusesToShow}
 use Rattle.follower.specs.declared.catalogs.DatedCatalog.{DatedCatalog}
 use Rattle.follower.specs.declared.catalogs.Moment.{Moment}
 use Rattle.follower.specs.declared.follower.NotShown.{NotShown}
 use Rattle.follower.specs.declared.follower.NotShown.TheVariants.{Refused, StampFalls}
-use Rattle.latch_table.specs.Adding.{AddsReader}
-use Rattle.latch_table.specs.Readers.{ReaderState}
-use Rattle.latch_table.specs.Writers.{WriterState}
 use Rattle.latchsym_ffi.specs.Answers.{answer_number}
 use Rattle.latchsym_ffi.specs.Finding.{Known}
 use Rattle.latchsym_ffi.specs.Named.{IsTold}

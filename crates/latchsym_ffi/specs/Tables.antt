@@ -1,5 +1,5 @@
 -- What the opening of a table gives.
-use Rattle.std.specs.Prelude.{◌≡◌, ℕ, ◌≤◌, ◌<◌, ◌⊎◌, All, List, length, vec_len}
+use Rattle.std.specs.Prelude.{◌≡◌, ℕ, ◌≤◌, ◌<◌, ◌⊎◌, All, List, [], Some, length, vec_len}
 use Rattle.atomic_table.specs.Seated.{TableId}
 use Rattle.word_layout.specs.declared.layouts.Layout.{Layout}
 use Rattle.word_layout.specs.Layouts.{capacity_of, limit_of}
@@ -8,11 +8,12 @@ use Rattle.latch_table.specs.declared.knowledge.Origin.TheVariants.{Start}
 use Rattle.latch_table.specs.Limits.{most_readers}
 use Rattle.latch_table.specs.Readers.{ReaderState, new_reader}
 use Rattle.latch_table.specs.Seats.{first_knowledge}
-use Rattle.latch_table.specs.Writers.{new_writer}
+use Rattle.latch_table.specs.Writers.{WriterState, new_writer}
 use Rattle.latchsym_ffi.specs.declared.opening_tables.Boxes.{Boxes}
-use Rattle.latchsym_ffi.specs.declared.contents.Content.TheVariants.{Reader, Writer}
+use Rattle.latchsym_ffi.specs.declared.contents.Content.{Content}
+use Rattle.latchsym_ffi.specs.declared.contents.Content.TheVariants.{Follower, Reader}
 use Rattle.latchsym_ffi.specs.declared.handles.Handle.{Handle}
-use Rattle.latchsym_ffi.specs.Handles.{HoldsReader, HoldsWriter}
+use Rattle.latchsym_ffi.specs.Handles.{HoldsReader}
 
 -- a layout of so many nodes with 64-bit sequences
 abbrev pub IsWide : ℕ → Layout → Type 0
@@ -26,20 +27,27 @@ AreClosed w readers = (w.kind ≡ 0) × All (λ h. h.kind ≡ 0) readers
 abbrev pub first_reader : TableId → Layout → ReaderState
 first_reader place l = new_reader place (first_knowledge (Start l 0))
 
--- an empty table of so many nodes: its writer in one handle, and a reader in each of the others
-pub record IsOpenedTable (nodes : ℕ) (w : Handle) (readers : List Handle) : Type 0 where
+-- a follower that has shown no catalog
+abbrev pub first_follower : WriterState → Content
+first_follower w = Follower (record { writer = w; catalogs = [] })
+
+-- an empty table of this many nodes: what its writer is the owner of in one handle, and a reader in
+-- each of the others
+pub record IsOpenedTable (owner : WriterState → Content) (nodes : ℕ) (h : Handle)
+    (readers : List Handle) : Type 0 where
   pub place : TableId
   pub layout : Layout
   pub wide : IsWide nodes layout
-  pub writer : HoldsWriter (new_writer place layout 0 (length readers)) w
+  pub owned : h.pointer.content ≡ Some (owner (new_writer place layout 0 (length readers)))
   pub each : All (HoldsReader (first_reader place layout)) readers
 
--- an empty table of so many nodes: its writer and its readers in boxes
-pub record AreOpened (nodes readers : ℕ) (b : Boxes) : Type 0 where
+-- the same in boxes
+pub record AreOpened (owner : WriterState → Content) (nodes readers : ℕ) (b : Boxes)
+    : Type 0 where
   pub place : TableId
   pub layout : Layout
   pub wide : IsWide nodes layout
-  pub writer : b.writer.value ≡ Writer (new_writer place layout 0 readers)
+  pub owned : b.owner.value ≡ owner (new_writer place layout 0 readers)
   pub count : vec_len b.readers ≡ readers
   pub each : All (λ x. x.value ≡ Reader (first_reader place layout)) b.readers.items
 

@@ -57,10 +57,7 @@ fn show_by(
         → RefusesShowing catalog.now since f result }
     ensures other { follower.old.kind ≢ follower_kind → result ≡ 101 }
 {
-    with_follower!(
-        follower,
-        |open| show(open, catalog, since, tag, generation)
-    )
+    with_follower!(follower, |open| show(open, catalog, since, tag, generation))
 }
 
 /// Takes the content of a catalog's handle over into a follower, which shows its regions in one
@@ -87,13 +84,7 @@ pub extern "C" fn latchsym_follower_show(
     let Some(taken) = catalog.take_catalog() else {
         return BAD_HANDLE;
     };
-    let result = show_by(
-        follower,
-        taken.open().shared(),
-        since,
-        tag,
-        generation,
-    );
+    let result = show_by(follower, taken.open().shared(), since, tag, generation);
     if result != DONE {
         catalog.put_catalog(taken);
     }
@@ -101,12 +92,7 @@ pub extern "C" fn latchsym_follower_show(
 }
 
 /// Tells of an address by the catalog that stands at a moment.
-fn tell(
-    follower: &Follower<'static>,
-    moment: Moment,
-    addr: u64,
-    out: &mut CatalogSymbol,
-) -> u32
+fn tell(follower: &Follower<'static>, moment: Moment, addr: u64, out: &mut CatalogSymbol) -> u32
     ensures { TellsStanding (standing_at follower.now.catalogs moment) (λ c. known_at c addr) result
         out.old out.new }
 {
@@ -149,12 +135,10 @@ pub extern "C" fn latchsym_follower_find(
     ensures other { follower.old.kind ≢ follower_kind
         → (result ≡ 101) × (follower.new ≡ follower.old) × (out.new ≡ out.old) }
 {
-    with_follower!(follower, |open| tell(
-        open,
-        Moment::Generation(generation),
-        addr,
-        out
-    ))
+    with_follower!(
+        follower,
+        |open| tell(open, Moment::Generation(generation), addr, out)
+    )
 }
 
 /// Tells of a return address by the catalog that stands at a generation.
@@ -172,12 +156,10 @@ pub extern "C" fn latchsym_follower_find_caller(
     ensures other { follower.old.kind ≢ follower_kind
         → (result ≡ 101) × (follower.new ≡ follower.old) × (out.new ≡ out.old) }
 {
-    with_follower!(follower, |open| tell_caller(
-        open,
-        Moment::Generation(generation),
-        addr,
-        out
-    ))
+    with_follower!(
+        follower,
+        |open| tell_caller(open, Moment::Generation(generation), addr, out)
+    )
 }
 
 /// Tells of an address by the catalog that stands at a stamp.
@@ -211,7 +193,10 @@ pub extern "C" fn latchsym_follower_find_caller_since(
     ensures other { follower.old.kind ≢ follower_kind
         → (result ≡ 101) × (follower.new ≡ follower.old) × (out.new ≡ out.old) }
 {
-    with_follower!(follower, |open| tell_caller(open, Moment::Stamp(at), addr, out))
+    with_follower!(
+        follower,
+        |open| tell_caller(open, Moment::Stamp(at), addr, out)
+    )
 }
 
 /// Tells the tag of a catalog that is gone, or that none is.
@@ -240,10 +225,10 @@ pub extern "C" fn latchsym_follower_forget(
     ensures other { follower.old.kind ≢ follower_kind
         → (result ≡ 101) × (follower.new ≡ follower.old) × (tag.new ≡ tag.old) }
 {
-    with_follower!(follower, |open| tell_tag(
-        open.forget(Moment::Generation(generation)),
-        tag
-    ))
+    with_follower!(
+        follower,
+        |open| tell_tag(open.forget(Moment::Generation(generation)), tag)
+    )
 }
 
 /// Forgets the oldest catalog, if the next one was shown at or before a stamp, and tells its tag.
@@ -258,7 +243,10 @@ pub extern "C" fn latchsym_follower_forget_since(
     ensures other { follower.old.kind ≢ follower_kind
         → (result ≡ 101) × (follower.new ≡ follower.old) × (tag.new ≡ tag.old) }
 {
-    with_follower!(follower, |open| tell_tag(open.forget(Moment::Stamp(at)), tag))
+    with_follower!(
+        follower,
+        |open| tell_tag(open.forget(Moment::Stamp(at)), tag)
+    )
 }
 
 /// Drops the oldest catalog, and tells its tag; closes the handle if there is none.

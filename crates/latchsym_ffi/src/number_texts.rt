@@ -25,7 +25,7 @@ pub extern "C" fn latchsym_place_of_text(number: u32, out: &mut Place)
 /// The version of the library: 10000 of each major, 100 of each minor and 1 of each patch number.
 #[unsafe(no_mangle)]
 pub extern "C" fn latchsym_version() -> u32
-    ensures { result ≡ 10100 }
+    ensures { result ≡ 10200 }
 {
-    10100
+    10200
 }

@@ -1,26 +1,27 @@
 //! Opening a table: all of it, or nothing if memory is refused.
 
-ghost use Rattle.std.specs.Prelude.{◌≡◌, ◌≢◌, ◌↔◌, All, IfOk, IfErr, IsTrue, length};
+ghost use Rattle.std.specs.Prelude.{◌≡◌, ◌≢◌, ◌↔◌, All, IfOk, IfErr, IsTrue, Some, length};
 ghost use Rattle.std.specs.Prelude.{vec_len};
 ghost use Rattle.order_laws.specs.Refusals.{refusal_number};
 ghost use Rattle.latch_table.specs.Readers.{ReaderState};
 ghost use Rattle.latchsym_ffi.specs.declared.contents.Content.TheVariants as content;
 ghost use Rattle.latchsym_ffi.specs.Handles.{HoldsReader};
 ghost use Rattle.latchsym_ffi.specs.Tables.{AreClosed, AreInRange, AreOpened, IsOpenedTable};
-ghost use Rattle.latchsym_ffi.specs.Tables.{RefusesHandles, RefusesTable};
+ghost use Rattle.latchsym_ffi.specs.Tables.{RefusesHandles, RefusesTable, first_follower};
 
 use crate::answers::{BAD_HANDLE, DONE};
 use crate::contents::{CLOSED, Content};
 use crate::handles::Handle;
+use follower::Follower;
 use latch_table::{Reader, open};
 use order_laws::{HalfOpen, Refusal};
 use std::alloc::{AllocError, Global};
 use word_layout::Layout;
 
-/// A writer and its readers, each in a box.
+/// What changes a table, a writer or a follower, and the readers, each in a box.
 #[derive(Drop)]
 pub struct Boxes {
-    writer: Box<Content, Global>,
+    owner: Box<Content, Global>,
     readers: Vec<Box<Content, Global>>,
 }
 
@@ -40,17 +41,42 @@ fn boxed(
     Ok(boxes)
 }
 
+/// What changes a table, and the readers, in boxes.
+fn in_boxes(
+    alloc: Global,
+    owner: Content,
+    readers: Vec<Reader<HalfOpen>>,
+) -> Result<Boxes, AllocError>
+    ensures owner { IfOk result (λ b. b.owner.value ≡ owner) }
+    ensures count { IfOk result (λ b. vec_len b.readers ≡ vec_len readers) }
+    ensures each { (r : ReaderState) → All (λ x. x ≡ r) readers.items
+        → IfOk result (λ b. All (λ x. x.value ≡ content.Reader r) b.readers.items) }
+{
+    let readers = boxed(alloc, readers)?;
+    let owner = Box::new(alloc, owner)?;
+    Ok(Boxes { owner, readers })
+}
+
 /// A table, in boxes.
 fn open_boxes(alloc: Global, nodes: u32, readers: u32) -> Result<Boxes, Refusal>
-    ensures opened { IfOk result (AreOpened nodes readers) }
+    ensures opened { IfOk result (AreOpened content.Writer nodes readers) }
     ensures may { IfOk result (λ _. AreInRange nodes readers) }
     ensures refused { IfErr result (λ e. RefusesTable nodes readers (refusal_number e)) }
 {
     let layout = Layout::wide(nodes)?;
     let (inner, all) = open::<HalfOpen>(alloc, layout, 0, readers)?;
-    let readers = boxed(alloc, all)?;
-    let writer = Box::new(alloc, Content::Writer(inner))?;
-    Ok(Boxes { writer, readers })
+    Ok(in_boxes(alloc, Content::Writer(inner), all)?)
+}
+
+/// A table that a follower changes, in boxes.
+fn open_follower_boxes(alloc: Global, nodes: u32, readers: u32) -> Result<Boxes, Refusal>
+    ensures opened { IfOk result (AreOpened first_follower nodes readers) }
+    ensures may { IfOk result (λ _. AreInRange nodes readers) }
+    ensures refused { IfErr result (λ e. RefusesTable nodes readers (refusal_number e)) }
+{
+    let layout = Layout::wide(nodes)?;
+    let (follower, all) = Follower::open(alloc, layout, 0, readers)?;
+    Ok(in_boxes(alloc, Content::Follower(follower), all)?)
 }
 
 /// Opens each handle with a reader of these.
@@ -82,8 +108,25 @@ fn are_closed(writer: &Handle, readers: &[Handle]) -> bool
     writer.kind == CLOSED && all_closed(readers)
 }
 
-/// Opens an empty table of so many nodes, 1 to 65536: its writer, and a reader in each of 1 to 64
-/// handles.
+/// Opens the handles with what is in the boxes.
+fn put_boxes(alloc: Global, boxes: Boxes, owner: &mut Handle, readers: &mut [Handle]) -> u32
+    requires { vec_len boxes.readers ≡ length readers.old }
+    ensures done { result ≡ 0 }
+    ensures owner { owner.new.pointer.content ≡ Some boxes.owner.value }
+    ensures count { length readers.new ≡ length readers.old }
+    ensures each { (r : ReaderState) → All (λ b. b.value ≡ content.Reader r) boxes.readers.items
+        → All (HoldsReader r) readers.new }
+{
+    let Boxes {
+        owner: content,
+        readers: all,
+    } = boxes;
+    fill(alloc, readers, all);
+    owner.put(content);
+    DONE
+}
+
+/// Opens an empty table of 1 to 65536 nodes: its writer, and a reader in each of 1 to 64 handles.
 #[unsafe(no_mangle)]
 pub extern "C" fn latchsym_table_open_nonnull(
     alloc: Global,
@@ -91,7 +134,7 @@ pub extern "C" fn latchsym_table_open_nonnull(
     writer: &mut Handle,
     readers: &mut [Handle],
 ) -> u32
-    ensures opened { result ≡ 0 → IsOpenedTable nodes writer.new readers.new }
+    ensures opened { result ≡ 0 → IsOpenedTable content.Writer nodes writer.new readers.new }
     ensures count { length readers.new ≡ length readers.old }
     ensures may { result ≡ 0 → AreClosed writer.old readers.old
         × AreInRange nodes (length readers.old) }
@@ -105,15 +148,35 @@ pub extern "C" fn latchsym_table_open_nonnull(
         return Refusal::BadCapacity.number();
     };
     match open_boxes(alloc, nodes, count) {
-        Ok(boxes) => {
-            let Boxes {
-                writer: content,
-                readers: all,
-            } = boxes;
-            fill(alloc, readers, all);
-            writer.put(content);
-            DONE
-        }
+        Ok(boxes) => put_boxes(alloc, boxes, writer, readers),
+        Err(refusal) => refusal.number(),
+    }
+}
+
+/// Opens an empty table of 1 to 65536 nodes: a follower without a catalog, and a reader in each of 1
+/// to 64 handles.
+#[unsafe(no_mangle)]
+pub extern "C" fn latchsym_follower_open_nonnull(
+    alloc: Global,
+    nodes: u32,
+    follower: &mut Handle,
+    readers: &mut [Handle],
+) -> u32
+    ensures opened { result ≡ 0 → IsOpenedTable first_follower nodes follower.new readers.new }
+    ensures count { length readers.new ≡ length readers.old }
+    ensures may { result ≡ 0 → AreClosed follower.old readers.old
+        × AreInRange nodes (length readers.old) }
+    ensures refused { result ≢ 0 → (follower.new ≡ follower.old) × (readers.new ≡ readers.old) }
+    ensures why { result ≢ 0 → RefusesHandles nodes follower.old readers.old result }
+{
+    if !are_closed(follower, readers) {
+        return BAD_HANDLE;
+    }
+    let Ok(count) = u32::try_from(readers.len()) else {
+        return Refusal::BadCapacity.number();
+    };
+    match open_follower_boxes(alloc, nodes, count) {
+        Ok(boxes) => put_boxes(alloc, boxes, follower, readers),
         Err(refusal) => refusal.number(),
     }
 }

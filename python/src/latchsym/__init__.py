@@ -25,9 +25,11 @@ from ._errors import (
     BadItem,
     BadLength,
     BadListing,
+    BadStamp,
     Busy,
     Closed,
     Error,
+    Forgotten,
     Full,
     NoSuchItem,
     OutOfMemory,
@@ -40,7 +42,7 @@ from ._follow import Follower, Sample
 from ._library import lib as _lib
 from ._table import Found, Reader, Step, Table, Writer
 
-__version__ = "1.1.0"
+__version__ = "1.2.0"
 
 
 def library_version() -> int:
@@ -60,6 +62,7 @@ __all__ = [
     "BadItem",
     "BadLength",
     "BadListing",
+    "BadStamp",
     "Busy",
     "Catalog",
     "Closed",
@@ -68,6 +71,7 @@ __all__ = [
     "Error",
     "Factors",
     "Follower",
+    "Forgotten",
     "Found",
     "Full",
     "Item",

@@ -4,6 +4,7 @@
 from __future__ import annotations
 
 import ctypes
+import itertools
 import operator
 import os
 import threading
@@ -188,7 +189,7 @@ class Factors(NamedTuple):
     """For each address how far it lies above its symbol; a column of `Answers`."""
 
 
-def _symbol(number: int, found: it.Symbol, modules: dict[int, str]) -> Symbol | None:
+def symbol_of(number: int, found: it.Symbol, modules: dict[int, str]) -> Symbol | None:
     """What a search has told by its number. `modules` keeps the names by their modules' numbers."""
     if number == it.NOTHING:
         return None
@@ -249,13 +250,13 @@ class View:
         """The symbol of an address, or None where nothing is."""
         found = it.no_symbol()
         number = lib.latchsym_view_find(self._view, word(addr), found)
-        return _symbol(number, found, self._modules)
+        return symbol_of(number, found, self._modules)
 
     def find_caller(self, addr: int) -> Symbol | None:
         """The symbol of a return address, as `Catalog.find_caller` finds it."""
         found = it.no_symbol()
         number = lib.latchsym_view_find_caller(self._view, word(addr), found)
-        return _symbol(number, found, self._modules)
+        return symbol_of(number, found, self._modules)
 
 
 def _close(handle: it.Handle, listings: Sequence[Pinned]) -> None:
@@ -391,7 +392,7 @@ class Catalog:
         word(addr)
         with self._lock:
             number = call(self._handle, addr, self._found)
-            return _symbol(number, self._found, self._modules)
+            return symbol_of(number, self._found, self._modules)
 
     def find_many(self, addresses: Any, out: Answers | None = None) -> Answers:
         """What is told of many addresses, in numbers alone.
@@ -527,15 +528,24 @@ class Catalog:
         ['0xffffffffc0000040']
         """
         wanted = it.encoded(name)
-        owners = [module.number for module in self.modules()] if number is None else [number]
-        for owner in owners:
-            place, entry = c_size_t(0), it.Entry(0, it.no_place())
-            while self._is_there(
-                lib.latchsym_catalog_place_of_name, owner, wanted, len(wanted), place.value, byref(place)
-            ):
-                if self._is_there(lib.latchsym_catalog_symbol, owner, place.value, entry):
-                    yield entry.addr
-                place.value += 1
+        place, entry = c_size_t(0), it.Entry(0, it.no_place())
+        for count in itertools.count():
+            owner = c_uint64(0 if number is None else word(number))
+            with self._lock:
+                if number is None:
+                    got = lib.latchsym_catalog_find_name(
+                        self._handle, wanted, len(wanted), count, byref(owner), byref(place)
+                    )
+                else:
+                    got = lib.latchsym_catalog_place_of_name(
+                        self._handle, owner, wanted, len(wanted), place.value, byref(place)
+                    )
+            if got == it.NOTHING:
+                return
+            check(got)
+            if self._is_there(lib.latchsym_catalog_symbol, owner.value, place.value, entry):
+                yield entry.addr
+            place.value += 1
 
     def _is_there(self, call: Callable[..., int], number: int, *words: Any) -> bool:
         """Whether a call for the module of a number has written its answer."""

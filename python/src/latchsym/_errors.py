@@ -80,12 +80,20 @@ class Busy(Error):
     """Other calls have all readers of the table; the attempt is to be made again."""
 
 
+class Forgotten(Error, LookupError):
+    """The follower has no listing of that moment."""
+
+
 class Closed(Error, ValueError):
     """What the call is of has been closed."""
 
 
 class BadLength(Error, ValueError):
     """There is not as much room as there are addresses."""
+
+
+class BadStamp(Error, ValueError):
+    """The stamp lies below that of a listing shown before."""
 
 
 CLASSES: Dict[int, Type[Error]] = {
@@ -101,7 +109,9 @@ CLASSES: Dict[int, Type[Error]] = {
     15: BadListing,
     23: Retry,
     24: Busy,
+    25: Forgotten,
     101: Closed,
     102: BadLength,
     103: BadListing,
+    104: BadStamp,
 }

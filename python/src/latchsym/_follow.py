@@ -5,13 +5,16 @@ from __future__ import annotations
 
 import os
 import threading
-from bisect import bisect_right
+import time
+from ctypes import byref, c_uint64
 from pathlib import Path
 from types import TracebackType
 from typing import Iterable, NamedTuple, Type
 
-from ._catalog import Catalog, Counts, Item, Symbol, warn_of
-from ._table import Table
+from . import _library as it
+from ._catalog import Catalog, Counts, Item, Symbol, symbol_of, warn_of
+from ._library import check, lib, word
+from ._table import Reader
 
 
 class Sample(NamedTuple):
@@ -40,8 +43,8 @@ class Follower:
     xfs_a
 
     `poll` reads the files again, and shows the regions that they have then to all readers in one
-    update. Each listing is kept until `forget_below`. Any thread may call. What is noted of the first
-    listings is warned of.
+    update. Each listing is kept until `forget_below`, with the time at which it was shown. Any thread
+    may call. What is noted of the first listings is warned of.
     """
 
     def __init__(
@@ -55,17 +58,20 @@ class Follower:
         self._texts: list[bytes | None] = []
         self._polling = threading.RLock()
         self._lock = threading.RLock()
-        self._starts: list[int] = []
-        self._catalogs: list[Catalog] = []
-        self._table = Table(nodes)
+        self._shown: dict[int, Catalog] = {}  # by their tags; each keeps the bytes of its listings
+        self._newest = 0
+        handles = (it.Handle * 2)()
+        self._handle = handles[1]
+        check(lib.latchsym_follower_open(word(nodes, 32), self._handle, handles, 1))
+        self._reader = Reader(handles, handles[0], lib.latchsym_reader_close)
         self.poll()
-        warn_of(self._catalogs[0].counts, self._paths, 3)
+        warn_of(self._shown[self._newest].counts, self._paths, 3)
 
     def poll(self) -> bool:
         """Reads the files again; whether their bytes had changed and are shown.
 
         Files of which something is noted that is not noted of those shown, as of one read without
-        rights, are warned of and not taken: those shown stay. (Of a listing that is cut behind
+        rights, are warned of and not taken: those shown stay. (Of a listing that is cut after
         `_etext` nothing is noted.) One call polls at a time: a second one waits for it and then
         reads for itself, so that no older listing is shown over a newer one. New regions take nodes
         beside old ones.
@@ -86,9 +92,9 @@ class Follower:
     def _is_worse(self, counts: Counts) -> bool:
         """Whether something is noted that is not noted of the listings shown, if there are any."""
         with self._lock:
-            if not self._catalogs:
+            if not self._shown:
                 return False
-            shown = self._catalogs[-1].counts
+            shown = self._shown[self._newest].counts
         return any(
             note not in (None, of_shown)
             for note, of_shown in (
@@ -99,21 +105,19 @@ class Follower:
 
     def _show(self, catalog: Catalog) -> None:
         """Shows the regions of a catalog in one update; closes it if that is refused."""
-        writer = self._table.writer
+        tag, generation = self._newest + 1, c_uint64()
         with self._lock:
-            try:
-                writer.begin_replace(catalog.items())
-            except Exception:
+            answer = lib.latchsym_follower_show(
+                self._handle, catalog._handle, time.monotonic_ns(), tag, byref(generation)
+            )
+            if answer:
                 catalog.close()
-                raise
-            # It is kept before a reader can find what it has.
-            self._starts.append(self._starts[-1] + 1 if self._starts else 1)
-            self._catalogs.append(catalog)
-            writer.finish()
+            check(answer)
+            self._shown[tag], self._newest = catalog, tag
 
     def find(self, address: int) -> Sample:
         """The region that the address lies in now, with the generation of this answer."""
-        found = self._table.readers[0].find(address)
+        found = self._reader.find(address)
         return Sample(address, found.item, found.generation)
 
     def find_many(self, addresses: Iterable[int]) -> list[Sample]:
@@ -121,26 +125,34 @@ class Follower:
         return [self.find(address) for address in addresses]
 
     def name(self, sample: Sample) -> Symbol | None:
-        """The symbol of a sample, by the listing that stood at its generation."""
+        """The symbol of a sample, by the listing that stood at its generation. Raises `Forgotten`
+        where that listing is gone."""
+        return self._name(lib.latchsym_follower_find, sample.generation, sample.address)
+
+    def name_at(self, time_ns: int, address: int) -> Symbol | None:
+        """The symbol of an address by the listing that stood at a time of `time.monotonic_ns`, as
+        perf gives it with CLOCK_MONOTONIC."""
+        return self._name(lib.latchsym_follower_find_since, time_ns, address)
+
+    def _name(self, find: it.Call, moment: int, address: int) -> Symbol | None:
+        found = it.no_symbol()
         with self._lock:
-            place = bisect_right(self._starts, sample.generation)
-            if place == 0:
-                raise LookupError(f"the listing of generation {sample.generation} is forgotten")
-            return self._catalogs[place - 1].find(sample.address)
+            return symbol_of(find(self._handle, word(moment), word(address), found), found, {})
 
     def forget_below(self, generation: int) -> None:
         """Closes each listing that no sample of this generation or a later one needs."""
+        tag = c_uint64()
         with self._lock:
-            while len(self._starts) > 1 and self._starts[1] <= generation:
-                del self._starts[0]
-                self._catalogs.pop(0).close()
+            while lib.latchsym_follower_forget(self._handle, word(generation), byref(tag)) == it.DONE:
+                self._shown.pop(tag.value).close()
 
     def close(self) -> None:
         """Closes the table and all listings."""
+        tag = c_uint64()
         with self._lock:
-            self._table.close()
-            for catalog in self._catalogs:
-                catalog.close()
+            self._reader.close()
+            while lib.latchsym_follower_close(self._handle, byref(tag)) == it.DONE:
+                self._shown.pop(tag.value).close()
 
     def __enter__(self) -> Follower:
         return self

@@ -10,13 +10,15 @@ import shutil
 import site
 import sys
 from ctypes import POINTER, c_char, c_size_t, c_uint8, c_uint32, c_uint64, c_void_p
-from typing import Iterator
+from typing import Callable, Iterator
 
 from . import _errors
 
+Call = Callable[..., int]
+
 MAJOR = 1  # of the header that this file repeats
 
-DONE, NO_SYMBOL, NOTHING, RETRY, BUSY = 0, 21, 22, 23, 24
+DONE, NO_SYMBOL, NOTHING, RETRY, BUSY, FORGOTTEN = 0, 21, 22, 23, 24, 25
 BAD_CAPACITY, BAD_LINE, FLIP, STORE, BAD_HANDLE = 10, 15, 31, 32, 101
 
 
@@ -151,6 +153,10 @@ CALLS = {
         [_HANDLE, c_uint64, POINTER(c_char), c_size_t, c_size_t, POINTER(c_size_t)],
         True,
     ),
+    "latchsym_catalog_find_name": (
+        [_HANDLE, POINTER(c_char), c_size_t, c_size_t, POINTER(c_uint64), POINTER(c_size_t)],
+        True,
+    ),
     "latchsym_catalog_sizes": ([_HANDLE, POINTER(Sizes)], True),
     "latchsym_catalog_flatten": (
         [_HANDLE, c_void_p, c_size_t, c_void_p, c_size_t, c_void_p, c_size_t, POINTER(View)],
@@ -179,6 +185,16 @@ CALLS = {
     "latchsym_reader_try_find": ([_HANDLE, c_uint64, POINTER(Found)], True),
     "latchsym_reader_find_name": ([_HANDLE, _HANDLE, c_uint64, POINTER(Found), *_ROOMS], True),
     "latchsym_reader_close": ([_HANDLE], False),
+    "latchsym_follower_open": ([c_uint32, _HANDLE, _HANDLE, c_size_t], True),
+    "latchsym_follower_add_reader": ([_HANDLE, _HANDLE], True),
+    "latchsym_follower_show": ([_HANDLE, _HANDLE, c_uint64, c_uint64, POINTER(c_uint64)], True),
+    "latchsym_follower_find": ([_HANDLE, c_uint64, c_uint64, POINTER(Symbol)], True),
+    "latchsym_follower_find_caller": ([_HANDLE, c_uint64, c_uint64, POINTER(Symbol)], True),
+    "latchsym_follower_find_since": ([_HANDLE, c_uint64, c_uint64, POINTER(Symbol)], True),
+    "latchsym_follower_find_caller_since": ([_HANDLE, c_uint64, c_uint64, POINTER(Symbol)], True),
+    "latchsym_follower_forget": ([_HANDLE, c_uint64, POINTER(c_uint64)], True),
+    "latchsym_follower_forget_since": ([_HANDLE, c_uint64, POINTER(c_uint64)], True),
+    "latchsym_follower_close": ([_HANDLE, POINTER(c_uint64)], True),
 }
 
 # Those of them that the header lets take null pointers: the library's own have names that end in
@@ -186,11 +202,13 @@ CALLS = {
 NONNULL = {
     "latchsym_catalog_close",
     "latchsym_catalog_find_many",
+    "latchsym_catalog_find_name",
     "latchsym_catalog_flatten",
     "latchsym_catalog_items",
     "latchsym_catalog_name",
     "latchsym_catalog_open",
     "latchsym_catalog_place_of_name",
+    "latchsym_follower_open",
     "latchsym_reader_close",
     "latchsym_reader_find_name",
     "latchsym_table_enlarge",

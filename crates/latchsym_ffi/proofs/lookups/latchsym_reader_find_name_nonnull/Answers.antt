@@ -1,10 +1,11 @@
-use Rattle.latchsym_ffi.proofs.Words.{◌≡◌, ◌∙◌, Option, Some, None, [], refl, rules, sym, half_open, found_holds, replay, Answered, ReaderState, looked_answers, Content, Catalog, Reader, Writer, kind_in, reader_kind}
+use Rattle.latchsym_ffi.proofs.Words.{◌≡◌, ◌∙◌, Option, Some, None, [], refl, rules, sym, half_open, found_holds, replay, Answered, ReaderState, looked_answers, Content, Catalog, Follower, Reader, Writer, kind_in, reader_kind}
 use Rattle.latchsym_ffi.proofs.lookups.latchsym_reader_find_name_nonnull.Goals as goal
 
 reader_of : (held : Option Content) → kind_in held ≡ reader_kind → (r : ReaderState) × (held ≡ Some (Reader r))
 reader_of None e = absurd (cc)
 reader_of (Some (Catalog k)) e = absurd (cc)
 reader_of (Some (Writer w)) e = absurd (cc)
+reader_of (Some (Follower f)) e = absurd (cc)
 reader_of (Some (Reader r)) e = (r, refl)
 
 pub name_in-requires-clause-there : goal.name_in-requires-clause-there

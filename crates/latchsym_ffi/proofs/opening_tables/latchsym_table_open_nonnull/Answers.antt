@@ -8,6 +8,6 @@ returns-in-Ok-open_boxes-clause-opened c zero =
       place = o.place;
       layout = o.layout;
       wide = o.wide;
-      writer = c.put.ensures ∙ ap Some (o.writer ∙ ap (λ n. Writer (new_writer o.place o.layout 0 n)) (c.in-Ok.ensures.1 ∙ sym c.fill.ensures.count));
-      each = c.fill.ensures.each (first_reader o.place o.layout) o.each;
+      owned = c.put_boxes.ensures.owner ∙ ap Some (o.owned ∙ ap (λ n. Writer (new_writer o.place o.layout 0 n)) (c.in-Ok.ensures.1 ∙ sym c.put_boxes.ensures.count));
+      each = c.put_boxes.ensures.each (first_reader o.place o.layout) o.each;
     }

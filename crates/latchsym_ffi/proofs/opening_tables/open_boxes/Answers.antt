@@ -7,7 +7,7 @@ returns-clause-opened c =
       place = c.in_ok-inner.inner.place;
       layout = c.in_ok-layout.layout;
       wide = (c.in_ok-layout.ensures.capacity, c.in_ok-layout.ensures.limit);
-      writer = c.in_ok-writer.ensures.ok ∙ ap Writer c.in_ok-inner.ensures.writer;
-      count = c.in_ok-readers.ensures.count ∙ c.in_ok-inner.ensures.readers.0;
-      each = c.in_ok-readers.ensures.each (first_reader c.in_ok-inner.inner.place c.in_ok-layout.layout) c.in_ok-inner.ensures.readers.1;
+      owned = c.in_ok-in_boxes.ensures.owner ∙ ap Writer c.in_ok-inner.ensures.writer;
+      count = c.in_ok-in_boxes.ensures.count ∙ c.in_ok-inner.ensures.readers.0;
+      each = c.in_ok-in_boxes.ensures.each (first_reader c.in_ok-inner.inner.place c.in_ok-layout.layout) c.in_ok-inner.ensures.readers.1;
     }

@@ -1,0 +1,163 @@
+// SPDX-License-Identifier: MIT OR Apache-2.0
+use crate::{catalog::symbol_told, sys, Error, Listings, Readers, Symbol};
+use std::{cell::UnsafeCell, collections::BTreeMap, fmt};
+
+/// Opens a follower without a listing over an empty table of 1 to 65536 nodes with 1 to 64 readers.
+///
+/// ```
+/// let (mut follower, mut readers) = latchsym::follower(64, 1)?;
+/// let old = follower.show(b"ffffffffc0000010 t ext4_a\t[ext4]\n".to_vec(), None, 10)?;
+/// let found = readers.get(0).unwrap().find(0xffffffffc0000018)?;
+/// follower.show(b"ffffffffc0000010 t xfs_a\t[xfs]\n".to_vec(), None, 20)?;
+/// assert_eq!(found.generation, old);
+/// assert_eq!(follower.find(old, 0xffffffffc0000018)?.unwrap().name, Some(&b"ext4_a"[..]));
+/// assert_eq!(follower.find_since(25, 0xffffffffc0000018)?.unwrap().name, Some(&b"xfs_a"[..]));
+/// # Ok::<(), latchsym::Error>(())
+/// ```
+pub fn follower(nodes: u32, readers: usize) -> Result<(Follower, Readers), Error> {
+    follower_with_room(nodes, readers, readers)
+}
+
+/// Opens one as [`follower`] does, with room for this many readers in all.
+pub fn follower_with_room(
+    nodes: u32,
+    count: usize,
+    room: usize,
+) -> Result<(Follower, Readers), Error> {
+    let readers = Readers::closed(count, room)?;
+    let handle = Box::new(UnsafeCell::new(sys::Handle::CLOSED));
+    let follower = Follower { handle, shown: BTreeMap::new(), newest: 0 };
+    // SAFETY: the handles are closed, and as many as are told.
+    Error::check(unsafe {
+        sys::latchsym_follower_open(nodes, follower.handle(), readers.handles(), count)
+    })?;
+    Ok((follower, readers))
+}
+
+/// A table that follows a listing as it changes, and the listings that it showed. An address is named
+/// by the listing that stood at a generation, which a reader gives, or at a stamp of the caller's.
+pub struct Follower {
+    handle: Box<UnsafeCell<sys::Handle>>,
+    /// The bytes of each listing, by its tag: its catalog points into them.
+    shown: BTreeMap<u64, (Vec<u8>, Option<Vec<u8>>)>,
+    newest: u64,
+}
+
+// SAFETY: between two calls a handle may go to another thread.
+unsafe impl Send for Follower {}
+
+impl Follower {
+    fn handle(&self) -> *mut sys::Handle {
+        self.handle.get()
+    }
+
+    /// Shows the regions of a listing in one update, and keeps it. Returns the generation from which
+    /// it stands. The stamp does not fall. A refusal changes nothing.
+    pub fn show(
+        &mut self,
+        kallsyms: Vec<u8>,
+        modules: Option<Vec<u8>>,
+        since: u64,
+    ) -> Result<u64, Error> {
+        let mut listings = Listings::new(&kallsyms);
+        listings.modules = modules.as_deref();
+        let catalog = listings.open()?;
+        let (tag, mut generation) = (self.newest + 1, 0);
+        // SAFETY: both handles are in no other call. The bytes stay where they are until their tag
+        // is told: a vector that is moved keeps its place in memory.
+        Error::check(unsafe {
+            sys::latchsym_follower_show(
+                self.handle(),
+                catalog.handle(),
+                since,
+                tag,
+                &mut generation,
+            )
+        })?;
+        drop(catalog);
+        self.shown.insert(tag, (kallsyms, modules));
+        self.newest = tag;
+        Ok(generation)
+    }
+
+    /// The symbol of an address by the listing that stood at a generation. Refused by
+    /// [`Error::Forgotten`].
+    pub fn find(&self, generation: u64, addr: u64) -> Result<Option<Symbol<'_>>, Error> {
+        self.found(sys::latchsym_follower_find, generation, addr)
+    }
+
+    /// That of a return address.
+    pub fn find_caller(&self, generation: u64, addr: u64) -> Result<Option<Symbol<'_>>, Error> {
+        self.found(sys::latchsym_follower_find_caller, generation, addr)
+    }
+
+    /// The symbol of an address by the last listing that was shown at or before a stamp.
+    pub fn find_since(&self, at: u64, addr: u64) -> Result<Option<Symbol<'_>>, Error> {
+        self.found(sys::latchsym_follower_find_since, at, addr)
+    }
+
+    /// That of a return address.
+    pub fn find_caller_since(&self, at: u64, addr: u64) -> Result<Option<Symbol<'_>>, Error> {
+        self.found(sys::latchsym_follower_find_caller_since, at, addr)
+    }
+
+    fn found(
+        &self,
+        find: unsafe extern "C" fn(*mut sys::Handle, u64, u64, *mut sys::Symbol) -> u32,
+        moment: u64,
+        addr: u64,
+    ) -> Result<Option<Symbol<'_>>, Error> {
+        let mut out = sys::Symbol::NONE;
+        // SAFETY: the handle is open, and in no other call: a follower is on one thread at a time.
+        let number = unsafe { find(self.handle(), moment, addr, &mut out) };
+        if number != sys::NO_SYMBOL && !Error::is_there(number)? {
+            return Ok(None);
+        }
+        // SAFETY: the names lie in listings that stay while this follower is borrowed.
+        Ok(unsafe { symbol_told(number, &out) })
+    }
+
+    /// Forgets each listing that no sample of this generation or a later one needs.
+    pub fn forget(&mut self, generation: u64) {
+        self.gone(sys::latchsym_follower_forget, generation);
+    }
+
+    /// Forgets each listing that no sample of this stamp or a later one needs.
+    pub fn forget_since(&mut self, at: u64) {
+        self.gone(sys::latchsym_follower_forget_since, at);
+    }
+
+    fn gone(
+        &mut self,
+        forget: unsafe extern "C" fn(*mut sys::Handle, u64, *mut u64) -> u32,
+        moment: u64,
+    ) {
+        let mut tag = 0;
+        // SAFETY: the handle is open and in no other call.
+        while unsafe { forget(self.handle(), moment, &mut tag) } == sys::DONE {
+            self.shown.remove(&tag);
+        }
+    }
+
+    /// One more reader, where the readers have room: [`follower_with_room`].
+    pub fn add_reader(&mut self, readers: &mut Readers) -> Result<(), Error> {
+        readers.add(|reader| {
+            // SAFETY: the reader's handle is closed, and the follower's is in no other call.
+            unsafe { sys::latchsym_follower_add_reader(self.handle(), reader) }
+        })
+    }
+}
+
+impl Drop for Follower {
+    fn drop(&mut self) {
+        let mut tag = 0;
+        // SAFETY: the handle is in no other call, and the listings are freed after it is closed.
+        while unsafe { sys::latchsym_follower_close(self.handle(), &mut tag) } == sys::DONE {}
+    }
+}
+
+impl fmt::Debug for Follower {
+    fn fmt(&self, out: &mut fmt::Formatter<'_>) -> fmt::Result {
+        out.debug_struct("Follower").field("listings", &self.shown.len()).finish_non_exhaustive()
+    }
+}
