@@ -4,7 +4,7 @@
 # several threads, the table on threads, beside signals and at each stop of its writer, calls inside
 # calls, readers that are added and taken back, readers that calls share, each request for memory
 # refused, files that are read and each call for that refused, items replaced, code that is sampled
-# while it comes and goes, a listing that is followed while it changes, the listings of examples/ as
+# while it comes and goes, a listing that is followed while it changes and named by its time, the listings of examples/ as
 # `latchsym lookup` answers, its logs as `latchsym annotate` writes them, and addresses of this
 # machine's kernel as libbcc answers; under valgrind and sanitizers where these are there, and names of
 # 700 bytes under gcc's own for addresses. Looks at the object code that a call for signal handlers
@@ -19,7 +19,7 @@ compile() {
     gcc -std=gnu11 -Wall -Wextra -Werror -O2 -I"$top/include" "$top/tests/c/$1.c" "$library" -lpthread -o "$work/$1" "${@:2}"
 }
 
-for name in numbers nulls order find view table adding pool stops nested replace refused; do
+for name in numbers nulls order find view table adding pool stops nested replace refused following; do
     compile $name
     "$work/$name"
 done
@@ -42,7 +42,7 @@ if command -v valgrind >/dev/null; then
 fi
 compile table -g
 compile adding -g
-for name in nulls find view; do
+for name in nulls find view following; do
     if compile $name -g -fsanitize=address,undefined 2>/dev/null; then
         "$work/$name"
     fi

@@ -1,9 +1,8 @@
 /* SPDX-License-Identifier: MIT OR Apache-2.0 */
 /* A profiler that follows a listing as it changes. One thread reads the listing again each second, and when it is told
- * to by a line; where its bytes have changed it gives the table the regions that it has then, all at once. (The time of
- * /proc/kallsyms stands still.) A listing that cannot be read, or of which something is noted that is not noted of the
- * one shown, as of one read without rights, is told of and not taken. (Nothing is noted of one that is cut after
- * _etext.)
+ * to by a line; where its bytes have changed it shows the follower its catalog. (The time of /proc/kallsyms stands
+ * still.) A listing that cannot be read, or of which something is noted that is not noted of the one shown, as of one
+ * read without rights, is told of and not taken. (Nothing is noted of one that is cut after _etext.)
  *
  * SIGPROF samples other threads, which look the address up in the handler and keep it with the generation of the
  * answer. The main thread names each sample by the listing that stood at its generation, and frees the listings that
@@ -40,19 +39,19 @@ struct sample { uint64_t addr, generation; };
  * thread takes them out at `taken`. */
 struct thread {
     pthread_t id;
-    struct latchsym_reader *reader;
+    struct latchsym_reader reader;
     uint64_t drawn;
     struct sample ring[ROOM];
     atomic_size_t put, taken;
-    atomic_long given_up, dropped;
+    atomic_long lost;
     uint64_t passed; /* the generation of the sample that was taken out last */
 };
 
 static const char *symbols_name, *modules_name;
 static struct thread threads[THREADS];
 static struct latchsym_follower follower;
-static struct listing *shown; /* the newest, which is the watcher's alone */
 static pthread_mutex_t following = PTHREAD_MUTEX_INITIALIZER; /* one call on the follower at a time */
+static struct listing *shown; /* the newest, which is the watcher's alone */
 static atomic_ullong first_addr, span;
 static atomic_int ended;
 static _Thread_local struct thread *self;
@@ -63,80 +62,57 @@ static void must(uint32_t answer) {
     exit(1);
 }
 
-/* ---- samples ---- */
-
-/* An address in place of the one that the kernel would hand over. */
-static uint64_t draw(struct thread *thread) {
-    thread->drawn ^= thread->drawn << 13, thread->drawn ^= thread->drawn >> 7, thread->drawn ^= thread->drawn << 17;
-    return atomic_load(&first_addr) + thread->drawn % atomic_load(&span);
-}
-
 /* The handler: no lock, no memory. A reader asks again only where the writer flipped meanwhile. */
 static void sample(int number) {
     struct latchsym_found found;
-    uint64_t addr = draw(self);
-    size_t put = atomic_load(&self->put);
     uint32_t answer = LATCHSYM_RETRY;
     (void)number;
+    if (!self) return; /* the signal came to another thread */
+    self->drawn ^= self->drawn << 13, self->drawn ^= self->drawn >> 7, self->drawn ^= self->drawn << 17;
+    uint64_t addr = atomic_load(&first_addr) + self->drawn % atomic_load(&span);
+    size_t put = atomic_load(&self->put);
     for (int tries = 0; answer == LATCHSYM_RETRY && tries < MOST_TRIES; tries++)
-        answer = latchsym_reader_try_find(self->reader, addr, &found);
-    if (answer == LATCHSYM_RETRY) {
-        atomic_fetch_add(&self->given_up, 1);
-    } else if (put - atomic_load(&self->taken) == ROOM) {
-        atomic_fetch_add(&self->dropped, 1);
-    } else {
-        self->ring[put % ROOM] = (struct sample){addr, found.generation};
-        atomic_store(&self->put, put + 1);
+        answer = latchsym_reader_try_find(&self->reader, addr, &found);
+    if (answer == LATCHSYM_RETRY || put - atomic_load(&self->taken) == ROOM) {
+        atomic_fetch_add(&self->lost, 1);
+        return;
     }
+    self->ring[put % ROOM] = (struct sample){addr, found.generation};
+    atomic_store(&self->put, put + 1);
 }
 
 static void *work(void *thread) {
-    sigset_t prof;
     volatile unsigned x = 1;
     self = thread;
-    sigemptyset(&prof);
-    sigaddset(&prof, SIGPROF);
-    pthread_sigmask(SIG_UNBLOCK, &prof, NULL); /* the other threads have it blocked */
     while (!atomic_load(&ended)) x = x * 1664525 + 1013904223;
-    pthread_sigmask(SIG_BLOCK, &prof, NULL);
+    self = NULL;
     return NULL;
 }
-
-/* ---- the listing ---- */
 
 static void free_listing(struct listing *old) {
     free((void *)old->symbols.at), free((void *)old->modules.at), free(old);
 }
 
-/* Where an address is drawn from: the regions of a catalog. */
-static size_t set_span(struct latchsym_catalog *catalog) {
-    struct latchsym_sizes sizes;
-    struct latchsym_item *items;
-    must(latchsym_catalog_sizes(catalog, &sizes));
-    items = calloc(sizes.regions + 1, sizeof *items);
-    if (!items) must(LATCHSYM_OUT_OF_MEMORY);
-    must(latchsym_catalog_items(catalog, items, sizes.regions));
-    if (sizes.regions) {
-        atomic_store(&first_addr, items[0].a);
-        atomic_store(&span, items[sizes.regions - 1].b - items[0].a);
-    }
-    free(items);
-    return sizes.regions;
-}
-
-/* Shows the catalog to all readers, in one update. The follower keeps it, and tells the listing when it has forgotten
- * it. */
+/* Shows the catalog to all readers, in one update. The follower keeps it, and tells the listing once it is gone. */
 static void show(struct listing *new, struct latchsym_catalog *catalog) {
-    size_t regions = set_span(catalog);
+    static struct latchsym_item items[NODES];
+    struct latchsym_sizes sizes;
     struct timespec now;
     uint64_t generation;
+    must(latchsym_catalog_sizes(catalog, &sizes));
+    if (sizes.regions > NODES) must(LATCHSYM_FULL);
+    must(latchsym_catalog_items(catalog, items, sizes.regions));
     clock_gettime(CLOCK_MONOTONIC, &now);
     pthread_mutex_lock(&following);
     must(latchsym_follower_show(&follower, catalog, now.tv_sec * 1000000000ull + (uint64_t)now.tv_nsec,
                                 (uintptr_t)new, &generation));
     pthread_mutex_unlock(&following);
     shown = new;
-    printf("listing %llu: %zu regions of %zu bytes\n", (unsigned long long)generation, regions, new->symbols.len);
+    if (sizes.regions) { /* where addresses are drawn from */
+        atomic_store(&first_addr, items[0].a);
+        atomic_store(&span, items[sizes.regions - 1].b - items[0].a);
+    }
+    printf("listing %llu: %zu regions of %zu bytes\n", (unsigned long long)generation, sizes.regions, new->symbols.len);
     fflush(stdout);
 }
 
@@ -153,15 +129,6 @@ static int are_same(struct latchsym_place x, struct latchsym_place y) {
     return x.len == y.len && (!x.len || !memcmp(x.at, y.at, x.len));
 }
 
-static void open_listing(struct listing *new, struct latchsym_catalog *catalog) {
-    struct latchsym_listings given = LATCHSYM_LISTINGS_INIT;
-    struct latchsym_counts counts;
-    uint64_t line;
-    given.kallsyms = new->symbols, given.modules = new->modules, given.has_modules = *modules_name != 0;
-    must(latchsym_catalog_open(&given, catalog, &counts, &line));
-    new->symbols_note = counts.symbols_note, new->modules_note = counts.modules_note;
-}
-
 /* Whether something is noted that is not noted of the listing shown, which is told. */
 static int is_noted(const char *name, uint32_t note, uint32_t of_shown) {
     if (note == LATCHSYM_NOTHING || note == of_shown) return 0;
@@ -172,11 +139,17 @@ static int is_noted(const char *name, uint32_t note, uint32_t of_shown) {
 /* Whether a listing is to be shown: the first one, and each that is another than the one shown and no worse. Its
  * catalog is open then. */
 static int is_to_be_shown(struct listing *new, struct latchsym_catalog *catalog) {
-    int is_worse;
-    if (shown && are_same(new->symbols, shown->symbols) && are_same(new->modules, shown->modules)) return 0;
-    open_listing(new, catalog);
-    is_worse = is_noted(symbols_name, new->symbols_note, shown ? shown->symbols_note : LATCHSYM_NOTHING);
-    is_worse |= is_noted(modules_name, new->modules_note, shown ? shown->modules_note : LATCHSYM_NOTHING);
+    const struct listing none = {.symbols_note = LATCHSYM_NOTHING, .modules_note = LATCHSYM_NOTHING};
+    const struct listing *old = shown ? shown : &none;
+    struct latchsym_listings given = LATCHSYM_LISTINGS_INIT;
+    struct latchsym_counts counts;
+    uint64_t line;
+    if (shown && are_same(new->symbols, old->symbols) && are_same(new->modules, old->modules)) return 0;
+    given.kallsyms = new->symbols, given.modules = new->modules, given.has_modules = *modules_name != 0;
+    must(latchsym_catalog_open(&given, catalog, &counts, &line));
+    new->symbols_note = counts.symbols_note, new->modules_note = counts.modules_note;
+    int is_worse = is_noted(symbols_name, new->symbols_note, old->symbols_note);
+    is_worse |= is_noted(modules_name, new->modules_note, old->modules_note);
     return !shown || !is_worse;
 }
 
@@ -186,32 +159,25 @@ static void read_listing(void) {
     if (!new) must(LATCHSYM_OUT_OF_MEMORY);
     if (read_files(new) && is_to_be_shown(new, &catalog)) {
         show(new, &catalog);
-    } else {
-        latchsym_catalog_close(&catalog); /* and only now the bytes that it points into */
-        free_listing(new);
+        return;
     }
+    latchsym_catalog_close(&catalog); /* and only now the bytes that it points into */
+    free_listing(new);
 }
 
 /* Reads the listing again each time that a line says so, and each second. */
 static void *watch(void *unused) {
     struct pollfd told = {STDIN_FILENO, POLLIN, 0};
     char bytes[256];
-    for (;;) {
-        ssize_t got = 0;
-        if (poll(&told, 1, SECOND) > 0 && (got = read(STDIN_FILENO, bytes, sizeof bytes)) <= 0) break;
-        read_listing();
-    }
+    while (poll(&told, 1, SECOND) <= 0 || read(STDIN_FILENO, bytes, sizeof bytes) > 0) read_listing();
     atomic_store(&ended, 1);
     return unused;
 }
 
-/* ---- names ---- */
-
 static void name_sample(const struct sample *it) {
     struct latchsym_symbol symbol = LATCHSYM_SYMBOL_INIT;
-    uint32_t answer;
     pthread_mutex_lock(&following);
-    answer = latchsym_follower_find(&follower, it->generation, it->addr, &symbol);
+    uint32_t answer = latchsym_follower_find(&follower, it->generation, it->addr, &symbol);
     pthread_mutex_unlock(&following);
     printf("%llu 0x%llx ", (unsigned long long)it->generation, (unsigned long long)it->addr);
     if (answer == LATCHSYM_DONE)
@@ -222,71 +188,53 @@ static void name_sample(const struct sample *it) {
     putchar('\n');
 }
 
-/* The samples of a thread that are there. Its reader's generations never fall, so none before that of the last one
- * comes any more. */
-static long name_samples(struct thread *thread) {
-    size_t put = atomic_load(&thread->put), taken = atomic_load(&thread->taken);
-    long named = (long)(put - taken);
-    for (; taken != put; taken++) {
-        name_sample(&thread->ring[taken % ROOM]);
-        thread->passed = thread->ring[taken % ROOM].generation;
+/* Names the samples of all threads, and frees each listing whose successor every thread has passed: a reader's
+ * generations never fall, so no sample before that of the last one comes any more. */
+static long name_samples(void) {
+    uint64_t passed = UINT64_MAX, tag;
+    long named = 0;
+    for (struct thread *thread = threads; thread < threads + THREADS; thread++) {
+        size_t put = atomic_load(&thread->put), taken = atomic_load(&thread->taken);
+        for (; taken != put; taken++, named++) {
+            name_sample(&thread->ring[taken % ROOM]);
+            thread->passed = thread->ring[taken % ROOM].generation;
+        }
+        atomic_store(&thread->taken, taken);
+        if (thread->passed < passed) passed = thread->passed;
     }
-    atomic_store(&thread->taken, taken);
+    pthread_mutex_lock(&following);
+    while (latchsym_follower_forget(&follower, passed, &tag) == LATCHSYM_DONE) free_listing((void *)(uintptr_t)tag);
+    pthread_mutex_unlock(&following);
     return named;
 }
 
-/* Frees each listing that no sample can need any more: every thread has passed its successor. */
-static void forget_what_all_passed(void) {
-    uint64_t passed = UINT64_MAX, tag;
-    uint32_t answer;
-    for (int i = 0; i < THREADS; i++)
-        if (threads[i].passed < passed) passed = threads[i].passed;
-    do {
-        pthread_mutex_lock(&following);
-        answer = latchsym_follower_forget(&follower, passed, &tag);
-        pthread_mutex_unlock(&following);
-        if (answer == LATCHSYM_DONE) free_listing((void *)(uintptr_t)tag);
-    } while (answer == LATCHSYM_DONE);
-}
-
 int main(int count, char **words) {
-    static struct latchsym_reader readers[THREADS];
+    struct latchsym_reader readers[THREADS] = {0};
     struct sigaction action = {.sa_handler = sample, .sa_flags = SA_RESTART};
     struct itimerval each_ms = {{0, 1000}, {0, 1000}}, never = {{0, 0}, {0, 0}};
-    long named = 0, given_up = 0, dropped = 0;
     pthread_t watcher;
+    long named = 0, lost = 0;
     uint64_t tag;
-    sigset_t prof;
     if (count != 3) return fprintf(stderr, "usage: follow KALLSYMS MODULES\n"), 2;
     symbols_name = words[1], modules_name = words[2];
     atomic_store(&span, 1);
-    sigemptyset(&prof);
-    sigaddset(&prof, SIGPROF);
-    pthread_sigmask(SIG_BLOCK, &prof, NULL);
     must(latchsym_follower_open(NODES, &follower, readers, THREADS));
     read_listing();
     if (!shown) return 1;
     sigaction(SIGPROF, &action, NULL);
     for (int i = 0; i < THREADS; i++) {
-        threads[i].reader = &readers[i], threads[i].drawn = 88172645463325252u + (uint64_t)i, threads[i].passed = 1;
+        threads[i].reader = readers[i], threads[i].drawn = 88172645463325252u + (uint64_t)i, threads[i].passed = 1;
         if (pthread_create(&threads[i].id, NULL, work, &threads[i])) return 1;
     }
     if (pthread_create(&watcher, NULL, watch, NULL)) return 1;
     setitimer(ITIMER_PROF, &each_ms, NULL);
-    while (!atomic_load(&ended)) {
-        usleep(20000);
-        forget_what_all_passed();
-        for (int i = 0; i < THREADS; i++) named += name_samples(&threads[i]);
-    }
+    while (!atomic_load(&ended)) usleep(20000), named += name_samples();
     setitimer(ITIMER_PROF, &never, NULL);
     pthread_join(watcher, NULL);
-    for (int i = 0; i < THREADS; i++) {
-        pthread_join(threads[i].id, NULL);
-        named += name_samples(&threads[i]);
-        given_up += threads[i].given_up, dropped += threads[i].dropped;
-        latchsym_reader_close(&readers[i]);
-    }
+    for (int i = 0; i < THREADS; i++) pthread_join(threads[i].id, NULL);
+    named += name_samples();
+    for (int i = 0; i < THREADS; i++) lost += threads[i].lost, latchsym_reader_close(&threads[i].reader);
     while (latchsym_follower_close(&follower, &tag) == LATCHSYM_DONE) free_listing((void *)(uintptr_t)tag);
-    fprintf(stderr, "follow: %ld samples named, %ld given up, %ld without room\n", named, given_up, dropped);
+    fprintf(stderr, "follow: %ld samples named, %ld lost\n", named, lost);
     return 0;
 }

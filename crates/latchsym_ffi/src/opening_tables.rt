@@ -177,6 +177,6 @@ pub extern "C" fn latchsym_follower_open_nonnull(
     };
     match open_follower_boxes(alloc, nodes, count) {
         Ok(boxes) => put_boxes(alloc, boxes, follower, readers),
-        Err(refusal) => refusal.number(),
+        Err(refused) => refused.number(),
     }
 }
