@@ -19,7 +19,7 @@ use std::alloc::{AllocError, Global};
 pub(crate) struct Admission<'a> {
     /// The regions of the kernel itself, and the accepted modules in the order of their lines.
     pub(crate) accepted: PlacedModules<'a>,
-    /// The regions that those of a further module are to lie apart from.
+    /// The regions that a further module's have to lie apart from.
     taken: Regions,
     /// How many lines have the name of an accepted one.
     pub(crate) double: u64,

@@ -21,7 +21,7 @@ pub enum Asked<'q> {
 }
 
 impl Asked<'_> {
-    /// Whether so many are asked that it costs less to put so many symbols into buckets than to
+    /// Whether there are so many lookups that it costs less to put the symbols into buckets than to
     /// seek each in the whole list.
     pub(crate) fn pays_buckets(self, symbols: usize) -> bool {
         match self {
@@ -31,7 +31,7 @@ impl Asked<'_> {
     }
 
     /// Whether more of the addresses lie in these regions than so many symbols are gone through
-    /// for. They are counted only where that costs less than the copies.
+    /// for. They are counted only if that costs less than the copies.
     pub(crate) fn pays_copies(self, regions: &[Region], symbols: usize) -> bool {
         match self {
             Asked::Any => true,

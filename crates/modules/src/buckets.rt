@@ -22,7 +22,7 @@ ghost use Rattle.modules.specs.Index.{IsBorder, IsFirstBorder, IsSplitBy};
 
 use std::alloc::{AllocError, Global};
 
-/// What stands at an address: a symbol, or the entry of one in an index.
+/// What has an address: a symbol, or the entry of one in an index.
 pub(crate) trait Addressed {
     /// The address, as contracts see it.
     ghost addr_of: { Self → ℕ };
@@ -35,7 +35,7 @@ pub(crate) trait Addressed {
 /// Among how many of its bucket the first above an address mostly is.
 const MOST_IN_BUCKET: usize = 4;
 
-/// How many of the next `N` are not above the address, where so many stand there.
+/// How many of the next `N` entries from `from` on are at or below `addr`; none if fewer are left.
 ///
 /// They are counted and not sought, since a processor that guesses wrongly where a search ends
 /// loses what it has begun of the next.
@@ -71,7 +71,7 @@ fn bisect<T: Addressed>(listed: &[T], from: usize, to: usize, addr: u64) -> usiz
     from + listed[from..to].partition_point(|it| it.addr() <= addr)
 }
 
-/// The power of two that cuts so many addresses into about as many buckets as `count`.
+/// The power of two that cuts a span of addresses into about `count` buckets.
 fn shift_for(span: u64, count: usize) -> u32 {
     let most = count.saturating_add(count / 2) as u64;
     let shift = most.leading_zeros().saturating_sub(span.leading_zeros());
@@ -103,14 +103,14 @@ impl Buckets {
         }
     }
 
-    /// The buckets of what stands by rising address.
+    /// The buckets of a list by rising address.
     pub(crate) fn of<T: Addressed>(alloc: Global, listed: &[T]) -> Result<Buckets, AllocError> {
         let first = listed.first().map_or(0, |it| it.addr());
         let last = listed.last().map_or(0, |it| it.addr());
         Buckets::between(alloc, listed, first, last)
     }
 
-    /// The buckets of what stands in any order between two addresses.
+    /// The buckets of a list in any order, between two addresses.
     pub(crate) fn between<T: Addressed>(
         alloc: Global,
         listed: &[T],
@@ -134,7 +134,7 @@ impl Buckets {
         addr.saturating_sub(self.first).wrapping_shr(self.shift) as usize
     }
 
-    /// Counts those of each bucket in the next one.
+    /// Counts the entries of each bucket in the next one.
     fn count<T: Addressed>(&mut self, listed: &[T]) {
         for it in listed {
             let next = self.bucket_of(it.addr()).saturating_add(1);
@@ -171,7 +171,7 @@ impl Buckets {
         self.below(self.bucket_of(addr))
     }
 
-    /// How many are not above an address, where it is known from where on it is to be sought.
+    /// How many are at or below an address, if the search begins at `from`.
     #[inline(always)]
     pub(crate) fn place_from<T: Addressed>(&self, listed: &[T], from: usize, addr: u64) -> usize {
         match place_near::<T, MOST_IN_BUCKET>(listed, from, addr) {
@@ -216,7 +216,7 @@ pub(crate) fn is_first<T: Addressed>(listed: &[T], place: usize, addr: u64) -> b
     below && reached
 }
 
-/// How many, of what stands by rising address, are not above an address, sought by halves.
+/// How many entries of a list by rising address are at or below an address, by a binary search.
 #[cold]
 #[inline(never)]
 fn seek_split<T: Addressed>(listed: &[T], addr: u64) -> usize
@@ -226,7 +226,7 @@ fn seek_split<T: Addressed>(listed: &[T], addr: u64) -> usize
     listed.partition_point(|it| it.addr() <= addr)
 }
 
-/// The same. A place is tried first.
+/// How many entries of a list by rising address are at or below an address. `near` is tried first.
 pub(crate) fn split_at<T: Addressed>(listed: &[T], near: usize, addr: u64) -> usize
     requires { IsNonDecreasingBy T.addr_of listed.now }
     ensures { IsSplitBy T.addr_of listed.now addr result }
@@ -238,7 +238,7 @@ pub(crate) fn split_at<T: Addressed>(listed: &[T], near: usize, addr: u64) -> us
     }
 }
 
-/// The address of what stands at a place, if anything does.
+/// The address of the entry at a place, if there is one.
 pub(crate) fn address_at<T: Addressed>(listed: &[T], place: usize) -> Option<u64>
     ensures { result ≡ option_map T.addr_of (slice_get listed.now place) }
 {

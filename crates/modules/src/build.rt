@@ -29,7 +29,7 @@ use crate::symbol_lines::SymbolLines;
 use crate::symbols::Symbol;
 use std::alloc::{AllocError, Global};
 
-/// The kernel itself, where it has regions.
+/// The kernel itself, if it has regions.
 fn built_in_module<'a>(
     alloc: Global,
     regions: Vec<Region>,
@@ -150,8 +150,8 @@ fn module_counts(admission: &Admission, regions: &RegionLines) -> BuildCounts
     }
 }
 
-/// Accepts module lines, where the kernel itself lies as these names or the usual ones say, and
-/// counts them and those of regions.
+/// Accepts module lines beside the kernel itself, which lies as these names or the usual ones say,
+/// and counts them and the lines of regions.
 fn accept_lines<'a>(
     alloc: Global,
     names: Option<&KernelBounds>,

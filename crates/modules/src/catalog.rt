@@ -27,7 +27,7 @@ use std::alloc::{AllocError, Global};
 use std::marker::Model;
 use table_updates::Update;
 
-/// The number that stands for a module which a catalog lacks. No module has it where there are
+/// The number of a module that a catalog lacks. No module has it if there are
 /// fewer regions, as in every catalog that a table can hold.
 pub const ABSENT_MODULE: u64 = 4294967295;
 
@@ -39,7 +39,7 @@ pub struct BuildCounts {
     /// Lines with the name of a line that was accepted before.
     pub double: u64,
     /// Other lines of modules whose regions are not all apart from each other, from the region of
-    /// the kernel itself and from those of the modules accepted before.
+    /// the kernel itself and from the regions of the modules accepted before.
     pub overlap: u64,
     /// Lines of the listing of regions that an accepted module has its regions from; the regions of
     /// the modules if symbols alone are listed.
@@ -53,7 +53,7 @@ pub struct BuildCounts {
 }
 
 impl BuildCounts {
-    /// The same where so many symbols are listed, some of which were left out before: those that
+    /// These counts if `listed` symbols are listed, some of them left out before: the symbols that
     /// are not kept are stray.
     pub fn of_listed(self, listed: usize) -> BuildCounts
         ensures { result ≡ build_of_listed listed self }
@@ -75,12 +75,12 @@ impl BuildCounts {
 pub struct Held {
     /// Whether it holds the first address of the module's first region of its core.
     pub core: bool,
-    /// Whether it holds the first address of the module's first init region; not where it has none.
+    /// Whether it holds the first address of the module's first init region; not if it has none.
     pub init: bool,
 }
 
-/// The kernel itself as number 0, where the listing of symbols has regions of it, and the accepted
-/// modules from number 1 on in the order of their lines; those of symbols alone in the order of
+/// The kernel itself as number 0, if the listing of symbols has regions of it, and the accepted
+/// modules from number 1 on in the order of their lines; modules of symbols alone in the order of
 /// their first kept lines. Their regions lie apart and no two of the modules have one name. It does
 /// not change.
 #[derive(Drop)]
@@ -110,16 +110,16 @@ impl<'a> Catalog<'a> {
     ///
     /// A module lies in the regions of the region lines of its name, in their order, if one of them
     /// is of its core, and else in the region of its own line. A module line is skipped as double
-    /// where a line accepted before has its name, else as overlap where its regions are not all
-    /// apart from each other, from those of the kernel itself and from those of the modules accepted
+    /// if a line accepted before has its name, else as overlap if its regions are not all
+    /// apart from each other, from the kernel's own and from the regions of the modules accepted
     /// before. The kernel's region is between the two symbols of `names`, or else its regions are
-    /// the usual ones ([`SymbolLines::kernel_regions`]). A symbol is kept where it lies in a region
+    /// the usual ones ([`SymbolLines::kernel_regions`]). A symbol is kept if it lies in a region
     /// of its module, or of the kernel itself if it has none, and is stray otherwise. A region line
-    /// is stray where its module is not accepted, or has no line of a core region.
+    /// is stray if its module is not accepted, or has no line of a core region.
     ///
     /// What is asked of it changes nothing but how long building and searching take.
     ///
-    /// Refused by [`Refusal::TooManyRegions`] where more than 7 region lines have one name, and by
+    /// Refused by [`Refusal::TooManyRegions`] if more than 7 region lines have one name, and by
     /// [`Refusal::OutOfMemory`].
     pub fn build(
         alloc: Global,
@@ -153,13 +153,13 @@ impl<'a> Catalog<'a> {
     /// ones ([`SymbolLines::kernel_regions`]). The lines that count are those without a module
     /// inside of them, and those of modules outside of them and below the greatest address. Of the
     /// nearest of these lines at or below an address the first listed is asked: if it is a
-    /// module's, the address is that module's where it lies in the page of the line, or where the
+    /// module's, the address is that module's if it lies in the page of the line, or if the
     /// first listed of the nearest lines above is the same module's and less than 1048576 above the
     /// line. The regions of a module are the longest runs of addresses that are its own, by rising
     /// address, all of its core.
     ///
-    /// A line of a module is kept where its own address is its module's, and one without a module
-    /// where it lies in a region of the kernel; the rest are stray. The modules are those that have
+    /// A line of a module is kept if its own address is its module's, and one without a module
+    /// if it lies in a region of the kernel; the rest are stray. The modules are those that have
     /// a kept line, in the order of their first ones.
     ///
     /// Refused only when out of memory.
@@ -203,7 +203,7 @@ impl<'a> Catalog<'a> {
         Some(place as u64 + 1)
     }
 
-    /// The number of the module of this name, and [`ABSENT_MODULE`] where there is none.
+    /// The number of the module of this name, and [`ABSENT_MODULE`] if there is none.
     #[tactic(auto, using(crate::proofs::AbsentLemmas::none_absent))]
     pub fn number_for(&self, name: &[u8]) -> u64
         ensures number { result ≡ number_for self.now name.now }
@@ -229,7 +229,7 @@ impl<'a> Catalog<'a> {
         self.modules.len() as u64
     }
 
-    /// The number of all regions, that of the kernel itself among them.
+    /// The number of all regions, the kernel's own among them.
     pub fn regions(&self) -> usize
         ensures { result ≡ length (regions_of self.now) }
     {
@@ -238,7 +238,7 @@ impl<'a> Catalog<'a> {
 
     /// The update that loads a module: all its regions are put in, with its number as the tag.
     ///
-    /// Refused by [`Refusal::UnknownModule`], else by [`Refusal::AlreadyLoaded`] where its core is
+    /// Refused by [`Refusal::UnknownModule`], else by [`Refusal::AlreadyLoaded`] if its core is
     /// held, else by [`Refusal::OutOfMemory`]. A module of one region takes no memory.
     pub fn load(&self, number: u64, held: Held) -> Result<Update, Refusal>
         ensures { GivesOrLacksMemory (load_of self.now number held) result }
@@ -252,10 +252,10 @@ impl<'a> Catalog<'a> {
         inserting(*self.modules.allocator(), module.regions(), number)
     }
 
-    /// The update that unloads a module: its core regions are taken out, and its init regions where
+    /// The update that unloads a module: its core regions are taken out, and its init regions if
     /// they are held.
     ///
-    /// Refused by [`Refusal::UnknownModule`], else by [`Refusal::NotLoaded`] where its core is not
+    /// Refused by [`Refusal::UnknownModule`], else by [`Refusal::NotLoaded`] if its core is not
     /// held, else by [`Refusal::OutOfMemory`]. One region takes no memory.
     pub fn unload(&self, number: u64, held: Held) -> Result<Update, Refusal>
         ensures { GivesOrLacksMemory (unload_of self.now number held) result }
@@ -271,8 +271,8 @@ impl<'a> Catalog<'a> {
 
     /// The update that ends a module's start: its init regions are taken out.
     ///
-    /// Refused by [`Refusal::UnknownModule`], else by [`Refusal::NotLoaded`] where its core is not
-    /// held, else by [`Refusal::NoInit`] where no init region of it is, else by
+    /// Refused by [`Refusal::UnknownModule`], else by [`Refusal::NotLoaded`] if its core is not
+    /// held, else by [`Refusal::NoInit`] if no init region of it is, else by
     /// [`Refusal::OutOfMemory`]. One region takes no memory.
     pub fn drop_init(&self, number: u64, held: Held) -> Result<Update, Refusal>
         ensures { GivesOrLacksMemory (drop_init_of self.now number held) result }

@@ -1,4 +1,4 @@
-//! Addresses that are sought one after another, where it is known which come next.
+//! Addresses that are sought one after another, if it is known which come next.
 
 ghost use Rattle.std.specs.Prelude.{◌≡◌, ◌≤◌, ◌<◌, Some, IfSome};
 ghost use Rattle.std.specs.Option.{option_copied, option_map};
@@ -173,7 +173,7 @@ impl<'c, 'a> Finder<'c, 'a> {
         found
     }
 
-    /// The same, where it is not in the region that was found last.
+    /// The region and the symbol of an address that is not in the region found last.
     fn seek(&mut self, addr: u64) -> Option<(Item, Option<FoundSymbol<'c, 'a>>)>
         ensures stays { self.new ≡ self.old }
         ensures found { result

@@ -75,8 +75,8 @@ pub(crate) fn symbol_around<'c, 'a>(
 ///
 /// It is, of the kept symbols of the item's module that lie in the item, the one with the greatest
 /// address that is not above `addr`, the first listed among equal addresses. Its size reaches to
-/// the next greater address of such a symbol, or to the item's end. There is none where no such
-/// symbol is at or below the address, or where the item's tag is the number of no module.
+/// the next greater address of such a symbol, or to the item's end. There is none if no such
+/// symbol is at or below the address, or if the item's tag is the number of no module.
 #[inline(always)]
 pub fn symbol_of<'c, 'a>(
     catalog: &'c Catalog<'a>,

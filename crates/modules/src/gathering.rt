@@ -1,6 +1,6 @@
 //! Which symbol lines are kept, and in which module.
 //!
-//! The name of a module is looked up once for each run of lines. A line is then kept where its
+//! The name of a module is looked up once for each run of lines. A line is then kept if its
 //! address lies in a region of its run's module, and is stray otherwise:
 //!
 //! ```text
@@ -11,7 +11,7 @@
 //! ```
 //!
 //! The strays are taken out of the list of a run, and the first list of a module becomes the
-//! module's own; so no symbol is copied where the lines of each module stand side by side.
+//! module's own; so no symbol is copied if the lines of each module lie side by side.
 
 ghost use Rattle.std.specs.Prelude.{◌≡◌, ◌+◌, ◌<◌, ◌^◌, ◌++◌, ◌∷◌, [], IfOk, OnOk, filter, length};
 ghost use Rattle.std.specs.Prelude.{vec_len};
@@ -31,11 +31,11 @@ use std::alloc::{AllocError, Global};
 /// Whose symbols the lines of a run are.
 #[derive(Clone, Copy, Debug, Drop)]
 enum Owner {
-    /// Those of the kernel itself.
+    /// The symbols of the kernel itself.
     BuiltIn,
-    /// Those of the module at this place among the accepted modules.
+    /// The symbols of the module at this place among the accepted modules.
     Module(usize),
-    /// Those of a module that was not accepted.
+    /// The symbols of a module that was not accepted.
     Nobody,
 }
 
@@ -68,7 +68,7 @@ impl<'a> Gathered<'a> {
         })
     }
 
-    /// Puts symbols after those of their owner.
+    /// Puts symbols after the others of their owner.
     fn put(&mut self, owner: Owner, symbols: Vec<Symbol<'a>>) -> Result<(), AllocError>
         requires room { HasRoom self.old owner }
         ensures lists { OnOk result (Keeps owner symbols.entry.items self.old self.new) }
@@ -99,7 +99,7 @@ impl<'a> Gathered<'a> {
     }
 }
 
-/// Puts symbols after others. Where there are no others, the list is taken over as it is.
+/// Puts symbols after others. If there are no others, the list is taken over as it is.
 fn join<'a>(list: &mut Vec<Symbol<'a>>, symbols: Vec<Symbol<'a>>) -> Result<(), AllocError>
     ensures { OnOk result (list.new.items ≡ list.old.items ++ symbols.entry.items) }
 {

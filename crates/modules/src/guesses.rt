@@ -9,7 +9,7 @@
 //! address 3:    step . step . step .
 //! ```
 //!
-//! Where the addresses rise, each is sought among the few symbols from the place of the one before
+//! If the addresses rise, each is sought among the few symbols from the place of the one before
 //! it on: what lies near was brought near by the one before.
 //!
 //! Whoever uses a guess compares it with what lies there: no contract rests on it.
@@ -99,7 +99,7 @@ fn step_all(guesses: &mut [Guess], catalog: &IndexedCatalog, addrs: &[u64]) {
     }
 }
 
-/// The guess of an address, whose region is tried first where another guess has it.
+/// The guess of an address, whose region is tried first if another guess has it.
 fn guess_near(catalog: &IndexedCatalog, region: usize, addr: u64) -> Guess {
     let region = catalog.region_near(region, addr);
     let place = match catalog.module_at(region) {
@@ -130,7 +130,7 @@ impl Guesses {
         }
     }
 
-    /// Makes new ones for these addresses, where none are left.
+    /// Makes new guesses for these addresses, if none are left.
     pub(crate) fn renew(&mut self, catalog: &IndexedCatalog, addrs: &[u64]) {
         if self.taken < TURNS {
             return;

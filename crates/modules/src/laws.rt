@@ -74,7 +74,7 @@ pub fn every_catalog_of_symbols_is_sound()
         → IsFromSymbols names lines a → IsSoundCatalog (catalog_with a lines) }
 {}
 
-/// No module of a sound catalog has the number that stands for an absent one, as long as there are
+/// No module of a sound catalog has the number of an absent one, as long as there are
 /// fewer regions.
 #[tactic(auto, using(crate::proofs::AbsentLemmas::none_absent))]
 pub fn no_module_is_absent()
@@ -98,7 +98,7 @@ pub fn the_symbols_determine_the_modules()
         → IsFromSymbols names lines a → IsFromSymbols names lines b → a ≡ b }
 {}
 
-/// A line of a module that has its regions lies in one of them where its own address is that
+/// A line of a module that has its regions lies in one of them if its own address is that
 /// module's, and nowhere else: so what is kept by the regions is what is kept by the lines.
 #[tactic(auto, using(crate::proofs::OwnLineLemmas::kept_same))]
 pub fn a_line_is_kept_by_its_own_address()

@@ -1,7 +1,7 @@
 //! The marks of a listing of symbols: one of each region of the kernel itself, at its first
 //! address, and one of each line of a module that is outside the kernel's regions.
 //!
-//! One mark stands for all lines in a region of the kernel: nothing from below reaches over its
+//! One mark is for all lines in a region of the kernel: nothing from below reaches over its
 //! first address, and no module has an address inside.
 //!
 //! ```text
@@ -86,7 +86,7 @@ fn kernel_marks(alloc: Global, kernel: &[Region]) -> Result<Vec<Mark>, AllocErro
     Ok(marks)
 }
 
-/// The marks of the kernel itself, and then those of the lines of modules as they are listed.
+/// The marks of the kernel itself, and then of the lines of modules as they are listed.
 #[tactic(auto, using(crate::proofs::LineMarkLemmas::one_run_more))]
 pub(crate) fn marks_of(
     alloc: Global,

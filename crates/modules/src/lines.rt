@@ -8,7 +8,7 @@ ghost use Rattle.modules.specs.Parts.{is_core, is_init, is_of};
 use crate::regions::Region;
 use std::marker::Model;
 
-/// Whether there is a region of so many bytes at this address: at least one byte, not at 0, and
+/// Whether there is a region of `size` bytes at `base`: at least one byte, not at 0, and
 /// none past the greatest `u64`.
 fn is_region(base: u64, size: u64) -> bool
     ensures { result ≡ is_region base size }
@@ -36,7 +36,7 @@ impl<'a> Model for ModuleLine<'a> {
 }
 
 impl<'a> ModuleLine<'a> {
-    /// Whether the line stands for a region: the base is not 0, the size is not 0, and the base
+    /// Whether the line is a region's: the base is not 0, the size is not 0, and the base
     /// plus the size is at most the greatest `u64`.
     pub fn fits(&self) -> bool
         ensures { result ≡ fits self.now }
@@ -109,7 +109,7 @@ impl<'a> Model for RegionLine<'a> {
 }
 
 impl<'a> RegionLine<'a> {
-    /// Whether the line stands for a region: the base is not 0, the size is not 0, and the base
+    /// Whether the line is a region's: the base is not 0, the size is not 0, and the base
     /// plus the size is at most the greatest `u64`.
     pub fn fits(&self) -> bool
         ensures { result ≡ region_fits self.now }

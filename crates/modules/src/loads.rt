@@ -59,8 +59,8 @@ pub(crate) fn inserting(alloc: Global, regions: &[Region], number: u64) -> Resul
     }
 }
 
-/// The first addresses of the core regions, where `core` asks for them, and of the init regions,
-/// where `init` does.
+/// The first addresses of the core regions, if `core` asks for them, and of the init regions,
+/// if `init` does.
 fn starts_of(
     alloc: Global,
     regions: &[Region],
@@ -80,7 +80,7 @@ fn starts_of(
     Ok(starts)
 }
 
-/// The only one of these first addresses, where there is just one. It takes no memory.
+/// The only one of these first addresses, if there is just one. It takes no memory.
 fn only_start(regions: &[Region], parts: &[Part], core: bool, init: bool) -> Option<u64>
     requires { length parts.now ≡ length regions.now }
     ensures { result ≡ only_of (starts_of core init regions.now parts.now) }
@@ -106,8 +106,8 @@ fn erasing_words(alloc: Global, starts: &[u64]) -> Result<Update, Refusal>
     Ok(Update::batch(alloc, starts, &[])?)
 }
 
-/// The update that takes out the core regions, where `core` asks for them, and the init regions,
-/// where `init` does.
+/// The update that takes out the core regions, if `core` asks for them, and the init regions,
+/// if `init` does.
 pub(crate) fn erasing(
     alloc: Global,
     regions: &[Region],
@@ -165,14 +165,14 @@ pub(crate) fn is_erasing(
     }
 }
 
-/// Whether the item is that of the region.
+/// Whether the item is the region's.
 fn is_item_of(region: Region, number: u64, item: Item) -> bool
     ensures { result ≡ is_item_of number region item }
 {
     item.a == region.start() && item.b == region.end() && item.tag == number
 }
 
-/// Whether the items are those of the regions.
+/// Whether the items are the regions'.
 #[tactic(auto, using(crate::proofs::LoadLemmas::one_item_more))]
 fn same_items(regions: &[Region], number: u64, items: &[Item]) -> bool
     ensures { result ≡ same_items number regions.now items.now }

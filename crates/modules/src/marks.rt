@@ -1,5 +1,5 @@
 //! Regions of addresses from marks alone: each mark says from which address on whose addresses they
-//! are. They go on to the next mark where that one has the same owner and is near, and else to the
+//! are. They go on to the next mark if that one has this owner too and is near, and else to the
 //! end of the page or to the next mark, whichever comes first.
 //!
 //! ```text
@@ -159,7 +159,7 @@ pub(crate) fn region_at(items: &[Item], addr: u64) -> Option<Item>
     if addr < item.b { Some(item) } else { None }
 }
 
-/// The regions of marks that stand for the lines of a module are that module's regions.
+/// The regions of the marks of a module's lines are that module's regions.
 pub(crate) fn marks_give_a_module_its_regions()
     ensures { (marks : List Mark) (items : List Item) (lines : List ListedSymbol) (n : ℕ)
         (name : List ℕ) → AreRegions marks items → StandsFor marks lines n name

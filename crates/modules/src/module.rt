@@ -42,7 +42,7 @@ pub struct Module<'a> {
     symbols: Vec<Symbol<'a>>,
     /// Whether the symbols are known to be listed by rising address.
     rising: bool,
-    /// Copies of them by rising address, where they are not and where it pays.
+    /// Copies of them by rising address, if they do not rise and it pays.
     by_address: Option<Vec<Symbol<'a>>>,
     /// The buckets of the copies, or else of the symbols.
     buckets: Buckets,
@@ -101,7 +101,7 @@ fn has_init(parts: &[Part]) -> bool
     parts.iter().any(|part| part.is_init())
 }
 
-/// The buckets of symbols by rising address, where they pay for what is asked.
+/// The buckets of symbols by rising address, if they pay for what is asked.
 fn buckets_of(alloc: Global, symbols: &[Symbol], asked: Asked<'_>) -> Result<Buckets, AllocError> {
     if asked.pays_buckets(symbols.len()) {
         Buckets::of(alloc, symbols)
@@ -110,7 +110,7 @@ fn buckets_of(alloc: Global, symbols: &[Symbol], asked: Asked<'_>) -> Result<Buc
     }
 }
 
-/// Copies of the symbols by rising address, where they do not stand so and it pays for what is
+/// Copies of the symbols by rising address, if they do not rise and it pays for what is
 /// asked; and the buckets of the copies, or else of the symbols.
 fn order_of<'a>(
     alloc: Global,
@@ -170,7 +170,7 @@ impl<'a> Module<'a> {
         self.regions.as_slice()
     }
 
-    /// The part that each of its regions is, for who lists a catalog.
+    /// The part that each of its regions is, for callers that list a catalog.
     pub fn parts(&self) -> &[Part]
         ensures { result.now ≡ self.now.parts }
     {
@@ -192,8 +192,8 @@ impl<'a> Module<'a> {
         )
     }
 
-    /// The update that takes out its core regions, where `core` asks for them, and its init
-    /// regions, where `init` does.
+    /// The update that takes out its core regions, if `core` asks for them, and its init
+    /// regions, if `init` does.
     pub(crate) fn erasing(&self, alloc: Global, core: bool, init: bool) -> Result<Update, Refusal>
         ensures { GivesOrLacksMemory
             (Ok (update_of (starts_of core init self.now.regions self.now.parts) [])) result }
@@ -228,7 +228,7 @@ impl<'a> Module<'a> {
         has_init(self.parts.as_slice())
     }
 
-    /// The symbols that lie in the regions, in the order listed, for who lists a catalog.
+    /// The symbols that lie in the regions, in the order listed, for callers that list a catalog.
     pub fn symbols(&self) -> &[Symbol<'a>]
         ensures { result.now ≡ self.now.symbols }
     {
@@ -256,7 +256,7 @@ impl<'a> Module<'a> {
         }
     }
 
-    /// The symbols by rising address, where they stand so or have copies that do.
+    /// The symbols by rising address, if they rise or have copies that do.
     #[inline(always)]
     fn by_address(&self) -> &[Symbol<'a>] {
         match &self.by_address {

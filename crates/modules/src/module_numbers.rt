@@ -78,7 +78,7 @@ impl<'a> ModuleNumbers<'a> {
         Ok(())
     }
 
-    /// How many numbers there are, with that of the kernel itself.
+    /// How many numbers there are, the kernel's own among them.
     pub(crate) fn count(&self) -> usize
         ensures { result ≡ length self.now + 1 }
     {

@@ -12,7 +12,7 @@ use crate::module::Module;
 use std::alloc::{AllocError, Global};
 use std::cmp::Ordering;
 
-/// The name of the module at a place, or no bytes where there is none.
+/// The name of the module at a place, or no bytes if there is none.
 fn name_at<'a>(modules: &[Module<'a>], place: usize) -> &'a [u8]
     ensures { result.now ≡ slice_index_or (names_in modules.now) place [] }
 {
@@ -37,7 +37,7 @@ fn compare_at(modules: &[Module], place: usize, name: &[u8]) -> Ordering
     name_at(modules, place).cmp(name)
 }
 
-/// The places 0, 1 and on, so many of them.
+/// The first `count` places: 0, 1 and on.
 fn places(alloc: Global, count: usize) -> Result<Vec<usize>, AllocError>
     ensures { IfOk result (λ v. v.items ≡ range_with_len 0 count) }
 {

@@ -177,7 +177,7 @@ fn lines_in<'i, 'l, 'a>(index: &'i [&'l RegionLine<'a>], name: &[u8]) -> &'i [&'
     all_named(index, name)
 }
 
-/// The lines in the order of their names, those of one name as they were listed.
+/// The lines in the order of their names, and of one name as they were listed.
 fn by_name<'l, 'a>(
     alloc: Global,
     lines: &'l [RegionLine<'a>],
@@ -264,7 +264,7 @@ impl<'l, 'a> RegionLines<'l, 'a> {
     }
 
     /// Where a module lies: in the regions of its lines if one of them is of its core, or else in
-    /// that of its own line.
+    /// the region of its own line.
     pub(crate) fn place(
         &self,
         alloc: Global,

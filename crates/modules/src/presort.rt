@@ -23,7 +23,7 @@ use std::alloc::{AllocError, Global};
 /// Past how many others an entry goes down.
 const MOST_PASSED: usize = 16;
 
-/// How many entries each bucket has so far, with those of the buckets below it.
+/// How many entries each bucket and the buckets below it have so far.
 #[derive(Drop)]
 struct Filling {
     buckets: Buckets,
@@ -82,7 +82,7 @@ fn distribute(entries: &mut [IndexEntry], filling: &mut Filling)
     }
 }
 
-/// Whether an entry is to stand before another.
+/// Whether an entry comes before another.
 fn comes_before(x: &IndexEntry, y: &IndexEntry) -> bool {
     x.addr < y.addr || (x.addr == y.addr && y.place < x.place)
 }

@@ -1,6 +1,6 @@
 //! The region that an address lies in, among all regions of a catalog.
 //!
-//! The regions stand in one list by rising first address. They lie apart, so an address can lie
+//! The regions are one list by rising first address. They lie apart, so an address can lie
 //! only in the last region that begins at or below it, which a binary search finds:
 //!
 //! ```text
@@ -120,7 +120,7 @@ impl<'a> IndexedCatalog<'a> {
     }
 
     /// The region that an address lies in, with the number of its module as the tag. The first is
-    /// asked first: it is mostly that of the kernel itself, where most addresses lie.
+    /// asked first: it is mostly the kernel's own, where most addresses lie.
     pub fn find(&self, addr: u64) -> Option<Item>
         ensures is { result ≡ item_of_address self.now addr }
         ensures holds { IfSome result (λ i. (i.a ≤ addr) × (addr < i.b)) }

@@ -1,7 +1,7 @@
 //! The lines of a listing of symbols, in the runs in which they come.
 //!
 //! A listing has the lines of one module side by side, so the name of the module is kept once for
-//! each such run of lines. The symbols of a run stand in a list of their own, which a catalog takes
+//! each such run of lines. The symbols of a run have a list of their own, which a catalog takes
 //! over as it is:
 //!
 //! ```text
@@ -23,7 +23,7 @@ use std::alloc::{AllocError, Global};
 use std::marker::Model;
 use std::mem;
 
-/// Lines of one module that stand side by side.
+/// Lines of one module that lie side by side.
 #[derive(Drop)]
 pub(crate) struct Run<'a> {
     /// The name of the module; none for the kernel itself.
@@ -37,7 +37,7 @@ pub(crate) struct Run<'a> {
 pub struct SymbolLines<'a> {
     /// The runs before the last one.
     pub(crate) runs: Vec<Run<'a>>,
-    /// The last run. It has no lines only where there are none at all.
+    /// The last run. It has no lines only if there are none at all.
     pub(crate) last: Run<'a>,
     /// How many lines there are.
     count: usize,
@@ -70,7 +70,7 @@ impl<'a> Run<'a> {
         })
     }
 
-    /// The address of its first symbol of this name, where it is of the kernel itself.
+    /// The address of its first symbol of this name, if it is of the kernel itself.
     fn first_address(&self, name: &[u8]) -> Option<u64>
         ensures { result ≡ first_address name.now (lines_of_run self.now) }
     {
@@ -156,10 +156,10 @@ impl<'a> SymbolLines<'a> {
         Ok(())
     }
 
-    /// The regions of the kernel itself: that between these names, where both are listed in this
-    /// order, or else the usual ones. These are the region from `_stext` up to `_end` or, where
-    /// there is none, those of the kernel's code: `_stext` up to `_etext` and `_sinittext` up to
-    /// `_einittext`, each where both are listed in this order, and the second only where it is apart
+    /// The regions of the kernel itself: the one between these names, if both are listed in this
+    /// order, or else the usual ones. These are the region from `_stext` up to `_end` or, if
+    /// there is none, the regions of the kernel's code: `_stext` up to `_etext` and `_sinittext` up to
+    /// `_einittext`, each if both are listed in this order, and the second only if it is apart
     /// from the first.
     pub fn kernel_regions(
         &self,
@@ -182,8 +182,8 @@ impl<'a> SymbolLines<'a> {
         built_in_region(self, names).is_some()
     }
 
-    /// The names of both ends of the usual regions, of which a listing may lack one: `_stext`, and
-    /// `_end` where it is listed or else `_etext`.
+    /// The names of both ends of the usual regions, one of which a listing may lack: `_stext`, and
+    /// `_end` if it is listed or else `_etext`.
     pub fn usual_bounds(&self) -> KernelBounds<'static>
         ensures { result ≡ usual_bounds_of self.now }
     {
@@ -227,7 +227,7 @@ fn usual_end(lines: &SymbolLines) -> &'static [u8]
     }
 }
 
-/// The region of the kernel itself, from the symbol of the one name up to that of the other.
+/// The region of the kernel itself, from the symbol of the one name up to the other's.
 pub(crate) fn built_in_region(lines: &SymbolLines, names: &KernelBounds) -> Option<Region>
     ensures { result ≡ built_in_region names.now lines.now }
 {
@@ -240,7 +240,7 @@ pub(crate) fn built_in_region(lines: &SymbolLines, names: &KernelBounds) -> Opti
     }
 }
 
-/// A list of this region, where it is there.
+/// A list of this region, if it is there.
 fn regions_with(alloc: Global, region: Option<Region>) -> Result<Vec<Region>, AllocError>
     ensures { IfOk result (λ v. v.items ≡ option_to_list region) }
 {
@@ -251,7 +251,7 @@ fn regions_with(alloc: Global, region: Option<Region>) -> Result<Vec<Region>, Al
     Ok(regions)
 }
 
-/// Puts a region after others, where it is there and apart from them.
+/// Puts a region after others, if it is there and apart from them.
 fn push_if_apart(regions: &mut Vec<Region>, region: Option<Region>) -> Result<(), AllocError>
     ensures { OnOk result (regions.new.items ≡ with_apart regions.old.items region) }
 {

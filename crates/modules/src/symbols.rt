@@ -1,8 +1,8 @@
 //! Symbols in the order of a listing, and how one is found by its address.
 //!
 //! A listing mostly has the symbols of the kernel itself by rising address, and then they are
-//! searched as they stand. Those of a module come in the order of its symbol table, and get an
-//! index, in which of equal addresses the one that is listed first stands last. It gives the order
+//! searched as they are. The symbols of a module come in the order of its symbol table, and get an
+//! index, in which of equal addresses the one that is listed first comes last. It gives the order
 //! of a copy of the symbols, which is searched, so that neighbours by address lie side by side:
 //!
 //! ```text
@@ -13,7 +13,7 @@
 //!
 //! So the last of the copy that is not above an address is the symbol to be found.
 //!
-//! To order them costs as much as to go through the symbols some times. So where few addresses are
+//! To order them costs as much as to go through the symbols some times. So if few addresses are
 //! asked of a module, it has no such copy, and its symbols are gone through for each.
 
 ghost use Rattle.std.specs.Prelude.{◌≡◌, ◌<◌, true, IfOk, List, Some, filter, length, map, nat_le};
@@ -60,7 +60,7 @@ impl<'a> Addressed for Symbol<'a> {
 pub struct IndexEntry {
     /// Where the symbol begins.
     pub addr: u64,
-    /// Where it stands in the order of the listing.
+    /// Its place in the order of the listing.
     pub place: usize,
 }
 
@@ -87,7 +87,7 @@ fn listed_entries(alloc: Global, symbols: &[Symbol]) -> Result<Vec<IndexEntry>, 
 }
 
 /// The entries of the symbols by rising address, and their buckets. Of equal addresses the one that
-/// is listed first stands last, so that the last entry that is not above an address is that of the
+/// is listed first comes last, so that the last entry that is not above an address is that of the
 /// one to be found.
 fn by_address(alloc: Global, symbols: &[Symbol]) -> Result<(Vec<IndexEntry>, Buckets), AllocError>
     ensures { IfOk result (λ r. IsIndex symbols.now r.0.items) }
@@ -98,7 +98,7 @@ fn by_address(alloc: Global, symbols: &[Symbol]) -> Result<(Vec<IndexEntry>, Buc
     Ok((entries, buckets))
 }
 
-/// A copy of the symbol that an entry stands for.
+/// A copy of the symbol of an entry.
 fn copy_of<'a>(symbols: &[Symbol<'a>], entry: &IndexEntry) -> Symbol<'a>
     requires { entry.now.place < length symbols.now }
     ensures { result ≡ symbol_of_entry symbols.now entry.now }
@@ -145,7 +145,7 @@ fn symbol_at<'s, 'a>(symbols: &'s [Symbol<'a>], place: usize) -> Option<&'s Symb
     symbols.get(place)
 }
 
-/// The symbols around an address, of which these are copies in order.
+/// The symbols around an address, by copies of them in order.
 #[inline(always)]
 pub(crate) fn around_in_order<'s, 'a>(
     ordered: &'s [Symbol<'a>],
@@ -166,7 +166,7 @@ pub(crate) fn around_in_order<'s, 'a>(
     (symbol_at(ordered, split - 1), above)
 }
 
-/// How many symbols, of those that stand by rising address, are below the address.
+/// How many symbols of a list by rising address are below the address.
 #[cold]
 #[inline(never)]
 fn listed_below(symbols: &[Symbol], addr: u64) -> usize
@@ -242,7 +242,7 @@ fn first_of_equal(symbols: &[Symbol], place: usize) -> usize
     first_back(symbols, place, symbol.addr)
 }
 
-/// The symbols around an address, where they stand by rising address.
+/// The symbols around an address, if they rise.
 #[inline(always)]
 fn around_as_listed<'s, 'a>(
     symbols: &'s [Symbol<'a>],
@@ -262,7 +262,7 @@ fn around_as_listed<'s, 'a>(
     (symbol_at(symbols, first), above)
 }
 
-/// The second symbol where it lies above the first, and else the first.
+/// The second symbol if it lies above the first, and else the first.
 fn higher<'s, 'a>(first: Option<&'s Symbol<'a>>, second: &'s Symbol<'a>) -> &'s Symbol<'a>
     ensures { Some result.now ≡ preferred is_above (option_copied first.entry) second.now }
 {
@@ -272,7 +272,7 @@ fn higher<'s, 'a>(first: Option<&'s Symbol<'a>>, second: &'s Symbol<'a>) -> &'s 
     }
 }
 
-/// The second symbol where it lies below the first, and else the first.
+/// The second symbol if it lies below the first, and else the first.
 fn lower<'s, 'a>(first: Option<&'s Symbol<'a>>, second: &'s Symbol<'a>) -> &'s Symbol<'a>
     ensures { Some result.now ≡ preferred is_below (option_copied first.entry) second.now }
 {
@@ -324,7 +324,7 @@ fn around_in_any_order<'s, 'a>(
     )
 }
 
-/// The symbols around an address, which stand by rising address where that is said.
+/// The symbols around an address, which rise if that is said.
 #[inline(always)]
 pub(crate) fn around_in_list<'s, 'a>(
     symbols: &'s [Symbol<'a>],
@@ -343,7 +343,7 @@ pub(crate) fn around_in_list<'s, 'a>(
     }
 }
 
-/// Whether the symbols stand by rising address.
+/// Whether the symbols rise by address.
 pub fn is_rising(symbols: &[Symbol]) -> bool
     ensures { result ≡ true → IsRising symbols.now }
 {
