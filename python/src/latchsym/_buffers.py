@@ -10,9 +10,30 @@ import ctypes
 from array import array
 from ctypes import POINTER, c_char_p, c_int, c_ssize_t, c_void_p
 from types import TracebackType
-from typing import Any, Type
+from typing import Any, Type, TypeVar
 
 from ._library import EMPTY_AT
+
+
+_Self = TypeVar("_Self", bound="Closing")
+
+
+class Closing:
+    """What a `with` statement closes at its end."""
+
+    def close(self) -> None:
+        raise NotImplementedError
+
+    def __enter__(self: _Self) -> _Self:
+        return self
+
+    def __exit__(
+        self,
+        kind: Type[BaseException] | None,
+        error: BaseException | None,
+        trace: TracebackType | None,
+    ) -> None:
+        self.close()
 
 
 class _PyBuffer(ctypes.Structure):

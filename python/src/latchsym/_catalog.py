@@ -13,11 +13,10 @@ import weakref
 from array import array
 from ctypes import byref, c_char, c_size_t, c_uint64
 from pathlib import Path
-from types import TracebackType
-from typing import Any, Callable, Iterator, NamedTuple, Sequence, Type, overload
+from typing import Any, Callable, Iterator, NamedTuple, Sequence, overload
 
 from . import _library as it
-from ._buffers import Pinned, listing, numbers
+from ._buffers import Closing, Pinned, listing, numbers
 from ._errors import BadListing
 from ._library import check, lib, word
 
@@ -265,7 +264,7 @@ def _close(handle: it.Handle, listings: Sequence[Pinned]) -> None:
     del listings
 
 
-class Catalog:
+class Catalog(Closing):
     """The symbols and modules of a kernel's listings.
 
     `kallsyms` has the bytes of a listing in the form of /proc/kallsyms. `modules`, in the form of
@@ -364,17 +363,6 @@ class Catalog:
             self._closing()
             self._listings = ()
             self._found = it.no_symbol()  # whose places led into the listings
-
-    def __enter__(self) -> Catalog:
-        return self
-
-    def __exit__(
-        self,
-        kind: Type[BaseException] | None,
-        error: BaseException | None,
-        trace: TracebackType | None,
-    ) -> None:
-        self.close()
 
     def find(self, addr: int) -> Symbol | None:
         """The symbol of an address, or None where nothing is."""

@@ -6,12 +6,13 @@ from __future__ import annotations
 import os
 import threading
 import time
-from ctypes import byref, c_uint64
+from contextlib import ExitStack
+from ctypes import c_uint64
 from pathlib import Path
-from types import TracebackType
-from typing import Iterable, NamedTuple, Type
+from typing import Iterable, NamedTuple
 
 from . import _library as it
+from ._buffers import Closing
 from ._catalog import Catalog, Counts, Item, Symbol, symbol_of, warn_of
 from ._library import check, lib, word
 from ._table import Reader
@@ -26,7 +27,7 @@ class Sample(NamedTuple):
     """How many updates the table had shown then."""
 
 
-class Follower:
+class Follower(Closing):
     """The regions of a listing that changes, and names of samples by the listing that stood then.
 
     >>> import latchsym, pathlib, tempfile
@@ -91,28 +92,17 @@ class Follower:
 
     def _is_worse(self, counts: Counts) -> bool:
         """Whether something is noted that is not noted of the listings shown, if there are any."""
-        with self._lock:
-            if not self._shown:
-                return False
-            shown = self._shown[self._newest].counts
-        return any(
-            note not in (None, of_shown)
-            for note, of_shown in (
-                (counts.symbols_note, shown.symbols_note),
-                (counts.modules_note, shown.modules_note),
-            )
-        )
+        shown = self._shown[self._newest].counts if self._shown else counts
+        notes = zip(counts[-2:], shown[-2:])
+        return any(note not in (None, of_shown) for note, of_shown in notes)
 
     def _show(self, catalog: Catalog) -> None:
         """Shows the regions of a catalog in one update; closes it if that is refused."""
-        tag, generation = self._newest + 1, c_uint64()
-        with self._lock:
-            answer = lib.latchsym_follower_show(
-                self._handle, catalog._handle, time.monotonic_ns(), tag, byref(generation)
-            )
-            if answer:
-                catalog.close()
-            check(answer)
+        tag, now, generation = self._newest + 1, time.monotonic_ns(), c_uint64()
+        with self._lock, ExitStack() as refused:
+            refused.callback(catalog.close)
+            check(lib.latchsym_follower_show(self._handle, catalog._handle, now, tag, generation))
+            refused.pop_all()
             self._shown[tag], self._newest = catalog, tag
 
     def find(self, address: int) -> Sample:
@@ -143,7 +133,7 @@ class Follower:
         """Closes each listing that no sample of this generation or a later one needs."""
         tag = c_uint64()
         with self._lock:
-            while lib.latchsym_follower_forget(self._handle, word(generation), byref(tag)) == it.DONE:
+            while lib.latchsym_follower_forget(self._handle, word(generation), tag) == it.DONE:
                 self._shown.pop(tag.value).close()
 
     def close(self) -> None:
@@ -151,16 +141,5 @@ class Follower:
         tag = c_uint64()
         with self._lock:
             self._reader.close()
-            while lib.latchsym_follower_close(self._handle, byref(tag)) == it.DONE:
+            while lib.latchsym_follower_close(self._handle, tag) == it.DONE:
                 self._shown.pop(tag.value).close()
-
-    def __enter__(self) -> Follower:
-        return self
-
-    def __exit__(
-        self,
-        kind: Type[BaseException] | None,
-        error: BaseException | None,
-        trace: TracebackType | None,
-    ) -> None:
-        self.close()

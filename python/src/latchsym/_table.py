@@ -9,10 +9,10 @@ import threading
 import weakref
 from contextlib import ExitStack
 from ctypes import byref, c_uint64
-from types import TracebackType
-from typing import Callable, Iterable, NamedTuple, Type
+from typing import Callable, Iterable, NamedTuple
 
 from . import _library as it
+from ._buffers import Closing
 from ._catalog import Catalog, Item, Symbol
 from ._errors import Busy, Retry
 from ._library import check, lib, word
@@ -194,7 +194,7 @@ class Reader(_Part):
         return _found(it.DONE, found), symbol
 
 
-class Table:
+class Table(Closing):
     """A table of address ranges, with its writer and its readers.
 
     >>> import latchsym
@@ -296,14 +296,3 @@ class Table:
         """Closes the writer and the readers."""
         for part in (self.writer, *self._readers):
             part.close()
-
-    def __enter__(self) -> Table:
-        return self
-
-    def __exit__(
-        self,
-        kind: Type[BaseException] | None,
-        error: BaseException | None,
-        trace: TracebackType | None,
-    ) -> None:
-        self.close()
