@@ -8,8 +8,9 @@
 #     benches/gate.sh [--page]
 #     benches/gate.sh CRATE..
 #
-# With --page the table takes the place of the one in CONTRIBUTING.md, which has the crates and scripts
-# that took 100 seconds or more. With names of crates it is of the proofs of these and of those below.
+# With --page the table takes the place of benches/gate/times.txt, which has the crates and scripts
+# that took 100 seconds or more; what stands there was measured before `catalog_engines` was parted
+# from `latchsym`. With names of crates it is of the proofs of these and of those below.
 set -euo pipefail
 top=$(cd "$(dirname "$0")/.." && pwd)
 processors=${PROCESSORS:-0,1}
@@ -39,18 +40,11 @@ fi
 sed -n '/^crate  /,$p' "$work/said" >"$work/table"
 cat "$work/table"
 [ "${1:-}" = --page ] || exit 0
-awk -v table="$work/table" '
+awk '
     function took(line, parts, i, sum) {
         if (line ~ /^[0-9]+ s: /) return line + 0
         sum = 0
         for (i = split(line, parts, " "); i > 1; i--) if (parts[i] ~ /\//) sum += substr(parts[i], index(parts[i], "/") + 1)
         return sum
     }
-    /<!-- gate -->/ {
-        print; print ""
-        while ((getline line < table) > 0) if (line ~ /^(crate|in all) / || took(line) >= 100) print "    " line
-        print ""; skipped = 1
-    }
-    /<!-- end of the gate -->/ { skipped = 0 }
-    !skipped' CONTRIBUTING.md >"$work/page"
-cp "$work/page" CONTRIBUTING.md
+    /^(crate|in all) / || took($0) >= 100' "$work/table" >benches/gate/times.txt

@@ -11,24 +11,24 @@ _latchsym() {
     COMPREPLY=()
 
     if [ "$COMP_CWORD" = 1 ]; then
-        mapfile -t COMPREPLY < <(compgen -W 'trace lookup run annotate check address help -h --help -V --version' -- "$word")
+        mapfile -t COMPREPLY < <(compgen -W 'annotate lookup address check trace run help -h --help -V --version' -- "$word")
         return
     fi
     case ${COMP_WORDS[1]} in
-        trace) options='--steps -h --help' ;;
-        lookup) options='--modules --kallsyms --regions --kernel --modules-from-symbols --addresses --callers --offset --json --no-counts -h --help' ;;
-        run) options='--modules --kallsyms --regions --kernel --readers -h --help' ;;
         annotate) options='--kallsyms --modules --regions --kernel --callers --exact --offset --follow -h --help' ;;
-        check) options='--modules --kallsyms --regions --kernel -h --help' ;;
+        lookup) options='--modules --kallsyms --regions --kernel --modules-from-symbols --addresses --callers --offset --json --no-counts -h --help' ;;
         address) options='--kallsyms --modules --regions --kernel --offset --json --no-counts -h --help' ;;
+        check) options='--modules --kallsyms --regions --kernel -h --help' ;;
+        trace) options='--steps -h --help' ;;
+        run) options='--modules --kallsyms --regions --kernel --readers -h --help' ;;
         help)
-            mapfile -t COMPREPLY < <(compgen -W 'trace lookup run annotate check address help' -- "$word")
+            mapfile -t COMPREPLY < <(compgen -W 'annotate lookup address check trace run help' -- "$word")
             return
             ;;
         *) return ;;
     esac
     case $before in
-        --modules | --kallsyms | --regions | --addresses)
+        --kallsyms | --modules | --regions | --addresses)
             compopt -o default
             return
             ;;
@@ -40,7 +40,7 @@ _latchsym() {
     esac
     if [ "${COMP_WORDS[COMP_CWORD - 2]}" = --kernel ]; then
         mapfile -t COMPREPLY < <(compgen -W '_end _einittext _etext' -- "$word")
-    elif [[ $word = -* || ${COMP_WORDS[1]} = lookup || ${COMP_WORDS[1]} = check || ${COMP_WORDS[1]} = address ]]; then
+    elif [[ $word = -* || ${COMP_WORDS[1]} = lookup || ${COMP_WORDS[1]} = address || ${COMP_WORDS[1]} = check ]]; then
         mapfile -t COMPREPLY < <(compgen -W "$options" -- "$word")
     else
         compopt -o default

@@ -1,10 +1,10 @@
 #!/usr/bin/env bash
 # SPDX-License-Identifier: MIT OR Apache-2.0
-# The numbers and lists of the pages that follow from the files: docs/figures.sh writes them into
-# docs/PROOF.md and README.md, and the definitions of the headline into docs/headline.txt; --check says
-# which of them are no longer so. Needs python3.
+# The numbers and lists of the pages that follow from the files: docs/figures.sh writes numbers into
+# docs/PROOF.md and README.md, the lists of docs/PROOF.md into docs/reading.txt, and the definitions of
+# the headline into docs/headline.txt; --check says which of them are no longer so. Needs python3.
 #
-# A list of docs/PROOF.md stands below a line `<!-- read NAME -->`; PATHS says what it is of. A block
+# How long a list is stands below a line `<!-- read NAME -->`; PATHS says what it is of. A block
 # below a line `<!-- quoted: FILE FUNCTION -->` has clauses of that function. A number stands between
 # `<!-- NAME -->` and `<!-- -->`.
 set -euo pipefail
@@ -92,7 +92,7 @@ def clauses_of(file, function):
 # these words alone, `beyond` what the lists of these names have.
 PATHS = {
     "headline": "latch_steps/src/runs.rt run but IsTraceOf MayOpen IsOpeningRefused",
-    "steps": """latch_steps/src/runs.rt run drive_notes
+    "steps": """latch_steps/src/runs.rt run drive
         latch_steps/src/laws.rt every_answer_is_remembered beyond headline""",
     "lookup": "engines/src/lookup.rt lookup_engine but json_line json_counts notes_of symbol_note",
     "json": "engines/src/lookup.rt lookup_engine beyond lookup",
@@ -190,6 +190,9 @@ def expect_order(found, but):
 
 
 LISTS = {}
+READING = ["""\
+The files of definitions of each list of docs/PROOF.md, in the order in which to read them, without
+what earlier lists have. docs/figures.sh writes this file from the sources."""]
 
 
 def listed(name):
@@ -197,10 +200,10 @@ def listed(name):
     functions, but, beyond = parts_of(PATHS[name].split())
     found = LISTS[name] = rested_on(functions, but)
     found = found.difference(*(LISTS[it] for it in beyond))
-    size = f"{len(found)} definitions in {sum(it.lines for it in found)} lines:"
     if name == SPELLED:
         expect_order(found, but)
-    return filled(f"{size} {files_of(found)}.")
+    READING.append(filled(f"{name}: {files_of(found)}."))
+    return f"{len(found)} definitions in {sum(it.lines for it in found)} lines."
 
 
 HEADLINE = """\
@@ -274,6 +277,7 @@ for page in ("docs/PROOF.md", "README.md"):
     quoted = re.findall(r"<!-- quoted: (\S+) (\S+) -->\n\n((?:    .*\n)+)", new)
     if page == "docs/PROOF.md":
         keep("docs/headline.txt", spelled(LISTS[SPELLED], quoted))
+        keep("docs/reading.txt", "\n\n".join(READING) + "\n")
     for file, function, block in quoted:
         clauses = " ".join(clauses_of(file, function)[1].split())
         for line in block.splitlines():

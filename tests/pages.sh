@@ -1,10 +1,11 @@
 #!/usr/bin/env bash
-# Compares the man page and the completions with what the program says of itself by `--help`: each
-# has all options of each command, and none that the program lacks; and the library's page with its
-# header. Formats the pages without a warning and runs the examples of the program's and of README.md;
-# completes words in bash, and in fish where that is installed; and has zsh read its completion where
-# it is. Follows the links of all pages, and has scripts say so where there is no kit. Needs man and
-# groff (Debian has them in man-db and groff-base), and for the examples gcc, binutils and gzip.
+# Compares what completions/write.py makes from the rows with the rows that `--help` shows, and with
+# the completions and pages as they are; the options of the man page with `--help`; the library's page
+# with its header; the stops of docs/TOUR.md with the code. Formats the pages without a warning, runs
+# the examples of the program's and of README.md, follows the links of all pages, completes words in
+# bash, and in fish where that is installed, and has zsh read its completion where it is. Has scripts
+# say so where there is no kit. Needs man and groff (Debian has them in man-db and groff-base), and for
+# the examples gcc, binutils and gzip.
 set -euo pipefail
 . "$(dirname "$0")/program.sh"
 for tool in man groff; do
@@ -28,13 +29,11 @@ same() {
 # what the program has: its commands, and of a command (or of none) the options with their values
 commands=$("$program" --help | sed -nE '/^Commands:/,/^$/s/^ +([a-z]+) .*/\1/p')
 options_of() { "$program" "$@" --help | sed -nE '/^Options:/,/^$/s/^ +((-[a-zA-Z], )?--[a-z-]+( <[A-Z]+>)*).*/\1/p' | tr -d '<>' | sort; }
-# names: the options alone, of such lines
-names() { grep -oE -- '(^|[ ,])--?[a-zA-Z-]+' | tr -d ' ,' | sort -u; }
 helped=$(for command in $commands; do [ "$command" = help ] || echo "$command"; done)
 [ -n "$helped" ] || fail "the help has no commands"
-for command in '' $helped; do
-    options_of $command | grep -q -e '^-h, --help$' || fail "the help of ${command:-latchsym} has no options"
-done
+same "the rows" "$(for command in $helped; do options_of "$command" | sed "/^-h, --help$/d; s/^/$command /"; done | sort)" \
+    "$("$completions/write.py" --rows | sort)"
+"$completions/write.py" --check >"$work/stale" || fail "completions/write.py would write $(cat "$work/stale")"
 
 # the page
 warnings=$({ groff -man -ww -Tutf8 -z "$page"; MANWIDTH=80 man --warnings -E UTF-8 -l -Tutf8 -Z "$page" >/dev/null; } 2>&1)
@@ -44,10 +43,6 @@ groff -man -Tutf8 -P-cbou -rLL=400n "$page" >"$work/page"
 section() { sed -n "/^$1\$/,/^[A-Z]/p" "$work/page"; }
 section NAME | grep -q "^ *latchsym - " || fail "the page has no NAME"
 tail -n 1 "$work/page" | grep -q "^$("$program" --version) " || fail "the page is of another version"
-for command in $helped; do
-    same "the synopsis of $command" "$(options_of "$command" | names | grep -v -e '^-h$' -e '^--help$')" \
-        "$(section SYNOPSIS | grep -E "^ +latchsym $command " | grep -oE -- '--[a-z-]+' | sort -u)"
-done
 same "the commands of the page" "$(sort <<<"$commands")" \
     "$(section SYNOPSIS | sed -nE 's/^ +latchsym ([a-z]+) .*/\1/p' | sort -u)"
 same "the options of the page" "$({ options_of; for command in $helped; do options_of "$command"; done; } | sort -u)" \
@@ -124,12 +119,20 @@ same 'the log of the archive'"'"'s README.md' "$(cat "$top/examples/logs/oops.ex
     "$(sed -n 's/^    \(\[ .*\)/\1/p' "$top/packaging/archive.md")"
 python3 "$top/tests/links.py" "$top" >"$work/links" || fail "$(cat "$work/links")"
 
+# docs/TOUR.md: the function of each stop is there
+stops=0
+while read -r file function; do
+    stops=$((stops + 1))
+    grep -qE "^ *(pub |pub\(crate\) )?(extern \"C\" )?fn $function\b" "$top/crates/$file" || fail "docs/TOUR.md: $file has no $function"
+done < <(sed -nE 's/^([a-z_/]+\.rt) `(\w+)` \| .*/\1 \2/p' "$top/docs/TOUR.md")
+[ $stops = 20 ] || fail "docs/TOUR.md has $stops stops"
+
 # without the kit a script that builds says so, in one line
 mkdir "$work/tools"
 for tool in bash cat cp cut date dirname find grep mktemp realpath rm sed tr; do
     ln -s "$(command -v $tool)" "$work/tools"
 done
-for script in "bash install.sh $work/prefix" "bash "tests/{cases,quick,try,linear,bindings,unproved_library}.sh \
+for script in "bash install.sh $work/prefix" "bash "tests/{cases,quick,try,linear,bindings,unproved_library,first_change}.sh \
     "$(python3 -c 'import sys; print(sys.executable)') tests/wrong_bodies.py --all"; do
     status=0
     # shellcheck disable=SC2086
@@ -164,52 +167,21 @@ complete='
     complete -p latchsym >/dev/null || echo "not registered"
     COMP_WORDS=("$@"); COMP_CWORD=$(($# - 1)); _latchsym
     printf "%s\n" "${COMPREPLY[@]}"'
-offered() { bash --norc -c "$complete" bash "$completions/latchsym.bash" latchsym "$@" | grep . | sort; }
-same "the words that bash offers" "$({ echo "$commands"; options_of | names; } | sort)" "$(offered '')"
-same "the options that bash offers" "$(options_of | names)" "$(offered -)"
-same "the commands that bash offers for help" "$(sort <<<"$commands")" "$(offered help '')"
-# values COMMAND: each option of the command that takes files has them offered
-values() {
-    local option value
-    while read -r option value _; do
-        case $value in
-            FILE)
-                same "what bash offers for $1 $option" files "$(offered "$1" "$option" '')"
-                same "what bash offers for $1 $option=" files "$(offered "$1" "$option" =)"
-                same "what bash offers for $1 $option=x" files "$(offered "$1" "$option" = x)"
-                ;;
-            N) [ -z "$(offered "$1" "$option" '')" ] || fail "bash offers words for $1 $option" ;;
-            START)
-                same "what bash offers for START of $1" _stext "$(offered "$1" "$option" '')"
-                same "what bash offers for END of $1" _end "$(offered "$1" "$option" _stext _en)"
-                ;;
-        esac
-    done < <(options_of "$1")
+# offers WANTED WORD..: what bash offers for the last of these words
+offers() {
+    same "what bash offers for ${*:2}" "$(tr ' ' '\n' <<<"$1")" \
+        "$(bash --norc -c "$complete" bash "$completions/latchsym.bash" latchsym "${@:2}" | grep . | sort)"
 }
-for command in $helped; do
-    same "the options of $command that bash offers" "$(options_of "$command" | names)" "$(offered "$command" -)"
-    values "$command"
+offers '--help --version -V -h' -
+offers "$(sort <<<"$commands")" help ''
+offers '--help --steps -h' trace -
+for words in 'check --modules' 'lookup --addresses =' 'run --regions = x' 'trace x' 'run x' 'annotate x'; do
+    # shellcheck disable=SC2086
+    offers files $words ''
 done
-for command in trace run annotate; do
-    same "what bash offers for the operand of $command" files "$(offered "$command" x)"
-done
-
-# zsh and fish: the options of a command as they stand in the file
-in_zsh() { sed -n "/^ *$1)\$/,/;;/p" "$completions/_latchsym" | grep -oE "(^ *'|[{,])--?[a-zA-Z][a-zA-Z-]*" | tr -d " '{," | sort -u; }
-in_fish() {
-    grep -E "from ([a-z ]* )?$1[ ']" "$completions/latchsym.fish" | grep -oE -- '-(s [a-zA-Z]|l [a-z-]+)' |
-        sed 's/-s /-/; s/-l /--/' | sort -u
-}
-for command in $helped; do
-    same "the options of $command in zsh" "$(options_of "$command" | names)" "$(in_zsh "$command")"
-    same "the options of $command in fish" "$(options_of "$command" | names)" "$(in_fish "$command")"
-done
-same "the options without a command in zsh" "$(options_of | names)" \
-    "$(sed -n '/_arguments -C/,/case/p' "$completions/_latchsym" | grep -oE '[{,]--?[a-zA-Z][a-z-]*' | tr -d '{,' | sort)"
-same "the options without a command in fish" "$(options_of | names)" \
-    "$(sed -nE 's/.*use_subcommand -s ([a-zA-Z]) -l ([a-z-]+) .*/-\1\n--\2/p' "$completions/latchsym.fish" | sort)"
-same "the commands in zsh" "$(sort <<<"$commands")" "$(sed -nE "s/^ +'([a-z]+):.*/\1/p" "$completions/_latchsym" | sort)"
-same "the commands in fish" "$(sort <<<"$commands")" "$(sed -nE 's/.*use_subcommand -a ([a-z]+) .*/\1/p' "$completions/latchsym.fish" | sort)"
+offers '' run --readers ''
+offers _stext lookup --kernel ''
+offers _end lookup --kernel _stext _en
 shells=bash
 if command -v zsh >/dev/null; then
     zsh -n "$completions/_latchsym" || fail "zsh does not read its completion"
@@ -218,9 +190,7 @@ fi
 if command -v fish >/dev/null; then
     in_shell() { fish --no-config -c 'source $argv[1]; complete -C $argv[2]' "$completions/latchsym.fish" "$1" | cut -f 1 | sort; }
     same "the commands that fish offers" "$(sort <<<"$commands")" "$(in_shell 'latchsym ')"
-    for command in $helped; do
-        same "the options of $command that fish offers" "$(options_of "$command" | names | grep '^--')" "$(in_shell "latchsym $command --")"
-    done
+    same "the options that fish offers for trace" $'--help\n--steps' "$(in_shell 'latchsym trace --')"
     shells+=" fish"
 fi
 [ $failed = 1 ] || echo "pages: the man pages, one with $examples examples, and the completions ($shells)"

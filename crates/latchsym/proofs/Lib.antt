@@ -4,3 +4,5 @@ mod Words
 mod ParseLemmas
 -- words that are numbers, one after the other
 mod AddressLemmas
+-- options that do not go together, row after row
+mod ClashLemmas

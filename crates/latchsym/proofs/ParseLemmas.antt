@@ -1,5 +1,5 @@
 -- What a parse by the program's command gives.
-use Rattle.latchsym.proofs.Words.{◌≡◌, ◌∙◌, ◌||◌, ap, sym, List, [], Option, Some, None, Result, Ok, Err, true, false, refl, subst, inl, inr, Box, IfOk, box_value, Some-from_parts, out-ArgMatches, out-SubCommand, SubCommand, AddsSubcommand, shape_of, with_subcommand, AddsArg, Row, subcommand_name_of, subcommand_rows, App, Rule, Text, rule_of, with_rule, HasKind, HasMatchesOf, IsAmong, fault_of, is_simple, is_simple_and_free, kind_of, subcommand_of, subcommand_rows_of, Error, ArgMatches, Arg, Command, out-Command, IsCommand, IsPlainArg, latchsym_app, AnswersMatches, AnswersWords, IsFaultOf, IsUnparsed, Job, JobFault, CommandLine, OutOfMemory}
+use Rattle.latchsym.proofs.Words.{◌≡◌, ◌∙◌, ◌+◌, ◌<◌, ◌∷◌, ◌||◌, ap, sym, ℕ, List, [], fold, fold-append, get_or, length, map, map-append, new_app, take, take_more, Argument, row_of, Option, Some, None, Result, Ok, Err, true, false, refl, subst, inl, inr, Box, IfOk, box_value, Some-from_parts, out-ArgMatches, out-SubCommand, SubCommand, AddsSubcommand, shape_of, with_subcommand, AddsArg, Row, subcommand_name_of, subcommand_rows, App, Text, rule_of, with_rule, HasKind, HasMatchesOf, IsAmong, fault_of, is_simple, is_simple_and_free, kind_of, subcommand_of, subcommand_rows_of, Error, ArgMatches, Arg, Command, out-Command, IsCommand, IsPlainArg, latchsym_app, AnswersMatches, AnswersWords, IsFaultOf, IsUnparsed, Job, JobFault, CommandLine, OutOfMemory}
 use Rattle.clap.proofs.OnLiterals.{clap_on_literals}
 use Rattle.std.specs.Prelude.{option_map}
 use Rattle.clap.specs.declared.error.kind.ErrorKind.TheVariants as kind
@@ -37,17 +37,24 @@ answers_matches a words m r is none has says =
     let entered : subcommand_rows_of m ≡ subcommand_of latchsym_app words = (subst Q is has is_simple_latchsym).1 in
     inl (subst P is none is_free_latchsym, subst (λ s. AnswersMatches s r) entered says)
 
--- a command with one argument more
-pub one_more : {old new : Command} {a : Arg} {app : App} {rule : Rule} → IsCommand app old → IsPlainArg rule a → AddsArg old a new → IsCommand (with_rule app rule) new
-one_more {old = old} {a = a} {app = app} {rule = rule} command arg adds = record {
-  shape = adds.shape arg.local ∙ ap (λ x. with_rule x (rule_of a)) command.shape ∙ ap (with_rule app) arg.shape;
-  local = adds.globals ∙ ap (λ b. (out-Command old).has_globals || b) arg.local ∙ ap (λ b. b || false) command.local;
-}
+-- the command of this name with the arguments of these rows
+abbrev pub app_with : Text → List Argument → App
+app_with name rows = fold with_rule (new_app name) (map (λ row. row.rule) (map row_of rows))
 
--- the same where memory may run out
-pub one_more_if_ok : {E : Type 0} {old : Command} (r : Result Command E) {a : Arg} {app : App} {rule : Rule} → IsCommand app old → IsPlainArg rule a → IfOk r (AddsArg old a) → IfOk r (IsCommand (with_rule app rule))
-one_more_if_ok (Ok new) command arg adds = one_more command arg adds
-one_more_if_ok (Err e) command arg adds = tt
+app_with-more : (name : Text) (rows : List Argument) (i : ℕ) (d : Argument) → i < length rows → app_with name (take (i + 1) rows) ≡ with_rule (app_with name (take i rows)) (row_of (get_or rows i d)).rule
+app_with-more name rows i d lt =
+    ap (app_with name) (take_more rows i d lt)
+    ∙ ap (λ rs. fold with_rule (new_app name) (map (λ row. row.rule) rs)) (map-append row_of (take i rows) (get_or rows i d ∷ []))
+    ∙ ap (fold with_rule (new_app name)) (map-append (λ row. row.rule) (map row_of (take i rows)) (row_of (get_or rows i d) ∷ []))
+    ∙ fold-append with_rule (new_app name) (map (λ row. row.rule) (map row_of (take i rows))) ((row_of (get_or rows i d)).rule ∷ [])
+
+-- a command with the argument of one row more
+pub one_more : {old new : Command} {arg : Arg} (name : Text) (rows : List Argument) (i : ℕ) (d : Argument) → i < length rows → IsCommand (app_with name (take i rows)) old → IsPlainArg (row_of (get_or rows i d)).rule arg
+    → AddsArg old arg new → IsCommand (app_with name (take (i + 1) rows)) new
+one_more {old = old} {arg = arg} name rows i d lt command is adds = rw (app_with-more name rows i d lt) (record {
+  shape = adds.shape is.local ∙ ap (λ x. with_rule x (rule_of arg)) command.shape ∙ ap (with_rule (app_with name (take i rows))) is.shape;
+  local = adds.globals ∙ ap (λ b. (out-Command old).has_globals || b) is.local ∙ ap (λ b. b || false) command.local;
+})
 
 -- a command with one subcommand more
 subcommand_more : {old new sub : Command} {app of_sub : App} → IsCommand app old → IsCommand of_sub sub → AddsSubcommand old sub new → IsCommand (with_subcommand app of_sub.top) new

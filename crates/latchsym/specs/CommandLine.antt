@@ -1,6 +1,8 @@
--- The program's command line, as `clap` reads it.
-use Rattle.std.specs.Prelude.{◌≡◌, List, [], ◌∷◌, Some, codes, true, false}
+-- The program's command line: a row for each option and operand, and how `clap` reads them.
+use Rattle.std.specs.Prelude.{◌≡◌, ℕ, List, [], ◌∷◌, Option, Some, None, codes, true, false, length}
+use Rattle.std.specs.Prelude.{if◌then◌else◌, map, option_map}
 use Rattle.std.specs.List.{fold}
+use Rattle.std.specs.Str.{bytes_eq}
 use Rattle.clap.specs.Lexer.{usize_max}
 use Rattle.clap.specs.Words.{App, Rule, Text, app_of, new_app, new_rule, rule_of, with_rule}
 use Rattle.clap.specs.Words.{with_subcommand}
@@ -9,102 +11,132 @@ use Rattle.clap.specs.declared.builder.action.ArgAction.TheVariants.{SetTrue}
 use Rattle.clap.specs.declared.builder.arg.Arg.{Arg}
 use Rattle.clap.specs.declared.builder.command.Command.{Command}
 use Rattle.clap.specs.declared.builder.command.Command.TheViews.{out-Command}
+use Rattle.latchsym.specs.declared.rows.Argument.{Argument}
+use Rattle.latchsym.specs.declared.rows.Clash.{Clash}
+use Rattle.latchsym.specs.declared.rows.Kind.{Kind}
+use Rattle.latchsym.specs.declared.rows.Kind.TheVariants.{Flag, Valued, Operand, Operands}
 
--- a word that has to be given, and has a name in the help
-abbrev pub word_rule : Text → Rule
-word_rule id = record (new_rule id) { value_names = 1; required = true }
+-- another argument, and what is said if the two do not go together
+pub record Beside : Type 0 where
+  pub other : Text
+  pub message : Text
 
--- a word that may be given, and has a name in the help
-abbrev pub optional_word_rule : Text → Rule
-optional_word_rule id = record (new_rule id) { value_names = 1 }
+-- how an argument is read, the flag that excludes it, and the option that it needs
+pub record ArgumentRow : Type 0 where
+  pub rule : Rule
+  pub excluded_by : Option Beside
+  pub needs : Option Beside
 
--- an option that has to be given, with one value
-abbrev pub option_rule : Text → Rule
-option_rule id = record (new_rule id) { long = Some id; value_names = 1; required = true }
+-- ---- a row of the program
 
--- an option that may be given, with one value
-abbrev pub optional_rule : Text → Rule
-optional_rule id = record (new_rule id) { long = Some id; value_names = 1 }
+abbrev pub with_kind : Kind → Rule → Rule
+with_kind Flag rule = record rule { long = Some rule.id; action = Some SetTrue }
+with_kind Valued rule = record rule { long = Some rule.id }
+with_kind Operand rule = rule
+with_kind Operands rule =
+    record rule { range = Some (record { start_inclusive = 1; end_inclusive = usize_max }) }
 
--- an option that may be given, without a value
-abbrev pub flag_rule : Text → Rule
-flag_rule id = record (new_rule id) { long = Some id; action = Some SetTrue }
+abbrev pub beside_of : Clash → Beside
+beside_of c = record { other = c.other.now; message = c.message.now }
 
--- an option that may be given, with two values
-abbrev pub pair_rule : Text → Rule
-pair_rule id = record (new_rule id) { long = Some id; value_names = 2 }
-
--- any number of words
-abbrev pub words_rule : Text → Rule
-words_rule id = record (new_rule id) {
-  range = Some (record { start_inclusive = 1; end_inclusive = usize_max });
-  value_names = 1;
+abbrev pub row_of : Argument → ArgumentRow
+row_of a = record {
+  rule =
+      with_kind a.kind
+      (record (new_rule a.name.now) { value_names = length a.values.now; required = a.is_required });
+  excluded_by = option_map beside_of a.excluded_by;
+  needs = option_map beside_of a.needs;
 }
 
--- words of which there has to be one
-abbrev pub some_words_rule : Text → Rule
-some_words_rule id = record (words_rule id) { required = true }
+-- ---- the rows of each command, in the order of its help
 
--- a subcommand with these arguments, in the order of its help
-abbrev pub with_rules : App → List Rule → App
-with_rules app rules = fold with_rule app rules
+-- an argument with this number of values that goes together with all others
+abbrev pub plain : Kind → ℕ → Text → ArgumentRow
+plain kind values id = record {
+  rule = with_kind kind (record (new_rule id) { value_names = values });
+  excluded_by = None;
+  needs = None;
+}
 
--- trace [--steps] FILE
-abbrev pub trace_app : App
-trace_app =
-    with_rules (new_app (codes "trace")) (flag_rule (codes "steps") ∷ word_rule (codes "file") ∷ [])
+abbrev pub flag : Text → ArgumentRow
+flag = plain Flag 0
 
--- the options of the modules and of the symbols, and [--regions FILE] [--kernel START END]
-abbrev pub with_listings : App → Rule → Rule → App
-with_listings app one two =
-    with_rules app
-    (one ∷ two ∷ optional_rule (codes "regions") ∷ pair_rule (codes "kernel") ∷ [])
+abbrev pub option : Text → ArgumentRow
+option = plain Valued 1
 
--- lookup [--modules FILE] [--kallsyms FILE] [--regions FILE] [--kernel START END]
--- [--modules-from-symbols] [--addresses FILE] [--callers] [--offset N] [--json] [--no-counts]
--- [ADDR]..
-abbrev pub lookup_app : App
-lookup_app =
-    with_rules
-    (with_listings (new_app (codes "lookup")) (optional_rule (codes "modules"))
-    (optional_rule (codes "kallsyms")))
-    (flag_rule (codes "modules-from-symbols") ∷ optional_rule (codes "addresses")
-    ∷ flag_rule (codes "callers") ∷ optional_rule (codes "offset") ∷ flag_rule (codes "json")
-    ∷ flag_rule (codes "no-counts") ∷ words_rule (codes "address") ∷ [])
+abbrev pub required : ArgumentRow → ArgumentRow
+required row = record row { rule = record row.rule { required = true } }
 
--- run --modules FILE --kallsyms FILE [--regions FILE] [--kernel START END] --readers N SCRIPT
-abbrev pub run_app : App
-run_app =
-    with_rules
-    (with_listings (new_app (codes "run")) (option_rule (codes "modules"))
-    (option_rule (codes "kallsyms")))
-    (option_rule (codes "readers") ∷ word_rule (codes "script") ∷ [])
+abbrev pub excluded_by : Text → Text → ArgumentRow → ArgumentRow
+excluded_by other message row =
+    record row { excluded_by = Some (record { other = other; message = message }) }
 
--- annotate [--kallsyms FILE] [--modules FILE] [--regions FILE] [--kernel START END] [--callers]
--- [--exact] [--offset N] [--follow] [LOG]
-abbrev pub annotate_app : App
-annotate_app =
-    with_rules
-    (with_listings (new_app (codes "annotate")) (optional_rule (codes "kallsyms"))
-    (optional_rule (codes "modules")))
-    (flag_rule (codes "callers") ∷ flag_rule (codes "exact") ∷ optional_rule (codes "offset")
-    ∷ flag_rule (codes "follow") ∷ optional_word_rule (codes "log") ∷ [])
+abbrev pub needing : Text → Text → ArgumentRow → ArgumentRow
+needing other message row =
+    record row { needs = Some (record { other = other; message = message }) }
 
--- check [--modules FILE] [--kallsyms FILE] [--regions FILE] [--kernel START END]
-abbrev pub check_app : App
-check_app =
-    with_listings (new_app (codes "check")) (optional_rule (codes "modules"))
-    (optional_rule (codes "kallsyms"))
+-- an option for which modules are listed, so that none come from the symbols
+abbrev pub listed : Text → ArgumentRow
+listed id =
+    excluded_by (codes "modules-from-symbols")
+    (codes "--modules-from-symbols cannot be used with --modules or --regions") (option id)
 
--- address [--kallsyms FILE] [--modules FILE] [--regions FILE] [--kernel START END] [--offset N]
--- [--json] [--no-counts] NAME..
-abbrev pub address_app : App
-address_app =
-    with_rules
-    (with_listings (new_app (codes "address")) (optional_rule (codes "kallsyms"))
-    (optional_rule (codes "modules")))
-    (optional_rule (codes "offset") ∷ flag_rule (codes "json") ∷ flag_rule (codes "no-counts")
-    ∷ some_words_rule (codes "name") ∷ [])
+-- --regions FILE and --kernel START END
+abbrev pub bounds_rows : List ArgumentRow → List ArgumentRow
+bounds_rows rest =
+    needing (codes "modules") (codes "--regions needs --modules") (listed (codes "regions"))
+    ∷ plain Valued 2 (codes "kernel") ∷ rest
+
+abbrev pub lookup_rows : List ArgumentRow
+lookup_rows =
+    listed (codes "modules") ∷ option (codes "kallsyms")
+    ∷ bounds_rows (flag (codes "modules-from-symbols") ∷ option (codes "addresses")
+    ∷ flag (codes "callers") ∷ option (codes "offset") ∷ flag (codes "json")
+    ∷ flag (codes "no-counts") ∷ plain Operands 1 (codes "address") ∷ [])
+
+abbrev pub run_rows : List ArgumentRow
+run_rows =
+    required (option (codes "modules")) ∷ required (option (codes "kallsyms"))
+    ∷ bounds_rows
+    (required (option (codes "readers")) ∷ required (plain Operand 1 (codes "script")) ∷ [])
+
+abbrev pub annotate_rows : List ArgumentRow
+annotate_rows =
+    option (codes "kallsyms") ∷ listed (codes "modules")
+    ∷ bounds_rows
+    (excluded_by (codes "exact") (codes "--callers and --exact exclude each other")
+    (flag (codes "callers"))
+    ∷ flag (codes "exact") ∷ option (codes "offset") ∷ flag (codes "follow")
+    ∷ plain Operand 1 (codes "log") ∷ [])
+
+abbrev pub check_rows : List ArgumentRow
+check_rows = listed (codes "modules") ∷ option (codes "kallsyms") ∷ bounds_rows []
+
+abbrev pub address_rows : List ArgumentRow
+address_rows =
+    option (codes "kallsyms") ∷ listed (codes "modules")
+    ∷ bounds_rows (option (codes "offset") ∷ flag (codes "json") ∷ flag (codes "no-counts")
+    ∷ required (plain Operands 1 (codes "name")) ∷ [])
+
+abbrev pub trace_rows : List ArgumentRow
+trace_rows = flag (codes "steps") ∷ required (plain Operand 1 (codes "file")) ∷ []
+
+-- the rows of the command of this name
+abbrev pub arguments_of : Text → List ArgumentRow
+arguments_of name =
+    if bytes_eq name (codes "lookup") then lookup_rows
+    else if bytes_eq name (codes "run") then run_rows
+    else if bytes_eq name (codes "annotate") then annotate_rows
+    else if bytes_eq name (codes "check") then check_rows
+    else if bytes_eq name (codes "address") then address_rows
+    else if bytes_eq name (codes "trace") then trace_rows
+    else []
+
+-- ---- the parser
+
+-- the command of this name, with the arguments of its rows
+abbrev pub command_app : Text → App
+command_app name = fold with_rule (new_app name) (map (λ row. row.rule) (arguments_of name))
 
 -- a subcommand has to be given, but for `--version`
 abbrev pub top_app : App
@@ -114,8 +146,9 @@ top_app =
 
 abbrev pub latchsym_app : App
 latchsym_app =
-    fold (λ app added. with_subcommand app added.top) top_app
-    (annotate_app ∷ lookup_app ∷ address_app ∷ check_app ∷ trace_app ∷ run_app ∷ [])
+    fold (λ app name. with_subcommand app (command_app name).top) top_app
+    (codes "annotate" ∷ codes "lookup" ∷ codes "address" ∷ codes "check" ∷ codes "trace"
+    ∷ codes "run" ∷ [])
 
 -- the command reads words as `app` does
 pub record IsCommand (app : App) (c : Command) : Type 0 where

@@ -1,6 +1,6 @@
 -- The job that the words of a command line ask for.
-use Rattle.std.specs.Prelude.{◌≡◌, ◌≢◌, ◌⊎◌, ◌&&◌, ◌||◌, ℕ, Bool, true, false, nat_eq, List, [], ◌∷◌, length, map}
-use Rattle.std.specs.Prelude.{Option, Some, None, Result, Ok, Err, codes, find, is_none, is_some, not}
+use Rattle.std.specs.Prelude.{◌≡◌, ◌≢◌, ◌⊎◌, ◌&&◌, ℕ, Bool, true, false, nat_eq, List, [], ◌∷◌, length, map}
+use Rattle.std.specs.Prelude.{Option, Some, None, Result, Ok, Err, codes, find, is_none, is_some, not, slice_get}
 use Rattle.std.specs.Prelude.{unwrap_or, if◌then◌else◌}
 use Rattle.std.specs.Global.{Vec}
 use Rattle.std.specs.List.{filter_map, list_any, starts_with}
@@ -18,17 +18,15 @@ use Rattle.latch_table.specs.Limits.{most_readers}
 use Rattle.texts.specs.Numbers.{between, number_of}
 use Rattle.listing.specs.Addresses.{address_of_text}
 use Rattle.modules.specs.Listed.{BoundNames}
-use Rattle.latchsym.specs.CommandLine.{latchsym_app}
+use Rattle.latchsym.specs.CommandLine.{ArgumentRow, Beside, arguments_of, latchsym_app}
 use Rattle.latchsym.specs.declared.requests.Address.{Address}
 use Rattle.catalog_engines.specs.declared.annotations.Annotate.{Annotate}
 use Rattle.latchsym.specs.declared.requests.Job.{Job}
 use Rattle.latchsym.specs.declared.requests.Job.TheVariants as job
 use Rattle.latchsym.specs.declared.requests.JobFault.{JobFault}
 use Rattle.latchsym.specs.declared.requests.JobFault.TheVariants.{BadAddress, BadEnd, BadOffset}
-use Rattle.latchsym.specs.declared.requests.JobFault.TheVariants.{BadReaders, CommandLine}
-use Rattle.latchsym.specs.declared.requests.JobFault.TheVariants.{ModulesTwice, NoAddress, NoJob}
-use Rattle.latchsym.specs.declared.requests.JobFault.TheVariants.{OutOfMemory}
-use Rattle.latchsym.specs.declared.requests.JobFault.TheVariants.{RegionsAlone, TakenTwice}
+use Rattle.latchsym.specs.declared.requests.JobFault.TheVariants.{BadReaders, Clash, CommandLine}
+use Rattle.latchsym.specs.declared.requests.JobFault.TheVariants.{NoAddress, NoJob, OutOfMemory}
 use Rattle.catalog_engines.specs.declared.sources.ListingFiles.{ListingFiles}
 use Rattle.latchsym.specs.declared.requests.Lookup.{Lookup}
 use Rattle.latchsym.specs.declared.requests.Request.{Request}
@@ -52,27 +50,34 @@ has_flag id rows = option_map_or (λ text. bytes_eq text (codes "true")) (first_
 
 -- ---- options that do not go together
 
--- the modules of a lookup come from two places
-abbrev pub source_clash : List Row → Option JobFault
-source_clash rows =
-    let listed = is_some (first_of (codes "modules") rows) in
-    let regions = is_some (first_of (codes "regions") rows) in
-    if has_flag (codes "modules-from-symbols") rows && (listed || regions) then Some ModulesTwice
+-- the argument of the row is given
+abbrev pub is_present : List Row → ArgumentRow → Bool
+is_present rows row =
+    if is_some row.rule.action then has_flag row.rule.id rows
+    else is_some (first_of row.rule.id rows)
+
+-- what is said of the other argument, if it is so of it
+abbrev pub said_if : (Text → Bool) → Option Beside → Option Text
+said_if is_so None = None
+said_if is_so (Some b) = if is_so b.other then Some b.message else None
+
+-- what is wrong with the argument of the row, if it is given: the flag that excludes it is too, or
+-- the option that it needs is not
+abbrev pub clash_of : List Row → ArgumentRow → Option Text
+clash_of rows row =
+    if is_present rows row
+    then option_or (said_if (λ id. has_flag id rows) row.excluded_by)
+    (said_if (λ id. is_none (first_of id rows)) row.needs)
     else None
 
--- regions are named without modules, or callers are asked for in two ways
-abbrev pub option_clash : List Row → Option JobFault
-option_clash rows =
-    if is_none (first_of (codes "modules") rows) && is_some (first_of (codes "regions") rows)
-    then Some RegionsAlone
-    else if has_flag (codes "callers") rows && has_flag (codes "exact") rows then Some TakenTwice
-    else None
+-- the first of what is wrong with the options of the command of this name beside one another
+abbrev pub clash_in : Text → List Row → Option Text
+clash_in name rows = slice_get (filter_map (clash_of rows) (arguments_of name)) 0
 
--- what is wrong with the options of a subcommand of this name beside one another, if something is
-abbrev pub clash_in : Text → List Row → Option JobFault
-clash_in name rows =
-    if bytes_eq name (codes "lookup") then option_or (source_clash rows) (option_clash rows)
-    else option_clash rows
+-- this is what is wrong with them
+abbrev pub IsClashIn : Text → List Row → JobFault → Type 0
+IsClashIn name rows (Clash message) = clash_in name rows ≡ Some message.now
+IsClashIn name rows _ = ⊥
 
 -- ---- the listings
 
@@ -269,7 +274,7 @@ Gives Is name rows (Err fault) = HasBadValue name rows fault
 abbrev pub AnswersSubcommand : Text → List Row → Result Job JobFault → Type 0
 AnswersSubcommand name rows (Ok job) = (clash_in name rows ≡ None) × IsJobIn name rows job
 AnswersSubcommand name rows (Err fault) =
-    (clash_in name rows ≡ Some fault)
+    IsClashIn name rows fault
     ⊎ ((clash_in name rows ≡ None) × HasBadValue name rows fault)
 
 -- the answer if a parse entered this subcommand

@@ -15,8 +15,7 @@ use Rattle.latchsym.specs.declared.requests.JobFault.TheVariants.{OutOfMemory, C
 use Rattle.latchsym.specs.declared.requests.JobFault.TheVariants.{BadAddress, NoAddress}
 use Rattle.latchsym.specs.declared.requests.JobFault.TheVariants.{BadEnd, BadOffset}
 use Rattle.latchsym.specs.declared.requests.JobFault.TheVariants.{BadReaders, NoJob, NoText}
-use Rattle.latchsym.specs.declared.requests.JobFault.TheVariants.{ModulesTwice}
-use Rattle.latchsym.specs.declared.requests.JobFault.TheVariants.{RegionsAlone, TakenTwice}
+use Rattle.latchsym.specs.declared.requests.JobFault.TheVariants.{Clash}
 use Rattle.command_io.specs.declared.fault.Fault.TheVariants.{Refused, Write}
 
 -- what is wrong with the command line, and with which word
@@ -75,12 +74,8 @@ IsNoJob contents errors w w' e e' (BadAddress word) status =
     IsMisusedAlone errors w w' e e' (codes "bad address ") word.now status
 IsNoJob contents errors w w' e e' NoAddress status =
     IsMisusedAlone errors w w' e e' (codes "no address is given") [] status
-IsNoJob contents errors w w' e e' ModulesTwice status =
-    IsMisusedAlone errors w w' e e' (codes "--modules-from-symbols cannot be used with --modules or --regions") [] status
-IsNoJob contents errors w w' e e' RegionsAlone status =
-    IsMisusedAlone errors w w' e e' (codes "--regions needs --modules") [] status
-IsNoJob contents errors w w' e e' TakenTwice status =
-    IsMisusedAlone errors w w' e e' (codes "--callers and --exact exclude each other") [] status
+IsNoJob contents errors w w' e e' (Clash message) status =
+    IsMisusedAlone errors w w' e e' message.now [] status
 IsNoJob contents errors w w' e e' (BadOffset word) status =
     IsMisusedAlone errors w w' e e' (offset_message word.now) word.now status
 IsNoJob contents errors w w' e e' (BadEnd word) status =

@@ -1,15 +1,17 @@
 //! From the words of a command line to the job that they ask for.
 ghost use Rattle.std.specs.Prelude.{◌≡◌, ◌≢◌, List, codes, map, option_map, unwrap_or};
 ghost use Rattle.clap.specs.Words.{Row, Text, first_of, subcommand_rows_of};
+ghost use Rattle.latchsym.specs.CommandLine.{row_of};
 ghost use Rattle.latchsym.specs.Jobs.{AnswersMatches, AnswersSubcommand, AnswersWords, AreBoundsIn};
 ghost use Rattle.latchsym.specs.Jobs.{AreFilesIn, AreNumbersIn, Gives, IsAddressIn, IsAnnotateIn};
 ghost use Rattle.latchsym.specs.Jobs.{IsFaultOf, IsJobIn, IsLookupIn, IsOffsetIn, IsRequestIn};
-ghost use Rattle.latchsym.specs.Jobs.{IsRunIn, IsSubcommandIn, callers_in, clash_in, form_in};
-ghost use Rattle.latchsym.specs.Jobs.{has_flag, is_like_address, option_clash, readers_of, rows_in};
-ghost use Rattle.latchsym.specs.Jobs.{source_clash, values_in};
+ghost use Rattle.latchsym.specs.Jobs.{IsRunIn, IsSubcommandIn, callers_in, clash_in, clash_of};
+ghost use Rattle.latchsym.specs.Jobs.{form_in, has_flag, is_like_address, is_present, readers_of};
+ghost use Rattle.latchsym.specs.Jobs.{rows_in, values_in};
 
 use crate::command_line::latchsym_command;
 use crate::requests::{Address, Job, JobFault, Lookup, Request, Run, Subcommand};
+use crate::rows::{Argument, KALLSYMS, Kind, LOG, arguments_of};
 use catalog_engines::{AddressForm, Annotate, ListingFiles, Sources};
 use clap::error::ErrorKind;
 use clap::{ArgMatches, Error};
@@ -20,12 +22,6 @@ use modules::KernelBounds;
 use std::alloc::Global;
 use std::convert::AsStr;
 use texts::{number, number_up_to};
-
-/// The listing of symbols that the kernel itself gives.
-const KALLSYMS: &str = "/proc/kallsyms";
-
-/// The word for the standard input.
-const STANDARD_INPUT: &str = "-";
 
 /// The job that a program's words ask for, the first of which is the program's name.
 pub fn job_of<'a, S: AsStr>(alloc: Global, words: &'a [S]) -> Result<Job<'a>, JobFault<'a>>
@@ -68,8 +64,8 @@ fn job_of_subcommand<'a>(
 ) -> Result<Job<'a>, JobFault<'a>>
     ensures { AnswersSubcommand name.now (rows_in found.now) result }
 {
-    if let Some(clash) = clash_in(name, found) {
-        return Err(clash);
+    if let Some(message) = clash_in(name, found) {
+        return Err(JobFault::Clash(message));
     }
     match name {
         "trace" => trace_in(found),
@@ -77,39 +73,41 @@ fn job_of_subcommand<'a>(
     }
 }
 
-/// What is wrong with the options of a subcommand of this name beside one another.
-fn clash_in<'a>(name: &str, found: &ArgMatches<'_>) -> Option<JobFault<'a>>
-    ensures { result ≡ clash_in name.now (rows_in found.now) }
+/// What is wrong with the options of the command of this name beside one another, by the first row
+/// that says so.
+fn clash_in(name: &str, found: &ArgMatches<'_>) -> Option<&'static str>
+    ensures { option_map (λ m. m.now) result ≡ clash_in name.now (rows_in found.now) }
 {
-    match name {
-        "lookup" => source_clash(found).or(option_clash(found)),
-        _ => option_clash(found),
+    for row in arguments_of(name) {
+        if let Some(message) = clash_of(row, found) {
+            return Some(message);
+        }
+    }
+    None
+}
+
+/// What is wrong if the argument of the row is given: a flag that excludes it is too, or the option
+/// that it needs is not.
+fn clash_of(row: &Argument, found: &ArgMatches<'_>) -> Option<&'static str>
+    ensures { option_map (λ m. m.now) result ≡ clash_of (rows_in found.now) (row_of row.now) }
+{
+    if !is_present(row, found) {
+        return None;
+    }
+    match (row.excluded_by, row.needs) {
+        (Some(clash), _) if is_given(found, clash.other) => Some(clash.message),
+        (_, Some(clash)) if value_of(found, clash.other).is_none() => Some(clash.message),
+        _ => None,
     }
 }
 
-/// A lookup whose modules come from the symbols is given no other place of them.
-fn source_clash<'a>(found: &ArgMatches<'_>) -> Option<JobFault<'a>>
-    ensures { result ≡ source_clash (rows_in found.now) }
+/// Whether the argument of the row is given.
+fn is_present(row: &Argument, found: &ArgMatches<'_>) -> bool
+    ensures { result ≡ is_present (rows_in found.now) (row_of row.now) }
 {
-    let is_listed = value_of(found, "modules").is_some();
-    let has_regions = value_of(found, "regions").is_some();
-    if is_given(found, "modules-from-symbols") && (is_listed || has_regions) {
-        Some(JobFault::ModulesTwice)
-    } else {
-        None
-    }
-}
-
-/// Regions are those of listed modules, and the addresses of a log are taken in one way.
-fn option_clash<'a>(found: &ArgMatches<'_>) -> Option<JobFault<'a>>
-    ensures { result ≡ option_clash (rows_in found.now) }
-{
-    if value_of(found, "modules").is_none() && value_of(found, "regions").is_some() {
-        Some(JobFault::RegionsAlone)
-    } else if is_given(found, "callers") && is_given(found, "exact") {
-        Some(JobFault::TakenTwice)
-    } else {
-        None
+    match row.kind {
+        Kind::Flag => is_given(found, row.name),
+        _ => value_of(found, row.name).is_some(),
     }
 }
 
@@ -147,7 +145,7 @@ fn files_in<'a>(found: &ArgMatches<'a>) -> ListingFiles<'a>
 {
     ListingFiles {
         modules: value_of(found, "modules"),
-        kallsyms: value_or(found, "kallsyms", KALLSYMS),
+        kallsyms: value_or_default(found, &KALLSYMS),
         regions: value_of(found, "regions"),
     }
 }
@@ -271,14 +269,21 @@ fn annotate_in<'a>(found: &ArgMatches<'a>) -> Result<Annotate<'a>, JobFault<'a>>
     ensures { Gives IsAnnotateIn (codes "annotate") (rows_in found.now) result }
 {
     let offset = offset_in(found)?;
-    Ok(Annotate {
+    Ok(annotate_with(found, offset))
+}
+
+/// The log that is annotated, by addresses that are moved by this offset.
+fn annotate_with<'a>(found: &ArgMatches<'a>, offset: u64) -> Annotate<'a>
+    ensures { IsOffsetIn (rows_in found.now) offset → IsAnnotateIn (rows_in found.now) result }
+{
+    Annotate {
         rule: LogRule {
             callers: callers_in(found),
             offset,
         },
         follow: is_given(found, "follow"),
-        log: value_or(found, "log", STANDARD_INPUT),
-    })
+        log: value_or_default(found, &LOG),
+    }
 }
 
 /// Which addresses of a log are taken as return addresses.
@@ -326,11 +331,12 @@ fn value_of<'a>(found: &ArgMatches<'a>, id: &str) -> Option<&'a str>
     found.get_str(id)
 }
 
-/// The value of an argument that takes one, or else the usual one.
-fn value_or<'a>(found: &ArgMatches<'a>, id: &str, usual: &'a str) -> &'a str
-    ensures { result.now ≡ unwrap_or (first_of id.now (rows_in found.now)) usual.entry.now }
+/// The value of the argument of a row, or else its default.
+fn value_or_default<'a>(found: &ArgMatches<'a>, row: &Argument) -> &'a str
+    ensures { result.now ≡ unwrap_or (first_of row.now.name.now (rows_in found.now))
+        row.now.default.now }
 {
-    value_of(found, id).unwrap_or(usual)
+    value_of(found, row.name).unwrap_or(row.default)
 }
 
 /// Whether a flag is given.

@@ -9,7 +9,7 @@
 //! - `check` says what is wrong with listings, and how many of their lines are of use
 //! - `address` says where the symbols of some names are
 //!
-//! The options of each are in `command_line`, and what they ask for in `requests`.
+//! The options of each are in `rows`, and what they ask for in `requests`.
 //!
 //! What `trace`, `lookup` and `run` do is in `engines`, and what needs no table in
 //! `catalog_engines`.
@@ -26,6 +26,7 @@ mod operands;
 mod programs;
 mod reports;
 mod requests;
+mod rows;
 
 use command_io::Fault;
 use input::FileSystem;

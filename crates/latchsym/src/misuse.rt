@@ -32,13 +32,7 @@ pub fn refuse<W: Write, E: Write>(
         JobFault::CommandLine(error) => explain(alloc, &error, writer, errors),
         JobFault::BadAddress(word) => misused(b"bad address ", word, errors),
         JobFault::NoAddress => misused(b"no address is given", "", errors),
-        JobFault::ModulesTwice => misused(
-            b"--modules-from-symbols cannot be used with --modules or --regions",
-            "",
-            errors,
-        ),
-        JobFault::RegionsAlone => misused(b"--regions needs --modules", "", errors),
-        JobFault::TakenTwice => { misused(b"--callers and --exact exclude each other", "", errors) }
+        JobFault::Clash(message) => misused(message.as_bytes(), "", errors),
         JobFault::BadOffset(word) => misused(offset_message(word), word, errors),
         JobFault::BadEnd(word) => misused(
             b"--kernel takes two names of symbols, and its END is ",

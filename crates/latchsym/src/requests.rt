@@ -27,23 +27,18 @@ pub struct Request<'a> {
     pub subcommand: Subcommand<'a>,
 }
 
-/// What is done with listings. Each has the options `--kallsyms FILE`, `[--modules FILE]`,
-/// `[--regions FILE]` and `[--kernel START END]`.
+/// What is done with listings.
 #[derive(Debug, Drop)]
 pub enum Subcommand<'a> {
-    /// `latchsym lookup [--modules-from-symbols] [--addresses FILE] [--callers] [--offset N]
-    /// [--json] [--no-counts] [ADDR]..`: look addresses up.
+    /// `latchsym lookup`: look addresses up.
     Lookup(Lookup<'a>),
-    /// `latchsym run --readers N SCRIPT`: do what a script says, each writer and each reader on a
-    /// thread.
+    /// `latchsym run`: do what a script says, each writer and each reader on a thread.
     Run(Run<'a>),
-    /// `latchsym annotate [--callers | --exact] [--offset N] [--follow] [LOG]`: write a log again,
-    /// with a symbol after each address.
+    /// `latchsym annotate`: write a log again, with a symbol after each address.
     Annotate(Annotate<'a>),
     /// `latchsym check`: write all that is noted of listings, and their counts.
     Check,
-    /// `latchsym address [--offset N] [--json] [--no-counts] NAME..`: write where the symbols of
-    /// these names are.
+    /// `latchsym address`: write where the symbols of some names are.
     Address(Address<'a>),
 }
 
@@ -153,12 +148,8 @@ pub enum JobFault<'a> {
     BadAddress(&'a str),
     /// A lookup without an address.
     NoAddress,
-    /// A lookup whose modules come both from the symbols and from a file.
-    ModulesTwice,
-    /// Regions of modules, and no listing of these.
-    RegionsAlone,
-    /// A log whose addresses are taken in two ways.
-    TakenTwice,
+    /// Options that do not go together: what is wrong with them.
+    Clash(&'static str),
     /// A value of `--offset` that is no NUMBER.
     BadOffset(&'a str),
     /// An END of `--kernel` that begins with `0x`, as an address does.

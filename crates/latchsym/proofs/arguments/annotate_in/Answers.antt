@@ -8,4 +8,4 @@ returns-in_err-offset c =
     handed_on (Gives IsAnnotateIn (codes "annotate") rows) c.from_residual.result c.in_err-offset.field-0.0 c.from_residual.ensures.1 (c.in_err-offset.ensures (codes "annotate"))
 
 pub returns : goal.returns
-returns c = record { callers = c.callers_in.ensures; lower = c.in_ok-offset.ensures (codes "annotate"); follow = c.is_given.ensures; log = c.value_or.ensures }
+returns c = c.annotate_with.ensures (c.in_ok-offset.ensures (codes "annotate"))
