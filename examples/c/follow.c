@@ -1,18 +1,14 @@
 /* SPDX-License-Identifier: MIT OR Apache-2.0 */
-/* A profiler that follows a listing as it changes. One thread reads the listing again each second, and when it is told
- * to by a line; where its bytes have changed it shows the follower its catalog. (The time of /proc/kallsyms stands
- * still.) A listing that cannot be read, or of which something is noted that is not noted of the one shown, as of one
- * read without rights, is told of and not taken. (Nothing is noted of one that is cut after _etext.)
+/* A profiler that follows a listing: `follow KALLSYMS MODULES` (an empty name of MODULES: modules come from the symbols).
+ * One thread reads the listing again each second, and when a line says so; where its bytes have changed (the time of
+ * /proc/kallsyms does not) it shows the follower its catalog. A listing that cannot be read, or of which something is
+ * noted that is not noted of the one shown, is told of and not taken. (Nothing is noted of one cut after _etext.)
  *
- * SIGPROF samples other threads, which look the address up in the handler and keep it with the generation of the
- * answer. The main thread names each sample by the listing that stood at its generation, and frees the listings that
- * no sample can need any more.
- *
- *     follow KALLSYMS MODULES    an empty name of MODULES: modules come from the symbols
- *
- * This sampler has no kernel below it, so a handler draws an address in place of the one that it would be given.
- * cc follow.c $(pkg-config --cflags --libs latchsym) -lpthread -o follow */
+ * SIGPROF samples other threads, which look an address up in the handler (drawn here, as there is no kernel below) and
+ * keep it with the generation of the answer. The main thread names each sample by the listing that stood then, and
+ * frees those that no sample can need any more.  cc follow.c $(pkg-config --cflags --libs latchsym) -lpthread */
 #define _GNU_SOURCE
+#include <inttypes.h>
 #include <latchsym_read.h>
 #include <poll.h>
 #include <pthread.h>
@@ -27,39 +23,33 @@
 
 enum { THREADS = 3, NODES = 4096, ROOM = 4096, MOST_TRIES = 1000, SECOND = 1000 };
 
-/* The bytes of a listing, which its catalog points into. */
-struct listing {
-    struct latchsym_place symbols, modules;
-    uint32_t symbols_note, modules_note;
-};
-
+/* The bytes of a listing, which its catalog points into: of the symbols and of the modules, and what is noted. */
+struct listing { struct latchsym_place bytes[2]; uint32_t notes[2]; };
 struct sample { uint64_t addr, generation; };
 
-/* Each thread has a reader, which only its handler uses, and a ring: the handler puts samples in at `put`, the main
- * thread takes them out at `taken`. */
+/* Each thread has a reader for its handler, which puts samples into the ring at `put`; the main thread takes them out at
+ * `taken`, the last one of the generation `passed`. */
 struct thread {
     pthread_t id;
     struct latchsym_reader reader;
-    uint64_t drawn;
+    uint64_t drawn, passed;
     struct sample ring[ROOM];
     atomic_size_t put, taken;
-    atomic_long lost;
-    uint64_t passed; /* the generation of the sample that was taken out last */
+    atomic_ullong lost;
 };
 
-static const char *symbols_name, *modules_name;
+static const char *names[2];
+static int files; /* how many names there are */
 static struct thread threads[THREADS];
 static struct latchsym_follower follower;
 static pthread_mutex_t following = PTHREAD_MUTEX_INITIALIZER; /* one call on the follower at a time */
 static struct listing *shown; /* the newest, which is the watcher's alone */
-static atomic_ullong first_addr, span;
+static atomic_ullong first_addr, span = 1;
 static atomic_int ended;
 static _Thread_local struct thread *self;
 
 static void must(uint32_t answer) {
-    if (answer == LATCHSYM_DONE) return;
-    fprintf(stderr, "follow: %s\n", latchsym_text(answer));
-    exit(1);
+    if (answer) fprintf(stderr, "follow: %s\n", latchsym_text(answer)), exit(1);
 }
 
 /* The handler: no lock, no memory. A reader asks again only where the writer flipped meanwhile. */
@@ -75,23 +65,20 @@ static void sample(int number) {
         answer = latchsym_reader_try_find(&self->reader, addr, &found);
     if (answer == LATCHSYM_RETRY || put - atomic_load(&self->taken) == ROOM) {
         atomic_fetch_add(&self->lost, 1);
-        return;
+    } else {
+        self->ring[put % ROOM] = (struct sample){addr, found.generation};
+        atomic_store(&self->put, put + 1);
     }
-    self->ring[put % ROOM] = (struct sample){addr, found.generation};
-    atomic_store(&self->put, put + 1);
 }
 
 static void *work(void *thread) {
     volatile unsigned x = 1;
     self = thread;
     while (!atomic_load(&ended)) x = x * 1664525 + 1013904223;
-    self = NULL;
-    return NULL;
+    return self = NULL;
 }
 
-static void free_listing(struct listing *old) {
-    free((void *)old->symbols.at), free((void *)old->modules.at), free(old);
-}
+static void free_listing(struct listing *old) { free((void *)old->bytes[0].at), free((void *)old->bytes[1].at), free(old); }
 
 /* Shows the catalog to all readers, in one update. The follower keeps it, and tells the listing once it is gone. */
 static void show(struct listing *new, struct latchsym_catalog *catalog) {
@@ -108,59 +95,41 @@ static void show(struct listing *new, struct latchsym_catalog *catalog) {
                                 (uintptr_t)new, &generation));
     pthread_mutex_unlock(&following);
     shown = new;
-    if (sizes.regions) { /* where addresses are drawn from */
-        atomic_store(&first_addr, items[0].a);
-        atomic_store(&span, items[sizes.regions - 1].b - items[0].a);
-    }
-    printf("listing %llu: %zu regions of %zu bytes\n", (unsigned long long)generation, sizes.regions, new->symbols.len);
+    if (sizes.regions) /* where addresses are drawn from */
+        atomic_store(&first_addr, items[0].a), atomic_store(&span, items[sizes.regions - 1].b - items[0].a);
+    printf("listing %" PRIu64 ": %zu regions of %zu bytes\n", generation, sizes.regions, new->bytes[0].len);
     fflush(stdout);
 }
 
-/* Whether the files could be read. */
-static int read_files(struct listing *new) {
-    const char *name = symbols_name;
-    int failed = latchsym_read_file(name, &new->symbols);
-    if (!failed && *modules_name) failed = latchsym_read_file(name = modules_name, &new->modules);
-    if (failed) fprintf(stderr, "follow: %s: %s\n", name, strerror(errno));
-    return !failed;
-}
-
-static int are_same(struct latchsym_place x, struct latchsym_place y) {
-    return x.len == y.len && (!x.len || !memcmp(x.at, y.at, x.len));
-}
-
-/* Whether something is noted that is not noted of the listing shown, which is told. */
-static int is_noted(const char *name, uint32_t note, uint32_t of_shown) {
-    if (note == LATCHSYM_NOTHING || note == of_shown) return 0;
-    fprintf(stderr, "follow: note: %s: %s\n", name, latchsym_text(note));
-    return 1;
-}
-
-/* Whether a listing is to be shown: the first one, and each that is another than the one shown and no worse. Its
- * catalog is open then. */
+/* Reads the files, and tells whether their listing is to be shown: the first one, and each that is another than the one
+ * shown and of which nothing more is noted, which is told. Its catalog is open then. */
 static int is_to_be_shown(struct listing *new, struct latchsym_catalog *catalog) {
-    const struct listing none = {.symbols_note = LATCHSYM_NOTHING, .modules_note = LATCHSYM_NOTHING};
-    const struct listing *old = shown ? shown : &none;
     struct latchsym_listings given = LATCHSYM_LISTINGS_INIT;
     struct latchsym_counts counts;
     uint64_t line;
-    if (shown && are_same(new->symbols, old->symbols) && are_same(new->modules, old->modules)) return 0;
-    given.kallsyms = new->symbols, given.modules = new->modules, given.has_modules = *modules_name != 0;
+    int is_worse = 0, is_same = shown != NULL;
+    for (int i = 0; i < files; i++) {
+        struct latchsym_place *bytes = &new->bytes[i];
+        if (latchsym_read_file(names[i], bytes)) return fprintf(stderr, "follow: %s: %s\n", names[i], strerror(errno)), 0;
+        is_same = is_same && bytes->len == shown->bytes[i].len && !memcmp(bytes->at, shown->bytes[i].at, bytes->len);
+    }
+    if (is_same) return 0;
+    given.kallsyms = new->bytes[0], given.modules = new->bytes[1], given.has_modules = files == 2;
     must(latchsym_catalog_open(&given, catalog, &counts, &line));
-    new->symbols_note = counts.symbols_note, new->modules_note = counts.modules_note;
-    int is_worse = is_noted(symbols_name, new->symbols_note, old->symbols_note);
-    is_worse |= is_noted(modules_name, new->modules_note, old->modules_note);
-    return !shown || !is_worse;
+    new->notes[0] = counts.symbols_note, new->notes[1] = counts.modules_note;
+    for (int i = 0; i < files; i++) {
+        if (new->notes[i] == LATCHSYM_NOTHING || (shown && new->notes[i] == shown->notes[i])) continue;
+        fprintf(stderr, "follow: note: %s: %s\n", names[i], latchsym_text(new->notes[i]));
+        is_worse = shown != NULL;
+    }
+    return !is_worse;
 }
 
 static void read_listing(void) {
     struct listing *new = calloc(1, sizeof *new);
     struct latchsym_catalog catalog = {0};
     if (!new) must(LATCHSYM_OUT_OF_MEMORY);
-    if (read_files(new) && is_to_be_shown(new, &catalog)) {
-        show(new, &catalog);
-        return;
-    }
+    if (is_to_be_shown(new, &catalog)) return show(new, &catalog);
     latchsym_catalog_close(&catalog); /* and only now the bytes that it points into */
     free_listing(new);
 }
@@ -170,8 +139,7 @@ static void *watch(void *unused) {
     struct pollfd told = {STDIN_FILENO, POLLIN, 0};
     char bytes[256];
     while (poll(&told, 1, SECOND) <= 0 || read(STDIN_FILENO, bytes, sizeof bytes) > 0) read_listing();
-    atomic_store(&ended, 1);
-    return unused;
+    return atomic_store(&ended, 1), unused;
 }
 
 static void name_sample(const struct sample *it) {
@@ -179,27 +147,22 @@ static void name_sample(const struct sample *it) {
     pthread_mutex_lock(&following);
     uint32_t answer = latchsym_follower_find(&follower, it->generation, it->addr, &symbol);
     pthread_mutex_unlock(&following);
-    printf("%llu 0x%llx ", (unsigned long long)it->generation, (unsigned long long)it->addr);
-    if (answer == LATCHSYM_DONE)
-        printf("%.*s+0x%llx", (int)symbol.name.len, (const char *)symbol.name.at, (unsigned long long)symbol.offset);
-    else
-        putchar(symbol.module_number ? '?' : '-');
+    printf("%" PRIu64 " 0x%" PRIx64 " ", it->generation, it->addr);
+    if (answer) printf(symbol.module_number ? "?" : "-");
+    else printf("%.*s+0x%" PRIx64, (int)symbol.name.len, (const char *)symbol.name.at, symbol.offset);
     if (symbol.module_number) printf(" [%.*s]", (int)symbol.module.len, (const char *)symbol.module.at);
     putchar('\n');
 }
 
 /* Names the samples of all threads, and frees each listing whose successor every thread has passed: a reader's
  * generations never fall, so no sample before that of the last one comes any more. */
-static long name_samples(void) {
-    uint64_t passed = UINT64_MAX, tag;
-    long named = 0;
+static uint64_t name_samples(void) {
+    uint64_t passed = UINT64_MAX, named = 0, tag;
     for (struct thread *thread = threads; thread < threads + THREADS; thread++) {
-        size_t put = atomic_load(&thread->put), taken = atomic_load(&thread->taken);
-        for (; taken != put; taken++, named++) {
-            name_sample(&thread->ring[taken % ROOM]);
-            thread->passed = thread->ring[taken % ROOM].generation;
+        for (size_t put = atomic_load(&thread->put); thread->taken != put; atomic_fetch_add(&thread->taken, 1), named++) {
+            name_sample(&thread->ring[thread->taken % ROOM]);
+            thread->passed = thread->ring[thread->taken % ROOM].generation;
         }
-        atomic_store(&thread->taken, taken);
         if (thread->passed < passed) passed = thread->passed;
     }
     pthread_mutex_lock(&following);
@@ -211,16 +174,13 @@ static long name_samples(void) {
 int main(int count, char **words) {
     struct latchsym_reader readers[THREADS] = {0};
     struct sigaction action = {.sa_handler = sample, .sa_flags = SA_RESTART};
-    struct itimerval each_ms = {{0, 1000}, {0, 1000}}, never = {{0, 0}, {0, 0}};
+    struct itimerval each_ms = {{0, 1000}, {0, 1000}}, never = {0};
     pthread_t watcher;
-    long named = 0, lost = 0;
-    uint64_t tag;
+    uint64_t tag, named = 0, lost = 0;
     if (count != 3) return fprintf(stderr, "usage: follow KALLSYMS MODULES\n"), 2;
-    symbols_name = words[1], modules_name = words[2];
-    atomic_store(&span, 1);
+    names[0] = words[1], names[1] = words[2], files = *words[2] ? 2 : 1;
     must(latchsym_follower_open(NODES, &follower, readers, THREADS));
-    read_listing();
-    if (!shown) return 1;
+    if (read_listing(), !shown) return 1;
     sigaction(SIGPROF, &action, NULL);
     for (int i = 0; i < THREADS; i++) {
         threads[i].reader = readers[i], threads[i].drawn = 88172645463325252u + (uint64_t)i, threads[i].passed = 1;
@@ -231,10 +191,10 @@ int main(int count, char **words) {
     while (!atomic_load(&ended)) usleep(20000), named += name_samples();
     setitimer(ITIMER_PROF, &never, NULL);
     pthread_join(watcher, NULL);
-    for (int i = 0; i < THREADS; i++) pthread_join(threads[i].id, NULL);
+    for (int i = 0; i < THREADS; i++)
+        pthread_join(threads[i].id, NULL), lost += threads[i].lost, latchsym_reader_close(&threads[i].reader);
     named += name_samples();
-    for (int i = 0; i < THREADS; i++) lost += threads[i].lost, latchsym_reader_close(&threads[i].reader);
     while (latchsym_follower_close(&follower, &tag) == LATCHSYM_DONE) free_listing((void *)(uintptr_t)tag);
-    fprintf(stderr, "follow: %ld samples named, %ld lost\n", named, lost);
+    fprintf(stderr, "follow: %" PRIu64 " samples named, %" PRIu64 " lost\n", named, lost);
     return 0;
 }
