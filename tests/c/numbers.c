@@ -22,6 +22,7 @@ static const struct { uint32_t number; const char *text; } texts[] = {
     {LATCHSYM_NOTHING, "nothing is there"},
     {LATCHSYM_RETRY, "the writer flipped meanwhile: try again"},
     {LATCHSYM_BUSY, "other calls have all readers of the pool: try again"},
+    {LATCHSYM_FORGOTTEN, "the follower has no listing of that moment"},
     {LATCHSYM_FLIP, "a flip of the sequence"},
     {LATCHSYM_STORE, "a store of a word"},
     {LATCHSYM_NOTE_GZIP, "is compressed by gzip; unpack it first"},
@@ -40,6 +41,7 @@ static const struct { uint32_t number; const char *text; } texts[] = {
     {LATCHSYM_BAD_HANDLE, "the handle does not hold what is wanted"},
     {LATCHSYM_BAD_LENGTH, "the room is not for as many answers as there are addresses"},
     {LATCHSYM_BAD_LISTINGS, "the listings are not as this version has them"},
+    {LATCHSYM_BAD_STAMP, "the stamp lies below that of a listing shown before"},
 };
 
 enum { TEXTS = sizeof texts / sizeof *texts };
