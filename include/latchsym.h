@@ -611,13 +611,17 @@ static inline int latchsym_pool_claim_all(struct latchsym_pool *pool) {
     return 1;
 }
 
-/* Opens a closed pool with readers, 1 to 64, whose handles are no handles then. */
-static inline void latchsym_pool_fill(struct latchsym_pool *pool,
-                                      const struct latchsym_reader *readers, size_t slots) {
+/* Opens a closed pool with readers, 1 to 64, whose handles are no handles then. 0, LATCHSYM_BAD_HANDLE
+ * where the pool is open, or LATCHSYM_BAD_CAPACITY where they are not so many. */
+static inline uint32_t latchsym_pool_fill(struct latchsym_pool *pool,
+                                          const struct latchsym_reader *readers, size_t slots) {
     uint32_t i;
+    if (pool->slots_len) return LATCHSYM_BAD_HANDLE;
+    if (slots < 1 || slots > LATCHSYM_POOL_MOST) return LATCHSYM_BAD_CAPACITY;
     for (i = 0; i < slots; i++) pool->slots[i].reader = readers[i];
     for (pool->shift = 32, i = 2; i <= slots; i *= 2) pool->shift--;
     pool->slots_len = (uint32_t)slots;
+    return LATCHSYM_DONE;
 }
 
 /* Opens an empty table of 1 to 65536 nodes: its writer, and a pool with so many of its readers, 1 to
@@ -630,8 +634,7 @@ static inline uint32_t latchsym_pool_open(uint32_t nodes, size_t slots,
     uint32_t answer;
     if (pool->slots_len) return LATCHSYM_BAD_HANDLE;
     answer = latchsym_table_open(nodes, writer, readers, slots > LATCHSYM_POOL_MOST ? 0 : slots);
-    if (!answer) latchsym_pool_fill(pool, readers, slots);
-    return answer;
+    return answer ? answer : latchsym_pool_fill(pool, readers, slots);
 }
 
 /* The item of an address, as latchsym_reader_try_find tells it. Any number of threads call it with one
