@@ -421,6 +421,17 @@ private:
     friend class follower;
     friend struct table;
     friend struct followed_table;
+
+    /* Opens one more by a call, where there is room. */
+    template <class Call>
+    reader add(Call call) {
+        if (count_ == room_) throw error(LATCHSYM_BAD_CAPACITY);
+        latchsym_reader *handle = &handles_[count_];
+        detail::check(call(handle));
+        count_++;
+        return reader(handle);
+    }
+
     explicit readers(std::size_t room)
         : handles_(new latchsym_reader[room ? room : 1]{}), room_(room), count_(0) {}
 
@@ -524,11 +535,7 @@ public:
 
     /* One more reader of this table among its readers, where there is room; also amid an update. */
     reader add_reader(readers &readers) {
-        if (readers.count_ == readers.room_) throw error(LATCHSYM_BAD_CAPACITY);
-        latchsym_reader *handle = &readers.handles_[readers.count_];
-        detail::check(latchsym_writer_add_reader(get(), handle));
-        readers.count_++;
-        return reader(handle);
+        return readers.add([this](latchsym_reader *out) { return latchsym_writer_add_reader(get(), out); });
     }
 
     /* Takes the last of its readers back, which is then closed and leaves room for another. */
@@ -625,11 +632,7 @@ public:
 
     /* One more reader of this table among its readers, where there is room. */
     reader add_reader(latchsym::readers &readers) {
-        if (readers.count_ == readers.room_) throw error(LATCHSYM_BAD_CAPACITY);
-        latchsym_reader *handle = &readers.handles_[readers.count_];
-        detail::check(latchsym_follower_add_reader(get(), handle));
-        readers.count_++;
-        return reader(handle);
+        return readers.add([this](latchsym_reader *out) { return latchsym_follower_add_reader(get(), out); });
     }
 
 private:

@@ -244,13 +244,8 @@ impl<'l> Catalog<'l> {
         &self,
         call: impl FnOnce(&mut sys::Symbol) -> u32,
     ) -> Result<Option<Symbol<'l>>, Error> {
-        let mut out = sys::Symbol::NONE;
-        let number = call(&mut out);
-        if number != sys::NO_SYMBOL && !Error::is_there(number)? {
-            return Ok(None);
-        }
         // SAFETY: the names lie in the listings (or are constants), which stay for 'l.
-        Ok(unsafe { symbol_told(number, &out) })
+        unsafe { symbol_found(call) }
     }
 
     /// The catalog in memory of its own, for any number of threads at once.
@@ -406,6 +401,23 @@ impl fmt::Debug for Catalog<'_> {
     fn fmt(&self, out: &mut fmt::Formatter<'_>) -> fmt::Result {
         out.debug_struct("Catalog").field("counts", &self.counts).finish_non_exhaustive()
     }
+}
+
+/// What a search finds, or why it was refused.
+///
+/// # Safety
+///
+/// The places that the call leaves stay for `'l`.
+pub(crate) unsafe fn symbol_found<'l>(
+    call: impl FnOnce(&mut sys::Symbol) -> u32,
+) -> Result<Option<Symbol<'l>>, Error> {
+    let mut out = sys::Symbol::NONE;
+    let number = call(&mut out);
+    if number != sys::NO_SYMBOL && !Error::is_there(number)? {
+        return Ok(None);
+    }
+    // SAFETY: as the caller says.
+    Ok(unsafe { symbol_told(number, &out) })
 }
 
 /// What a search has told by its number; none where nothing is.

@@ -1,5 +1,5 @@
 // SPDX-License-Identifier: MIT OR Apache-2.0
-use crate::{catalog::symbol_told, sys, Error, Listings, Readers, Symbol};
+use crate::{catalog::symbol_found, sys, Error, Listings, Readers, Symbol};
 use std::{cell::UnsafeCell, collections::BTreeMap, fmt};
 
 /// Opens a follower without a listing over an empty table of 1 to 65536 nodes with 1 to 64 readers.
@@ -107,14 +107,9 @@ impl Follower {
         moment: u64,
         addr: u64,
     ) -> Result<Option<Symbol<'_>>, Error> {
-        let mut out = sys::Symbol::NONE;
         // SAFETY: the handle is open, and in no other call: a follower is on one thread at a time.
-        let number = unsafe { find(self.handle(), moment, addr, &mut out) };
-        if number != sys::NO_SYMBOL && !Error::is_there(number)? {
-            return Ok(None);
-        }
-        // SAFETY: the names lie in listings that stay while this follower is borrowed.
-        Ok(unsafe { symbol_told(number, &out) })
+        // The names lie in listings that stay while it is borrowed.
+        unsafe { symbol_found(|out| find(self.handle(), moment, addr, out)) }
     }
 
     /// Forgets each listing that no sample of this generation or a later one needs.

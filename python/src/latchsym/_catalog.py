@@ -4,7 +4,6 @@
 from __future__ import annotations
 
 import ctypes
-import itertools
 import operator
 import os
 import threading
@@ -516,24 +515,15 @@ class Catalog(Closing):
         ['0xffffffffc0000040']
         """
         wanted = it.encoded(name)
-        place, entry = c_size_t(0), it.Entry(0, it.no_place())
-        for count in itertools.count():
-            owner = c_uint64(0 if number is None else word(number))
-            with self._lock:
-                if number is None:
-                    got = lib.latchsym_catalog_find_name(
-                        self._handle, wanted, len(wanted), count, byref(owner), byref(place)
-                    )
-                else:
-                    got = lib.latchsym_catalog_place_of_name(
-                        self._handle, owner, wanted, len(wanted), place.value, byref(place)
-                    )
-            if got == it.NOTHING:
-                return
-            check(got)
-            if self._is_there(lib.latchsym_catalog_symbol, owner.value, place.value, entry):
-                yield entry.addr
-            place.value += 1
+        owners = [module.number for module in self.modules()] if number is None else [number]
+        for owner in owners:
+            place, entry = c_size_t(0), it.Entry(0, it.no_place())
+            while self._is_there(
+                lib.latchsym_catalog_place_of_name, owner, wanted, len(wanted), place.value, byref(place)
+            ):
+                if self._is_there(lib.latchsym_catalog_symbol, owner, place.value, entry):
+                    yield entry.addr
+                place.value += 1
 
     def _is_there(self, call: Callable[..., int], number: int, *words: Any) -> bool:
         """Whether a call for the module of a number has written its answer."""
