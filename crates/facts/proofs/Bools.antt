@@ -2,7 +2,6 @@
 use Rattle.std.proofs.Common.{◌&&◌, ◌+◌, ◌||◌, ◌∙◌, ◌≡◌, ◌⊎◌, Bool, arith, cond, false, not, refl, sym, true, ℕ, ⊎_elim}
 use Rattle.std.proofs.Math.Bool.{or-true}
 use Rattle.std.proofs.lemmas.Bool.{or_left}
-use lib.Dec.{T}
 
 pub or_assoc : (a b c : Bool) → (a || (b || c)) ≡ ((a || b) || c)
 or_assoc a b c = elim a as (λ v. (v || (b || c)) ≡ ((v || b) || c)) [ true ↦ refl | false ↦ refl ]
@@ -58,11 +57,6 @@ pub same_by_false : (a b : Bool) → (a ≡ false → b ≡ false) → (b ≡ fa
 same_by_false false b f h = sym (f refl)
 same_by_false true true f h = refl
 same_by_false true false f h = h refl
-
--- of a test and one that holds
-pub T-and_true : (x : Bool) → T x → T (x && true)
-T-and_true true s = tt
-T-and_true false s = absurd s
 
 -- ---- what `||` and `&&` give where the first is known
 

@@ -1,5 +1,5 @@
 -- Facts about lists and the places in them alone.
-use Rattle.std.proofs.Common.{◌++◌, ◌+◌, ◌-◌, ◌<◌, ◌∙◌, ◌∷◌, ◌≡◌, ◌≤◌, Bool, List, Some, [], ap, append-nil, append_assoc, arith, cond, drop, false, get_or, inl, inr, length, length-append, map, refl, suc, sym, take, true, zero, ℕ, ⊎_elim}
+use Rattle.std.proofs.Common.{◌++◌, ◌+◌, ◌-◌, ◌<◌, ◌∙◌, ◌∷◌, ◌≡◌, ◌≤◌, List, Some, [], ap, append-nil, append_assoc, arith, drop, false, get_or, inl, inr, length, map, refl, suc, sym, take, true, zero, ℕ, ⊎_elim}
 use Rattle.std.specs.Prelude.{◌⊎◌, insert, is_some, nat_lt, remove, slice_get, slice_index_or, slice_set}
 use Rattle.std.specs.Global.{Vec}
 use Rattle.std.specs.List.{onto_first, swap_remove}
@@ -12,24 +12,9 @@ use Rattle.std.proofs.lemmas.List.Elements.{filter_map-append}
 
 -- ---- joined lists
 
--- the two ways that four lists are joined: from the inside out, and one after another
-pub regrouped : {A : Type 0} (xs ys zs rest : List A)
-    → xs ++ ((ys ++ zs) ++ rest) ≡ ((xs ++ ys) ++ zs) ++ rest
-regrouped xs ys zs rest = simp append_assoc
-
 -- an element between two lists
 pub pushed_before : {X : Type 0} (x : X) (xs ys : List X) → (xs ++ x ∷ []) ++ ys ≡ xs ++ x ∷ ys
 pushed_before x xs ys = append_assoc xs (x ∷ []) ys
-
--- two elements pushed one after another, and more after them
-pub pushed_twice : {A : Type 0} (xs : List A) (y z : A) (rest : List A)
-    → ((xs ++ y ∷ []) ++ z ∷ []) ++ rest ≡ xs ++ y ∷ z ∷ rest
-pushed_twice xs y z rest = simp append_assoc
-
--- two elements pushed between two lists
-pub pushed_between : {A : Type 0} (xs ys : List A) (y z : A) (zs : List A)
-    → (((xs ++ ys) ++ y ∷ []) ++ z ∷ []) ++ zs ≡ xs ++ ((ys ++ y ∷ z ∷ []) ++ zs)
-pushed_between xs ys y z zs = simp append_assoc
 
 -- one element of the rest goes over to the front
 pub moved_over : {X : Type 0} (all done rest after : List X) (x : X) → done ++ rest ≡ all
@@ -60,15 +45,6 @@ IsPrefix-whole xs = ([], append-nil xs)
 pub IsPrefix-along : {X : Type 0} (xs ys zs : List X) → IsPrefix xs ys → IsPrefix ys zs
     → IsPrefix xs zs
 IsPrefix-along xs ys zs p q = (p.0 ++ q.0, sym (append_assoc xs p.0 q.0) ∙ (ap (λ z. z ++ q.0) p.1 ∙ q.1))
-
--- an element pushed, or none
-pub length-picked : {X : Type 0} (xs : List X) (b : Bool) (y : X)
-    → length (xs ++ cond b (y ∷ []) []) ≤ length xs + 1
-length-picked {X} xs true y = omega (arith, length-append xs (y ∷ []))
-length-picked {X} xs false y = omega (arith, length-append {A = X} xs [])
-
-pub length-append_nil : {X : Type 0} (ss : List X) (k : ℕ) → length ss ≤ k → length (ss ++ []) ≤ k
-length-append_nil ss k h = omega (arith, length-append ss [])
 
 pub ltb-length_nil : {X : Type 0} (xs : List X) → length xs ≤ 0 → nat_lt 0 (length xs) ≡ false
 ltb-length_nil [] e = refl

@@ -22,6 +22,3 @@ range-push a (suc n) =
     let one : suc n + 1 ≡ suc (n + 1) = omega arith in
     let last : (a + 1) + n ≡ a + suc n = omega arith in
     rw (one, ← last) (ap (λ xs. a ∷ xs) (range-push (a + 1) n))
-
-pub range-push_from_zero : (n : ℕ) → range_with_len 0 (n + 1) ≡ range_with_len 0 n ++ n ∷ []
-range-push_from_zero n = range-push 0 n ∙ ap (λ (k : ℕ). range_with_len 0 n ++ k ∷ []) (omega arith)

@@ -11,7 +11,7 @@ use Rattle.follower.specs.declared.catalogs.Moment.{Moment}
 use Rattle.follower.specs.declared.catalogs.Moment.TheVariants.{Generation, Stamp}
 use Rattle.modules.specs.Entries.{CatalogEntries}
 use Rattle.std.specs.List.Sorted.{IsNonDecreasingBy}
-use Rattle.follower.specs.Catalogs.{AreAllNeeded, AreInOrder, EachStands, ForgetsOldest, at_number, number_of, standing_at, start_by}
+use Rattle.follower.specs.Catalogs.{AreInOrder, EachStands, ForgetsOldest, at_number, number_of, standing_at, start_by}
 use Rattle.modules.specs.Index.{IsSplitBy}
 
 abbrev IsSplit : List DatedCatalog → Moment → ℕ → Type 0
@@ -98,11 +98,6 @@ oldest_goes ds es m p d is s some = subst (λ (xs : List DatedCatalog). ForgetsO
     by_second : (xs : List DatedCatalog) → IsSplit (d ∷ xs) m p → ForgetsOldest m (d ∷ xs) xs d.tag
     by_second [] t = absurd (omega (arith, t.bound))
     by_second (e ∷ rest) t = forgets d e rest m (t.below 1 e (omega arith))
-
--- a split below the second leaves no other to be forgotten
-pub all_needed : (ds : List DatedCatalog) (m : Moment) (p : ℕ) → IsSplit ds m p → p < 2 → AreAllNeeded m ds
-all_needed [] m p s few = λ k d lt. absurd (omega arith)
-all_needed (d ∷ ds) m p s few = λ k e lt. s.above (suc k) e (omega arith) (omega arith)
 
 -- stands at its own number and after it
 pub newest_stands : (ds : List DatedCatalog) (e : DatedCatalog) (m : Moment) → start_by m e ≤ number_of m → standing_at (ds ++ e ∷ []) m ≡ Some e

@@ -31,7 +31,7 @@ use rb_trees::Record;
 use std::alloc::Global;
 use std::marker::{Model, PhantomData};
 use word_layout::places::{a_of, b_of, tag_of};
-use word_layout::{Layout, Store, TreeCopy, append};
+use word_layout::{Layout, Store, TreeCopy};
 
 /// The most stores that a plan has for each item, whatever the table.
 pub const STORES: usize = 16;
@@ -210,31 +210,11 @@ impl<O: TreeOrder> Shape<O> {
         Ok(self.cursor.reserve(k as usize)?)
     }
 
-    /// Plans to insert an item in a free node, and pictures the copy with it.
+    /// Plans to insert an item in a free node, and pictures the copy with it: appends the stores of
+    /// links, which come after those of the item's words ([`item_stores`]).
     ///
-    /// Appends the stores of the item's words, and then stores of links. Takes no memory. There must
-    /// be room for one item and for [`STORES`] stores ([`Shape::reserve`]); the item must be valid
-    /// and meet none ([`Shape::meets`]).
-    pub fn plan_insert(&mut self, out: &mut Vec<Store>, node: u32, item: Item)
-        requires room { 0 < self.old.room }
-        requires list { vec_len out.old + STORES ≤ vec_capacity out.old }
-        requires in_range { node < self.old.capacity }
-        requires free { Contains (listed self.old.tree) node → ⊥ }
-        requires valid { O.order.valid item ≡ true }
-        requires apart { meets O.order item self.old.table ≡ false }
-        ensures pictures { Inserts O.order self.old self.new node item }
-        ensures plan { (links : List Store)
-            × (out.new.items ≡ out.old.items ++ (item_stores node item ++ links))
-            × LeadsWithItem self.old self.new node item links }
-        ensures few { vec_len out.new ≤ vec_len out.old + STORES }
-        ensures capacity { vec_capacity out.new ≡ vec_capacity out.old }
-    {
-        append(out, &item_stores(node, item));
-        self.plan_links(out, node, item);
-    }
-
-    /// Plans the links of an insert alone, as [`Shape::plan_insert`] does after the stores of the
-    /// item's words. There must be room for one item and for [`STORES`] stores less three.
+    /// Takes no memory. There must be room for one item and for [`STORES`] stores less three
+    /// ([`Shape::reserve`]); the item must be valid and meet none ([`Shape::meets`]).
     pub fn plan_links(&mut self, out: &mut Vec<Store>, node: u32, item: Item)
         requires room { 0 < self.old.room }
         requires list { vec_len out.old + STORES ≤ vec_capacity out.old + 3 }

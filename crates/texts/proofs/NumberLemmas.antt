@@ -1,5 +1,5 @@
 -- What the digits that are left say of a numeral.
-use Rattle.std.proofs.Common.{◌++◌, ◌&&◌, false, length-append, ◌≡◌, ℕ, suc, ◌+◌, ◌*◌, ◌^◌, ◌<◌, ◌≤◌, true, List, ◌∷◌, length, Some, None, Bool, get_or, drop, drop-cons, sym, ap, ◌∙◌, arith}
+use Rattle.std.proofs.Common.{◌++◌, ◌&&◌, length-append, ◌≡◌, ℕ, suc, ◌+◌, ◌*◌, ◌^◌, ◌<◌, ◌≤◌, true, List, ◌∷◌, length, Some, None, Bool, get_or, drop, drop-cons, sym, ap, ◌∙◌, arith}
 use Rattle.std.proofs.lemmas.List.Folds.{list_all-append}
 use Rattle.std.proofs.lemmas.Grind.{common_steps}
 use Rattle.std.specs.List.{list_all}
@@ -43,10 +43,3 @@ is_sixteen high low eight_high eight_low all_high all_low =
   where
     both_true : {a b : Bool} → a ≡ true → b ≡ true → (a && b) ≡ true
     both_true p q = cc
-
-pub not_sixteen : (high low : List ℕ) → (list_all (λ c. is_digit c 16) high && list_all (λ c. is_digit c 16) low) ≡ false → numeral 16 16 (high ++ low) ≡ None
-not_sixteen high low some =
-    no_digits 16 16 (high ++ low) (list_all-append (λ c. is_digit c 16) high low ∙ some)
-  where
-    no_digits : (radix most : ℕ) (digits : List ℕ) → list_all (λ c. is_digit c radix) digits ≡ false → numeral radix most digits ≡ None
-    no_digits radix most digits h = grind (arith, common_steps, h)

@@ -107,11 +107,6 @@ all_delivered delivers sound =
     let wrote = all_written delivers.0 sound in
     (wrote.0, wrote.1, wrote.2, delivers.1 sound)
 
--- a text, and then one behind which the device was flushed
-pub then_delivered : {W : Type 0} {contents : W → Option (List ℕ)} {old mid new : Output W} {t more : List ℕ} → Says contents old mid t → Delivers contents mid new more
-    → Delivers contents old new (t ++ more)
-then_delivered first second = (then first second.0, second.1)
-
 -- a text, and then the device was flushed
 pub then_flushed : {W : Type 0} {contents : W → Option (List ℕ)} {old mid new : Output W} {t : List ℕ} → Says contents old mid t → Delivers contents mid new []
     → Delivers contents old new t
