@@ -5,7 +5,7 @@ use Rattle.std.specs.Option.{ForSome}
 use Rattle.std.specs.Prelude.{◌⊎◌, Ok, Err, IfOk, IfErr, IfSome, OnErr}
 use Rattle.std.proofs.lemmas.List.{take-append-le, take_all, take_more, take_more_set}
 use Rattle.std.proofs.lemmas.Option.{slice_get_within}
-use Rattle.facts.proofs.Pairs.{both_pushed}
+use Rattle.shared_lookup.proofs.PairedLemmas.{pair_taken}
 use Rattle.latch_table.specs.Readers.{ReaderState}
 use mathlib.Core.List.{IsPrefix}
 use Rattle.atomic_table.specs.Seated.{TableId}
@@ -127,14 +127,6 @@ held_after table opened c ch l l' now r both changed same is =
     let here : IsNamed table now.place × IsOpenedAs opened now = subst (λ (x : LedgerState). IsNamed table x.place × IsOpenedAs opened x) (sym is) after in
     (now, refl, here.0, here.1)
 
--- one outcome more
-outcomes_more : (c : CatalogEntries) (changes : List Change) (outcomes : List ChangeOutcome) (ch : Change) (r : ChangeOutcome) → HasOutcomes c changes outcomes → IsOutcomeOf c ch r
-    → HasOutcomes c (changes ++ ch ∷ []) (outcomes ++ r ∷ [])
-outcomes_more c changes outcomes ch r before here = record {
-  same = length-append outcomes (r ∷ []) ∙ ap (λ n. n + 1) before.same ∙ sym (length-append changes (ch ∷ []));
-  each = both_pushed (λ place (b : Change) (q : ChangeOutcome). IsOutcomeOf c b q) changes outcomes ch r before.same before.each here;
-}
-
 pub none_made : (c : CatalogEntries) → HasOutcomes c [] []
 none_made c = record { same = refl; each = λ place ch r e f. absurd (let l = slice_get_within [] place ch e in omega arith) }
 
@@ -152,7 +144,7 @@ module _ (c : CatalogEntries) (changes : List Change) (outcomes : List ChangeOut
   pub one_made : HasOutcomes c (take i changes) (take i outcomes) → IsOutcomeOf c ch r → HasOutcomes c (take (i + 1) changes) (take (i + 1) (set outcomes i r))
   one_made before here =
       subst (HasOutcomes c (take (i + 1) changes)) (sym outcomes_taken)
-      (subst (λ cs. HasOutcomes c cs (take i outcomes ++ r ∷ [])) (sym changes_taken) (outcomes_more c (take i changes) (take i outcomes) ch r before here))
+      (pair_taken _ changes i d ch (take i outcomes) r less refl before here)
 
   pub one_follows : (opened : Option LedgerState) (known known' : List Update) → ForSome opened (λ o. FollowLog c (with_log known o) 0 (take i changes) (take i outcomes))
       → IsMadeBeside c opened ch known known' r → ForSome opened (λ o. FollowLog c (with_log known' o) 0 (take (i + 1) changes) (take (i + 1) (set outcomes i r)))

@@ -4,6 +4,7 @@ pub mod CountLemmas
 pub mod CheckLemmas
 pub mod FoundLemmas
 pub mod ReaderLemmas
+pub mod PairedLemmas
 pub mod ThreadLemmas
 pub mod LookedLemmas
 pub mod FollowingLemmas

@@ -1,7 +1,5 @@
 -- What a reader loaded for its answers.
-use Rattle.std.proofs.Common.{◌≡◌, ℕ, List, [], ◌∷◌, ◌++◌, Option, Some, None, refl, sym, ◌∙◌, ap, subst, inl, inr, ⊎_elim, append_assoc, append-nil, ◌+◌, length-append}
-use Rattle.std.specs.Global.{Vec}
-use Rattle.facts.proofs.Pairs.{both_pushed}
+use Rattle.std.proofs.Common.{◌≡◌, ℕ, List, [], ◌∷◌, ◌++◌, Option, Some, None, refl, sym, ◌∙◌, ap, subst, inl, inr, ⊎_elim, append_assoc, append-nil}
 use Rattle.order_laws.specs.declared.items.Item.{Item}
 use Rattle.order_laws.specs.Orders.{half_open}
 use Rattle.table_updates.specs.declared.updates.Update.{Update}
@@ -10,7 +8,7 @@ use Rattle.latch_table.specs.declared.readers.Try.TheVariants.{Answered, Retry}
 use Rattle.latch_table.specs.Memory.{memory_after, Looked}
 use Rattle.latch_table.specs.Readers.{ReaderState, Searched}
 use Rattle.shared_lookup.specs.declared.served.Answer.{Answer}
-use Rattle.shared_lookup.specs.Readers.{AreLookedUp, EachHasLooked, HasLooked, HasMet, IsLookedUp, seen_by}
+use Rattle.shared_lookup.specs.Readers.{AreLookedUp, HasLooked, HasMet, IsLookedUp, seen_by}
 
 -- what was found last of these answers, or before them
 abbrev pub found_last : Option (Item × ℕ) → List Answer → Option (Item × ℕ)
@@ -83,11 +81,3 @@ pub looked_met : (log : List Update) (answers : List Answer) (seat back : Option
 looked_met log answers None back looked met = subst (HasLooked log answers) (sym met) (no_answer answers looked)
 looked_met log answers (Some r) back looked (r', is, (s, seen, known, more, floored)) =
     subst (HasLooked log answers) (sym is) (r.knowledge.seen, s, seen, known, looked)
-
--- the reader of one list more
-pub all_looked_more : (log : List Update) (answers : List (Vec Answer)) (readers : List (Option ReaderState)) (list : Vec Answer) (back : Option ReaderState) → EachHasLooked log answers readers
-    → HasLooked log list.items back → EachHasLooked log (answers ++ list ∷ []) (readers ++ back ∷ [])
-all_looked_more log answers readers list back all last = record {
-  same = length-append readers (back ∷ []) ∙ ap (λ n. n + 1) all.same ∙ sym (length-append answers (list ∷ []));
-  each = both_pushed (λ place (l : Vec Answer) (r : Option ReaderState). HasLooked log l.items r) answers readers list back all.same all.each last;
-}

@@ -1,5 +1,5 @@
 -- What became of the changes of a list, in the order of a log.
-use Rattle.std.specs.Prelude.{◌≡◌, ◌⊎◌, ℕ, suc, ◌<◌, ◌≤◌, List, [], ◌∷◌, length, slice_get}
+use Rattle.std.specs.Prelude.{◌≡◌, ◌⊎◌, ℕ, suc, ◌<◌, ◌≤◌, List, [], ◌∷◌, length}
 use Rattle.std.specs.Prelude.{Option, Some, None, Ok, Err}
 use Rattle.std.specs.Option.{ForSome}
 use Rattle.std.specs.Global.{Vec}
@@ -14,6 +14,7 @@ use Rattle.shared_lookup.specs.declared.changes.Change.{Change}
 use Rattle.shared_lookup.specs.Changes.{Changes, RefusesChange}
 use Rattle.shared_lookup.specs.Checks.{with_log}
 use Rattle.shared_lookup.specs.Ledgers.{IsNamed, LedgerState, with_first}
+use Rattle.shared_lookup.specs.Paired.{ArePaired}
 use Rattle.shared_lookup.specs.Servings.{AreNotMade, AreOutcomesOf, ChangeOutcome}
 
 -- what becomes of a change after the first updates of the log: it is the next one, or it is refused
@@ -61,12 +62,11 @@ pub record AreMade (table : Option TableId) (opened : Option LedgerState) (c : C
   pub follow : FollowKnown table opened c changes outcomes back
 
 -- the changes of each list follow the log, or none of them was made
-pub record EachFollowsLog (c : CatalogEntries) (l : LedgerState) (changes : List (Vec Change))
-    (outcomes : List (Vec ChangeOutcome)) : Type 0 where
-  pub same : length outcomes ≡ length changes
-  pub each : (writer : ℕ) (list : Vec Change) (made : Vec ChangeOutcome)
-      → slice_get changes writer ≡ Some list → slice_get outcomes writer ≡ Some made
-      → FollowLog c l 0 list.items made.items ⊎ AreNotMade list.items made.items
+abbrev pub EachFollowsLog : CatalogEntries → LedgerState → List (Vec Change)
+    → List (Vec ChangeOutcome) → Type 0
+EachFollowsLog c l =
+    ArePaired (λ _ list made.
+    FollowLog c l 0 list.items made.items ⊎ AreNotMade list.items made.items)
 
 -- a ledger with this log, of a table that has room for all regions of the catalog and sequences of
 -- 64 bits, whose updates are counted from 0

@@ -9,6 +9,8 @@ pub mod Enlarging
 pub mod Changes
 -- how many entries of a list a property holds of
 pub mod Counts
+-- two lists whose entries belong together
+pub mod Paired
 -- what several writers and readers come back with
 pub mod Servings
 -- what the readers know

@@ -1,5 +1,5 @@
 -- What the readers of lists of keys know, and what they loaded for their answers.
-use Rattle.std.specs.Prelude.{◌≡◌, ◌⊎◌, ℕ, Bool, List, [], ◌∷◌, ◌++◌, length, slice_get}
+use Rattle.std.specs.Prelude.{◌≡◌, ◌⊎◌, ℕ, Bool, List, [], ◌∷◌, ◌++◌}
 use Rattle.std.specs.Prelude.{Option, Some, None, IfSome}
 use Rattle.std.specs.Global.{Vec}
 use Rattle.atomic_table.specs.Seated.{TableId}
@@ -11,6 +11,7 @@ use Rattle.latch_table.specs.Memory.{memory_after}
 use Rattle.latch_table.specs.Readers.{ReaderState, AreRetries, Met}
 use Rattle.shared_lookup.specs.declared.served.Answer.{Answer}
 use Rattle.shared_lookup.specs.Ledgers.{IsNamed}
+use Rattle.shared_lookup.specs.Paired.{ArePaired}
 use Rattle.shared_lookup.specs.Servings.{AreAnswered, AreFoundIn}
 
 -- a reader of the table that is named, which counts its generations from 0
@@ -72,9 +73,5 @@ HasLooked log answers (Some r) =
     × (r.knowledge.known ≡ log) × AreLookedUp None answers loads
 
 -- the reader of each list of answers has
-pub record EachHasLooked (log : List Update) (answers : List (Vec Answer))
-    (readers : List (Option ReaderState)) : Type 0 where
-  pub same : length readers ≡ length answers
-  pub each : (reader : ℕ) (list : Vec Answer) (back : Option ReaderState)
-      → slice_get answers reader ≡ Some list → slice_get readers reader ≡ Some back
-      → HasLooked log list.items back
+abbrev pub EachHasLooked : List Update → List (Vec Answer) → List (Option ReaderState) → Type 0
+EachHasLooked log = ArePaired (λ _ list back. HasLooked log list.items back)

@@ -19,6 +19,7 @@ use Rattle.shared_lookup.specs.declared.changes.Change.{Change}
 use Rattle.shared_lookup.specs.declared.served.Answer.{Answer}
 use Rattle.shared_lookup.specs.Changes.{IsOutcomeOf, IsUpdateFor}
 use Rattle.shared_lookup.specs.Counts.{Counts}
+use Rattle.shared_lookup.specs.Paired.{ArePaired}
 
 -- what became of a change: its generation, or why it was refused
 abbrev pub ChangeOutcome : Type 0
@@ -33,11 +34,8 @@ abbrev pub AreAsLong : {X Y : Type 0} → List (Vec X) → List (Vec Y) → Type
 AreAsLong xs ys = map (λ list. length list.items) ys ≡ map (λ list. length list.items) xs
 
 -- at the place of each change of a list is what became of it
-pub record HasOutcomes (c : CatalogEntries) (changes : List Change) (outcomes : List ChangeOutcome)
-    : Type 0 where
-  pub same : length outcomes ≡ length changes
-  pub each : (place : ℕ) (ch : Change) (r : ChangeOutcome) → slice_get changes place ≡ Some ch
-      → slice_get outcomes place ≡ Some r → IsOutcomeOf c ch r
+abbrev pub HasOutcomes : CatalogEntries → List Change → List ChangeOutcome → Type 0
+HasOutcomes c = ArePaired (λ _ ch r. IsOutcomeOf c ch r)
 
 -- each change of a list is refused, because no thread could be made for the list
 abbrev pub AreNotMade : List Change → List ChangeOutcome → Type 0
@@ -49,12 +47,8 @@ abbrev pub AreOutcomesOf : CatalogEntries → List Change → List ChangeOutcome
 AreOutcomesOf c changes outcomes = HasOutcomes c changes outcomes ⊎ AreNotMade changes outcomes
 
 -- each list of changes has its outcomes
-pub record EachHasOutcome (c : CatalogEntries) (changes : List (Vec Change))
-    (outcomes : List (Vec ChangeOutcome)) : Type 0 where
-  pub same : length outcomes ≡ length changes
-  pub each : (writer : ℕ) (list : Vec Change) (made : Vec ChangeOutcome)
-      → slice_get changes writer ≡ Some list → slice_get outcomes writer ≡ Some made
-      → AreOutcomesOf c list.items made.items
+abbrev pub EachHasOutcome : CatalogEntries → List (Vec Change) → List (Vec ChangeOutcome) → Type 0
+EachHasOutcome c = ArePaired (λ _ list made. AreOutcomesOf c list.items made.items)
 
 -- this reader gave the answer to the key at this place
 pub record IsAnswerTo (reader place key : ℕ) (a : Answer) : Type 0 where

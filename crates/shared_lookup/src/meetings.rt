@@ -35,6 +35,15 @@ fn met(ledger: Ledger, seat: Option<Reader<HalfOpen>>) -> (Ledger, Option<Reader
     }
 }
 
+/// The ledger, once it has met the reader, if there is one, which is dropped.
+fn settled(ledger: Ledger, seat: Option<Reader<HalfOpen>>) -> Ledger
+    requires { IfSome seat (λ r. r.place ≡ ledger.place) }
+    ensures same { result ≡ ledger }
+    ensures known { IsPrefix (known_by seat) ledger.log }
+{
+    met(ledger, seat).0
+}
+
 /// Each reader meets the ledger's writer. Adds the answers of each list, whether it ended and its
 /// reader to three lists.
 pub(crate) fn meet_all(
@@ -98,8 +107,7 @@ pub(crate) fn settle_all(
             outcomes: list,
             seat,
         } = made;
-        let (same, _seat) = met(ledger, seat);
-        ledger = same;
+        ledger = settled(ledger, seat);
         outcomes.push_reserved(list);
     }
     (ledger, outcomes)

@@ -3,7 +3,7 @@ use Rattle.std.proofs.lemmas.List.{length-take-le}
 use Rattle.std.proofs.lemmas.List.Elements.{All-pop}
 use Rattle.shared_lookup.specs.Readers.{IsNewReaderOf}
 use Rattle.shared_lookup.specs.Threads.{AreReading}
-use Rattle.shared_lookup.proofs.ThreadLemmas.{reading_more}
+use Rattle.shared_lookup.proofs.PairedLemmas.{pair_taken}
 use Rattle.shared_lookup.proofs.lists.start_readers.Goals as goal
 
 pub start_reader-thread-requires-clause-reads : goal.start_reader-thread-requires-clause-reads
@@ -25,7 +25,7 @@ loop-list-preserved g c =
       left = let a = c.in-Some.ensures.len in let b = c.loop-list.invariant.left in omega (arith, a, b);
       reading =
           subst (AreReading c.args.changer.now (take (i + 1) keys)) (sym c.push_reserved.ensures.items)
-          (reading_more c.args.changer.now keys i c.list-item.result c.loop-list.readers.items c.start_reader-thread.result less c.list-item.is all count started.0 (started.1 ∙ place) (started.2 ∙ c.as_slice.ensures.value));
+          (pair_taken _ keys i _ c.list-item.result c.loop-list.readers.items c.start_reader-thread.result less c.list-item.is all (started.0, started.1 ∙ place, started.2 ∙ c.as_slice.ensures.value));
       long = let l = c.loop-list.invariant.long in let k = c.push_reserved.ensures.capacity in omega (arith, l, k);
     }
 

@@ -12,7 +12,8 @@ use Rattle.shared_lookup.specs.Servings.{AreFoundIn, EachIsAnswered, EachIsFound
 use Rattle.shared_lookup.specs.Threads.{AreHeard}
 use Rattle.latch_table.specs.Readers.{ReaderState}
 use Rattle.shared_lookup.proofs.FoundLemmas.{all_found_later}
-use Rattle.shared_lookup.proofs.LookedLemmas.{all_looked_more, looked_met}
+use Rattle.shared_lookup.proofs.LookedLemmas.{looked_met}
+use Rattle.shared_lookup.proofs.PairedLemmas.{pair_more}
 use Rattle.shared_lookup.proofs.ThreadLemmas.{answered_so_far, heard_here, met_here, room_left}
 use Rattle.shared_lookup.proofs.meetings.meet_all.Goals as goal
 
@@ -48,7 +49,7 @@ loop-found-preserved c =
     (all_found_later (known_by f.seat) log f.answers.items known here.found) in
     let back = c.met-same.result.1 in
     let met : HasMet log f.seat back = subst (λ (l : LedgerState). HasMet l.log f.seat back) i.same c.met-same.ensures.reader in
-    let looked = all_looked_more log c.loop-found.answers.items c.loop-found.readers.items f.answers back i.looked (looked_met log f.answers.items f.seat back here.looked met) in
+    let looked = pair_more _ c.loop-found.answers.items c.loop-found.readers.items f.answers back i.looked (looked_met log f.answers.items f.seat back here.looked met) in
     record {
       gone = i.gone ∙ ap (λ (xs : List LookupResults). done ++ xs) step ∙ sym (append_assoc done (f ∷ []) rest);
       same = c.met-same.ensures.same ∙ i.same;
