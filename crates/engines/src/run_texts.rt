@@ -1,8 +1,5 @@
-//! The lines that a run of a script writes, byte for byte.
-//!
-//! Many answers are gathered in memory before they are put on the writer at once. Memory that runs
-//! out for that fails no run: then the answers go to the writer piece by piece.
-ghost use Rattle.std.specs.Prelude.{◌++◌, ◌+◌, ◌≡◌, IfOk, codes, decimal, flat_map, min};
+//! The lines that a run of a script writes, byte for byte, with no memory taken.
+ghost use Rattle.std.specs.Prelude.{◌++◌, ◌+◌, ◌≡◌, codes, decimal, flat_map, min};
 ghost use Rattle.texts.specs.Exact.{hexadecimal};
 ghost use Rattle.texts.specs.Output.{Delivers, Says};
 ghost use Rattle.engines.specs.LookupTexts.{count_text};
@@ -16,18 +13,13 @@ use modules::Catalog;
 use order_laws::Refusal;
 use run_files::ModuleName;
 use shared_lookup::{Answer, Served};
-use std::alloc::{AllocError, Global};
 use std::io::Write;
-use texts::{BLOCK, Output};
-
-/// How many answers are gathered at once. Mostly their lines fit in a block.
-const GATHERED: usize = 1024;
+use texts::Output;
 
 /// Writes what came back from the writers, whose changes are of modules of these names, and from
 /// the readers; and lets the writer keep nothing back.
 pub fn put_run<W: Write>(
     writer: &mut Output<W>,
-    alloc: Global,
     catalog: &Catalog<'_>,
     names: &[Vec<ModuleName<'_>>],
     served: &Served,
@@ -36,7 +28,7 @@ pub fn put_run<W: Write>(
         (run_text catalog.now names.now served.now) }
 {
     put_refusals(writer, names, &served.changes);
-    put_found(writer, alloc, catalog, &served.answers);
+    put_found(writer, catalog, &served.answers);
     let checked = checked_in(&served.answers);
     put_totals(writer, checked, served.wrong, served.log.len() as u64);
     writer.flush();
@@ -92,69 +84,17 @@ fn put_change<W: Write>(
 }
 
 /// Writes the answers of each reader.
-fn put_found<W: Write>(
-    writer: &mut Output<W>,
-    alloc: Global,
-    catalog: &Catalog<'_>,
-    answers: &[Vec<Answer>],
-)
+fn put_found<W: Write>(writer: &mut Output<W>, catalog: &Catalog<'_>, answers: &[Vec<Answer>])
     ensures { Says W.contents writer.old writer.new
         (flat_map (answers_text catalog.now) answers.now) }
 {
     for list in answers {
-        put_list(writer, alloc, catalog, list);
+        put_list(writer, catalog, list);
     }
 }
 
 /// Writes the answers of a reader.
-fn put_list<W: Write>(
-    writer: &mut Output<W>,
-    alloc: Global,
-    catalog: &Catalog<'_>,
-    answers: &[Answer],
-)
-    ensures { Says W.contents writer.old writer.new
-        (flat_map (answered_text catalog.now) answers.now) }
-{
-    let mut rest = answers;
-    while !rest.is_empty() {
-        let (next, after) = rest.split_at(rest.len().min(GATHERED));
-        put_gathered(writer, alloc, catalog, next);
-        rest = after;
-    }
-}
-
-/// Writes answers at once, or piece by piece if there is no memory to gather them.
-fn put_gathered<W: Write>(
-    writer: &mut Output<W>,
-    alloc: Global,
-    catalog: &Catalog<'_>,
-    answers: &[Answer],
-)
-    ensures { Says W.contents writer.old writer.new
-        (flat_map (answered_text catalog.now) answers.now) }
-{
-    match gathered(alloc, catalog, answers) {
-        Ok(text) => writer.put(&text),
-        Err(_) => put_pieces(writer, catalog, answers),
-    }
-}
-
-/// The text of answers. An error means that memory ran out.
-fn gathered(alloc: Global, catalog: &Catalog<'_>, answers: &[Answer]) -> Result<Vec<u8>, AllocError>
-    ensures { IfOk result (λ text.
-        text.items ≡ flat_map (answered_text catalog.now) answers.now) }
-{
-    let mut text = Output::new(Vec::with_capacity(alloc, BLOCK)?);
-    put_pieces(&mut text, catalog, answers);
-    if text.has_failed() {
-        return Err(AllocError);
-    }
-    Ok(text.into_inner())
-}
-
-/// Writes the pieces of answers.
-fn put_pieces<W: Write>(writer: &mut Output<W>, catalog: &Catalog<'_>, answers: &[Answer])
+fn put_list<W: Write>(writer: &mut Output<W>, catalog: &Catalog<'_>, answers: &[Answer])
     ensures { Says W.contents writer.old writer.new
         (flat_map (answered_text catalog.now) answers.now) }
 {

@@ -131,7 +131,7 @@ fn run_lines<T: Threads + Wait + Sync, W: Write>(
         keys,
     } = assigned?;
     let served = serve(rt, alloc, &Open, catalog, changes, keys)?;
-    tell(writer, alloc, catalog, &names, &served)
+    tell(writer, catalog, &names, &served)
 }
 
 /// Frees the lines, shrinking their block first: freeing a large block raises glibc's mmap
@@ -147,7 +147,6 @@ fn give_back(lines: Vec<ScriptLine<'_>>) {
 /// memory if some list of addresses ended early.
 fn tell<W: Write>(
     writer: &mut Output<W>,
-    alloc: Global,
     catalog: &Catalog<'_>,
     names: &[Vec<ModuleName<'_>>],
     served: &Served,
@@ -158,7 +157,7 @@ fn tell<W: Write>(
     if has_ended(&served.ended) {
         return Err(Fault::Refused(Refusal::OutOfMemory));
     }
-    put_run(writer, alloc, catalog, names, served);
+    put_run(writer, catalog, names, served);
     if writer.has_failed() {
         return Err(Fault::Write);
     }

@@ -1,13 +1,8 @@
-use Rattle.std.proofs.Common.{◌≡◌, ◌++◌, List, flat_map, length}
+use Rattle.std.proofs.Common.{flat_map, take}
 use Rattle.texts.specs.Output.{Says}
-use Rattle.shared_lookup.specs.declared.served.Answer.{Answer}
 use Rattle.engines.specs.RunTexts.{answered_text}
 use Rattle.engines.proofs.run_texts.put_list.Given as goal
 
--- the lines of the answers before the rest were written
-abbrev pub invariant-loop-rest : goal.invariant-loop-rest
-invariant-loop-rest g l =
-    (done : List Answer) × (l.answers ≡ done ++ l.rest) × Says g.W.Write.contents l.fn.writer l.writer (flat_map (answered_text l.catalog) done)
-
-abbrev pub decreases-loop-rest : goal.decreases-loop-rest
-decreases-loop-rest g l = length l.rest
+-- the lines of the answers so far were written
+abbrev pub invariant-loop-answer : goal.invariant-loop-answer
+invariant-loop-answer g l = Says g.W.Write.contents l.fn.writer l.writer (flat_map (answered_text l.catalog) (take l.answer-index l.answers))
