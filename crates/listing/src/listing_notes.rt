@@ -210,8 +210,8 @@ pub fn applies_to_kallsyms(
         ListingNote::AllHidden => facts.hidden,
         ListingNote::LooksLikeModules => none && looks_like_modules(text),
         ListingNote::LinesEndInCrLf => none && first_line_ends_in_cr(text),
-        ListingNote::NoStart => lacks_start(text, names, facts.has_kernel),
-        ListingNote::NoEnd => lacks_end(text, names, facts.has_kernel),
+        ListingNote::NoStart => lacks_bounds(text, names, facts.has_kernel).0,
+        ListingNote::NoEnd => lacks_bounds(text, names, facts.has_kernel).1,
         ListingNote::NoSymbolLine => none && lacks_symbol_lines(text),
         ListingNote::LooksLikeSymbols
         | ListingNote::OtherBoot
@@ -241,28 +241,16 @@ pub fn note_of_kallsyms(
     None
 }
 
-/// Whether symbols of the kernel itself are listed, and none at its first address. If both its
-/// bounds are known to be listed, nothing is sought.
-fn lacks_start(text: &[u8], names: &KernelBounds, has_kernel: bool) -> bool
+/// Whether symbols of the kernel itself are listed, and none at its first address; and whether they
+/// are, and none at its end. If both its bounds are known to be listed, nothing is sought.
+fn lacks_bounds(text: &[u8], names: &KernelBounds, has_kernel: bool) -> (bool, bool)
     requires { has_kernel ≡ true → HasBounds names.now (symbols_in (lines_of text.now)) }
-    ensures { result ≡ lacks_symbol names.now.start (symbols_in (lines_of text.now)) }
+    ensures start { result.0 ≡ lacks_symbol names.now.start (symbols_in (lines_of text.now)) }
+    ensures end { result.1 ≡ lacks_symbol names.now.end (symbols_in (lines_of text.now)) }
 {
     if has_kernel {
-        return false;
+        return (false, false);
     }
     let shown = kernel_symbols(text, names);
-    shown.any && !shown.start
-}
-
-/// Whether symbols of the kernel itself are listed, and none at its end. If both its bounds are
-/// known to be listed, nothing is sought.
-fn lacks_end(text: &[u8], names: &KernelBounds, has_kernel: bool) -> bool
-    requires { has_kernel ≡ true → HasBounds names.now (symbols_in (lines_of text.now)) }
-    ensures { result ≡ lacks_symbol names.now.end (symbols_in (lines_of text.now)) }
-{
-    if has_kernel {
-        return false;
-    }
-    let shown = kernel_symbols(text, names);
-    shown.any && !shown.end
+    (shown.any && !shown.start, shown.any && !shown.end)
 }
