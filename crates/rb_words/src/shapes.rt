@@ -211,7 +211,7 @@ impl<O: TreeOrder> Shape<O> {
     }
 
     /// Plans to insert an item in a free node, and pictures the copy with it: appends the stores of
-    /// links, which come after those of the item's words ([`item_stores`]).
+    /// links, before which the item's words are stored ([`item_stores`]).
     ///
     /// Takes no memory. There must be room for one item and for [`STORES`] stores less three
     /// ([`Shape::reserve`]); the item must be valid and meet none ([`Shape::meets`]).
