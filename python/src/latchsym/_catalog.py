@@ -116,9 +116,19 @@ def _counts(counts: it.Counts) -> Counts:
     return Counts(*(getattr(counts, name) for name in it.COUNTS), *texts)
 
 
+def _notes(counts: Counts) -> tuple[str | None, str | None]:
+    """What is noted of the listing of symbols, and of that of modules."""
+    return counts.symbols_note, counts.modules_note
+
+
+def has_new_note(counts: Counts, before: Counts) -> bool:
+    """Whether something is noted of a listing that was not noted of it before."""
+    return any(note not in (None, old) for note, old in zip(_notes(counts), _notes(before)))
+
+
 def warn_of(counts: Counts, paths: Sequence[str | os.PathLike[str] | None], level: int) -> None:
     """Warns of the files of symbols and of modules that have a note, for a caller so far up."""
-    for path, note in zip(paths, (counts.symbols_note, counts.modules_note)):
+    for path, note in zip(paths, _notes(counts)):
         if note is not None:
             warnings.warn(f"{path}: {note}", stacklevel=level)
 
@@ -201,6 +211,12 @@ def symbol_of(number: int, found: it.Symbol, modules: dict[int, str]) -> Symbol 
     return Symbol(name, found.offset, found.size, module, owner)
 
 
+def symbol_by(call: it.Call, *words: Any, modules: dict[int, str]) -> Symbol | None:
+    """What a search tells into room of its own."""
+    found = it.no_symbol()
+    return symbol_of(call(*words, found), found, modules)
+
+
 def _rows(row: ctypes.Structure, count: int) -> bytearray:
     """So many rows that are as this one."""
     return bytearray(bytes(row) * count or bytes(row))
@@ -246,15 +262,12 @@ class View:
 
     def find(self, addr: int) -> Symbol | None:
         """The symbol of an address, or None where nothing is."""
-        found = it.no_symbol()
-        number = lib.latchsym_view_find(self._view, word(addr), found)
-        return symbol_of(number, found, self._modules)
+        return symbol_by(lib.latchsym_view_find, self._view, word(addr), modules=self._modules)
 
     def find_caller(self, addr: int) -> Symbol | None:
         """The symbol of a return address, as `Catalog.find_caller` finds it."""
-        found = it.no_symbol()
-        number = lib.latchsym_view_find_caller(self._view, word(addr), found)
-        return symbol_of(number, found, self._modules)
+        call = lib.latchsym_view_find_caller
+        return symbol_by(call, self._view, word(addr), modules=self._modules)
 
 
 def _close(handle: it.Handle, listings: Sequence[Pinned]) -> None:

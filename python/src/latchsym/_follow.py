@@ -13,7 +13,7 @@ from typing import Iterable, NamedTuple
 
 from . import _library as it
 from ._buffers import Closing
-from ._catalog import Catalog, Counts, Item, Symbol, symbol_of, warn_of
+from ._catalog import Catalog, Item, Symbol, has_new_note, symbol_by, warn_of
 from ._library import check, lib, word
 from ._table import Reader
 
@@ -77,33 +77,22 @@ class Follower(Closing):
         reads for itself, so that no older listing is shown over a newer one. New regions take nodes
         beside old ones.
         """
-        with self._polling:
+        with self._polling, ExitStack() as refused:
             texts = [None if path is None else Path(path).read_bytes() for path in self._paths]
             if texts == self._texts:
                 return False
             catalog = Catalog(*texts)
-            if self._is_worse(catalog.counts):
-                catalog.close()
+            refused.callback(catalog.close)
+            if self._shown and has_new_note(catalog.counts, self._shown[self._newest].counts):
                 warn_of(catalog.counts, self._paths, 3)
                 return False
-            self._show(catalog)
-            self._texts = texts
-        return True
-
-    def _is_worse(self, counts: Counts) -> bool:
-        """Whether something is noted that is not noted of the listings shown, if there are any."""
-        shown = self._shown[self._newest].counts if self._shown else counts
-        notes = zip(counts[-2:], shown[-2:])
-        return any(note not in (None, of_shown) for note, of_shown in notes)
-
-    def _show(self, catalog: Catalog) -> None:
-        """Shows the regions of a catalog in one update; closes it if that is refused."""
-        tag, now, generation = self._newest + 1, time.monotonic_ns(), c_uint64()
-        with self._lock, ExitStack() as refused:
-            refused.callback(catalog.close)
-            check(lib.latchsym_follower_show(self._handle, catalog._handle, now, tag, generation))
+            tag, now, shown = self._newest + 1, time.monotonic_ns(), c_uint64()
+            with self._lock:
+                check(lib.latchsym_follower_show(self._handle, catalog._handle, now, tag, shown))
+                self._shown[tag], self._newest = catalog, tag
             refused.pop_all()
-            self._shown[tag], self._newest = catalog, tag
+            self._texts = texts
+            return True
 
     def find(self, address: int) -> Sample:
         """The region that the address lies in now, with the generation of this answer."""
@@ -125,21 +114,21 @@ class Follower(Closing):
         return self._name(lib.latchsym_follower_find_since, time_ns, address)
 
     def _name(self, find: it.Call, moment: int, address: int) -> Symbol | None:
-        found = it.no_symbol()
         with self._lock:
-            return symbol_of(find(self._handle, word(moment), word(address), found), found, {})
+            return symbol_by(find, self._handle, word(moment), word(address), modules={})
 
     def forget_below(self, generation: int) -> None:
         """Closes each listing that no sample of this generation or a later one needs."""
-        tag = c_uint64()
-        with self._lock:
-            while lib.latchsym_follower_forget(self._handle, word(generation), tag) == it.DONE:
-                self._shown.pop(tag.value).close()
+        self._close_each(lib.latchsym_follower_forget, word(generation))
 
     def close(self) -> None:
         """Closes the table and all listings."""
+        self._reader.close()
+        self._close_each(lib.latchsym_follower_close)
+
+    def _close_each(self, call: it.Call, *words: int) -> None:
+        """Closes the listings whose tags the call tells, one at a time, until it tells of none."""
         tag = c_uint64()
         with self._lock:
-            self._reader.close()
-            while lib.latchsym_follower_close(self._handle, tag) == it.DONE:
+            while call(self._handle, *words, tag) == it.DONE:
                 self._shown.pop(tag.value).close()
