@@ -136,8 +136,11 @@ struct entry {
 
 namespace detail {
 
-/* What a search tells by its number and in `out`; none where nothing is. */
-inline std::optional<symbol> symbol_told(std::uint32_t number, const latchsym_symbol &out) {
+/* What a search tells of these words by its number, and behind them; none where nothing is. */
+template <class Call, class... Words>
+std::optional<symbol> symbol_by(Call call, Words... words) {
+    latchsym_symbol out = LATCHSYM_SYMBOL_INIT;
+    const std::uint32_t number = call(words..., &out);
     if (number == LATCHSYM_NOTHING) return std::nullopt;
     const bool has_name = number != LATCHSYM_NO_SYMBOL;
     if (has_name) check(number);
@@ -177,11 +180,13 @@ public:
     latchsym_catalog *get() noexcept { return handle_.get(); }
 
     /* The symbol of an address, or none where nothing is. */
-    std::optional<symbol> find(std::uint64_t addr) { return found(latchsym_catalog_find, addr); }
+    std::optional<symbol> find(std::uint64_t addr) {
+        return detail::symbol_by(latchsym_catalog_find, get(), addr);
+    }
 
     /* The same of a return address: that of the call before it. */
     std::optional<symbol> find_caller(std::uint64_t addr) {
-        return found(latchsym_catalog_find_caller, addr);
+        return detail::symbol_by(latchsym_catalog_find_caller, get(), addr);
     }
 
     /* What is told of so many addresses, in numbers alone, into as many rooms. */
@@ -262,13 +267,6 @@ private:
     explicit catalog(const latchsym::counts &counts)
         : handle_(detail::closed<latchsym_catalog>()), counts_(counts) {}
 
-    template <class Call>
-    std::optional<symbol> found(Call call, std::uint64_t addr) {
-        latchsym_symbol out = LATCHSYM_SYMBOL_INIT;
-        const std::uint32_t number = call(get(), addr, &out);
-        return detail::symbol_told(number, out);
-    }
-
     detail::owned<latchsym_catalog> handle_;
     latchsym::counts counts_{};
 };
@@ -297,21 +295,16 @@ public:
     const latchsym_view *get() const noexcept { return &view_; }
 
     /* The symbol of an address, or none where nothing is. */
-    std::optional<symbol> find(std::uint64_t addr) const { return found(latchsym_view_find, addr); }
+    std::optional<symbol> find(std::uint64_t addr) const {
+        return detail::symbol_by(latchsym_view_find, get(), addr);
+    }
 
     /* The same of a return address: that of the call before it. */
     std::optional<symbol> find_caller(std::uint64_t addr) const {
-        return found(latchsym_view_find_caller, addr);
+        return detail::symbol_by(latchsym_view_find_caller, get(), addr);
     }
 
 private:
-    template <class Call>
-    std::optional<symbol> found(Call call, std::uint64_t addr) const {
-        latchsym_symbol out = LATCHSYM_SYMBOL_INIT;
-        const std::uint32_t number = call(get(), addr, &out);
-        return detail::symbol_told(number, out);
-    }
-
     std::vector<latchsym_view_region> regions_;
     std::vector<latchsym_view_symbol> symbols_;
     std::vector<std::uint64_t> addresses_;
@@ -609,16 +602,16 @@ public:
     /* The symbol of an address, or of a return address, by the listing that stood at a generation or
      * at a stamp; an error with LATCHSYM_FORGOTTEN where it is gone. */
     std::optional<symbol> find(std::uint64_t generation, std::uint64_t addr) {
-        return found(latchsym_follower_find, generation, addr);
+        return detail::symbol_by(latchsym_follower_find, get(), generation, addr);
     }
     std::optional<symbol> find_caller(std::uint64_t generation, std::uint64_t addr) {
-        return found(latchsym_follower_find_caller, generation, addr);
+        return detail::symbol_by(latchsym_follower_find_caller, get(), generation, addr);
     }
     std::optional<symbol> find_since(std::uint64_t at, std::uint64_t addr) {
-        return found(latchsym_follower_find_since, at, addr);
+        return detail::symbol_by(latchsym_follower_find_since, get(), at, addr);
     }
     std::optional<symbol> find_caller_since(std::uint64_t at, std::uint64_t addr) {
-        return found(latchsym_follower_find_caller_since, at, addr);
+        return detail::symbol_by(latchsym_follower_find_caller_since, get(), at, addr);
     }
 
     /* Forgets the oldest catalog if no sample of this generation, or stamp, or a later one needs it, and
@@ -638,13 +631,6 @@ public:
 private:
     friend struct followed_table;
     follower() : handle_(new latchsym_follower{}) {}
-
-    template <class Call>
-    std::optional<symbol> found(Call call, std::uint64_t moment, std::uint64_t addr) {
-        latchsym_symbol out = LATCHSYM_SYMBOL_INIT;
-        const std::uint32_t number = call(get(), moment, addr, &out);
-        return detail::symbol_told(number, out);
-    }
 
     template <class Call>
     std::optional<std::uint64_t> gone(Call call, std::uint64_t moment) {
