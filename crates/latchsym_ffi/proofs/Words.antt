@@ -13,7 +13,7 @@ pub use Rattle.std.specs.List.{AllWithin, flat_map, range_with_len}
 pub use Rattle.std.specs.List.Sorted.{IsNonDecreasingBy, IsPermutation, IsSortedBy}
 pub use Rattle.std.specs.Option.{option_copied, option_map, option_map_or}
 pub use Rattle.std.specs.Ordering.{is_lt, nat_cmp, ordering_then}
-pub use Rattle.std.specs.Prelude.{Contains, IfSome, MatchOption, SomeIff, unwrap_or}
+pub use Rattle.std.specs.Prelude.{Contains, IfOk, IfSome, MatchOption, SomeIff, unwrap_or}
 pub use Rattle.std.specs.Vec.Iter.{into_iter_items}
 pub use Rattle.std_alloc.proofs.SendSync.{lies}
 pub use Rattle.facts.proofs.Lists.{slice_get_some}
@@ -59,7 +59,7 @@ pub use Rattle.latchsym_ffi.specs.Named.{IsNamed}
 pub use Rattle.latchsym_ffi.specs.Opening.{AreRead, HasTooManyRegionLines, IsCounted, RefusesTexts, counts_in}
 pub use Rattle.latchsym_ffi.specs.Owning.{owns_content}
 pub use Rattle.latchsym_ffi.specs.Replacing.{RefusesReplacingAs, item_told}
-pub use Rattle.latchsym_ffi.specs.Tables.{first_follower, first_reader}
+pub use Rattle.latchsym_ffi.specs.Tables.{AreOpened, first_reader}
 pub use Rattle.latchsym_ffi.specs.Updates.{item_from}
 pub use Rattle.latchsym_ffi.specs.Viewing.{AreRooms}
 pub use Rattle.latchsym_ffi.specs.Views.{AreRowsOf, IsRegionRow, IsViewOf, entry_of_row, item_of_row, shown_row, symbol_of_row, symbols_at, symbols_below, symbols_of}

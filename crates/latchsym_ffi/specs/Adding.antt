@@ -1,18 +1,9 @@
 -- What the adding of a reader gives.
-use Rattle.std.specs.Prelude.{◌≡◌}
 use Rattle.latch_table.specs.Adding.{AddsReader}
 use Rattle.latch_table.specs.Readers.{ReaderState}
 use Rattle.latch_table.specs.Writers.{WriterState}
-use Rattle.latchsym_ffi.specs.declared.contents.Content.{Content}
-use Rattle.latchsym_ffi.specs.declared.contents.Content.TheVariants.{Reader}
 use Rattle.latchsym_ffi.specs.declared.handles.Handle.{Handle}
 use Rattle.latchsym_ffi.specs.Handles.{HoldsReader}
-
--- the content is one more reader of the writer's table
-pub record IsAdded (w w' : WriterState) (content : Content) : Type 0 where
-  pub reader : ReaderState
-  pub held : content ≡ Reader reader
-  pub adds : AddsReader w w' reader
 
 -- the handle holds one more reader of the writer's table
 pub record AddsHandle (h : Handle) (w w' : WriterState) : Type 0 where

@@ -2,7 +2,7 @@
 use Rattle.std.specs.Prelude.{◌≡◌, ℕ, Option, Some, None}
 use Rattle.modules.specs.Entries.{CatalogEntries}
 use Rattle.order_laws.specs.Refusals.{refusal_number}
-use Rattle.follower.specs.Catalogs.{Forgets}
+use Rattle.follower.specs.Catalogs.{Forgets, standing_at}
 use Rattle.follower.specs.Following.{Followed, RefusesToShow}
 use Rattle.follower.specs.declared.catalogs.DatedCatalog.{DatedCatalog}
 use Rattle.follower.specs.declared.catalogs.Moment.{Moment}
@@ -10,10 +10,12 @@ use Rattle.follower.specs.declared.follower.NotShown.{NotShown}
 use Rattle.follower.specs.declared.follower.NotShown.TheVariants.{Refused, StampFalls}
 use Rattle.latchsym_ffi.specs.Answers.{answer_number}
 use Rattle.latchsym_ffi.specs.Finding.{Known}
+use Rattle.latchsym_ffi.specs.Handles.{HoldsFollower}
 use Rattle.latchsym_ffi.specs.Named.{IsTold}
 use Rattle.latchsym_ffi.specs.declared.answers.Answer.TheVariants.{BadStamp, Done, Forgotten}
 use Rattle.latchsym_ffi.specs.declared.answers.Answer.TheVariants.{Nothing}
 use Rattle.latchsym_ffi.specs.declared.finding.CatalogSymbol.{CatalogSymbol}
+use Rattle.latchsym_ffi.specs.declared.handles.Handle.{Handle}
 
 -- the number of what stands against showing a catalog
 abbrev pub not_shown_number : NotShown → ℕ
@@ -32,6 +34,14 @@ abbrev pub TellsStanding : Option DatedCatalog → (CatalogEntries → Known) �
     → CatalogSymbol → Type 0
 TellsStanding None known result old new = (result ≡ answer_number Forgotten) × (new ≡ old)
 TellsStanding (Some d) known result old new = IsTold d.catalog (known d.catalog) result new
+
+-- what is known of an address is told by the catalog that stands at a moment, of those that the
+-- handle's follower has
+abbrev pub TellsAt : Moment → (CatalogEntries → ℕ → Known) → ℕ → Handle → ℕ → CatalogSymbol
+    → CatalogSymbol → Type 0
+TellsAt moment known addr h result old new =
+    (f : Followed) → HoldsFollower f h
+    → TellsStanding (standing_at f.catalogs moment) (λ c. known c addr) result old new
 
 -- the number and the tag that tell of a catalog which is gone, or of none
 abbrev pub TellsTag : Option ℕ → ℕ → ℕ → ℕ → Type 0

@@ -1,5 +1,5 @@
 -- What a handle holds.
-use Rattle.std.specs.Prelude.{◌≡◌, Some}
+use Rattle.std.specs.Prelude.{◌≡◌, ◌≢◌, ℕ, Some}
 use Rattle.latch_table.specs.Readers.{ReaderState}
 use Rattle.latch_table.specs.Writers.{WriterState}
 use Rattle.modules.specs.Entries.{CatalogEntries}
@@ -22,6 +22,11 @@ HoldsFollower f h = h.pointer.content ≡ Some (Follower f)
 -- the handle holds what it held
 abbrev pub Stays : Handle → Handle → Type 0
 Stays h h' = h'.pointer.content ≡ h.pointer.content
+
+-- a handle of another kind is a bad one: it stays as it was, and so does what was to be told
+abbrev pub RefusesOther : {A : Type 0} → ℕ → Handle → Handle → A → A → ℕ → Type 0
+RefusesOther kind h h' told told' result =
+    h.kind ≢ kind → (result ≡ 101) × (h' ≡ h) × (told' ≡ told)
 
 -- the writer that the handle held, and the one that it then holds, are so
 abbrev pub WriterGoes : (WriterState → WriterState → Type 0) → Handle → Handle → Type 0

@@ -6,39 +6,56 @@ ghost use Rattle.order_laws.specs.Refusals.{refusal_number};
 ghost use Rattle.follower.specs.Following.{Followed};
 ghost use Rattle.latch_table.specs.Adding.{RefusesReader};
 ghost use Rattle.latch_table.specs.Writers.{WriterState};
-ghost use Rattle.latchsym_ffi.specs.Adding.{AddsHandle, IsAdded};
-ghost use Rattle.latchsym_ffi.specs.Handles.{FollowerGoes, HoldsFollower, HoldsWriter, Stays};
-ghost use Rattle.latchsym_ffi.specs.Handles.{WriterGoes};
+ghost use Rattle.latchsym_ffi.specs.Adding.{AddsHandle};
+ghost use Rattle.latchsym_ffi.specs.Handles.{FollowerGoes, HoldsFollower, HoldsReader, HoldsWriter};
+ghost use Rattle.latchsym_ffi.specs.Handles.{Stays, WriterGoes};
 ghost use Rattle.latchsym_ffi.specs.Kinds.{follower_kind, writer_kind};
 
 use crate::answers::{BAD_HANDLE, DONE};
-use crate::calls::with_follower;
+use crate::calls::{with_follower, with_writer};
 use crate::contents::{CLOSED, Content};
 use crate::handles::Handle;
 use follower::Follower;
-use latch_table::Writer;
+use latch_table::{Reader, Writer};
 use order_laws::{HalfOpen, Refusal};
 use std::alloc::Global;
 
-/// One more reader of the writer's table, in a box.
-fn add(alloc: Global, writer: &mut Writer<HalfOpen>) -> Result<Box<Content, Global>, Refusal>
-    ensures added { IfOk result (λ b. IsAdded writer.old writer.new b.value) }
-    ensures refusal { IfErr result (RefusesReader writer.old) }
-    ensures unchanged { OnErr result (writer.new ≡ writer.old) }
+/// Opens a handle with a reader. The reader comes back if there is no memory for its box.
+fn put_reader(
+    alloc: Global,
+    reader: Reader<HalfOpen>,
+    out: &mut Handle,
+) -> Result<(), Reader<HalfOpen>>
+    ensures held { IfOk result (λ _. HoldsReader reader out.new) }
+    ensures back { IfErr result (λ r. r ≡ reader) }
+    ensures unchanged { OnErr result (out.new ≡ out.old) }
 {
-    let reader = writer.add_reader()?;
     match Box::new(alloc, Content::Reader(reader)) {
-        Ok(content) => Ok(content),
-        Err(failed) => {
-            match failed.value {
-                Content::Reader(reader) => writer.take_back(reader),
-                Content::Catalog(_catalog) => (),
-                Content::Writer(_writer) => (),
-                Content::Follower(_follower) => (),
-            }
-            Err(Refusal::OutOfMemory)
+        Ok(content) => {
+            out.put(content);
+            Ok(())
         }
+        Err(failed) => match failed.value {
+            Content::Reader(reader) => Err(reader),
+            _ => unreachable!(),
+        },
     }
+}
+
+/// Opens a handle with one more reader of the table of a writer or of a follower.
+macro_rules! add_reader {
+    ($alloc:ident, $owner:ident, $out:ident) => {
+        match $owner.add_reader() {
+            Ok(reader) => match put_reader($alloc, reader, $out) {
+                Ok(()) => DONE,
+                Err(reader) => {
+                    $owner.take_back(reader);
+                    Refusal::OutOfMemory.number()
+                }
+            },
+            Err(refusal) => refusal.number(),
+        }
+    };
 }
 
 /// Opens a closed handle with one more reader of the writer's table.
@@ -48,13 +65,7 @@ fn add_in(alloc: Global, writer: &mut Writer<HalfOpen>, out: &mut Handle) -> u32
     ensures why { result ≢ 0
         → (e : Why) × (result ≡ refusal_number e) × RefusesReader writer.old e }
 {
-    match add(alloc, writer) {
-        Ok(reader) => {
-            out.put(reader);
-            DONE
-        }
-        Err(refusal) => refusal.number(),
-    }
+    add_reader!(alloc, writer, out)
 }
 
 /// Opens a handle with one more reader of the writer's table, also amid an update.
@@ -66,45 +77,17 @@ pub extern "C" fn latchsym_writer_add_reader(
 ) -> u32
     ensures added { result ≡ 0 → (writer.old.kind ≡ writer_kind) × (out.old.kind ≡ 0)
         × WriterGoes (AddsHandle out.new) writer.old writer.new }
-    ensures unchanged { (w : WriterState) → HoldsWriter w writer.old → result ≢ 0
-        → HoldsWriter w writer.new }
+    ensures unchanged { result ≢ 0 → Stays writer.old writer.new }
     ensures refused { result ≢ 0 → out.new ≡ out.old }
     ensures why { (w : WriterState) → HoldsWriter w writer.old → out.old.kind ≡ 0 → result ≢ 0
         → (e : Why) × (result ≡ refusal_number e) × RefusesReader w e }
     ensures not_so { out.old.kind ≢ 0 → (result ≡ 101) × (writer.new ≡ writer.old) }
-    ensures other { writer.old.kind ≢ writer_kind
-        → (result ≡ 101) × (writer.new ≡ writer.old) }
+    ensures other { writer.old.kind ≢ writer_kind → (result ≡ 101) × (writer.new ≡ writer.old) }
 {
     if out.kind != CLOSED {
         return BAD_HANDLE;
     }
-    writer.with_writer(&mut |inner| add_in(alloc, inner, out))
-}
-
-/// One more reader of a follower's table, in a box.
-fn add_following(
-    alloc: Global,
-    follower: &mut Follower<'static>,
-) -> Result<Box<Content, Global>, Refusal>
-    ensures added { IfOk result
-        (λ b. IsAdded follower.old.writer follower.new.writer b.value) }
-    ensures refusal { IfErr result (RefusesReader follower.old.writer) }
-    ensures unchanged { OnErr result (follower.new ≡ follower.old) }
-    ensures catalogs { follower.new.catalogs ≡ follower.old.catalogs }
-{
-    let reader = follower.add_reader()?;
-    match Box::new(alloc, Content::Reader(reader)) {
-        Ok(content) => Ok(content),
-        Err(failed) => {
-            match failed.value {
-                Content::Reader(reader) => follower.take_back(reader),
-                Content::Catalog(_catalog) => (),
-                Content::Writer(_writer) => (),
-                Content::Follower(_follower) => (),
-            }
-            Err(Refusal::OutOfMemory)
-        }
-    }
+    with_writer!(writer, |inner| add_in(alloc, inner, out))
 }
 
 /// Opens a closed handle with one more reader of a follower's table.
@@ -115,13 +98,7 @@ fn add_following_in(alloc: Global, follower: &mut Follower<'static>, out: &mut H
     ensures why { result ≢ 0
         → (e : Why) × (result ≡ refusal_number e) × RefusesReader follower.old.writer e }
 {
-    match add_following(alloc, follower) {
-        Ok(reader) => {
-            out.put(reader);
-            DONE
-        }
-        Err(refusal) => refusal.number(),
-    }
+    add_reader!(alloc, follower, out)
 }
 
 /// Opens a handle with one more reader of a follower's table.

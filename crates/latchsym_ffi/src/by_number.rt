@@ -9,12 +9,11 @@ ghost use Rattle.latchsym_ffi.specs.ByNumber.{TellsBoth, TellsModule, TellsPlace
 ghost use Rattle.latchsym_ffi.specs.ByNumber.{TellsSymbol, named_from, part_at, place_named};
 ghost use Rattle.latchsym_ffi.specs.ByNumber.{place_of_name, region_at};
 ghost use Rattle.latchsym_ffi.specs.ByNumber.{symbol_at_place};
-ghost use Rattle.latchsym_ffi.specs.Handles.{HoldsCatalog, Stays};
+ghost use Rattle.latchsym_ffi.specs.Handles.{HoldsCatalog, RefusesOther, Stays};
 ghost use Rattle.latchsym_ffi.specs.Kinds.{catalog_kind};
 
-use crate::answers::{BAD_HANDLE, DONE, NOTHING};
+use crate::answers::{DONE, NOTHING};
 use crate::calls::with_catalog;
-use crate::contents::{CATALOG, Content};
 use crate::handles::Handle;
 use crate::open_catalogs::OpenCatalog;
 use modules::{Catalog, Part, Symbol};
@@ -155,8 +154,7 @@ pub extern "C" fn latchsym_catalog_modules(catalog: &mut Handle, out: &mut u64) 
     ensures stays { Stays catalog.old catalog.new }
     ensures told { (c : CatalogEntries) → HoldsCatalog c catalog.old
         → (result ≡ 0) × (out.new ≡ length c.modules) }
-    ensures other { catalog.old.kind ≢ catalog_kind → (result ≡ 101) × (catalog.new ≡ catalog.old)
-        × (out.new ≡ out.old) }
+    ensures other { RefusesOther catalog_kind catalog.old catalog.new out.old out.new result }
 {
     with_catalog!(catalog, |open| {
         *out = open.catalog().len();
@@ -174,8 +172,7 @@ pub extern "C" fn latchsym_catalog_module(
     ensures stays { Stays catalog.old catalog.new }
     ensures told { (c : CatalogEntries) → HoldsCatalog c catalog.old
         → TellsModule (module_of c number) result out.old out.new }
-    ensures other { catalog.old.kind ≢ catalog_kind → (result ≡ 101) × (catalog.new ≡ catalog.old)
-        × (out.new ≡ out.old) }
+    ensures other { RefusesOther catalog_kind catalog.old catalog.new out.old out.new result }
 {
     with_catalog!(catalog, |open| tell_module(open.catalog(), number, out))
 }
@@ -192,8 +189,7 @@ pub extern "C" fn latchsym_catalog_region(
     ensures told { (c : CatalogEntries) → HoldsCatalog c catalog.old
         → TellsRegion (region_at c number place) (part_at c number place)
         result out.old out.new }
-    ensures other { catalog.old.kind ≢ catalog_kind → (result ≡ 101) × (catalog.new ≡ catalog.old)
-        × (out.new ≡ out.old) }
+    ensures other { RefusesOther catalog_kind catalog.old catalog.new out.old out.new result }
 {
     with_catalog!(
         catalog,
@@ -212,8 +208,7 @@ pub extern "C" fn latchsym_catalog_symbol(
     ensures stays { Stays catalog.old catalog.new }
     ensures told { (c : CatalogEntries) → HoldsCatalog c catalog.old
         → TellsSymbol (symbol_at_place c number place) result out.old out.new }
-    ensures other { catalog.old.kind ≢ catalog_kind → (result ≡ 101) × (catalog.new ≡ catalog.old)
-        × (out.new ≡ out.old) }
+    ensures other { RefusesOther catalog_kind catalog.old catalog.new out.old out.new result }
 {
     with_catalog!(
         catalog,
@@ -233,8 +228,7 @@ pub extern "C" fn latchsym_catalog_place_of_name_nonnull(
     ensures stays { Stays catalog.old catalog.new }
     ensures told { (c : CatalogEntries) → HoldsCatalog c catalog.old
         → TellsPlace (place_named c number name.now from) result out.old out.new }
-    ensures other { catalog.old.kind ≢ catalog_kind → (result ≡ 101) × (catalog.new ≡ catalog.old)
-        × (out.new ≡ out.old) }
+    ensures other { RefusesOther catalog_kind catalog.old catalog.new out.old out.new result }
 {
     with_catalog!(
         catalog,
@@ -286,14 +280,8 @@ pub extern "C" fn latchsym_catalog_find_name_nonnull(
     ensures other { catalog.old.kind ≢ catalog_kind → (result ≡ 101) × (catalog.new ≡ catalog.old)
         × (number.new ≡ number.old) × (place.new ≡ place.old) }
 {
-    if catalog.kind != CATALOG {
-        return BAD_HANDLE;
-    }
-    let mut content = catalog.take();
-    let result = match &mut *content {
-        Content::Catalog(open) => tell_place_of(alloc, open, name, from, number, place),
-        _ => BAD_HANDLE,
-    };
-    catalog.put(content);
-    result
+    with_catalog!(
+        catalog,
+        |open| tell_place_of(alloc, open, name, from, number, place)
+    )
 }

@@ -7,7 +7,7 @@ ghost use Rattle.latchsym_ffi.specs.Batches.{told_at};
 ghost use Rattle.latchsym_ffi.specs.Catalogs.{OpensCatalog, RefusesCatalog};
 ghost use Rattle.latchsym_ffi.specs.Finding.{answer_of, copied, known_at, known_code, owner_named};
 ghost use Rattle.latchsym_ffi.specs.Finding.{known_call, symbol_named};
-ghost use Rattle.latchsym_ffi.specs.Handles.{HoldsCatalog, Stays};
+ghost use Rattle.latchsym_ffi.specs.Handles.{HoldsCatalog, RefusesOther, Stays};
 ghost use Rattle.latchsym_ffi.specs.Kinds.{catalog_kind};
 ghost use Rattle.latchsym_ffi.specs.Listings.{is_understood, texts_in};
 ghost use Rattle.latchsym_ffi.specs.Named.{IsTold};
@@ -102,12 +102,11 @@ pub extern "C" fn latchsym_catalog_find(
     ensures stays { Stays catalog.old catalog.new }
     ensures told { (c : CatalogEntries) → HoldsCatalog c catalog.old
         → IsTold c (known_at c addr) result out.new }
-    ensures other { catalog.old.kind ≢ catalog_kind → (result ≡ 101) × (catalog.new ≡ catalog.old)
-        × (out.new ≡ out.old) }
+    ensures other { RefusesOther catalog_kind catalog.old catalog.new out.old out.new result }
 {
     with_catalog!(
         catalog,
-        |open| name_places(open.catalog(), seek(open, addr), out)
+        |open| name_places(open.catalog(), seek(open.indexed(), addr), out)
     )
 }
 
@@ -121,12 +120,11 @@ pub extern "C" fn latchsym_catalog_find_caller(
     ensures stays { Stays catalog.old catalog.new }
     ensures told { (c : CatalogEntries) → HoldsCatalog c catalog.old
         → IsTold c (known_call c addr) result out.new }
-    ensures other { catalog.old.kind ≢ catalog_kind → (result ≡ 101) × (catalog.new ≡ catalog.old)
-        × (out.new ≡ out.old) }
+    ensures other { RefusesOther catalog_kind catalog.old catalog.new out.old out.new result }
 {
     with_catalog!(
         catalog,
-        |open| name_places(open.catalog(), seek_call(open, addr), out)
+        |open| name_places(open.catalog(), seek_call(open.indexed(), addr), out)
     )
 }
 
@@ -145,10 +143,9 @@ pub extern "C" fn latchsym_catalog_find_many_nonnull(
     ensures room { (c : CatalogEntries) → HoldsCatalog c catalog.old
         → length out.old ≢ length addrs.now → result ≡ 102 }
     ensures refused { result ≢ 0 → out.new ≡ out.old }
-    ensures other { catalog.old.kind ≢ catalog_kind
-        → (result ≡ 101) × (catalog.new ≡ catalog.old) }
+    ensures other { catalog.old.kind ≢ catalog_kind → (result ≡ 101) × (catalog.new ≡ catalog.old) }
 {
-    with_catalog!(catalog, |open| tell_in_order(open, addrs, out))
+    with_catalog!(catalog, |open| tell_in_order(open.indexed(), addrs, out))
 }
 
 /// Tells of an address, and copies as much of the names as there is room for.
@@ -174,7 +171,7 @@ pub extern "C" fn latchsym_catalog_name_nonnull(
 {
     with_catalog!(
         catalog,
-        |open| copy_names(open.catalog(), seek(open, addr), out, name, owner)
+        |open| copy_names(open.catalog(), seek(open.indexed(), addr), out, name, owner)
     )
 }
 
@@ -196,26 +193,20 @@ pub extern "C" fn latchsym_catalog_share(
     ensures shared { result ≡ 0 → (catalog.old.kind ≡ catalog_kind) × (out.old.kind ≡ 0)
         × (out.new.pointer.content ≡ catalog.old.pointer.content) }
     ensures refused { result ≢ 0 → out.new ≡ out.old }
-    ensures other { catalog.old.kind ≢ catalog_kind
-        → (result ≡ 101) × (catalog.new ≡ catalog.old) }
+    ensures other { catalog.old.kind ≢ catalog_kind → (result ≡ 101) × (catalog.new ≡ catalog.old) }
     ensures not_so { out.old.kind ≢ 0 → (result ≡ 101) × (catalog.new ≡ catalog.old) }
     ensures why { catalog.old.kind ≡ catalog_kind → out.old.kind ≡ 0 → result ≢ 0 → result ≡ 7 }
 {
     if out.kind != CLOSED {
         return BAD_HANDLE;
     }
-    let Some(taken) = catalog.take_catalog() else {
-        return BAD_HANDLE;
-    };
-    let shared = shared_in(alloc, taken.open());
-    catalog.put_catalog(taken);
-    match shared {
+    with_catalog!(catalog, |open| match shared_in(alloc, open) {
         Ok(shared) => {
             out.put(shared);
             DONE
         }
         Err(_) => Refusal::OutOfMemory.number(),
-    }
+    })
 }
 
 /// Closes a handle. The catalog goes with its last handle.

@@ -8,10 +8,12 @@ ghost use Rattle.latch_table.specs.Readers.{ReaderState};
 ghost use Rattle.latch_table.specs.Writers.{WriterState};
 ghost use Rattle.latchsym_ffi.specs.Enlarging.{AreItsReaders, IsEnlarged, IsMoved, RefusesMoving};
 ghost use Rattle.latchsym_ffi.specs.Enlarging.{RefusesNodes};
-ghost use Rattle.latchsym_ffi.specs.Handles.{HoldsReader, HoldsWriter, WriterGoes};
+ghost use Rattle.latchsym_ffi.specs.Handles.{HoldsReader, HoldsWriter, RefusesOther, Stays};
+ghost use Rattle.latchsym_ffi.specs.Handles.{WriterGoes};
 ghost use Rattle.latchsym_ffi.specs.Kinds.{reader_kind, writer_kind};
 
 use crate::answers::{BAD_HANDLE, DONE};
+use crate::calls::with_writer;
 use crate::contents::{Content, READER};
 use crate::handles::Handle;
 use latch_table::{Reader, Writer};
@@ -105,12 +107,10 @@ pub extern "C" fn latchsym_table_enlarge_nonnull(
     ensures count { length readers.new ≡ length readers.old }
     ensures enlarged { result ≡ 0 → WriterGoes (λ w w'. AreItsReaders w readers.old
         × IsEnlarged nodes w w' readers.new) writer.old writer.new }
-    ensures unchanged { (w : WriterState) → HoldsWriter w writer.old → result ≢ 0
-        → HoldsWriter w writer.new × (readers.new ≡ readers.old) }
+    ensures unchanged { result ≢ 0 → Stays writer.old writer.new × (readers.new ≡ readers.old) }
     ensures why { (w : WriterState) → HoldsWriter w writer.old → result ≢ 0
         → RefusesNodes nodes w readers.old result }
-    ensures other { writer.old.kind ≢ writer_kind
-        → (result ≡ 101) × (writer.new ≡ writer.old) × (readers.new ≡ readers.old) }
+    ensures other { RefusesOther writer_kind writer.old writer.new readers.old readers.new result }
 {
-    writer.with_writer(&mut |inner| enlarge(alloc, nodes, inner, readers))
+    with_writer!(writer, |inner| enlarge(alloc, nodes, inner, readers))
 }

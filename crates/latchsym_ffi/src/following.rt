@@ -6,12 +6,13 @@ ghost use Rattle.follower.specs.Catalogs.{DropsOldest, standing_at};
 ghost use Rattle.follower.specs.Following.{Followed, Shows};
 ghost use Rattle.modules.specs.Entries.{CatalogEntries};
 ghost use Rattle.latchsym_ffi.specs.Finding.{known_at, known_call};
-ghost use Rattle.latchsym_ffi.specs.Following.{ForgetsAt, RefusesShowing, TellsStanding, TellsTag};
-ghost use Rattle.latchsym_ffi.specs.Handles.{FollowerGoes, HoldsCatalog, HoldsFollower, Stays};
+ghost use Rattle.latchsym_ffi.specs.Following.{ForgetsAt, RefusesShowing, TellsAt, TellsTag};
+ghost use Rattle.latchsym_ffi.specs.Handles.{FollowerGoes, HoldsCatalog, HoldsFollower};
+ghost use Rattle.latchsym_ffi.specs.Handles.{RefusesOther, Stays};
 ghost use Rattle.latchsym_ffi.specs.Kinds.{catalog_kind, follower_kind};
 
-use crate::answers::{BAD_HANDLE, BAD_STAMP, DONE, FORGOTTEN, NOTHING};
-use crate::calls::with_follower;
+use crate::answers::{BAD_STAMP, DONE, FORGOTTEN, NOTHING};
+use crate::calls::{with_catalog, with_follower};
 use crate::finding::{CatalogSymbol, name_places, seek, seek_call};
 use crate::handles::Handle;
 use follower::{Follower, Moment, NotShown, SharedCatalog};
@@ -81,43 +82,27 @@ pub extern "C" fn latchsym_follower_show(
     ensures other { (follower.old.kind ≢ follower_kind) ⊎ (catalog.old.kind ≢ catalog_kind)
         → result ≡ 101 }
 {
-    let Some(taken) = catalog.take_catalog() else {
-        return BAD_HANDLE;
-    };
-    let result = show_by(follower, taken.open().shared(), since, tag, generation);
-    if result != DONE {
-        catalog.put_catalog(taken);
+    let result = with_catalog!(
+        catalog,
+        |open| show_by(follower, open.shared(), since, tag, generation)
+    );
+    if result == DONE {
+        catalog.close();
     }
     result
 }
 
-/// Tells of an address by the catalog that stands at a moment.
-fn tell(follower: &Follower<'static>, moment: Moment, addr: u64, out: &mut CatalogSymbol) -> u32
-    ensures { TellsStanding (standing_at follower.now.catalogs moment) (λ c. known_at c addr) result
-        out.old out.new }
-{
-    let Some(dated) = follower.catalog_at(moment) else {
-        return FORGOTTEN;
+/// Tells by the catalog that stands at a moment what `seek` or `seek_call` finds there.
+macro_rules! tell_standing {
+    ($follower:ident, $moment:expr, $seek:ident, $addr:ident, $out:ident) => {
+        with_follower!($follower, |open| match open.catalog_at($moment) {
+            Some(dated) => {
+                let catalog = dated.catalog.indexed();
+                name_places(catalog.catalog(), $seek(catalog, $addr), $out)
+            }
+            None => FORGOTTEN,
+        })
     };
-    let catalog = dated.catalog.indexed();
-    name_places(catalog.catalog(), seek(catalog, addr), out)
-}
-
-/// Tells of a return address by the catalog that stands at a moment.
-fn tell_caller(
-    follower: &Follower<'static>,
-    moment: Moment,
-    addr: u64,
-    out: &mut CatalogSymbol,
-) -> u32
-    ensures { TellsStanding (standing_at follower.now.catalogs moment) (λ c. known_call c addr)
-        result out.old out.new }
-{
-    let Some(dated) = follower.catalog_at(moment) else {
-        return FORGOTTEN;
-    };
-    let catalog = dated.catalog.indexed();
-    name_places(catalog.catalog(), seek_call(catalog, addr), out)
 }
 
 /// Tells of an address by the catalog that stands at a generation.
@@ -129,16 +114,11 @@ pub extern "C" fn latchsym_follower_find(
     out: &mut CatalogSymbol,
 ) -> u32
     ensures stays { Stays follower.old follower.new }
-    ensures told { (f : Followed) → HoldsFollower f follower.old → TellsStanding
-        (standing_at f.catalogs (Generation generation)) (λ c. known_at c addr) result
+    ensures told { TellsAt (Generation generation) known_at addr follower.old result
         out.old out.new }
-    ensures other { follower.old.kind ≢ follower_kind
-        → (result ≡ 101) × (follower.new ≡ follower.old) × (out.new ≡ out.old) }
+    ensures other { RefusesOther follower_kind follower.old follower.new out.old out.new result }
 {
-    with_follower!(
-        follower,
-        |open| tell(open, Moment::Generation(generation), addr, out)
-    )
+    tell_standing!(follower, Moment::Generation(generation), seek, addr, out)
 }
 
 /// Tells of a return address by the catalog that stands at a generation.
@@ -150,15 +130,16 @@ pub extern "C" fn latchsym_follower_find_caller(
     out: &mut CatalogSymbol,
 ) -> u32
     ensures stays { Stays follower.old follower.new }
-    ensures told { (f : Followed) → HoldsFollower f follower.old → TellsStanding
-        (standing_at f.catalogs (Generation generation)) (λ c. known_call c addr) result
+    ensures told { TellsAt (Generation generation) known_call addr follower.old result
         out.old out.new }
-    ensures other { follower.old.kind ≢ follower_kind
-        → (result ≡ 101) × (follower.new ≡ follower.old) × (out.new ≡ out.old) }
+    ensures other { RefusesOther follower_kind follower.old follower.new out.old out.new result }
 {
-    with_follower!(
+    tell_standing!(
         follower,
-        |open| tell_caller(open, Moment::Generation(generation), addr, out)
+        Moment::Generation(generation),
+        seek_call,
+        addr,
+        out
     )
 }
 
@@ -171,12 +152,10 @@ pub extern "C" fn latchsym_follower_find_since(
     out: &mut CatalogSymbol,
 ) -> u32
     ensures stays { Stays follower.old follower.new }
-    ensures told { (f : Followed) → HoldsFollower f follower.old → TellsStanding
-        (standing_at f.catalogs (Stamp at)) (λ c. known_at c addr) result out.old out.new }
-    ensures other { follower.old.kind ≢ follower_kind
-        → (result ≡ 101) × (follower.new ≡ follower.old) × (out.new ≡ out.old) }
+    ensures told { TellsAt (Stamp at) known_at addr follower.old result out.old out.new }
+    ensures other { RefusesOther follower_kind follower.old follower.new out.old out.new result }
 {
-    with_follower!(follower, |open| tell(open, Moment::Stamp(at), addr, out))
+    tell_standing!(follower, Moment::Stamp(at), seek, addr, out)
 }
 
 /// Tells of a return address by the catalog that stands at a stamp.
@@ -188,15 +167,10 @@ pub extern "C" fn latchsym_follower_find_caller_since(
     out: &mut CatalogSymbol,
 ) -> u32
     ensures stays { Stays follower.old follower.new }
-    ensures told { (f : Followed) → HoldsFollower f follower.old → TellsStanding
-        (standing_at f.catalogs (Stamp at)) (λ c. known_call c addr) result out.old out.new }
-    ensures other { follower.old.kind ≢ follower_kind
-        → (result ≡ 101) × (follower.new ≡ follower.old) × (out.new ≡ out.old) }
+    ensures told { TellsAt (Stamp at) known_call addr follower.old result out.old out.new }
+    ensures other { RefusesOther follower_kind follower.old follower.new out.old out.new result }
 {
-    with_follower!(
-        follower,
-        |open| tell_caller(open, Moment::Stamp(at), addr, out)
-    )
+    tell_standing!(follower, Moment::Stamp(at), seek_call, addr, out)
 }
 
 /// Tells the tag of a catalog that is gone, or that none is.
@@ -222,8 +196,7 @@ pub extern "C" fn latchsym_follower_forget(
 ) -> u32
     ensures forgotten { FollowerGoes (ForgetsAt (Generation generation) result tag.old tag.new)
         follower.old follower.new }
-    ensures other { follower.old.kind ≢ follower_kind
-        → (result ≡ 101) × (follower.new ≡ follower.old) × (tag.new ≡ tag.old) }
+    ensures other { RefusesOther follower_kind follower.old follower.new tag.old tag.new result }
 {
     with_follower!(
         follower,
@@ -240,8 +213,7 @@ pub extern "C" fn latchsym_follower_forget_since(
 ) -> u32
     ensures forgotten { FollowerGoes (ForgetsAt (Stamp at) result tag.old tag.new)
         follower.old follower.new }
-    ensures other { follower.old.kind ≢ follower_kind
-        → (result ≡ 101) × (follower.new ≡ follower.old) × (tag.new ≡ tag.old) }
+    ensures other { RefusesOther follower_kind follower.old follower.new tag.old tag.new result }
 {
     with_follower!(
         follower,
@@ -256,8 +228,7 @@ pub extern "C" fn latchsym_follower_close(follower: &mut Handle, tag: &mut u64) 
         (Some tag.new) × (f'.writer ≡ f.writer)) follower.old follower.new }
     ensures closed { (f : Followed) → HoldsFollower f follower.old → result ≢ 0
         → (result ≡ 22) × (f.catalogs ≡ []) × (follower.new.kind ≡ 0) × (tag.new ≡ tag.old) }
-    ensures other { follower.old.kind ≢ follower_kind
-        → (result ≡ 101) × (follower.new ≡ follower.old) × (tag.new ≡ tag.old) }
+    ensures other { RefusesOther follower_kind follower.old follower.new tag.old tag.new result }
 {
     let result = with_follower!(follower, |open| tell_tag(open.drop_oldest(), tag));
     if result == NOTHING {

@@ -6,7 +6,7 @@ ghost use Rattle.order_laws.specs.Orders.{half_open};
 ghost use Rattle.latch_table.specs.declared.readers.Try.{Try};
 ghost use Rattle.latch_table.specs.Writers.{Finds};
 ghost use Rattle.modules.specs.Entries.{CatalogEntries};
-ghost use Rattle.latchsym_ffi.specs.Handles.{HoldsCatalog, HoldsReader, ReaderGoes, Stays};
+ghost use Rattle.latchsym_ffi.specs.Handles.{HoldsCatalog, ReaderGoes, RefusesOther, Stays};
 ghost use Rattle.latchsym_ffi.specs.Handles.{WriterGoes};
 ghost use Rattle.latchsym_ffi.specs.Kinds.{catalog_kind, reader_kind, writer_kind};
 ghost use Rattle.latchsym_ffi.specs.Finding.{answer_of as told_of, copied, known_code, known_in};
@@ -15,7 +15,7 @@ ghost use Rattle.latchsym_ffi.specs.Lookups.{Copies, LooksUp, Names, Shows, answ
 ghost use Rattle.latchsym_ffi.specs.Lookups.{found_code, name_code, try_code};
 
 use crate::answers::{BAD_HANDLE, DONE, NOTHING, RETRY};
-use crate::calls::with_catalog;
+use crate::calls::{with_catalog, with_writer};
 use crate::contents::{CATALOG, Content, READER};
 use crate::finding::{CatalogAnswer, copy_names, seen_in};
 use crate::handles::Handle;
@@ -78,10 +78,9 @@ pub extern "C" fn latchsym_writer_find(writer: &mut Handle, addr: u64, out: &mut
     ensures found { WriterGoes (λ w w'. (x : Option Item)
         × Finds half_open w addr w' (x, out.new.generation) × (result ≡ found_code x)
         × (out.new ≡ answer_from x out.new.generation)) writer.old writer.new }
-    ensures other { writer.old.kind ≢ writer_kind
-        → (result ≡ 101) × (writer.new ≡ writer.old) × (out.new ≡ out.old) }
+    ensures other { RefusesOther writer_kind writer.old writer.new out.old out.new result }
 {
-    writer.with_writer(&mut |inner| find(inner, addr, out))
+    with_writer!(writer, |inner| find(inner, addr, out))
 }
 
 /// What the reader that a handle holds remembers of an address, or else one attempt with it.
@@ -110,8 +109,7 @@ pub extern "C" fn latchsym_reader_try_find(
 ) -> u32
     ensures tried { ReaderGoes (λ r r'. (t : Try) × LooksUp addr r r' t
         × (result ≡ try_code t) × Shows t out.old out.new) reader.old reader.new }
-    ensures other { reader.old.kind ≢ reader_kind
-        → (result ≡ 101) × (reader.new ≡ reader.old) × (out.new ≡ out.old) }
+    ensures other { RefusesOther reader_kind reader.old reader.new out.old out.new result }
 {
     if reader.kind != READER {
         return BAD_HANDLE;

@@ -5,7 +5,7 @@ ghost use Rattle.std.specs.Option.{option_map};
 ghost use Rattle.latchsym_ffi.specs.ByNumber.{place_of_name};
 
 use follower::SharedCatalog;
-use modules::{IndexedCatalog, NamedSymbol, SymbolNames};
+use modules::{Catalog, IndexedCatalog, NamedSymbol, SymbolNames};
 use std::alloc::{AllocError, Global};
 use std::marker::Model;
 
@@ -66,8 +66,15 @@ impl OpenCatalog {
         self.shared.indexed()
     }
 
-    /// The number of the module and the place in it of the symbol at a place among those of this name,
-    /// in the order of the catalog, if there is one. The first call sorts the symbols by name.
+    /// The catalog without its index.
+    pub(crate) fn catalog(&self) -> &Catalog<'static>
+        ensures { result.now ≡ self.now }
+    {
+        self.indexed().catalog()
+    }
+
+    /// The number of the module and the place in it of the symbol at a place among those of this
+    /// name, in the order of the catalog, if there is one. The first call sorts the symbols by name.
     pub(crate) fn place_of(
         &mut self,
         alloc: Global,

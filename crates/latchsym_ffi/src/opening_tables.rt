@@ -1,9 +1,13 @@
 //! Opening a table: all of it, or nothing if memory is refused.
 
-ghost use Rattle.std.specs.Prelude.{◌≡◌, ◌≢◌, ◌↔◌, All, IfOk, IfErr, IsTrue, Some, length};
+ghost use Rattle.std.specs.Prelude.{◌≡◌, ◌≢◌, ◌↔◌, ◌<◌, ℕ, All, IfOk, IfErr, IsTrue, length};
 ghost use Rattle.std.specs.Prelude.{vec_len};
+ghost use Rattle.order_laws.specs.declared.refusals.Refusal.TheVariants.{BadCapacity};
 ghost use Rattle.order_laws.specs.Refusals.{refusal_number};
+ghost use Rattle.latch_table.specs.Limits.{most_readers};
 ghost use Rattle.latch_table.specs.Readers.{ReaderState};
+ghost use Rattle.latch_table.specs.Writers.{WriterState};
+ghost use Rattle.latchsym_ffi.specs.declared.contents.Content.{Content as Held};
 ghost use Rattle.latchsym_ffi.specs.declared.contents.Content.TheVariants as content;
 ghost use Rattle.latchsym_ffi.specs.Handles.{HoldsReader};
 ghost use Rattle.latchsym_ffi.specs.Tables.{AreClosed, AreInRange, AreOpened, IsOpenedTable};
@@ -57,25 +61,38 @@ fn in_boxes(
     Ok(Boxes { owner, readers })
 }
 
+/// The number of a table's readers. One that is too great for it is refused as that of a table is.
+fn counted(readers: usize) -> Result<u32, Refusal>
+    ensures same { IfOk result (λ n. n ≡ readers) }
+    ensures refused { IfErr result (λ e. (e ≡ BadCapacity) × (most_readers < readers)) }
+{
+    match u32::try_from(readers) {
+        Ok(count) => Ok(count),
+        Err(_) => Err(Refusal::BadCapacity),
+    }
+}
+
 /// A table, in boxes.
-fn open_boxes(alloc: Global, nodes: u32, readers: u32) -> Result<Boxes, Refusal>
+fn open_boxes(alloc: Global, nodes: u32, readers: usize) -> Result<Boxes, Refusal>
     ensures opened { IfOk result (AreOpened content.Writer nodes readers) }
     ensures may { IfOk result (λ _. AreInRange nodes readers) }
     ensures refused { IfErr result (λ e. RefusesTable nodes readers (refusal_number e)) }
 {
     let layout = Layout::wide(nodes)?;
-    let (inner, all) = open::<HalfOpen>(alloc, layout, 0, readers)?;
+    let count = counted(readers)?;
+    let (inner, all) = open::<HalfOpen>(alloc, layout, 0, count)?;
     Ok(in_boxes(alloc, Content::Writer(inner), all)?)
 }
 
 /// A table that a follower changes, in boxes.
-fn open_follower_boxes(alloc: Global, nodes: u32, readers: u32) -> Result<Boxes, Refusal>
+fn open_follower_boxes(alloc: Global, nodes: u32, readers: usize) -> Result<Boxes, Refusal>
     ensures opened { IfOk result (AreOpened first_follower nodes readers) }
     ensures may { IfOk result (λ _. AreInRange nodes readers) }
     ensures refused { IfErr result (λ e. RefusesTable nodes readers (refusal_number e)) }
 {
     let layout = Layout::wide(nodes)?;
-    let (follower, all) = Follower::open(alloc, layout, 0, readers)?;
+    let count = counted(readers)?;
+    let (follower, all) = Follower::open(alloc, layout, 0, count)?;
     Ok(in_boxes(alloc, Content::Follower(follower), all)?)
 }
 
@@ -108,22 +125,35 @@ fn are_closed(writer: &Handle, readers: &[Handle]) -> bool
     writer.kind == CLOSED && all_closed(readers)
 }
 
-/// Opens the handles with what is in the boxes.
-fn put_boxes(alloc: Global, boxes: Boxes, owner: &mut Handle, readers: &mut [Handle]) -> u32
-    requires { vec_len boxes.readers ≡ length readers.old }
-    ensures done { result ≡ 0 }
-    ensures owner { owner.new.pointer.content ≡ Some boxes.owner.value }
+/// Opens the handles with what is in the boxes, if they were opened.
+fn put_boxes(
+    alloc: Global,
+    opened: Result<Boxes, Refusal>,
+    owner: &mut Handle,
+    readers: &mut [Handle],
+) -> u32
+    requires { IfOk opened (λ b. vec_len b.readers ≡ length readers.old) }
+    ensures opened { (o : WriterState → Held) → (nodes : ℕ)
+        → IfOk opened (AreOpened o nodes (length readers.old)) → result ≡ 0
+        → IsOpenedTable o nodes owner.new readers.new }
+    ensures done { IfOk opened (λ _. result ≡ 0) }
     ensures count { length readers.new ≡ length readers.old }
-    ensures each { (r : ReaderState) → All (λ b. b.value ≡ content.Reader r) boxes.readers.items
-        → All (HoldsReader r) readers.new }
+    ensures refused { result ≢ 0 → (owner.new ≡ owner.old) × (readers.new ≡ readers.old) }
+    ensures why { IfErr opened (λ e. result ≡ refusal_number e) }
 {
-    let Boxes {
-        owner: content,
-        readers: all,
-    } = boxes;
-    fill(alloc, readers, all);
-    owner.put(content);
-    DONE
+    match opened {
+        Ok(
+            Boxes {
+                owner: content,
+                readers: all,
+            },
+        ) => {
+            fill(alloc, readers, all);
+            owner.put(content);
+            DONE
+        }
+        Err(refusal) => refusal.number(),
+    }
 }
 
 /// Opens an empty table of 1 to 65536 nodes: its writer, and a reader in each of 1 to 64 handles.
@@ -144,17 +174,12 @@ pub extern "C" fn latchsym_table_open_nonnull(
     if !are_closed(writer, readers) {
         return BAD_HANDLE;
     }
-    let Ok(count) = u32::try_from(readers.len()) else {
-        return Refusal::BadCapacity.number();
-    };
-    match open_boxes(alloc, nodes, count) {
-        Ok(boxes) => put_boxes(alloc, boxes, writer, readers),
-        Err(refusal) => refusal.number(),
-    }
+    let opened = open_boxes(alloc, nodes, readers.len());
+    put_boxes(alloc, opened, writer, readers)
 }
 
-/// Opens an empty table of 1 to 65536 nodes: a follower without a catalog, and a reader in each of 1
-/// to 64 handles.
+/// Opens an empty table of 1 to 65536 nodes: a follower without a catalog, and a reader in each of
+/// 1 to 64 handles.
 #[unsafe(no_mangle)]
 pub extern "C" fn latchsym_follower_open_nonnull(
     alloc: Global,
@@ -172,11 +197,6 @@ pub extern "C" fn latchsym_follower_open_nonnull(
     if !are_closed(follower, readers) {
         return BAD_HANDLE;
     }
-    let Ok(count) = u32::try_from(readers.len()) else {
-        return Refusal::BadCapacity.number();
-    };
-    match open_follower_boxes(alloc, nodes, count) {
-        Ok(boxes) => put_boxes(alloc, boxes, follower, readers),
-        Err(refused) => refused.number(),
-    }
+    let opened = open_follower_boxes(alloc, nodes, readers.len());
+    put_boxes(alloc, opened, follower, readers)
 }

@@ -12,7 +12,7 @@ ghost use Rattle.latchsym_ffi.specs.Replacing.{RefusesReplacingAs, TellsItems, i
 ghost use Rattle.latchsym_ffi.specs.Updates.{item_from};
 
 use crate::answers::{BAD_LENGTH, DONE};
-use crate::calls::with_catalog;
+use crate::calls::{with_catalog, with_writer};
 use crate::handles::Handle;
 use crate::updates::{TableItem, items_from};
 use latch_table::Writer;
@@ -62,10 +62,9 @@ pub extern "C" fn latchsym_catalog_items_nonnull(catalog: &mut Handle, out: &mut
     ensures room { (c : CatalogEntries) → HoldsCatalog c catalog.old
         → length out.old ≢ length (regions_of c) → result ≡ 102 }
     ensures refused { result ≢ 0 → out.new ≡ out.old }
-    ensures other { catalog.old.kind ≢ catalog_kind
-        → (result ≡ 101) × (catalog.new ≡ catalog.old) }
+    ensures other { catalog.old.kind ≢ catalog_kind → (result ≡ 101) × (catalog.new ≡ catalog.old) }
 {
-    with_catalog!(catalog, |open| tell_items(open, out))
+    with_catalog!(catalog, |open| tell_items(open.indexed(), out))
 }
 
 /// Begins the update after which the table has just these items, and leaves it there.
@@ -97,13 +96,12 @@ pub extern "C" fn latchsym_writer_begin_replace_nonnull(
     items: &[TableItem],
 ) -> u32
     ensures begun { let list = map item_from items.now in
-        result ≡ 0 → WriterGoes (λ w w'. BeginsReplacing half_open w list w') writer.old writer.new }
-    ensures unchanged { (w : WriterState) → HoldsWriter w writer.old → result ≢ 0
-        → HoldsWriter w writer.new }
+        result ≡ 0
+        → WriterGoes (λ w w'. BeginsReplacing half_open w list w') writer.old writer.new }
+    ensures unchanged { result ≢ 0 → Stays writer.old writer.new }
     ensures refused { (w : WriterState) → HoldsWriter w writer.old → result ≢ 0
         → RefusesReplacingAs w (map item_from items.now) result }
-    ensures other { writer.old.kind ≢ writer_kind
-        → (result ≡ 101) × (writer.new ≡ writer.old) }
+    ensures other { writer.old.kind ≢ writer_kind → (result ≡ 101) × (writer.new ≡ writer.old) }
 {
-    writer.with_writer(&mut |inner| begin_replace(alloc, inner, items))
+    with_writer!(writer, |inner| begin_replace(alloc, inner, items))
 }

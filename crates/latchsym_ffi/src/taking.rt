@@ -2,11 +2,12 @@
 
 ghost use Rattle.std.specs.Prelude.{◌≡◌, ◌≢◌};
 ghost use Rattle.latch_table.specs.Writers.{WriterState};
-ghost use Rattle.latchsym_ffi.specs.Handles.{HoldsWriter, WriterGoes};
+ghost use Rattle.latchsym_ffi.specs.Handles.{HoldsWriter, RefusesOther, Stays, WriterGoes};
 ghost use Rattle.latchsym_ffi.specs.Kinds.{writer_kind};
 ghost use Rattle.latchsym_ffi.specs.Taking.{RefusesBack, TakesBack};
 
 use crate::answers::{BAD_HANDLE, DONE};
+use crate::calls::with_writer;
 use crate::contents::{Content, READER};
 use crate::handles::Handle;
 use latch_table::Writer;
@@ -38,12 +39,10 @@ fn take_back(writer: &mut Writer<HalfOpen>, reader: &mut Handle) -> u32
 pub extern "C" fn latchsym_writer_take_reader(writer: &mut Handle, reader: &mut Handle) -> u32
     ensures taken { result ≡ 0
         → WriterGoes (TakesBack reader.old reader.new) writer.old writer.new }
-    ensures unchanged { (w : WriterState) → HoldsWriter w writer.old → result ≢ 0
-        → HoldsWriter w writer.new × (reader.new ≡ reader.old) }
+    ensures unchanged { result ≢ 0 → Stays writer.old writer.new × (reader.new ≡ reader.old) }
     ensures why { (w : WriterState) → HoldsWriter w writer.old → result ≢ 0
         → RefusesBack w reader.old result }
-    ensures other { writer.old.kind ≢ writer_kind
-        → (result ≡ 101) × (writer.new ≡ writer.old) × (reader.new ≡ reader.old) }
+    ensures other { RefusesOther writer_kind writer.old writer.new reader.old reader.new result }
 {
-    writer.with_writer(&mut |inner| take_back(inner, reader))
+    with_writer!(writer, |inner| take_back(inner, reader))
 }

@@ -6,10 +6,11 @@ ghost use Rattle.table_updates.specs.declared.updates.Update.TheVariants.{Batch,
 ghost use Rattle.latch_table.specs.declared.writers.Did.{Did};
 ghost use Rattle.latch_table.specs.Writers.{Begins, Finishes, Steps, WriterState};
 ghost use Rattle.latchsym_ffi.specs.Updates.{RefusesAs, did_code, item_from};
-ghost use Rattle.latchsym_ffi.specs.Handles.{HoldsWriter, WriterGoes};
+ghost use Rattle.latchsym_ffi.specs.Handles.{HoldsWriter, RefusesOther, Stays, WriterGoes};
 ghost use Rattle.latchsym_ffi.specs.Kinds.{writer_kind};
 
 use crate::answers::{DONE, FLIP, STORE};
+use crate::calls::with_writer;
 use crate::handles::Handle;
 use latch_table::{Did, Writer};
 use order_laws::{HalfOpen, Item, Refusal};
@@ -49,19 +50,17 @@ pub extern "C" fn latchsym_writer_begin_insert(
 ) -> u32
     ensures begun { let u = Insert (item_from item.now) in
         result ≡ 0 → WriterGoes (λ w w'. Begins half_open w u w') writer.old writer.new }
-    ensures unchanged { (w : WriterState) → HoldsWriter w writer.old → result ≢ 0
-        → HoldsWriter w writer.new }
+    ensures unchanged { result ≢ 0 → Stays writer.old writer.new }
     ensures refused { (w : WriterState) → HoldsWriter w writer.old → result ≢ 0
         → RefusesAs w (Insert (item_from item.now)) result }
-    ensures other { writer.old.kind ≢ writer_kind
-        → (result ≡ 101) × (writer.new ≡ writer.old) }
+    ensures other { writer.old.kind ≢ writer_kind → (result ≡ 101) × (writer.new ≡ writer.old) }
 {
     let item = Item {
         a: item.a,
         b: item.b,
         tag: item.tag,
     };
-    writer.with_writer(&mut |inner| begin(inner, Update::Insert(item)))
+    with_writer!(writer, |inner| begin(inner, Update::Insert(item)))
 }
 
 /// Begins to take out the item that begins at an address.
@@ -69,14 +68,12 @@ pub extern "C" fn latchsym_writer_begin_insert(
 pub extern "C" fn latchsym_writer_begin_erase(_alloc: Global, writer: &mut Handle, a: u64) -> u32
     ensures begun { result ≡ 0
         → WriterGoes (λ w w'. Begins half_open w (Erase a) w') writer.old writer.new }
-    ensures unchanged { (w : WriterState) → HoldsWriter w writer.old → result ≢ 0
-        → HoldsWriter w writer.new }
+    ensures unchanged { result ≢ 0 → Stays writer.old writer.new }
     ensures refused { (w : WriterState) → HoldsWriter w writer.old → result ≢ 0
         → RefusesAs w (Erase a) result }
-    ensures other { writer.old.kind ≢ writer_kind
-        → (result ≡ 101) × (writer.new ≡ writer.old) }
+    ensures other { writer.old.kind ≢ writer_kind → (result ≡ 101) × (writer.new ≡ writer.old) }
 {
-    writer.with_writer(&mut |inner| begin(inner, Update::Erase(a)))
+    with_writer!(writer, |inner| begin(inner, Update::Erase(a)))
 }
 
 /// The items as the table has them.
@@ -132,14 +129,12 @@ pub extern "C" fn latchsym_writer_begin_batch_nonnull(
 ) -> u32
     ensures begun { let u = Batch erase.now (map item_from insert.now) in
         result ≡ 0 → WriterGoes (λ w w'. Begins half_open w u w') writer.old writer.new }
-    ensures unchanged { (w : WriterState) → HoldsWriter w writer.old → result ≢ 0
-        → HoldsWriter w writer.new }
+    ensures unchanged { result ≢ 0 → Stays writer.old writer.new }
     ensures refused { (w : WriterState) → HoldsWriter w writer.old → result ≢ 0 → result ≢ 7
         → RefusesAs w (Batch erase.now (map item_from insert.now)) result }
-    ensures other { writer.old.kind ≢ writer_kind
-        → (result ≡ 101) × (writer.new ≡ writer.old) }
+    ensures other { writer.old.kind ≢ writer_kind → (result ≡ 101) × (writer.new ≡ writer.old) }
 {
-    writer.with_writer(&mut |inner| begin_batch(alloc, inner, erase, insert))
+    with_writer!(writer, |inner| begin_batch(alloc, inner, erase, insert))
 }
 
 /// Makes one step, and tells which by its number.
@@ -159,10 +154,9 @@ fn step(writer: &mut Writer<HalfOpen>) -> u32
 pub extern "C" fn latchsym_writer_step(writer: &mut Handle) -> u32
     ensures step { WriterGoes
         (λ w w'. (d : Option Did) × (result ≡ did_code d) × Steps w w' d) writer.old writer.new }
-    ensures other { writer.old.kind ≢ writer_kind
-        → (result ≡ 101) × (writer.new ≡ writer.old) }
+    ensures other { writer.old.kind ≢ writer_kind → (result ≡ 101) × (writer.new ≡ writer.old) }
 {
-    writer.with_writer(&mut |inner| step(inner))
+    with_writer!(writer, |inner| step(inner))
 }
 
 /// Makes the steps that are left of the pending update, if there is one, and tells the new
@@ -171,10 +165,10 @@ pub extern "C" fn latchsym_writer_step(writer: &mut Handle) -> u32
 pub extern "C" fn latchsym_writer_finish(writer: &mut Handle, generation: &mut u64) -> u32
     ensures finished { WriterGoes
         (λ w w'. (result ≡ 0) × Finishes w w' generation.new) writer.old writer.new }
-    ensures other { writer.old.kind ≢ writer_kind → (result ≡ 101) × (writer.new ≡ writer.old)
-        × (generation.new ≡ generation.old) }
+    ensures other { RefusesOther writer_kind writer.old writer.new generation.old generation.new
+        result }
 {
-    writer.with_writer(&mut |inner| {
+    with_writer!(writer, |inner| {
         *generation = inner.finish();
         DONE
     })

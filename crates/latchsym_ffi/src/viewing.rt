@@ -3,7 +3,7 @@
 ghost use Rattle.std.specs.Prelude.{◌≡◌, ◌≢◌, ◌↔◌, IsTrue, length};
 ghost use Rattle.modules.specs.Entries.{CatalogEntries};
 ghost use Rattle.latchsym_ffi.specs.Finding.{known_at, known_call};
-ghost use Rattle.latchsym_ffi.specs.Handles.{HoldsCatalog, Stays};
+ghost use Rattle.latchsym_ffi.specs.Handles.{HoldsCatalog, RefusesOther, Stays};
 ghost use Rattle.latchsym_ffi.specs.Kinds.{catalog_kind};
 ghost use Rattle.latchsym_ffi.specs.Named.{IsTold};
 ghost use Rattle.latchsym_ffi.specs.Viewing.{AreRooms, TellsSizes};
@@ -88,8 +88,7 @@ pub extern "C" fn latchsym_catalog_sizes(catalog: &mut Handle, out: &mut ViewSiz
     ensures stays { Stays catalog.old catalog.new }
     ensures told { (c : CatalogEntries) → HoldsCatalog c catalog.old
         → TellsSizes c result out.old out.new }
-    ensures other { catalog.old.kind ≢ catalog_kind → (result ≡ 101) × (catalog.new ≡ catalog.old)
-        × (out.new ≡ out.old) }
+    ensures other { RefusesOther catalog_kind catalog.old catalog.new out.old out.new result }
 {
     with_catalog!(catalog, |open| tell_sizes(open.catalog(), out))
 }
@@ -111,8 +110,7 @@ pub extern "C" fn latchsym_catalog_flatten_nonnull<'c, 's>(
     ensures room { (c : CatalogEntries) → HoldsCatalog c catalog.old
         → (AreRooms c regions.old symbols.old addresses.old → ⊥) → result ≡ 102 }
     ensures unchanged { result ≢ 0 → out.new ≡ out.old }
-    ensures other { catalog.old.kind ≢ catalog_kind
-        → (result ≡ 101) × (catalog.new ≡ catalog.old) }
+    ensures other { catalog.old.kind ≢ catalog_kind → (result ≡ 101) × (catalog.new ≡ catalog.old) }
 {
     with_catalog!(
         catalog,

@@ -1,4 +1,4 @@
-use Rattle.latchsym_ffi.proofs.Words.{◌≡◌, ◌+◌, ◌<◌, ◌∙◌, List, [], ◌∷◌, Some, ap, length, set, subst, sym, arith, length-append, AllWithin, get_or-set_same, All-pop, AllWithin-kept, AllWithin-more, Reader, Handle, HoldsReader}
+use Rattle.latchsym_ffi.proofs.Words.{◌≡◌, ◌+◌, ◌<◌, ◌∙◌, List, [], ◌∷◌, Some, ap, length, subst, sym, arith, length-append, AllWithin, All-pop, AllWithin-more_set, Reader, Handle, HoldsReader}
 use Rattle.latchsym_ffi.proofs.opening_tables.fill.Goals as goal
 use Rattle.latchsym_ffi.proofs.opening_tables.fill.Goals.{in-Some, in_default}
 
@@ -21,8 +21,7 @@ loop-place-preserved c =
             filled = λ r all.
                 let is = (All-pop (λ b. b.value ≡ Reader r) c.loop-place.readers.items rest (Some content) taken (i.each r all)).1 in
                 subst (λ (l : List Handle). AllWithin (HoldsReader r) l 0 (n + 1)) (sym w.handles-is)
-                (AllWithin-more (HoldsReader r) (set handles n new) 0 n (AllWithin-kept handles n new within (HoldsReader r) (i.filled r all))
-                (λ d. subst (HoldsReader r) (sym (get_or-set_same handles n new d within)) (w.open.ensures ∙ ap Some is)));
+                (AllWithin-more_set handles n new within (HoldsReader r) (i.filled r all) (w.open.ensures ∙ ap Some is));
           }
       | in_default w ↦ absurd (omega (arith, w.in_default.ensures.cases.0, c.loop-place.readers.ok.0, i.left, within))
     ]

@@ -10,8 +10,8 @@ returns-clause-opened c =
       place = c.in_ok-follower.follower.writer.place;
       layout = c.in_ok-layout.layout;
       wide = (c.in_ok-layout.ensures.capacity, c.in_ok-layout.ensures.limit);
-      owned = c.in_ok-in_boxes.ensures.owner ∙ ap Follower (whole c.in_ok-follower.follower (new_writer c.in_ok-follower.follower.writer.place c.in_ok-layout.layout 0 c.args.readers) c.in_ok-follower.ensures.writer c.in_ok-follower.ensures.catalogs);
-      count = c.in_ok-in_boxes.ensures.count ∙ c.in_ok-follower.ensures.readers.0;
+      owned = c.in_ok-in_boxes.ensures.owner ∙ ap Follower (whole c.in_ok-follower.follower (new_writer c.in_ok-follower.follower.writer.place c.in_ok-layout.layout 0 c.args.readers) (c.in_ok-follower.ensures.writer ∙ ap (new_writer c.in_ok-follower.follower.writer.place c.in_ok-layout.layout 0) c.in_ok-count.ensures.same) c.in_ok-follower.ensures.catalogs);
+      count = c.in_ok-in_boxes.ensures.count ∙ c.in_ok-follower.ensures.readers.0 ∙ c.in_ok-count.ensures.same;
       each = c.in_ok-in_boxes.ensures.each (first_reader c.in_ok-follower.follower.writer.place c.in_ok-layout.layout) c.in_ok-follower.ensures.readers.1;
     }
   where
