@@ -3,7 +3,7 @@
 //! The content is taken out of the handle, the call is made with it, and it is put back: the kit
 //! lends no borrow through the handle's raw pointer. These are macros, as no closure takes a
 //! catalog or a follower, which have names of lifetime `'static`.
-//! A lookup of a reader does the same by itself, as it has no number to return.
+//! A lookup of a reader takes and puts by itself, as it has no number to return.
 
 /// Calls with the content of one kind that a handle holds; a handle with none is a bad one.
 macro_rules! with_content {

@@ -61,7 +61,7 @@ fn in_boxes(
     Ok(Boxes { owner, readers })
 }
 
-/// The number of a table's readers. One that is too great for it is refused as that of a table is.
+/// The number of a table's readers. A number that is too great is refused by `BadCapacity`.
 fn counted(readers: usize) -> Result<u32, Refusal>
     ensures same { IfOk result (λ n. n ≡ readers) }
     ensures refused { IfErr result (λ e. (e ≡ BadCapacity) × (most_readers < readers)) }
