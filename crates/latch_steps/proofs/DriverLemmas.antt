@@ -12,12 +12,12 @@ use Rattle.latch_steps.specs.Near.{AreShallow}
 use Rattle.latch_steps.specs.Steps.{Run, machine_of}
 use Rattle.latch_steps.specs.Traces.{notes_of}
 use Rattle.latch_steps.specs.Worlds.{RepresentsMoment}
-use Rattle.latch_steps.specs.Recorders.{IsNew, AreWhole, ObeysFromAny}
+use Rattle.latch_steps.specs.Recorders.{IsNew, AreWhole, RecordsCommand}
 use Rattle.latch_steps.proofs.SafeRunLemmas.{safe}
 use Rattle.latch_steps.proofs.PatienceLemmas.{quiet, near}
 use Rattle.latch_steps.proofs.EventCountLemmas.{few_counted}
 use Rattle.latch_steps.proofs.PlainRunLemmas.{exact_where_plain}
-use Rattle.latch_steps.proofs.RecorderLemmas.{expand_push, last_append, notes_append, run_append, shallow_append}
+use Rattle.latch_steps.proofs.RunLemmas.{expand_push, last_append, notes_append, run_append, shallow_append}
 
 module _ {O K : Type 0} (o : Order K) where
   pub driven_none : (l : Layout) (start : ℕ) (d : Driver O K) → IsNew o l start d.recorder
@@ -33,7 +33,7 @@ module _ {O K : Type 0} (o : Order K) where
     shallow = tt;
   }
 
-  pub driven_more : (c : Command K) (old new : Driver O K) → ObeysFromAny o false c old.recorder new.recorder
+  pub driven_more : (c : Command K) (old new : Driver O K) → RecordsCommand o false c old.recorder new.recorder
       → DrivesOn o c old new
   driven_more c old new obeys = λ l start commands taken h.
       let w0 : Moment K = opening (capacity_of l) start in

@@ -34,7 +34,7 @@ use Rattle.latch_steps.specs.Worlds.{RepresentsMoment, layout_in, IsAfter}
 use Rattle.latch_steps.specs.AtOnce.{IsFoundNow, IsNear, FindsNow, LooksUp, HasNoAnswer, table_in}
 use Rattle.latch_steps.proofs.WorldLemmas.{shown_none}
 use Rattle.latch_steps.proofs.SettleLemmas.{run_sound, none_accepted}
-use Rattle.latch_steps.proofs.RecorderLemmas.{last_append}
+use Rattle.latch_steps.proofs.RunLemmas.{last_append}
 
 -- a count after so many steps
 abbrev pub later : ℕ → ℕ → ℕ

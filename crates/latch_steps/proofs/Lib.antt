@@ -10,7 +10,9 @@ mod LoadLemmas
 mod NextLoadLemmas
 mod WorldLemmas
 mod EventCountLemmas
-pub mod RecorderLemmas
+pub mod RunLemmas
+pub mod ReportLemmas
+mod RecorderLemmas
 mod DriverLemmas
 mod HeldLookupLemmas
 mod Promising

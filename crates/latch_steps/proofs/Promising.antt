@@ -12,8 +12,9 @@ use Rattle.latch_steps.specs.Near.{AreShallow}
 use Rattle.latch_steps.specs.Expands.{Expand}
 use Rattle.latch_steps.specs.Worlds.{RepresentsMoment}
 use Rattle.latch_steps.specs.Promises.{IsSafeTrace, IsQuietTrace, IsNearTrace}
-use Rattle.latch_steps.specs.Recorders.{IsNew, IsWhole, Records, ObeysFromAny}
-use Rattle.latch_steps.proofs.RecorderLemmas.{records_none, records_append, trace_of, few_done, expand_push}
+use Rattle.latch_steps.specs.Recorders.{IsNew, IsWhole, Records, RecordsCommand}
+use Rattle.latch_steps.proofs.RecorderLemmas.{records_none, records_append, trace_of, few_done}
+use Rattle.latch_steps.proofs.RunLemmas.{expand_push}
 use Rattle.latch_steps.proofs.SafeRunLemmas.{safe}
 use Rattle.latch_steps.proofs.PatienceLemmas.{quiet, near}
 
@@ -31,7 +32,7 @@ module _ {O K : Type 0} (o : Order K) (keeps : Bool) (w : Moment K) (old : Recor
   -- one command more of a list
   pub obeyed_more : (now new : Recorder O K) (commands : List (Command K)) (i : ℕ) (c : Command K)
       → i < length commands → c ≡ get_or commands i c → Obeyed o keeps w old now (take i commands)
-      → ObeysFromAny o keeps c now new → Obeyed o keeps w old new (take (i + 1) commands)
+      → RecordsCommand o keeps c now new → Obeyed o keeps w old new (take (i + 1) commands)
   obeyed_more now new commands i c there is h obeys =
       let d = obeys (last_of w h.run) h.records.shows in
       let more = expand_push w (take i commands) c h.run d.0 h.expands d.2 in

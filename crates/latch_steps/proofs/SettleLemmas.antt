@@ -20,7 +20,7 @@ use Rattle.latch_steps.specs.Worlds.{StaysAfter, RepresentsMoment, IsAtRest, lay
 use Rattle.latch_steps.specs.WorldSteps.{Does, GivesUp, IsWorldStep}
 use Rattle.latch_steps.specs.AtOnce.{IsSettled, Settles}
 use Rattle.latch_steps.proofs.LatchLemmas.{step_sound}
-use Rattle.latch_steps.proofs.RecorderLemmas.{run_append, last_append}
+use Rattle.latch_steps.proofs.RunLemmas.{run_append, last_append}
 
 -- a run keeps the latch sound
 pub run_sound : {K : Type 0} (o : Order K) → IsLawful o → (n limit start : ℕ) (us : List Update)

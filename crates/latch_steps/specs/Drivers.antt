@@ -18,7 +18,7 @@ use Rattle.latch_steps.specs.Promises.{AreNotesOfCommands}
 
 -- the notes that nobody has taken yet
 abbrev pub notes_in : {O K : Type 0} → Driver O K → List (Note K)
-notes_in d = d.recorder.notes.items
+notes_in d = d.recorder.kept.notes.items
 
 -- from the opening on a driver carried out these commands, over red-black trees, and these notes
 -- were taken from it

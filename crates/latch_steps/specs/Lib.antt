@@ -31,6 +31,8 @@ pub mod NextLoads
 pub mod WorldSteps
 -- an update settled, and a key found, at once
 pub mod AtOnce
+-- how events are reported, and the commands that a world obeys
+pub mod Reports
 -- a lookup held apart while its loads run
 pub mod HeldLookups
 -- what a recorder keeps of a run

@@ -9,7 +9,9 @@ pub mod drivers;
 pub mod events;
 pub mod laws;
 mod lookups;
+mod obeying;
 pub mod replies;
+pub mod reports;
 pub mod runs;
 pub mod traces;
 mod words;
@@ -23,6 +25,7 @@ pub use laws::{
     plain_commands_run_plainly,
 };
 pub use replies::{NextLoad, Note, Reply, Returned};
+pub use reports::{Outcome, Report};
 pub use runs::{drive, run};
 pub use traces::{Notes, Trace};
 pub use worlds::World;

@@ -5,7 +5,9 @@ ghost use Rattle.word_layout.specs.Layouts.{capacity_of};
 ghost use Rattle.latch_steps.specs.Runs.{PendingLookup};
 ghost use Rattle.latch_steps.specs.Steps.{new_lookup};
 
-use crate::replies::{NextLoad, Returned};
+use crate::events::Event;
+use crate::replies::{NextLoad, Reply, Returned};
+use crate::reports::{Outcome, Report};
 use crate::words::word_at;
 use latch_core::{ReaderCore, Taken};
 use order_laws::TreeOrder;
@@ -31,20 +33,10 @@ pub(crate) enum LoadOutcome<O: TreeOrder> {
     Returned(Returned<O::Key>),
 }
 
-/// What some loads make of a lookup.
-pub(crate) enum LookupState<O: TreeOrder> {
-    /// It is pending.
-    Going(Lookup<O>),
-    /// It is at its end.
-    Returned(Returned<O::Key>),
-}
-
 /// What some loads of a lookup come to.
 pub(crate) struct LookupProgress<O: TreeOrder> {
-    /// What they make of it.
-    pub(crate) held: LookupState<O>,
-    /// How many they are.
-    pub(crate) count: u32,
+    /// The lookup, if it is still pending.
+    pub(crate) lookup: Option<Lookup<O>>,
     /// How many events there are then.
     pub(crate) events: u64,
 }
@@ -80,34 +72,48 @@ impl<O: TreeOrder> Lookup<O> {
         }
     }
 
-    /// Makes at most `most` loads of the reader, up to its return, after `events` events.
-    pub(crate) fn load_on(
+    /// Makes at most `most` loads of the reader, up to its return, after `events` events, and
+    /// reports each.
+    pub(crate) fn load_on<R: Report<O::Key>>(
         self,
         words: &[u64],
         reader: u32,
         most: u32,
         mut events: u64,
+        report: &R,
+        to: &mut R::To,
     ) -> LookupProgress<O>
-        ensures { LoadsFrom O.order words.now self reader most events result }
+        ensures { LoadsFrom O.order (R.reports report.now) words.now self reader most events
+            to.old result to.new }
     {
         let mut lookup = self;
-        for turn in 0..most {
+        for _turn in 0..most {
             events = events.saturating_add(1);
+            let mut outcome = Outcome {
+                number: events,
+                load: Some(lookup.next_load(words)),
+                reply: Reply::Loaded,
+                sequence: word_at(words, 0),
+            };
             match lookup.load(words, reader, events) {
                 LoadOutcome::Going(next) => lookup = next,
-                LoadOutcome::Retrying(next) => lookup = next,
+                LoadOutcome::Retrying(next) => {
+                    outcome.reply = Reply::Retried;
+                    lookup = next;
+                }
                 LoadOutcome::Returned(returned) => {
+                    outcome.reply = Reply::Returned(returned);
+                    report.report(to, &Event::Read(reader), &outcome);
                     return LookupProgress {
-                        held: LookupState::Returned(returned),
-                        count: turn + 1,
+                        lookup: None,
                         events,
                     };
                 }
             }
+            report.report(to, &Event::Read(reader), &outcome);
         }
         LookupProgress {
-            held: LookupState::Going(lookup),
-            count: most,
+            lookup: Some(lookup),
             events,
         }
     }

@@ -10,8 +10,9 @@ ghost use Rattle.latch_steps.specs.declared.events.Event.TheVariants.{Begin, Wri
 ghost use Rattle.latch_steps.specs.Runs.{Moment, accepted, opening};
 
 use crate::events::Event;
-use crate::lookups::{LoadOutcome, Lookup, LookupProgress, LookupState};
-use crate::replies::{NextLoad, Note, Reply, Returned};
+use crate::lookups::{LoadOutcome, Lookup, LookupProgress};
+use crate::replies::{NextLoad, Reply, Returned};
+use crate::reports::Report;
 use crate::words::{opening_words, put, word_at};
 use latch_core::{Attempted, WriterCore, attempt_in};
 use order_laws::{Item, Refusal, TreeOrder};
@@ -41,7 +42,8 @@ impl<O: TreeOrder> World<O> {
     ghost use Rattle.latch_steps.specs.NextLoads.{LoadsNext};
     ghost use Rattle.latch_steps.specs.WorldSteps.{Does, MayDo, IsWorldStep};
     ghost use Rattle.latch_steps.specs.Lookups.{lookup_at};
-    ghost use Rattle.latch_steps.specs.HeldLookups.{ReadsFromAny};
+    ghost use Rattle.latch_steps.specs.Reports.{ObeysFromAny};
+    ghost use Rattle.latch_steps.specs.declared.commands.Command.TheVariants as Command;
     ghost use Rattle.latch_steps.specs.AtOnce.{SettlesFromAny, IsSettledFromAny, FindsFromAny};
     ghost use Rattle.latch_steps.specs.AtOnce.{IsFoundFromAny, IsNearFromAny, KeepsUpdates};
     ghost use Rattle.latch_steps.specs.AtOnce.{IsNotBegunFromAny, LooksUp, HasNoAnswer};
@@ -96,7 +98,7 @@ impl<O: TreeOrder> World<O> {
     }
 
     /// The writer begins an update.
-    pub(crate) fn begin(&mut self, update: &Update) -> Reply<O::Key>
+    fn begin(&mut self, update: &Update) -> Reply<O::Key>
         ensures layout { layout_in self.new ≡ layout_in self.old }
         ensures steps { MayDo O.order self.old (Begin update.now) result self.new }
     {
@@ -165,7 +167,7 @@ impl<O: TreeOrder> World<O> {
     }
 
     /// Whether a reader has a pending lookup.
-    fn is_looking(&self, reader: u32) -> bool
+    pub(crate) fn is_looking(&self, reader: u32) -> bool
         ensures { result ≡ is_some (lookup_at self.now.lookups reader) }
     {
         matches!(self.lookups.get(&reader), Some(Some(_)))
@@ -260,34 +262,31 @@ impl<O: TreeOrder> World<O> {
         }
     }
 
-    /// Makes at most `most` loads of a reader, up to the return of its lookup; a reader without a
-    /// pending lookup is refused once. Returns how many events these are, and what is to be noted.
+    /// Makes at most `most` loads of a reader's pending lookup, up to its return, and reports each.
     /// The lookup is looked up once and held apart while its loads run.
-    pub(crate) fn read_on(&mut self, reader: u32, most: u32) -> (u32, Option<Note<O::Key>>)
+    pub(crate) fn read_on<R: Report<O::Key>>(
+        &mut self,
+        reader: u32,
+        most: u32,
+        report: &R,
+        to: &mut R::To,
+    )
+        requires { is_some (lookup_at self.old.lookups reader) ≡ true }
         ensures layout { layout_in self.new ≡ layout_in self.old }
-        ensures reads { ReadsFromAny O.order self.old reader most result self.new }
+        ensures reads { ObeysFromAny O.order (R.reports report.now) (Command.Read reader most)
+            self.old self.new to.old to.new }
     {
         let Some(place) = self.lookups.get_mut(&reader) else {
-            self.events = self.events.saturating_add(1);
-            return (1, Some(Note::Refused(Refusal::ReaderIdle)));
+            return;
         };
         let Some(lookup) = place.take() else {
-            self.events = self.events.saturating_add(1);
-            return (1, Some(Note::Refused(Refusal::ReaderIdle)));
+            return;
         };
-        let LookupProgress {
-            held,
-            count,
-            events,
-        } = lookup.load_on(self.words.as_slice(), reader, most, self.events);
+        let words = self.words.as_slice();
+        let LookupProgress { lookup, events } =
+            lookup.load_on(words, reader, most, self.events, report, to);
+        *place = lookup;
         self.events = events;
-        match held {
-            LookupState::Going(next) => {
-                *place = Some(next);
-                (count, None)
-            }
-            LookupState::Returned(returned) => (count, Some(Note::Returned(returned))),
-        }
     }
 
     /// Whether an update is pending.

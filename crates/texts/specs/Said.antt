@@ -84,12 +84,18 @@ abbrev pub GivesNext : {T : Type 0} → (List ℕ → Option T) → ℕ → List
 GivesNext form n text (Ok None) = entries_from form n (lines_of text) ≡ Ok []
 GivesNext form n text (Ok (Some next)) =
     entries_from form n (lines_of text)
-    ≡ entries_after (next.entry ∷ []) (entries_from form next.number (lines_of next.rest.now))
+    ≡ entries_after (next.entry ∷ []) (entries_from form (next.line + 1) (lines_of next.rest.now))
 GivesNext form n text (Err fault) = FaultsInGrammar fault (entries_from form n (lines_of text))
+
+-- the line of an entry is the first that is not passed over; without an entry each line is
+abbrev pub HasLine : {T : Type 0} → ℕ → List ℕ → Option (NextEntry T) → Type 0
+HasLine n text None = said_lines n (lines_of text) ≡ []
+HasLine n text (Some next) =
+    said_lines n (lines_of text) ≡ next.line ∷ said_lines (next.line + 1) (lines_of next.rest.now)
 
 -- after an entry there are fewer bytes, and no number is too great for them
 abbrev pub LeavesFewer : {T : Type 0} → ℕ → List ℕ → Option (NextEntry T) → Type 0
 LeavesFewer n text None = Unit {0}
 LeavesFewer n text (Some next) =
     (length next.rest.now < length text)
-    × (next.number + length next.rest.now ≤ n + length text)
+    × (next.line + 1 + length next.rest.now ≤ n + length text)

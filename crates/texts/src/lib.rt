@@ -26,4 +26,4 @@ pub use numbers::{
     count, decimal, digit_of, hexadecimal, number, number_up_to, short_number, sixteen_digits,
 };
 pub use output::Output;
-pub use said::{Form, NextEntry, entries_in, is_too_long, next_entry_in, said_lines_in};
+pub use said::{Form, NextEntry, entries_in, is_too_long, next_entry_in};

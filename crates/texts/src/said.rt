@@ -2,7 +2,7 @@
 ghost use Rattle.std.specs.Prelude.{◌≡◌, length, IfOk};
 ghost use Rattle.texts.specs.Lines.{lines_of};
 ghost use Rattle.texts.specs.Said.{entries_from, is_passed_over, is_too_long, said_by};
-ghost use Rattle.texts.specs.Said.{AreNumbered, GivesInGrammar, GivesNext, LeavesFewer, said_lines};
+ghost use Rattle.texts.specs.Said.{AreNumbered, GivesInGrammar, GivesNext, HasLine, LeavesFewer};
 
 use crate::LineFault;
 use crate::lines::{LONGEST_LINE, cut_line};
@@ -67,11 +67,11 @@ fn said_by<'a, F: Form<'a>>(form: &F, line: &'a [u8]) -> Result<Said<F::Entry>, 
     }
 }
 
-/// An entry of a text, the lines after it, and the number of the first of these.
+/// An entry of a text, the number of its line, and the lines after it.
 #[derive(Drop)]
 pub struct NextEntry<'a, T> {
     pub entry: T,
-    pub number: u64,
+    pub line: u64,
     pub rest: &'a [u8],
 }
 
@@ -83,6 +83,7 @@ pub fn next_entry_in<'a, F: Form<'a>>(
 ) -> Result<Option<NextEntry<'a, F::Entry>>, LineFault>
     requires { AreNumbered first text.now }
     ensures next { GivesNext (F.entry_of form.now) first text.now result }
+    ensures line { IfOk result (HasLine first text.now) }
     ensures behind { IfOk result (LeavesFewer first text.now) }
 {
     let mut rest = text;
@@ -95,7 +96,7 @@ pub fn next_entry_in<'a, F: Form<'a>>(
             Said::One(entry) => {
                 return Ok(Some(NextEntry {
                     entry,
-                    number: number + 1,
+                    line: number,
                     rest: after,
                 }));
             }
@@ -123,26 +124,7 @@ pub fn entries_in<'a, F: Form<'a>>(
     while let Some(next) = next_entry_in(form, number, rest)? {
         entries.push(next.entry)?;
         rest = next.rest;
-        number = next.number;
+        number = next.line + 1;
     }
     Ok(entries)
-}
-
-/// The numbers of the lines that are neither empty nor comments. The first line has the number
-/// `first`.
-pub fn said_lines_in(alloc: Global, first: u32, text: &[u8]) -> Result<Vec<u64>, AllocError>
-    ensures { IfOk result (λ numbers. numbers.items ≡ said_lines first (lines_of text.now)) }
-{
-    let mut numbers = Vec::new(alloc);
-    let mut rest = text;
-    let mut number = u64::from(first);
-    while !rest.is_empty() {
-        let (line, after) = cut_line(rest);
-        if !is_passed_over(line) {
-            numbers.push(number)?;
-        }
-        rest = after;
-        number += 1;
-    }
-    Ok(numbers)
 }

@@ -4,7 +4,8 @@ use Rattle.facts.proofs.Lists.{take_push}
 use Rattle.word_layout.specs.Layouts.{capacity_of}
 use Rattle.latch_steps.specs.Runs.{step_done, last_of, opening}
 use Rattle.latch_steps.proofs.Promising.{safe_trace, quiet_trace, near_trace}
-use Rattle.latch_steps.proofs.RecorderLemmas.{records_none, records_append, events_append, trace_of}
+use Rattle.latch_steps.proofs.RecorderLemmas.{records_none, records_append, trace_of}
+use Rattle.latch_steps.proofs.RunLemmas.{events_append}
 use Rattle.latch_steps.proofs.runs.run.Goals as goal
 
 pub loop-event-init : goal.loop-event-init

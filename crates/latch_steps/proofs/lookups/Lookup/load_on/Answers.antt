@@ -1,31 +1,37 @@
 use Rattle.std.proofs.Common.{◌+◌, subst, sym, arith}
+use Rattle.latch_steps.specs.declared.events.Event.TheVariants.{Read}
 use Rattle.latch_steps.specs.declared.lookups.Lookup.{Lookup}
+use Rattle.latch_steps.specs.declared.reports.Outcome.{Outcome}
 use Rattle.latch_steps.proofs.HeldLookupLemmas.{Loading, no_loads, load_goes, load_retries, load_ends, all_loaded}
 use Rattle.latch_steps.proofs.lookups.Lookup.load_on.Goals as goal
 use Rattle.latch_steps.proofs.lookups.Lookup.load_on.Goals.{in-Going, in-Retrying}
 
 pub loop-turn-init : goal.loop-turn-init
-loop-turn-init g c = λ n limit w words is e. no_loads g.O.TreeOrder.order n limit w c.args.reader c.args.most c.args.self c.args.events is e
+loop-turn-init g c = λ n limit w words is e. no_loads g.O.TreeOrder.order n limit (g.R.Report.reports c.args.report.now) w c.args.reader c.args.most c.args.to.now c.args.self c.args.events is e
 
 pub loop-turn-preserved : goal.loop-turn-preserved
 loop-turn-preserved g c = λ n limit w words is e.
     let o = g.O.TreeOrder.order in
+    let reports = g.R.Report.reports c.args.report.now in
     let old = c.loop-turn.lookup in
     let next = c.saturating_add-events.result in
     let h = c.loop-turn.invariant n limit w words is e in
-    let made = λ (lk : Lookup g.row.O.Denot g.row.O-Key.Denot). Loading o n limit w c.args.reader c.args.most (c.loop-turn.turn + 1) lk next in
+    let told = λ (x : Outcome g.row.O-Key.Denot). reports c.loop-turn.to (Read c.args.reader) x c.report-in-loop-turn.new.to in
+    let made = λ (lk : Lookup g.row.O.Denot g.row.O-Key.Denot). Loading o n limit reports w c.args.reader c.args.most c.args.to.now (c.loop-turn._turn + 1) lk next c.report-in-loop-turn.new.to in
     elim c.match-load.branch [
       | in-Going x ↦ subst made (sym x.lookup-is)
-          (load_goes o n limit w c.args.reader c.args.most old c.loop-turn.events next c.loop-turn.turn h c.saturating_add-events.ensures c.args.words.now words x.in-Going.next (x.in-Going.ensures n))
+          (load_goes o n limit reports w c.args.reader c.args.most c.args.to.now old c.loop-turn.events next c.loop-turn._turn c.loop-turn.to c.report-in-loop-turn.new.to h c.saturating_add-events.ensures c.args.words.now words c.next_load.result c.next_load.ensures c.word_at.result c.word_at.ensures x.in-Going.next (x.in-Going.ensures n)
+          (subst told x.outcome-is c.report-in-loop-turn.ensures))
       | in-Retrying x ↦ subst made (sym x.lookup-is)
-          (load_retries o n limit w c.args.reader c.args.most old c.loop-turn.events next c.loop-turn.turn h c.saturating_add-events.ensures c.args.words.now words x.in-Retrying.next (x.in-Retrying.ensures n))
+          (load_retries o n limit reports w c.args.reader c.args.most c.args.to.now old c.loop-turn.events next c.loop-turn._turn c.loop-turn.to c.report-in-loop-turn.new.to h c.saturating_add-events.ensures c.args.words.now words c.next_load.result c.next_load.ensures c.word_at.result c.word_at.ensures x.in-Retrying.next (x.in-Retrying.ensures n)
+          (subst told x.outcome-is c.report-in-loop-turn.ensures))
     ]
 
 pub returns-in-Returned : goal.returns-in-Returned
 returns-in-Returned g c = λ n limit w words is e.
-    load_ends g.O.TreeOrder.order n limit w c.args.reader c.args.most c.loop-turn.lookup c.loop-turn.events c.saturating_add-events.result c.loop-turn.turn
-    (c.loop-turn.invariant n limit w words is e) c.saturating_add-events.ensures c.args.words.now words c.in-Returned.returned (omega arith) (c.in-Returned.ensures n)
+    load_ends g.O.TreeOrder.order n limit (g.R.Report.reports c.args.report.now) w c.args.reader c.args.most c.args.to.now c.loop-turn.lookup c.loop-turn.events c.saturating_add-events.result c.loop-turn._turn c.loop-turn.to c.report.new.to
+    (c.loop-turn.invariant n limit w words is e) c.saturating_add-events.ensures c.args.words.now words c.next_load.result c.next_load.ensures c.word_at.result c.word_at.ensures c.in-Returned.returned (omega arith) (c.in-Returned.ensures n) c.report.ensures
 
 pub returns : goal.returns
 returns g c = λ n limit w words is e.
-    all_loaded g.O.TreeOrder.order n limit w c.args.reader c.args.most c.loop-turn.lookup c.loop-turn.events c.loop-turn.turn (c.loop-turn.invariant n limit w words is e) (omega arith)
+    all_loaded g.O.TreeOrder.order n limit (g.R.Report.reports c.args.report.now) w c.args.reader c.args.most c.args.to.now c.loop-turn.lookup c.loop-turn.events c.loop-turn._turn c.loop-turn.to (c.loop-turn.invariant n limit w words is e) (omega arith)

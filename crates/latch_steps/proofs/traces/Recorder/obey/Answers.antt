@@ -1,26 +1,7 @@
-use Rattle.std.specs.Prelude.{not, eqb}
-use Rattle.std.proofs.Common.{◌∙◌, false, true, refl, sym}
-use Rattle.latch_steps.proofs.RecorderLemmas.{obeyed_writing, within_some, within_none}
+use Rattle.latch_steps.proofs.RecorderLemmas.{recorded}
 use Rattle.latch_steps.proofs.traces.Recorder.obey.Goals as goal
-use Rattle.latch_steps.proofs.traces.Recorder.obey.Goals.{then-is_writing, else-is_writing}
 
-pub returns-after-is_writing-clause-obeyed : goal.returns-after-is_writing-clause-obeyed
-returns-after-is_writing-clause-obeyed g c =
-    obeyed_writing g.O.TreeOrder.order (not (eqb g.row.KEEPS 0)) c.args.self.now c.write_on.new.self c.write_on.result false c.if-is_writing.most c.args.command.now _ c.in-Write.is (refl, λ reply w. refl)
-    (λ w s. elim c.if-is_writing.branch [
-      | then-is_writing b ↦ b.most-is ∙ within_some w.latch.pending c.in-Write.most (sym (c.is_writing.ensures w s) ∙ b.if-is_writing.true)
-      | else-is_writing b ↦ b.most-is ∙ within_none w.latch.pending c.in-Write.most (sym (c.is_writing.ensures w s) ∙ b.if-is_writing.false)
-    ])
-    c.write_on.ensures.written
-
-pub returns-in-WriteFlip-clause-obeyed : goal.returns-in-WriteFlip-clause-obeyed
-returns-in-WriteFlip-clause-obeyed g c =
-    obeyed_writing g.O.TreeOrder.order (not (eqb g.row.KEEPS 0)) c.args.self.now c.write_on-in-WriteFlip.new.self c.write_on-in-WriteFlip.result true c.writes_left-left.result c.args.command.now _ c.in-WriteFlip.is (refl, λ reply w. refl)
-    c.writes_left-left.ensures
-    c.write_on-in-WriteFlip.ensures.written
-
-pub returns-in-WriteEnd-clause-obeyed : goal.returns-in-WriteEnd-clause-obeyed
-returns-in-WriteEnd-clause-obeyed g c =
-    obeyed_writing g.O.TreeOrder.order (not (eqb g.row.KEEPS 0)) c.args.self.now c.write_on-in-WriteEnd.new.self c.write_on-in-WriteEnd.result false c.writes_left-left-in-WriteEnd.result c.args.command.now _ c.in-WriteEnd.is (refl, λ reply w. refl)
-    c.writes_left-left-in-WriteEnd.ensures
-    c.write_on-in-WriteEnd.ensures.written
+pub returns-clause-obeyed : goal.returns-clause-obeyed
+returns-clause-obeyed g c = λ w s.
+    let (run, done, repeats) = c.in_ok-obey.ensures.obeyed w s in
+    (run, recorded g.O.TreeOrder.order c.args.keeping.now.events c.args.self.now (record { world = c.obey.new.self; kept = c.obey.new.to }) w run c.if-self.false done, repeats)

@@ -1,8 +1,8 @@
-use Rattle.std.specs.Prelude.{not, eqb}
+use Rattle.std.proofs.Common.{◌∙◌, sym}
 use Rattle.latch_steps.proofs.RecorderLemmas.{recorded}
 use Rattle.latch_steps.proofs.traces.Recorder.record.Goals as goal
 
 pub returns-clause-recorded : goal.returns-clause-recorded
-returns-clause-recorded g c =
-    recorded g.O.TreeOrder.order (not (eqb g.row.KEEPS 0)) c.args.self.now (record { world = c.step_from-reply.new.self; events = c.keep.new.events; notes = c.keep_note.new.notes }) c.args.event.now c.step_from-reply.result
-    c.step_from-reply.ensures.steps c.in_ok-keep_note.ensures.goes_on c.step_from-reply.ensures.layout c.in_ok-keep.ensures.kept c.in_ok-keep_note.ensures.noted
+returns-clause-recorded g c = λ w s.
+    let (next, run) = c.step_reported-reply.ensures.reported (sym c.is_refused_for_memory.ensures ∙ c.if-is_refused_for_memory.false) w s in
+    (next, recorded g.O.TreeOrder.order c.args.keeping.now.events c.args.self.now (record { world = c.step_reported-reply.new.self; kept = c.step_reported-reply.new.to }) w _ c.if-self.false run)

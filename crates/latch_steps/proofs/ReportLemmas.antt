@@ -1,0 +1,139 @@
+-- Reports of the events of a run, and the commands that a world obeys so.
+use Rattle.std.proofs.Common.{◌≡◌, ℕ, ◌+◌, ◌<◌, Bool, true, false, cond, List, [], ◌∷◌, ◌++◌, length, Option, Some, None, Result, Ok, Err, refl, sym, ◌∙◌, ap, subst, arith, length-append}
+use Rattle.std.specs.Prelude.{is_some, OnOk}
+use Rattle.std.specs.FinMap.{get}
+use Rattle.order_laws.specs.declared.refusals.Refusal.{Refusal}
+use Rattle.order_laws.specs.Orders.{Order}
+use Rattle.word_layout.specs.Layouts.{capacity_of, limit_of}
+use Rattle.latch_core.specs.Latches.{PendingUpdate, Latch}
+use Rattle.latch_core.specs.Writers.{IsShallow}
+use Rattle.latch_steps.specs.declared.commands.Command.{Command}
+use Rattle.latch_steps.specs.declared.events.Event.{Event}
+use Rattle.latch_steps.specs.declared.events.Event.TheVariants.{Write}
+use Rattle.latch_steps.specs.declared.replies.NextLoad.{NextLoad}
+use Rattle.latch_steps.specs.declared.replies.Reply.{Reply}
+use Rattle.latch_steps.specs.declared.reports.Outcome.{Outcome}
+use Rattle.latch_steps.specs.declared.worlds.World.{World}
+use Rattle.latch_steps.specs.Expands.{Repeats, ends, event_of, most_of, reads_within}
+use Rattle.latch_steps.specs.Near.{AreShallow}
+use Rattle.latch_steps.specs.Reports.{AreReported, IsLoadBy, IsReportedRun, IsWriting, Obeys, ObeysFromAny, ObeysOnce, ReportsEvent, outcome_of}
+use Rattle.latch_steps.specs.Lookups.{lookup_at}
+use Rattle.latch_steps.specs.Runs.{Done, Moment, last_of, step_done}
+use Rattle.latch_steps.specs.Steps.{IsWrite, Run, machine_of}
+use Rattle.latch_steps.specs.Worlds.{HasEvents, HasSequence, RepresentsMoment, layout_in}
+use Rattle.latch_steps.specs.WorldSteps.{IsWorldStep, is_refused_for_memory}
+use Rattle.latch_steps.proofs.WorldLemmas.{shown_none}
+use Rattle.latch_steps.proofs.RunLemmas.{IsUnended, does, last_append, repeats_ended, repeats_full, run_append, shallow_append, shows_shallow, unended_push}
+
+module _ {K T : Type 0} (o : Order K) (reports : T → Event K → Outcome K → T → Type 0) where
+  pub reported_append : (n : ℕ) (w : Moment K) (run next : List (Done K)) (a b c : T) → AreReported o n reports w run a b
+      → AreReported o n reports (last_of w run) next b c → AreReported o n reports w (run ++ next) a c
+  reported_append n w [] next a b c h k = subst (λ x. AreReported o n reports w next x c) h k
+  reported_append n w (d ∷ run) next a b c h k = (h.0, h.1, reported_append n d.after run next h.0 b c h.2 k)
+
+module _ {O K T : Type 0} (o : Order K) (reports : T → Event K → Outcome K → T → Type 0) where
+  pub none_reported : (c : World O K) (a : T) (w : Moment K) → RepresentsMoment o c w → IsReportedRun o reports c c a a w []
+  none_reported c a w s = record { layout = refl; steps = tt; shows = s; shallow = tt; reported = refl }
+
+  pub runs_reported : (old mid new : World O K) (a b c : T) (w : Moment K) (run next : List (Done K)) → IsReportedRun o reports old mid a b w run
+      → IsReportedRun o reports mid new b c (last_of w run) next → IsReportedRun o reports old new a c w (run ++ next)
+  runs_reported old mid new a b c w run next x y =
+      let n = capacity_of (layout_in old) in
+      record {
+        layout = y.layout ∙ x.layout;
+        steps = run_append o n (limit_of (layout_in old)) w run next x.steps (subst (λ l. Run (machine_of o l) (last_of w run) next) x.layout y.steps);
+        shows = subst (RepresentsMoment o new) (sym (last_append w run next)) y.shows;
+        shallow = shallow_append n run next x.shallow (subst (λ l. AreShallow (capacity_of l) next) x.layout y.shallow);
+        reported = reported_append o reports n w run next a b c x.reported (subst (λ l. AreReported o (capacity_of l) reports (last_of w run) next b c) x.layout y.reported);
+      }
+
+  -- one event, by what its report is given
+  pub event_reported : (old new : World O K) (e : Event K) (r : Reply K) (load : Option (NextLoad K)) (number sequence : ℕ) (a b : T)
+      → IsWorldStep o old e r new → is_refused_for_memory r ≡ false → layout_in new ≡ layout_in old → IsLoadBy o old e load
+      → HasEvents o new number → HasSequence o new sequence
+      → reports a e (record { number = number; load = load; reply = r; sequence = sequence }) b → ReportsEvent o reports e old new a b r
+  event_reported old new e r load number sequence a b steps stays lay loads events reads told w s =
+      let d = does o old new e r steps stays w s in
+      let n = capacity_of (layout_in old) in
+      let low = subst (λ l. IsShallow (capacity_of l) d.0.latch.words) lay (shows_shallow new d.0 d.2) in
+      let given : Outcome K = record { number = number; load = load; reply = r; sequence = sequence } in
+      let same : given ≡ outcome_of o n w (step_done e r d.0) = (λ i. record { number = events d.0 d.2 i; load = loads w s i; reply = r; sequence = reads d.0 d.2 i }) in
+      (d.0, record { layout = lay; steps = (d.1, tt); shows = d.2; shallow = (low, tt); reported = (b, subst (λ x. reports a e x b) same told, refl) })
+
+-- a command that asks for its event once
+pub once : {K : Type 0} (c : Command K) (e : Event K) (r : Reply K) (w : Moment K) → e ≡ event_of c → Repeats c 1 (step_done e r w ∷ [])
+once c e r w is = (omega arith, is, either (ends c r w))
+  where
+    either : (b : Bool) → let none : ℕ = 0 in cond b none none ≡ none
+    either true = refl
+    either false = refl
+
+pub obeyed_once : {O K T A : Type 0} (o : Order K) (reports : T → Event K → Outcome K → T → Type 0) (result : Result A Refusal) (old new : World O K) (a b : T) (e : Event K) (c d : Command K) → c ≡ d → e ≡ event_of d
+    → ((w : Moment K) → RepresentsMoment o old w → most_of w d ≡ 1) → OnOk result (ObeysOnce o reports e old new a b) → OnOk result (ObeysFromAny o reports c old new a b)
+obeyed_once o reports (Ok x) old new a b e c d same is count obeys = λ w s. subst (λ y. Obeys o reports y old new a b w (most_of w y)) (sym same) (subst (Obeys o reports d old new a b w) (sym (count w s)) (obeys d is w s))
+obeyed_once o reports (Err why) old new a b e c d same is count obeys = tt
+
+-- a reader without a pending lookup is refused once
+pub idle_once : {O K : Type 0} (o : Order K) (c : World O K) (r most : ℕ) → is_some (lookup_at c.lookups r) ≡ false → (w : Moment K) → RepresentsMoment o c w → reads_within (get w.lookups r) most ≡ 1
+idle_once o c r most free w s = ap (λ f. reads_within f most) (shown_none o (capacity_of (layout_in c)) (lookup_at c.lookups r) (get w.lookups r) (none (lookup_at c.lookups r) free) (s.lookups r))
+  where
+    none : {X : Type 0} (x : Option X) → is_some x ≡ false → x ≡ None
+    none None e = refl
+    none (Some y) e = absurd (cc)
+
+-- a store takes no memory
+pub write_stays : {K : Type 0} (n : ℕ) (w next : Moment K) (pending : Option PendingUpdate) (r : Reply K) → IsWrite n w pending r next → is_refused_for_memory r ≡ false
+write_stays n w next None r done = ap is_refused_for_memory done.0
+write_stays n w next (Some h) r done = ap is_refused_for_memory done.2
+
+-- steps of the writer so far, none of which ends its command
+pub record Writing {O K T : Type 0} (o : Order K) (reports : T → Event K → Outcome K → T → Type 0) (c : Command K) (old now : World O K) (a b : T) (turn : ℕ) (w : Moment K) : Type 0 where
+  pub run : List (Done K)
+  pub reported : IsReportedRun o reports old now a b w run
+  pub unended : IsUnended c run
+  pub turns : length run ≡ turn
+
+module _ {O K T : Type 0} (o : Order K) (reports : T → Event K → Outcome K → T → Type 0) (c : Command K) (old : World O K) (a : T) where
+  pub writing_none : (w : Moment K) → RepresentsMoment o old w → Writing o reports c old old a a 0 w
+  writing_none w s = record { run = []; reported = none_reported o reports old a w s; unended = tt; turns = refl }
+
+  pub writing_all : (now : World O K) (b : T) (turn most : ℕ) (w : Moment K) → Writing o reports c old now a b turn w → turn ≡ most → Obeys o reports c old now a b w most
+  writing_all now b turn most w h e = (h.run, h.reported, repeats_full c h.run most h.unended (h.turns ∙ e))
+
+  -- one step more, and whether it ends them
+  module _ (now new : World O K) (b b' : T) (r : Reply K) (whether : Bool) (turn : ℕ) (w : Moment K) (h : Writing o reports c old now a b turn w)
+      (steps : IsWorldStep o now Write r new) (told : is_refused_for_memory r ≡ false → ReportsEvent o reports Write now new b b' r)
+      (same : Write ≡ event_of c) (tests : (v : Moment K) → RepresentsMoment o new v → whether ≡ ends c r v) where
+    one : (next : Moment K) × IsReportedRun o reports old new a b' w (h.run ++ step_done Write r next ∷ [])
+    one =
+        let v = last_of w h.run in
+        let done = steps v h.reported.shows in
+        let stays = write_stays (capacity_of (layout_in now)) v done.0 v.latch.pending r done.1 in
+        let d = told stays v h.reported.shows in
+        (d.0, runs_reported o reports old now new a b b' w h.run (step_done Write r d.0 ∷ []) h.reported d.1)
+
+    tested : whether ≡ ends c r one.0
+    tested = tests one.0 (subst (RepresentsMoment o new) (last_append w h.run (step_done Write r one.0 ∷ [])) one.1.shows)
+
+    pub writing_more : whether ≡ false → Writing o reports c old new a b' (turn + 1) w
+    writing_more fails =
+        record {
+          run = h.run ++ step_done Write r one.0 ∷ [];
+          reported = one.1;
+          unended = unended_push c h.run (step_done Write r one.0) h.unended same (sym tested ∙ fails);
+          turns = length-append h.run (step_done Write r one.0 ∷ []) ∙ ap (λ n. n + 1) h.turns;
+        }
+
+    pub writing_last : (most : ℕ) → turn < most → whether ≡ true → Obeys o reports c old new a b' w most
+    writing_last most lt holds = (
+      h.run ++ step_done Write r one.0 ∷ [],
+      one.1,
+      repeats_ended c h.run most (step_done Write r one.0) h.unended (let t = h.turns in omega arith) same (sym tested ∙ holds),
+    )
+
+-- the writer's steps, as this command asks for them
+pub obeyed_writing : {O K T : Type 0} (o : Order K) (reports : T → Event K → Outcome K → T → Type 0) (old new : World O K) (a b : T) (to_flip : Bool) (most : ℕ) (c d : Command K) → c ≡ d → IsWriting to_flip d
+    → ((w : Moment K) → RepresentsMoment o old w → most ≡ most_of w d)
+    → ((x : Command K) → IsWriting to_flip x → (w : Moment K) → RepresentsMoment o old w → Obeys o reports x old new a b w most) → ObeysFromAny o reports c old new a b
+obeyed_writing o reports old new a b to_flip most c d same is count obeys w s =
+    subst (λ y. Obeys o reports y old new a b w (most_of w y)) (sym same) (subst (Obeys o reports d old new a b w) (count w s) (obeys d is w s))

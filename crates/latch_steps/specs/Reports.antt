@@ -1,0 +1,103 @@
+-- How the events of a run are reported, and the commands that a world obeys so.
+use Rattle.std.specs.Prelude.{◌≡◌, ℕ, Bool, ◌&&◌, ◌||◌, List, [], ◌∷◌, is_none, Option, None}
+use Rattle.order_laws.specs.Orders.{Order}
+use Rattle.word_layout.specs.Words.{at}
+use Rattle.word_layout.specs.Layouts.{capacity_of}
+use Rattle.latch_steps.specs.declared.commands.Command.{Command}
+use Rattle.latch_steps.specs.declared.events.Event.{Event}
+use Rattle.latch_steps.specs.declared.events.Event.TheVariants.{Write, Read}
+use Rattle.latch_steps.specs.declared.replies.NextLoad.{NextLoad}
+use Rattle.latch_steps.specs.declared.replies.Reply.{Reply}
+use Rattle.latch_steps.specs.declared.reports.Outcome.{Outcome}
+use Rattle.latch_steps.specs.declared.worlds.World.{World}
+use Rattle.latch_steps.specs.Expands.{Repeats, ends, event_of, most_of}
+use Rattle.latch_steps.specs.Near.{AreShallow}
+use Rattle.latch_steps.specs.NextLoads.{load_of}
+use Rattle.latch_steps.specs.Quiet.{is_flip}
+use Rattle.latch_steps.specs.Runs.{Done, Moment, last_of, step_done}
+use Rattle.latch_steps.specs.Steps.{Run}
+use Rattle.latch_steps.specs.Worlds.{RepresentsMoment, layout_in, machine_in}
+
+-- what an event loads at a moment, if it is a load of a pending lookup
+abbrev pub load_by : {K : Type 0} → Order K → ℕ → Moment K → Event K → Option (NextLoad K)
+load_by o n w (Read r) = load_of o n w r
+load_by o n w _ = None
+
+-- what the event came to that was done at a moment
+abbrev pub outcome_of : {K : Type 0} → Order K → ℕ → Moment K → Done K → Outcome K
+outcome_of o n w d = record {
+  number = d.after.events;
+  load = load_by o n w d.event;
+  reply = d.reply;
+  sequence = at d.after.latch.words 0;
+}
+
+-- Each event of a run from a moment was reported: `reports` says what one report makes of where the
+-- events go.
+abbrev pub AreReported : {K T : Type 0} → Order K → ℕ → (T → Event K → Outcome K → T → Type 0)
+    → Moment K → List (Done K) → T → T → Type 0
+AreReported o n reports w [] a b = b ≡ a
+AreReported {K} {T} o n reports w (d ∷ run) a b =
+    (mid : T) × reports a d.event (outcome_of o n w d) mid
+    × AreReported o n reports d.after run mid b
+
+-- from a moment that it shows a world did this run, over red-black trees, and reported its events
+pub record IsReportedRun {O K T : Type 0} (o : Order K)
+    (reports : T → Event K → Outcome K → T → Type 0) (old new : World O K) (a b : T)
+    (w : Moment K) (run : List (Done K)) : Type 0 where
+  pub layout : layout_in new ≡ layout_in old
+  pub steps : Run (machine_in o old) w run
+  pub shows : RepresentsMoment o new (last_of w run)
+  pub shallow : AreShallow (capacity_of (layout_in old)) run
+  pub reported : AreReported o (capacity_of (layout_in old)) reports w run a b
+
+-- one event, from each moment that the world shows
+abbrev pub ReportsEvent : {O K T : Type 0} → Order K → (T → Event K → Outcome K → T → Type 0)
+    → Event K → World O K → World O K → T → T → Reply K → Type 0
+ReportsEvent {O} {K} o reports e old new a b reply =
+    (w : Moment K) → RepresentsMoment o old w
+    → (next : Moment K) × IsReportedRun o reports old new a b w (step_done e reply next ∷ [])
+
+-- a command's event, at most so often as this count says
+abbrev pub Obeys : {O K T : Type 0} → Order K → (T → Event K → Outcome K → T → Type 0)
+    → Command K → World O K → World O K → T → T → Moment K → ℕ → Type 0
+Obeys {O} {K} o reports c old new a b w most =
+    (run : List (Done K)) × IsReportedRun o reports old new a b w run × Repeats c most run
+
+-- From each moment that the world shows: a command's event as often as the command says; an event
+-- for any command that asks for it once; and steps of the writer that a command asks for.
+abbrev pub ObeysFromAny : {O K T : Type 0} → Order K → (T → Event K → Outcome K → T → Type 0)
+    → Command K → World O K → World O K → T → T → Type 0
+ObeysFromAny {O} {K} o reports c old new a b =
+    (w : Moment K) → RepresentsMoment o old w → Obeys o reports c old new a b w (most_of w c)
+
+abbrev pub ObeysOnce : {O K T : Type 0} → Order K → (T → Event K → Outcome K → T → Type 0)
+    → Event K → World O K → World O K → T → T → Type 0
+ObeysOnce {O} {K} o reports e old new a b =
+    (c : Command K) → e ≡ event_of c
+    → (w : Moment K) → RepresentsMoment o old w → Obeys o reports c old new a b w 1
+
+-- whether this step of the writer, with the moment after it, is its last one for now
+abbrev pub ends_writing : {K : Type 0} → Bool → Reply K → Moment K → Bool
+ends_writing to_flip reply w = (to_flip && is_flip reply) || is_none w.latch.pending
+
+-- a command that asks for such steps
+abbrev pub IsWriting : {K : Type 0} → Bool → Command K → Type 0
+IsWriting {K} to_flip c =
+    (event_of c ≡ Write)
+    × ((reply : Reply K) (w : Moment K) → ends c reply w ≡ ends_writing to_flip reply w)
+
+abbrev pub ObeysWriting : {O K T : Type 0} → Order K → (T → Event K → Outcome K → T → Type 0)
+    → Bool → ℕ → World O K → World O K → T → T → Type 0
+ObeysWriting {O} {K} o reports to_flip most old new a b =
+    (c : Command K) → IsWriting to_flip c
+    → (w : Moment K) → RepresentsMoment o old w → Obeys o reports c old new a b w most
+
+-- of whatever moment a world shows: what an event loads, and whether the writer's steps end
+abbrev pub IsLoadBy : {O K : Type 0} → Order K → World O K → Event K → Option (NextLoad K) → Type 0
+IsLoadBy {O} {K} o c e load =
+    (w : Moment K) → RepresentsMoment o c w → load ≡ load_by o (capacity_of (layout_in c)) w e
+
+abbrev pub EndsAt : {O K : Type 0} → Order K → World O K → Bool → Reply K → Bool → Type 0
+EndsAt {O} {K} o c to_flip reply whether =
+    (w : Moment K) → RepresentsMoment o c w → whether ≡ ends_writing to_flip reply w
