@@ -5,19 +5,20 @@ use Rattle.texts.proofs.SaidLemmas.{one_more}
 use Rattle.texts.proofs.UnderstoodLemmas.{AreEntries, are_entries}
 use Rattle.texts.specs.Said.{entries_after, entries_from}
 use Rattle.run_files.specs.declared.header.Header.{Header}
-use Rattle.run_files.specs.CommandLines.{GivesCommand}
+use Rattle.run_files.specs.declared.command_lines.NumberedCommand.{NumberedCommand}
+use Rattle.run_files.specs.CommandLines.{GivesCommand, LinesLeft}
 use Rattle.run_files.specs.Commands.{command_by}
 use Rattle.run_files.specs.Header.{header_of}
 use Rattle.run_files.specs.Trace.{contents_with, trace_of_lines, with_header}
 use Rattle.run_files.specs.Understood.{IsFirstBad, IsTraceBy}
 
--- entries before those that lines say which are left, where what was taken is known by its test
-pub gone_past : {T : Type 0} (left rest whole : Result (List T) ℕ) (next : Option T) (entry : T) → next ≡ Some entry
-    → GivesCommand left rest (Ok next) → (front : List T) × (entries_after front left ≡ whole)
-    → (front : List T) × (entries_after front rest ≡ whole)
-gone_past left rest whole None entry there gives way = absurd (cc)
-gone_past left rest whole (Some x) entry there gives way =
-    let (front, is) = way in (front ++ x ∷ [], one_more front left whole is x rest gives)
+-- commands before those that lines say which are left, if what was taken is known by its test
+pub gone_past : (left rest : LinesLeft) (whole : Result (List (Command ℕ)) ℕ) (next : Option NumberedCommand) (taken : NumberedCommand) → next ≡ Some taken
+    → GivesCommand left rest (Ok next) → (front : List (Command ℕ)) × (entries_after front left.said ≡ whole)
+    → (front : List (Command ℕ)) × (entries_after front rest.said ≡ whole)
+gone_past left rest whole None taken there gives way = absurd (cc)
+gone_past left rest whole (Some x) taken there gives way =
+    let (front, is) = way in (front ++ x.command ∷ [], one_more front left.said whole is x.command rest.said gives.said)
 
 with_commands : (first : List ℕ) (lines : List (List ℕ)) (header : Header) → header_of first ≡ Some header
     → (r : Result (List (Command ℕ)) ℕ) → AreEntries (command_by header.version) 2 lines r

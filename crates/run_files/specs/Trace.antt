@@ -3,7 +3,6 @@
 use Rattle.std.specs.Prelude.{ℕ, List, [], ◌∷◌, Option, Some, None, Result, Ok, Err, drop}
 use Rattle.latch_steps.specs.declared.commands.Command.{Command}
 use Rattle.run_files.specs.declared.header.Header.{Header}
-use Rattle.run_files.specs.declared.trace.TraceFile.{TraceFile}
 use Rattle.texts.specs.Lines.{lines_of}
 use Rattle.texts.specs.Said.{entries_from, said_lines}
 use Rattle.run_files.specs.Commands.{command_by}
@@ -13,9 +12,6 @@ use Rattle.run_files.specs.Header.{header_of}
 pub record Contents : Type 0 where
   pub header : Header
   pub commands : List (Command ℕ)
-
-abbrev pub contents_of : TraceFile → Contents
-contents_of t = record { header = t.header; commands = t.commands.items }
 
 -- a header, and then the commands that are said
 abbrev pub with_header : Header → Result (List (Command ℕ)) ℕ → Result Contents ℕ

@@ -14,7 +14,7 @@ use table_updates::{Entries, Update};
 use texts::{Form, count, cut_word, number, short_number, words_in};
 
 /// The form of a line after the header, in a trace of this version.
-#[derive(Drop)]
+#[derive(Clone, Copy)]
 pub(crate) struct CommandForm {
     pub(crate) alloc: Global,
     pub(crate) version: Version,

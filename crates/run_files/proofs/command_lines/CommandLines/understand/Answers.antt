@@ -1,10 +1,10 @@
-use Rattle.std.proofs.Common.{[]}
+use Rattle.std.proofs.Common.{◌∙◌, [], ap}
 use Rattle.texts.proofs.SaidLemmas.{none_before}
 use Rattle.run_files.proofs.TraceLineLemmas.{gone_past}
 use Rattle.run_files.proofs.command_lines.CommandLines.understand.Goals as goal
 
 pub loop-init : goal.loop-init
-loop-init c = ([], none_before _)
+loop-init c = ([], none_before _ ∙ ap (λ l. l.said) c.self.view_is)
 
 pub loop-preserved-in-Some : goal.loop-preserved-in-Some
 loop-preserved-in-Some c =
