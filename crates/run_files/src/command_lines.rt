@@ -1,6 +1,6 @@
 //! The commands of a trace one after another, in the order of their lines.
 
-ghost use Rattle.std.specs.Prelude.{◌≡◌, ◌<◌, Err, IfErr, IfOk, IfSome, IsSome, OnOk};
+ghost use Rattle.std.specs.Prelude.{◌≡◌, ◌≢◌, ◌<◌, [], Err, IfErr, IfOk, IfSome, IsErr, IsSome, OnOk};
 ghost use Rattle.std.specs.Option.{option_map_or};
 ghost use Rattle.run_files.specs.CommandLines.{GivesCommand, IsUnderstood};
 ghost use Rattle.texts.specs.Said.{FaultsInGrammar};
@@ -75,6 +75,7 @@ impl<'a> CommandLines<'a> {
     /// The next command, if there is one. Empty lines and comments are passed over.
     pub fn next_command(&mut self) -> Result<Option<NumberedCommand>, LineFault>
         ensures next { GivesCommand self.old self.new result }
+        ensures some { IsErr result → self.old.said ≢ Ok [] }
         ensures fewer { IfOk result (λ next. IsSome next → self.new.bytes < self.old.bytes) }
     {
         match next_entry_in(&self.form, self.number, self.rest)? {

@@ -1,5 +1,5 @@
 //! What the lines of a text say, if each has to be understood.
-ghost use Rattle.std.specs.Prelude.{◌≡◌, length, IfOk};
+ghost use Rattle.std.specs.Prelude.{◌≡◌, ◌≢◌, [], length, IfOk, IsErr};
 ghost use Rattle.texts.specs.Lines.{lines_of};
 ghost use Rattle.texts.specs.Said.{entries_from, is_passed_over, is_too_long, said_by};
 ghost use Rattle.texts.specs.Said.{AreNumbered, GivesInGrammar, GivesNext, HasLine, LeavesFewer};
@@ -53,7 +53,8 @@ fn is_passed_over(line: &[u8]) -> bool
 
 /// What a line says, in a text whose lines have this form.
 fn said_by<'a, F: Form<'a>>(form: &F, line: &'a [u8]) -> Result<Said<F::Entry>, AllocError>
-    ensures { IfOk result (λ said. said ≡ said_by (F.entry_of form.now) line.now) }
+    ensures said { IfOk result (λ said. said ≡ said_by (F.entry_of form.now) line.now) }
+    ensures some { IsErr result → said_by (F.entry_of form.now) line.now ≢ Said.Nothing }
 {
     if is_too_long(line) {
         return Ok(Said::Bad);
@@ -83,6 +84,8 @@ pub fn next_entry_in<'a, F: Form<'a>>(
 ) -> Result<Option<NextEntry<'a, F::Entry>>, LineFault>
     requires { AreNumbered first text.now }
     ensures next { GivesNext (F.entry_of form.now) first text.now result }
+    ensures some { IsErr result
+        → entries_from (F.entry_of form.now) first (lines_of text.now) ≢ Ok [] }
     ensures line { IfOk result (HasLine first text.now) }
     ensures behind { IfOk result (LeavesFewer first text.now) }
 {
