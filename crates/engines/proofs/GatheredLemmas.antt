@@ -1,10 +1,7 @@
 -- The text of a trace whose commands are run one after another: of the functions of trace.
 use Rattle.std.proofs.Common.{◌≡◌, ℕ, List, [], ◌∷◌, ◌++◌, Option, Some, None, Result, Ok, Err, refl, sym, ◌∙◌, ap, subst, flat_map, append_assoc, append-nil}
-use Rattle.std.specs.Prelude.{IfSome}
 use Rattle.std.proofs.lemmas.Grind.{flat_map-append}
 use Rattle.order_laws.specs.Orders.{Order}
-use Rattle.order_laws.specs.declared.refusals.Refusal.{Refusal}
-use Rattle.order_laws.specs.declared.refusals.Refusal.TheVariants as refusal
 use Rattle.word_layout.specs.declared.layouts.Layout.{Layout}
 use Rattle.word_layout.specs.Layouts.{capacity_of, limit_of}
 use Rattle.word_layout.specs.Words.{at}
@@ -19,31 +16,13 @@ use Rattle.latch_steps.specs.Runs.{last_of, opening}
 use Rattle.latch_steps.specs.Safe.{IsSafe}
 use Rattle.latch_steps.specs.Steps.{Run, machine}
 use Rattle.latch_steps.specs.Traces.{notes_of}
-use Rattle.texts.specs.declared.counted.Counted.{Counted}
 use Rattle.run_files.specs.declared.header.Header.{Header}
-use Rattle.run_files.specs.CommandLines.{IsUnderstood, LinesLeft}
-use Rattle.texts.specs.Counted.{NoneFailed, device_of}
-use Rattle.texts.specs.declared.output.Output.{Output}
-use Rattle.texts.specs.Output.{Delivered, WrotePart}
-use Rattle.texts.proofs.ReadLemmas.{of_read}
 use Rattle.texts.specs.Said.{entries_after}
 use Rattle.texts.proofs.SaidLemmas.{all_said, none_before, one_more}
-use Rattle.run_files.specs.Trace.{Contents, trace_of, with_header}
-use Rattle.engines.specs.GatheredTraces.{GathersCommand, GathersLines, HasGathered, IsNext, IsNotOpened}
+use Rattle.run_files.specs.Trace.{Contents, with_header}
+use Rattle.engines.specs.GatheredTraces.{GathersCommand, GathersLines, HasGathered}
 use Rattle.engines.specs.TraceTexts.{end_text, note_text}
-use Rattle.engines.specs.Traces.{AnswersReadBy, AnswersSaid, HeaderMayNotOpen, HeaderMayOpen, IsRunText, IsTraceText, IsTraceWith, Stays, greatest_of, order_by}
-use Rattle.command_io.specs.declared.fault.Fault.{Fault}
-use Rattle.command_io.specs.declared.fault.Fault.TheVariants.{Refused, BadLine, Write}
-
--- what was taken from lines, where its test is known
-pub taken : (old new : LinesLeft) (next : Option (Command ℕ)) (c : Command ℕ) → next ≡ Some c → IsNext old new next
-    → old.said ≡ entries_after (c ∷ []) new.said
-taken old new None c there is = absurd (cc)
-taken old new (Some x) c there is = is.0 ∙ ap (λ (o : Option (Command ℕ)). elim o [ Some y ↦ entries_after (y ∷ []) new.said | None ↦ new.said ]) there
-
-pub none_taken : (old new : LinesLeft) (next : Option (Command ℕ)) → next ≡ None → IsNext old new next → old.said ≡ Ok []
-none_taken old new None there is = is
-none_taken old new (Some x) there is = absurd (cc)
+use Rattle.engines.specs.Traces.{HeaderMayOpen, IsRunText, greatest_of, order_by}
 
 module _ {O : Type 0} (o : Order ℕ) where
   -- a command more
@@ -116,14 +95,7 @@ run_text o h layout commands notes last text capacity limit a gathered = record 
 }
 
 -- what an engine answered that ran the lines behind a header
-module _ {W : Type 0} (contents : W → Option (List ℕ)) (h : Header) (said : Result (List (Command ℕ)) ℕ) (w w' : Output W) where
-  pub not_opened : (why : Refusal) → IsNotOpened h why → IsUnderstood said → AnswersSaid contents (with_header h said) w w (Err (Refused why))
-  not_opened refusal.OutOfMemory closed known = refl
-  not_opened refusal.BadCapacity closed known =
-      let (commands, says) = known in
-      (refl, (record { header = h; commands = commands }, ap (with_header h) says, closed))
-  not_opened _ closed known = absurd closed
-
+module _ (h : Header) (said : Result (List (Command ℕ)) ℕ) where
   module _ {O : Type 0} (o : Order ℕ) (same : o ≡ order_by h.closed) (old d : Driver O ℕ) (before text : List ℕ) (empty : before ≡ [])
       (opened : HasGathered o h [] [] old) (gathers : GathersLines o said old before d text) where
     all_gathered : HasGathered o h gathers.0 text d
@@ -145,33 +117,3 @@ module _ {W : Type 0} (contents : W → Option (List ℕ)) (h : Header) (said : 
           t.opens,
           (text ++ end_text left.sequence, subst (λ p. IsRunText p (record { header = h; commands = gathers.0 }) (text ++ end_text left.sequence)) same runs, put),
         )
-
--- what an engine answered that was given the bytes, where these are those that a reader had
-module _ {R W : Type 0} (remaining : R → Option (List ℕ)) (contents : W → Option (List ℕ)) (r r' : Counted R) (w w' : Output W)
-    (bytes : List ℕ) (whole : IfSome (remaining (device_of r)) (λ l. bytes ≡ l)) (none : NoneFailed r r') where
-  held : (P : List ℕ → Type 0) → P bytes → IfSome (remaining (device_of r)) P
-  held P holds = of_read (remaining (device_of r)) bytes P whole holds
-
-  pub answers_read : (result : Result (Unit {0}) Fault) → AnswersSaid contents (trace_of bytes) w w' result
-      → AnswersReadBy IsTraceText IsTraceText Stays remaining contents r r' w w' result
-  answers_read (Ok v) a =
-      let (c, reads, opens, (text, runs, wrote)) = a in (
-        none,
-        wrote.1,
-        held (λ read. (t : List ℕ) × IsTraceText read t × Delivered contents w w' t) (text, record { said = c; reads = reads; opens = opens; runs = runs }, wrote),
-      )
-  answers_read (Err (Refused refusal.OutOfMemory)) a = (none, a)
-  answers_read (Err (Refused refusal.BadCapacity)) a =
-      let (stays, known) = a in
-      let (c, reads, closed) = known in
-      (none, stays, held (IsTraceWith HeaderMayNotOpen) (record { said = c; reads = reads; header = closed }))
-  answers_read (Err (BadLine place n)) a =
-      let (stays, first, reads) = a in
-      (none, stays, first, held (λ read. trace_of read ≡ Err n) reads)
-  answers_read (Err Write) a =
-      let (c, reads, opens, (text, runs, wrote)) = a in (
-        none,
-        wrote.0,
-        held (λ read. (t : List ℕ) × IsTraceText read t × WrotePart contents w w' t) (text, record { said = c; reads = reads; opens = opens; runs = runs }, wrote),
-      )
-  answers_read (Err _) a = absurd a

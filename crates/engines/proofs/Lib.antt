@@ -10,7 +10,9 @@ mod WrittenLemmas
 mod RunLemmas
 -- lines of events from their parts
 mod EventLineLemmas
--- what is done and written of a trace whose steps are told, one event and one command after another
+-- commands that are taken from the lines of a trace, and what its engines answer
+mod TraceLineLemmas
+-- what is done and written of a trace whose steps are told, one command after another
 mod StepLemmas
 -- the text of a trace whose commands are run one after another
 mod GatheredLemmas

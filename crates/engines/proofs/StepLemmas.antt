@@ -1,336 +1,193 @@
--- What is done and written of a trace whose steps are told, one event and one command after another:
--- of the functions of steps.
-use Rattle.std.proofs.Common.{◌≡◌, ℕ, ◌+◌, ◌<◌, Bool, true, false, List, [], ◌∷◌, ◌++◌, length, take, get_or, Option, Ok, refl, sym, ◌∙◌, ap, subst, arith, append_assoc, append-nil, length-append, length-take-le, inl, inr, Err}
-use Rattle.std.specs.Prelude.{IfSome, slice_get}
-use Rattle.facts.proofs.Lists.{take_push}
-use Rattle.std.proofs.Math.Seq.{take-length}
-use Rattle.std.proofs.lemmas.Option.{slice_get_read}
-use Rattle.texts.specs.declared.output.Output.{Output}
-use Rattle.texts.specs.Output.{Delivers, Says, has_failed}
-use Rattle.texts.proofs.OutputLemmas.{all_delivered, all_written, nothing_said, part_written, same_text, then, then_flushed}
-use Rattle.run_files.specs.Trace.{Contents}
+-- What is done and written of a trace whose steps are told, one command after another: of the
+-- functions of steps.
+use Rattle.std.proofs.Common.{◌≡◌, ◌≢◌, ℕ, true, false, List, [], ◌∷◌, ◌++◌, Option, Result, Ok, Err, refl, sym, ◌∙◌, ap, subst, append_assoc, append-nil, inl, inr}
+use Rattle.std.specs.Prelude.{IfErr, IfSome, OnErr, OnOk}
+use Rattle.std.proofs.lemmas.List.{map-append}
+use Rattle.order_laws.specs.declared.refusals.Refusal.TheVariants as refusal
 use Rattle.order_laws.specs.Orders.{Order}
-use Rattle.word_layout.specs.Words.{at}
-use Rattle.word_layout.specs.declared.layouts.Layout.{Layout}
 use Rattle.word_layout.specs.Layouts.{capacity_of, limit_of}
 use Rattle.latch_steps.specs.declared.commands.Command.{Command}
-use Rattle.latch_steps.specs.declared.events.Event.{Event}
-use Rattle.latch_steps.specs.declared.replies.NextLoad.{NextLoad}
-use Rattle.latch_steps.specs.declared.replies.Reply.{Reply}
 use Rattle.latch_steps.specs.declared.worlds.World.{World}
-use Rattle.latch_steps.specs.Expands.{Expand, Repeats, ends, event_of, most_of}
-use Rattle.latch_steps.specs.Runs.{Done, Moment, last_of, opening, step_done}
+use Rattle.latch_steps.specs.Expands.{Repeats, most_of}
+use Rattle.latch_steps.specs.Reports.{AreReported, ObeysFromAny}
+use Rattle.latch_steps.specs.Runs.{Done, Moment, last_of, opening}
 use Rattle.latch_steps.specs.Steps.{Run, machine, machine_of}
-use Rattle.latch_steps.specs.WorldSteps.{Does}
-use Rattle.latch_steps.specs.Worlds.{HasEvents, HasSequence, RepresentsMoment, layout_in}
-use Rattle.latch_steps.proofs.RecorderLemmas.{IsUnended, expand_push, last_append, repeats_ended, repeats_full, run_append, unended_push}
-use Rattle.engines.specs.StepRuns.{AreCommandsTold, AreSomeTold, IsLoadBy, IsMemoryFault, IsTold, StopsTelling, Tells, TellsCommand, TellsCommands, TellsEvent}
-use Rattle.engines.specs.StepTexts.{event_text, load_by, opening_text, step_text, steps_text}
-use Rattle.engines.specs.StepTraces.{AnswersStepsIn, AreTold, IsStepsText}
-use Rattle.engines.specs.Traces.{HeaderMayOpen, greatest_of}
+use Rattle.latch_steps.specs.Worlds.{RepresentsMoment, layout_in}
+use Rattle.latch_steps.proofs.RunLemmas.{last_append, run_append}
+use Rattle.texts.specs.declared.output.Output.{Output}
+use Rattle.texts.specs.Output.{Delivers, Says, has_failed}
+use Rattle.texts.specs.Said.{entries_after}
+use Rattle.texts.proofs.OutputLemmas.{all_written, nothing_said, part_written, same_text, then, then_flushed}
+use Rattle.texts.proofs.ReadLemmas.{of_read}
+use Rattle.texts.proofs.SaidLemmas.{none_before, one_more}
+use Rattle.run_files.specs.declared.command_lines.NumberedCommand.{NumberedCommand}
+use Rattle.run_files.specs.declared.header.Header.{Header}
+use Rattle.run_files.specs.CommandLines.{IsTaken, IsUnderstood, LinesLeft}
+use Rattle.run_files.specs.Trace.{Contents, command_lines, trace_of, with_header}
 use Rattle.command_io.specs.declared.fault.Fault.{Fault}
-use Rattle.command_io.specs.declared.fault.Fault.TheVariants.{Write as WriteFault}
+use Rattle.command_io.specs.declared.fault.Fault.TheVariants.{Refused, BadLine, Write}
+use Rattle.engines.specs.StepRuns.{AreLinesTold, IsOpenedFor, StopsTelling, Tells}
+use Rattle.engines.specs.StepTexts.{opening_text, steps_text}
+use Rattle.engines.specs.StepTraces.{AnswersStepsSaid, AreTold, IsBegunOf, IsBegunText, IsFrontText, IsStepsText, StopsAfter}
+use Rattle.engines.specs.TraceLines.{IsLinesFault, commands_of, numbers_of}
+use Rattle.engines.specs.Traces.{IsTextOf, order_by}
+use Rattle.engines.proofs.WrittenLemmas.{said_written}
 
--- the lines of two runs one after the other
-pub steps_append : (o : Order ℕ) (n line : ℕ) (w : Moment ℕ) (run next : List (Done ℕ)) → steps_text o n line w (run ++ next) ≡ steps_text o n line w run ++ steps_text o n line (last_of w run) next
-steps_append o n line w [] next = refl
-steps_append o n line w (d ∷ run) next = ap (λ t. step_text o n line w d ++ t) (steps_append o n line d.after run next) ∙ sym (append_assoc (step_text o n line w d) (steps_text o n line d.after run) (steps_text o n line (last_of d.after run) next))
+-- the events of a run that were reported as lines
+reported_said : {W : Type 0} (o : Order ℕ) (contents : W → Option (List ℕ)) (n line : ℕ) (w : Moment ℕ) (run : List (Done ℕ)) (a b : Output W)
+    → AreReported o n (Tells contents line) w run a b → Says contents a b (steps_text o n line w run)
+reported_said o contents n line w [] a b h = subst (λ x. Says contents a x []) (sym h) (nothing_said a)
+reported_said o contents n line w (d ∷ run) a b h = then h.1 (reported_said o contents n line d.after run h.0 b h.2)
 
-module _ {O W : Type 0} (o : Order ℕ) (contents : W → Option (List ℕ)) (line : ℕ) where
-  pub line_told : (new : World O ℕ) (a b : Output W) (e : Event ℕ) (r : Reply ℕ) (load : Option (NextLoad ℕ)) (number sequence : ℕ)
-      → HasEvents o new number → HasSequence o new sequence → Says contents a b (event_text number line load e r sequence)
-      → IsTold o contents line load e r new a b
-  line_told new a b e r load number sequence events reads wrote next s =
-      let same : event_text number line load e r sequence ≡ event_text next.events line load e r (at next.latch.words 0) = (λ i. event_text (events next s i) line load e r (reads next s i)) in
-      same_text same wrote
+-- one command more
+told_push : (o : Order ℕ) (n : ℕ) (w : Moment ℕ) (cs : List NumberedCommand) (c : NumberedCommand) (run next : List (Done ℕ)) (text : List ℕ)
+    → AreTold o n w cs run text → Repeats c.command (most_of (last_of w run) c.command) next
+    → AreTold o n w (cs ++ c ∷ []) (run ++ next) (text ++ steps_text o n c.line (last_of w run) next)
+told_push o n w [] c run next text h again =
+    record {
+      part = next;
+      rest = [];
+      rest_text = [];
+      whole = ap (λ xs. xs ++ next) h.0 ∙ sym (append-nil next);
+      told = (λ i. h.1 i ++ steps_text o n c.line (last_of w (h.0 i)) next) ∙ sym (append-nil _);
+      repeats = subst (λ xs. Repeats c.command (most_of (last_of w xs) c.command) next) h.0 again;
+      goes_on = (refl, refl);
+    }
+told_push o n w (d ∷ cs) c run next text h again =
+    let there : last_of w run ≡ last_of (last_of w h.part) h.rest = ap (last_of w) h.whole ∙ last_append w h.part h.rest in
+    let last : List ℕ = steps_text o n c.line (last_of (last_of w h.part) h.rest) next in
+    record {
+      part = h.part;
+      rest = h.rest ++ next;
+      rest_text = h.rest_text ++ last;
+      whole = ap (λ xs. xs ++ next) h.whole ∙ append_assoc h.part h.rest next;
+      told = (λ i. h.told i ++ steps_text o n c.line (there i) next) ∙ append_assoc _ h.rest_text last;
+      repeats = h.repeats;
+      goes_on = told_push o n (last_of w h.part) cs c h.rest next h.rest_text h.goes_on (subst (λ v. Repeats c.command (most_of v c.command) next) there again);
+    }
 
-  pub event_told : (old new : World O ℕ) (a b : Output W) (e : Event ℕ) (r : Reply ℕ) (load : Option (NextLoad ℕ))
-      → Does o old e r new → layout_in new ≡ layout_in old → IsLoadBy o old e load → IsTold o contents line load e r new a b → TellsEvent o contents line e old new a b r
-  event_told old new a b e r load does lay loads told w s =
-      let d = does w s in
-      let n = capacity_of (layout_in old) in
-      let same : event_text d.0.events line load e r (at d.0.latch.words 0) ≡ event_text d.0.events line (load_by o n w e) e r (at d.0.latch.words 0) = (λ i. event_text d.0.events line (loads w s i) e r (at d.0.latch.words 0)) in
-      let said = same_text (same ∙ sym (append-nil _)) (told d.0 d.2) in
-      (d.0, record { layout = lay; steps = (d.1, tt); shows = d.2; said = said })
+-- lines of which a command is taken say more than nothing
+pub some_left : (left rest : LinesLeft) (c : NumberedCommand) → IsTaken left c rest → left.said ≢ Ok []
+some_left left rest c taken is = by rest.said (sym taken.said ∙ is)
+  where
+    by : (said : Result (List (Command ℕ)) ℕ) → entries_after (c.command ∷ []) said ≡ Ok [] → ⊥
+    by (Ok more) e = absurd (cc)
+    by (Err n) e = absurd (cc)
 
-  tells_none : (c : World O ℕ) (a : Output W) (w : Moment ℕ) → RepresentsMoment o c w → Tells o contents line c c a a w []
-  tells_none c a w s = record { layout = refl; steps = tt; shows = s; said = nothing_said a }
+module _ {O W : Type 0} (o : Order ℕ) (contents : W → Option (List ℕ)) (lines : LinesLeft) (old : World O ℕ) (a : Output W) where
+  pub lines_begun : AreLinesTold o contents lines lines old old a a
+  lines_begun = record {
+    front = [];
+    taken = record { said = none_before lines.said; numbers = refl };
+    told = λ w s. record { run = []; text = []; layout = refl; steps = tt; shows = s; told = (refl, refl); said = nothing_said a };
+  }
 
-  tells_append : (old mid new : World O ℕ) (a b c : Output W) (w : Moment ℕ) (run next : List (Done ℕ)) → Tells o contents line old mid a b w run → Tells o contents line mid new b c (last_of w run) next → Tells o contents line old new a c w (run ++ next)
-  tells_append old mid new a b c w run next x y =
-      let n = capacity_of (layout_in old) in
-      let there = same_text (ap (λ l. steps_text o (capacity_of l) line (last_of w run) next) x.layout) y.said in
-      record {
-        layout = y.layout ∙ x.layout;
-        steps = run_append o n (limit_of (layout_in old)) w run next x.steps (subst (λ l. Run (machine_of o l) (last_of w run) next) x.layout y.steps);
-        shows = subst (RepresentsMoment o new) (sym (last_append w run next)) y.shows;
-        said = same_text (sym (steps_append o n line w run next)) (then x.said there);
-      }
+  -- one command more of the lines
+  pub lines_more : (left rest : LinesLeft) (now new : World O ℕ) (b b' : Output W) (c : NumberedCommand) → AreLinesTold o contents lines left old now a b → IsTaken left c rest
+      → ObeysFromAny o (Tells contents c.line) c.command now new b b' → AreLinesTold o contents lines rest old new a b'
+  lines_more left rest now new b b' c h taken obeys = record {
+    front = h.front ++ c ∷ [];
+    taken = record {
+      said = ap (λ cs. entries_after cs rest.said) (map-append (λ (x : NumberedCommand). x.command) h.front (c ∷ []))
+          ∙ one_more (commands_of h.front) left.said lines.said h.taken.said c.command rest.said taken.said;
+      numbers = ap (λ ns. ns ++ rest.lines) (map-append (λ (x : NumberedCommand). x.line) h.front (c ∷ []))
+          ∙ append_assoc (numbers_of h.front) (c.line ∷ []) rest.lines
+          ∙ ap (λ ns. numbers_of h.front ++ ns) (sym taken.lines) ∙ h.taken.numbers;
+    };
+    told = λ w s.
+        let t = h.told w s in
+        let (run, done, repeats) = obeys (last_of w t.run) t.shows in
+        let l = layout_in old in
+        let n = capacity_of l in
+        let said = reported_said o contents (capacity_of (layout_in now)) c.line (last_of w t.run) run b b' done.reported in
+        record {
+          run = t.run ++ run;
+          text = t.text ++ steps_text o n c.line (last_of w t.run) run;
+          layout = done.layout ∙ t.layout;
+          steps = run_append o n (limit_of l) w t.run run t.steps (subst (λ k. Run (machine_of o k) (last_of w t.run) run) t.layout done.steps);
+          shows = subst (RepresentsMoment o new) (sym (last_append w t.run run)) done.shows;
+          told = told_push o n w h.front c t.run run t.text t.told repeats;
+          said = then t.said (same_text (ap (λ k. steps_text o (capacity_of k) c.line (last_of w t.run) run) t.layout) said);
+        };
+  }
 
-  -- a command's event so many times, none of which ends it
-  pub record Telling (c : Command ℕ) (old now : World O ℕ) (a b : Output W) (turn : ℕ) (w : Moment ℕ) : Type 0 where
-    pub run : List (Done ℕ)
-    pub tells : Tells o contents line old now a b w run
-    pub unended : IsUnended c run
-    pub turns : length run ≡ turn
+  -- no command more could be taken from the lines
+  pub next_stops : (left : LinesLeft) (now : World O ℕ) (b : Output W) (f : Fault) → AreLinesTold o contents lines left old now a b → has_failed b ≡ false
+      → left.said ≢ Ok [] → IsLinesFault left.said f → StopsTelling o contents lines old a b f
+  next_stops left now b (Refused refusal.OutOfMemory) t sound some is = (sound, (left, now, some, t))
+  next_stops left now b (BadLine place n) t sound some is = (is.0, sym t.taken.said ∙ ap (entries_after (commands_of t.front)) is.1)
+  next_stops left now b _ t sound some is = absurd is
 
-  module _ (c : Command ℕ) (old : World O ℕ) (a : Output W) where
-    pub telling_none : (w : Moment ℕ) → RepresentsMoment o old w → Telling c old old a a 0 w
-    telling_none w s = record { run = []; tells = tells_none old a w s; unended = tt; turns = refl }
+  -- memory ran out at a command, before anything of it was done
+  pub obey_stops : (left rest : LinesLeft) (now : World O ℕ) (b b' : Output W) (c : NumberedCommand) → AreLinesTold o contents lines left old now a b → has_failed b ≡ false
+      → IsTaken left c rest → b' ≡ b → StopsTelling o contents lines old a b' (Refused refusal.OutOfMemory)
+  obey_stops left rest now b b' c t sound taken same =
+      (ap has_failed same ∙ sound, (left, now, some_left left rest c taken, subst (λ x. AreLinesTold o contents lines left old now a x) (sym same) t))
 
-    pub telling_all : (now : World O ℕ) (b : Output W) (turn most : ℕ) (w : Moment ℕ) → Telling c old now a b turn w → turn ≡ most → (run : List (Done ℕ)) × Tells o contents line old now a b w run × Repeats c most run
-    telling_all now b turn most w h e = (h.run, h.tells, repeats_full c h.run most h.unended (h.turns ∙ e))
-
-    module _ (now new : World O ℕ) (b b' : Output W) (e : Event ℕ) (r : Reply ℕ) (whether : Bool) (turn : ℕ) (w : Moment ℕ) (h : Telling c old now a b turn w)
-        (told : TellsEvent o contents line e now new b b' r) (same : e ≡ event_of c) (tests : (v : Moment ℕ) → RepresentsMoment o new v → whether ≡ ends c r v) where
-      one : (next : Moment ℕ) × Tells o contents line old new a b' w (h.run ++ step_done e r next ∷ [])
-      one =
-          let d = told (last_of w h.run) h.tells.shows in
-          (d.0, tells_append old now new a b b' w h.run (step_done e r d.0 ∷ []) h.tells d.1)
-
-      tested : whether ≡ ends c r one.0
-      tested = tests one.0 (subst (RepresentsMoment o new) (last_append w h.run (step_done e r one.0 ∷ [])) one.1.shows)
-
-      pub telling_more : whether ≡ false → Telling c old new a b' (turn + 1) w
-      telling_more fails =
-          record {
-            run = h.run ++ step_done e r one.0 ∷ [];
-            tells = one.1;
-            unended = unended_push c h.run (step_done e r one.0) h.unended same (sym tested ∙ fails);
-            turns = length-append h.run (step_done e r one.0 ∷ []) ∙ ap (λ n. n + 1) h.turns;
-          }
-
-      pub telling_last : (most : ℕ) → turn < most → whether ≡ true → (run : List (Done ℕ)) × Tells o contents line old new a b' w run × Repeats c most run
-      telling_last most lt holds = (
-        h.run ++ step_done e r one.0 ∷ [],
-        one.1,
-        repeats_ended c h.run most (step_done e r one.0) h.unended (let t = h.turns in omega arith) same (sym tested ∙ holds),
-      )
-
--- one command more, on the line at a place of the list
-module _ (o : Order ℕ) (n : ℕ) (lines : List ℕ) where
-  told_push : (place end : ℕ) (w : Moment ℕ) (cs : List (Command ℕ)) (c : Command ℕ) (run next : List (Done ℕ)) (text : List ℕ)
-      → end ≡ place + length cs → AreTold o n lines place w cs run text → Repeats c (most_of (last_of w run) c) next
-      → AreTold o n lines place w (cs ++ c ∷ []) (run ++ next) (text ++ steps_text o n (at lines end) (last_of w run) next)
-  told_push place end w [] c run next text e h again =
-      let here : end ≡ place = omega arith in
-      record {
-        part = next;
-        rest = [];
-        rest_text = [];
-        whole = ap (λ xs. xs ++ next) h.0 ∙ sym (append-nil next);
-        told = (λ i. h.1 i ++ steps_text o n (at lines (here i)) (last_of w (h.0 i)) next) ∙ sym (append-nil _);
-        repeats = subst (λ xs. Repeats c (most_of (last_of w xs) c) next) h.0 again;
-        goes_on = (refl, refl);
-      }
-  told_push place end w (d ∷ cs) c run next text e h again =
-      let there : last_of w run ≡ last_of (last_of w h.part) h.rest = ap (last_of w) h.whole ∙ last_append w h.part h.rest in
-      let last : List ℕ = steps_text o n (at lines end) (last_of (last_of w h.part) h.rest) next in
-      record {
-        part = h.part;
-        rest = h.rest ++ next;
-        rest_text = h.rest_text ++ last;
-        whole = ap (λ xs. xs ++ next) h.whole ∙ append_assoc h.part h.rest next;
-        told = (λ i. h.told i ++ steps_text o n (at lines end) (there i) next) ∙ append_assoc _ h.rest_text last;
-        repeats = h.repeats;
-        goes_on = told_push (place + 1) end (last_of w h.part) cs c h.rest next h.rest_text (omega arith) h.goes_on (subst (λ v. Repeats c (most_of v c) next) there again);
-      }
-
-module _ {O W : Type 0} (o : Order ℕ) (contents : W → Option (List ℕ)) (lines : List ℕ) (old : World O ℕ) (a : Output W) (w : Moment ℕ) where
-  pub commands_none : RepresentsMoment o old w → AreCommandsTold o contents lines [] old old a a w
-  commands_none s = record { run = []; text = []; layout = refl; steps = tt; shows = s; expands = refl; told = (refl, refl); said = nothing_said a }
-
-  -- one command more of a list
-  pub commands_more : (now new : World O ℕ) (b b' : Output W) (cs : List (Command ℕ)) (i line : ℕ) (c : Command ℕ)
-      → i < length cs → c ≡ get_or cs i c → line ≡ at lines i → AreCommandsTold o contents lines (take i cs) old now a b w
-      → TellsCommand o contents line c now new b b' → has_failed b' ≡ false → AreCommandsTold o contents lines (take (i + 1) cs) old new a b' w
-  commands_more now new b b' cs i line c there is on h tells sound =
-      let d = tells (last_of w h.run) h.shows in
-      let n = capacity_of (layout_in old) in
-      let l = layout_in old in
-      let some : length (take i cs) ≡ i = length-take-le {A = Command ℕ} i cs (omega arith) in
-      let many : i ≡ 0 + length (take i cs) = omega arith in
-      let whole = subst (λ turns. Repeats c turns d.0) (d.4 sound) d.3 in
-      let more = expand_push w (take i cs) c h.run d.0 h.expands whole in
-      let told = told_push o n lines 0 i w (take i cs) c h.run d.0 h.text many h.told whole in
-      let said = same_text (ap (λ k. steps_text o (capacity_of k) line (last_of w h.run) d.0) h.layout) d.1.said in
-      let said_on = same_text (ap (λ at_line. steps_text o n at_line (last_of w h.run) d.0) on) said in
-      let all = take_push cs i c there is in
-      record {
-        run = h.run ++ d.0;
-        text = h.text ++ steps_text o n (at lines i) (last_of w h.run) d.0;
-        layout = d.1.layout ∙ h.layout;
-        steps = run_append o n (limit_of l) w h.run d.0 h.steps (subst (λ k. Run (machine_of o k) (last_of w h.run) d.0) h.layout d.1.steps);
-        shows = subst (RepresentsMoment o new) (sym (last_append w h.run d.0)) d.1.shows;
-        expands = subst (λ xs. Expand w xs (h.run ++ d.0)) all more;
-        told = subst (λ xs. AreTold o n lines 0 w xs (h.run ++ d.0) (h.text ++ steps_text o n (at lines i) (last_of w h.run) d.0)) all told;
-        said = then h.said said_on;
-      }
-
-  -- some turns of a command more
-  pub commands_cut : (now new : World O ℕ) (b b' : Output W) (cs : List (Command ℕ)) (i line : ℕ) (c : Command ℕ)
-      → i < length cs → c ≡ get_or cs i c → line ≡ at lines i → AreCommandsTold o contents lines (take i cs) old now a b w
-      → TellsCommand o contents line c now new b b' → AreSomeTold o contents lines cs i old a b' w
-  commands_cut now new b b' cs i line c there is on h tells =
-      let d = tells (last_of w h.run) h.shows in
-      record {
-        now = now;
-        new = new;
-        between = b;
-        told = h;
-        part = d.0;
-        tells = subst (λ at_line. Tells o contents at_line now new b b' (last_of w h.run) d.0) on d.1;
-        turns = d.2;
-        repeats = subst (λ at_place. IfSome at_place (λ x. Repeats x d.2 d.0)) (sym (slice_get_read cs (length cs) i c refl there is)) d.3;
-      }
-
--- memory ran out at a command of a list
-pub stops_at : {O W : Type 0} (o : Order ℕ) (contents : W → Option (List ℕ)) (lines : List ℕ) (cs : List (Command ℕ)) (old now : World O ℕ) (a b c : Output W) (place : ℕ) (f : Fault)
-    → place < length cs → TellsCommands o contents lines (take place cs) old now a b → has_failed b ≡ false → IsMemoryFault o now b c f → StopsTelling o contents lines cs old a c f
-stops_at o contents lines cs old now a b c place f within told sound h =
-    inl (
-      h.0,
-      (
-        place,
-        within,
-        (
-          now,
-          λ w s.
-              let t = told w s in
-              let same = h.1 (last_of w t.run) t.shows in
-              (ap has_failed same ∙ sound, subst (λ d. AreCommandsTold o contents lines (take place cs) old now a d w) (sym same) t),
-        ),
-      ),
-    )
-
-past_the_last : (cs : List (Command ℕ)) → IfSome (slice_get cs (length cs)) (λ c. Repeats c 0 [])
-past_the_last [] = tt
-past_the_last (c ∷ cs) = past_the_last cs
-
-none_of_it : (cs : List (Command ℕ)) → IfSome (slice_get cs 0) (λ c. Repeats c 0 [])
-none_of_it [] = tt
-none_of_it (c ∷ cs) = refl
+-- what is left of commands, some of which were taken
+left_of : (front whole : List (Command ℕ)) (left : Result (List (Command ℕ)) ℕ) → entries_after front left ≡ Ok whole
+    → (rest : List (Command ℕ)) × (left ≡ Ok rest) × (front ++ rest ≡ whole)
+left_of front whole (Ok rest) is = (rest, refl, let same : front ++ rest ≡ whole = cc in same)
+left_of front whole (Err n) is = absurd (cc)
 
 -- from the opening to the last byte
-module _ {O W : Type 0} (o : Order ℕ) (contents : W → Option (List ℕ)) (said : Contents) (lines : List ℕ) (l : Layout) (world : World O ℕ) (a b c : Output W)
-    (lay : layout_in world ≡ l) (cap : capacity_of l ≡ said.header.capacity) (lim : limit_of l ≡ greatest_of said.header.version) (opens : HeaderMayOpen said.header)
-    (shows : RepresentsMoment o world (opening (capacity_of l) said.header.start))
-    (first : Says contents a b (opening_text said.header)) where
-  cap' : capacity_of (layout_in world) ≡ said.header.capacity
-  cap' = ap capacity_of lay ∙ cap
+module _ {O W : Type 0} (o : Order ℕ) (contents : W → Option (List ℕ)) (h : Header) (lines : LinesLeft) (known : IsUnderstood lines.said) (same : o ≡ order_by h.closed)
+    (world : World O ℕ) (opened : IsOpenedFor o h world) (a b : Output W) (first : Says contents a b (opening_text h)) where
+  abbrev c : Contents
+  c = record { header = h; commands = known.0 }
 
-  lim' : limit_of (layout_in world) ≡ greatest_of said.header.version
-  lim' = ap limit_of lay ∙ lim
+  says : with_header h lines.said ≡ Ok c
+  says = ap (with_header h) known.1
 
-  begins : RepresentsMoment o world (opening said.header.capacity said.header.start)
-  begins = subst (λ n. RepresentsMoment o world (opening n said.header.start)) cap shows
+  module _ (left : LinesLeft) (new : World O ℕ) (b' : Output W) (t : AreLinesTold o contents lines left world new b b') where
+    rest : (rest : List (Command ℕ)) × (left.said ≡ Ok rest) × (commands_of t.front ++ rest ≡ known.0)
+    rest = left_of (commands_of t.front) known.0 left.said (t.taken.said ∙ known.1)
 
-  run_here : (w : Moment ℕ) (run : List (Done ℕ)) → Run (machine_of o (layout_in world)) w run → Run (machine o said.header.capacity (greatest_of said.header.version)) w run
-  run_here w run steps =
-      subst (λ m. Run (machine o said.header.capacity m) w run) lim' (subst (λ n. Run (machine o n (limit_of (layout_in world))) w run) cap' steps)
-
-  -- the steps of commands, behind the opening
-  steps_said : (cs : List (Command ℕ)) (last : World O ℕ) (d : Output W) → AreCommandsTold o contents lines cs world last b d (opening said.header.capacity said.header.start)
-      → (text : List ℕ) × IsStepsText o (record said { commands = cs }) lines text × Says contents a d text
-  steps_said cs last d told =
-      let h = said.header in
-      let w = opening h.capacity h.start in (
-        opening_text h ++ told.text,
-        record {
+    -- the steps of the commands that were taken, after the opening
+    front_said : (text : List ℕ) × IsFrontText (order_by h.closed) c lines.lines rest.0 left.lines text × Says contents a b' text
+    front_said =
+        let w : Moment ℕ = opening h.capacity h.start in
+        let told = t.told w opened.shows in
+        let here : IsFrontText o c lines.lines rest.0 left.lines (opening_text h ++ told.text) = record {
+          front = t.front;
+          commands = rest.2;
+          numbers = t.taken.numbers;
           run = told.run;
-          steps = run_here w told.run told.steps;
-          expands = told.expands;
+          steps = subst (λ m. Run (machine o h.capacity m) w told.run) opened.limit (subst (λ n. Run (machine o n (limit_of (layout_in world))) w told.run) opened.capacity told.steps);
           text = told.text;
-          told = subst (λ n. AreTold o n lines 0 w cs told.run told.text) cap' told.told;
+          told = subst (λ n. AreTold o n w t.front told.run told.text) opened.capacity told.told;
           whole = refl;
-        },
-        then first told.said,
-      )
+        } in
+        (opening_text h ++ told.text, subst (λ p. IsFrontText p c lines.lines rest.0 left.lines (opening_text h ++ told.text)) same here, then first told.said)
 
-  pub steps_answered : (last : World O ℕ) (d : Output W) → TellsCommands o contents lines said.commands world last b c → Delivers contents c d [] → has_failed d ≡ false → AnswersStepsIn o contents said lines a d (Ok tt)
-  steps_answered last d told flushed sound =
-      let whole = steps_said said.commands last c (told _ begins) in
-      (opens, (whole.0, whole.1, all_delivered (then_flushed whole.2 flushed) sound))
+    pub steps_cut : has_failed b' ≡ true → AnswersStepsSaid contents lines.lines (with_header h lines.said) a b' (Err Write)
+    steps_cut failed = (c, says, opened.opens, (front_said.0, (rest.0, left.lines, front_said.1), part_written front_said.2 failed))
 
-  -- the flush failed, or what stood before it
-  pub steps_unflushed : (last : World O ℕ) (d : Output W) → TellsCommands o contents lines said.commands world last b c → Delivers contents c d [] → has_failed d ≡ true → AnswersStepsIn o contents said lines a d (Err WriteFault)
-  steps_unflushed last d told flushed failed =
-      let whole = steps_said said.commands last c (told _ begins) in
-      let all : said.commands ≡ take (length said.commands) said.commands = sym (take-length said.commands) in (
-        opens,
-        (
-          whole.0,
-          record {
-            opens = opens;
-            place = length said.commands;
-            before = whole.0;
-            begun = subst (λ cs. IsStepsText o (record said { commands = cs }) lines whole.0) all whole.1;
-            part = [];
-            turns = 0;
-            repeats = past_the_last said.commands;
-            steps = tt;
-            whole = sym (append-nil whole.0);
-          },
-          part_written (then_flushed whole.2 flushed).0 failed,
-        ),
-      )
+    steps_begun : has_failed b' ≡ false → left.said ≢ Ok [] → AnswersStepsSaid contents lines.lines (with_header h lines.said) a b' (Err (Refused refusal.OutOfMemory))
+    steps_begun sound some =
+        let more : rest.0 ≢ [] = λ none. some (rest.1 ∙ ap (λ cs. Ok cs) none) in
+        inr (front_said.0, (c, says, opened.opens, (rest.0, left.lines, more, front_said.1)), all_written front_said.2 sound)
 
-  -- the opening failed
-  pub steps_unopened : has_failed b ≡ true → AnswersStepsIn o contents said lines a b (Err WriteFault)
-  steps_unopened failed =
-      let begun = steps_said [] world b (commands_none o contents lines world b _ begins) in (
-        opens,
-        (
-          begun.0,
-          record {
-            opens = opens;
-            place = 0;
-            before = begun.0;
-            begun = begun.1;
-            part = [];
-            turns = 0;
-            repeats = none_of_it said.commands;
-            steps = tt;
-            whole = sym (append-nil begun.0);
-          },
-          part_written begun.2 failed,
-        ),
-      )
+    -- all of it, if the flush did not fail
+    pub steps_ended : left.said ≡ Ok [] → left.lines ≡ [] → (d : Output W) → Delivers contents b' d [] → (r : Result (Unit {0}) Fault)
+        → OnOk r (has_failed d ≡ false) → OnErr r (has_failed d ≡ true) → IfErr r (λ f. f ≡ Write) → AnswersStepsSaid contents lines.lines (with_header h lines.said) a d r
+    steps_ended ended none d flushed r sound failed is =
+        let gone : rest.0 ≡ [] = (let e = sym rest.1 ∙ ended in cc) in
+        let text = front_said.0 in
+        let whole : IsStepsText c lines.lines text = subst (λ ls. IsFrontText (order_by h.closed) c lines.lines [] ls text) none (subst (λ cs. IsFrontText (order_by h.closed) c lines.lines cs left.lines text) gone front_said.1) in
+        said_written contents a d text (then_flushed front_said.2 flushed) (AnswersStepsSaid contents lines.lines (with_header h lines.said) a d)
+        (λ u all. (c, says, opened.opens, (text, whole, all))) (λ part. (c, says, opened.opens, (text, ([], [], whole), part))) r sound failed is
 
-  -- a call of the writer failed at a command
-  steps_cut : (place : ℕ) → AreSomeTold o contents lines said.commands place world b c (opening said.header.capacity said.header.start) → has_failed c ≡ true → AnswersStepsIn o contents said lines a c (Err WriteFault)
-  unfolding steps_said
-  steps_cut place some failed =
-      let h = said.header in
-      let w = opening h.capacity h.start in
-      let before = steps_said (take place said.commands) some.now some.between some.told in
-      let v = last_of w some.told.run in
-      let there = same_text (ap (λ n. steps_text o n (at lines place) v some.part) (ap capacity_of some.told.layout ∙ cap')) some.tells.said in (
-        opens,
-        (
-          before.0 ++ steps_text o h.capacity (at lines place) v some.part,
-          record {
-            opens = opens;
-            place = place;
-            before = before.0;
-            begun = before.1;
-            part = some.part;
-            turns = some.turns;
-            repeats = some.repeats;
-            steps = run_here v some.part (subst (λ k. Run (machine_of o k) v some.part) some.told.layout some.tells.steps);
-            whole = refl;
-          },
-          part_written (then before.2 there) failed,
-        ),
-      )
+  -- what an engine answers that stopped
+  pub steps_stopped : (b' : Output W) (f : Fault) → StopsTelling o contents lines world b b' f → AnswersStepsSaid contents lines.lines (with_header h lines.said) a b' (Err f)
+  steps_stopped b' (Refused refusal.OutOfMemory) (sound, (left, new, some, t)) = steps_begun left new b' t sound some
+  steps_stopped b' Write (failed, (left, new, t)) = steps_cut left new b' t failed
+  steps_stopped b' (BadLine place n) (first_file, bad) = let e = sym known.1 ∙ bad in absurd (cc)
+  steps_stopped b' _ stopped = absurd stopped
 
-  pub steps_stopped : (f : Fault) → StopsTelling o contents lines said.commands world b c f → AnswersStepsIn o contents said lines a c (Err f)
-  steps_stopped f (inl h) =
-      let (is, (place, within, (last, at_opening))) = h in
-      let (sound, told) = at_opening _ begins in
-      let begun = steps_said (take place said.commands) last c told in
-      subst (λ (g : Fault). AnswersStepsIn o contents said lines a c (Err g)) (sym is)
-      (inr (begun.0, record { opens = opens; place = place; within = within; begun = begun.1 }, all_written begun.2 sound))
-  steps_stopped f (inr h) =
-      let (is, failed, (place, some)) = h in
-      subst (λ (g : Fault). AnswersStepsIn o contents said lines a c (Err g)) (sym is) (steps_cut place (some _ begins) failed)
+-- what was written before memory ran out, if the bytes are those that a reader had
+pub begun_read : {W : Type 0} (contents : W → Option (List ℕ)) (had : Option (List ℕ)) (bytes : List ℕ) → IfSome had (λ l. bytes ≡ l) → (w w' : Output W) → StopsAfter (IsBegunOf (command_lines bytes) (trace_of bytes)) contents w w'
+    → StopsAfter (λ text. IfSome had (λ read. IsTextOf (λ bytes said. IsBegunText said (command_lines bytes)) read text)) contents w w'
+begun_read contents had bytes whole w w' (inl same) = inl same
+begun_read contents had bytes whole w w' (inr (text, (c, reads, opens, begun), wrote)) =
+    inr (text, of_read had bytes (λ read. IsTextOf (λ bytes said. IsBegunText said (command_lines bytes)) read text) whole (record { said = c; reads = reads; opens = opens; runs = begun }), wrote)

@@ -14,7 +14,7 @@ use Rattle.run_files.specs.declared.header.Header.{Header}
 use Rattle.run_files.specs.CommandLines.{LinesLeft}
 use Rattle.texts.specs.Said.{entries_after}
 use Rattle.engines.specs.TraceTexts.{note_text}
-use Rattle.engines.specs.Traces.{HeaderMayNotOpen, HeaderMayOpen, greatest_of}
+use Rattle.engines.specs.Traces.{HeaderMayOpen, greatest_of}
 use Rattle.command_io.specs.declared.fault.Fault.{Fault}
 use Rattle.command_io.specs.declared.fault.Fault.TheVariants.{Refused, BadLine}
 
@@ -31,12 +31,6 @@ pub record HasGathered {O : Type 0} (o : Order ℕ) (h : Header) (commands : Lis
   pub none : notes_in d ≡ []
   pub gathered : text ≡ flat_map note_text notes
 
--- no table is opened
-abbrev pub IsNotOpened : Header → Refusal → Type 0
-IsNotOpened h refusal.OutOfMemory = Unit {0}
-IsNotOpened h refusal.BadCapacity = HeaderMayNotOpen h
-IsNotOpened h _ = ⊥
-
 -- whatever was gathered, then this command, too
 abbrev pub GathersCommand : {O : Type 0} → Order ℕ → Command ℕ → Driver O ℕ → List ℕ → Driver O ℕ → List ℕ
     → Type 0
@@ -51,14 +45,3 @@ GathersLines o said old before new after =
     (more : List (Command ℕ)) × (said ≡ Ok more)
     × ((h : Header) (commands : List (Command ℕ)) → HasGathered o h commands before old
     → HasGathered o h (commands ++ more) after new)
-
--- the next command of lines, if there is one, was taken from them
-abbrev pub IsNext : LinesLeft → LinesLeft → Option (Command ℕ) → Type 0
-IsNext old new None = old.said ≡ Ok []
-IsNext old new (Some c) = (old.said ≡ entries_after (c ∷ []) new.said) × (new.bytes < old.bytes)
-
--- memory ran out, or a line is bad
-abbrev pub IsLinesFault : Result (List (Command ℕ)) ℕ → Fault → Type 0
-IsLinesFault said (Refused refusal.OutOfMemory) = Unit {0}
-IsLinesFault said (BadLine place n) = (place ≡ 0) × (said ≡ Err n)
-IsLinesFault said _ = ⊥

@@ -3,6 +3,8 @@
 pub mod TraceTexts
 -- what is written for a trace that is read
 pub mod Traces
+-- the lines of a trace that are left
+pub mod TraceLines
 -- the text of a trace whose commands are run one after another
 pub mod GatheredTraces
 -- the table of a catalog's regions, and the answer that it has for an address

@@ -1,12 +1,11 @@
 -- The lines that the steps of a trace write, an object of JSON each.
 use Rattle.std.specs.Prelude.{ℕ, ◌==◌, if◌then◌else◌, Bool, List, [], ◌∷◌, ◌++◌, codes, flat_map}
-use Rattle.std.specs.Prelude.{Option, None}
+use Rattle.std.specs.Prelude.{Option}
 use Rattle.std.specs.Option.{option_map_or}
 use Rattle.order_laws.specs.declared.items.Item.{Item}
 use Rattle.order_laws.specs.declared.refusals.Refusal.{Refusal}
 use Rattle.order_laws.specs.Orders.{Order}
 use Rattle.order_laws.specs.Refusals.{refusal_number}
-use Rattle.word_layout.specs.Words.{at}
 use Rattle.word_layout.specs.declared.stores.Store.{Store}
 use Rattle.table_updates.specs.declared.updates.Update.{Update}
 use Rattle.table_updates.specs.Updates.{erased, inserted}
@@ -18,7 +17,8 @@ use Rattle.latch_steps.specs.declared.replies.Reply.{Reply}
 use Rattle.latch_steps.specs.declared.replies.Reply.TheVariants.{Begun, Wrote, Started, Loaded}
 use Rattle.latch_steps.specs.declared.replies.Reply.TheVariants.{Retried, Refused}
 use Rattle.latch_steps.specs.declared.replies.Reply.TheVariants.{Returned as ReturnedReply}
-use Rattle.latch_steps.specs.NextLoads.{load_of}
+use Rattle.latch_steps.specs.declared.reports.Outcome.{Outcome}
+use Rattle.latch_steps.specs.Reports.{outcome_of}
 use Rattle.latch_steps.specs.Runs.{Moment, Done}
 use Rattle.texts.specs.Exact.{hexadecimal}
 use Rattle.run_files.specs.declared.header.Header.{Header}
@@ -131,23 +131,15 @@ done_members load (Read r) reply = read_members r load reply
 abbrev pub line_end : ℕ → List ℕ
 line_end sequence = json_count (codes ",\"sequence\":") sequence ++ codes "}\n"
 
--- the line of an event of this number that a line of the trace asked for, after which the sequence
--- is this
-unfoldable pub event_text : ℕ → ℕ → Option (NextLoad ℕ) → Event ℕ → Reply ℕ → ℕ → List ℕ
-event_text number line load e reply sequence =
-    json_count (codes "{\"event\":") number ++ json_count (codes ",\"line\":") line
-    ++ codes ",\"kind\":" ++ done_members load e reply ++ line_end sequence
-
--- what an event loads at a moment, if it is a load
-abbrev pub load_by : {K : Type 0} → Order K → ℕ → Moment K → Event K → Option (NextLoad K)
-load_by o n w (Read r) = load_of o n w r
-load_by o n w _ = None
+-- the line of an event that a command on this line of the trace asked for
+unfoldable pub event_text : ℕ → Event ℕ → Outcome ℕ → List ℕ
+event_text line e x =
+    json_count (codes "{\"event\":") x.number ++ json_count (codes ",\"line\":") line
+    ++ codes ",\"kind\":" ++ done_members x.load e x.reply ++ line_end x.sequence
 
 -- the line of an event that was done at a moment
 abbrev pub step_text : Order ℕ → ℕ → ℕ → Moment ℕ → Done ℕ → List ℕ
-step_text o n line w d =
-    event_text d.after.events line (load_by o n w d.event) d.event d.reply
-    (at d.after.latch.words 0)
+step_text o n line w d = event_text line d.event (outcome_of o n w d)
 
 -- the lines of all events of a run from a moment
 abbrev pub steps_text : Order ℕ → ℕ → ℕ → Moment ℕ → List (Done ℕ) → List ℕ

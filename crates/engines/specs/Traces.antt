@@ -6,6 +6,7 @@ use Rattle.texts.specs.Counted.{NoneFailed, Rose, device_of, failures_of}
 use Rattle.texts.specs.declared.output.Output.{Output}
 use Rattle.texts.specs.Output.{Delivered, WrotePart, has_failed}
 use Rattle.order_laws.specs.Orders.{Order, closed, half_open}
+use Rattle.order_laws.specs.declared.refusals.Refusal.{Refusal}
 use Rattle.order_laws.specs.declared.refusals.Refusal.TheVariants as refusal
 use Rattle.word_layout.specs.Limits.{most_nodes, greatest_sequence, greatest_wide_sequence}
 use Rattle.word_layout.specs.Words.{at}
@@ -40,6 +41,12 @@ pub record HeaderMayOpen (h : Header) : Type 0 where
 abbrev pub HeaderMayNotOpen : Header → Type 0
 HeaderMayNotOpen h = ¬ HeaderMayOpen h
 
+-- a header asks for a table, and none is opened
+abbrev pub IsNotOpened : Header → Refusal → Type 0
+IsNotOpened h refusal.OutOfMemory = Unit {0}
+IsNotOpened h refusal.BadCapacity = HeaderMayNotOpen h
+IsNotOpened h _ = ⊥
+
 -- the order of items that a header names
 abbrev pub order_by : Bool → Order ℕ
 order_by true = closed
@@ -61,13 +68,18 @@ pub record IsRunText (o : Order ℕ) (said : Contents) (written : List ℕ) : Ty
       ≡ flat_map note_text (notes_of run)
       ++ end_text (at (last_of (opening said.header.capacity said.header.start) run).latch.words 0)
 
+-- so in the order that the header names
+abbrev pub IsTraceRun : Contents → List ℕ → Type 0
+IsTraceRun said written = IsRunText (order_by said.header.closed) said written
+
 -- The bytes that are read and those that are written: the lines are a header and commands, and what
--- is written is the text of a run of these commands.
-pub record IsTraceText (read written : List ℕ) : Type 0 where
+-- is written is the text of a run of these commands, as `IsRun` says.
+pub record IsTextOf (IsRun : List ℕ → Contents → List ℕ → Type 0) (read written : List ℕ)
+    : Type 0 where
   pub said : Contents
   pub reads : trace_of read ≡ Ok said
   pub opens : HeaderMayOpen said.header
-  pub runs : IsRunText (order_by said.header.closed) said written
+  pub runs : IsRun read said written
 
 -- the trace is in the grammar, and its header is such a one
 pub record IsTraceWith (P : Header → Type 0) (read : List ℕ) : Type 0 where
@@ -75,20 +87,25 @@ pub record IsTraceWith (P : Header → Type 0) (read : List ℕ) : Type 0 where
   pub reads : trace_of read ≡ Ok said
   pub header : P said.header
 
--- What an engine returns that ran a trace of this header from one state of the writer to another,
--- if `IsText` says what a run writes, `IsBegun` what it writes until a call fails, and
--- `IsRefused` what became of the writer if memory ran out. A call of it failed if the answer says
--- so, and else none.
-abbrev pub AnswersBy : {W : Type 0} → (List ℕ → Type 0) → (List ℕ → Type 0) → (Output W → Output W → Type 0)
-    → (W → Option (List ℕ)) → Header → Output W → Output W → Result (Unit {0}) Fault → Type 0
-AnswersBy IsText IsBegun IsRefused contents header w w' (Ok _) =
-    HeaderMayOpen header × ((text : List ℕ) × IsText text × Delivered contents w w' text)
-AnswersBy IsText IsBegun IsRefused contents header w w' (Err (Refused refusal.OutOfMemory)) = IsRefused w w'
-AnswersBy IsText IsBegun IsRefused contents header w w' (Err (Refused refusal.BadCapacity)) =
-    (w' ≡ w) × HeaderMayNotOpen header
-AnswersBy IsText IsBegun IsRefused contents header w w' (Err Write) =
-    HeaderMayOpen header × ((text : List ℕ) × IsBegun text × WrotePart contents w w' text)
-AnswersBy IsText IsBegun IsRefused contents header w w' (Err _) = ⊥
+-- What an engine returns that was given what the lines of a trace say: `IsRun` says what a run
+-- writes, `IsBegun` what is said of it until a call of the writer fails, and `IsRefused` what became
+-- of the writer if memory ran out. A bad line leaves the writer as it was.
+abbrev pub AnswersSaidBy : {W : Type 0} → (Contents → List ℕ → Type 0)
+    → (Contents → List ℕ → Type 0) → (Output W → Output W → Type 0) → (W → Option (List ℕ))
+    → Result Contents ℕ → Output W → Output W → Result (Unit {0}) Fault → Type 0
+AnswersSaidBy IsRun IsBegun IsRefused contents said w w' (Ok _) =
+    (c : Contents) × (said ≡ Ok c) × HeaderMayOpen c.header
+    × ((text : List ℕ) × IsRun c text × Delivered contents w w' text)
+AnswersSaidBy IsRun IsBegun IsRefused contents said w w' (Err (Refused refusal.OutOfMemory)) =
+    IsRefused w w'
+AnswersSaidBy IsRun IsBegun IsRefused contents said w w' (Err (Refused refusal.BadCapacity)) =
+    (w' ≡ w) × ((c : Contents) × (said ≡ Ok c) × HeaderMayNotOpen c.header)
+AnswersSaidBy IsRun IsBegun IsRefused contents said w w' (Err (BadLine place n)) =
+    (w' ≡ w) × (place ≡ 0) × (said ≡ Err n)
+AnswersSaidBy IsRun IsBegun IsRefused contents said w w' (Err Write) =
+    (c : Contents) × (said ≡ Ok c) × HeaderMayOpen c.header
+    × ((text : List ℕ) × IsBegun c text × WrotePart contents w w' text)
+AnswersSaidBy IsRun IsBegun IsRefused contents said w w' (Err _) = ⊥
 
 -- What an engine returns that also read the trace, if the bytes of the reader are known: `IsText`
 -- and `IsBegun` take them and those that are written. A bad line leaves the writer as it was.
@@ -119,26 +136,14 @@ AnswersReadBy IsText IsBegun IsRefused remaining contents r r' w w' (Err _) = �
 abbrev pub Stays : {W : Type 0} → Output W → Output W → Type 0
 Stays w w' = w' ≡ w
 
--- What an engine returns that ran a trace whose lines say this, and wrote its notes at the
--- end.
+-- what an engine returns that ran a trace whose lines say this, and wrote its notes at the end
 abbrev pub AnswersSaid : {W : Type 0} → (W → Option (List ℕ)) → Result Contents ℕ
     → Output W → Output W → Result (Unit {0}) Fault → Type 0
-AnswersSaid contents said w w' (Ok _) =
-    (c : Contents) × (said ≡ Ok c) × HeaderMayOpen c.header
-    × ((text : List ℕ) × IsRunText (order_by c.header.closed) c text
-    × Delivered contents w w' text)
-AnswersSaid contents said w w' (Err (Refused refusal.OutOfMemory)) = w' ≡ w
-AnswersSaid contents said w w' (Err (Refused refusal.BadCapacity)) =
-    (w' ≡ w) × ((c : Contents) × (said ≡ Ok c) × HeaderMayNotOpen c.header)
-AnswersSaid contents said w w' (Err (BadLine place n)) = (w' ≡ w) × (place ≡ 0) × (said ≡ Err n)
-AnswersSaid contents said w w' (Err Write) =
-    (c : Contents) × (said ≡ Ok c) × HeaderMayOpen c.header
-    × ((text : List ℕ) × IsRunText (order_by c.header.closed) c text
-    × WrotePart contents w w' text)
-AnswersSaid contents said w w' (Err _) = ⊥
+AnswersSaid contents = AnswersSaidBy IsTraceRun IsTraceRun Stays contents
 
 -- and also read it
 abbrev pub AnswersTrace : {R W : Type 0} → (R → Option (List ℕ)) → (W → Option (List ℕ))
     → Counted R → Counted R → Output W → Output W → Result (Unit {0}) Fault → Type 0
 AnswersTrace remaining contents =
-    AnswersReadBy IsTraceText IsTraceText Stays remaining contents
+    AnswersReadBy (IsTextOf (λ read. IsTraceRun)) (IsTextOf (λ read. IsTraceRun)) Stays
+    remaining contents

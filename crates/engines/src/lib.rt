@@ -15,6 +15,7 @@ mod step_texts;
 mod steps;
 mod table;
 mod trace;
+mod trace_lines;
 mod trace_texts;
 
 pub use lookup::{LookupOptions, lookup_engine};

@@ -12,7 +12,7 @@ ghost use Rattle.engines.specs.StepTexts.{update_members, version_number, word_m
 ghost use Rattle.engines.specs.StepTexts.{written_members};
 
 use command_io::{put_json_count, put_json_number};
-use latch_steps::{Event, NextLoad, Reply, Returned};
+use latch_steps::{Event, NextLoad, Outcome, Reply, Returned};
 use order_laws::{Item, Refusal};
 use run_files::{Header, Version};
 use std::io;
@@ -20,15 +20,6 @@ use std::io::Write;
 use table_updates::Update;
 use texts::Output;
 use word_layout::Store;
-
-/// Which event was done: its number, the line of the trace that asked for it, and the sequence
-/// after it.
-#[derive(Clone, Copy, Debug, PartialEq, Eq, Drop)]
-pub struct EventPlace {
-    pub number: u64,
-    pub line: u64,
-    pub sequence: u64,
-}
 
 /// Writes the line of the opening.
 #[tactic(auto, unfolding(crate::specs::StepTexts::opening_text))]
@@ -68,23 +59,21 @@ fn order_text(closed: bool) -> &'static [u8]
 /// No event has such a reply.
 const NO_REPLY: &[u8] = b"null";
 
-/// Writes the line of an event that had this reply; of a load there is also what is loaded.
+/// Writes the line of an event that a command on this line of the trace asked for.
 #[tactic(auto, unfolding(crate::specs::StepTexts::event_text))]
 pub fn put_event<W: Write>(
     writer: &mut Output<W>,
-    place: EventPlace,
-    load: Option<NextLoad<u64>>,
+    line: u64,
     event: &Event<u64>,
-    reply: &Reply<u64>,
+    outcome: &Outcome<u64>,
 )
-    ensures { Says W.contents writer.old writer.new
-        (event_text place.number place.line load event.now reply.now place.sequence) }
+    ensures { Says W.contents writer.old writer.new (event_text line event.now outcome.now) }
 {
-    put_json_count(writer, b"{\"event\":", place.number);
-    put_json_count(writer, b",\"line\":", place.line);
+    put_json_count(writer, b"{\"event\":", outcome.number);
+    put_json_count(writer, b",\"line\":", line);
     writer.put(b",\"kind\":");
-    put_done(writer, load, event, reply);
-    put_json_count(writer, b",\"sequence\":", place.sequence);
+    put_done(writer, outcome.load, event, &outcome.reply);
+    put_json_count(writer, b",\"sequence\":", outcome.sequence);
     writer.put(b"}\n");
 }
 

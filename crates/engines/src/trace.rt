@@ -3,25 +3,22 @@
 //! A command is run as soon as it is read, and what it came to is put after the text: neither
 //! commands nor notes are kept. The text goes out at the end, so that a bad line, or memory that
 //! runs out, leaves the output empty.
-ghost use Rattle.std.specs.Prelude.{◌≡◌, ◌<◌, ◌++◌, ◌↔◌, ◌⊎◌, [], IfErr, IfOk, IsErr, OnOk};
-ghost use Rattle.std.specs.Prelude.{flat_map};
-ghost use Rattle.run_files.specs.CommandLines.{IsUnderstood};
+ghost use Rattle.std.specs.Prelude.{◌≡◌, ◌++◌, [], IfErr, IfOk, flat_map};
 ghost use Rattle.run_files.specs.Trace.{trace_of, with_header};
-ghost use Rattle.word_layout.specs.Layouts.{capacity_of, limit_of};
-ghost use Rattle.word_layout.specs.Limits.{most_nodes};
+ghost use Rattle.engines.specs.TraceLines.{IsLinesFault};
 ghost use Rattle.engines.specs.TraceTexts.{note_text};
-ghost use Rattle.engines.specs.GatheredTraces.{IsLinesFault, IsNext, IsNotOpened, HasGathered, GathersCommand, GathersLines};
-ghost use Rattle.engines.specs.Traces.{AnswersSaid, AnswersTrace, greatest_of, order_by};
+ghost use Rattle.engines.specs.GatheredTraces.{GathersCommand, GathersLines, HasGathered};
+ghost use Rattle.engines.specs.Traces.{AnswersSaid, AnswersTrace, IsNotOpened, order_by};
 
+use crate::trace_lines::{layout_for, next_command, understand};
 use crate::trace_texts::{put_end, put_notes};
 use command_io::{Fault, all_written, read_at};
 use latch_steps::{Command, Driver, Note};
 use order_laws::{Closed, HalfOpen, Refusal, TreeOrder};
-use run_files::{CommandLines, Header, Version, open_trace};
+use run_files::{CommandLines, Header, open_trace};
 use std::alloc::{AllocError, Global};
 use std::io::{Read, Write};
 use texts::{Counted, Output};
-use word_layout::Layout;
 
 /// Runs a trace, and writes a line for each lookup that returned and for each refusal, and the line
 /// of the last sequence.
@@ -90,20 +87,6 @@ fn driver_for<O: TreeOrder<Key = u64>>(alloc: Global, header: Header) -> Result<
     Ok(driver)
 }
 
-/// The layout of the table that a trace of this version runs on: a wide sequence from version 3 on.
-pub fn layout_for(version: Version, capacity: u32) -> Result<Layout, Refusal>
-    ensures capacity { IfOk result (λ l. capacity_of l ≡ capacity) }
-    ensures limit { IfOk result (λ l. limit_of l ≡ greatest_of version) }
-    ensures refused { IsErr result ↔ ((capacity ≡ 0) ⊎ (most_nodes < capacity)) }
-    ensures refusal { IfErr result (λ e. e ≡ Refusal.BadCapacity) }
-{
-    if version.is_wide() {
-        Layout::wide(capacity)
-    } else {
-        Layout::new(capacity)
-    }
-}
-
 /// Runs the commands of lines, and puts after the text what they came to.
 fn gather_lines<O: TreeOrder<Key = u64>>(
     driver: &mut Driver<O>,
@@ -115,28 +98,10 @@ fn gather_lines<O: TreeOrder<Key = u64>>(
     ensures fault { IfErr result (IsLinesFault lines.old.said) }
 {
     let mut gathered = text;
-    while let Some(command) = next_command(lines)? {
-        gathered = gather_command(driver, &command, gathered)?;
+    while let Some(next) = next_command(lines)? {
+        gathered = gather_command(driver, &next.command, gathered)?;
     }
     Ok(gathered)
-}
-
-/// Goes past the commands of lines: each line has to be in the grammar, also if nothing runs.
-fn understand(lines: &mut CommandLines<'_>) -> Result<(), Fault>
-    ensures understood { OnOk result (IsUnderstood lines.old.said) }
-    ensures fault { IfErr result (IsLinesFault lines.old.said) }
-{
-    let understood = lines.understand();
-    understood.map_err(|fault| Fault::of_lines(0, fault))
-}
-
-/// The next command of lines, with the fault of the program if there is none.
-fn next_command(lines: &mut CommandLines<'_>) -> Result<Option<Command<u64>>, Fault>
-    ensures next { IfOk result (IsNext lines.old lines.new) }
-    ensures fault { IfErr result (IsLinesFault lines.old.said) }
-{
-    let next = lines.next_command();
-    next.map_err(|fault| Fault::of_lines(0, fault))
 }
 
 /// Runs a command, and puts after the text what it came to.

@@ -2,9 +2,9 @@ use Rattle.engines.proofs.GatheredLemmas.{IsUnderWay}
 use Rattle.engines.proofs.trace.gather_lines.Given as goal
 
 -- the driver carried out the commands that were taken from the lines
-abbrev pub invariant-loop-command : goal.invariant-loop-command
-invariant-loop-command g l =
+abbrev pub invariant-loop-next : goal.invariant-loop-next
+invariant-loop-next g l =
     IsUnderWay g.O.TreeOrder.order l.fn.lines.said l.lines.said l.fn.driver l.fn.text.items l.driver l.gathered.items
 
-abbrev pub decreases-loop-command : goal.decreases-loop-command
-decreases-loop-command g l = l.lines.bytes
+abbrev pub decreases-loop-next : goal.decreases-loop-next
+decreases-loop-next g l = l.lines.bytes

@@ -1,16 +1,17 @@
-use Rattle.std.proofs.Common.{◌++◌}
+use Rattle.std.proofs.Common.{◌++◌, refl}
 use Rattle.texts.proofs.OutputLemmas.{same_text, then, then_flushed}
 use Rattle.texts.specs.Output.{Delivered, Delivers, WrotePart}
 use Rattle.run_files.specs.Trace.{with_header}
 use Rattle.engines.specs.TraceTexts.{end_text}
-use Rattle.engines.specs.Traces.{AnswersSaid}
-use Rattle.engines.proofs.GatheredLemmas.{answered, not_opened}
+use Rattle.engines.specs.Traces.{AnswersSaid, IsTraceRun, Stays}
+use Rattle.engines.proofs.GatheredLemmas.{answered}
+use Rattle.engines.proofs.TraceLineLemmas.{not_opened}
 use Rattle.engines.proofs.WrittenLemmas.{said_written}
 use Rattle.engines.proofs.trace.run_lines.Goals as goal
 
 pub returns-in-Err : goal.returns-in-Err
 returns-in-Err g c =
-    not_opened g.W.Write.contents c.args.header c.args.lines.now.said c.args.writer.now c.args.writer.now c.in-Err.why
+    not_opened IsTraceRun IsTraceRun Stays g.W.Write.contents c.args.header c.args.lines.now.said c.args.writer.now refl c.in-Err.why
     c.in-Err.ensures.refusal c.in_ok-understand-in-Err.ensures.understood
 
 pub returns : goal.returns
@@ -21,7 +22,7 @@ returns g c =
     let text = c.in_ok-text.text.items in
     let whole = text ++ end_text c.in_ok-left.left.sequence in
     let delivers : Delivers contents w w' whole = then_flushed (then (same_text c.deref.ensures.value c.put.ensures) c.put_end.ensures) c.flush.ensures in
-    let answer = answered contents c.args.header c.args.lines.now.said w w' g.O.TreeOrder.order c.requires
+    let answer = answered c.args.header c.args.lines.now.said g.O.TreeOrder.order c.requires
     c.in-Ok.driver c.gather_lines.new.driver c.new.result.items text c.new.ensures.items c.in-Ok.ensures.opened c.in_ok-text.ensures.gathered
     c.in_ok-left.left c.in_ok-left.ensures.notes c.in_ok-left.ensures.left in
     said_written contents w w' whole delivers (AnswersSaid contents (with_header c.args.header c.args.lines.now.said) w w')
