@@ -69,7 +69,7 @@ impl<O: TreeOrder> World<O> {
         ensures steps { IsWorldStep O.order self.old event.now result self.new }
         ensures reported { is_refused_for_memory result ≡ false
             → ReportsEvent O.order (R.reports report.now) event.now
-                self.old self.new to.old to.new result }
+            self.old self.new to.old to.new result }
         ensures refused { is_refused_for_memory result ≡ true → to.new ≡ to.old }
     {
         let load = self.load_by(event);
@@ -119,13 +119,7 @@ impl<O: TreeOrder> World<O> {
 
     /// Makes at most `most` steps of the writer, up to the end of the pending update; if `to_flip`,
     /// up to the next flip.
-    fn write_on<R: Report<O::Key>>(
-        &mut self,
-        most: u64,
-        to_flip: bool,
-        report: &R,
-        to: &mut R::To,
-    )
+    fn write_on<R: Report<O::Key>>(&mut self, most: u64, to_flip: bool, report: &R, to: &mut R::To)
         ensures layout { layout_in self.new ≡ layout_in self.old }
         ensures written { ObeysWriting O.order (R.reports report.now) to_flip most
             self.old self.new to.old to.new }

@@ -283,8 +283,14 @@ impl<O: TreeOrder> World<O> {
             return;
         };
         let words = self.words.as_slice();
-        let LookupProgress { lookup, events } =
-            lookup.load_on(words, reader, most, self.events, report, to);
+        let LookupProgress { lookup, events } = lookup.load_on(
+            words,
+            reader,
+            most,
+            self.events,
+            report,
+            to,
+        );
         *place = lookup;
         self.events = events;
     }

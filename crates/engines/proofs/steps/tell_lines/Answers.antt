@@ -50,9 +50,15 @@ returns-in_err-obey-clause-fault g c =
 pub returns-in_err-all_written-clause-fault : goal.returns-in_err-all_written-clause-fault
 returns-in_err-all_written-clause-fault g c =
     let p = err_from_is_err_and c.from_residual-in_err-all_written.result c.from_residual-in_err-all_written.ensures.1 in
-    rw (p.1, p.2, c.in_err-all_written.ensures.fault)
-    (c.in_err-all_written.ensures.failed, (_, _, lines_more g.O.TreeOrder.order g.W.Write.contents _ _ _ _ _ _ _ _ _ c.in-Some.next c.loop-next.invariant.told (taken _ _ _ _ c.in-Some.is c.in_ok-next.ensures.next)
-      (subst (λ line. ObeysFromAny g.O.TreeOrder.order (Tells g.W.Write.contents line) c.in-Some.next.command c.loop-next.world c.obey.new.self c.loop-next.writer c.obey.new.to) c.of.ensures c.in_ok-obey.ensures.obeyed)))
+    rw (p.1, p.2, c.in_err-all_written.ensures.fault) (
+      c.in_err-all_written.ensures.failed,
+      (
+        _,
+        _,
+        lines_more g.O.TreeOrder.order g.W.Write.contents _ _ _ _ _ _ _ _ _ c.in-Some.next c.loop-next.invariant.told (taken _ _ _ _ c.in-Some.is c.in_ok-next.ensures.next)
+            (subst (λ line. ObeysFromAny g.O.TreeOrder.order (Tells g.W.Write.contents line) c.in-Some.next.command c.loop-next.world c.obey.new.self c.loop-next.writer c.obey.new.to) c.of.ensures c.in_ok-obey.ensures.obeyed),
+      ),
+    )
 
 pub returns-clause-told : goal.returns-clause-told
 returns-clause-told g c =
