@@ -21,7 +21,7 @@ pub trait Report<K> {
     ghost use Rattle.latch_steps.specs.declared.events.Event.{Event};
     ghost use Rattle.latch_steps.specs.declared.reports.Outcome.{Outcome};
 
-    /// Where the events are reported.
+    /// What takes the reports.
     type To;
 
     /// What the report of an event makes of it.
