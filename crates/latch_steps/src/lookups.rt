@@ -58,7 +58,8 @@ impl<O: TreeOrder> Lookup<O> {
         }
     }
 
-    /// What it loads next of these words.
+    /// What it loads next of these words. It is part of each loop over loads, which need not have it.
+    #[inline(always)]
     pub(crate) fn next_load(&self, words: &[u64]) -> NextLoad<O::Key>
         ensures { LoadsNextFrom O.order self.now words.now result }
     {
