@@ -1,7 +1,7 @@
 -- A reader whose view is kept in numbers: each load, and a whole attempt.
 use Rattle.std.proofs.Common.{◌≡◌, ℕ, ◌<◌, ◌≤◌, true, false, cond, Bool, List, [], ◌∷◌, ◌++◌, length, get_or, set, refl, sym, ◌∙◌, ap, subst, arith, get_or-set_other, get_or-set_same, length-set}
 use Rattle.std.specs.Prelude.{◌==◌, ◌&&◌, max}
-use Rattle.std.proofs.lemmas.Bool.{eqb-true, eqb-false, eq-eqb}
+use Rattle.std.proofs.lemmas.Bool.{eqb-true, eqb-false}
 use Rattle.order_laws.specs.Orders.{Order}
 use Rattle.word_layout.specs.declared.stores.Store.{Store}
 use Rattle.word_layout.specs.Words.{at}
@@ -93,21 +93,6 @@ module _ (chooses : Choice) (b : Barriers) (m : List ℕ) (ss : List Store) wher
       }
 
   -- before a later load
-  pub behind_barrier : (r n : ReaderView) (w : ℕ) → b.before_last ≡ true → w ≡ 0 → view_of n ≡ raised (view_of r) r.at_barrier → n.least.items ≡ r.least.items → n.at_barrier ≡ r.at_barrier → n.last ≡ r.last → n.loads ≡ r.loads → StandsBefore b r n w
-  behind_barrier r n w has is view words barrier last loads =
-      let stands : (b.before_last && (w == 0)) ≡ true = λ i. (has i && eq-eqb w 0 is i) in
-      record { view = view ∙ ap (λ c. raised (view_of r) (cond c r.at_barrier 0)) (sym stands); words = words; barrier = barrier; last = last; loads = loads }
-
-  pub behind_none : (r : ReaderView) (w : ℕ) → (b.before_last && (w == 0)) ≡ false → StandsBefore b r r w
-  behind_none r w none = record {
-    view = (λ i. record { of_word = λ u. (let e : max (get_or r.least.items u 0) r.floor ≡ max (max (get_or r.least.items u 0) r.floor) 0 = omega arith in e i); at_barrier = r.at_barrier })
-        ∙ ap (λ c. raised (view_of r) (cond c r.at_barrier 0)) (sym none);
-    words = refl;
-    barrier = refl;
-    last = refl;
-    loads = refl;
-  }
-
   pub next_ready : (r n : ReaderView) (w : ℕ) → IsReaderOf m ss r → StandsBefore b r n w → IsReaderOf m ss n
   next_ready r n w is h =
       raised_still r n (cond (b.before_last && (w == 0)) r.at_barrier 0) is (bounded_first (b.before_last && (w == 0)) r.at_barrier is.barrier) h.view h.words h.barrier h.last

@@ -1,13 +1,13 @@
 -- What a writer has made, after one more deed.
-use Rattle.std.proofs.Common.{◌≡◌, ℕ, ◌<◌, ◌≤◌, List, [], ◌∷◌, ◌++◌, length, Option, Some, None, refl, sym, ◌∙◌, ap, subst, append_assoc, append-nil}
+use Rattle.std.proofs.Common.{◌≡◌, ℕ, ◌≤◌, List, [], ◌∷◌, ◌++◌, length, Some, None, refl, sym, ◌∙◌, ap, subst, append_assoc, append-nil}
 use Rattle.std.specs.Prelude.{Result, Ok, Err, IfErr, IsErrAnd, drop, slice_get}
 use Rattle.order_laws.specs.declared.refusals.Refusal.{Refusal}
 use Rattle.order_laws.specs.Orders.{Order}
 use Rattle.word_layout.specs.declared.stores.Store.{Store}
 use Rattle.table_updates.specs.declared.updates.Update.{Update}
 use Rattle.table_updates.specs.Updates.{most_steps}
-use Rattle.latch_core.specs.Latches.{PendingUpdate, Latch, IsWriterStep, latch_after_step, latch_with_update, opening_latch}
-use Rattle.latch_core.specs.Writers.{next_store, why_refused, writer_after_step, RefusesAsRepresented, RepresentsLatch, MayBeNext, StoresNext, HasBegun, latch_refusal}
+use Rattle.latch_core.specs.Latches.{PendingUpdate, Latch, IsWriterStep, latch_after_step, latch_with_update}
+use Rattle.latch_core.specs.Writers.{next_store, why_refused, writer_after_step, RefusesAsRepresented, MayBeNext, StoresNext, HasBegun, latch_refusal}
 use Rattle.latch_core.specs.WriterViews.{WriterView}
 use Rattle.latch_weak.specs.Works.{Deed, Begins, Stores, Works, stores_of, updates_of}
 use Rattle.latch_weak.specs.Recordings.{WorksTo, HasMade, writer_after_all, CarriesOut, CarriesOutAll}
@@ -18,45 +18,23 @@ works_of o n limit l l' [] to = tt
 works_of o n limit l l' (Begins u left ∷ rest) to = (to.0, to.1, to.2, works_of o n limit (latch_with_update o l u left) l' rest to.3)
 works_of o n limit l l' (Stores s ∷ rest) (h, pending, may, on) = (h, pending, may, works_of o n limit (latch_after_step l h s) l' rest on)
 
--- one more deed
-begins_after : {K : Type 0} (o : Order K) (n limit : ℕ) (l l' : Latch) (deeds : List Deed) (u : Update) (left : ℕ) → WorksTo o n limit l deeds l'
-    → latch_refusal o n limit l' u ≡ None → 0 < left → left ≤ most_steps n u → WorksTo o n limit l (deeds ++ Begins u left ∷ []) (latch_with_update o l' u left)
-begins_after o n limit l l' [] u left to may some few =
-    (subst (λ x. latch_refusal o n limit x u ≡ None) to may, some, few, ap (λ x. latch_with_update o x u left) to)
-begins_after o n limit l l' (Begins v more ∷ rest) u left to may some few =
-    (to.0, to.1, to.2, begins_after o n limit (latch_with_update o l v more) l' rest u left to.3 may some few)
-begins_after o n limit l l' (Stores s ∷ rest) u left (h, pending, step, on) may some few =
-    (h, pending, step, begins_after o n limit (latch_after_step l h s) l' rest u left on may some few)
+-- deeds after deeds
+works_append : {K : Type 0} (o : Order K) (n limit : ℕ) (l m l' : Latch) (ds es : List Deed) → WorksTo o n limit l ds m → WorksTo o n limit m es l' → WorksTo o n limit l (ds ++ es) l'
+works_append o n limit l m l' [] es to on = subst (λ x. WorksTo o n limit x es l') to on
+works_append o n limit l m l' (Begins u left ∷ ds) es to on =
+    (to.0, to.1, to.2, works_append o n limit (latch_with_update o l u left) m l' ds es to.3 on)
+works_append o n limit l m l' (Stores s ∷ ds) es (h, pending, step, to) on =
+    (h, pending, step, works_append o n limit (latch_after_step l h s) m l' ds es to on)
 
-stores_after : {K : Type 0} (o : Order K) (n limit : ℕ) (l l' : Latch) (deeds : List Deed) (h : PendingUpdate) (s : Store) → WorksTo o n limit l deeds l'
-    → l'.pending ≡ Some h → IsWriterStep n l' h s → WorksTo o n limit l (deeds ++ Stores s ∷ []) (latch_after_step l' h s)
-stores_after o n limit l l' [] h s to is may =
-    (h, subst (λ x. x.pending ≡ Some h) to is, subst (λ x. IsWriterStep n x h s) to may, ap (λ x. latch_after_step x h s) to)
-stores_after o n limit l l' (Begins v more ∷ rest) h s to is may =
-    (to.0, to.1, to.2, stores_after o n limit (latch_with_update o l v more) l' rest h s to.3 is may)
-stores_after o n limit l l' (Stores t ∷ rest) h s (g, pending, step, on) is may =
-    (g, pending, step, stores_after o n limit (latch_after_step l g t) l' rest h s on is may)
+updates_append : (ds es : List Deed) → updates_of (ds ++ es) ≡ updates_of ds ++ updates_of es
+updates_append [] es = refl
+updates_append (Begins u left ∷ ds) es = ap (λ us. u ∷ us) (updates_append ds es)
+updates_append (Stores s ∷ ds) es = updates_append ds es
 
--- the updates and the stores of one deed more
-updates_begun : (deeds : List Deed) (u : Update) (left : ℕ) → updates_of (deeds ++ Begins u left ∷ []) ≡ updates_of deeds ++ u ∷ []
-updates_begun [] u left = refl
-updates_begun (Begins v more ∷ rest) u left = ap (λ us. v ∷ us) (updates_begun rest u left)
-updates_begun (Stores t ∷ rest) u left = updates_begun rest u left
-
-stores_begun : (deeds : List Deed) (u : Update) (left : ℕ) → stores_of (deeds ++ Begins u left ∷ []) ≡ stores_of deeds
-stores_begun [] u left = refl
-stores_begun (Begins v more ∷ rest) u left = stores_begun rest u left
-stores_begun (Stores t ∷ rest) u left = ap (λ ss. t ∷ ss) (stores_begun rest u left)
-
-updates_stored : (deeds : List Deed) (s : Store) → updates_of (deeds ++ Stores s ∷ []) ≡ updates_of deeds
-updates_stored [] s = refl
-updates_stored (Begins v more ∷ rest) s = ap (λ us. v ∷ us) (updates_stored rest s)
-updates_stored (Stores t ∷ rest) s = updates_stored rest s
-
-stores_stored : (deeds : List Deed) (s : Store) → stores_of (deeds ++ Stores s ∷ []) ≡ stores_of deeds ++ s ∷ []
-stores_stored [] s = refl
-stores_stored (Begins v more ∷ rest) s = stores_stored rest s
-stores_stored (Stores t ∷ rest) s = ap (λ ss. t ∷ ss) (stores_stored rest s)
+stores_append : (ds es : List Deed) → stores_of (ds ++ es) ≡ stores_of ds ++ stores_of es
+stores_append [] es = refl
+stores_append (Begins u left ∷ ds) es = stores_append ds es
+stores_append (Stores s ∷ ds) es = ap (λ ss. s ∷ ss) (stores_append ds es)
 
 module _ {K : Type 0} (o : Order K) (n limit start : ℕ) (us : List Update) (ss : List Store) (w w' : WriterView) (made : HasMade o n limit start us ss w) where
   -- an update has begun
@@ -70,9 +48,9 @@ module _ {K : Type 0} (o : Order K) (n limit start : ℕ) (us : List Update) (ss
       record {
         latch = latch_with_update o made.latch u left;
         deeds = made.deeds ++ Begins u left ∷ [];
-        works = begins_after o n limit _ made.latch made.deeds u left made.works here begun.some few;
-        updates_are = updates_begun made.deeds u left ∙ ap (λ vs. vs ++ u ∷ []) made.updates_are;
-        stores_are = stores_begun made.deeds u left ∙ made.stores_are;
+        works = works_append o n limit _ made.latch _ made.deeds (Begins u left ∷ []) made.works (here, begun.some, few, refl);
+        updates_are = updates_append made.deeds (Begins u left ∷ []) ∙ ap (λ vs. vs ++ u ∷ []) made.updates_are;
+        stores_are = stores_append made.deeds (Begins u left ∷ []) ∙ append-nil (stores_of made.deeds) ∙ made.stores_are;
         pictures = begun.pictures made.latch made.pictures;
         capacity = capacity ∙ made.capacity;
         limit_is = most ∙ made.limit_is;
@@ -88,27 +66,13 @@ module _ {K : Type 0} (o : Order K) (n limit start : ℕ) (us : List Update) (ss
       record {
         latch = latch_after_step made.latch h s;
         deeds = made.deeds ++ Stores s ∷ [];
-        works = stores_after o n limit _ made.latch made.deeds h s made.works step.1 here;
-        updates_are = updates_stored made.deeds s ∙ made.updates_are;
-        stores_are = stores_stored made.deeds s ∙ ap (λ ts. ts ++ s ∷ []) made.stores_are;
+        works = works_append o n limit _ made.latch _ made.deeds (Stores s ∷ []) made.works (h, step.1, here, refl);
+        updates_are = updates_append made.deeds (Stores s ∷ []) ∙ append-nil (updates_of made.deeds) ∙ made.updates_are;
+        stores_are = stores_append made.deeds (Stores s ∷ []) ∙ ap (λ ts. ts ++ s ∷ []) made.stores_are;
         pictures = stores made.latch h s made.pictures step.1 next;
         capacity = capacity ∙ made.capacity;
         limit_is = most ∙ made.limit_is;
       }
-
--- a writer that has made nothing
-pub made_nothing : {K : Type 0} (o : Order K) (n limit start : ℕ) (w : WriterView) → RepresentsLatch w (opening_latch n start) → w.capacity ≡ n → w.limit ≡ limit → HasMade o n limit start [] [] w
-made_nothing o n limit start w pictures capacity most =
-    record {
-      latch = opening_latch n start;
-      deeds = [];
-      works = refl;
-      updates_are = refl;
-      stores_are = refl;
-      pictures = pictures;
-      capacity = capacity;
-      limit_is = most;
-    }
 
 -- a refusal that is passed on
 pub passed_on : {T : Type 0} (r : Result T Refusal) (fault : Refusal) (P : Refusal → Type 0) → IsErrAnd r (λ f. f ≡ fault) → P fault → IfErr r P
@@ -120,12 +84,9 @@ after_one_more : (w : WriterView) (ss : List Store) (s : Store) → writer_after
 after_one_more w [] s = refl
 after_one_more w (t ∷ ss) s = after_one_more (writer_after_step w t) ss s
 
-same_store : (a b : Store) → ◌≡◌ {A = Option Store} (Some a) (Some b) → a ≡ b
-same_store a b e = cc
-
 first_of : (ss : List Store) (s : Store) → slice_get ss 0 ≡ Some s → ss ≡ s ∷ drop 1 ss
 first_of [] s e = absurd (cc)
-first_of (t ∷ ss) s e = ap (λ x. x ∷ ss) (same_store t s e)
+first_of (t ∷ ss) s e = let same : t ≡ s = cc in ap (λ x. x ∷ ss) same
 
 none_left : (ss : List Store) → slice_get ss 0 ≡ None → ss ≡ []
 none_left [] e = refl

@@ -1,20 +1,27 @@
-use Rattle.std.proofs.Common.{◌≡◌, sym, ◌∙◌, ap, subst, take, drop, suc, inr, [], ◌∷◌, ◌++◌, ◌+◌}
+use Rattle.std.proofs.Common.{◌≡◌, sym, ◌∙◌, ap, subst, take, drop, suc, inr, refl, [], ◌∷◌, ◌++◌, ◌+◌}
 use Rattle.std.proofs.lemmas.List.{take_all, take_more}
 use Rattle.word_layout.specs.Layouts.{capacity_of, limit_of}
+use Rattle.latch_core.specs.Latches.{opening_latch}
 use Rattle.latch_core.specs.Writers.{opening_writer}
 use Rattle.std.proofs.Math.Seq.{split_at}
 use Rattle.latch_weak.specs.Recordings.{CarriesOutAll, HasMade, RefusesRecording}
-use Rattle.latch_weak.proofs.RecordingLemmas.{carried_more, made_nothing, works_of, passed_on}
+use Rattle.latch_weak.proofs.RecordingLemmas.{carried_more, works_of, passed_on}
 use Rattle.latch_weak.proofs.recording.record.Goals as goal
 
 pub loop-update-init : goal.loop-update-init
-loop-update-init g c =
-    let o = g.O.TreeOrder.order in
-    let l = c.args.l in
-    let w = c.in_ok-writer.writer in
-    let made = made_nothing o (capacity_of l) (limit_of l) c.args.start w c.in_ok-writer.ensures.pictures
-    (ap (λ x. x.capacity) c.in_ok-writer.ensures.opened) (ap (λ x. x.limit) c.in_ok-writer.ensures.opened) in
-    (subst (λ ss. HasMade o (capacity_of l) (limit_of l) c.args.start [] ss w) (sym c.new-stores.ensures.items) made, (c.new-stores.ensures.items, c.in_ok-writer.ensures.opened))
+loop-update-init g c = (
+  record {
+    latch = opening_latch (capacity_of c.args.l) c.args.start;
+    deeds = [];
+    works = refl;
+    updates_are = refl;
+    stores_are = sym c.new-stores.ensures.items;
+    pictures = c.in_ok-writer.ensures.pictures;
+    capacity = ap (λ x. x.capacity) c.in_ok-writer.ensures.opened;
+    limit_is = ap (λ x. x.limit) c.in_ok-writer.ensures.opened;
+  },
+  (c.new-stores.ensures.items, c.in_ok-writer.ensures.opened),
+)
 
 pub loop-update-preserved : goal.loop-update-preserved
 loop-update-preserved g c =
