@@ -48,14 +48,16 @@ lead_past (suc n) [] past = not_zero n
 lead_past (suc n) (b ∷ bytes) past = lead_past n bytes (omega arith)
 
 -- one thing more
-pub lead_step : (bytes : List ℕ) (n : ℕ) → n ≡ lead_item bytes → 0 < n → n ≤ length bytes → is_lead 0 bytes ≡ is_lead 0 (drop n bytes)
-lead_step [] n is some within = absurd (omega arith)
-lead_step (b ∷ bytes) zero is some within = absurd (omega arith)
-lead_step (b ∷ bytes) (suc n) is some within =
+lead_rest : (b : ℕ) (bytes : List ℕ) (n : ℕ) → suc n ≡ lead_item (b ∷ bytes) → is_lead 0 (b ∷ bytes) ≡ is_lead n bytes
+lead_rest b bytes n is =
     ap (λ m. not (m == 0) && is_lead (m - 1) bytes) (sym is)
     ∙ ap (λ t. not t && is_lead (suc n - 1) bytes) (not_zero n)
     ∙ ap (λ m. is_lead m bytes) (one_less n)
-    ∙ lead_skipped n bytes (omega arith)
+
+pub lead_step : (bytes : List ℕ) (n : ℕ) → n ≡ lead_item bytes → 0 < n → n ≤ length bytes → is_lead 0 bytes ≡ is_lead 0 (drop n bytes)
+lead_step [] n is some within = absurd (omega arith)
+lead_step (b ∷ bytes) zero is some within = absurd (omega arith)
+lead_step (b ∷ bytes) (suc n) is some within = lead_rest b bytes n is ∙ lead_skipped n bytes (omega arith)
 
 pub lead_none : (bytes : List ℕ) → 0 < length bytes → lead_item bytes ≡ 0 → is_lead 0 bytes ≡ false
 lead_none [] some is = absurd (omega arith)
@@ -64,8 +66,4 @@ lead_none (b ∷ bytes) some is = ap (λ m. not (m == 0) && is_lead (m - 1) byte
 pub lead_over : (bytes : List ℕ) (n : ℕ) → n ≡ lead_item bytes → length bytes < n → 0 < length bytes → is_lead 0 bytes ≡ false
 lead_over [] n is past some = absurd (omega arith)
 lead_over (b ∷ bytes) zero is past some = absurd (omega arith)
-lead_over (b ∷ bytes) (suc n) is past some =
-    ap (λ m. not (m == 0) && is_lead (m - 1) bytes) (sym is)
-    ∙ ap (λ t. not t && is_lead (suc n - 1) bytes) (not_zero n)
-    ∙ ap (λ m. is_lead m bytes) (one_less n)
-    ∙ lead_past n bytes (omega arith)
+lead_over (b ∷ bytes) (suc n) is past some = lead_rest b bytes n is ∙ lead_past n bytes (omega arith)
