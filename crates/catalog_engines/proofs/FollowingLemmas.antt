@@ -1,7 +1,8 @@
 -- Blocks of a log that are read, with the listings behind each, and written.
 use Rattle.catalog_engines.proofs.Words.{◌≡◌, ◌∙◌, ◌+◌, ◌≤◌, ℕ, List, [], ◌∷◌, ◌++◌, Option, Some, None, Result, Ok, Err, refl, sym, ap, subst, inl, inr, arith, length, flat_map, flat_map-append, append-nil, append_assoc, IfSome, Output, Delivered, Sources, Annotate, Given, Fault, Read, Refused, TooLong, Bool, CatalogEntries, answered_by, is_narrow, lines_of, take}
 use Rattle.std.proofs.Common.{length-append}
-use Rattle.std.specs.Prelude.{◌-◌, ◌^◌}
+use Rattle.std.specs.Prelude.{◌⊎◌, ◌-◌, ◌^◌, IsErrAnd}
+use Rattle.command_io.proofs.FaultLemmas.{handed_on}
 use Rattle.std.proofs.KnownBytes.{Appends-nil, Appends-trans}
 use Rattle.logs.specs.Annotation.{Ends, IsOpen, Passes, Puts, held_in}
 use Rattle.logs.specs.AnnotatedLogs.{first_held}
@@ -13,7 +14,7 @@ use Rattle.logs.specs.declared.annotator.Annotator.{Annotator}
 use Rattle.logs.specs.declared.log_names.LogNames.{LogNames}
 use Rattle.listing.specs.declared.address_rules.LogRule.{LogRule}
 use Rattle.order_laws.specs.declared.refusals.Refusal.TheVariants as refusal
-use Rattle.catalog_engines.specs.Following.{AreAnswersOf, Block, Event, Failed, FollowsTurns, GivesCatalog, Happen, IsFaultOfListings, IsFollowed, IsNamed, Listings, NamesBy, NamesLast, NamesSome, Turn, events_of, no_turn, one_more, read_in}
+use Rattle.catalog_engines.specs.Following.{AreAnswersOf, Block, Event, Failed, FollowsTurns, GivesCatalog, Happen, IsEnded, IsFaultOfListings, IsFollowed, IsNamed, IsStopped, IsTooLong, IsUnlisted, IsUnread, Listings, NamesBy, NamesLast, NamesSome, Turn, events_of, no_turn, one_more, read_in}
 use Rattle.catalog_engines.specs.declared.annotations.Stop.{Stop}
 use Rattle.catalog_engines.specs.declared.annotations.Stop.TheVariants as stop
 
@@ -125,46 +126,42 @@ module _ {W : Type 0} (contents : W → Option (List ℕ)) (q : Sources) (a : An
             many = omega (arith, on.many, length-append on.turns (t ∷ []));
           }
 
+      -- what ends it, after all that was done, and with a fault that is handed on
+      abbrev Ending : Option (List Event) → Output W → Result Findings Stop → Type 0
+      Ending after w' result = IsUnread then after now w' result ⊎ IsUnlisted then after now w' result ⊎ IsStopped contents q a (held_in annotator) on.line then after now w' result
+          ⊎ IsEnded contents q a on.turns last (held_in annotator) on.line then after now w' result ⊎ IsTooLong on.turns then after now w' result
+
+      so_far : (after : Option (List Event)) (w' : Output W) (result : Result Findings Stop) → Ending after w' result → FollowsTurns contents q a first before after w w' result
+      so_far after w' result end = (on.turns, last, held_in annotator, on.line, then, now, on.followed, end)
+
+      failed_so : (after : Option (List Event)) (w' : Output W) (why : Stop) (result : Result Findings Stop) → IsErrAnd result (λ s. s ≡ why) → Ending after w' (Err why) → FollowsTurns contents q a first before after w w' result
+      failed_so after w' why result is end = handed_on (FollowsTurns contents q a first before after w w') result why is (so_far after w' (Err why) end)
+
       -- the log could not be read
-      pub unread : (after : Option (List Event)) (f : Fault) → f ≡ Read 3 → Happen then after (Failed f ∷ []) → FollowsTurns contents q a first before after w now (Err (stop.Failed f))
-      unread after f is failed = (on.turns, last, held_in annotator, on.line, then, now, on.followed, inl (subst (λ f. Happen then after (Failed f ∷ [])) is failed, refl, ap (λ f. Err (stop.Failed f)) is))
+      pub unread : (after : Option (List Event)) (f : Fault) (result : Result Findings Stop) → IsErrAnd result (λ s. s ≡ stop.Failed f) → f ≡ Read 3 → Happen then after (Failed f ∷ []) → FollowsTurns contents q a first before after w now result
+      unread after f result handed is failed = failed_so after now _ result handed (inl (subst (λ f. Happen then after (Failed f ∷ [])) is failed, refl, ap (λ f. Err (stop.Failed f)) is))
 
       -- the listings could not
-      pub unlisted : (mid after : Option (List Event)) (block : List ℕ) (f : Fault) → IsFaultOfListings f → Happen then mid (Block block ∷ []) → Happen mid after (Failed f ∷ []) → FollowsTurns contents q a first before after w now (Err (stop.Failed f))
-      unlisted mid after block f may read failed =
-          (on.turns, last, held_in annotator, on.line, then, now, on.followed, inr (inl (block, f, may, happen_then then mid after _ _ read failed, refl, refl)))
+      pub unlisted : (mid after : Option (List Event)) (block : List ℕ) (f : Fault) (result : Result Findings Stop) → IsErrAnd result (λ s. s ≡ stop.Failed f) → IsFaultOfListings f → Happen then mid (Block block ∷ []) → Happen mid after (Failed f ∷ [])
+          → FollowsTurns contents q a first before after w now result
+      unlisted mid after block f result handed may read failed = failed_so after now _ result handed (inr (inl (block, f, may, happen_then then mid after _ _ read failed, refl, refl)))
 
       -- there was no memory for the first bytes
-      pub unkept : (mid after : Option (List Event)) (block : List ℕ) (g : Given) → Happen then mid (Block block ∷ []) → Happen mid after (Listings g ∷ [])
-          → FollowsTurns contents q a first before after w now (Err (stop.Failed (Refused refusal.OutOfMemory)))
-      unkept mid after block g read listed = (
-        on.turns,
-        last,
-        held_in annotator,
-        on.line,
-        then,
-        now,
-        on.followed,
-        inr (inr (inl (record { block = block; listings = g }, stop.Failed (Refused refusal.OutOfMemory), happen_then then mid after _ _ read listed, inl (Refused refusal.OutOfMemory, tt, refl, refl), refl))),
-      )
+      pub unkept : (mid after : Option (List Event)) (block : List ℕ) (g : Given) (result : Result Findings Stop) → IsErrAnd result (λ s. s ≡ stop.Failed (Refused refusal.OutOfMemory)) → Happen then mid (Block block ∷ []) → Happen mid after (Listings g ∷ [])
+          → FollowsTurns contents q a first before after w now result
+      unkept mid after block g result handed read listed =
+          failed_so after now _ result handed (inr (inr (inl (record { block = block; listings = g }, stop.Failed (Refused refusal.OutOfMemory), happen_then then mid after _ _ read listed, inl (Refused refusal.OutOfMemory, tt, refl, refl), refl))))
 
       -- the lines that end in a block could not be written
-      pub cut_off : (mid after : Option (List Event)) (w' : Output W) (annotator' : Annotator) (block : List ℕ) (g : Given) (why : Stop) → Happen then mid (Block block ∷ []) → Happen mid after (Listings g ∷ [])
-          → NamesBy contents q a g (λ answer (u : Unit {0}). Passes answer annotator annotator' block) now w' (Err why) → FollowsTurns contents q a first before after w w' (Err why)
-      cut_off mid after w' annotator' block g why read listed names =
+      pub cut_off : (mid after : Option (List Event)) (w' : Output W) (annotator' : Annotator) (block : List ℕ) (g : Given) (why : Stop) (result : Result Findings Stop) → IsErrAnd result (λ s. s ≡ why)
+          → Happen then mid (Block block ∷ []) → Happen mid after (Listings g ∷ [])
+          → NamesBy contents q a g (λ answer (u : Unit {0}). Passes answer annotator annotator' block) now w' (Err why) → FollowsTurns contents q a first before after w w' result
+      cut_off mid after w' annotator' block g why result handed read listed names =
           let some : (answer : Answering) (u : Unit {0}) (text : List ℕ) → Passes answer annotator annotator' block text → NamesSome (held_in annotator) on.line block answer text =
           λ answer u text passes.
           let p = passes on.line on.is_open in
-          (held_in annotator', p.line', record { ended = p.passed; parts = p.parts; whole = p.whole; no_end = p.is_open.no_end; carried = p.held; put = p.put }) in (
-            on.turns,
-            last,
-            held_in annotator,
-            on.line,
-            then,
-            now,
-            on.followed,
-            inr (inr (inl (record { block = block; listings = g }, why, happen_then then mid after _ _ read listed, names_less g _ _ now w' some (Err why) names, refl))),
-          )
+          (held_in annotator', p.line', record { ended = p.passed; parts = p.parts; whole = p.whole; no_end = p.is_open.no_end; carried = p.held; put = p.put }) in
+          failed_so after w' why result handed (inr (inr (inl (record { block = block; listings = g }, why, happen_then then mid after _ _ read listed, names_less g _ _ now w' some (Err why) names, refl))))
 
       -- the log is at its end
       last_named : (answer : Answering) (x : LogNames) (text : List ℕ) → Ends answer annotator x text → NamesLast (held_in annotator) on.line answer x text
@@ -172,15 +169,13 @@ module _ {W : Type 0} (contents : W → Option (List ℕ)) (q : Sources) (a : An
 
       pub at_end : (after : Option (List Event)) (w' : Output W) (found : Findings) → Happen then after (Block [] ∷ []) → found.head.items ≡ head
           → NamesBy contents q a last (λ answer. Ends answer annotator) now w' (Ok found.names) → FollowsTurns contents q a first before after w w' (Ok found)
-      at_end after w' found read kept names =
-          (on.turns, last, held_in annotator, on.line, then, now, on.followed, inr (inr (inr (inl (read, kept ∙ on.first_bytes, names_less last _ _ now w' last_named (Ok found.names) names)))))
+      at_end after w' found read kept names = so_far after w' _ (inr (inr (inr (inl (read, kept ∙ on.first_bytes, names_less last _ _ now w' last_named (Ok found.names) names)))))
 
       -- its last line could not be written
-      pub not_ended : (after : Option (List Event)) (w' : Output W) (why : Stop) → Happen then after (Block [] ∷ [])
-          → NamesBy {X = LogNames} contents q a last (λ answer. Ends answer annotator) now w' (Err why) → FollowsTurns contents q a first before after w w' (Err why)
-      not_ended after w' why read names =
-          (on.turns, last, held_in annotator, on.line, then, now, on.followed, inr (inr (inr (inl (read, names_less last _ _ now w' last_named (Err why) names)))))
+      pub not_ended : (after : Option (List Event)) (w' : Output W) (why : Stop) (result : Result Findings Stop) → IsErrAnd result (λ s. s ≡ why) → Happen then after (Block [] ∷ [])
+          → NamesBy {X = LogNames} contents q a last (λ answer. Ends answer annotator) now w' (Err why) → FollowsTurns contents q a first before after w w' result
+      not_ended after w' why result handed read names = failed_so after w' why result handed (inr (inr (inr (inl (read, names_less last _ _ now w' last_named (Err why) names)))))
 
       -- no block is left to be read
       pub too_long : 2 ^ 64 - 1 ≤ n → FollowsTurns contents q a first before then w now (Err (stop.Failed (TooLong 3)))
-      too_long most = (on.turns, last, held_in annotator, on.line, then, now, on.followed, inr (inr (inr (inr (omega (arith, on.many, most), refl, refl, refl)))))
+      too_long most = so_far then now _ (inr (inr (inr (inr (omega (arith, on.many, most), refl, refl, refl)))))

@@ -49,24 +49,25 @@ message_of names ModulesOverlap =
 message_of names NoModuleLine = codes "no line is of the form of /proc/modules"
 message_of names NoSymbolLine = codes "no line is of the form of /proc/kallsyms"
 
+-- what a line of a note begins with
+abbrev pub note_head : List ℕ → List ℕ
+note_head file = codes "latchsym: note: " ++ file ++ codes ": "
+
 -- the line of a note on the listing in this file
 abbrev pub note_line : BoundNames → List ℕ → ListingNote → List ℕ
-note_line names file note =
-    codes "latchsym: note: " ++ file ++ codes ": " ++ message_of names note ++ codes "\n"
+note_line names file note = note_head file ++ message_of names note ++ codes "\n"
 
--- the line that says that the names which the log in this file has itself are not those of the
--- listing
-abbrev pub other_boot_line : List ℕ → LogNames → List ℕ
-other_boot_line log names =
-    codes "latchsym: note: " ++ log ++ codes ": its own names disagree with the listing ("
-    ++ decimal names.disagreeing ++ codes " of "
+-- that the names which the log in a file has itself are not those of the listing
+abbrev pub other_boot_line : LogNames → List ℕ
+other_boot_line names =
+    codes "its own names disagree with the listing (" ++ decimal names.disagreeing ++ codes " of "
     ++ decimal (min (names.agreeing + names.disagreeing) (2 ^ 64 - 1))
     ++ codes "); is the listing of this boot?\n"
 
--- the line that says that no address of the log in this file has a name
-abbrev pub unnamed_line : List ℕ → LogNames → List ℕ
-unnamed_line log names =
-    codes "latchsym: note: " ++ log ++ codes ": none of its " ++ decimal names.addresses
+-- that no address of the log in a file has a name
+abbrev pub unnamed_line : LogNames → List ℕ
+unnamed_line names =
+    codes "none of its " ++ decimal names.addresses
     ++ codes " addresses has a name in the listing\n"
 
 -- the first two bytes of a log tell that it is compressed or in UTF-16, or what was found of its
@@ -75,13 +76,19 @@ abbrev pub is_log_noted : List ℕ → LogNames → Bool
 is_log_noted head names =
     is_gzip head || is_utf_16 head || is_of_another_boot names || is_unnamed names
 
+-- what the first two bytes of a log tell of it
+abbrev pub note_of_head : List ℕ → Option ListingNote
+note_of_head head =
+    if is_gzip head then Some Gzip else if is_utf_16 head then Some Utf16 else None
+
 -- the line that says so: the first that applies
+abbrev pub log_message : List ℕ → LogNames → List ℕ
+log_message head names =
+    option_map_or (λ note. message_of usual_bounds note ++ codes "\n") (note_of_head head)
+    (if is_of_another_boot names then other_boot_line names else unnamed_line names)
+
 abbrev pub log_line : List ℕ → List ℕ → LogNames → List ℕ
-log_line log head names =
-    if is_gzip head then note_line usual_bounds log Gzip
-    else if is_utf_16 head then note_line usual_bounds log Utf16
-    else if is_of_another_boot names then other_boot_line log names
-    else unnamed_line log names
+log_line log head names = note_head log ++ log_message head names
 
 -- the line of what may be noted of a file
 abbrev pub line_if_noted : BoundNames → List ℕ → Option ListingNote → List ℕ

@@ -27,6 +27,14 @@ pub struct AddressForm {
     pub higher: u64,
 }
 
+/// A word, what it asks for, and how that is told.
+#[derive(Drop)]
+struct AskedWord<'a> {
+    form: AddressForm,
+    word: &'a [u8],
+    asked: AskedName<'a>,
+}
+
 /// Writes the lines of each word, in order, as objects of JSON or as text.
 pub fn put_words<W: Write>(
     writer: &mut Output<W>,
@@ -53,52 +61,43 @@ fn put_word<W: Write>(
         (word_text form (λ name. unwrap_or (found_by sought.now name) []) word.now) }
 {
     let asked = asked_name(word);
-    match sought.get(asked.symbol) {
-        Some(symbols) => put_symbols(writer, form, word, &asked, symbols),
-        None => put_untold(writer, form, word, &asked),
+    let symbols = sought.get(asked.symbol);
+    let it = AskedWord { form, word, asked };
+    match symbols {
+        Some(symbols) => put_symbols(writer, &it, symbols),
+        None => put_untold(writer, &it),
     }
 }
 
 /// Writes the lines of a word, the symbols of whose name are these.
-fn put_symbols<W: Write>(
-    writer: &mut Output<W>,
-    form: AddressForm,
-    word: &[u8],
-    asked: &AskedName<'_>,
-    symbols: &[KeptSymbol],
-)
+fn put_symbols<W: Write>(writer: &mut Output<W>, it: &AskedWord<'_>, symbols: &[KeptSymbol])
     ensures { Says W.contents writer.old writer.new
-        (symbols_text form word.now asked.now symbols.now) }
+        (symbols_text it.now.form it.now.word.now it.now.asked symbols.now) }
 {
-    if is_any_told(form, asked, symbols) {
-        put_all_told(writer, form, word, asked, symbols)
+    if is_any_told(it, symbols) {
+        put_all_told(writer, it, symbols)
     } else {
-        put_untold(writer, form, word, asked)
+        put_untold(writer, it)
     }
 }
 
 /// Whether one of these symbols is told.
-fn is_any_told(form: AddressForm, asked: &AskedName<'_>, symbols: &[KeptSymbol]) -> bool
-    ensures { result ≡ list_any (is_told form asked.now) symbols.now }
+fn is_any_told(it: &AskedWord<'_>, symbols: &[KeptSymbol]) -> bool
+    ensures { result ≡ list_any (is_told it.now.form it.now.asked) symbols.now }
 {
-    symbols.iter().any(|symbol| is_told(form, asked, symbol))
+    symbols.iter().any(|symbol| is_told(it, symbol))
 }
 
 /// Writes the line of a word for which no symbol is told.
 #[tactic(auto, unfolding(crate::specs::AddressTexts::untold_line))]
-fn put_untold<W: Write>(
-    writer: &mut Output<W>,
-    form: AddressForm,
-    word: &[u8],
-    asked: &AskedName<'_>,
-)
+fn put_untold<W: Write>(writer: &mut Output<W>, it: &AskedWord<'_>)
     ensures { Says W.contents writer.old writer.new
-        (untold_line form word.now asked.now) }
+        (untold_line it.now.form it.now.word.now it.now.asked) }
 {
-    if form.json {
-        put_asked_object(writer, asked)
+    if it.form.json {
+        put_asked_object(writer, &it.asked)
     } else {
-        put_no_address(writer, word)
+        put_no_address(writer, it.word)
     }
 }
 
@@ -133,70 +132,47 @@ fn put_asked_member<W: Write>(writer: &mut Output<W>, asked: Option<&[u8]>)
 }
 
 /// Writes a line for each of these symbols that is told.
-fn put_all_told<W: Write>(
-    writer: &mut Output<W>,
-    form: AddressForm,
-    word: &[u8],
-    asked: &AskedName<'_>,
-    symbols: &[KeptSymbol],
-)
+fn put_all_told<W: Write>(writer: &mut Output<W>, it: &AskedWord<'_>, symbols: &[KeptSymbol])
     ensures { Says W.contents writer.old writer.new
-        (told_lines form word.now asked.now symbols.now) }
+        (told_lines it.now.form it.now.word.now it.now.asked symbols.now) }
 {
     for symbol in symbols {
-        put_if_told(writer, form, word, asked, symbol);
+        put_if_told(writer, it, symbol);
     }
 }
 
-fn put_if_told<W: Write>(
-    writer: &mut Output<W>,
-    form: AddressForm,
-    word: &[u8],
-    asked: &AskedName<'_>,
-    symbol: &KeptSymbol,
-)
+fn put_if_told<W: Write>(writer: &mut Output<W>, it: &AskedWord<'_>, symbol: &KeptSymbol)
     ensures { Says W.contents writer.old writer.new
-        (line_where (is_told form asked.now symbol.now)
-        (told_line form word.now asked.now symbol.now)) }
+        (line_where (is_told it.now.form it.now.asked symbol.now)
+        (told_line it.now.form it.now.word.now it.now.asked symbol.now)) }
 {
-    if is_told(form, asked, symbol) {
-        put_told(writer, form, word, asked, symbol)
+    if is_told(it, symbol) {
+        put_told(writer, it, symbol)
     }
 }
 
 /// Writes the line of a symbol that is told.
 #[tactic(auto, unfolding(crate::specs::AddressTexts::told_line))]
-fn put_told<W: Write>(
-    writer: &mut Output<W>,
-    form: AddressForm,
-    word: &[u8],
-    asked: &AskedName<'_>,
-    symbol: &KeptSymbol,
-)
-    requires { is_told form asked.now symbol.now ≡ true }
+fn put_told<W: Write>(writer: &mut Output<W>, it: &AskedWord<'_>, symbol: &KeptSymbol)
+    requires { is_told it.now.form it.now.asked symbol.now ≡ true }
     ensures { Says W.contents writer.old writer.new
-        (told_line form word.now asked.now symbol.now) }
+        (told_line it.now.form it.now.word.now it.now.asked symbol.now) }
 {
-    if form.json {
-        put_address_object(writer, form, asked, symbol)
+    if it.form.json {
+        put_address_object(writer, it, symbol)
     } else {
-        put_address(writer, form, word, asked, symbol)
+        put_address(writer, it, symbol)
     }
 }
 
 /// Writes the object of the address that lies above the symbol as it is asked for.
-fn put_address_object<W: Write>(
-    writer: &mut Output<W>,
-    form: AddressForm,
-    asked: &AskedName<'_>,
-    symbol: &KeptSymbol,
-)
-    requires { is_told form asked.now symbol.now ≡ true }
+fn put_address_object<W: Write>(writer: &mut Output<W>, it: &AskedWord<'_>, symbol: &KeptSymbol)
+    requires { is_told it.now.form it.now.asked symbol.now ≡ true }
     ensures { Says W.contents writer.old writer.new
-        (address_object form asked.now symbol.now) }
+        (address_object it.now.form it.now.asked symbol.now) }
 {
-    put_address_member(writer, told_address(form, asked, symbol));
-    put_symbol_members(writer, symbol.name, asked.above.offset, symbol.size());
+    put_address_member(writer, told_address(it, symbol));
+    put_symbol_members(writer, symbol.name, it.asked.above.offset, symbol.size());
     put_owner_member(writer, symbol.owner);
     writer.put(b"}\n");
 }
@@ -213,19 +189,13 @@ fn put_owner_member<W: Write>(writer: &mut Output<W>, owner: Option<&[u8]>)
 }
 
 /// Writes `NAME 0xADDRESS 0xSIZE [MODULE]`.
-fn put_address<W: Write>(
-    writer: &mut Output<W>,
-    form: AddressForm,
-    word: &[u8],
-    asked: &AskedName<'_>,
-    symbol: &KeptSymbol,
-)
-    requires { is_told form asked.now symbol.now ≡ true }
+fn put_address<W: Write>(writer: &mut Output<W>, it: &AskedWord<'_>, symbol: &KeptSymbol)
+    requires { is_told it.now.form it.now.asked symbol.now ≡ true }
     ensures { Says W.contents writer.old writer.new
-        (address_line form word.now asked.now symbol.now) }
+        (address_line it.now.form it.now.word.now it.now.asked symbol.now) }
 {
-    let addr = told_address(form, asked, symbol);
-    writer.put(word);
+    let addr = told_address(it, symbol);
+    writer.put(it.word);
     writer.put(b" ");
     writer.put_hexadecimal(addr);
     writer.put(b" ");
@@ -248,21 +218,21 @@ fn put_owner<W: Write>(writer: &mut Output<W>, owner: Option<&[u8]>)
 }
 
 /// The address that is told of a symbol.
-fn told_address(form: AddressForm, asked: &AskedName<'_>, symbol: &KeptSymbol) -> u64
-    requires { is_told form asked.now symbol.now ≡ true }
-    ensures { result ≡ told_address form asked.now symbol.now }
+fn told_address(it: &AskedWord<'_>, symbol: &KeptSymbol) -> u64
+    requires { is_told it.now.form it.now.asked symbol.now ≡ true }
+    ensures { result ≡ told_address it.now.form it.now.asked symbol.now }
 {
-    symbol.addr + asked.above.offset + form.higher
+    symbol.addr + it.asked.above.offset + it.form.higher
 }
 
 /// Whether the symbol is one of those asked for, the offset lies within it, and what is told is an
 /// address.
-fn is_told(form: AddressForm, asked: &AskedName<'_>, symbol: &KeptSymbol) -> bool
-    ensures { result ≡ is_told form asked.now symbol.now }
+fn is_told(it: &AskedWord<'_>, symbol: &KeptSymbol) -> bool
+    ensures { result ≡ is_told it.now.form it.now.asked symbol.now }
 {
-    is_of(asked.owner, symbol.owner)
-        && is_within(asked.above, symbol.size())
-        && is_address(symbol.addr, asked.above.offset, form.higher)
+    is_of(it.asked.owner, symbol.owner)
+        && is_within(it.asked.above, symbol.size())
+        && is_address(symbol.addr, it.asked.above.offset, it.form.higher)
 }
 
 /// Whether the offset is below the size, or the size is the one that is said and the offset not

@@ -113,11 +113,10 @@ fn annotate_over<L: Read, E: Write, W: Write>(
         (Some (texts_in texts.now)) [] log.old log.new writer.old writer.new
         errors.old errors.new result }
 {
-    let kernel = sources.kernel.as_ref();
-    let opened = open_catalog(alloc, texts, kernel, Asked::Any)?;
+    let opened = open_catalog(alloc, texts, sources.kernel.as_ref(), Asked::Any)?;
     let notes = opened.notes;
     let index = IndexedCatalog::new(alloc, opened.catalog)?;
-    note_listings(&notes, kernel, &sources.files, errors);
+    note_listings(&notes, sources, errors);
     let is_narrow = is_narrow(&texts.kallsyms);
     let answers = CatalogAnswers::new(alloc, &index, job.rule, is_narrow);
     annotate_by(alloc, &answers, job.log, errors, log, writer)

@@ -64,9 +64,8 @@ fn tell_notes<E: Write>(
 ) -> Result<(), Fault>
     ensures { NotesTold E.contents sources.now (texts_in texts.now) errors.old errors.new result }
 {
-    let kernel = sources.kernel.as_ref();
-    let opened = open_catalog(alloc, texts, kernel, Asked::Any)?;
-    note_listings(&opened.notes, kernel, &sources.files, errors);
+    let opened = open_catalog(alloc, texts, sources.kernel.as_ref(), Asked::Any)?;
+    note_listings(&opened.notes, sources, errors);
     Ok(())
 }
 

@@ -1,35 +1,30 @@
 //! The lines that say what is noted of listings and of a log, byte for byte, with no memory taken.
 ghost use Rattle.std.specs.Prelude.{◌≡◌};
-ghost use Rattle.std.specs.Option.{option_copied};
 ghost use Rattle.texts.specs.Output.{Says};
 ghost use Rattle.catalog_engines.specs.NoteTexts.{line_if_noted, line_where, lines_by, log_line};
-ghost use Rattle.catalog_engines.specs.NoteTexts.{message_of, missing_text, note_line, note_lines};
+ghost use Rattle.catalog_engines.specs.NoteTexts.{log_message, message_of, missing_text};
+ghost use Rattle.catalog_engines.specs.NoteTexts.{note_head, note_line, note_lines, note_of_head};
 ghost use Rattle.catalog_engines.specs.NoteTexts.{other_boot_line, remedy_text, unnamed_line};
 
-use crate::sources::ListingFiles;
+use crate::sources::{ListingFiles, Sources};
 use listing::{ListingNote, ListingNotes, is_gzip, is_utf_16};
 use logs::LogNames;
 use modules::KernelBounds;
 use std::io::Write;
 use texts::Output;
 
-/// Writes what is noted of the listings in these files, if these names are given for the kernel's
-/// bounds.
-pub fn put_notes_of<W: Write>(
-    writer: &mut Output<W>,
-    kernel: Option<&KernelBounds>,
-    files: &ListingFiles<'_>,
-    notes: &ListingNotes,
-)
+/// Writes what is noted of these listings.
+pub fn put_notes_of<W: Write>(writer: &mut Output<W>, sources: &Sources<'_>, notes: &ListingNotes)
     ensures { Says W.contents writer.old writer.new
-        (note_lines (option_copied kernel.entry) files.now notes.now) }
+        (note_lines sources.now.kernel sources.now.files notes.now) }
 {
     // a usual bound is missed if the listing has none of the names that it may have
     let missed = KernelBounds {
         start: b"_stext",
         end: b"_etext",
     };
-    put_listing_notes(writer, kernel.unwrap_or(&missed), files, notes);
+    let names = sources.kernel.as_ref().unwrap_or(&missed);
+    put_listing_notes(writer, names, &sources.files, notes);
 }
 
 /// Writes what is noted of the listings in these files, if these names bound the kernel.
@@ -88,11 +83,18 @@ pub(crate) fn put_note_where<W: Write>(
 fn put_note<W: Write>(writer: &mut Output<W>, names: &KernelBounds, file: &[u8], note: ListingNote)
     ensures { Says W.contents writer.old writer.new (note_line names.now file.now note) }
 {
+    put_note_head(writer, file);
+    put_message(writer, names, note);
+    writer.put(b"\n");
+}
+
+/// Writes `latchsym: note: FILE: `.
+fn put_note_head<W: Write>(writer: &mut Output<W>, file: &[u8])
+    ensures { Says W.contents writer.old writer.new (note_head file.now) }
+{
     writer.put(b"latchsym: note: ");
     writer.put(file);
     writer.put(b": ");
-    put_message(writer, names, note);
-    writer.put(b"\n");
 }
 
 /// Writes what is noted of the log in this file, by its first two bytes and what its addresses tell
@@ -100,36 +102,51 @@ fn put_note<W: Write>(writer: &mut Output<W>, names: &KernelBounds, file: &[u8],
 pub fn put_log_note<W: Write>(writer: &mut Output<W>, log: &str, head: &[u8], names: LogNames)
     ensures { Says W.contents writer.old writer.new (log_line log.now head.now names) }
 {
-    let usual = KernelBounds::usual();
-    if is_gzip(head) {
-        put_note(writer, &usual, log.as_bytes(), ListingNote::Gzip);
-    } else if is_utf_16(head) {
-        put_note(writer, &usual, log.as_bytes(), ListingNote::Utf16);
-    } else if names.is_of_another_boot() {
-        put_other_boot(writer, log, names);
-    } else {
-        put_unnamed(writer, log, names);
+    put_note_head(writer, log.as_bytes());
+    put_log_message(writer, head, names);
+}
+
+/// Writes it after the name of the file.
+fn put_log_message<W: Write>(writer: &mut Output<W>, head: &[u8], names: LogNames)
+    ensures { Says W.contents writer.old writer.new (log_message head.now names) }
+{
+    match note_of_head(head) {
+        Some(note) => {
+            put_message(writer, &KernelBounds::usual(), note);
+            writer.put(b"\n");
+        }
+        None if names.is_of_another_boot() => put_other_boot(writer, names),
+        None => put_unnamed(writer, names),
     }
 }
 
-/// Writes that no address of the log in this file has a name.
-fn put_unnamed<W: Write>(writer: &mut Output<W>, log: &str, names: LogNames)
-    ensures { Says W.contents writer.old writer.new (unnamed_line log.now names) }
+/// What the first two bytes of a log tell of it.
+fn note_of_head(head: &[u8]) -> Option<ListingNote>
+    ensures { result ≡ note_of_head head.now }
 {
-    writer.put(b"latchsym: note: ");
-    writer.put(log.as_bytes());
-    writer.put(b": none of its ");
+    if is_gzip(head) {
+        Some(ListingNote::Gzip)
+    } else if is_utf_16(head) {
+        Some(ListingNote::Utf16)
+    } else {
+        None
+    }
+}
+
+/// Writes that no address of the log has a name.
+fn put_unnamed<W: Write>(writer: &mut Output<W>, names: LogNames)
+    ensures { Says W.contents writer.old writer.new (unnamed_line names) }
+{
+    writer.put(b"none of its ");
     writer.put_decimal(names.addresses);
     writer.put(b" addresses has a name in the listing\n");
 }
 
-/// Writes that the names which the log in this file has itself are not those of the listing.
-fn put_other_boot<W: Write>(writer: &mut Output<W>, log: &str, names: LogNames)
-    ensures { Says W.contents writer.old writer.new (other_boot_line log.now names) }
+/// Writes that the names which the log has itself are not those of the listing.
+fn put_other_boot<W: Write>(writer: &mut Output<W>, names: LogNames)
+    ensures { Says W.contents writer.old writer.new (other_boot_line names) }
 {
-    writer.put(b"latchsym: note: ");
-    writer.put(log.as_bytes());
-    writer.put(b": its own names disagree with the listing (");
+    writer.put(b"its own names disagree with the listing (");
     writer.put_decimal(names.disagreeing);
     writer.put(b" of ");
     writer.put_decimal(names.agreeing.saturating_add(names.disagreeing));

@@ -1,30 +1,22 @@
 //! What is noted of listings and of a log, told if something is.
 ghost use Rattle.std.specs.Prelude.{◌≡◌};
-ghost use Rattle.std.specs.Option.{option_copied};
 ghost use Rattle.listing.specs.ListingNotes.{is_some_noted};
 ghost use Rattle.catalog_engines.specs.NoteTexts.{IsNoted, is_log_noted, log_line, note_lines};
 
 use crate::note_texts::{put_log_note, put_notes_of};
-use crate::sources::ListingFiles;
+use crate::sources::Sources;
 use listing::{ListingNotes, is_gzip, is_utf_16};
 use logs::{Findings, LogNames};
-use modules::KernelBounds;
 use std::io::Write;
 use texts::Output;
 
-/// Writes what is noted of the listings in these files, if something is, if these names are given
-/// for the kernel's bounds.
-pub fn note_listings<W: Write>(
-    notes: &ListingNotes,
-    kernel: Option<&KernelBounds>,
-    files: &ListingFiles<'_>,
-    writer: &mut Output<W>,
-)
+/// Writes what is noted of these listings, if something is.
+pub fn note_listings<W: Write>(notes: &ListingNotes, sources: &Sources<'_>, writer: &mut Output<W>)
     ensures { IsNoted W.contents writer.old writer.new (is_some_noted notes.now)
-        (note_lines (option_copied kernel.entry) files.now notes.now) }
+        (note_lines sources.now.kernel sources.now.files notes.now) }
 {
     if notes.any() {
-        put_notes_of(writer, kernel, files, notes);
+        put_notes_of(writer, sources, notes);
     }
 }
 

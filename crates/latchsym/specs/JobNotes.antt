@@ -2,6 +2,7 @@
 use Rattle.std.specs.Prelude.{ℕ, Bool, true, false, List, [], ◌++◌, codes, if◌then◌else◌, Option}
 use Rattle.std.specs.Prelude.{Some, None, unwrap_or}
 use Rattle.std.specs.Borrow.{Bor}
+use Rattle.std.specs.Option.{option_map_or}
 use Rattle.clap.specs.Words.{Text}
 use Rattle.modules.specs.Lines.{usual_bounds}
 use Rattle.modules.specs.Listed.{BoundNames}
@@ -9,7 +10,7 @@ use Rattle.listing.specs.declared.listing_notes.ListingNote.{ListingNote}
 use Rattle.listing.specs.declared.listing_notes.ListingNote.TheVariants.{ModulesOverlap}
 use Rattle.listing.specs.declared.listing_notes.ListingNotes.{ListingNotes}
 use Rattle.catalog_engines.specs.NoteTexts.{line_if_noted, lines_by, note_lines, noted_bounds}
-use Rattle.catalog_engines.specs.declared.sources.ListingFiles.{ListingFiles}
+use Rattle.catalog_engines.specs.declared.sources.Sources.{Sources}
 use Rattle.latchsym.specs.declared.requests.Job.{Job}
 use Rattle.latchsym.specs.declared.requests.Job.TheVariants as job
 use Rattle.latchsym.specs.declared.requests.Request.{Request}
@@ -22,9 +23,9 @@ abbrev pub bounds_of_lookup : Option BoundNames → Option (Bor Text) → BoundN
 bounds_of_lookup kernel (Some modules) = unwrap_or kernel usual_bounds
 bounds_of_lookup kernel None = noted_bounds kernel
 
-abbrev pub lines_of_lookup : Option BoundNames → ListingFiles → ListingNotes → List ℕ
-lines_of_lookup kernel files notes =
-    lines_by (bounds_of_lookup kernel files.modules) files.modules files.kallsyms.now notes
+abbrev pub lines_of_lookup : Sources → ListingNotes → List ℕ
+lines_of_lookup q notes =
+    lines_by (bounds_of_lookup q.kernel q.files.modules) q.files.modules q.files.kallsyms.now notes
 
 -- ---- of a run, which needs the listing of modules
 
@@ -51,15 +52,15 @@ run_lines names modules kallsyms notes =
 
 -- ---- of a job, by the names of its files
 
-abbrev pub lines_of_run : Option BoundNames → Option (Bor Text) → Text → ListingNotes → List ℕ
-lines_of_run kernel (Some modules) kallsyms notes =
-    run_lines (unwrap_or kernel usual_bounds) modules.now kallsyms notes
-lines_of_run kernel None kallsyms notes = []
+abbrev pub lines_of_run : Sources → ListingNotes → List ℕ
+lines_of_run q notes =
+    option_map_or
+    (λ (m : Bor Text). run_lines (unwrap_or q.kernel usual_bounds) m.now q.files.kallsyms.now notes)
+    q.files.modules []
 
 abbrev pub lines_asked : Request → Subcommand → ListingNotes → List ℕ
-lines_asked q (Run r) notes =
-    lines_of_run q.sources.kernel q.sources.files.modules q.sources.files.kallsyms.now notes
-lines_asked q (Lookup l) notes = lines_of_lookup q.sources.kernel q.sources.files notes
+lines_asked q (Run r) notes = lines_of_run q.sources notes
+lines_asked q (Lookup l) notes = lines_of_lookup q.sources notes
 lines_asked q _ notes = note_lines q.sources.kernel q.sources.files notes
 
 abbrev pub notes_text : Job → ListingNotes → List ℕ

@@ -1,12 +1,11 @@
 //! The lines that say what is noted of the listings of a job, by the names of its files.
 ghost use Rattle.std.specs.Prelude.{◌≡◌};
-ghost use Rattle.std.specs.Option.{option_copied};
 ghost use Rattle.texts.specs.Output.{Says};
 ghost use Rattle.latchsym.specs.JobNotes.{is_overlap, lines_asked, lines_of_lookup, lines_of_run};
 ghost use Rattle.latchsym.specs.JobNotes.{notes_text, overlap_line, run_line, run_lines};
 
 use crate::requests::{Job, Request, Subcommand};
-use catalog_engines::{ListingFiles, put_if_noted, put_listing_notes, put_notes_of};
+use catalog_engines::{Sources, put_if_noted, put_listing_notes, put_notes_of};
 use listing::{ListingNote, ListingNotes};
 use modules::KernelBounds;
 use std::io::Write;
@@ -27,34 +26,26 @@ fn put_notes_asked<W: Write>(writer: &mut Output<W>, request: &Request<'_>, note
     ensures { Says W.contents writer.old writer.new
         (lines_asked request.now request.now.subcommand notes.now) }
 {
-    let kernel = request.sources.kernel.as_ref();
-    let files = &request.sources.files;
+    let sources = &request.sources;
     match &request.subcommand {
-        Subcommand::Run(_) => put_notes_of_run(writer, kernel, files, notes),
-        Subcommand::Lookup(_) => put_notes_of_lookup(writer, kernel, files, notes),
+        Subcommand::Run(_) => put_notes_of_run(writer, sources, notes),
+        Subcommand::Lookup(_) => put_notes_of_lookup(writer, sources, notes),
         Subcommand::Annotate(_) | Subcommand::Check | Subcommand::Address(_) => {
-            put_notes_of(writer, kernel, files, notes)
+            put_notes_of(writer, sources, notes)
         }
     }
 }
 
 /// Writes what is noted of the listings of a run, which needs that of modules.
-fn put_notes_of_run<W: Write>(
-    writer: &mut Output<W>,
-    kernel: Option<&KernelBounds>,
-    files: &ListingFiles<'_>,
-    notes: &ListingNotes,
-)
-    ensures { Says W.contents writer.old writer.new
-        (lines_of_run (option_copied kernel.entry) files.now.modules files.now.kallsyms.now
-        notes.now) }
+fn put_notes_of_run<W: Write>(writer: &mut Output<W>, sources: &Sources<'_>, notes: &ListingNotes)
+    ensures { Says W.contents writer.old writer.new (lines_of_run sources.now notes.now) }
 {
-    let Some(modules) = files.modules else {
+    let Some(modules) = sources.files.modules else {
         return;
     };
     let usual = KernelBounds::usual();
-    let names = kernel.unwrap_or(&usual);
-    put_run_notes(writer, names, modules, files.kallsyms, notes)
+    let names = sources.kernel.as_ref().unwrap_or(&usual);
+    put_run_notes(writer, names, modules, sources.files.kallsyms, notes)
 }
 
 /// Writes what is noted of the listings of a run, if these names bound the kernel.
@@ -125,16 +116,15 @@ fn put_overlap<W: Write>(writer: &mut Output<W>, file: &[u8])
 /// `_stext` and `_end` if no names are given.
 fn put_notes_of_lookup<W: Write>(
     writer: &mut Output<W>,
-    kernel: Option<&KernelBounds>,
-    files: &ListingFiles<'_>,
+    sources: &Sources<'_>,
     notes: &ListingNotes,
 )
-    ensures { Says W.contents writer.old writer.new
-        (lines_of_lookup (option_copied kernel.entry) files.now notes.now) }
+    ensures { Says W.contents writer.old writer.new (lines_of_lookup sources.now notes.now) }
 {
     let usual = KernelBounds::usual();
-    match files.modules {
-        Some(_) => put_listing_notes(writer, kernel.unwrap_or(&usual), files, notes),
-        None => put_notes_of(writer, kernel, files, notes),
+    let names = sources.kernel.as_ref().unwrap_or(&usual);
+    match sources.files.modules {
+        Some(_) => put_listing_notes(writer, names, &sources.files, notes),
+        None => put_notes_of(writer, sources, notes),
     }
 }

@@ -1,4 +1,4 @@
-use Rattle.catalog_engines.proofs.Words.{[], ◌∙◌, ap, Err, Some, inl, refl, subst, sym, IsNoted, is_some_noted, note_lines, is_narrow, lines_of, catalog_opened, IsCatalogOf, OpensCatalog, texts_in, Refused, AnnotatesBy, AnnotatesLog, answered_by}
+use Rattle.catalog_engines.proofs.Words.{[], ◌∙◌, ap, Err, Some, inl, refl, subst, sym, is_narrow, lines_of, catalog_opened, IsCatalogOf, OpensCatalog, texts_in, Refused, AnnotatesBy, AnnotatesLog, answered_by}
 use Rattle.order_laws.specs.declared.refusals.Refusal.TheVariants as refusal
 use Rattle.command_io.proofs.FaultLemmas.{handed_on}
 use Rattle.catalog_engines.proofs.AnnotationLemmas.{log_annotated, not_opened}
@@ -12,7 +12,7 @@ returns-in_err-opened g c =
     handed_on (AnnotatesLog g.L.Read.remaining g.W.Write.contents g.E.Write.contents a.sources.now a.job.now (Some given) [] a.log.now a.log.now a.writer.now a.writer.now a.errors.now a.errors.now)
     c.from_residual.result fault c.from_residual.ensures.1
     (not_opened g.L.Read.remaining g.W.Write.contents g.E.Write.contents a.sources.now a.job.now given a.log.now a.writer.now a.errors.now fault
-    (subst (λ k. OpensCatalog k given (Err fault)) c.as_ref-kernel.ensures.value c.in_err-opened.ensures))
+    (subst (λ k. OpensCatalog k given (Err fault)) c.as_ref.ensures.value c.in_err-opened.ensures))
 
 pub returns-in_err-index : goal.returns-in_err-index
 returns-in_err-index g c =
@@ -33,8 +33,8 @@ returns g c =
       noted = c.note_listings.new.writer;
       sized = c.new-answers.ensures.narrow ∙ c.is_narrow-is_narrow.ensures ∙ ap (λ t. is_narrow (lines_of t)) c.deref.ensures.value;
       said = subst (λ x. IsCatalogOf a.sources.now.kernel given x opened.notes) (sym (c.new-answers.ensures.index ∙ c.in_ok-index.ensures))
-          (subst (λ k. IsCatalogOf k given opened.catalog opened.notes) c.as_ref-kernel.ensures.value (catalog_opened _ given opened c.in_ok-opened.ensures));
-      told = subst (λ k. IsNoted g.E.Write.contents a.errors.now c.note_listings.new.writer (is_some_noted opened.notes) (note_lines k a.sources.now.files opened.notes)) c.as_ref-kernel.ensures.value c.note_listings.ensures;
+          (subst (λ k. IsCatalogOf k given opened.catalog opened.notes) c.as_ref.ensures.value (catalog_opened _ given opened c.in_ok-opened.ensures));
+      told = c.note_listings.ensures;
       holds = subst
           (λ rule. AnnotatesBy g.L.Read.remaining g.W.Write.contents g.E.Write.contents a.job.now.log.now
           (answered_by c.new-answers.result.index rule c.new-answers.result.is_narrow)

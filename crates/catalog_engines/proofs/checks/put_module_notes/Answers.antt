@@ -1,12 +1,10 @@
-use Rattle.catalog_engines.proofs.Words.{rules, ap, get_or, piece_said, same_text, is_of_modules, line_where, note_line}
+use Rattle.catalog_engines.proofs.Words.{rules, get_or, is_of_modules}
 use Rattle.listing.specs.declared.listing_notes.ListingNote.TheVariants as note
+use Rattle.catalog_engines.proofs.WordLemmas.{note_said}
 use Rattle.catalog_engines.proofs.checks.put_module_notes.Goals as goal
 
 pub loop-note-preserved : goal.loop-note-preserved
 loop-note-preserved g c =
     let a = c.args in
-    let notes = c.all-notes.result.now in
-    let i = c.loop-note.note-index in
-    let x = get_or notes i note.Empty in
-    let said = same_text (ap (λ applies. line_where applies (note_line a.names.now a.file.now x)) c.applies_to_modules-applies.ensures) c.put_note_where.ensures in
-    piece_said (λ y. line_where (is_of_modules a.text.now a.kallsyms.now a.catalog.now y) (note_line a.names.now a.file.now y)) notes i x c.loop-note-test.true (search rules) c.loop-note.invariant said
+    let x = get_or c.all-notes.result.now c.loop-note.note-index note.Empty in
+    note_said a.names.now a.file.now (is_of_modules a.text.now a.kallsyms.now a.catalog.now) _ _ x _ c.loop-note-test.true (search rules) c.applies_to_modules-applies.ensures c.loop-note.invariant c.put_note_where.ensures

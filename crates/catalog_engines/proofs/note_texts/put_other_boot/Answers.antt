@@ -3,6 +3,6 @@ use Rattle.catalog_engines.proofs.note_texts.put_other_boot.Goals as goal
 
 pub returns : goal.returns
 returns g c =
-    let names = then (then (then c.put.ensures (same_text c.as_bytes.ensures.value c.put-2.ensures)) c.put-3.ensures) c.put_decimal.ensures in
-    let of = then (then names c.put-4.ensures) (same_text (ap decimal c.saturating_add.ensures) c.put_decimal-2.ensures) in
-    then of c.put-5.ensures
+    let names = then c.put.ensures c.put_decimal.ensures in
+    let of = then (then names c.put-2.ensures) (same_text (ap decimal c.saturating_add.ensures) c.put_decimal-2.ensures) in
+    then of c.put-3.ensures

@@ -1,12 +1,14 @@
-use Rattle.catalog_engines.proofs.Words.{subst, sym, refl, ◌∙◌, option_copied, IsNoted, note_lines}
+use Rattle.catalog_engines.proofs.Words.{subst, sym, refl, ◌∙◌, IsNoted, note_lines}
 use Rattle.catalog_engines.proofs.notes.note_listings.Goals as goal
 
 pub returns-then-any : goal.returns-then-any
 returns-then-any g c =
-    subst (λ noted. IsNoted g.W.Write.contents c.args.writer.now c.put_notes_of.new.writer noted (note_lines (option_copied c.args.kernel) c.args.files.now c.args.notes.now))
+    let q = c.args.sources.now in
+    subst (λ noted. IsNoted g.W.Write.contents c.args.writer.now c.put_notes_of.new.writer noted (note_lines q.kernel q.files c.args.notes.now))
     (sym c.if-any.true ∙ c.any.ensures) c.put_notes_of.ensures
 
 pub returns-else-any : goal.returns-else-any
 returns-else-any g c =
-    subst (λ noted. IsNoted g.W.Write.contents c.args.writer.now c.args.writer.now noted (note_lines (option_copied c.args.kernel) c.args.files.now c.args.notes.now))
+    let q = c.args.sources.now in
+    subst (λ noted. IsNoted g.W.Write.contents c.args.writer.now c.args.writer.now noted (note_lines q.kernel q.files c.args.notes.now))
     (sym c.if-any.false ∙ c.any.ensures) refl

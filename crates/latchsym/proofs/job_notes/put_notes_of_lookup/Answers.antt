@@ -1,20 +1,18 @@
-use Rattle.latchsym.proofs.Words.{◌∙◌, ap, sym, option_copied, unwrap_or, same_text, given_or, BoundNames, List, ℕ}
+use Rattle.latchsym.proofs.Words.{◌∙◌, ap, sym, unwrap_or, same_text, given_or, BoundNames, Option, List, ℕ}
 use Rattle.catalog_engines.specs.NoteTexts.{lines_by}
 use Rattle.latchsym.specs.JobNotes.{bounds_of_lookup}
 use Rattle.latchsym.proofs.job_notes.put_notes_of_lookup.Goals as goal
 
 pub returns-in-Some : goal.returns-in-Some
 returns-in-Some g c =
-    let kernel = option_copied c.args.kernel in
-    let files = c.args.files.now in
-    let named : BoundNames → List ℕ = λ names. lines_by names files.modules files.kallsyms.now c.args.notes.now in
+    let q = c.args.sources.now in
+    let named : BoundNames → List ℕ = λ names. lines_by names q.files.modules q.files.kallsyms.now c.args.notes.now in
     same_text (
-    ap named (given_or c.args.kernel _ c.unwrap_or.result c.unwrap_or.ensures ∙ ap (unwrap_or kernel) c.usual-usual.ensures ∙ sym (ap (bounds_of_lookup kernel) c.in-Some.is))
+    ap named (given_or c.as_ref.result _ c.unwrap_or-names.result c.unwrap_or-names.ensures ∙ ap (λ (k : Option BoundNames). unwrap_or k c.usual-usual.result) c.as_ref.ensures.value ∙ ap (unwrap_or q.kernel) c.usual-usual.ensures ∙ sym (ap (bounds_of_lookup q.kernel) c.in-Some.is))
     ) c.put_listing_notes.ensures
 
 pub returns-in-None : goal.returns-in-None
 returns-in-None g c =
-    let kernel = option_copied c.args.kernel in
-    let files = c.args.files.now in
-    let named : BoundNames → List ℕ = λ names. lines_by names files.modules files.kallsyms.now c.args.notes.now in
-    same_text (ap named (sym (ap (bounds_of_lookup kernel) c.in-None.is))) c.put_notes_of.ensures
+    let q = c.args.sources.now in
+    let named : BoundNames → List ℕ = λ names. lines_by names q.files.modules q.files.kallsyms.now c.args.notes.now in
+    same_text (ap named (sym (ap (bounds_of_lookup q.kernel) c.in-None.is))) c.put_notes_of.ensures
