@@ -21,20 +21,18 @@ use Rattle.command_io.specs.Faults.{fault_place}
 abbrev pub bad_line_text : Text → ℕ → List ℕ
 bad_line_text file line = file ++ codes ": line " ++ decimal line ++ codes " is not understood\n"
 
-abbrev pub unread_text : Text → Option (List ℕ) → List ℕ
-unread_text file words = file ++ codes ": cannot be read" ++ reason_text words ++ codes "\n"
-
-abbrev pub unwritten_text : Option (List ℕ) → List ℕ
-unwritten_text words = codes "cannot write" ++ reason_text words ++ codes "\n"
+-- what failed with a file, and what the system says of it
+abbrev pub failed_text : Text → List ℕ → Option (List ℕ) → List ℕ
+failed_text file what words = file ++ what ++ reason_text words ++ codes "\n"
 
 -- what is said of a fault that is about this file, after the program's name, and what the system
 -- said of a call that failed
 abbrev pub message_text : Text → Option (List ℕ) → Fault → List ℕ
 message_text file words (Refused refusal) = refused_text (refusal_number refusal)
 message_text file words (BadLine place line) = bad_line_text file line
-message_text file words (Read place) = unread_text file words
+message_text file words (Read place) = failed_text file (codes ": cannot be read") words
 message_text file words (TooLong place) = file ++ codes ": is too long\n"
-message_text file words Write = unwritten_text words
+message_text file words Write = failed_text [] (codes "cannot write") words
 
 -- the line on the standard error
 abbrev pub fault_text : Text → Option (List ℕ) → Fault → List ℕ

@@ -5,7 +5,7 @@ ghost use Rattle.texts.specs.Output.{Says};
 ghost use Rattle.latchsym.specs.Reasons.{reason_text};
 ghost use Rattle.latchsym.specs.Reports.{IsConcluded, IsFaultTold};
 ghost use Rattle.latchsym.specs.Reports.{bad_line_text, fault_text, file_of, message_text};
-ghost use Rattle.latchsym.specs.Reports.{unread_text, unwritten_text};
+ghost use Rattle.latchsym.specs.Reports.{failed_text};
 ghost use Rattle.listing.specs.ListingNotes.{is_some_noted};
 ghost use Rattle.catalog_engines.specs.NoteTexts.{IsNoted};
 ghost use Rattle.latchsym.specs.JobNotes.{notes_text};
@@ -120,9 +120,9 @@ fn put_message<W: Write>(fault: &Fault, file: &[u8], words: Option<&str>, writer
     match fault {
         Fault::Refused(refusal) => put_refused(writer, *refusal),
         Fault::BadLine { line, .. } => put_bad_line(writer, file, *line),
-        Fault::Read { .. } => put_unread(writer, file, words),
+        Fault::Read { .. } => put_failed(writer, file, b": cannot be read", words),
         Fault::TooLong { .. } => put_of_file(writer, file, b": is too long\n"),
-        Fault::Write => put_unwritten(writer, words),
+        Fault::Write => put_failed(writer, b"", b"cannot write", words),
     }
 }
 
@@ -143,23 +143,12 @@ fn put_of_file<W: Write>(writer: &mut Output<W>, file: &[u8], message: &[u8])
     writer.put(message);
 }
 
-/// Writes that a file cannot be read, and what the system says of it.
-fn put_unread<W: Write>(writer: &mut Output<W>, file: &[u8], words: Option<&str>)
+/// Writes what failed with a file, and what the system says of it.
+fn put_failed<W: Write>(writer: &mut Output<W>, file: &[u8], what: &[u8], words: Option<&str>)
     ensures { Says W.contents writer.old writer.new
-        (unread_text file.now (option_copied words.entry)) }
+        (failed_text file.now what.now (option_copied words.entry)) }
 {
-    writer.put(file);
-    writer.put(b": cannot be read");
-    put_reason(writer, words);
-    writer.put(b"\n");
-}
-
-/// Writes that nothing can be written, and what the system says of it.
-fn put_unwritten<W: Write>(writer: &mut Output<W>, words: Option<&str>)
-    ensures { Says W.contents writer.old writer.new
-        (unwritten_text (option_copied words.entry)) }
-{
-    writer.put(b"cannot write");
+    put_of_file(writer, file, what);
     put_reason(writer, words);
     writer.put(b"\n");
 }

@@ -1,5 +1,0 @@
-use Rattle.latchsym.proofs.Words.{then}
-use Rattle.latchsym.proofs.reports.put_unwritten.Goals as goal
-
-pub returns : goal.returns
-returns g c = then (then c.put.ensures c.put_reason.ensures) c.put-2.ensures
