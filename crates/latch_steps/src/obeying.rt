@@ -17,7 +17,7 @@ impl<O: TreeOrder> World<O> {
     ghost use Rattle.latch_steps.specs.WorldSteps.{IsWorldStep};
 
     /// Does the events of a command, and reports each. Refused by [`Refusal::OutOfMemory`] alone,
-    /// before anything was done.
+    /// which gives up the run, with nothing reported of the command.
     pub fn obey<R: Report<O::Key>>(
         &mut self,
         command: &Command<O::Key>,
@@ -96,8 +96,7 @@ impl<O: TreeOrder> World<O> {
         }
     }
 
-    /// Does an event that its command asks for once. Refused by [`Refusal::OutOfMemory`] alone,
-    /// before anything was done.
+    /// Does an event that its command asks for once. Refused as [`obey`](World::obey) is.
     fn once<R: Report<O::Key>>(
         &mut self,
         event: &Event<O::Key>,
