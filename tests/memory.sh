@@ -1,6 +1,6 @@
 #!/usr/bin/env bash
 # Runs the program on a long trace and on long listings under limits of its memory (`ulimit -v`),
-# from 8 MiB on, each twice the one before, until a limit is enough. Each run has to give what it
+# from 6 MiB on, each twice the one before, until a limit is enough. Each run has to give what it
 # gives without a limit, or nothing on standard output, `latchsym: refused 7` on standard error and
 # status 1; of the steps of a trace, which are written as they are done, a beginning may stand there.
 #
@@ -17,7 +17,7 @@ is_begun() {
 
 # limited NAME ARGUMENT..: the program with these arguments, at each limit
 limited() {
-    local name=$1 limit=8192 status=0 refused=0
+    local name=$1 limit=6144 status=0 refused=0
     shift
     "$program" "$@" >"$work/ample"
     while :; do
