@@ -3,7 +3,7 @@ use Rattle.std.proofs.Common.{◌≡◌, ℕ, ◌+◌, ◌^◌, ◌<◌, Bool, t
 use Rattle.order_laws.specs.Orders.{Order}
 use Rattle.word_layout.specs.declared.layouts.Layout.{Layout}
 use Rattle.word_layout.specs.Layouts.{capacity_of, limit_of}
-use Rattle.latch_steps.specs.declared.traces.Kept.{Kept}
+use Rattle.latch_steps.specs.declared.traces.Recording.{Recording}
 use Rattle.latch_steps.specs.declared.traces.Recorder.{Recorder}
 use Rattle.latch_steps.specs.declared.traces.Trace.{Trace}
 use Rattle.latch_steps.specs.Near.{AreShallow}
@@ -25,12 +25,12 @@ kept_none true = refl
 kept_none false = refl
 
 -- what was kept of a run whose events were all reported, if memory did not run out
-all_kept : {K : Type 0} (o : Order K) (n : ℕ) (keeps : Bool) (w : Moment K) (run : List (Done K)) (a b : Kept K) → AreReported o n (Keeps keeps) w run a b → b.ran_out ≡ false
+all_kept : {K : Type 0} (o : Order K) (n : ℕ) (keeps : Bool) (w : Moment K) (run : List (Done K)) (a b : Recording K) → AreReported o n (Keeps keeps) w run a b → b.ran_out ≡ false
     → (a.ran_out ≡ false) × (b.events.items ≡ a.events.items ++ kept keeps (events_of run)) × (b.notes.items ≡ a.notes.items ++ notes_of run)
 all_kept o n keeps w [] a b is whole = (
-  ap (λ (x : Kept _). x.ran_out) (sym is) ∙ whole,
-  ap (λ (x : Kept _). x.events.items) is ∙ sym (append-nil a.events.items) ∙ ap (λ es. a.events.items ++ es) (sym (kept_none keeps)),
-  ap (λ (x : Kept _). x.notes.items) is ∙ sym (append-nil a.notes.items),
+  ap (λ (x : Recording _). x.ran_out) (sym is) ∙ whole,
+  ap (λ (x : Recording _). x.events.items) is ∙ sym (append-nil a.events.items) ∙ ap (λ es. a.events.items ++ es) (sym (kept_none keeps)),
+  ap (λ (x : Recording _). x.notes.items) is ∙ sym (append-nil a.notes.items),
 )
 all_kept o n keeps w (d ∷ run) a b (mid, one, more) whole =
     let rest = all_kept o n keeps d.after run mid b more whole in

@@ -56,11 +56,11 @@ module _ {K : Type 0} (o : Order K) (law : IsLawful o) (n limit : ℕ) (m : List
   begin_calm w u (Some why) reply w' (er, ew) c = kept w w' (ap (λ v. v.latch.words) ew) (ap (λ v. get v.lookups r) ew) c
   begin_calm w u None reply w' (left, some, bound, er, ew) c = kept w w' (ap (λ v. v.latch.words) ew) (ap (λ v. get v.lookups r) ew) c
 
-  abbrev Kept : ℕ → Reply K × Moment K → Type 0
-  Kept count done = (c' : IsCalm o n m done.1 r) × (length c'.l.values ≡ count)
+  abbrev Recording : ℕ → Reply K × Moment K → Type 0
+  Recording count done = (c' : IsCalm o n m done.1 r) × (length c'.l.values ≡ count)
 
   start_calm : (w : Moment K) (q : ℕ) (k : K) (found : Option (PendingLookup K))
-      → get w.lookups q ≡ found → (c : IsCalm o n m w r) → Kept (length c.l.values)
+      → get w.lookups q ≡ found → (c : IsCalm o n m w r) → Recording (length c.l.values)
       (start_done w q k found)
   start_calm w q k (Some l) e c = kept w (with_event w) refl refl c
   start_calm w q k None e c =
@@ -68,13 +68,13 @@ module _ {K : Type 0} (o : Order K) (law : IsLawful o) (n limit : ℕ) (m : List
       kept w _ refl (get-insert_other w.lookups r q _ ne) c
 
   load_calm : (w : Moment K) (q : ℕ) → r ≢ q → (x : AfterLoad K) (c : IsCalm o n m w r)
-      → Kept (length c.l.values) (load_done w q x)
+      → Recording (length c.l.values) (load_done w q x)
   load_calm w q ne (Goes l) c = kept w _ refl (get-insert_other w.lookups r q l ne) c
   load_calm w q ne (Retries l) c = kept w _ refl (get-insert_other w.lookups r q l ne) c
   load_calm w q ne (Returns x) c = kept w _ refl (get-remove_other w.lookups r q ne) c
 
   other_calm : (w : Moment K) (q : ℕ) → r ≢ q → (found : Option (PendingLookup K))
-      (c : IsCalm o n m w r) → Kept (length c.l.values) (read_done o n w q found)
+      (c : IsCalm o n m w r) → Recording (length c.l.values) (read_done o n w q found)
   other_calm w q ne None c = kept w (with_event w) refl refl c
   other_calm w q ne (Some l) c = load_calm w q ne (after_load o n w q l) c
 
@@ -146,7 +146,7 @@ module _ {K : Type 0} (o : Order K) (law : IsLawful o) (n limit : ℕ) (m : List
           let k = begin_calm w u _ reply d.after step c in
           passes left (step_done (Begin u) reply d.after) run (begin_passes w u _ reply d.after step) refl (go left k.0 (omega (arith, k.1)))
       by (Start q k) reply step go =
-          let k' = subst (Kept (length c.l.values)) step (start_calm w q k _ refl c) in
+          let k' = subst (Recording (length c.l.values)) step (start_calm w q k _ refl c) in
           passes left (step_done (Start q k) reply d.after) run (subst (KeepsLatch w) step (start_keeps w q k (get w.lookups q))).1 refl (go left k'.0 (omega (arith, k'.1)))
       by Write reply step go = writes w.latch.pending step
         where
@@ -162,7 +162,7 @@ module _ {K : Type 0} (o : Order K) (law : IsLawful o) (n limit : ℕ) (m : List
                 let own : read_done o n w r (get w.lookups r) ≡ (reply, d.after) = subst (λ p. read_done o n w p (get w.lookups p) ≡ (reply, d.after)) (eqb-true q r e) step in
                 loads left (step_done (Read q) reply d.after) run e (subst (λ done. IsCalmNext left done.0 done.1) own (own_load w left c total)) (go (left - 1))
             | false ↦ λ e.
-                let k = subst (Kept (length c.l.values)) step (other_calm w q (λ same. eqb-false q r e (sym same)) (get w.lookups q) c) in
+                let k = subst (Recording (length c.l.values)) step (other_calm w q (λ same. eqb-false q r e (sym same)) (get w.lookups q) c) in
                 passes left (step_done (Read q) reply d.after) run (subst (KeepsLatch w) step (read_keeps o n w q (get w.lookups q))).1 e (go left k.0 (omega (arith, k.1)))
           ] refl
 

@@ -10,7 +10,7 @@ use Rattle.latch_steps.specs.declared.events.Event.{Event}
 use Rattle.latch_steps.specs.declared.replies.Note.{Note}
 use Rattle.latch_steps.specs.declared.replies.Reply.{Reply}
 use Rattle.latch_steps.specs.declared.reports.Outcome.{Outcome}
-use Rattle.latch_steps.specs.declared.traces.Kept.{Kept}
+use Rattle.latch_steps.specs.declared.traces.Recording.{Recording}
 use Rattle.latch_steps.specs.declared.traces.Notes.{Notes}
 use Rattle.latch_steps.specs.declared.traces.Recorder.{Recorder}
 use Rattle.latch_steps.specs.declared.traces.Trace.{Trace}
@@ -31,7 +31,7 @@ abbrev pub AppendsNote : {K : Type 0} → Reply K → List (Note K) → List (No
 AppendsNote reply old new = new ≡ old ++ cons_option (note_of reply) []
 
 -- an event is kept and its reply is noted, unless memory ran out, also before
-abbrev pub Keeps : {K : Type 0} → Bool → Kept K → Event K → Outcome K → Kept K → Type 0
+abbrev pub Keeps : {K : Type 0} → Bool → Recording K → Event K → Outcome K → Recording K → Type 0
 Keeps keeps old e outcome new =
     new.ran_out ≡ false
     → (old.ran_out ≡ false) × AppendsCopy keeps e old.events.items new.events.items

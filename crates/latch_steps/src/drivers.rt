@@ -6,7 +6,7 @@ ghost use Rattle.latch_steps.specs.Drivers.{DrivesOn, HasDriven, IsTakenFrom, Le
 
 use crate::commands::Command;
 use crate::replies::Note;
-use crate::traces::{Keeping, Notes, Recorder};
+use crate::traces::{Notes, Recorder, RecordingOptions};
 use order_laws::{Refusal, TreeOrder};
 use std::alloc::Global;
 use word_layout::Layout;
@@ -40,7 +40,8 @@ impl<O: TreeOrder> Driver<O> {
         ensures driven { OnOk result (DrivesOn O.order command.now self.old self.new) }
         ensures refusal { IfErr result (λ why. why ≡ Refusal.OutOfMemory) }
     {
-        self.recorder.obey(command, &Keeping { events: false })?;
+        self.recorder
+            .obey(command, &RecordingOptions { events: false })?;
         Ok(())
     }
 

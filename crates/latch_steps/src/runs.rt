@@ -7,7 +7,7 @@ ghost use Rattle.latch_steps.specs.Promises.{IsNearTrace};
 
 use crate::commands::Command;
 use crate::events::Event;
-use crate::traces::{Keeping, Recorder, Trace};
+use crate::traces::{Recorder, RecordingOptions, Trace};
 use order_laws::{Refusal, TreeOrder};
 use std::alloc::Global;
 use word_layout::Layout;
@@ -38,7 +38,7 @@ pub fn run<O: TreeOrder>(
 {
     let mut recorder = Recorder::<O>::open(alloc, l, start, 0)?;
     for event in events {
-        let _ = recorder.record(event, &Keeping { events: true })?;
+        let _ = recorder.record(event, &RecordingOptions { events: true })?;
     }
     Ok(recorder.finish())
 }
@@ -63,7 +63,7 @@ pub fn drive<O: TreeOrder>(
 {
     let mut recorder = Recorder::<O>::open(alloc, l, start, reads_among(commands))?;
     for command in commands {
-        recorder.obey(command, &Keeping { events: true })?;
+        recorder.obey(command, &RecordingOptions { events: true })?;
     }
     Ok(recorder.finish())
 }

@@ -35,7 +35,7 @@ pub struct Notes<O: TreeOrder> {
 
 /// What is kept of a run: its events, if these are asked for, and what they are noted as.
 #[derive(Drop)]
-pub(crate) struct Kept<K> {
+pub(crate) struct Recording<K> {
     events: Vec<Event<K>>,
     notes: Vec<Note<K>>,
     /// Whether memory ran out, so that something is missing.
@@ -44,7 +44,7 @@ pub(crate) struct Kept<K> {
 
 /// How a recorder keeps a run.
 #[derive(Drop)]
-pub(crate) struct Keeping {
+pub(crate) struct RecordingOptions {
     /// Whether the events are kept too.
     pub(crate) events: bool,
 }
@@ -53,7 +53,7 @@ pub(crate) struct Keeping {
 #[derive(Drop)]
 pub(crate) struct Recorder<O: TreeOrder> {
     world: World<O>,
-    kept: Kept<O::Key>,
+    kept: Recording<O::Key>,
 }
 
 /// What a reply is noted as: a lookup that returned, or a refusal.
@@ -67,7 +67,7 @@ fn note_of<K: Copy>(reply: &Reply<K>) -> Option<Note<K>>
     }
 }
 
-impl Keeping {
+impl RecordingOptions {
     ghost use Rattle.latch_steps.specs.Recorders.{AppendsCopy, AppendsNote};
 
     /// Appends a copy of an event, if events are kept. Refused by [`Refusal::OutOfMemory`] alone.
@@ -84,7 +84,7 @@ impl Keeping {
     /// Keeps an event and what its reply is noted as. Refused by [`Refusal::OutOfMemory`] alone.
     fn keep_all<K: Copy>(
         &self,
-        kept: &mut Kept<K>,
+        kept: &mut Recording<K>,
         event: &Event<K>,
         reply: &Reply<K>,
     ) -> Result<(), Refusal>
@@ -102,15 +102,15 @@ impl Keeping {
     }
 }
 
-impl<K: Copy> Report<K> for Keeping {
+impl<K: Copy> Report<K> for RecordingOptions {
     ghost use Rattle.latch_steps.specs.Recorders.{Keeps};
 
-    type To = Kept<K>;
+    type To = Recording<K>;
 
-    ghost reports = { λ keeping. Keeps keeping.events };
+    ghost reports = { λ options. Keeps options.events };
 
     #[inline(always)]
-    fn report(&self, to: &mut Kept<K>, event: &Event<K>, outcome: &Outcome<K>) {
+    fn report(&self, to: &mut Recording<K>, event: &Event<K>, outcome: &Outcome<K>) {
         if self.keep_all(to, event, &outcome.reply).is_err() {
             to.ran_out = true;
         }
@@ -127,7 +127,7 @@ impl<O: TreeOrder> Recorder<O> {
         ensures refusal { IfErr result (IsOpeningRefused l start) }
     {
         let world = World::open(alloc, l, start)?;
-        let kept = Kept {
+        let kept = Recording {
             events: Vec::new(alloc),
             notes: Vec::with_capacity(alloc, room)?,
             ran_out: false,
@@ -139,13 +139,13 @@ impl<O: TreeOrder> Recorder<O> {
     pub(crate) fn record(
         &mut self,
         event: &Event<O::Key>,
-        keeping: &Keeping,
+        options: &RecordingOptions,
     ) -> Result<Reply<O::Key>, Refusal>
         ensures recorded { IfOk result
-            (RecordsEvent O.order keeping.now.events event.now self.old self.new) }
+            (RecordsEvent O.order options.now.events event.now self.old self.new) }
         ensures refusal { IfErr result (λ e. e ≡ Refusal.OutOfMemory) }
     {
-        let reply = self.world.step_reported(event, keeping, &mut self.kept);
+        let reply = self.world.step_reported(event, options, &mut self.kept);
         if reply.is_refused_for_memory() || self.kept.ran_out {
             return Err(Refusal::OutOfMemory);
         }
@@ -156,13 +156,13 @@ impl<O: TreeOrder> Recorder<O> {
     pub(crate) fn obey(
         &mut self,
         command: &Command<O::Key>,
-        keeping: &Keeping,
+        options: &RecordingOptions,
     ) -> Result<(), Refusal>
         ensures obeyed { OnOk result
-            (RecordsCommand O.order keeping.now.events command.now self.old self.new) }
+            (RecordsCommand O.order options.now.events command.now self.old self.new) }
         ensures refusal { IfErr result (λ e. e ≡ Refusal.OutOfMemory) }
     {
-        self.world.obey(command, keeping, &mut self.kept)?;
+        self.world.obey(command, options, &mut self.kept)?;
         if self.kept.ran_out {
             return Err(Refusal::OutOfMemory);
         }
@@ -189,7 +189,7 @@ impl<O: TreeOrder> Recorder<O> {
         ensures { IsWhole O.order self result }
     {
         let sequence = self.world.sequence();
-        let Kept { events, notes, .. } = self.kept;
+        let Recording { events, notes, .. } = self.kept;
         Trace {
             events,
             notes,
@@ -207,7 +207,7 @@ impl<O: TreeOrder> Recorder<O> {
         if !world.is_counting() {
             return Err(Refusal::OutOfMemory);
         }
-        let Kept { notes, .. } = kept;
+        let Recording { notes, .. } = kept;
         Ok(Notes {
             notes,
             sequence: world.sequence(),
