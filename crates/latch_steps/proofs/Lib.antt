@@ -12,7 +12,7 @@ mod WorldLemmas
 mod EventCountLemmas
 pub mod RunLemmas
 pub mod ReportLemmas
-mod RecorderLemmas
+mod RecordingLemmas
 mod DriverLemmas
 mod HeldLookupLemmas
 mod Promising

@@ -18,19 +18,19 @@ use Rattle.latch_steps.specs.Promises.{AreNotesOfCommands}
 
 -- the notes that nobody has taken yet
 abbrev pub notes_in : {O K : Type 0} → Driver O K → List (Note K)
-notes_in d = d.recorder.kept.notes.items
+notes_in d = d.recording.notes.items
 
 -- from the opening on a driver carried out these commands, over red-black trees, and these notes
 -- were taken from it
 pub record HasDriven {O K : Type 0} (o : Order K) (l : Layout) (start : ℕ)
     (commands : List (Command K)) (taken : List (Note K)) (d : Driver O K) : Type 0 where
   pub opened : MayOpen l start
-  pub layout : layout_in d.recorder.world ≡ l
+  pub layout : layout_in d.world ≡ l
   pub run : List (Done K)
   pub steps : Run (machine_of o l) (opening (capacity_of l) start) run
   pub expands : Expand (opening (capacity_of l) start) commands run
   pub notes : taken ++ notes_in d ≡ notes_of run
-  pub shows : RepresentsMoment o d.recorder.world
+  pub shows : RepresentsMoment o d.world
       (last_of (opening (capacity_of l) start) run)
   pub shallow : AreShallow (capacity_of l) run
 

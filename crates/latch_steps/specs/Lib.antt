@@ -35,7 +35,7 @@ pub mod AtOnce
 pub mod Reports
 -- a lookup held apart while its loads run
 pub mod HeldLookups
--- what a recorder keeps of a run
-pub mod Recorders
+-- what is kept of a run that is recorded
+pub mod Recordings
 -- a run whose commands come one after another
 pub mod Drivers

@@ -6,7 +6,8 @@ ghost use Rattle.latch_steps.specs.Drivers.{DrivesOn, HasDriven, IsTakenFrom, Le
 
 use crate::commands::Command;
 use crate::replies::Note;
-use crate::traces::{Notes, Recorder, RecordingOptions};
+use crate::traces::{Notes, Recording, RecordingOptions};
+use crate::worlds::World;
 use order_laws::{Refusal, TreeOrder};
 use std::alloc::Global;
 use word_layout::Layout;
@@ -15,7 +16,8 @@ use word_layout::Layout;
 /// were not taken yet.
 #[derive(Drop)]
 pub struct Driver<O: TreeOrder> {
-    recorder: Recorder<O>,
+    world: World<O>,
+    recording: Recording<O::Key>,
 }
 
 impl<O: TreeOrder> Driver<O> {
@@ -30,8 +32,9 @@ impl<O: TreeOrder> Driver<O> {
         ensures may { IfOk result (λ driver. MayOpen l start) }
         ensures refusal { IfErr result (IsOpeningRefused l start) }
     {
-        let recorder = Recorder::open(alloc, l, start, 0)?;
-        Ok(Driver { recorder })
+        let world = World::open(alloc, l, start)?;
+        let recording = Recording::new(alloc, 0)?;
+        Ok(Driver { world, recording })
     }
 
     /// Does the events of a command. Refused by [`Refusal::OutOfMemory`] alone, which gives up the
@@ -40,8 +43,9 @@ impl<O: TreeOrder> Driver<O> {
         ensures driven { OnOk result (DrivesOn O.order command.now self.old self.new) }
         ensures refusal { IfErr result (λ why. why ≡ Refusal.OutOfMemory) }
     {
-        self.recorder
-            .obey(command, &RecordingOptions { events: false })?;
+        let options = RecordingOptions { events: false };
+        self.world.obey(command, &options, &mut self.recording)?;
+        self.recording.unless_ran_out()?;
         Ok(())
     }
 
@@ -49,7 +53,7 @@ impl<O: TreeOrder> Driver<O> {
     pub fn notes(&self) -> &[Note<O::Key>]
         ensures { result.now ≡ notes_in self.now }
     {
-        self.recorder.notes()
+        self.recording.notes()
     }
 
     /// Takes these notes from it.
@@ -57,7 +61,7 @@ impl<O: TreeOrder> Driver<O> {
         ensures taken { IsTakenFrom O.order self.old self.new }
         ensures none { notes_in self.new ≡ [] }
     {
-        self.recorder.forget_notes();
+        self.recording.forget_notes();
     }
 
     /// The notes that were not taken, and the sequence as it is now. With those that were taken they
@@ -69,7 +73,8 @@ impl<O: TreeOrder> Driver<O> {
         ensures left { IfOk result (λ left. left.notes.items ≡ notes_in self) }
         ensures refusal { IfErr result (λ why. why ≡ Refusal.OutOfMemory) }
     {
-        let left = self.recorder.finish_notes()?;
+        let Driver { world, recording } = self;
+        let left = Notes::of(world, recording)?;
         Ok(left)
     }
 }

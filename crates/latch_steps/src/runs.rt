@@ -7,7 +7,8 @@ ghost use Rattle.latch_steps.specs.Promises.{IsNearTrace};
 
 use crate::commands::Command;
 use crate::events::Event;
-use crate::traces::{Recorder, RecordingOptions, Trace};
+use crate::traces::{Recording, RecordingOptions, Trace};
+use crate::worlds::World;
 use order_laws::{Refusal, TreeOrder};
 use std::alloc::Global;
 use word_layout::Layout;
@@ -36,11 +37,17 @@ pub fn run<O: TreeOrder>(
     ensures may { IfOk result (λ t. MayOpen l start) }
     ensures refusal { IfErr result (IsOpeningRefused l start) }
 {
-    let mut recorder = Recorder::<O>::open(alloc, l, start, 0)?;
+    let mut world = World::<O>::open(alloc, l, start)?;
+    let mut recording = Recording::new(alloc, 0)?;
     for event in events {
-        let _ = recorder.record(event, &RecordingOptions { events: true })?;
+        let options = RecordingOptions { events: true };
+        let reply = world.step_reported(event, &options, &mut recording);
+        if reply.is_refused_for_memory() {
+            return Err(Refusal::OutOfMemory);
+        }
+        recording.unless_ran_out()?;
     }
-    Ok(recorder.finish())
+    Ok(Trace::of(world, recording))
 }
 
 /// Does the events of these commands one after another, from an empty table with its sequence at
@@ -61,11 +68,14 @@ pub fn drive<O: TreeOrder>(
     ensures may { IfOk result (λ t. MayOpen l start) }
     ensures refusal { IfErr result (IsOpeningRefused l start) }
 {
-    let mut recorder = Recorder::<O>::open(alloc, l, start, reads_among(commands))?;
+    let mut world = World::<O>::open(alloc, l, start)?;
+    let mut recording = Recording::new(alloc, reads_among(commands))?;
     for command in commands {
-        recorder.obey(command, &RecordingOptions { events: true })?;
+        let options = RecordingOptions { events: true };
+        world.obey(command, &options, &mut recording)?;
+        recording.unless_ran_out()?;
     }
-    Ok(recorder.finish())
+    Ok(Trace::of(world, recording))
 }
 
 /// How many of the commands ask for loads, with which a lookup may return: a list of notes that

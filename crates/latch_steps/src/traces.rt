@@ -1,17 +1,14 @@
 //! Whole runs, and what they leave.
 
-ghost use Rattle.std.specs.Prelude.{◌≡◌, [], IfOk, IfErr, OnOk};
-ghost use Rattle.latch_core.specs.Writers.{IsOpeningRefused};
+ghost use Rattle.std.specs.Prelude.{◌≡◌, [], false, IfOk, IfErr, OnOk};
 ghost use Rattle.latch_steps.specs.Traces.{note_of};
 
-use crate::commands::Command;
 use crate::events::Event;
 use crate::replies::{Note, Reply};
 use crate::reports::{Outcome, Report};
 use crate::worlds::World;
 use order_laws::{Refusal, TreeOrder};
-use std::alloc::Global;
-use word_layout::Layout;
+use std::alloc::{AllocError, Global};
 
 /// What a run leaves.
 #[derive(Drop)]
@@ -42,18 +39,11 @@ pub(crate) struct Recording<K> {
     ran_out: bool,
 }
 
-/// How a recorder keeps a run.
+/// How a run is recorded.
 #[derive(Drop)]
 pub(crate) struct RecordingOptions {
     /// Whether the events are kept too.
     pub(crate) events: bool,
-}
-
-/// A world, and what is kept of what it did.
-#[derive(Drop)]
-pub(crate) struct Recorder<O: TreeOrder> {
-    world: World<O>,
-    kept: Recording<O::Key>,
 }
 
 /// What a reply is noted as: a lookup that returned, or a refusal.
@@ -68,7 +58,7 @@ fn note_of<K: Copy>(reply: &Reply<K>) -> Option<Note<K>>
 }
 
 impl RecordingOptions {
-    ghost use Rattle.latch_steps.specs.Recorders.{AppendsCopy, AppendsNote};
+    ghost use Rattle.latch_steps.specs.Recordings.{AppendsCopy, AppendsNote};
 
     /// Appends a copy of an event, if events are kept. Refused by [`Refusal::OutOfMemory`] alone.
     fn keep<K: Copy>(&self, events: &mut Vec<Event<K>>, event: &Event<K>) -> Result<(), Refusal>
@@ -103,7 +93,7 @@ impl RecordingOptions {
 }
 
 impl<K: Copy> Report<K> for RecordingOptions {
-    ghost use Rattle.latch_steps.specs.Recorders.{Keeps};
+    ghost use Rattle.latch_steps.specs.Recordings.{Keeps};
 
     type To = Recording<K>;
 
@@ -117,97 +107,75 @@ impl<K: Copy> Report<K> for RecordingOptions {
     }
 }
 
-impl<O: TreeOrder> Recorder<O> {
-    ghost use Rattle.latch_steps.specs.Recorders.{IsNew, IsWhole, AreWhole};
-    ghost use Rattle.latch_steps.specs.Recorders.{RecordsCommand, RecordsEvent};
+impl<K: Drop> Recording<K> {
+    ghost use Rattle.latch_steps.specs.Recordings.{IsEmpty};
 
-    /// A world before any event, with nothing recorded, and room for `room` notes.
-    pub(crate) fn open(alloc: Global, l: Layout, start: u64, room: usize) -> Result<Self, Refusal>
-        ensures new { IfOk result (IsNew O.order l start) }
-        ensures refusal { IfErr result (IsOpeningRefused l start) }
+    /// Nothing, with room for `room` notes.
+    pub(crate) fn new(alloc: Global, room: usize) -> Result<Self, AllocError>
+        ensures { IfOk result IsEmpty }
     {
-        let world = World::open(alloc, l, start)?;
-        let kept = Recording {
+        Ok(Recording {
             events: Vec::new(alloc),
             notes: Vec::with_capacity(alloc, room)?,
             ran_out: false,
-        };
-        Ok(Recorder { world, kept })
+        })
     }
 
-    /// Does one event and records it. Refused by [`Refusal::OutOfMemory`] alone.
-    pub(crate) fn record(
-        &mut self,
-        event: &Event<O::Key>,
-        options: &RecordingOptions,
-    ) -> Result<Reply<O::Key>, Refusal>
-        ensures recorded { IfOk result
-            (RecordsEvent O.order options.now.events event.now self.old self.new) }
+    /// Refused by [`Refusal::OutOfMemory`] if memory ran out.
+    pub(crate) fn unless_ran_out(&self) -> Result<(), Refusal>
+        ensures whole { OnOk result (self.now.ran_out ≡ false) }
         ensures refusal { IfErr result (λ e. e ≡ Refusal.OutOfMemory) }
     {
-        let reply = self.world.step_reported(event, options, &mut self.kept);
-        if reply.is_refused_for_memory() || self.kept.ran_out {
-            return Err(Refusal::OutOfMemory);
-        }
-        Ok(reply)
-    }
-
-    /// Does the events of a command. Refused by [`Refusal::OutOfMemory`] alone.
-    pub(crate) fn obey(
-        &mut self,
-        command: &Command<O::Key>,
-        options: &RecordingOptions,
-    ) -> Result<(), Refusal>
-        ensures obeyed { OnOk result
-            (RecordsCommand O.order options.now.events command.now self.old self.new) }
-        ensures refusal { IfErr result (λ e. e ≡ Refusal.OutOfMemory) }
-    {
-        self.world.obey(command, options, &mut self.kept)?;
-        if self.kept.ran_out {
+        if self.ran_out {
             return Err(Refusal::OutOfMemory);
         }
         Ok(())
     }
 
     /// What was noted.
-    pub(crate) fn notes(&self) -> &[Note<O::Key>]
-        ensures { result.now ≡ self.now.kept.notes.items }
+    pub(crate) fn notes(&self) -> &[Note<K>]
+        ensures { result.now ≡ self.now.notes.items }
     {
-        self.kept.notes.as_slice()
+        self.notes.as_slice()
     }
 
     /// Keeps no note of what was noted.
     pub(crate) fn forget_notes(&mut self)
-        ensures none { self.new.kept.notes.items ≡ [] }
-        ensures world { self.new.world ≡ self.old.world }
+        ensures { self.new.notes.items ≡ [] }
     {
-        self.kept.notes.clear();
+        self.notes.clear();
     }
+}
 
-    /// What was recorded, with the sequence as it is now.
-    pub(crate) fn finish(self) -> Trace<O>
-        ensures { IsWhole O.order self result }
+impl<O: TreeOrder> Trace<O> {
+    ghost use Rattle.latch_steps.specs.Recordings.{IsWhole};
+
+    /// The trace of a world that was recorded, with the sequence as it is now.
+    pub(crate) fn of(world: World<O>, recording: Recording<O::Key>) -> Self
+        ensures { IsWhole O.order world recording result }
     {
-        let sequence = self.world.sequence();
-        let Recording { events, notes, .. } = self.kept;
+        let Recording { events, notes, .. } = recording;
         Trace {
             events,
             notes,
-            sequence,
+            sequence: world.sequence(),
         }
     }
+}
 
-    /// What was noted, with the sequence as it is now. A run of 2 to the power 64
-    /// events less one, or of more, is refused as too large.
-    pub(crate) fn finish_notes(self) -> Result<Notes<O>, Refusal>
-        ensures notes { IfOk result (AreWhole O.order self) }
+impl<O: TreeOrder> Notes<O> {
+    ghost use Rattle.latch_steps.specs.Recordings.{AreWhole};
+
+    /// The notes of a world that was recorded, with the sequence as it is now. A run of 2 to the
+    /// power 64 events less one, or of more, is refused as too large.
+    pub(crate) fn of(world: World<O>, recording: Recording<O::Key>) -> Result<Self, Refusal>
+        ensures notes { IfOk result (AreWhole O.order world recording) }
         ensures refusal { IfErr result (λ e. e ≡ Refusal.OutOfMemory) }
     {
-        let Recorder { world, kept } = self;
         if !world.is_counting() {
             return Err(Refusal::OutOfMemory);
         }
-        let Recording { notes, .. } = kept;
+        let Recording { notes, .. } = recording;
         Ok(Notes {
             notes,
             sequence: world.sequence(),

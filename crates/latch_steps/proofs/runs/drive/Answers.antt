@@ -1,46 +1,46 @@
 use Rattle.std.proofs.Common.{true, subst, arith}
 use Rattle.std.proofs.lemmas.List.{take_all}
 use Rattle.word_layout.specs.Layouts.{capacity_of}
+use Rattle.latch_steps.specs.Recordings.{Keeps}
 use Rattle.latch_steps.specs.Runs.{opening}
 use Rattle.latch_steps.specs.Expands.{Expand}
 use Rattle.latch_steps.proofs.Promising.{obeyed_none, obeyed_more, safe_trace, quiet_trace, near_trace}
-use Rattle.latch_steps.proofs.RecorderLemmas.{trace_of}
+use Rattle.latch_steps.proofs.RecordingLemmas.{trace_of}
 use Rattle.latch_steps.proofs.runs.drive.Goals as goal
 
 pub loop-command-init : goal.loop-command-init
-loop-command-init g c =
-    obeyed_none g.O.TreeOrder.order true (opening (capacity_of c.args.l) c.args.start)
-    c.in_ok-recorder.recorder c.in_ok-recorder.ensures.new.shows
+loop-command-init g c = record {
+  obeyed = obeyed_none g.O.TreeOrder.order (Keeps true) (opening (capacity_of c.args.l) c.args.start) c.in_ok-world.world c.in_ok-recording.recording c.in_ok-world.ensures.shows;
+  whole = c.in_ok-recording.ensures.whole;
+}
 
 pub loop-command-preserved : goal.loop-command-preserved
-loop-command-preserved g c =
-    obeyed_more g.O.TreeOrder.order true (opening (capacity_of c.args.l) c.args.start)
-    c.in_ok-recorder.recorder c.loop-command.recorder c.obey.new.self c.args.commands.now
-    c.loop-command.command-index c.command-item.result (omega arith) c.command-item.is
-    c.loop-command.invariant c.in_ok-obey.ensures.obeyed
+loop-command-preserved g c = record {
+  obeyed = obeyed_more g.O.TreeOrder.order (Keeps true) (opening (capacity_of c.args.l) c.args.start) c.in_ok-world.world c.in_ok-recording.recording c.loop-command.world c.obey.new.self c.loop-command.recording c.obey.new.to c.args.commands.now
+      c.loop-command.command-index c.command-item.result (omega arith) c.command-item.is c.loop-command.invariant.obeyed c.in_ok-obey.ensures.obeyed;
+  whole = c.in_ok-unless_ran_out.ensures.whole;
+}
 
 pub returns-clause-expands : goal.returns-clause-expands
 returns-clause-expands g c =
-    let h = c.loop-command.invariant in
+    let h = c.loop-command.invariant.obeyed in
     let all = take_all c.loop-command.command-index c.args.commands.now (omega arith) in (
       h.run,
-      trace_of g.O.TreeOrder.order c.args.l c.args.start c.in_ok-recorder.recorder c.loop-command.recorder
-          h.run c.in_ok-recorder.ensures.new c.finish.result c.finish.ensures h.records,
+      trace_of g.O.TreeOrder.order c.args.l c.args.start c.in_ok-world.world c.loop-command.world c.in_ok-recording.recording c.loop-command.recording h.run c.of.result
+          c.in_ok-world.ensures.layout c.in_ok-recording.ensures c.loop-command.invariant.whole c.of.ensures h.reported,
       subst (λ cs. Expand (opening (capacity_of c.args.l) c.args.start) cs h.run) all h.expands,
     )
 
 pub returns-clause-safe : goal.returns-clause-safe
 returns-clause-safe g c =
-    safe_trace g.O.TreeOrder.order g.met.O.TreeOrder.lawful c.args.l c.args.start c.in_ok-recorder.recorder
-    c.in_ok-recorder.ensures.new c.finish.result c.finish.ensures.few
+    safe_trace g.O.TreeOrder.order g.met.O.TreeOrder.lawful c.args.l c.args.start c.in_ok-world.ensures.may c.of.result c.of.ensures.few
 
 pub returns-clause-quiet : goal.returns-clause-quiet
 returns-clause-quiet g c =
-    quiet_trace g.O.TreeOrder.order g.met.O.TreeOrder.lawful c.args.l c.args.start c.in_ok-recorder.recorder
-    c.in_ok-recorder.ensures.new c.finish.result c.finish.ensures.few
+    quiet_trace g.O.TreeOrder.order g.met.O.TreeOrder.lawful c.args.l c.args.start c.in_ok-world.ensures.may c.of.result c.of.ensures.few
 
 pub returns-clause-near : goal.returns-clause-near
 returns-clause-near g c =
-    let h = c.loop-command.invariant in
-    near_trace g.O.TreeOrder.order g.met.O.TreeOrder.lawful c.args.l c.args.start c.in_ok-recorder.recorder
-    c.in_ok-recorder.ensures.new c.loop-command.recorder c.finish.result h.run c.finish.ensures h.records
+    let h = c.loop-command.invariant.obeyed in
+    near_trace g.O.TreeOrder.order g.met.O.TreeOrder.lawful c.args.l c.args.start c.in_ok-world.ensures.may c.in_ok-world.world c.loop-command.world c.in_ok-recording.recording c.loop-command.recording h.run c.of.result
+    c.in_ok-world.ensures.layout c.in_ok-recording.ensures c.loop-command.invariant.whole c.of.ensures h.reported

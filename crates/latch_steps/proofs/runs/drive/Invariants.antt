@@ -1,11 +1,14 @@
-use Rattle.std.proofs.Common.{true, take}
+use Rattle.std.proofs.Common.{◌≡◌, false, true, take}
 use Rattle.word_layout.specs.Layouts.{capacity_of}
+use Rattle.latch_steps.specs.Recordings.{Keeps}
 use Rattle.latch_steps.specs.Runs.{opening}
 use Rattle.latch_steps.proofs.Promising.{Obeyed}
 use Rattle.latch_steps.proofs.runs.drive.Given as goal
 
--- the recorder did the events of the commands before this one
+-- the events of the commands before this one were done and recorded
 abbrev pub invariant-loop-command : goal.invariant-loop-command
-invariant-loop-command g l =
-    Obeyed g.O.TreeOrder.order true (opening (capacity_of l.fn.l) l.start) l.initial.recorder l.recorder
-    (take l.command-index l.commands)
+invariant-loop-command g l = record {
+  obeyed : Obeyed g.O.TreeOrder.order (Keeps true) (opening (capacity_of l.fn.l) l.start) l.initial.world l.world l.initial.recording l.recording
+      (take l.command-index l.commands);
+  whole : l.recording.ran_out ≡ false;
+}

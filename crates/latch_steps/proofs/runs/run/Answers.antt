@@ -1,60 +1,63 @@
-use Rattle.std.proofs.Common.{true, ◌∙◌, ◌++◌, ◌∷◌, [], refl, ap, arith}
+use Rattle.std.proofs.Common.{true, ◌∙◌, ◌++◌, ◌∷◌, [], refl, sym, ap, arith}
 use Rattle.std.proofs.lemmas.List.{take_all}
 use Rattle.facts.proofs.Lists.{take_push}
 use Rattle.word_layout.specs.Layouts.{capacity_of}
+use Rattle.latch_steps.specs.Recordings.{Keeps}
 use Rattle.latch_steps.specs.Runs.{step_done, last_of, opening}
 use Rattle.latch_steps.proofs.Promising.{safe_trace, quiet_trace, near_trace}
-use Rattle.latch_steps.proofs.RecorderLemmas.{records_none, records_append, trace_of}
+use Rattle.latch_steps.proofs.RecordingLemmas.{trace_of}
+use Rattle.latch_steps.proofs.ReportLemmas.{none_reported, runs_reported}
 use Rattle.latch_steps.proofs.RunLemmas.{events_append}
 use Rattle.latch_steps.proofs.runs.run.Goals as goal
 
 pub loop-event-init : goal.loop-event-init
-loop-event-init g c = (
-  [],
-  records_none g.O.TreeOrder.order true c.in_ok-recorder.recorder
-      (opening (capacity_of c.args.l) c.args.start) c.in_ok-recorder.ensures.new.shows,
-  refl,
-)
+loop-event-init g c = record {
+  done = ([], none_reported g.O.TreeOrder.order (Keeps true) c.in_ok-world.world c.in_ok-recording.recording (opening (capacity_of c.args.l) c.args.start) c.in_ok-world.ensures.shows, refl);
+  whole = c.in_ok-recording.ensures.whole;
+}
 
 pub loop-event-preserved : goal.loop-event-preserved
 loop-event-preserved g c =
+    let o = g.O.TreeOrder.order in
     let w0 = opening (capacity_of c.args.l) c.args.start in
-    let h = c.loop-event.invariant in
-    let d = c.in_ok-record.ensures.recorded (last_of w0 h.0) h.1.shows in
-    let one = step_done c.event-item.result c.in_ok-record.field-0 d.0 in (
-      h.0 ++ one ∷ [],
-      records_append g.O.TreeOrder.order true c.in_ok-recorder.recorder c.loop-event.recorder c.record.new.self w0 h.0 (one ∷ []) h.1 d.1,
-      events_append h.0 (one ∷ []) ∙ ap (λ es. es ++ c.event-item.result ∷ []) h.2
-          ∙ take_push c.args.events.now c.loop-event.event-index c.event-item.result (omega arith) c.event-item.is,
-    )
+    let (run, done, events) = c.loop-event.invariant.done in
+    let (next, one) = c.step_reported-reply.ensures.reported (sym c.is_refused_for_memory.ensures ∙ c.if-is_refused_for_memory.false) (last_of w0 run) done.shows in
+    let d = step_done c.event-item.result c.step_reported-reply.result next in
+    record {
+      done = (
+        run ++ d ∷ [],
+        runs_reported o (Keeps true) c.in_ok-world.world c.loop-event.world c.step_reported-reply.new.self c.in_ok-recording.recording c.loop-event.recording c.step_reported-reply.new.to w0 run (d ∷ []) done one,
+        events_append run (d ∷ []) ∙ ap (λ es. es ++ c.event-item.result ∷ []) events
+            ∙ take_push c.args.events.now c.loop-event.event-index c.event-item.result (omega arith) c.event-item.is,
+      );
+      whole = c.in_ok-unless_ran_out.ensures.whole;
+    }
 
 pub returns-clause-events : goal.returns-clause-events
 returns-clause-events g c =
-    let h = c.loop-event.invariant in
-    (trace_of g.O.TreeOrder.order c.args.l c.args.start c.in_ok-recorder.recorder c.loop-event.recorder
-    h.0 c.in_ok-recorder.ensures.new c.finish.result c.finish.ensures h.1).events
+    let h = c.loop-event.invariant.done in
+    (trace_of g.O.TreeOrder.order c.args.l c.args.start c.in_ok-world.world c.loop-event.world c.in_ok-recording.recording c.loop-event.recording h.0 c.of.result
+    c.in_ok-world.ensures.layout c.in_ok-recording.ensures c.loop-event.invariant.whole c.of.ensures h.1).events
     ∙ h.2 ∙ take_all c.loop-event.event-index c.args.events.now (omega arith)
 
 pub returns-clause-traces : goal.returns-clause-traces
 returns-clause-traces g c =
-    let h = c.loop-event.invariant in (
+    let h = c.loop-event.invariant.done in (
       h.0,
-      trace_of g.O.TreeOrder.order c.args.l c.args.start c.in_ok-recorder.recorder c.loop-event.recorder
-          h.0 c.in_ok-recorder.ensures.new c.finish.result c.finish.ensures h.1,
+      trace_of g.O.TreeOrder.order c.args.l c.args.start c.in_ok-world.world c.loop-event.world c.in_ok-recording.recording c.loop-event.recording h.0 c.of.result
+          c.in_ok-world.ensures.layout c.in_ok-recording.ensures c.loop-event.invariant.whole c.of.ensures h.1,
     )
 
 pub returns-clause-safe : goal.returns-clause-safe
 returns-clause-safe g c =
-    safe_trace g.O.TreeOrder.order g.met.O.TreeOrder.lawful c.args.l c.args.start c.in_ok-recorder.recorder
-    c.in_ok-recorder.ensures.new c.finish.result c.finish.ensures.few
+    safe_trace g.O.TreeOrder.order g.met.O.TreeOrder.lawful c.args.l c.args.start c.in_ok-world.ensures.may c.of.result c.of.ensures.few
 
 pub returns-clause-quiet : goal.returns-clause-quiet
 returns-clause-quiet g c =
-    quiet_trace g.O.TreeOrder.order g.met.O.TreeOrder.lawful c.args.l c.args.start c.in_ok-recorder.recorder
-    c.in_ok-recorder.ensures.new c.finish.result c.finish.ensures.few
+    quiet_trace g.O.TreeOrder.order g.met.O.TreeOrder.lawful c.args.l c.args.start c.in_ok-world.ensures.may c.of.result c.of.ensures.few
 
 pub returns-clause-near : goal.returns-clause-near
 returns-clause-near g c =
-    let h = c.loop-event.invariant in
-    near_trace g.O.TreeOrder.order g.met.O.TreeOrder.lawful c.args.l c.args.start c.in_ok-recorder.recorder
-    c.in_ok-recorder.ensures.new c.loop-event.recorder c.finish.result h.0 c.finish.ensures h.1
+    let h = c.loop-event.invariant.done in
+    near_trace g.O.TreeOrder.order g.met.O.TreeOrder.lawful c.args.l c.args.start c.in_ok-world.ensures.may c.in_ok-world.world c.loop-event.world c.in_ok-recording.recording c.loop-event.recording h.0 c.of.result
+    c.in_ok-world.ensures.layout c.in_ok-recording.ensures c.loop-event.invariant.whole c.of.ensures h.1
