@@ -4,7 +4,7 @@ use Rattle.std.specs.Prelude.{Option, Some, Result, Ok, Err, IfSome, false}
 use Rattle.std.specs.Io.KnownBytes.{Appends}
 use Rattle.texts.specs.declared.output.Output.{Output}
 use Rattle.texts.specs.Lines.{lines_of}
-use Rattle.texts.specs.Output.{has_failed, writer_of}
+use Rattle.texts.specs.Output.{contents_of, has_failed}
 use Rattle.listing.specs.Looks.{is_narrow}
 use Rattle.listing.specs.ListingNotes.{is_some_noted}
 use Rattle.listing.specs.declared.listing_notes.ListingNotes.{ListingNotes}
@@ -141,7 +141,7 @@ pub record IsFollowed {W : Type 0} (contents : W → Option (List ℕ)) (q : Sou
   pub written : List ℕ
   pub named : IsNamed q a first turns last held line written
   pub happen : Happen before after (flat_map events_of turns)
-  pub appended : Appends (contents (writer_of w)) (contents (writer_of w')) written
+  pub appended : Appends (contents_of contents w) (contents_of contents w') written
   pub sound : has_failed w' ≡ has_failed w
   pub none_back : KeepsNothingBack w w'
 

@@ -88,11 +88,11 @@ const ROOM: usize = 64;
 fn written(alloc: Global, answer: &Answer) -> Result<Vec<u8>, AllocError>
     ensures { IfOk result (λ text. text.items ≡ codes " " ++ text_of answer.now) }
 {
-    let mut text = Output::new(Vec::with_capacity(alloc, ROOM)?);
+    let mut text = Output::with_capacity(alloc, ROOM, Vec::new(alloc))?;
     text.put(b" ");
     put_answer(&mut text, answer);
-    if text.has_failed() {
+    let Some(text) = text.finish() else {
         return Err(AllocError);
-    }
-    Ok(text.into_inner())
+    };
+    Ok(text)
 }

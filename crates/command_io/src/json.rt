@@ -72,6 +72,7 @@ pub fn digit(n: u8) -> u8
 }
 
 /// Writes a number, as a text if a reader may round it.
+#[inline(always)]
 #[tactic(auto, unfolding(crate::specs::Json::json_number))]
 pub fn put_json_number<W: Write>(writer: &mut Output<W>, n: u64)
     ensures { Says W.contents writer.old writer.new (json_number n) }

@@ -1,7 +1,7 @@
 -- What is done and written of a trace whose steps are told, one command after another: of the
 -- functions of steps.
 use Rattle.std.proofs.Common.{◌≡◌, ◌≢◌, ℕ, true, false, List, [], ◌∷◌, ◌++◌, Option, Result, Ok, Err, refl, sym, ◌∙◌, ap, subst, append_assoc, append-nil, inl, inr}
-use Rattle.std.specs.Prelude.{IfErr, IfSome, OnErr, OnOk}
+use Rattle.std.specs.Prelude.{IfErr, IfSome, OnOk}
 use Rattle.std.proofs.lemmas.List.{map-append}
 use Rattle.order_laws.specs.declared.refusals.Refusal.TheVariants as refusal
 use Rattle.order_laws.specs.Orders.{Order}
@@ -17,7 +17,7 @@ use Rattle.latch_steps.proofs.RunLemmas.{last_append, run_append}
 use Rattle.texts.specs.declared.output.Output.{Output}
 use Rattle.texts.specs.Output.{Delivers, Says, has_failed}
 use Rattle.texts.specs.Said.{entries_after}
-use Rattle.texts.proofs.OutputLemmas.{all_written, nothing_said, part_written, same_text, then, then_flushed}
+use Rattle.texts.proofs.OutputLemmas.{all_delivered, nothing_said, part_written, same_text, then, then_flushed}
 use Rattle.texts.proofs.ReadLemmas.{of_read}
 use Rattle.texts.proofs.SaidLemmas.{none_before, one_more}
 use Rattle.run_files.specs.declared.command_lines.NumberedCommand.{NumberedCommand}
@@ -26,12 +26,11 @@ use Rattle.run_files.specs.CommandLines.{IsTaken, IsUnderstood, LinesLeft}
 use Rattle.run_files.specs.Trace.{Contents, command_lines, trace_of, with_header}
 use Rattle.command_io.specs.declared.fault.Fault.{Fault}
 use Rattle.command_io.specs.declared.fault.Fault.TheVariants.{Refused, BadLine, Write}
-use Rattle.engines.specs.StepRuns.{AreLinesTold, IsOpenedFor, StopsTelling, Tells}
+use Rattle.engines.specs.StepRuns.{AreLinesTold, IsOpenedFor, StopsTelling, Tells, TellsLines}
 use Rattle.engines.specs.StepTexts.{opening_text, steps_text}
 use Rattle.engines.specs.StepTraces.{AnswersStepsSaid, AreTold, IsBegunOf, IsBegunText, IsFrontText, IsStepsText, StopsAfter}
 use Rattle.engines.specs.TraceLines.{IsLinesFault, commands_of, numbers_of}
 use Rattle.engines.specs.Traces.{IsTextOf, order_by}
-use Rattle.engines.proofs.WrittenLemmas.{said_written}
 
 -- the events of a run that were reported as lines
 reported_said : {W : Type 0} (o : Order ℕ) (contents : W → Option (List ℕ)) (n line : ℕ) (w : Moment ℕ) (run : List (Done ℕ)) (a b : Output W)
@@ -112,17 +111,17 @@ module _ {O W : Type 0} (o : Order ℕ) (contents : W → Option (List ℕ)) (li
   }
 
   -- no command more could be taken from the lines
-  pub next_stops : (left : LinesLeft) (now : World O ℕ) (b : Output W) (f : Fault) → AreLinesTold o contents lines left old now a b → has_failed b ≡ false
+  pub next_stops : (left : LinesLeft) (now : World O ℕ) (b : Output W) (f : Fault) → AreLinesTold o contents lines left old now a b
       → left.said ≢ Ok [] → IsLinesFault left.said f → StopsTelling o contents lines old a b f
-  next_stops left now b (Refused refusal.OutOfMemory) t sound some is = (sound, (left, now, some, t))
-  next_stops left now b (BadLine place n) t sound some is = (is.0, sym t.taken.said ∙ ap (entries_after (commands_of t.front)) is.1)
-  next_stops left now b _ t sound some is = absurd is
+  next_stops left now b (Refused refusal.OutOfMemory) t some is = (left, now, some, t)
+  next_stops left now b (BadLine place n) t some is = (is.0, sym t.taken.said ∙ ap (entries_after (commands_of t.front)) is.1)
+  next_stops left now b _ t some is = absurd is
 
   -- memory ran out at a command, before anything of it was done
-  pub obey_stops : (left rest : LinesLeft) (now : World O ℕ) (b b' : Output W) (c : NumberedCommand) → AreLinesTold o contents lines left old now a b → has_failed b ≡ false
+  pub obey_stops : (left rest : LinesLeft) (now : World O ℕ) (b b' : Output W) (c : NumberedCommand) → AreLinesTold o contents lines left old now a b
       → IsTaken left c rest → b' ≡ b → StopsTelling o contents lines old a b' (Refused refusal.OutOfMemory)
-  obey_stops left rest now b b' c t sound taken same =
-      (ap has_failed same ∙ sound, (left, now, some_left left rest c taken, subst (λ x. AreLinesTold o contents lines left old now a x) (sym same) t))
+  obey_stops left rest now b b' c t taken same =
+      (left, now, some_left left rest c taken, subst (λ x. AreLinesTold o contents lines left old now a x) (sym same) t)
 
 -- what is left of commands, some of which were taken
 left_of : (front whole : List (Command ℕ)) (left : Result (List (Command ℕ)) ℕ) → entries_after front left ≡ Ok whole
@@ -160,30 +159,39 @@ module _ {O W : Type 0} (o : Order ℕ) (contents : W → Option (List ℕ)) (h 
         } in
         (opening_text h ++ told.text, subst (λ p. IsFrontText p c lines.lines rest.0 left.lines (opening_text h ++ told.text)) same here, then first told.said)
 
-    pub steps_cut : has_failed b' ≡ true → AnswersStepsSaid contents lines.lines (with_header h lines.said) a b' (Err Write)
-    steps_cut failed = (c, says, opened.opens, (front_said.0, (rest.0, left.lines, front_said.1), part_written front_said.2 failed))
+    module _ (d : Output W) (flushed : Delivers contents b' d []) where
+      steps_cut : has_failed d ≡ true → AnswersStepsSaid contents lines.lines (with_header h lines.said) a d (Err Write)
+      steps_cut failed = (c, says, opened.opens, (front_said.0, (rest.0, left.lines, front_said.1), part_written (then_flushed front_said.2 flushed).0 failed))
 
-    steps_begun : has_failed b' ≡ false → left.said ≢ Ok [] → AnswersStepsSaid contents lines.lines (with_header h lines.said) a b' (Err (Refused refusal.OutOfMemory))
-    steps_begun sound some =
-        let more : rest.0 ≢ [] = λ none. some (rest.1 ∙ ap (λ cs. Ok cs) none) in
-        inr (front_said.0, (c, says, opened.opens, (rest.0, left.lines, more, front_said.1)), all_written front_said.2 sound)
+      steps_begun : has_failed d ≡ false → left.said ≢ Ok [] → AnswersStepsSaid contents lines.lines (with_header h lines.said) a d (Err (Refused refusal.OutOfMemory))
+      steps_begun sound some =
+          let more : rest.0 ≢ [] = λ none. some (rest.1 ∙ ap (λ cs. Ok cs) none) in
+          inr (front_said.0, (c, says, opened.opens, (rest.0, left.lines, more, front_said.1)), all_delivered (then_flushed front_said.2 flushed) sound)
 
-    -- all of it, if the flush did not fail
-    pub steps_ended : left.said ≡ Ok [] → left.lines ≡ [] → (d : Output W) → Delivers contents b' d [] → (r : Result (Unit {0}) Fault)
-        → OnOk r (has_failed d ≡ false) → OnErr r (has_failed d ≡ true) → IfErr r (λ f. f ≡ Write) → AnswersStepsSaid contents lines.lines (with_header h lines.said) a d r
-    steps_ended ended none d flushed r sound failed is =
-        let gone : rest.0 ≡ [] = (let e = sym rest.1 ∙ ended in cc) in
-        let text = front_said.0 in
-        let whole : IsStepsText c lines.lines text = subst (λ ls. IsFrontText (order_by h.closed) c lines.lines [] ls text) none (subst (λ cs. IsFrontText (order_by h.closed) c lines.lines cs left.lines text) gone front_said.1) in
-        said_written contents a d text (then_flushed front_said.2 flushed) (AnswersStepsSaid contents lines.lines (with_header h lines.said) a d)
-        (λ u all. (c, says, opened.opens, (text, whole, all))) (λ part. (c, says, opened.opens, (text, ([], [], whole), part))) r sound failed is
+      steps_ended : has_failed d ≡ false → left.said ≡ Ok [] → left.lines ≡ [] → (u : Unit {0}) → AnswersStepsSaid contents lines.lines (with_header h lines.said) a d (Ok u)
+      steps_ended sound ended none u =
+          let gone : rest.0 ≡ [] = (let e = sym rest.1 ∙ ended in cc) in
+          let text = front_said.0 in
+          let whole : IsStepsText c lines.lines text = subst (λ ls. IsFrontText (order_by h.closed) c lines.lines [] ls text) none (subst (λ cs. IsFrontText (order_by h.closed) c lines.lines cs left.lines text) gone front_said.1) in
+          (c, says, opened.opens, (text, whole, all_delivered (then_flushed front_said.2 flushed) sound))
 
-  -- what an engine answers that stopped
-  pub steps_stopped : (b' : Output W) (f : Fault) → StopsTelling o contents lines world b b' f → AnswersStepsSaid contents lines.lines (with_header h lines.said) a b' (Err f)
-  steps_stopped b' (Refused refusal.OutOfMemory) (sound, (left, new, some, t)) = steps_begun left new b' t sound some
-  steps_stopped b' Write (failed, (left, new, t)) = steps_cut left new b' t failed
-  steps_stopped b' (BadLine place n) (first_file, bad) = let e = sym known.1 ∙ bad in absurd (cc)
-  steps_stopped b' _ stopped = absurd stopped
+  -- what an engine answers that told its commands, or stopped, and then flushed the output
+  module _ (b' d : Output W) (flushed : Delivers contents b' d []) where
+    pub steps_failed : (r : Result (Unit {0}) Fault) → OnOk r (TellsLines o contents lines world b b') → IfErr r (StopsTelling o contents lines world b b')
+        → has_failed d ≡ true → AnswersStepsSaid contents lines.lines (with_header h lines.said) a d (Err Write)
+    steps_failed (Ok u) (left, new, ended, none, t) stopped failed = steps_cut left new b' t d flushed failed
+    steps_failed (Err (Refused refusal.OutOfMemory)) told (left, new, some, t) failed = steps_cut left new b' t d flushed failed
+    steps_failed (Err Write) told (there, (left, new, t)) failed = steps_cut left new b' t d flushed failed
+    steps_failed (Err (BadLine place n)) told (first_file, bad) failed = let e = sym known.1 ∙ bad in absurd (cc)
+    steps_failed (Err _) told stopped failed = absurd stopped
+
+    pub steps_answered : (r : Result (Unit {0}) Fault) → OnOk r (TellsLines o contents lines world b b') → IfErr r (StopsTelling o contents lines world b b')
+        → has_failed d ≡ false → AnswersStepsSaid contents lines.lines (with_header h lines.said) a d r
+    steps_answered (Ok u) (left, new, ended, none, t) stopped sound = steps_ended left new b' t d flushed sound ended none u
+    steps_answered (Err (Refused refusal.OutOfMemory)) told (left, new, some, t) sound = steps_begun left new b' t d flushed sound some
+    steps_answered (Err Write) told (there, (left, new, t)) sound = let e = sym (flushed.0.stays there) ∙ sound in absurd (cc)
+    steps_answered (Err (BadLine place n)) told (first_file, bad) sound = let e = sym known.1 ∙ bad in absurd (cc)
+    steps_answered (Err _) told stopped sound = absurd stopped
 
 -- what was written before memory ran out, if the bytes are those that a reader had
 pub begun_read : {W : Type 0} (contents : W → Option (List ℕ)) (had : Option (List ℕ)) (bytes : List ℕ) → IfSome had (λ l. bytes ≡ l) → (w w' : Output W) → StopsAfter (IsBegunOf (command_lines bytes) (trace_of bytes)) contents w w'

@@ -1,5 +1,5 @@
 -- What the commands of a trace do that is run while its steps are written.
-use Rattle.std.specs.Prelude.{◌≡◌, ◌≢◌, ℕ, true, false, List, [], Ok, Err, Option}
+use Rattle.std.specs.Prelude.{◌≡◌, ◌≢◌, ℕ, true, List, [], Ok, Err, Option}
 use Rattle.order_laws.specs.Orders.{Order}
 use Rattle.order_laws.specs.declared.refusals.Refusal.TheVariants as refusal
 use Rattle.word_layout.specs.Layouts.{capacity_of, limit_of}
@@ -65,9 +65,8 @@ TellsLines {O} o contents lines old a b =
 abbrev pub StopsTelling : {O W : Type 0} → Order ℕ → (W → Option (List ℕ)) → LinesLeft → World O ℕ
     → Output W → Output W → Fault → Type 0
 StopsTelling {O} o contents lines old a b (Refused refusal.OutOfMemory) =
-    (has_failed b ≡ false)
-    × ((left : LinesLeft) × (new : World O ℕ) × (left.said ≢ Ok [])
-    × AreLinesTold o contents lines left old new a b)
+    (left : LinesLeft) × (new : World O ℕ) × (left.said ≢ Ok [])
+    × AreLinesTold o contents lines left old new a b
 StopsTelling {O} o contents lines old a b Write =
     (has_failed b ≡ true)
     × ((left : LinesLeft) × (new : World O ℕ) × AreLinesTold o contents lines left old new a b)

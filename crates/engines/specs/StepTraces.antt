@@ -3,7 +3,7 @@ use Rattle.std.specs.Prelude.{◌≡◌, ◌≢◌, ◌⊎◌, ℕ, List, [], �
 use Rattle.texts.specs.declared.counted.Counted.{Counted}
 use Rattle.texts.specs.Counted.{device_of}
 use Rattle.texts.specs.declared.output.Output.{Output}
-use Rattle.texts.specs.Output.{WroteAll}
+use Rattle.texts.specs.Output.{Delivered}
 use Rattle.run_files.specs.declared.command_lines.NumberedCommand.{NumberedCommand}
 use Rattle.run_files.specs.Trace.{Contents, command_lines}
 use Rattle.order_laws.specs.Orders.{Order}
@@ -74,7 +74,7 @@ abbrev pub StopsAfter : {W : Type 0} → (List ℕ → Type 0) → (W → Option
     → Output W → Output W → Type 0
 StopsAfter IsText contents w w' =
     (w' ≡ w)
-    ⊎ ((text : List ℕ) × IsText text × WroteAll contents w w' text)
+    ⊎ ((text : List ℕ) × IsText text × Delivered contents w w' text)
 
 -- a text of the commands before that at which memory ran out, if the lines of a trace say this
 abbrev pub IsBegunOf : List ℕ → Result Contents ℕ → List ℕ → Type 0

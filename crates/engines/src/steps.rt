@@ -3,10 +3,9 @@
 //! Each line is looked at before the first byte is written, so that a bad line leaves the output
 //! empty. Then each command is carried out as it is read, and the report of each of its events is
 //! the line that is written: nothing of it is kept.
-ghost use Rattle.std.specs.Prelude.{◌≡◌, false, IfErr, IfOk, OnOk};
+ghost use Rattle.std.specs.Prelude.{◌≡◌, IfErr, IfOk, OnOk};
 ghost use Rattle.run_files.specs.CommandLines.{IsUnderstood};
 ghost use Rattle.run_files.specs.Trace.{command_lines, trace_of, with_header};
-ghost use Rattle.texts.specs.Output.{has_failed};
 ghost use Rattle.engines.specs.StepRuns.{IsOpenedFor, StopsTelling, TellsLines};
 ghost use Rattle.engines.specs.StepTraces.{AnswersSteps, AnswersStepsSaid};
 ghost use Rattle.engines.specs.Traces.{IsNotOpened, order_by};
@@ -67,10 +66,10 @@ fn tell_steps<O: TreeOrder<Key = u64>, W: Write>(
 {
     let mut world = world_for::<O>(alloc, header)?;
     put_opening(writer, &header);
-    all_written(writer)?;
-    tell_lines(&mut world, lines, writer)?;
+    let told = tell_lines(&mut world, lines, writer);
     writer.flush();
-    all_written(writer)
+    all_written(writer)?;
+    told
 }
 
 /// An empty table as a header asks for it.
@@ -90,7 +89,6 @@ fn tell_lines<O: TreeOrder<Key = u64>, W: Write>(
     lines: &mut CommandLines<'_>,
     writer: &mut Output<W>,
 ) -> Result<(), Fault>
-    requires { has_failed writer.old ≡ false }
     ensures told { OnOk result (TellsLines O.order W.contents lines.old world.old
         writer.old writer.new) }
     ensures fault { IfErr result (StopsTelling O.order W.contents lines.old world.old

@@ -3,22 +3,21 @@
 //! A command is run as soon as it is read, and what it came to is put after the text: neither
 //! commands nor notes are kept. The text goes out at the end, so that a bad line, or memory that
 //! runs out, leaves the output empty.
-ghost use Rattle.std.specs.Prelude.{◌≡◌, ◌++◌, [], IfErr, IfOk, flat_map};
+ghost use Rattle.std.specs.Prelude.{◌≡◌, [], IfErr, IfOk, OnOk};
 ghost use Rattle.run_files.specs.Trace.{trace_of, with_header};
 ghost use Rattle.engines.specs.TraceLines.{IsLinesFault};
-ghost use Rattle.engines.specs.TraceTexts.{note_text};
 ghost use Rattle.engines.specs.GatheredTraces.{GathersCommand, GathersLines, HasGathered};
 ghost use Rattle.engines.specs.Traces.{AnswersSaid, AnswersTrace, IsNotOpened, order_by};
 
 use crate::trace_lines::{layout_for, next_command, understand};
 use crate::trace_texts::{put_end, put_notes};
 use command_io::{Fault, all_written, read_at};
-use latch_steps::{Command, Driver, Note};
+use latch_steps::{Command, Driver};
 use order_laws::{Closed, HalfOpen, Refusal, TreeOrder};
 use run_files::{CommandLines, Header, open_trace};
-use std::alloc::{AllocError, Global};
+use std::alloc::Global;
 use std::io::{Read, Write};
-use texts::{Counted, Output};
+use texts::{BLOCK, Counted, Output};
 
 /// Runs a trace, and writes a line for each lookup that returned and for each refusal, and the line
 /// of the last sequence.
@@ -69,8 +68,12 @@ fn run_lines<O: TreeOrder<Key = u64>, W: Write>(
             return Err(Fault::Refused(why));
         }
     };
-    let text = gather_lines(&mut driver, lines, Vec::new(alloc))?;
+    let mut gathered = Output::with_capacity(alloc, BLOCK, Vec::new(alloc))?;
+    gather_lines(&mut driver, lines, &mut gathered)?;
     let left = driver.finish()?;
+    let Some(text) = gathered.finish() else {
+        return Err(Fault::Refused(Refusal::OutOfMemory));
+    };
     writer.put(&text);
     put_end(writer, left.sequence);
     writer.flush();
@@ -87,47 +90,37 @@ fn driver_for<O: TreeOrder<Key = u64>>(alloc: Global, header: Header) -> Result<
     Ok(driver)
 }
 
-/// Runs the commands of lines, and puts after the text what they came to.
-fn gather_lines<O: TreeOrder<Key = u64>>(
+/// Runs the commands of lines, and says what they came to.
+fn gather_lines<O: TreeOrder<Key = u64>, W: Write>(
     driver: &mut Driver<O>,
     lines: &mut CommandLines<'_>,
-    text: Vec<u8>,
-) -> Result<Vec<u8>, Fault>
-    ensures gathered { IfOk result (λ more. GathersLines O.order lines.old.said driver.old
-        text.items driver.new more.items) }
+    gathered: &mut Output<W>,
+) -> Result<(), Fault>
+    ensures gathered { OnOk result (GathersLines O.order W.contents lines.old.said
+        driver.old driver.new gathered.old gathered.new) }
     ensures fault { IfErr result (IsLinesFault lines.old.said) }
 {
-    let mut gathered = text;
     while let Some(next) = next_command(lines)? {
-        gathered = gather_command(driver, &next.command, gathered)?;
+        gather_command(driver, &next.command, gathered)?;
     }
-    Ok(gathered)
+    Ok(())
 }
 
-/// Runs a command, and puts after the text what it came to.
-fn gather_command<O: TreeOrder<Key = u64>>(
+/// Runs a command, and says what it came to.
+fn gather_command<O: TreeOrder<Key = u64>, W: Write>(
     driver: &mut Driver<O>,
     command: &Command<u64>,
-    text: Vec<u8>,
-) -> Result<Vec<u8>, Refusal>
-    ensures gathered { IfOk result (λ more. GathersCommand O.order command.now driver.old
-        text.items driver.new more.items) }
+    gathered: &mut Output<W>,
+) -> Result<(), Refusal>
+    ensures gathered { OnOk result (GathersCommand O.order W.contents command.now
+        driver.old driver.new gathered.old gathered.new) }
     ensures refusal { IfErr result (λ why. why ≡ Refusal.OutOfMemory) }
 {
     driver.obey(command)?;
-    let text = gather_notes(driver.notes(), text)?;
+    put_notes(gathered, driver.notes());
     driver.forget_notes();
-    Ok(text)
-}
-
-/// Puts the lines of notes after the text.
-fn gather_notes(notes: &[Note<u64>], text: Vec<u8>) -> Result<Vec<u8>, AllocError>
-    ensures { IfOk result (λ more. more.items ≡ text.items ++ flat_map note_text notes.now) }
-{
-    let mut output = Output::new(text);
-    put_notes(&mut output, notes);
-    if output.has_failed() {
-        return Err(AllocError);
+    if gathered.has_failed() {
+        return Err(Refusal::OutOfMemory);
     }
-    Ok(output.into_inner())
+    Ok(())
 }

@@ -35,18 +35,17 @@ use programs::program;
 use reports::report_before_job;
 use requests::JobFault;
 use std::env;
-use std::io::{BufWriter, ErrorKind};
+use std::io::ErrorKind;
 use std::process::ExitCode;
 use texts::{BLOCK, Output};
 
 /// Runs the program over the words, the files and the outputs of the process.
 fn main(rt: HostRuntime) -> ExitCode {
-    let mut errors = Output::new(rt.stderr());
-    let Ok(buffer) = BufWriter::with_capacity(rt.alloc(), BLOCK, rt.stdout()) else {
+    let mut errors = Output::new(rt.alloc(), rt.stderr());
+    let Ok(mut writer) = Output::with_capacity(rt.alloc(), BLOCK, rt.stdout()) else {
         let no_memory = Fault::Refused(Refusal::OutOfMemory);
         return ExitCode::from(report_before_job(&no_memory, &mut errors));
     };
-    let mut writer = Output::new(buffer);
     let words = words_of(&rt);
     let words = match &words {
         Ok(words) => Ok(words.as_slice()),

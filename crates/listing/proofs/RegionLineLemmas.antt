@@ -9,8 +9,8 @@ use Rattle.modules.specs.Lines.{region_fits}
 use Rattle.modules.specs.Listed.{ListedRegion}
 use Rattle.modules.specs.declared.lines.Part.{Part}
 use Rattle.texts.specs.declared.faults.LineFault.{LineFault}
-use Rattle.texts.specs.declared.said.Said.{Said}
-use Rattle.texts.specs.declared.said.Said.TheVariants.{Nothing, One, Bad}
+use Rattle.texts.specs.declared.said.LineMeaning.{LineMeaning}
+use Rattle.texts.specs.declared.said.LineMeaning.TheVariants.{Nothing, One, Bad}
 use Rattle.texts.specs.Lines.{words_of}
 use Rattle.texts.specs.Numbers.{number_of}
 use Rattle.listing.specs.RegionListing.{is_regions_header, part_of, regions_of_lines, region_by, region_of_parts, region_of_words}
@@ -79,7 +79,7 @@ words_fit (name ∷ part ∷ base ∷ size ∷ []) =
     (parts_fit name (part_of part) (number_of base) (number_of size))
 words_fit (a ∷ b ∷ c ∷ d ∷ e ∷ words) = none_fits
 
-entry_in : Said ListedRegion → Option ListedRegion
+entry_in : LineMeaning ListedRegion → Option ListedRegion
 entry_in said = elim said [ Nothing ↦ None | One entry ↦ Some entry | Bad ↦ None ]
 
 said_fits : (long passed : Bool) (o : Option ListedRegion) → IsFit o

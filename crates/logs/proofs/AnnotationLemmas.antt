@@ -6,7 +6,7 @@ use Rattle.std.proofs.KnownBytes.{Appends-nil, Appends-trans, Consumes-kept, Con
 use Rattle.texts.specs.declared.counted.Counted.{Counted}
 use Rattle.texts.specs.Counted.{NoneFailed, Rose, device_of, failures_of}
 use Rattle.texts.specs.declared.output.Output.{Output}
-use Rattle.texts.specs.Output.{WrotePart, has_failed, writer_of}
+use Rattle.texts.specs.Output.{WrotePart, contents_of, has_failed}
 use Rattle.logs.specs.Answering.{Answering}
 use Rattle.logs.specs.Lines.{lines}
 use Rattle.logs.specs.AnnotatedLogs.{annotated, annotated_lines, first_held, held_over}
@@ -100,7 +100,7 @@ pub record IsOn {R W : Type 0} (remaining : R → Option (List ℕ)) (contents :
   pub written : List ℕ
   pub many : turns ≤ length read
   pub consumed : Consumes (remaining (device_of r)) (remaining (device_of r')) read
-  pub appended : Appends (contents (writer_of w)) (contents (writer_of w')) written
+  pub appended : Appends (contents_of contents w) (contents_of contents w') written
   pub came : Came answer a written read
   pub head_is : head ≡ take 2 read
 

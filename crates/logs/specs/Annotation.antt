@@ -5,7 +5,7 @@ use Rattle.std.specs.declared.io.Error.{Error}
 use Rattle.texts.specs.declared.counted.Counted.{Counted}
 use Rattle.texts.specs.Counted.{NoneFailed, Rose, device_of, failures_of}
 use Rattle.texts.specs.declared.output.Output.{Output}
-use Rattle.texts.specs.Output.{Delivered, WrotePart, error_in, has_failed, is_flushed, writer_of, IsBrokenPipe, IsNoBrokenPipe}
+use Rattle.texts.specs.Output.{Delivered, WrotePart, contents_of, error_in, has_failed, is_flushed, IsBrokenPipe, IsNoBrokenPipe}
 use Rattle.logs.specs.Answering.{Answering}
 use Rattle.logs.specs.AnnotatedLogs.{annotated, annotated_lines, held_over, names_of}
 use Rattle.logs.specs.Lines.{AreWhole, has_end, is_long, lines}
@@ -105,7 +105,7 @@ module _ {R W : Type 0} (remaining : R → Option (List ℕ)) (contents : W → 
   MovesSome P =
       (read : List ℕ) × (written : List ℕ)
       × Consumes (remaining (device_of r)) (remaining (device_of r')) read
-      × Appends (contents (writer_of w)) (contents (writer_of w')) written × P written read
+      × Appends (contents_of contents w) (contents_of contents w') written × P written read
 
   -- A call of the writer failed, and what was written until then is a beginning of the annotated
   -- log, which may be at its end.

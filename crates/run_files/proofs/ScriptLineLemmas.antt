@@ -7,8 +7,8 @@ use Rattle.std.specs.Option.{option_and_then, option_map_or}
 use Rattle.std.specs.Str.{bytes_eq}
 use Rattle.std.proofs.lemmas.List.Elements.{All-cons}
 use Rattle.texts.specs.declared.faults.LineFault.{LineFault}
-use Rattle.texts.specs.declared.said.Said.{Said}
-use Rattle.texts.specs.declared.said.Said.TheVariants.{Nothing, One, Bad}
+use Rattle.texts.specs.declared.said.LineMeaning.{LineMeaning}
+use Rattle.texts.specs.declared.said.LineMeaning.TheVariants.{Nothing, One, Bad}
 use Rattle.run_files.specs.declared.scripts.ScriptLine.{ScriptLine}
 use Rattle.run_files.specs.declared.scripts.ScriptLine.TheVariants.{Load, Unload, Init, Look}
 use Rattle.texts.specs.Lines.{words_of}
@@ -98,7 +98,7 @@ module _ (readers : ℕ) where
       either (bytes_eq verb (codes "look")) _ _ (looked (number_of actor) (number_of what)) (changed verb what (number_of actor))
   words_have (a ∷ b ∷ c ∷ d ∷ words) = nobody
 
-  entry_in : Said ScriptLine → Option ScriptLine
+  entry_in : LineMeaning ScriptLine → Option ScriptLine
   entry_in said = elim said [ Nothing ↦ None | One entry ↦ Some entry | Bad ↦ None ]
 
   said_has : (long passed : Bool) (o : Option ScriptLine) → HasActor o

@@ -2,6 +2,8 @@
 pub mod HexadecimalLemmas
 -- texts that are said one after the other
 pub mod OutputLemmas
+-- what a device holds after a text was delivered
+pub mod FlushedLemmas
 -- what the first place of a byte says of lines and of words
 pub mod LineCutLemmas
 -- what the digits that are left say of a numeral

@@ -1,17 +1,19 @@
 -- Texts that are said one after the other.
-use Rattle.std.proofs.Common.{◌≡◌, ◌∙◌, ℕ, List, [], ◌∷◌, ◌++◌, Option, Bool, true, false, refl, sym, ap, subst, append_assoc, append-nil, take, drop, length, ◌+◌, ◌-◌, ◌<◌, ◌≤◌, ◌⊎◌, flat_map, get_or, None, Some, take-append-drop, arith}
+use Rattle.std.proofs.Common.{◌≡◌, ◌∙◌, ℕ, List, [], ◌∷◌, ◌++◌, Option, Bool, true, false, refl, sym, ap, subst, append_assoc, append-nil, take, drop, length, ◌+◌, ◌-◌, ◌<◌, ◌≤◌, ◌⊎◌, flat_map, get_or, None, Some, take-append-drop, le_of_eq, arith}
 use Rattle.std.proofs.lemmas.Grind.{flat_map-append}
-use Rattle.std.proofs.lemmas.List.{take_all, take_more, take_rest}
+use Rattle.std.proofs.Math.Seq.{take-append-add, take-append_seam}
+use Rattle.std.proofs.lemmas.List.{take_all, take_more, take-take}
 use Rattle.std.specs.List.{zip}
 use Rattle.facts.proofs.Pairs.{flat_map-zip_more, zip-past}
-use Rattle.std.specs.Io.KnownBytes.{Appends, Keeps}
-use Rattle.std.proofs.KnownBytes.{Appends-nil, Appends-trans}
+use Rattle.std.specs.Io.KnownBytes.{Appends, Keeps, append_known}
+use Rattle.std.proofs.KnownBytes.{Appends-nil, Appends-trans, Keeps-refl, append_known-grown, append_known-moved, append_known-passed}
+use Rattle.texts.specs.Device.{error_kept, writer_in}
 use Rattle.texts.specs.declared.output.Output.{Output}
-use Rattle.texts.specs.Output.{Awaits, Says, Delivered, Delivers, WroteAll, WrotePart, error_in, has_failed, writer_of}
+use Rattle.texts.specs.Output.{Awaits, Says, Delivered, Delivers, WroteAll, WrotePart, contents_of, error_in, has_failed, kept_back, writer_of}
 
 -- where nothing failed, what the writer took was said
 pub taken_is_said : {W : Type 0} {contents : W → Option (List ℕ)} {old new : Output W} {text : List ℕ} → has_failed old ≡ false → (has_failed new ≡ false → error_in new ≡ error_in old)
-    → Appends (contents (writer_of old)) (contents (writer_of new)) text → Says contents old new text
+    → Appends (contents_of contents old) (contents_of contents new) text → Says contents old new text
 taken_is_said {W} {contents} {old} {new} {text} sound no_error took = record {
   next = λ opened whole rest h. record {
     taken = h.taken ++ text;
@@ -74,7 +76,7 @@ awaited {W} {contents} {old} {new} {text} said = said.next old text [] (record {
   taken = [];
   lost = [];
   parts = sym (append-nil text);
-  holds = Appends-nil (contents (writer_of old));
+  holds = Appends-nil (contents_of contents old);
   none_lost = λ _. refl;
   no_error = λ _. refl;
   uncalled = λ _. refl;
@@ -99,7 +101,7 @@ pub all_written : {W : Type 0} {contents : W → Option (List ℕ)} {old new : O
 all_written {W} {contents} {old} {new} {text} said sound =
     let a = awaited said in
     let whole : a.taken ≡ text = sym (a.parts ∙ append-nil (a.taken ++ a.lost) ∙ ap (λ l. a.taken ++ l) (a.none_lost sound) ∙ append-nil a.taken) in
-    (was_sound (has_failed old) (has_failed new) said.stays sound, sound, subst (λ l. Appends (contents (writer_of old)) (contents (writer_of new)) l) whole a.holds)
+    (was_sound (has_failed old) (has_failed new) said.stays sound, sound, subst (λ l. Appends (contents_of contents old) (contents_of contents new) l) whole a.holds)
 
 -- and is delivered, where the device was flushed behind it
 pub all_delivered : {W : Type 0} {contents : W → Option (List ℕ)} {old new : Output W} {text : List ℕ} → Delivers contents old new text → has_failed new ≡ false → Delivered contents old new text
@@ -123,20 +125,36 @@ appends_nothing None b kept = tt
 appends_nothing (Some x) None kept = absurd kept
 appends_nothing (Some x) (Some y) kept = kept ∙ sym (append-nil x)
 
--- what a call that failed does not take is said, and lost
-pub failed_is_said : {W : Type 0} {contents : W → Option (List ℕ)} {old new : Output W} {text : List ℕ} → has_failed old ≡ false → has_failed new ≡ true
-    → Keeps (contents (writer_of old)) (contents (writer_of new)) → Says contents old new text
-failed_is_said {W} {contents} {old} {new} {text} sound failed kept =
-    lost_is_said text failed (taken_is_said sound (λ still. absurd (grind (arith, still, failed))) (appends_nothing _ _ kept))
+module _ {W : Type 0} {contents : W → Option (List ℕ)} {old new : Output W} where
+  -- what is kept back is said
+  pub kept_is_said : {text : List ℕ} → has_failed old ≡ false → new.device ≡ old.device → kept_back new ≡ kept_back old ++ text → Says contents old new text
+  kept_is_said sound same kept =
+      taken_is_said sound (λ _. ap (λ d. error_kept d) same)
+      (append_known-grown _ _ (kept_back old) _ _ (subst (λ d. Keeps (contents_of contents old) (append_known (contents (writer_in d)) (kept_back old))) (sym same) (Keeps-refl _)) kept)
 
--- the same where the call took nothing
-pub untaken_is_said : {W : Type 0} {contents : W → Option (List ℕ)} {old new : Output W} {text : List ℕ} → has_failed old ≡ false → has_failed new ≡ true → (n : ℕ) (bytes : List ℕ) → n ≡ 0
-    → Appends (contents (writer_of old)) (contents (writer_of new)) (take n bytes) → Says contents old new text
-untaken_is_said {W} {contents} {old} {new} sound failed n bytes none took =
-    lost_is_said _ failed (taken_is_said sound (λ still. absurd (grind (arith, still, failed)))
-    (subst (λ k. Appends (contents (writer_of old)) (contents (writer_of new)) (take k bytes)) none took))
+  -- the device took the front of what is kept back, and nothing more is said
+  pub moved_is_said : (n : ℕ) → has_failed old ≡ false → (has_failed new ≡ false → error_in new ≡ error_in old)
+      → Appends (contents (writer_of old)) (contents (writer_of new)) (take n (kept_back old)) → kept_back new ≡ drop n (kept_back old) → Says contents old new []
+  moved_is_said n sound no_error took rest =
+      taken_is_said sound no_error (appends_nothing _ _
+      (append_known-moved _ _ _ _ _ took (sym (take-append-drop n (kept_back old)) ∙ ap (λ l. take n (kept_back old) ++ l) (sym rest))))
 
--- the bytes that were taken move to those that are said
-pub moved_front : (all done rest : List ℕ) (n : ℕ) → all ≡ done ++ rest → all ≡ (done ++ take n rest) ++ take (length rest - n) (drop n rest)
-moved_front all done rest n e =
-    e ∙ ap (λ l. done ++ l) (sym (take-append-drop n rest)) ∙ sym (append_assoc done (take n rest) (drop n rest)) ∙ ap (λ l. (done ++ take n rest) ++ l) (sym (take_rest rest n))
+  -- nothing is kept back, and the device took the front of bytes, which is all if no call failed
+  pub written_is_said : (n : ℕ) (bytes : List ℕ) → has_failed old ≡ false → (has_failed new ≡ false → error_in new ≡ error_in old) → (has_failed new ≡ false → n ≡ length bytes)
+      → kept_back old ≡ [] → kept_back new ≡ kept_back old → Appends (contents (writer_of old)) (contents (writer_of new)) (take n bytes) → Says contents old new bytes
+  written_is_said n bytes sound no_error all none same took =
+      let said : Says contents old new (take n bytes) = taken_is_said sound no_error
+      (subst (Appends _ _) (append-nil (take n bytes)) (append_known-passed _ _ _ _ _ _ [] (Keeps-refl _) none took (same ∙ sym (append-nil _)))) in
+      elim (has_failed new) as (λ b. has_failed new ≡ b → Says contents old new bytes) [
+        | true ↦ λ failed. same_text (take-append-drop n bytes) (lost_is_said (drop n bytes) failed said)
+        | false ↦ λ still. same_text (take_all n bytes (le_of_eq (sym (all still)))) said
+      ] refl
+
+-- what is behind the digits of a copy of 20 bytes is cut off
+pub digits_kept : (old buf digits tail : List ℕ) (len start : ℕ) → len ≡ length old → start + length digits ≡ 20 → drop start buf ≡ digits ++ tail
+    → take (len + (20 - start)) (old ++ take ((start + 20) - start) (drop start buf)) ≡ old ++ digits
+digits_kept old buf digits tail len start all ends is =
+    let copy = take ((start + 20) - start) (drop start buf) in
+    ap (λ n. take (n + (20 - start)) (old ++ copy)) all ∙ take-append-add old copy (20 - start)
+    ∙ ap (λ l. old ++ l) (take-take (20 - start) ((start + 20) - start) (drop start buf) (omega arith)
+    ∙ ap (take (20 - start)) is ∙ ap (λ n. take n (digits ++ tail)) (omega (arith, ends)) ∙ take-append_seam digits tail)

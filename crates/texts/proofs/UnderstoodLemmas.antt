@@ -1,8 +1,8 @@
 -- What the entries of lines say of each of them.
 use Rattle.std.proofs.Common.{◌≡◌, ◌≢◌, ℕ, zero, suc, ◌+◌, ◌<◌, List, [], ◌∷◌, ◌++◌, get_or, Option, Some, None, Result, Ok, Err, MatchResult, refl, sym, ap, ◌∙◌, subst, arith, All}
 use Rattle.std.specs.List.{filter_map, cons_option}
-use Rattle.texts.specs.declared.said.Said.{Said}
-use Rattle.texts.specs.declared.said.Said.TheVariants.{Nothing, One, Bad}
+use Rattle.texts.specs.declared.said.LineMeaning.{LineMeaning}
+use Rattle.texts.specs.declared.said.LineMeaning.TheVariants.{Nothing, One, Bad}
 use Rattle.texts.specs.Said.{entries_after, entries_from, said_by}
 use Rattle.texts.proofs.SaidLemmas.{none_before}
 use Rattle.texts.specs.Understood.{entry_by, AreSaidBy, IsFirstBadFrom}
@@ -16,7 +16,7 @@ module _ {T : Type 0} (form : List ℕ → Option T) where
     all_more good all zero d below = good
     all_more good all (suc k) d below = all k d (omega arith)
 
-    entry_is : Said T → Option T
+    entry_is : LineMeaning T → Option T
     entry_is said = elim said [ Nothing ↦ None | One entry ↦ Some entry | Bad ↦ None ]
 
     one_later : said_by form line ≢ Bad → (number : ℕ) → IsFirstBadFrom form (n + 1) lines number → IsFirstBadFrom form n (line ∷ lines) number
@@ -28,7 +28,7 @@ module _ {T : Type 0} (form : List ℕ → Option T) where
         before zero below = good
         before (suc k) below = first.before k (omega arith)
 
-    step : Said T → Result (List T) ℕ
+    step : LineMeaning T → Result (List T) ℕ
     step said = elim said [ Nothing ↦ entries_from form (n + 1) lines | One entry ↦ entries_after (entry ∷ []) (entries_from form (n + 1) lines) | Bad ↦ Err n ]
 
     with_front : (front : List T) → said_by form line ≢ Bad → front ++ filter_map (entry_by form) lines ≡ filter_map (entry_by form) (line ∷ lines)
@@ -36,7 +36,7 @@ module _ {T : Type 0} (form : List ℕ → Option T) where
     with_front front good is (Ok entries) (all, e) = (all_more good all, ap (λ es. front ++ es) e ∙ is)
     with_front front good is (Err number) bad = one_later good number bad
 
-    one_more : AreEntries (n + 1) lines (entries_from form (n + 1) lines) → (said : Said T) → said_by form line ≡ said → AreEntries n (line ∷ lines) (step said)
+    one_more : AreEntries (n + 1) lines (entries_from form (n + 1) lines) → (said : LineMeaning T) → said_by form line ≡ said → AreEntries n (line ∷ lines) (step said)
     unfolding step entry_is
     one_more later Nothing e =
         subst (AreEntries n (line ∷ lines)) (none_before (entries_from form (n + 1) lines))

@@ -4,8 +4,8 @@ use Rattle.std.specs.Prelude.{List, [], ◌∷◌, ◌++◌, length, Option, Som
 use Rattle.std.specs.Option.{option_map_or}
 use Rattle.texts.specs.Lines.{lines_of, longest_line}
 use Rattle.texts.specs.declared.said.NextEntry.{NextEntry}
-use Rattle.texts.specs.declared.said.Said.{Said}
-use Rattle.texts.specs.declared.said.Said.TheVariants.{Nothing, One, Bad}
+use Rattle.texts.specs.declared.said.LineMeaning.{LineMeaning}
+use Rattle.texts.specs.declared.said.LineMeaning.TheVariants.{Nothing, One, Bad}
 use Rattle.texts.specs.declared.faults.LineFault.{LineFault}
 use Rattle.texts.specs.declared.faults.LineFault.TheVariants as line
 use Rattle.texts.specs.declared.faults.ReadFault.{ReadFault}
@@ -21,7 +21,7 @@ is_passed_over [] = true
 is_passed_over (b ∷ line) = b == 35
 
 -- what a line says, if `form` gives the entry that a line is, if it is one
-abbrev pub said_by : {T : Type 0} → (List ℕ → Option T) → List ℕ → Said T
+abbrev pub said_by : {T : Type 0} → (List ℕ → Option T) → List ℕ → LineMeaning T
 said_by form line =
     if is_too_long line then Bad
     else if is_passed_over line then Nothing

@@ -2,7 +2,7 @@
 use Rattle.std.specs.Prelude.{◌≡◌, ◌≢◌, ℕ, ◌+◌, ◌<◌, List, [], length, slice_index_or, All}
 use Rattle.std.specs.Prelude.{Option, Some, None}
 use Rattle.std.specs.List.{filter_map}
-use Rattle.texts.specs.declared.said.Said.TheVariants.{Nothing, One, Bad}
+use Rattle.texts.specs.declared.said.LineMeaning.TheVariants.{Nothing, One, Bad}
 use Rattle.texts.specs.Said.{said_by}
 
 -- the entry that a line is, if it is one and not passed over

@@ -1,22 +1,27 @@
-//! Text that goes to a writer until a call of it fails. What is said after that goes nowhere, so
-//! who says it need not ask, and what was written is a beginning of what was said:
+//! Text that goes to a writer, by blocks, until a call of it fails. What is said after that goes
+//! nowhere, so who says it need not ask, and what was written is a beginning of what was said:
 //!
 //! ```text
-//!     said      0x2000 do_one+0x8/0x1f00⏎ 0x2008 do_one+0x10/0x1f00⏎ ..
-//!     written   0x2000 do_one+0x8/0x1f00⏎ 0x20|     this call failed
+//!     said         0x2000 do_one+0x8/0x1f00⏎ 0x2008 do_one+0x10/0x1f00⏎ ..
+//!     written      0x2000 do_one+0x8/0x1f00⏎ 0x20|     this call failed
+//!
+//!     no failure   0x2000 do_one+0x8/0x1f00⏎|0x2008 do_one+0x
+//!                  taken by the writer      |kept back until its room is full, or a flush
 //! ```
 //!
-//! It takes no memory.
-ghost use Rattle.std.specs.Prelude.{◌≡◌, ◌≤◌, ◌<◌, [], None, decimal, false, true, length, take};
+//! It takes no memory after it was opened.
+ghost use Rattle.std.specs.Prelude.{◌≡◌, ◌+◌, ◌≤◌, ◌++◌, [], IfOk, IfSome, IsTrue, decimal};
+ghost use Rattle.std.specs.Prelude.{drop, false, length, vec_capacity, vec_len};
 ghost use Rattle.texts.specs.Exact.{hexadecimal};
 
 use crate::device::Device;
 use crate::exact::{LONGEST_HEXADECIMAL, write_hexadecimal};
-use itoa::Buffer;
+use itoa::write_digits;
+use std::alloc::{AllocError, Global};
 use std::io;
 use std::io::Write;
 
-/// A writer, and whether a call of it failed.
+/// A writer, the bytes that are kept back for it, and whether a call of it failed.
 ///
 /// A failed call is an error of any kind, one that was interrupted too, or a write of at least one
 /// byte that takes none. After it the writer is not called again. Whether a call failed, and with
@@ -24,21 +29,34 @@ use std::io::Write;
 #[derive(Drop)]
 pub struct Output<W> {
     device: Device<W>,
+    kept: Vec<u8>,
 }
 
 impl<W> Output<W> {
-    ghost use Rattle.texts.specs.Output.{error_in, has_failed, is_flushed, writer_of};
+    ghost use Rattle.texts.specs.Output.{IsOpenedOver, error_in, has_failed, writer_of};
 
-    /// The writer, with no call made.
-    pub fn new(device: W) -> Output<W>
-        ensures writer { writer_of result ≡ device }
-        ensures sound { has_failed result ≡ false }
-        ensures no_error { error_in result ≡ None }
-        ensures flushed { is_flushed result ≡ true }
+    /// The writer, with no call made. It is called for each text that is said.
+    pub fn new(alloc: Global, device: W) -> Output<W>
+        ensures { IsOpenedOver device result }
     {
         Output {
             device: Device::new(device),
+            kept: Vec::new(alloc),
         }
+    }
+
+    /// The writer, with no call made. It is called when there is no room left for what is kept
+    /// back, `capacity` bytes, and at a flush.
+    pub fn with_capacity(alloc: Global, capacity: usize, device: W) -> Result<Output<W>, AllocError>
+    where
+        W: Drop,
+        ensures { IfOk result (IsOpenedOver device) }
+    {
+        let kept = Vec::with_capacity(alloc, capacity)?;
+        Ok(Output {
+            device: Device::new(device),
+            kept,
+        })
     }
 
     /// Whether a call of the writer failed.
@@ -56,73 +74,90 @@ impl<W> Output<W> {
         self.device.error()
     }
 
-    /// The writer alone.
+    /// The writer alone. What is kept back is lost.
     pub fn into_inner(self) -> W
         ensures { result ≡ writer_of self }
     {
         self.device.into_inner()
     }
+
+    /// Whether no call failed, and there is room to keep back this many bytes more.
+    #[inline(always)]
+    fn has_room(&self, bytes: usize) -> bool
+        ensures sound { IsTrue result → has_failed self.now ≡ false }
+        ensures room { IsTrue result → vec_len self.now.kept + bytes ≤ vec_capacity self.now.kept }
+    {
+        !self.has_failed() && bytes <= self.kept.capacity() - self.kept.len()
+    }
 }
 
 impl<W: Write> Output<W> {
-    ghost use Rattle.texts.specs.Output.{Awaits, Delivers, Says, has_failed};
+    ghost use Rattle.texts.specs.Output.{Delivers, Says, TookAll, has_failed, kept_back};
 
-    /// Says bytes. Mostly a buffer takes all at once: the rest is a function apart, so that this is
-    /// inlined.
+    /// Says bytes. Mostly there is room to keep them back: the rest is a function apart, so that
+    /// this is inlined.
     #[inline(always)]
     pub fn put(&mut self, bytes: &[u8])
         ensures { Says W.contents self.old self.new bytes.now }
     {
-        if self.has_failed() || bytes.is_empty() {
-            return;
-        }
-        let taken = self.write_some(bytes);
-        if taken < bytes.len() {
-            self.put_rest(&bytes[taken..]);
+        if self.has_room(bytes.len()) {
+            append(&mut self.kept, bytes);
+        } else {
+            self.put_through(bytes);
         }
     }
 
-    /// Says what one call of the writer did not take, by as many calls as it needs.
-    #[cold]
+    /// Says bytes after the writer was given what is kept back. Those that its room cannot hold go
+    /// to the writer as they are.
     #[inline(never)]
-    fn put_rest(&mut self, bytes: &[u8])
+    fn put_through(&mut self, bytes: &[u8])
         ensures { Says W.contents self.old self.new bytes.now }
     {
-        let mut rest = bytes;
-        while !rest.is_empty() {
-            if self.has_failed() {
-                return;
-            }
-            rest = &rest[self.write_some(rest)..];
+        self.write_kept();
+        if self.has_failed() {
+            return;
+        }
+        if bytes.len() < self.kept.capacity() {
+            append(&mut self.kept, bytes);
+        } else {
+            self.device.write_all(bytes);
         }
     }
 
-    /// One call of the writer. Returns how many bytes it took, at a failed call all of them: they are
-    /// lost.
-    #[inline(always)]
-    fn write_some(&mut self, bytes: &[u8]) -> usize
-        requires sound { has_failed self.old ≡ false }
-        requires bytes { 0 < length bytes.now }
-        ensures some { 0 < result }
-        ensures most { result ≤ length bytes.now }
-        ensures said { Says W.contents self.old self.new (take result bytes.now) }
-    {
-        match self.device.write(bytes) {
-            Ok(0) => {}
-            Ok(taken) => return taken,
-            Err(_) => {}
-        }
-        bytes.len()
-    }
-
-    /// Lets the writer keep nothing back.
-    pub fn flush(&mut self)
-        ensures { Delivers W.contents self.old self.new [] }
+    /// Gives the writer what is kept back.
+    fn write_kept(&mut self)
+        ensures said { Says W.contents self.old self.new [] }
+        ensures empty { has_failed self.new ≡ false → kept_back self.new ≡ [] }
     {
         if self.has_failed() {
             return;
         }
+        let taken = self.device.write_all(self.kept.as_slice());
+        remove_front(&mut self.kept, taken);
+    }
+
+    /// Keeps nothing back, and lets the writer keep nothing back.
+    pub fn flush(&mut self)
+        ensures { Delivers W.contents self.old self.new [] }
+    {
+        self.write_kept();
+        if self.has_failed() {
+            return;
+        }
         let _ = self.device.flush();
+    }
+
+    /// Keeps nothing back, and returns the writer if no call of it failed.
+    pub fn finish(mut self) -> Option<W>
+    where
+        W: Drop,
+        ensures { IfSome result (TookAll W.contents self) }
+    {
+        self.flush();
+        if self.has_failed() {
+            return None;
+        }
+        Some(self.into_inner())
     }
 
     /// Says `0x` and the number in lower case hexadecimal without leading zeros, `0x0` for zero.
@@ -134,11 +169,43 @@ impl<W: Write> Output<W> {
         self.put(&buffer[start..]);
     }
 
-    /// Says the number in decimal, without leading zeros.
+    /// Says the number in decimal, without leading zeros. All copies have one length, which costs
+    /// less, and the bytes after the digits are cut off.
     pub fn put_decimal(&mut self, n: u64)
         ensures { Says W.contents self.old self.new (decimal n) }
     {
-        let mut buffer = Buffer::new();
-        self.put(buffer.format(n).as_bytes());
+        let mut digits = [0u8; 2 * MOST_DIGITS];
+        let start = write_digits(n, &mut digits, MOST_DIGITS);
+        if self.has_room(MOST_DIGITS) {
+            let end = self.kept.len() + (MOST_DIGITS - start);
+            append(&mut self.kept, &digits[start..start + MOST_DIGITS]);
+            self.kept.truncate(end);
+        } else {
+            self.put_through(&digits[start..MOST_DIGITS]);
+        }
     }
+}
+
+/// The most digits of a decimal number.
+const MOST_DIGITS: usize = 20;
+
+/// Appends bytes that there is room for.
+#[inline(always)]
+fn append(kept: &mut Vec<u8>, bytes: &[u8])
+    requires { vec_len kept.old + length bytes.now ≤ vec_capacity kept.old }
+    ensures { kept.new.items ≡ kept.old.items ++ bytes.now }
+{
+    let Ok(()) = kept.extend_from_slice(bytes) else {
+        unreachable!()
+    };
+}
+
+/// Removes the first `count` bytes.
+fn remove_front(kept: &mut Vec<u8>, count: usize)
+    requires { count ≤ vec_len kept.old }
+    ensures { kept.new.items ≡ drop count kept.old.items }
+{
+    let len = kept.len();
+    kept.as_mut_slice().copy_within(count..len, 0);
+    kept.truncate(len - count);
 }

@@ -25,7 +25,7 @@ pub trait Form<'a> {
 
 /// What a line says.
 #[derive(Debug, Drop)]
-pub enum Said<T> {
+pub enum LineMeaning<T> {
     /// The line is empty, or a comment.
     Nothing,
     /// The line is this entry.
@@ -52,19 +52,19 @@ fn is_passed_over(line: &[u8]) -> bool
 }
 
 /// What a line says, in a text whose lines have this form.
-fn said_by<'a, F: Form<'a>>(form: &F, line: &'a [u8]) -> Result<Said<F::Entry>, AllocError>
+fn said_by<'a, F: Form<'a>>(form: &F, line: &'a [u8]) -> Result<LineMeaning<F::Entry>, AllocError>
     ensures said { IfOk result (λ said. said ≡ said_by (F.entry_of form.now) line.now) }
-    ensures some { IsErr result → said_by (F.entry_of form.now) line.now ≢ Said.Nothing }
+    ensures some { IsErr result → said_by (F.entry_of form.now) line.now ≢ LineMeaning.Nothing }
 {
     if is_too_long(line) {
-        return Ok(Said::Bad);
+        return Ok(LineMeaning::Bad);
     }
     if is_passed_over(line) {
-        return Ok(Said::Nothing);
+        return Ok(LineMeaning::Nothing);
     }
     match form.entry(line)? {
-        Some(entry) => Ok(Said::One(entry)),
-        None => Ok(Said::Bad),
+        Some(entry) => Ok(LineMeaning::One(entry)),
+        None => Ok(LineMeaning::Bad),
     }
 }
 
@@ -95,15 +95,15 @@ pub fn next_entry_in<'a, F: Form<'a>>(
         let (line, after) = cut_line(rest);
         let said = said_by(form, line)?;
         match said {
-            Said::Nothing => {}
-            Said::One(entry) => {
+            LineMeaning::Nothing => {}
+            LineMeaning::One(entry) => {
                 return Ok(Some(NextEntry {
                     entry,
                     line: number,
                     rest: after,
                 }));
             }
-            Said::Bad => return Err(LineFault::BadLine(number)),
+            LineMeaning::Bad => return Err(LineFault::BadLine(number)),
         }
         rest = after;
         number += 1;

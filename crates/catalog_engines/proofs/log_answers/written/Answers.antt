@@ -1,8 +1,10 @@
-use Rattle.std.proofs.Common.{◌∙◌, sym, arith}
-use Rattle.texts.proofs.OutputLemmas.{all_written, then}
+use Rattle.std.proofs.Common.{◌++◌, ◌∙◌, ap, codes}
+use Rattle.listing.specs.Answers.{text_of}
+use Rattle.texts.proofs.OutputLemmas.{then}
 use Rattle.catalog_engines.proofs.log_answers.written.Goals as goal
 
 pub returns : goal.returns
 returns c =
-    let wrote = all_written (then c.put.ensures c.put_answer.ensures) (sym c.has_failed.ensures ∙ c.if-has_failed.false) in
-    grind (arith, wrote.2, c.new-text.ensures.writer, c.in_ok-with_capacity.ensures.items, c.into_inner.ensures)
+    let said = then c.put.ensures c.put_answer.ensures in
+    c.in-Some.ensures c.new.result c.in_ok-text.text (codes " " ++ text_of c.args.answer.now) c.in_ok-text.ensures said
+    ∙ ap (λ l. l ++ (codes " " ++ text_of c.args.answer.now)) c.new.ensures.items

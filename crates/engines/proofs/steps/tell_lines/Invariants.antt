@@ -1,14 +1,9 @@
-use Rattle.std.proofs.Common.{◌≡◌, false}
-use Rattle.texts.specs.Output.{has_failed}
 use Rattle.engines.specs.StepRuns.{AreLinesTold}
 use Rattle.engines.proofs.steps.tell_lines.Given as goal
 
--- the commands that were taken from the lines were told, and no call of the writer failed
+-- the commands that were taken from the lines were told
 abbrev pub invariant-loop-next : goal.invariant-loop-next
-invariant-loop-next g l = record {
-  told : AreLinesTold g.O.TreeOrder.order g.W.Write.contents l.fn.lines l.lines l.fn.world l.world l.fn.writer l.writer;
-  sound : has_failed l.writer ≡ false;
-}
+invariant-loop-next g l = AreLinesTold g.O.TreeOrder.order g.W.Write.contents l.fn.lines l.lines l.fn.world l.world l.fn.writer l.writer
 
 abbrev pub decreases-loop-next : goal.decreases-loop-next
 decreases-loop-next g l = l.lines.bytes

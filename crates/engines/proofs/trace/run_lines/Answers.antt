@@ -1,4 +1,4 @@
-use Rattle.std.proofs.Common.{◌++◌, refl}
+use Rattle.std.proofs.Common.{◌≡◌, ◌++◌, ◌∙◌, ap, refl}
 use Rattle.texts.proofs.OutputLemmas.{same_text, then, then_flushed}
 use Rattle.texts.specs.Output.{Delivered, Delivers, WrotePart}
 use Rattle.run_files.specs.Trace.{with_header}
@@ -19,12 +19,13 @@ returns g c =
     let contents = g.W.Write.contents in
     let w = c.args.writer.now in
     let w' = c.flush.new.self in
-    let text = c.in_ok-text.text.items in
-    let whole = text ++ end_text c.in_ok-left.left.sequence in
-    let delivers : Delivers contents w w' whole = then_flushed (then (same_text c.deref.ensures.value c.put.ensures) c.put_end.ensures) c.flush.ensures in
-    let answer = answered c.args.header c.args.lines.now.said g.O.TreeOrder.order c.requires
-    c.in-Ok.driver c.gather_lines.new.driver c.new.result.items text c.new.ensures.items c.in-Ok.ensures.opened c.in_ok-text.ensures.gathered
-    c.in_ok-left.left c.in_ok-left.ensures.notes c.in_ok-left.ensures.left in
+    let gathers = c.in_ok-gather_lines.ensures.gathered in
+    let gathered : c.in-Some.text.items ≡ gathers.2 =
+    c.in-Some.ensures c.new.result c.in_ok-gathered.gathered gathers.2 c.in_ok-gathered.ensures gathers.3 ∙ ap (λ l. l ++ gathers.2) c.new.ensures.items in
+    let whole = gathers.2 ++ end_text c.in_ok-left.left.sequence in
+    let delivers : Delivers contents w w' whole = then_flushed (then (same_text (c.deref.ensures.value ∙ gathered) c.put.ensures) c.put_end.ensures) c.flush.ensures in
+    let answer = answered c.args.header c.args.lines.now.said g.O.TreeOrder.order _ c.requires
+    c.in-Ok.driver c.gather_lines.new.driver _ _ c.in-Ok.ensures.opened gathers c.in_ok-left.left c.in_ok-left.ensures.notes c.in_ok-left.ensures.left in
     said_written contents w w' whole delivers (AnswersSaid contents (with_header c.args.header c.args.lines.now.said) w w')
     (λ u all. answer (Delivered contents w w') all) (λ part. answer (WrotePart contents w w') part)
     c.all_written.result c.all_written.ensures.written c.all_written.ensures.failed c.all_written.ensures.fault

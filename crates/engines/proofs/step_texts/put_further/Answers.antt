@@ -1,0 +1,8 @@
+use Rattle.std.proofs.Common.{◌++◌, ap, arith, codes, flat_map}
+use Rattle.std.proofs.lemmas.List.{take_all}
+use Rattle.texts.proofs.OutputLemmas.{same_text}
+use Rattle.engines.proofs.step_texts.put_further.Goals as goal
+
+pub returns : goal.returns
+returns g c =
+    same_text (ap (flat_map (λ x. codes "," ++ g.T.Json.json_of x)) (take_all c.loop-value.value-index c.args.values.now (omega (arith, c.loop-value-test.false)))) c.loop-value.invariant

@@ -1,0 +1,10 @@
+use Rattle.std.proofs.Common.{ap, codes}
+use Rattle.texts.proofs.OutputLemmas.{same_text, then}
+use Rattle.command_io.specs.JsonTexts.{json_count}
+use Rattle.engines.specs.StepTexts.{plain_load_members}
+use Rattle.engines.proofs.step_texts.put_plain_load.Goals as goal
+
+pub returns : goal.returns
+unfolding plain_load_members
+returns g c =
+    then (same_text (ap (json_count (codes "\"load\",\"reader\":")) c.from.ensures) c.put_json_count.ensures) c.put_loaded_word.ensures
