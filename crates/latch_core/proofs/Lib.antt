@@ -11,12 +11,10 @@ pub mod ChangeLemmas
 pub mod ClashLemmas
 pub mod WriterLemmas
 pub mod BeginLemmas
-pub mod BothLemmas
 pub mod ShallowLemmas
 pub mod LatchedLemmas
 pub mod WideningLemmas
 pub mod ReplacementLemmas
-pub mod ReplacedLemmas
 pub mod AttemptLemmas
 pub mod RestLemmas
 pub mod LoadingLemmas

@@ -42,14 +42,3 @@ plan_left n l h (s ∷ t ∷ ss) plan e =
     let g = before_last plan.0.steps_left _ plan.3.0 plan.3.1 in
     let less : plan.0.steps_left - 1 ≡ length (t ∷ ss) = ap (λ (k : PendingUpdate). k.steps_left) g ∙ rest in
     ap (λ (k : PendingUpdate). k.steps_left) (sym same) ∙ (let two : plan.0.steps_left ≡ suc (suc (length ss)) = omega arith in two)
-
--- one link more of copy 1
-pub mirror_more : (xs ys : List Store) (from place : ℕ) (d : Store) → from ≤ place → place < length xs
-    → mirror_stores (take (place + 1 - from) (drop from xs)) ≡ mirror_stores (take (place - from) (drop from xs)) ++ mirror_store (get_or (xs ++ ys) place d) ∷ []
-mirror_more xs ys from place d above below =
-    let step : place + 1 - from ≡ (place - from) + 1 = omega arith in
-    let within : place - from < length (drop from xs) = omega (arith, length-drop from xs) in
-    ap (λ k. mirror_stores (take k (drop from xs))) step
-    ∙ ap mirror_stores (take_more (drop from xs) (place - from) d within)
-    ∙ map-append mirror_store (take (place - from) (drop from xs)) (get_or (drop from xs) (place - from) d ∷ [])
-    ∙ ap (λ s. mirror_stores (take (place - from) (drop from xs)) ++ mirror_store s ∷ []) (get_or-drop_append xs ys from place d above below)

@@ -13,8 +13,8 @@ use Rattle.latch_core.specs.declared.progress.Progress.{Progress}
 use Rattle.latch_core.specs.declared.progress.Awaited.{Awaited}
 use Rattle.latch_core.specs.declared.progress.Awaited.TheVariants.{First, Root, WordA, WordB, Tag, Left as Go_left, Right as Go_right, Found as At_item, Missing as At_none, Stuck as At_stuck}
 use Rattle.latch_core.specs.Cores.{rest_of_attempt, rest_of_core, HasTaken}
-use Rattle.latch_core.proofs.ReadingLemmas.{rest_push}
-use Rattle.latch_core.proofs.WalkLemmas.{attempt_below_most}
+use Rattle.latch_core.proofs.ReadingLemmas.{rest_push, within_below}
+use Rattle.latch_core.proofs.WalkLemmas.{attempt_within}
 
 -- a core that stands at a place whose reading is a load goes on with the value
 pub next_from : {O K : Type 0} (o : Order K) (c : ReaderCore O K) (p : Awaited) (w : ℕ) (go : ℕ → Reading) (x : ℕ) (values : List ℕ) → c.progress.awaited ≡ p → rest_of_attempt o c.key c.progress p ≡ Load w go → HasTaken o values c → rest_after (attempt o c.progress.capacity c.key) (values ++ x ∷ []) ≡ Some (go x)
@@ -40,15 +40,12 @@ core_loads o c = loads_at o c.key c.progress c.progress.awaited
 
 -- a core that goes on has taken at most 4n + 2 values
 pub values_before : {K : Type 0} (o : Order K) (n : ℕ) (k : K) (values : List ℕ) (w : ℕ) (go : ℕ → Reading) → rest_after (attempt o n k) values ≡ Some (Load w go) → length values ≤ 4 * n + 2
-values_before o n k values w go e = let h = attempt_below_most o n k values w go e in omega arith
+values_before o n k values w go e = omega (arith, within_below (4 * n + 3) (attempt o n k) values w go (attempt_within o n k) e)
 
 pub values_of_place : {K : Type 0} (o : Order K) (k : K) (s : Progress) (p : Awaited) (values : List ℕ) → rest_after (attempt o s.capacity k) values ≡ Some (rest_of_attempt o k s p) → length values ≤ 4 * s.capacity + 2
 values_of_place o k s p values leads =
     let at_place = loads_at o k s p in
     values_before o s.capacity k values at_place.0 at_place.1 (leads ∙ ap Some at_place.2)
-
-pub values_of_core : {O K : Type 0} (o : Order K) (c : ReaderCore O K) (values : List ℕ) → HasTaken o values c → length values ≤ 4 * c.progress.capacity + 2
-values_of_core o c values leads = values_of_place o c.key c.progress c.progress.awaited values leads
 
 -- what a followed link leads to
 pub walk_visits : {K : Type 0} (o : Order K) (n : ℕ) (k : K) (s visits link : ℕ) → link ≢ 0 → visits ≢ 0 → link ≤ n → visit o k s (link - 1) (walk o n k s (visits - 1)) ≡ walk o n k s visits link
@@ -60,13 +57,7 @@ walk_visits o n k s (suc visits) (suc i) a b c =
     let within : nat_lt i n ≡ true = lt-ltb i n (omega arith) in
     rw (e, f, within) refl
 
--- the outcome, by whether the two readings of the sequence are equal
-pub answers : (s t g : ℕ) (x : Item) → s ≡ t → g ≡ generation_of t → outcome s t (AtItem x) ≡ Answer (Some x) g
-answers s t g x e f = let same : (s == t) ≡ true = eq-eqb s t e in rw same (ap (λ q. Answer (Some x) (generation_of q)) e ∙ ap (Answer (Some x)) (sym f))
-
-pub answers_none : (s t g : ℕ) → s ≡ t → g ≡ generation_of t → outcome s t AtEmptyLink ≡ Answer None g
-answers_none s t g e f = let same : (s == t) ≡ true = eq-eqb s t e in rw same (ap (λ q. Answer None (generation_of q)) e ∙ ap (Answer None) (sym f))
-
+-- another attempt begins where the two readings of the sequence differ
 pub again : (s t : ℕ) (x : Item) → s ≢ t → outcome s t (AtItem x) ≡ Again
 again s t x e = let other : (s == t) ≡ false = ne_eqb s t e in rw other refl
 

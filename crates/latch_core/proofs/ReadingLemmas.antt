@@ -1,5 +1,5 @@
 -- Readings in one memory.
-use Rattle.std.proofs.Common.{◌≡◌, ℕ, suc, zero, ◌<◌, ◌≤◌, List, [], ◌∷◌, ◌++◌, length, Some, refl, sym, ◌∙◌, ap, subst, arith}
+use Rattle.std.proofs.Common.{◌≡◌, ℕ, suc, zero, ◌<◌, ◌≤◌, List, [], ◌∷◌, ◌++◌, length, Some, refl, sym, ◌∙◌, ap, subst, arith, length-append}
 use Rattle.word_layout.specs.Words.{at}
 use Rattle.latch_core.specs.Attempts.{Outcome, Reading, Load, Ends, rest_after, Stand}
 use Rattle.latch_core.specs.Whole.{outcome_in, loads_in}
@@ -58,18 +58,7 @@ within_length (suc b) (Load w go) (x ∷ v) r' h e = omega (arith, within_length
 within_length b (Ends o) (x ∷ v) r' h e = absurd (cc)
 
 pub loads_below : (m : List ℕ) (r : Reading) (v : List ℕ) (w : ℕ) (go : ℕ → Reading) → Stand m r v → rest_after r v ≡ Some (Load w go) → length v < loads_in m r
-loads_below m (Load w' go') [] w go st e = omega arith
-loads_below m (Ends o) [] w go st e = absurd (cc)
-loads_below m (Load w' go') (x ∷ v) w go st e =
-    let h = loads_below m (go' x) v w go st.1 e in
-    let f = ap (λ y. loads_in m (go' y)) st.0 in
-    omega arith
-loads_below m (Ends o) (x ∷ v) w go st e = absurd st
+loads_below m r v w go st e = omega (arith, loads_so_far m r (v ++ at m w ∷ []) (stand_push m r v w go (at m w) e st refl), length-append v (at m w ∷ []))
 
 pub within_below : (b : ℕ) (r : Reading) (v : List ℕ) (w : ℕ) (go : ℕ → Reading) → Within b r → rest_after r v ≡ Some (Load w go) → length v < b
-within_below zero (Load w' go') [] w go h e = absurd h
-within_below (suc b) (Load w' go') [] w go h e = omega arith
-within_below zero (Load w' go') (x ∷ v) w go h e = absurd h
-within_below (suc b) (Load w' go') (x ∷ v) w go h e = omega (arith, within_below b (go' x) v w go (h x) e)
-within_below b (Ends o) [] w go h e = absurd (cc)
-within_below b (Ends o) (x ∷ v) w go h e = absurd (cc)
+within_below b r v w go h e = omega (arith, within_length b r (v ++ 0 ∷ []) (go 0) h (rest_push r v w go 0 e), length-append v (0 ∷ []))

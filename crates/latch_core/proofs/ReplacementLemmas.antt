@@ -1,19 +1,63 @@
--- What a difference finds of a table and a list of items.
-use Rattle.std.proofs.Common.{◌≡◌, ℕ, zero, suc, ◌+◌, ◌<◌, ◌≤◌, true, false, cond, List, [], ◌∷◌, ◌++◌, length, drop, map, get_or, append-nil, ◌-◌, add-one, Some, refl, sym, ◌∙◌, ap, subst, ⊎_elim, arith, append_assoc}
-use Rattle.std.specs.Prelude.{Bool, not, ◌&&◌, ◌||◌, ◌==◌, slice_get}
-use Rattle.std.specs.List.{list_all, list_any}
-use Rattle.std.proofs.Math.Seq.{drop-cons}
+-- What a difference finds of a table and a list of items; and a table whose items were replaced by a
+-- list that rises is that list.
+use Rattle.std.proofs.Common.{◌≡◌, ℕ, zero, suc, ◌+◌, ◌<◌, ◌≤◌, true, false, cond, List, [], ◌∷◌, ◌++◌, length, drop, map, get_or, append-nil, ◌-◌, None, Some, refl, sym, ◌∙◌, ap, subst, inl, inr, ⊎_elim, arith, append_assoc}
+use Rattle.std.specs.Prelude.{Bool, not, ◌&&◌, ◌||◌, ◌==◌, ◌⊎◌, slice_get, Contains, filter}
+use Rattle.std.specs.List.{AllByRecursion, list_all, list_any}
 use Rattle.std.proofs.lemmas.Bool.{and_parts, and_from, cases_lt, eq-eqb, eqb-true, or_parts}
 use Rattle.std.proofs.lemmas.Bool.Decides.{nat_tests}
-use Rattle.std.proofs.lemmas.List.{drop_all}
+use Rattle.std.proofs.lemmas.List.{drop_all, drop_more}
+use Rattle.std.proofs.lemmas.List.Elements.{All-contains, All-contains_itself, All-filter, All-weaker, filter_passes}
+use Rattle.std.proofs.lemmas.List.Folds.{Any-from_list_any, list_any_at}
+use Rattle.std.proofs.lemmas.List.Sums.{AllPass-from_list_all, list_all-from_AllPass}
 use Rattle.std.proofs.lemmas.Option.{slice_get-get_or}
 use Rattle.order_laws.specs.declared.items.Item.{Item}
-use Rattle.order_laws.specs.Orders.{Order, IsLawful}
+use Rattle.order_laws.specs.Orders.{Order, Precedes, IsLawful}
+use Rattle.order_laws.specs.Tables.{IsTable, without_all}
+use Rattle.facts.proofs.Bools.{false_by_contrary}
+use Rattle.facts.proofs.Each.{all_at}
 use Rattle.facts.proofs.Lists.{pushed_before}
+use Rattle.facts.proofs.Members.{Contains-cons_cases, Contains-head, Contains-none, Contains-rest, Contains-map}
 use Rattle.table_updates.specs.declared.updates.Update.{Update}
 use Rattle.table_updates.specs.declared.updates.Update.TheVariants.{Batch}
-use Rattle.latch_core.specs.Replacements.{is_same, not_among, is_rising, update_found, Tells}
+use Rattle.table_updates.specs.Updates.{after, refusal_for}
+use Rattle.table_updates.proofs.HistoryLemmas.{from_items, to_items}
+use Rattle.latch_core.specs.Replacements.{is_same, not_among, replacement, is_rising, update_found, Tells}
 use Rattle.latch_core.specs.declared.replacements.Difference.{Difference}
+use Rattle.latch_core.proofs.StepLemmas.{accepted_table}
+
+-- ---- tests of lists, and their members
+
+all_have : {X : Type 0} (p : X → Bool) (xs : List X) (y : X) → list_all p xs ≡ true → Contains xs y → p y ≡ true
+all_have p xs y h m = All-contains (λ x. p x ≡ true) xs y (AllPass-from_list_all p xs h) m
+
+from_filter : {X : Type 0} (p : X → Bool) (xs : List X) (y : X) → Contains (filter p xs) y → Contains xs y × (p y ≡ true)
+from_filter p xs y m = (
+  All-contains (Contains xs) (filter p xs) y (All-filter p (Contains xs) xs (All-contains_itself xs)) m,
+  All-contains (λ x. p x ≡ true) (filter p xs) y (filter_passes p xs) m,
+)
+
+to_filter : {X : Type 0} (p : X → Bool) (xs : List X) (y : X) → p y ≡ true → Contains xs y → Contains (filter p xs) y
+to_filter p [] y h m = absurd (Contains-none y m)
+to_filter p (x ∷ xs) y h m =
+    elim (p x) as (λ b. p x ≡ b → Contains (cond b (x ∷ filter p xs) (filter p xs)) y) [
+      | true ↦ λ e. ⊎_elim (λ same. Contains-head x y (filter p xs) same) (λ r. Contains-rest x y (filter p xs) (to_filter p xs y h r)) (Contains-cons_cases x y xs m)
+      | false ↦ λ e. ⊎_elim (λ same. absurd (let f : true ≡ false = sym h ∙ ap p (sym same) ∙ e in cc)) (λ r. to_filter p xs y h r) (Contains-cons_cases x y xs m)
+    ] refl
+
+any_has : {X : Type 0} (p : X → Bool) (xs : List X) → list_any p xs ≡ true → (y : X) × Contains xs y × (p y ≡ true)
+any_has p xs h = let a = Any-from_list_any p xs h in (a.1, (a.0, a.2, a.3), a.4)
+
+has_any : {X : Type 0} (p : X → Bool) (xs : List X) (y : X) → Contains xs y → p y ≡ true → list_any p xs ≡ true
+has_any p xs y m h = list_any_at p xs m.0 y m.1 (ap p m.2 ∙ h)
+
+-- an item of whose first words this is one
+of_word : (xs : List Item) (a : ℕ) → Contains (map (λ z. z.a) xs) a → (z : Item) × Contains xs z × (z.a ≡ a)
+of_word [] a m = absurd (Contains-none a m)
+of_word (z ∷ xs) a m =
+    ⊎_elim
+    (λ e. (z, Contains-head z z xs refl, e))
+    (λ r. let q = of_word xs a r in (q.0, Contains-rest z q.0 xs q.1, q.2))
+    (Contains-cons_cases z.a a (map (λ (z : Item). z.a) xs) m)
 
 -- two items with the same words are one
 pub same_is_one : (x y : Item) → is_same x y ≡ true → x ≡ y
@@ -26,65 +70,45 @@ same_is_one x y h =
     λ i. record { a = a i; b = b i; tag = t i }
 
 pub same_as_itself : (x : Item) → is_same x x ≡ true
-same_as_itself x =
-    and_from (x.a == x.a && x.b == x.b) (x.tag == x.tag)
-    (and_from (x.a == x.a) (x.b == x.b) (eq-eqb x.a x.a refl) (eq-eqb x.b x.b refl))
-    (eq-eqb x.tag x.tag refl)
+same_as_itself x = grind (arith, nat_tests)
 
 -- whether an item is among others
 abbrev pub is_among : Item → List Item → Bool
 is_among x others = list_any (λ y. is_same x y) others
 
+-- an item is among others where it is one of them
+pub among_them : (x : Item) (others : List Item) → is_among x others ≡ true → Contains others x
+among_them x others h =
+    let one = any_has (λ y. is_same x y) others h in
+    subst (λ z. Contains others z) (sym (same_is_one x one.0 one.2)) one.1
+
+pub one_of_them : (x : Item) (others : List Item) → Contains others x → is_among x others ≡ true
+one_of_them x others m = has_any (λ y. is_same x y) others x m (same_as_itself x)
+
+-- an item is among none that all pass a test which it fails
+among_none : (p : Item → Bool) (x : Item) (ys : List Item) → list_all p ys ≡ true → p x ≡ false → is_among x ys ≡ false
+among_none p x ys h fails = false_by_contrary (is_among x ys) (list_all p ys) (λ e. let passes : p x ≡ true = all_have p ys x h (among_them x ys e) in absurd (cc)) h
+
+-- ---- lists that rise
+
 module _ {K : Type 0} (o : Order K) (law : IsLawful o) where
-  -- what is less than an item is less than all that this one is less than
-  pub less_than_all : (x y : Item) (ys : List Item) → o.less x y ≡ true
-      → list_all (λ z. o.less y z) ys ≡ true → list_all (λ z. o.less x z) ys ≡ true
-  less_than_all x y [] l h = refl
-  less_than_all x y (z ∷ zs) l h =
-      let two = and_parts (o.less y z) (list_all (λ z. o.less y z) zs) h in
-      and_from (o.less x z) (list_all (λ z. o.less x z) zs) (law.transitive x y z l two.0) (less_than_all x y zs l two.1)
-
-  -- and is among none of them
-  pub below_none : (x : Item) (ys : List Item) → list_all (λ y. o.less x y) ys ≡ true
-      → is_among x ys ≡ false
-  below_none x [] h = refl
-  below_none x (y ∷ ys) h =
-      let two = and_parts (o.less x y) (list_all (λ y. o.less x y) ys) h in
-      elim (is_same x y) as (λ b. is_same x y ≡ b → (b || is_among x ys) ≡ false) [
-        | true ↦ λ e.
-            let itself : o.less x x ≡ true = subst (λ z. o.less x z ≡ true) (sym (same_is_one x y e)) two.0 in
-            let never : o.less x x ≡ false = law.irreflexive x in
-            absurd (cc)
-        | false ↦ λ e. below_none x ys two.1
-      ] refl
-
   -- an item that is less than the first of some that rise
-  pub below_rising : (x y : Item) (ys : List Item) → o.less x y ≡ true → is_rising o (y ∷ ys) ≡ true
+  below_rising : (x y : Item) (ys : List Item) → o.less x y ≡ true → is_rising o (y ∷ ys) ≡ true
       → list_all (λ z. o.less x z) (y ∷ ys) ≡ true
   below_rising x y ys l h =
       let two = and_parts (list_all (λ z. o.less y z) ys) (is_rising o ys) h in
-      and_from (o.less x y) (list_all (λ z. o.less x z) ys) l (less_than_all x y ys l two.0)
+      let all = All-weaker (λ z. o.less y z ≡ true) (λ z. o.less x z ≡ true) (λ z. law.transitive x y z l) ys (AllPass-from_list_all (o.less y) ys two.0) in
+      and_from (o.less x y) (list_all (λ z. o.less x z) ys) l (list_all-from_AllPass (o.less x) ys all)
 
   -- the first of some that rise, where an item is not above it and not the same
-  pub not_in_rising : (x y : Item) (ys : List Item) → o.less y x ≡ false → is_same x y ≡ false
+  not_in_rising : (x y : Item) (ys : List Item) → o.less y x ≡ false → is_same x y ≡ false
       → is_rising o (y ∷ ys) ≡ true → is_among x (y ∷ ys) ≡ false
   not_in_rising x y ys n d h =
-      let two = and_parts (list_all (λ z. o.less y z) ys) (is_rising o ys) h in
-      ap (λ b. b || is_among x ys) d ∙ beyond ys two.0
-    where
-      beyond : (zs : List Item) → list_all (λ z. o.less y z) zs ≡ true → is_among x zs ≡ false
-      beyond [] a = refl
-      beyond (z ∷ zs) a =
-          let two = and_parts (o.less y z) (list_all (λ z. o.less y z) zs) a in
-          elim (is_same x z) as (λ b. is_same x z ≡ b → (b || is_among x zs) ≡ false) [
-            | true ↦ λ e.
-                let yes : o.less y x ≡ true = subst (λ v. o.less y v ≡ true) (sym (same_is_one x z e)) two.0 in
-                absurd (cc)
-            | false ↦ λ e. beyond zs two.1
-          ] refl
+      ap (λ b. b || is_among x ys) d
+      ∙ among_none (o.less y) x ys (and_parts (list_all (λ z. o.less y z) ys) (is_rising o ys) h).0 n
 
   -- the lists that rise, by their neighbours
-  pub rising_on : (x y : Item) (ys : List Item) → o.less x y ≡ true
+  rising_on : (x y : Item) (ys : List Item) → o.less x y ≡ true
       → is_rising o (x ∷ y ∷ ys) ≡ is_rising o (y ∷ ys)
   rising_on x y ys l =
       elim (is_rising o (y ∷ ys)) as (λ b. is_rising o (y ∷ ys) ≡ b → (list_all (λ z. o.less x z) (y ∷ ys) && b) ≡ b) [
@@ -93,34 +117,30 @@ module _ {K : Type 0} (o : Order K) (law : IsLawful o) where
       ] refl
 
 -- an item that is not among some others changes nothing of what is not among them
-pub one_more_other : (x : Item) (others list : List Item) → is_among x list ≡ false
+one_more_other : (x : Item) (others list : List Item) → is_among x list ≡ false
     → not_among (x ∷ others) list ≡ not_among others list
 one_more_other x others [] h = refl
 one_more_other x others (y ∷ ys) h =
     let two = or_parts (is_same x y) (is_among x ys) h in
-    let differ : is_same y x ≡ false = flipped y x two.0 in
+    let differ : is_same y x ≡ false = flipped y x ∙ two.0 in
     (λ i. cond (not (differ i || is_among y others)) (y ∷ one_more_other x others ys two.1 i) (one_more_other x others ys two.1 i))
   where
-    flipped : (y x : Item) → is_same x y ≡ false → is_same y x ≡ false
-    flipped y x d =
-        elim (is_same y x) as (λ b. is_same y x ≡ b → b ≡ false) [
-          | true ↦ λ e. let f : true ≡ false = sym (ap (λ z. is_same x z) (same_is_one y x e) ∙ same_as_itself x) ∙ d in absurd (cc)
-          | false ↦ λ e. refl
-        ] refl
+    flipped : (u v : Item) → is_same u v ≡ is_same v u
+    flipped u v = grind (arith, nat_tests)
 
 -- an item that is among others is left out, and one that is not stays
-pub one_among : (x : Item) (others list : List Item) → is_among x others ≡ true
+one_among : (x : Item) (others list : List Item) → is_among x others ≡ true
     → not_among others (x ∷ list) ≡ not_among others list
 one_among x others list h = ap (λ b. cond (not b) (x ∷ not_among others list) (not_among others list)) h
 
-pub one_not_among : (x : Item) (others list : List Item) → is_among x others ≡ false
+one_not_among : (x : Item) (others list : List Item) → is_among x others ≡ false
     → not_among others (x ∷ list) ≡ x ∷ not_among others list
 one_not_among x others list h = ap (λ b. cond (not b) (x ∷ not_among others list) (not_among others list)) h
 
-pub among_first : (x : Item) (others : List Item) → is_among x (x ∷ others) ≡ true
+among_first : (x : Item) (others : List Item) → is_among x (x ∷ others) ≡ true
 among_first x others = ap (λ b. b || is_among x others) (same_as_itself x)
 
-pub none_left_out : (list : List Item) → not_among [] list ≡ list
+none_left_out : (list : List Item) → not_among [] list ≡ list
 none_left_out [] = refl
 none_left_out (x ∷ xs) = ap (λ r. x ∷ r) (none_left_out xs)
 
@@ -133,10 +153,10 @@ all_found erase insert rest = λ i. Batch (sym (append-nil erase) i) (insert ++ 
 
 module _ {K : Type 0} (o : Order K) (law : IsLawful o) (erase : List ℕ) (insert : List Item) where
   -- an item of the list before the next one of the table
-  pub passed : (r x : Item) (rest more : List Item) → o.less r x ≡ true → is_rising o (x ∷ more) ≡ true
+  passed : (r x : Item) (rest more : List Item) → o.less r x ≡ true → is_rising o (x ∷ more) ≡ true
       → found erase (insert ++ r ∷ []) rest (x ∷ more) ≡ found erase insert (r ∷ rest) (x ∷ more)
   passed r x rest more l h =
-      let below : is_among r (x ∷ more) ≡ false = below_none o law r (x ∷ more) (below_rising o law r x more l h) in
+      let below : is_among r (x ∷ more) ≡ false = among_none (o.less r) r (x ∷ more) (below_rising o law r x more l h) (law.irreflexive r) in
       let here : not_among (x ∷ more) (r ∷ rest) ≡ r ∷ not_among (x ∷ more) rest = one_not_among r (x ∷ more) rest below in
       let there : not_among (r ∷ rest) (x ∷ more) ≡ not_among rest (x ∷ more) = one_more_other r rest (x ∷ more) below in
       let pushed : (insert ++ r ∷ []) ++ not_among (x ∷ more) rest ≡ insert ++ not_among (x ∷ more) (r ∷ rest) =
@@ -144,11 +164,11 @@ module _ {K : Type 0} (o : Order K) (law : IsLawful o) (erase : List ℕ) (inser
       λ i. Batch (erase ++ map (λ (x : Item). x.a) (sym there i)) (pushed i)
 
   -- the same item in both
-  pub met : (x : Item) (rest more : List Item) → is_rising o (x ∷ rest) ≡ true → is_rising o (x ∷ more) ≡ true
+  met : (x : Item) (rest more : List Item) → is_rising o (x ∷ rest) ≡ true → is_rising o (x ∷ more) ≡ true
       → found erase insert rest more ≡ found erase insert (x ∷ rest) (x ∷ more)
   met x rest more h k =
-      let first : is_among x rest ≡ false = below_none o law x rest (and_parts (list_all (λ y. o.less x y) rest) (is_rising o rest) h).0 in
-      let second : is_among x more ≡ false = below_none o law x more (and_parts (list_all (λ y. o.less x y) more) (is_rising o more) k).0 in
+      let first : is_among x rest ≡ false = among_none (o.less x) x rest (and_parts (list_all (λ y. o.less x y) rest) (is_rising o rest) h).0 (law.irreflexive x) in
+      let second : is_among x more ≡ false = among_none (o.less x) x more (and_parts (list_all (λ y. o.less x y) more) (is_rising o more) k).0 (law.irreflexive x) in
       let gone : not_among (x ∷ rest) (x ∷ more) ≡ not_among rest more =
       one_among x (x ∷ rest) more (among_first x rest) ∙ one_more_other x rest more second in
       let new : not_among (x ∷ more) (x ∷ rest) ≡ not_among more rest =
@@ -156,7 +176,7 @@ module _ {K : Type 0} (o : Order K) (law : IsLawful o) (erase : List ℕ) (inser
       λ i. Batch (erase ++ map (λ (x : Item). x.a) (sym gone i)) (insert ++ sym new i)
 
   -- an item of the table that is not in the list
-  pub gone : (x : Item) (rest more : List Item) → is_among x rest ≡ false
+  gone : (x : Item) (rest more : List Item) → is_among x rest ≡ false
       → found (erase ++ x.a ∷ []) insert rest more ≡ found erase insert rest (x ∷ more)
   gone x rest more d =
       let here : not_among rest (x ∷ more) ≡ x ∷ not_among rest more = one_not_among x rest more d in
@@ -166,14 +186,10 @@ module _ {K : Type 0} (o : Order K) (law : IsLawful o) (erase : List ℕ) (inser
       λ i. Batch (words i) (insert ++ sym there i)
 
 -- what is left of a list that rises
-pub rising_drop : {K : Type 0} (o : Order K) (xs : List Item) (i : ℕ) → is_rising o xs ≡ true → is_rising o (drop i xs) ≡ true
+rising_drop : {K : Type 0} (o : Order K) (xs : List Item) (i : ℕ) → is_rising o xs ≡ true → is_rising o (drop i xs) ≡ true
 rising_drop o xs zero h = h
 rising_drop o [] (suc i) h = refl
 rising_drop o (x ∷ xs) (suc i) h = rising_drop o xs i (and_parts (list_all (λ y. o.less x y) xs) (is_rising o xs) h).1
-
--- a list from a place on
-from_place : (xs : List Item) (k : ℕ) (d : Item) → k < length xs → drop k xs ≡ get_or xs k d ∷ drop (k + 1) xs
-from_place xs k d lt = rw add-one (drop-cons xs k d lt)
 
 module _ {K : Type 0} (o : Order K) (law : IsLawful o) where
   -- whether a list rises, from one place to the next
@@ -181,18 +197,9 @@ module _ {K : Type 0} (o : Order K) (law : IsLawful o) where
       → o.less (get_or xs (k - 1) d) (get_or xs k d) ≡ true → is_rising o (drop (k - 1) xs) ≡ is_rising o (drop k xs)
   rising_next xs k d some lt l =
       let before : k - 1 + 1 ≡ k = omega arith in
-      let first : drop (k - 1) xs ≡ get_or xs (k - 1) d ∷ drop k xs = from_place xs (k - 1) d (omega arith) ∙ ap (λ j. get_or xs (k - 1) d ∷ drop j xs) before in
-      let second = from_place xs k d lt in
+      let first : drop (k - 1) xs ≡ get_or xs (k - 1) d ∷ drop k xs = drop_more xs (k - 1) d (omega arith) ∙ ap (λ j. get_or xs (k - 1) d ∷ drop j xs) before in
+      let second = drop_more xs k d lt in
       ap (is_rising o) (first ∙ ap (λ r. get_or xs (k - 1) d ∷ r) second) ∙ rising_on o law (get_or xs (k - 1) d) (get_or xs k d) (drop (k + 1) xs) l ∙ ap (is_rising o) (sym second)
-
-  pub rising_not : (xs : List Item) (k : ℕ) (d : Item) → 1 ≤ k → k < length xs
-      → o.less (get_or xs (k - 1) d) (get_or xs k d) ≡ false → is_rising o (drop (k - 1) xs) ≡ false
-  rising_not xs k d some lt n =
-      let before : k - 1 + 1 ≡ k = omega arith in
-      let first : drop (k - 1) xs ≡ get_or xs (k - 1) d ∷ drop k xs = from_place xs (k - 1) d (omega arith) ∙ ap (λ j. get_or xs (k - 1) d ∷ drop j xs) before in
-      let second = from_place xs k d lt in
-      ap (is_rising o) (first ∙ ap (λ r. get_or xs (k - 1) d ∷ r) second)
-      ∙ ap (λ b. (b && list_all (λ z. o.less (get_or xs (k - 1) d) z) (drop (k + 1) xs)) && is_rising o (get_or xs k d ∷ drop (k + 1) xs)) n
 
   pub rising_short : (xs : List Item) (k : ℕ) → length xs ≤ k + 1 → is_rising o (drop k xs) ≡ true
   rising_short [] zero h = refl
@@ -209,13 +216,13 @@ module _ {K : Type 0} (o : Order K) (law : IsLawful o) (erase : List ℕ) (inser
   passed_at more new lt e l h =
       ap (λ i. found erase i (drop (k + 1) items) (x ∷ more)) e
       ∙ passed o law erase insert (get_or items k d) x (drop (k + 1) items) more l h
-      ∙ ap (λ r. found erase insert r (x ∷ more)) (sym (from_place items k d lt))
+      ∙ ap (λ r. found erase insert r (x ∷ more)) (sym (drop_more items k d lt))
 
   pub met_at : (more : List Item) → k < length items → get_or items k d ≡ x → is_rising o items ≡ true
       → is_rising o (x ∷ more) ≡ true
       → found erase insert (drop (k + 1) items) more ≡ found erase insert (drop k items) (x ∷ more)
   met_at more lt same rises h =
-      let here : drop k items ≡ x ∷ drop (k + 1) items = from_place items k d lt ∙ ap (λ y. y ∷ drop (k + 1) items) same in
+      let here : drop k items ≡ x ∷ drop (k + 1) items = drop_more items k d lt ∙ ap (λ y. y ∷ drop (k + 1) items) same in
       met o law erase insert x (drop (k + 1) items) more (ap (is_rising o) (sym here) ∙ rising_drop o items k rises) h
       ∙ ap (λ r. found erase insert r (x ∷ more)) (sym here)
 
@@ -231,7 +238,7 @@ module _ {K : Type 0} (o : Order K) (law : IsLawful o) (erase : List ℕ) (inser
       none =
           ⊎_elim
           (λ lt.
-          let here = from_place items k d lt in
+          let here = drop_more items k d lt in
           ap (is_among x) here
           ∙ not_in_rising o law x (get_or items k d) (drop (k + 1) items) (stops (get_or items k d) (slice_get-get_or items k d lt)) (differs lt)
           (ap (is_rising o) (sym here) ∙ rising_drop o items k rises))
@@ -255,3 +262,144 @@ module _ {K : Type 0} (o : Order K) (items : List Item) where
       let rises : is_rising o (xs ++ (ys ++ more)) ≡ true = subst (λ l. is_rising o l ≡ true) whole h in
       second more (rising_after xs (ys ++ more) rises) ∙ first (ys ++ more) rises
       ∙ ap (λ l. update_found d items l) (sym whole)
+
+-- ---- a table whose items were replaced
+
+module _ {K : Type 0} (o : Order K) (law : IsLawful o) where
+  pub table_rises : (t : List Item) → IsTable o t → is_rising o t ≡ true
+  table_rises [] is = refl
+  table_rises (x ∷ xs) is = and_from (list_all (λ y. o.less x y) xs) (is_rising o xs) (all_less xs is.1) (table_rises xs is.2)
+    where
+      all_less : (ys : List Item) → AllByRecursion (Precedes o x) ys → list_all (λ y. o.less x y) ys ≡ true
+      all_less [] a = refl
+      all_less (y ∷ ys) a = and_from (o.less x y) (list_all (λ y. o.less x y) ys) a.0.is_less (all_less ys a.1)
+
+  not_itself : (x y : Item) → o.less x y ≡ true → x ≡ y → ⊥
+  not_itself x y l e =
+      let itself : o.less x x ≡ true = subst (λ z. o.less x z ≡ true) (sym e) l in
+      let never : o.less x x ≡ false = law.irreflexive x in
+      absurd (cc)
+
+  same_first : (x y : Item) (t u : List Item) → list_all (λ z. o.less x z) t ≡ true
+      → list_all (λ z. o.less y z) u ≡ true → Contains (y ∷ u) x → Contains (x ∷ t) y → x ≡ y
+  same_first x y t u below-t below-u in-u in-t =
+      ⊎_elim (λ e. e)
+      (λ y-in-t. ⊎_elim (λ e. sym e)
+      (λ x-in-u. absurd (not_itself x x (law.transitive x y x (all_have (λ z. o.less x z) t y below-t y-in-t) (all_have (λ z. o.less y z) u x below-u x-in-u)) refl))
+      (Contains-cons_cases y x u in-u))
+      (Contains-cons_cases x y t in-t)
+
+  in_rest : (x y : Item) (t u : List Item) → list_all (λ z. o.less x z) t ≡ true → x ≡ y
+      → ((z : Item) → Contains (x ∷ t) z → Contains (y ∷ u) z) → (z : Item) → Contains t z → Contains u z
+  in_rest x y t u below same f z m =
+      ⊎_elim
+      (λ e. absurd (not_itself x z (all_have (λ z. o.less x z) t z below m) (same ∙ e)))
+      (λ r. r)
+      (Contains-cons_cases y z u (f z (Contains-rest x z t m)))
+
+  -- two lists that rise and have the same items are one
+  rising_is_one : (t u : List Item) → is_rising o t ≡ true → is_rising o u ≡ true
+      → ((z : Item) → Contains t z → Contains u z) → ((z : Item) → Contains u z → Contains t z) → t ≡ u
+  rising_is_one [] [] rt ru f g = refl
+  rising_is_one [] (y ∷ u) rt ru f g = absurd (Contains-none y (g y (Contains-head y y u refl)))
+  rising_is_one (x ∷ t) [] rt ru f g = absurd (Contains-none x (f x (Contains-head x x t refl)))
+  rising_is_one (x ∷ t) (y ∷ u) rt ru f g =
+      let of-t = and_parts (list_all (λ z. o.less x z) t) (is_rising o t) rt in
+      let of-u = and_parts (list_all (λ z. o.less y z) u) (is_rising o u) ru in
+      let same = same_first x y t u of-t.0 of-u.0 (f x (Contains-head x x t refl)) (g y (Contains-head y y u refl)) in
+      let rest : t ≡ u = rising_is_one t u of-t.1 of-u.1 (in_rest x y t u of-t.0 same f) (in_rest y x u t of-u.0 (sym same) g) in
+      λ k. same k ∷ rest k
+
+  -- of the items of a table two with one first word are one
+  one_of_word : (t : List Item) (x y : Item) → IsTable o t → Contains t x → Contains t y → x.a ≡ y.a → x ≡ y
+  one_of_word [] x y is mx my e = absurd (Contains-none x mx)
+  one_of_word (z ∷ t) x y is mx my e =
+      ⊎_elim
+      (λ zx. ⊎_elim (λ zy. sym zx ∙ zy)
+      (λ ty. absurd (apart_words z y (all_at (Precedes o z) t y is.1 ty) (ap (λ (v : Item). v.a) zx ∙ e)))
+      (Contains-cons_cases z y t my))
+      (λ tx. ⊎_elim
+      (λ zy. absurd (apart_words z x (all_at (Precedes o z) t x is.1 tx) (ap (λ (v : Item). v.a) zy ∙ sym e)))
+      (λ ty. one_of_word t x y is.2 tx ty e)
+      (Contains-cons_cases z y t my))
+      (Contains-cons_cases z x t mx)
+    where
+      apart_words : (v w : Item) → Precedes o v w → v.a ≡ w.a → ⊥
+      apart_words v w p same = law.own_first_word v w p.first_valid p.second_valid p.is_apart same
+
+  -- ---- the table after a replacement
+
+  -- an item that stays is in the list
+  stays_listed : (table items : List Item) (x : Item)
+      → Contains (without_all (map (λ z. z.a) (not_among items table)) table) x → Contains items x
+  stays_listed table items x m =
+      let gone : List ℕ = map (λ (z : Item). z.a) (not_among items table) in
+      let stays = from_filter (λ (z : Item). not (list_any (λ a. a == z.a) gone)) table x m in
+      elim (is_among x items) as (λ b. is_among x items ≡ b → Contains items x) [
+        | true ↦ λ e. among_them x items e
+        | false ↦ λ e.
+            let listed : Contains (not_among items table) x = to_filter (λ z. not (is_among z items)) table x (ap not e) stays.0 in
+            let erased : list_any (λ a. a == x.a) gone ≡ true = has_any (λ a. a == x.a) gone x.a (Contains-map (λ (z : Item). z.a) (not_among items table) x listed) (eq-eqb x.a x.a refl) in
+            absurd (let f : false ≡ true = sym (ap not erased) ∙ stays.1 in cc)
+      ] refl
+
+  -- an item of the table that is in the list stays
+  listed_stays : (table items : List Item) (x : Item) → IsTable o table → Contains table x → Contains items x
+      → Contains (without_all (map (λ z. z.a) (not_among items table)) table) x
+  listed_stays table items x is there listed =
+      let gone : List ℕ = map (λ (z : Item). z.a) (not_among items table) in
+      to_filter (λ (z : Item). not (list_any (λ a. a == z.a) gone)) table x (ap not none) there
+    where
+      none : list_any (λ a. a == x.a) (map (λ z. z.a) (not_among items table)) ≡ false
+      none =
+          elim (list_any (λ a. a == x.a) (map (λ z. z.a) (not_among items table))) as (λ b. list_any (λ a. a == x.a) (map (λ z. z.a) (not_among items table)) ≡ b → b ≡ false) [
+            | true ↦ λ e.
+                let word = any_has (λ a. a == x.a) (map (λ (z : Item). z.a) (not_among items table)) e in
+                let of = of_word (not_among items table) word.0 word.1 in
+                let other = from_filter (λ z. not (is_among z items)) table of.0 of.1 in
+                let same : of.0 ≡ x = one_of_word table of.0 x is other.0 there (of.2 ∙ eqb-true word.0 x.a word.2) in
+                let among : is_among of.0 items ≡ true = subst (λ z. is_among z items ≡ true) (sym same) (one_of_them x items listed) in
+                absurd (let f : false ≡ true = sym (ap not among) ∙ other.1 in cc)
+            | false ↦ λ e. refl
+          ] refl
+
+  -- the items of the table that stay
+  abbrev kept : List Item → List Item → List Item
+  kept table items = without_all (map (λ z. z.a) (not_among items table)) table
+
+  -- where nothing stands against it, a replacement leaves the items of the list
+  pub replaced_table : (n limit : ℕ) (table items : List Item) (seq : ℕ) → IsTable o table → length table ≤ n
+      → is_rising o items ≡ true → refusal_for o n limit false table seq (replacement table items) ≡ None
+      → after o table (replacement table items) ≡ items
+  replaced_table n limit table items seq is fits rises free =
+      rising_is_one (after o table (replacement table items)) items
+      (table_rises (after o table (replacement table items)) (accepted_table o law n limit table seq (replacement table items) free is fits).0)
+      rises from to
+    where
+      from : (x : Item) → Contains (after o table (replacement table items)) x → Contains items x
+      from x m =
+          ⊎_elim
+          (λ new. (from_filter (λ z. not (is_among z table)) items x new).0)
+          (λ old. stays_listed table items x old)
+          (from_items o x (not_among table items) (kept table items) m)
+
+      to : (x : Item) → Contains items x → Contains (after o table (replacement table items)) x
+      to x m =
+          to_items o x (not_among table items) (kept table items)
+          (elim (is_among x table) as (λ b. is_among x table ≡ b → Contains (not_among table items) x ⊎ Contains (kept table items) x) [
+            | true ↦ λ e. inr (listed_stays table items x is (among_them x table e) m)
+            | false ↦ λ e. inl (to_filter (λ z. not (is_among z table)) items x (ap not e) m)
+          ] refl)
+
+-- ---- a table replaced by itself
+
+none_among : (others list : List Item) → ((x : Item) → Contains list x → Contains others x) → not_among others list ≡ []
+none_among others [] h = refl
+none_among others (x ∷ xs) h =
+    one_among x others xs (one_of_them x others (h x (Contains-head x x xs refl)))
+    ∙ none_among others xs (λ y m. h y (Contains-rest x y xs m))
+
+pub replaced_by_itself : (table : List Item) → replacement table table ≡ Batch [] []
+replaced_by_itself table =
+    let none : not_among table table ≡ [] = none_among table table (λ x m. m) in
+    λ i. Batch (map (λ (z : Item). z.a) (none i)) (none i)

@@ -59,14 +59,6 @@ standing_step o n k l h s (x ∷ v) sized may st =
     (λ e. let le = st.0 in (omega arith, λ is. absurd (omega arith)))
     (sequence_after n l h s sized may)
 
--- and through the load of the word that it asks for
-pub standing_load : {K : Type 0} (o : Order K) (m : List ℕ) (n : ℕ) (k : K) (v : List ℕ) (w : ℕ) (go : ℕ → Reading) → rest_after (attempt o n k) v ≡ Some (Load w go) → IsStanding m (attempt o n k) v → IsStanding m (attempt o n k) (v ++ at m w ∷ [])
-standing_load o m n k [] w go e st = let zero_first : w ≡ 0 = cc in (omega (arith, ap (at m) zero_first), λ is. (is_first is, tt))
-  where
-    is_first : at m w ≡ at m 0 → at m 0 ≡ at m w
-    is_first is = sym is
-standing_load o m n k (x ∷ v) w go e st = (st.0, λ is. stand_push m (attempt o n k) (x ∷ v) w go (at m w) e (st.1 is) refl)
-
 -- one item more, one item less
 pub after_insert : {K : Type 0} (o : Order K) (table : List Item) (i : Item) → after o table (Insert i) ≡ with_item o i table
 after_insert o table i = ap (with_item o i) (without_none table)

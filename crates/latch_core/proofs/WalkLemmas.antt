@@ -6,11 +6,10 @@ use Rattle.std.proofs.lemmas.Bool.{lt-ltb, ltb-true, eq-eqb}
 use Rattle.order_laws.specs.declared.items.Item.{Item}
 use Rattle.order_laws.specs.Orders.{Order, IsLawful}
 use Rattle.order_laws.specs.Tables.{IsTable, look}
-use Rattle.word_layout.specs.Words.{at, root_word, left_word, right_word, item_at, Nodes, none, fork, items, Leads, Holds, Reaches, by_left, by_right, InUse}
+use Rattle.word_layout.specs.Words.{at, root_word, left_word, right_word, item_at, Nodes, none, fork, items, Leads, Holds, Reaches, by_left, by_right, InUse, listed}
 use Rattle.latch_core.specs.Sequences.{generation_of, stable_copy_of}
 use Rattle.latch_core.specs.Attempts.{Outcome, Answer, Reading, Load, Ends, WalkEnd, AtItem, AtEmptyLink, Stuck, outcome, last_load, after_item, visit, walk, attempt, rest_after, Stand, IsAttempt}
 use Rattle.word_layout.proofs.HoldsLemmas.{size, size_items, size_listed}
-use Rattle.word_layout.specs.Words.{listed}
 use Rattle.rb_trees.specs.Trees.{IsBalanced, depth}
 use Rattle.rb_trees.proofs.DepthLemmas.{balanced_depth}
 use Rattle.order_laws.proofs.TableLemmas.{parted, look_less, look_greater, look_equal}
@@ -21,6 +20,11 @@ use Rattle.latch_core.proofs.ReadingLemmas.{AllLoads, Within, ends_as, loads_so_
 abbrev pub found_of : Option Item → WalkEnd
 found_of None = AtEmptyLink
 found_of (Some x) = AtItem x
+
+-- an attempt whose two readings of the sequence are equal gives what was looked up
+pub answers : (s t g : ℕ) (r : Option Item) → s ≡ t → g ≡ generation_of t → outcome s t (found_of r) ≡ Answer r g
+answers s t g None e f = let same : (s == t) ≡ true = eq-eqb s t e in rw same (ap (λ q. Answer None (generation_of q)) e ∙ ap (Answer None) (sym f))
+answers s t g (Some x) e f = let same : (s == t) ≡ true = eq-eqb s t e in rw same (ap (λ q. Answer (Some x) (generation_of q)) e ∙ ap (Answer (Some x)) (sym f))
 
 module _ {K : Type 0} (o : Order K) (law : IsLawful o) (m : List ℕ) (n : ℕ) (k : K) (s : ℕ) where
   -- a walk down a tree
@@ -38,22 +42,12 @@ module _ {K : Type 0} (o : Order K) (law : IsLawful o) (m : List ℕ) (n : ℕ) 
         | Greater ↦ λ e. walk_ends r left (at m (right_word (stable_copy_of s) i)) leads.3 p.right (omega arith) ∙ ap (λ x. outcome s (at m 0) (found_of x)) (sym (look_greater o law k (items m l) (item_at m i) (items m r) table e))
       ] refl))
 
-module _ {K : Type 0} (o : Order K) (m : List ℕ) (n : ℕ) (k : K) (s : ℕ) where
-  -- its loads: four for each node visited at most, and the closing one
-  pub walk_loads : (t : Nodes) (left link : ℕ) → Leads m n (stable_copy_of s) link t → size t ≤ left → loads_in m (walk o n k s left link) ≤ 4 * size t + 1
-  walk_loads none left link leads fits = subst (λ p. loads_in m (walk o n k s left p) ≤ 1) (sym leads) (omega arith)
-  walk_loads (fork l i r) zero link leads fits = absurd (omega arith)
-  walk_loads (fork l i r) (suc left) link leads fits =
-      subst (λ p. loads_in m (walk o n k s (suc left) p) ≤ 4 * size (fork l i r) + 1) (sym leads.0)
-      (let below : nat_lt i n ≡ true = lt-ltb i n leads.1 in
-      rw below
-      (elim (o.comp k (item_at m i)) as (λ c. suc (suc (suc (loads_in m (after_item s i (item_at m i) (walk o n k s left) c)))) ≤ 4 * size (fork l i r) + 1) [
-        | Less ↦ omega (arith, walk_loads l left (at m (left_word (stable_copy_of s) i)) leads.2 (omega arith))
-        | Equal ↦ omega arith
-        | Greater ↦ omega (arith, walk_loads r left (at m (right_word (stable_copy_of s) i)) leads.3 (omega arith))
-      ]))
+depth_within : (t : Nodes) → depth t ≤ size t
+depth_within none = omega arith
+depth_within (fork l i r) = omega (arith, depth_within l, depth_within r)
 
-  -- and four for each node on the longest way down
+module _ {K : Type 0} (o : Order K) (m : List ℕ) (n : ℕ) (k : K) (s : ℕ) where
+  -- its loads: four for each node on the longest way down at most, and the closing one
   pub walk_depth : (t : Nodes) (left link : ℕ) → Leads m n (stable_copy_of s) link t → size t ≤ left → loads_in m (walk o n k s left link) ≤ 4 * depth t + 1
   walk_depth none left link leads fits = subst (λ p. loads_in m (walk o n k s left p) ≤ 1) (sym leads) (omega arith)
   walk_depth (fork l i r) zero link leads fits = absurd (omega arith)
@@ -92,13 +86,7 @@ module _ {K : Type 0} (o : Order K) (m : List ℕ) (n : ℕ) (k : K) (s : ℕ) w
       ] refl
 
 -- whatever the words hold, a walk ends
-pub within_more : (b c : ℕ) (r : Reading) → b ≤ c → Within b r → Within c r
-within_more b c (Ends out) le h = tt
-within_more zero c (Load w go) le h = absurd h
-within_more (suc b) zero (Load w go) le h = absurd (omega arith)
-within_more (suc b) (suc c) (Load w go) le h = λ x. within_more b c (go x) (omega arith) (h x)
-
-walk_within : {K : Type 0} (o : Order K) (n : ℕ) (k : K) (s left link b : ℕ) → 4 * left + 1 ≤ b → Within b (walk o n k s left link)
+pub walk_within : {K : Type 0} (o : Order K) (n : ℕ) (k : K) (s left link b : ℕ) → 4 * left + 1 ≤ b → Within b (walk o n k s left link)
 walk_within o n k s left zero zero le = absurd (omega arith)
 walk_within o n k s left zero (suc b) le = λ t. tt
 walk_within o n k s zero (suc i) zero le = absurd (omega arith)
@@ -127,9 +115,6 @@ attempt_within o n k =
 pub attempt_length : {K : Type 0} (o : Order K) (n : ℕ) (k : K) (v : List ℕ) (r : Reading) → rest_after (attempt o n k) v ≡ Some r → length v ≤ 4 * n + 3
 attempt_length o n k v r e = within_length (4 * n + 3) (attempt o n k) v r (attempt_within o n k) e
 
-pub attempt_below_most : {K : Type 0} (o : Order K) (n : ℕ) (k : K) (v : List ℕ) (w : ℕ) (go : ℕ → Reading) → rest_after (attempt o n k) v ≡ Some (Load w go) → length v < 4 * n + 3
-attempt_below_most o n k v w go e = within_below (4 * n + 3) (attempt o n k) v w go (attempt_within o n k) e
-
 module _ {K : Type 0} (o : Order K) (law : IsLawful o) (m : List ℕ) (n : ℕ) (k : K) (table : List Item) (t : Nodes) (holds : Holds m n (stable_copy_of (at m 0)) table t) (is_table : IsTable o table) (fits : length table ≤ n) where
   small : size t ≤ n
   small = omega (arith, size_items m t, ap length holds.listed_items)
@@ -138,44 +123,35 @@ module _ {K : Type 0} (o : Order K) (law : IsLawful o) (m : List ℕ) (n : ℕ) 
   sorted_items = subst (IsTable o) (sym holds.listed_items) is_table
 
   -- an attempt in this memory gives what the key finds in the table
-  answered : (r : Option Item) (seq : ℕ) → outcome seq seq (found_of r) ≡ Answer r (generation_of seq)
-  answered None seq = let e : (seq == seq) ≡ true = eq-eqb seq seq refl in rw e refl
-  answered (Some x) seq = let e : (seq == seq) ≡ true = eq-eqb seq seq refl in rw e refl
-
   pub attempt_ran : outcome_in m (attempt o n k) ≡ Answer (look o k table) (generation_of (at m 0))
   attempt_ran =
       let seq = at m 0 in
       walk_ends o law m n k seq t n (at m (root_word (stable_copy_of seq))) holds.leads sorted_items small
       ∙ ap (λ xs. outcome seq seq (found_of (look o k xs))) holds.listed_items
-      ∙ answered (look o k table) seq
+      ∙ answers seq seq (generation_of seq) (look o k table) refl refl
 
-  -- after four loads at most for each item, and for each node on the longest way down, and three
-  pub attempt_count : loads_in m (attempt o n k) ≤ 4 * length table + 3
-  attempt_count =
-      omega (arith, walk_loads o m n k (at m 0) t n (at m (root_word (stable_copy_of (at m 0)))) holds.leads small, size_items m t, ap length holds.listed_items)
-
+  -- after four loads at most for each node on the longest way down, and for each item, and three
   pub attempt_depth_count : loads_in m (attempt o n k) ≤ 4 * depth t + 3
   attempt_depth_count = omega (arith, walk_depth o m n k (at m 0) t n (at m (root_word (stable_copy_of (at m 0)))) holds.leads small)
+
+  pub attempt_count : loads_in m (attempt o n k) ≤ 4 * length table + 3
+  attempt_count = omega (arith, attempt_depth_count, depth_within t, size_items m t, ap length holds.listed_items)
 
   -- so does one whose values all stand in it
   pub attempt_answers : (v : List ℕ) (out : Outcome) → Stand m (attempt o n k) v → IsAttempt o n k v out → out ≡ Answer (look o k table) (generation_of (at m 0))
   attempt_answers v out st e = (ends_as m (attempt o n k) v out st e).0 ∙ attempt_ran
 
   pub attempt_loads : (v : List ℕ) → Stand m (attempt o n k) v → length v ≤ 4 * length table + 3
-  attempt_loads v st =
-      omega (arith, loads_so_far m (attempt o n k) v st, walk_loads o m n k (at m 0) t n (at m (root_word (stable_copy_of (at m 0)))) holds.leads small, size_items m t, ap length holds.listed_items)
+  attempt_loads v st = omega (arith, loads_so_far m (attempt o n k) v st, attempt_count)
 
   pub attempt_below : (v : List ℕ) (w : ℕ) (go : ℕ → Reading) → Stand m (attempt o n k) v → rest_after (attempt o n k) v ≡ Some (Load w go) → length v < 4 * length table + 3
-  attempt_below v w go st e =
-      omega (arith, loads_below m (attempt o n k) v w go st e, walk_loads o m n k (at m 0) t n (at m (root_word (stable_copy_of (at m 0)))) holds.leads small, size_items m t, ap length holds.listed_items)
+  attempt_below v w go st e = omega (arith, loads_below m (attempt o n k) v w go st e, attempt_count)
 
   pub attempt_depth : (v : List ℕ) → Stand m (attempt o n k) v → length v ≤ 4 * depth t + 3
-  attempt_depth v st =
-      omega (arith, loads_so_far m (attempt o n k) v st, walk_depth o m n k (at m 0) t n (at m (root_word (stable_copy_of (at m 0)))) holds.leads small)
+  attempt_depth v st = omega (arith, loads_so_far m (attempt o n k) v st, attempt_depth_count)
 
   pub attempt_below_depth : (v : List ℕ) (w : ℕ) (go : ℕ → Reading) → Stand m (attempt o n k) v → rest_after (attempt o n k) v ≡ Some (Load w go) → length v < 4 * depth t + 3
-  attempt_below_depth v w go st e =
-      omega (arith, loads_below m (attempt o n k) v w go st e, walk_depth o m n k (at m 0) t n (at m (root_word (stable_copy_of (at m 0)))) holds.leads small)
+  attempt_below_depth v w go st e = omega (arith, loads_below m (attempt o n k) v w go st e, attempt_depth_count)
 
 -- a copy that holds a table in a red-black tree
 pub few_deep_any : (m : List ℕ) (n : ℕ) (table : List Item) (t : Nodes) → Holds m n (stable_copy_of (at m 0)) table t → IsBalanced t → 2 ^ depth t ≤ (length table + 1) * (length table + 1)

@@ -8,7 +8,7 @@ use Rattle.std.proofs.lemmas.List.{get_or-replicate, length-replicate}
 use Rattle.word_layout.specs.declared.layouts.Layout.{Layout}
 use Rattle.word_layout.specs.Layouts.{capacity_of}
 use Rattle.word_layout.specs.declared.stores.Store.{Store}
-use Rattle.word_layout.specs.Words.{words_per_node, at, words_for, Holds, IsUnreached, listed}
+use Rattle.word_layout.specs.Words.{words_per_node, at, words_for, Nodes, Holds, IsUnreached, listed}
 use Rattle.word_layout.specs.Stores.{words_after, words_after_all}
 use Rattle.word_layout.proofs.StoreLemmas.{length_after}
 use Rattle.word_layout.proofs.ReachLemmas.{reached_listed}
@@ -78,38 +78,33 @@ pub remaining_pictured : (w : WriterView) (l : Latch) (h : PendingUpdate) → Re
 remaining_pictured w l h p pending = plan_left w.capacity l h w.stores_left p.plan pending
 
 -- an update that the core planned at rest
-module _ {K : Type 0} (o : Order K) (w : WriterView) (u : Update) (items links0 links1 : List Store) (new : WriterView)
-    (begins : new ≡ record w { table = after o w.table u; zero_tree = new.zero_tree; one_tree = new.one_tree; stores_left = update_stores w.sequence items links0 links1 }) where
-  begun_from : (l : Latch) → RepresentsLatch w l → w.stores_left ≡ [] → Leading w.capacity w.table (after o w.table u) l.words items links0 links1 new.zero_tree new.one_tree → RepresentsLatch (record w { table = after o w.table u; zero_tree = new.zero_tree; one_tree = new.one_tree; stores_left = update_stores w.sequence items links0 links1 }) (latch_with_update o l u (length (update_stores w.sequence items links0 links1)))
-  begun_from l p idle leading =
-      let n = w.capacity in
-      let m = l.words in
-      let after_u = after o w.table u in
-      let stores = update_stores w.sequence items links0 links1 in
-      let same : update_stores (at m 0) items links0 links1 ≡ stores = ap (λ q. update_stores q items links0 links1) p.sequence in
-      let count = ap length same in
-      let plan = update_plan n w.table after_u m items links0 links1 new.zero_tree new.one_tree leading (length stores) (sym count) in
-      let moved : IsPlan n (record { words = m; newest_table = after_u; pending = Some (record { old_table = w.table; old_words = m; flips_made = 0; steps_left = length stores }) }) stores = subst (IsPlan n _) same plan in
-      let even_now : at m 0 % 2 ≡ 0 = leading.even in
-      let two = update_sequence n w.table after_u m items links0 links1 new.zero_tree new.one_tree leading in
-      let even_then : stable_copy_of (at (words_after_all m (update_stores (at m 0) items links0 links1)) 0) ≡ 0 = omega arith in
-      record {
-        plan = subst (λ t. IsPlan n (record { words = m; newest_table = after o t u; pending = Some (record { old_table = t; old_words = m; flips_made = 0; steps_left = length stores }) }) stores) (sym p.table) moved;
-        at_rest = record {
-          sized = length_after m stores ∙ leading.sized;
-          even = subst (λ ss. stable_copy_of (at (words_after_all m ss) 0) ≡ 0) same even_then;
-          zero = subst (λ ss. Holds (words_after_all m ss) n 0 after_u new.zero_tree) same (update_zero n w.table after_u m items links0 links1 new.zero_tree new.one_tree leading);
-          one = subst (λ ss. Holds (words_after_all m ss) n 1 after_u new.one_tree) same (update_one n w.table after_u m items links0 links1 new.zero_tree new.one_tree leading);
-          zero_balanced = leading.new_trees.0;
-          one_balanced = leading.new_trees.1;
-        };
-        table = ap (λ t. after o t u) p.table;
-        sequence = p.sequence;
-        shallow = subst (StaysShallow n m) same (update_shallow n w.table after_u m items links0 links1 new.zero_tree new.one_tree leading);
-      }
-
-  pub begun_pictures : (l : Latch) → RepresentsLatch w l → w.stores_left ≡ [] → Leading w.capacity w.table (after o w.table u) l.words items links0 links1 new.zero_tree new.one_tree → RepresentsLatch new (latch_with_update o l u (length new.stores_left))
-  begun_pictures l p idle leading = subst (λ x. RepresentsLatch x (latch_with_update o l u (length x.stores_left))) (sym begins) (begun_from l p idle leading)
+pub begun_pictures : {K : Type 0} (o : Order K) (w : WriterView) (u : Update) (items links0 links1 : List Store) (zero one : Nodes) (l : Latch) → RepresentsLatch w l → Leading w.capacity w.table (after o w.table u) l.words items links0 links1 zero one
+    → RepresentsLatch (record w { table = after o w.table u; zero_tree = zero; one_tree = one; stores_left = update_stores w.sequence items links0 links1 }) (latch_with_update o l u (length (update_stores w.sequence items links0 links1)))
+begun_pictures o w u items links0 links1 zero one l p leading =
+    let n = w.capacity in
+    let m = l.words in
+    let after_u = after o w.table u in
+    let stores = update_stores w.sequence items links0 links1 in
+    let same : update_stores (at m 0) items links0 links1 ≡ stores = ap (λ q. update_stores q items links0 links1) p.sequence in
+    let plan = update_plan n w.table after_u m items links0 links1 zero one leading (length stores) (sym (ap length same)) in
+    let moved : IsPlan n (record { words = m; newest_table = after_u; pending = Some (record { old_table = w.table; old_words = m; flips_made = 0; steps_left = length stores }) }) stores = subst (IsPlan n _) same plan in
+    let even_now : at m 0 % 2 ≡ 0 = leading.even in
+    let two = update_sequence n w.table after_u m items links0 links1 zero one leading in
+    let even_then : stable_copy_of (at (words_after_all m (update_stores (at m 0) items links0 links1)) 0) ≡ 0 = omega arith in
+    record {
+      plan = subst (λ t. IsPlan n (record { words = m; newest_table = after o t u; pending = Some (record { old_table = t; old_words = m; flips_made = 0; steps_left = length stores }) }) stores) (sym p.table) moved;
+      at_rest = record {
+        sized = length_after m stores ∙ leading.sized;
+        even = subst (λ ss. stable_copy_of (at (words_after_all m ss) 0) ≡ 0) same even_then;
+        zero = subst (λ ss. Holds (words_after_all m ss) n 0 after_u zero) same (update_zero n w.table after_u m items links0 links1 zero one leading);
+        one = subst (λ ss. Holds (words_after_all m ss) n 1 after_u one) same (update_one n w.table after_u m items links0 links1 zero one leading);
+        zero_balanced = leading.new_trees.0;
+        one_balanced = leading.new_trees.1;
+      };
+      table = ap (λ t. after o t u) p.table;
+      sequence = p.sequence;
+      shallow = subst (StaysShallow n m) same (update_shallow n w.table after_u m items links0 links1 zero one leading);
+    }
 
 -- a node that neither tree lists is reached in neither copy
 pub unlisted : (w : WriterView) (m : List ℕ) (node : ℕ) → IsMemoryAtRest w m → listed w.one_tree ≡ listed w.zero_tree → (Contains (listed w.zero_tree) node → ⊥) → IsUnreached m w.capacity node

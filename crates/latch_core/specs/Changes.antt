@@ -12,7 +12,6 @@ use Rattle.rb_words.specs.Plans.{item_stores}
 use Rattle.rb_words.specs.Mirrors.{mirror_stores, second_picture}
 use Rattle.rb_words.specs.Rows.{AreDistinct}
 use Rattle.table_updates.specs.Updates.{with_items}
-use Rattle.latch_core.specs.Plans.{update_stores}
 use Rattle.latch_core.specs.FreeNodes.{AreAllNodes}
 
 -- items, each with the node that it goes into; the stores of their words; and that these are
@@ -40,15 +39,6 @@ pub record RelinksBoth (old new : Picture) (placed : PlacedItems) (links : List 
     : Type 0 where
   pub zero : RelinksCopy old new placed links
   pub one : RelinksCopy (second_picture old) (second_picture new) placed (mirror_stores links)
-
--- These stores change both copies alike, from a sequence on: they place the items, flip,
--- lead copy 0 by links, flip again, and lead copy 1 by these links, mirrored.
-pub record PlansBoth (old new : Picture) (seq : ℕ) (placed : PlacedItems) (stores : List Store)
-    : Type 0 where
-  pub links : List Store
-  pub listed_stores : stores
-      ≡ update_stores seq (stores_of_placed placed) links (mirror_stores links)
-  pub both : RelinksBoth old new placed links
 
 -- the items of these first words are erased by these links, and their nodes come after those that
 -- were free

@@ -45,7 +45,7 @@ mod changes;
 mod clashes;
 pub mod laws;
 mod nodes;
-pub mod plain;
+mod plain;
 mod plans;
 mod progress;
 pub mod readers;

@@ -31,7 +31,7 @@ use crate::plans::Plan;
 use crate::replacements::Difference;
 use crate::sequences::{generation, is_spent};
 use order_laws::{Item, Refusal, TreeOrder};
-use rb_words::{STORES, Shape};
+use rb_words::{STORES, Shape, item_stores};
 use std::alloc::Global;
 use std::marker::Model;
 use table_updates::Update;
@@ -51,6 +51,8 @@ pub struct WriterCore<O: TreeOrder> {
     shape: Shape<O>,
     free: Vec<u32>,
     plan: Plan,
+    /// The links of an update of one item, while it is planned.
+    links: Vec<Store>,
 }
 
 impl<O: TreeOrder> Model for WriterCore<O> {
@@ -102,6 +104,7 @@ impl<O: TreeOrder> WriterCore<O> {
             shape: Shape::new(alloc, l, TreeCopy::Zero),
             free: all_nodes(alloc, l.capacity())?,
             plan: Plan::new(alloc),
+            links: Vec::new(alloc),
         })
     }
 
@@ -148,20 +151,6 @@ impl<O: TreeOrder> WriterCore<O> {
     /// then by [`Refusal::BadItem`], then by [`Refusal::Overlap`] or [`Refusal::NoSuchItem`], by
     /// [`Refusal::Full`], by [`Refusal::SequenceSpent`] and last by [`Refusal::OutOfMemory`]; a
     /// refusal changes nothing.
-    pub fn begin(&mut self, u: Update) -> Result<u64, Refusal>
-        ensures accepted { IfOk result (λ left. why_refused O.order self.old u ≡ None) }
-        ensures begun { IfOk result (λ left. (left ≡ length self.new.stores_left)
-            × HasBegun O.order self.old u self.new) }
-        ensures refusal { IfErr result (IsRefusedBy O.order self.old u) }
-        ensures unchanged { OnErr result (self.new ≡ self.old) }
-        ensures same { (self.new.capacity ≡ self.old.capacity)
-            × (self.new.limit ≡ self.old.limit) × (self.new.sequence ≡ self.old.sequence) }
-        ensures pictured { RefusesAsRepresented O.order self.old u }
-    {
-        self.begin_from(&u)
-    }
-
-    /// Begins an update, for a caller that keeps it.
     pub fn begin_from(&mut self, u: &Update) -> Result<u64, Refusal>
         ensures accepted { IfOk result (λ left. why_refused O.order self.old u.now ≡ None) }
         ensures begun { IfOk result (λ left. (left ≡ length self.new.stores_left)
@@ -347,22 +336,21 @@ impl<O: TreeOrder> WriterCore<O> {
         if !self.is_ready() || self.shape.len() == self.layout.capacity() || !O::valid(&item) {
             return false;
         }
-        let Ok(()) = self.plan.reserve_with(&mut self.shape) else {
+        let Ok(()) = reserve(&mut self.shape, &mut self.plan, &mut self.links, 1) else {
             return false;
         };
         self.shape.stays_sound();
         let Some(node) = self.free.pop() else {
             unreachable!()
         };
-        let (layout, sequence) = (self.layout, self.sequence);
-        let met = self
-            .plan
-            .insert(layout, sequence, &mut self.shape, node, item);
+        let met = self.shape.plan_links_apart(&mut self.links, node, item);
         self.shape.stays_sound();
         if met {
             self.free.push_reserved(node);
             return false;
         }
+        self.plan.add(&item_stores(node, item));
+        self.plan.close(self.layout, self.sequence, &self.links);
         true
     }
 
@@ -376,16 +364,16 @@ impl<O: TreeOrder> WriterCore<O> {
         if !self.is_ready() {
             return false;
         }
-        let Ok(()) = self.plan.reserve_with(&mut self.shape) else {
+        let Ok(()) = reserve(&mut self.shape, &mut self.plan, &mut self.links, 1) else {
             return false;
         };
-        let (layout, sequence) = (self.layout, self.sequence);
         self.shape.stays_sound();
-        let Some(node) = self.plan.erase(layout, sequence, &mut self.shape, a) else {
+        let Some(node) = self.shape.plan_erase_found(&mut self.links, a) else {
             return false;
         };
         self.shape.stays_sound();
         self.free.push_reserved(node);
+        self.plan.close(self.layout, self.sequence, &self.links);
         true
     }
 
@@ -402,7 +390,8 @@ impl<O: TreeOrder> WriterCore<O> {
         ensures unchanged { OnErr result (self.new ≡ self.old) }
     {
         let size = erase.len() + insert.len();
-        let mut links = reserve_all(&mut self.shape, &mut self.plan, size)?;
+        let mut links = Vec::new(*self.free.allocator());
+        reserve(&mut self.shape, &mut self.plan, &mut links, size)?;
         let fresh = self.free.len();
         self.shape.stays_sound();
         plan_erases(&mut self.shape, &mut self.free, &mut links, erase);
@@ -555,23 +544,26 @@ impl<O: TreeOrder> WriterCore<O> {
     }
 }
 
-/// Makes room for an update of `size` items, in the picture and in the plan. Hands out an empty
-/// list with room for all their stores of links.
-fn reserve_all<O: TreeOrder>(
+/// Makes room for an update of `size` items, in the picture and in the plan, and for their links in
+/// a list, which is empty then.
+#[inline(always)]
+fn reserve<O: TreeOrder>(
     shape: &mut Shape<O>,
     plan: &mut Plan,
+    links: &mut Vec<Store>,
     size: usize,
-) -> Result<Vec<Store>, Refusal>
+) -> Result<(), Refusal>
     requires none_left { plan.old.stores_left ≡ [] }
     requires size { size ≤ 2 * most_nodes }
     ensures kept { shape.new ≡ record shape.old { room = shape.new.room } }
     ensures plan_kept { plan.new.stores_left ≡ [] }
     ensures room { OnOk result (size ≤ shape.new.room) }
     ensures plan_room { OnOk result (2 * (size * STORES) + 2 ≤ plan.new.room) }
-    ensures links { IfOk result (λ links. (links.items ≡ []) × (vec_len links ≡ 0)
-        × (size * STORES ≤ vec_capacity links)) }
+    ensures links { OnOk result ((links.new.items ≡ []) × (vec_len links.new ≡ 0)
+        × (size * STORES ≤ vec_capacity links.new)) }
     ensures refusal { IfErr result (λ e. e ≡ Refusal.OutOfMemory) }
 {
     plan.reserve(2 * (size * STORES) + 2)?;
-    shape.reserve(size as u32)
+    links.clear();
+    shape.reserve_in(size as u32, links)
 }

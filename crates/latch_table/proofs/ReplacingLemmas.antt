@@ -16,8 +16,7 @@ use Rattle.latch_core.specs.Replacements.{replacement, is_rising, update_found, 
 use Rattle.latch_core.specs.WriterViews.{WriterView}
 use Rattle.latch_core.specs.Writers.{IsMemoryAtRest}
 use Rattle.word_layout.specs.Stores.{words_after_all}
-use Rattle.latch_core.proofs.ReplacementLemmas.{tells_both}
-use Rattle.latch_core.proofs.ReplacedLemmas.{replaced_table, table_rises}
+use Rattle.latch_core.proofs.ReplacementLemmas.{tells_both, replaced_table, table_rises}
 use Rattle.latch_core.proofs.RestLemmas.{table_at_rest}
 use Rattle.latch_table.specs.declared.knowledge.Knowledge.{Knowledge}
 use Rattle.latch_table.specs.declared.knowledge.WriterKnowledge.{WriterKnowledge}

@@ -19,8 +19,8 @@ use std::marker::Brand;
 use table_updates::Update;
 
 impl<O: TreeOrder> Writer<O> {
-    /// Begins an update. Refused as [`WriterCore::begin`](latch_core::WriterCore::begin) refuses; a
-    /// refusal changes nothing.
+    /// Begins an update. Refused as [`WriterCore::begin_from`](latch_core::WriterCore::begin_from)
+    /// refuses; a refusal changes nothing.
     #[inline(always)]
     pub fn begin(&mut self, u: Update) -> Result<InHand<'_, O>, Refusal>
         ensures* rests { sem 𝓛 (RestsIfErr (the_row O.row O.Key.row O.TreeOrder O.Key.Clone)

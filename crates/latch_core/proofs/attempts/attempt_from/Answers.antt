@@ -1,10 +1,11 @@
-use Rattle.std.proofs.Common.{arith, sym, ◌∙◌, ap}
+use Rattle.std.proofs.Common.{Some, None, arith, sym, ◌∙◌, ap}
 use Rattle.word_layout.specs.Layouts.{capacity_of}
 use Rattle.latch_core.specs.Sequences.{generation_of}
 use Rattle.latch_core.specs.Attempts.{outcome}
 use Rattle.latch_core.specs.Whole.{outcome_of}
 use Rattle.latch_core.specs.Loading.{found_by}
-use Rattle.latch_core.proofs.ReaderLemmas.{answers, answers_none, again, again_none}
+use Rattle.latch_core.proofs.ReaderLemmas.{again, again_none}
+use Rattle.latch_core.proofs.WalkLemmas.{answers}
 use Rattle.latch_core.proofs.LoadingLemmas.{tries, few}
 use Rattle.latch_core.proofs.attempts.attempt_from.Goals as goal
 use Rattle.latch_core.proofs.attempts.attempt_from.Goals.{in-At, in-Nowhere, in_default-2, in_default-3, in_default}
@@ -26,10 +27,10 @@ returns g c =
     (elim c.match-walked.branch [
       | in-At w ↦
           let same = w.if-last-first.true in
-          ap (λ f. outcome s t (found_by f)) w.in-At.is ∙ answers s t w.generation.result w.in-At.item (sym same) (w.generation.ensures ∙ ap generation_of (sym same)) ∙ sym (ap outcome_of w.came_to-is)
+          ap (λ f. outcome s t (found_by f)) w.in-At.is ∙ answers s t w.generation.result (Some w.in-At.item) (sym same) (w.generation.ensures ∙ ap generation_of (sym same)) ∙ sym (ap outcome_of w.came_to-is)
       | in-Nowhere w ↦
           let same = w.if-last-first-2.true in
-          ap (λ f. outcome s t (found_by f)) w.in-Nowhere.is ∙ answers_none s t w.generation-in-Nowhere.result (sym same) (w.generation-in-Nowhere.ensures ∙ ap generation_of (sym same)) ∙ sym (ap outcome_of w.came_to-is)
+          ap (λ f. outcome s t (found_by f)) w.in-Nowhere.is ∙ answers s t w.generation-in-Nowhere.result None (sym same) (w.generation-in-Nowhere.ensures ∙ ap generation_of (sym same)) ∙ sym (ap outcome_of w.came_to-is)
       | in_default-2 w ↦ ap (λ f. outcome s t (found_by f)) w.in-At.is ∙ again s t w.in-At.item (λ e. w.if-last-first.false (sym e)) ∙ sym (ap outcome_of w.came_to-is)
       | in_default-3 w ↦ ap (λ f. outcome s t (found_by f)) w.in-Nowhere.is ∙ again_none s t (λ e. w.if-last-first-2.false (sym e)) ∙ sym (ap outcome_of w.came_to-is)
       | in_default w ↦ ap (λ f. outcome s t (found_by f)) w.in_default.is ∙ sym (ap outcome_of w.came_to-is)

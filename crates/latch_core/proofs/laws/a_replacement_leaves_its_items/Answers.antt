@@ -1,4 +1,4 @@
-use Rattle.latch_core.proofs.ReplacedLemmas.{replaced_table, replaced_by_itself}
+use Rattle.latch_core.proofs.ReplacementLemmas.{replaced_table, replaced_by_itself}
 use Rattle.latch_core.proofs.laws.a_replacement_leaves_its_items.Goals as goal
 
 pub returns-clause-table : goal.returns-clause-table

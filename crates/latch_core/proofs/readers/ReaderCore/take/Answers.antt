@@ -1,8 +1,9 @@
-use Rattle.std.proofs.Common.{◌∷◌, [], ◌++◌, ◌∙◌, ap, refl, ⊎_elim, sym, Some, arith}
+use Rattle.std.proofs.Common.{◌∷◌, [], ◌++◌, ◌∙◌, ap, refl, ⊎_elim, sym, Some, None, arith}
 use Rattle.std.specs.declared.cmp.Ordering.TheVariants.{Less, Equal, Greater}
 use Rattle.latch_core.specs.declared.progress.Awaited.TheVariants.{First, Root, WordA, WordB, Tag, Left, Right, Found, Missing, Stuck}
 use Rattle.latch_core.specs.Attempts.{Ends, Answer}
-use Rattle.latch_core.proofs.ReaderLemmas.{next_from, values_before, values_of_core, values_of_place, moved, turned, answers, answers_none, again, again_none}
+use Rattle.latch_core.proofs.ReaderLemmas.{next_from, values_before, values_of_place, moved, turned, again, again_none}
+use Rattle.latch_core.proofs.WalkLemmas.{answers}
 use Rattle.latch_core.proofs.readers.ReaderCore.take.Goals as goal
 use Rattle.latch_core.proofs.readers.ReaderCore.take.Goals.{in-Less, in-Equal, in-Greater}
 
@@ -17,7 +18,7 @@ returns-in-Root-clause-leads g c = λ values leads.
     let o = g.O.TreeOrder.order in
     let e = c.follow.ensures in
     let h = moved o _ _ _ _ (values ++ c.args.value ∷ []) _ _ e.capacity e.key (next_from o c.args.self Root _ _ c.args.value values c.in-Root.is refl leads) e.leads in
-    (e.capacity, e.key, h, let few = values_of_core o c.follow.result (values ++ c.args.value ∷ []) h in omega (arith, e.capacity))
+    (e.capacity, e.key, h, let few = values_of_place o _ c.follow.result.progress c.follow.result.progress.awaited (values ++ c.args.value ∷ []) h in omega (arith, e.capacity))
 
 pub returns-in-WordA-clause-leads : goal.returns-in-WordA-clause-leads
 returns-in-WordA-clause-leads g c = λ values leads.
@@ -52,18 +53,18 @@ returns-in-Left-clause-leads g c = λ values leads.
     (λ is. moved o _ _ _ _ (values ++ c.args.value ∷ []) _ _ e.capacity e.key (next_from o c.args.self Left _ _ c.args.value values is refl leads) e.leads)
     (λ is. moved o _ _ _ _ (values ++ c.args.value ∷ []) _ _ e.capacity e.key (next_from o c.args.self Right _ _ c.args.value values is refl leads) e.leads)
     c.in-Left.is in
-    (e.capacity, e.key, h, let few = values_of_core o c.follow-in-Left.result (values ++ c.args.value ∷ []) h in omega (arith, e.capacity))
+    (e.capacity, e.key, h, let few = values_of_place o _ c.follow-in-Left.result.progress c.follow-in-Left.result.progress.awaited (values ++ c.args.value ∷ []) h in omega (arith, e.capacity))
 
 pub returns-in-Found-clause-leads : goal.returns-in-Found-clause-leads
 returns-in-Found-clause-leads g c = λ values leads.
     next_from g.O.TreeOrder.order c.args.self Found _ _ c.args.value values c.in-Found.is refl leads
-    ∙ ap (λ x. Some (Ends x)) (answers _ _ _ _ (sym c.if-value-self.true) c.generation.ensures)
+    ∙ ap (λ x. Some (Ends x)) (answers _ _ _ (Some _) (sym c.if-value-self.true) c.generation.ensures)
     ∙ ap (λ x. Some (Ends (Answer (Some x) c.generation.result))) (sym c.item-in-Found.ensures)
 
 pub returns-in-Missing-clause-leads : goal.returns-in-Missing-clause-leads
 returns-in-Missing-clause-leads g c = λ values leads.
     next_from g.O.TreeOrder.order c.args.self Missing _ _ c.args.value values c.in-Missing.is refl leads
-    ∙ ap (λ x. Some (Ends x)) (answers_none _ _ _ (sym c.if-value-self-2.true) c.generation-in-Missing.ensures)
+    ∙ ap (λ x. Some (Ends x)) (answers _ _ _ None (sym c.if-value-self-2.true) c.generation-in-Missing.ensures)
 
 pub returns-in-Found-2-clause-leads : goal.returns-in-Found-2-clause-leads
 returns-in-Found-2-clause-leads g c = λ values leads.

@@ -1,50 +1,45 @@
-use Rattle.std.proofs.Common.{◌≡◌, ◌++◌, ◌∷◌, [], refl, sym, ◌∙◌, ap, subst, arith}
+use Rattle.std.proofs.Common.{◌≡◌, ◌≤◌, ◌++◌, ◌∷◌, [], length, sym, ◌∙◌, ap, subst, arith}
 use Rattle.std.specs.Prelude.{IfSome, is_some}
 use Rattle.word_layout.specs.Layouts.{capacity_of, limit_of}
-use Rattle.rb_trees.specs.Trees.{IsBalanced}
-use Rattle.rb_words.specs.Pictures.{Picture}
 use Rattle.rb_words.specs.Plans.{Erases}
-use Rattle.rb_words.specs.Mirrors.{second_picture}
+use Rattle.rb_words.specs.Mirrors.{mirror_stores, second_picture}
 use Rattle.table_updates.specs.declared.updates.Update.TheVariants.{Erase}
-use Rattle.latch_core.specs.WriterViews.{WriterView}
-use Rattle.latch_core.specs.Writers.{AreInStep, HasBegun}
-use Rattle.latch_core.proofs.BothLemmas.{with_room, PlansUpdate, erase_planned, planned_step, planned_begun}
+use Rattle.latch_core.specs.Plans.{update_stores}
+use Rattle.latch_core.specs.Writers.{AreInStep}
+use Rattle.latch_core.proofs.BeginLemmas.{with_room, PlansUpdate, erase_planned, planned_step, planned_begun}
 use Rattle.latch_core.proofs.writers.WriterCore.erase.Given.{Over}
 use Rattle.latch_core.proofs.writers.WriterCore.erase.Goals as goal
+use Rattle.latch_core.proofs.writers.WriterCore.erase.Goals.{After-close}
 
 -- what was planned
-planned : (g : Over) (c : goal.After-push_reserved g)
-    → PlansUpdate g.O.TreeOrder.order (capacity_of c.self.inside.layout) (with_room c.self.inside.shape c.reserve_with.new.shape.room) c.erase.new.shape
-    (Erase c.args.a) c.self.inside.free.items (c.self.inside.free.items ++ c.in-Some.node ∷ []) [] c.self.inside.sequence c.erase.new.self.stores_left
+planned : (g : Over) (c : After-close g)
+    → PlansUpdate g.O.TreeOrder.order (capacity_of c.self.inside.layout) (with_room c.self.inside.shape c.reserve.new.shape.room) c.plan_erase_found.new.self
+    (Erase c.args.a) c.self.inside.free.items (c.self.inside.free.items ++ c.in-Some.node ∷ []) [] c.self.inside.sequence c.close.new.self.stores_left
 planned g c =
     let s = c.self.inside in
-    let erases = subst (λ r. IfSome r (Erases c.reserve_with.new.shape c.erase.new.shape c.args.a)) c.in-Some.is c.erase.ensures.pictures in
-    erase_planned g.O.TreeOrder.order (capacity_of s.layout) s.shape c.reserve_with.new.shape c.erase.new.shape c.reserve_with.new.shape.room c.args.a c.in-Some.node s.free.items
-    s.sequence c.erase.new.self.stores_left s.plan.stores_left c.self.invariant.0 c.reserve_with.ensures.kept erases (c.erase.ensures.both (ap is_some c.in-Some.is))
+    let found = c.plan_erase_found.ensures in
+    let p = found.plan (ap is_some c.in-Some.is) in
+    let links : c.deref.result.now ≡ p.0 = c.deref.ensures.value ∙ p.1 ∙ ap (λ xs. xs ++ p.0) c.in-Ok.ensures.links.0 in
+    let erases = subst (λ r. IfSome r (Erases c.reserve.new.shape c.plan_erase_found.new.self c.args.a)) c.in-Some.is found.pictures in
+    let few : length p.0 ≤ 16 = omega (arith, ap length links, c.deref.ensures.len, found.few, c.in-Ok.ensures.links.1) in
+    erase_planned g.O.TreeOrder.order (capacity_of s.layout) s.shape c.reserve.new.shape c.plan_erase_found.new.self c.reserve.new.shape.room c.args.a c.in-Some.node s.free.items
+    s.sequence c.close.new.self.stores_left s.plan.stores_left p.0 c.self.invariant.0 c.reserve.ensures.kept erases p.2 few
+    (c.close.ensures ∙ (λ i. update_stores s.sequence (c.reserve.ensures.plan_kept i) (links i) (mirror_stores (links i))))
 
 pub invariant_of-self-2 : goal.invariant_of-self-2
 invariant_of-self-2 g c =
     let s = c.self.inside in
-    let n = capacity_of s.layout in
-    let new = c.erase.new.shape in
-    let stores = c.erase.new.self.stores_left in (
-      subst (λ xs. AreInStep n new (second_picture new) xs stores) (sym c.push_reserved.ensures.items)
-          (planned_step g.O.TreeOrder.order n s.shape new c.reserve_with.new.shape.room (Erase c.args.a) s.free.items (s.free.items ++ c.in-Some.node ∷ []) [] s.sequence stores s.plan.stores_left
+    let new = c.plan_erase_found.new.self in
+    let stores = c.close.new.self.stores_left in (
+      subst (λ xs. AreInStep (capacity_of s.layout) new (second_picture new) xs stores) (sym c.push_reserved.ensures.items)
+          (planned_step g.O.TreeOrder.order (capacity_of s.layout) s.shape new c.reserve.new.shape.room (Erase c.args.a) s.free.items (s.free.items ++ c.in-Some.node ∷ []) [] s.sequence stores s.plan.stores_left
           c.self.invariant.0 (planned g c)),
       omega (arith, c.push_reserved.ensures.capacity, c.self.invariant.1),
     )
 
 pub returns-clause-begun : goal.returns-clause-begun
-returns-clause-begun g c =
-    λ _.
-    let o = g.O.TreeOrder.order in
+returns-clause-begun g c = λ _.
     let s = c.self.inside in
-    let n = capacity_of s.layout in
-    let new = c.erase.new.shape in
-    let stores = c.erase.new.self.stores_left in
-    let w : WriterView = record { capacity = n; limit = limit_of s.layout; sequence = s.sequence; table = s.shape.table; zero_tree = s.shape.tree; one_tree = s.shape.tree; stores_left = s.plan.stores_left } in
-    let idle : w.stores_left ≡ [] = ap (λ (v : WriterView). v.stores_left) c.self.view_is ∙ (c.is_ready.ensures c.if-not-is_ready.false).0 in
-    let red = subst (λ (p : Picture). IsBalanced p.tree) c.reserve_with.ensures.kept c.stays_sound.ensures.balanced in
-    subst (λ v. HasBegun o v (Erase c.args.a) (record { capacity = n; limit = limit_of s.layout; sequence = s.sequence; table = new.table; zero_tree = new.tree; one_tree = new.tree; stores_left = stores })) c.self.view_is
-    (planned_begun o w s.shape new c.reserve_with.new.shape.room (Erase c.args.a) s.free.items (s.free.items ++ c.in-Some.node ∷ []) [] stores idle refl refl refl c.self.invariant.0
-    (planned g c) (c.erase.ensures.few (ap is_some c.in-Some.is)) (red, c.stays_sound-2.ensures.balanced))
+    planned_begun g.O.TreeOrder.order (capacity_of s.layout) (limit_of s.layout) s.sequence s.shape c.reserve.new.shape c.plan_erase_found.new.self c.reserve.new.shape.room (Erase c.args.a) s.free.items
+    (s.free.items ++ c.in-Some.node ∷ []) [] c.close.new.self.stores_left s.plan.stores_left c.args.self.now c.self.view_is (c.is_ready.ensures c.if-not-is_ready.false).0 c.self.invariant.0
+    c.reserve.ensures.kept (planned g c) c.stays_sound.ensures.balanced c.stays_sound-2.ensures.balanced
