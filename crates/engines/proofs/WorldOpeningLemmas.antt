@@ -23,7 +23,7 @@ use Rattle.modules.specs.Entries.{CatalogEntries}
 use Rattle.engines.specs.LoadedWorlds.{HasTable, HoldsBelow, AreInsertsOf}
 use Rattle.modules.proofs.NumberedItemLemmas.{as_many}
 use Rattle.engines.proofs.LoadLemmas.{look_in_table}
-use Rattle.latch_core.proofs.RestLemmas.{current_at_rest, none_begun, table_at_rest}
+use Rattle.latch_core.proofs.SoundLemmas.{current_at_rest, none_begun, table_at_rest}
 use Rattle.latch_steps.proofs.IdleLemmas.{NoLookup, found_at_end, none_at_end, same_readers}
 use Rattle.latch_core.specs.Invariants.{IsSound as IsSoundLatch}
 

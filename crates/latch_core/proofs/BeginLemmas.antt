@@ -21,9 +21,9 @@ use Rattle.latch_core.specs.Latches.{Latch}
 use Rattle.latch_core.specs.Plans.{flip_to, update_stores}
 use Rattle.latch_core.specs.FreeNodes.{AreAllNodes}
 use Rattle.latch_core.specs.WriterViews.{WriterView}
-use Rattle.latch_core.specs.Writers.{IsMemoryAtRest, RepresentsLatch, HasBegun, AreInStep, why_refused}
+use Rattle.latch_core.specs.Writers.{IsMemoryAtRest, HasBegun, AreInStep, why_refused}
 use Rattle.latch_core.proofs.TestLemmas.{NoneHolds, all_tests, none_holds}
-use Rattle.latch_core.proofs.StoreOrderLemmas.{Leading, IsFreeStore, AreFreeStores, items_unused}
+use Rattle.latch_core.proofs.StoreOrderLemmas.{Leading, AreFreeStores, items_unused}
 use Rattle.latch_core.proofs.NodeLemmas.{last_is_free, node_taken, node_freed}
 use Rattle.latch_core.proofs.WriterLemmas.{begun_pictures, rest_now, unlisted}
 use Rattle.std.specs.List.{AllByRecursion}
@@ -42,18 +42,9 @@ use Rattle.latch_core.proofs.StepLemmas.{after_insert, after_erase}
 use Rattle.latch_core.proofs.ChangeLemmas.{both_then, both_insert, both_erase, free_node}
 use Rattle.rb_words.proofs.PlanLemmas.{item_put}
 
--- what an accepted update has passed
-pub record Accepted (w : WriterView) : Type 0 where
-  pub idle : w.stores_left ≡ []
-  pub counts : w.sequence + 2 ≤ w.limit
-
-pub accepted_by : (w : WriterView) → nat_lt 0 (length w.stores_left) ≡ false → nat_lt w.limit (w.sequence + 2) ≡ false → Accepted w
-accepted_by w busy spent =
-    record { idle = nil-from_length w.stores_left busy; counts = ltb-false w.limit (w.sequence + 2) spent }
-
 -- what an accepted batch has passed
 pub record AcceptedBatch {K : Type 0} (o : Order K) (w : WriterView) (erase : List ℕ) (insert : List Item) : Type 0 where
-  pub accepted : Accepted w
+  pub idle : w.stores_left ≡ []
   pub valid : some_invalid o insert ≡ false
   pub there : some_missing erase w.table ≡ false
   pub once : some_twice erase ≡ false
@@ -68,7 +59,7 @@ accepted_batch o w erase insert e =
     let words = or_parts (some_missing erase w.table) (some_twice erase) h.1.1.0 in
     let items = or_parts (some_overlap o insert) (some_meet o insert (without_all erase w.table)) h.1.1.1.0 in
     record {
-      accepted = accepted_by w h.0 h.1.1.1.1.1.0;
+      idle = nil-from_length w.stores_left h.0;
       valid = h.1.0;
       there = words.0;
       once = words.1;
@@ -139,20 +130,20 @@ all_placed m n (p ∷ rest) sized lt d =
       all_placed m1 n rest s1 lt.1 d.1,
     )
 
+-- what is true of the item words of each node is true of the stores of placed items
+on_stores : (P Q : ℕ → Type 0) → ((node w : ℕ) → Q node → IsItemWord node w → P w) → (placed : PlacedItems) → AllByRecursion (λ (p : ℕ × Item). Q p.0) placed → AllByRecursion (λ (s : Store). P s.word) (stores_of_placed placed)
+on_stores P Q each [] h = tt
+on_stores P Q each (p ∷ rest) h =
+    all_append (λ (s : Store). P s.word) (item_stores p.0 p.1) (stores_of_placed rest)
+    (each p.0 _ h.0 (inl refl), (each p.0 _ h.0 (inr (inl refl)), (each p.0 _ h.0 (inr (inr refl)), tt)))
+    (on_stores P Q each rest h.1)
+
 -- stores of placed items are stores of free nodes, and lie in the memory
 free_placed : (m : List ℕ) (n : ℕ) (placed : PlacedItems) → AllByRecursion (λ (p : ℕ × Item). (p.0 < n) × IsUnreached m n p.0) placed → AreFreeStores m n (stores_of_placed placed)
-free_placed m n [] h = tt
-free_placed m n (p ∷ rest) h =
-    all_append (IsFreeStore m n) (item_stores p.0 p.1) (stores_of_placed rest)
-    ((p.0, h.0.0, h.0.1, inl refl), ((p.0, h.0.0, h.0.1, inr (inl refl)), ((p.0, h.0.0, h.0.1, inr (inr refl)), tt)))
-    (free_placed m n rest h.1)
+free_placed m n = on_stores (λ w. (i : ℕ) × (i < n) × IsUnreached m n i × IsItemWord i w) (λ i. (i < n) × IsUnreached m n i) (λ i w q is. (i, q.0, q.1, is))
 
 placed_within : (n : ℕ) (placed : PlacedItems) → AllByRecursion (λ (p : ℕ × Item). p.0 < n) placed → AllByRecursion (λ (s : Store). s.word < words_for n) (stores_of_placed placed)
-placed_within n [] h = tt
-placed_within n (p ∷ rest) h =
-    all_append (λ (s : Store). s.word < words_for n) (item_stores p.0 p.1) (stores_of_placed rest)
-    ((item_place n p.0 _ h.0 (inl refl)).1, ((item_place n p.0 _ h.0 (inr (inl refl))).1, ((item_place n p.0 _ h.0 (inr (inr refl))).1, tt)))
-    (placed_within n rest h.1)
+placed_within n = on_stores (λ w. w < words_for n) (λ i. i < n) (λ i w lt is. (item_place n i w lt is).1)
 
 -- the same picture with other room
 abbrev pub with_room : Picture → ℕ → Picture

@@ -8,7 +8,7 @@ use Rattle.std.proofs.lemmas.List.{map-append, take_more, append-nil, drop_more}
 use Rattle.std.proofs.lemmas.List.Sorted.{IsPermutation-trans, IsPermutation-append_left, IsPermutation-append_comm, IsPermutation-swap_remove}
 use Rattle.order_laws.specs.declared.items.Item.{Item}
 use Rattle.order_laws.specs.Orders.{Order, IsLawful}
-use Rattle.order_laws.specs.Tables.{without, with_item, has, place_for, place_of}
+use Rattle.order_laws.specs.Tables.{without, without_all, with_item, has, place_for, place_of}
 use Rattle.order_laws.proofs.PlaceLemmas.{without_none}
 use Rattle.facts.proofs.Each.{all_append, all_left, all_right, all_weaker}
 use Rattle.facts.proofs.Lists.{take-swap_remove}
@@ -113,40 +113,29 @@ erasing_none old erase out free there once nodes =
       once = once;
     }
 
-erasing_more : (old now next : Picture) (before : List ℕ) (a : ℕ) (rest : List ℕ) (node : ℕ) (out out' : List Store) (free free' : List ℕ) (links : List Store)
-    → old.copy ≡ 0 → (more : List Store) → out' ≡ out ++ more → ErasesWords old now before more free free'
-    → AllByRecursion (λ b. has b now.table ≡ true) (a ∷ rest) → some_twice (a ∷ rest) ≡ false
-    → Erases now next a node → LeadsByLinks now next links
-    → (out' ++ links ≡ out ++ (more ++ links)) × ErasesWords old next (before ++ a ∷ []) (more ++ links) free (free' ++ node ∷ []) × AllByRecursion (λ b. has b next.table ≡ true) rest × (some_twice rest ≡ false)
-erasing_more old now next before a rest node out out' free free' links first more appended done there once er leads =
-    let two = or_parts (list_any (λ b. b == a) rest) (some_twice rest) once in
-    let copy : now.copy ≡ 0 = done.both.zero.copy ∙ first in (
-      ap (λ xs. xs ++ links) appended ∙ append_assoc out more links,
-      record {
-        table = er.table ∙ ap (without a) done.table ∙ sym (without_more before a old.table);
-        both = both_then old now next [] [] more links first done.both (both_erase now next a node links copy er leads);
-        freed = done.freed ++ node ∷ [];
-        behind = ap (λ xs. xs ++ node ∷ []) done.behind ∙ append_assoc free done.freed (node ∷ []);
-        nodes = subst (λ ns. AreAllNodes old.capacity ((free' ++ node ∷ []) ++ ns)) (sym er.in_order) (node_freed old.capacity node (place_of a now.table) free' (listed now.tree) er.at_place done.nodes);
-      },
-      subst (λ t. AllByRecursion (λ b. has b t ≡ true) rest) (sym er.table) (all_has_without a rest now.table two.0 there.1),
-      two.1,
-    )
-
 pub erasing_step : (old now next : Picture) (erase : List ℕ) (j a node : ℕ) (out out' out'' : List Store) (free free' free'' : List ℕ) (links : List Store)
     → old.copy ≡ 0 → j < length erase → a ≡ get_or erase j 0 → Erasing old now erase j out out' free free'
     → Erases now next a node → out'' ≡ out' ++ links → LeadsByLinks now next links → free'' ≡ free' ++ node ∷ []
     → Erasing old next erase (j + 1) out out'' free free''
 erasing_step old now next erase j a node out out' out'' free free' free'' links first lt is state er eo leads ef =
-    let here : drop j erase ≡ a ∷ drop (j + 1) erase = drop_more erase j 0 lt ∙ ap (λ b. b ∷ drop (j + 1) erase) (sym is) in
+    let rest = drop (j + 1) erase in
+    let done = state.done in
+    let here : drop j erase ≡ a ∷ rest = drop_more erase j 0 lt ∙ ap (λ b. b ∷ rest) (sym is) in
     let front : take (j + 1) erase ≡ take j erase ++ a ∷ [] = take_more erase j 0 lt ∙ ap (λ b. take j erase ++ b ∷ []) (sym is) in
-    let s = erasing_more old now next (take j erase) a (drop (j + 1) erase) node out out' free free' links first state.more state.appended state.done (subst (AllByRecursion (λ b. has b now.table ≡ true)) here state.there) (ap some_twice (sym here) ∙ state.once) er leads in
+    let two = or_parts (list_any (λ b. b == a) rest) (some_twice rest) (ap some_twice (sym here) ∙ state.once) in
+    let there = subst (AllByRecursion (λ b. has b now.table ≡ true)) here state.there in
     record {
       more = state.more ++ links;
-      appended = eo ∙ s.0;
-      done = subst (λ ws. ErasesWords old next ws (state.more ++ links) free free'') (sym front) (subst (ErasesWords old next (take j erase ++ a ∷ []) (state.more ++ links) free) (sym ef) s.1);
-      there = s.2;
-      once = s.3;
+      appended = eo ∙ ap (λ xs. xs ++ links) state.appended ∙ append_assoc out state.more links;
+      done = record {
+        table = er.table ∙ ap (without a) done.table ∙ sym (without_more (take j erase) a old.table) ∙ ap (λ ws. without_all ws old.table) (sym front);
+        both = both_then old now next [] [] state.more links first done.both (both_erase now next a node links (done.both.zero.copy ∙ first) er leads);
+        freed = done.freed ++ node ∷ [];
+        behind = ef ∙ ap (λ xs. xs ++ node ∷ []) done.behind ∙ append_assoc free done.freed (node ∷ []);
+        nodes = subst (λ xs. AreAllNodes old.capacity (xs ++ listed next.tree)) (sym ef) (subst (λ ns. AreAllNodes old.capacity ((free' ++ node ∷ []) ++ ns)) (sym er.in_order) (node_freed old.capacity node (place_of a now.table) free' (listed now.tree) er.at_place done.nodes));
+      };
+      there = subst (λ t. AllByRecursion (λ b. has b t ≡ true) rest) (sym er.table) (all_has_without a rest now.table two.0 there.1);
+      once = two.1;
     }
 
 -- a node that is taken out of the free ones

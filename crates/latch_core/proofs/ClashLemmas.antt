@@ -95,30 +95,29 @@ module _ {K : Type 0} (o : Order K) (law : IsLawful o) (line : IsInLine o) where
             ap (λ b. b || false) (no_meeting o x (y ∷ rest) (apart, beyond o law line x y rest p valid.1.0 valid.1.1 behind all.0))
       ] refl
 
--- one place further in a sorted list
+-- one place further in a list, whose elements there are two neighbours
+neighbours : {X : Type 0} (xs : List X) (p : ℕ) (d : X) → 1 ≤ p → p < length xs → drop (p - 1) xs ≡ get_or xs (p - 1) d ∷ get_or xs p d ∷ drop (p + 1) xs
+neighbours xs p d some lt =
+    let up : p - 1 + 1 ≡ p = omega arith in
+    drop_more xs (p - 1) d (omega arith) ∙ ap (λ k. get_or xs (p - 1) d ∷ drop k xs) up ∙ ap (λ ys. get_or xs (p - 1) d ∷ ys) (drop_more xs p d lt)
+
+pub one_place_on : {X : Type 0} (test : List X → Bool) (xs : List X) (p : ℕ) (d : X) → 1 ≤ p → p < length xs → test (get_or xs (p - 1) d ∷ get_or xs p d ∷ drop (p + 1) xs) ≡ test (get_or xs p d ∷ drop (p + 1) xs)
+    → test (drop (p - 1) xs) ≡ test xs → test (drop (p + 1 - 1) xs) ≡ test xs
+one_place_on test xs p d some lt on same =
+    let there : p + 1 - 1 ≡ p = omega arith in
+    ap (λ k. test (drop k xs)) there ∙ ap test (drop_more xs p d lt) ∙ sym on ∙ sym (ap test (neighbours xs p d some lt)) ∙ same
+
 pub twice_on : (words : List ℕ) (p : ℕ) → 1 ≤ p → p < length words → IsNonDecreasingBy (λ a. a) words → get_or words p 0 ≢ get_or words (p - 1) 0 → some_twice (drop (p - 1) words) ≡ some_twice words → some_twice (drop (p + 1 - 1) words) ≡ some_twice words
 twice_on words p some lt sorted ne same =
-    let x = get_or words (p - 1) 0 in
-    let y = get_or words p 0 in
-    let up : p - 1 + 1 ≡ p = omega (arith, some) in
-    let there : p + 1 - 1 ≡ p = omega arith in
-    let here = drop_more words p 0 lt in
-    let pair = drop_more words (p - 1) 0 (omega (arith, lt)) ∙ ap (λ k. x ∷ drop k words) up ∙ ap (λ xs. x ∷ xs) here in
-    ap (λ k. some_twice (drop k words)) there ∙ ap some_twice here
-    ∙ sym (twice_next x y (drop (p + 1) words) (subst (IsNonDecreasingBy (λ a. a)) pair (IsNonDecreasingBy-drop (λ a. a) (p - 1) words sorted)) ne)
-    ∙ sym (ap some_twice pair) ∙ same
+    let here = subst (IsNonDecreasingBy (λ a. a)) (neighbours words p 0 some lt) (IsNonDecreasingBy-drop (λ a. a) (p - 1) words sorted) in
+    one_place_on some_twice words p 0 some lt (twice_next (get_or words (p - 1) 0) (get_or words p 0) (drop (p + 1) words) here ne) same
 
 pub overlap_on : {K : Type 0} (o : Order K) → IsLawful o → IsInLine o → (items : List Item) (p : ℕ) (d : Item) → 1 ≤ p → p < length items → AllByRecursion (λ i. o.valid i ≡ true) items → IsNonDecreasingBy (λ (i : Item). i.a) items → o.apart (get_or items p d) (get_or items (p - 1) d) ≡ true → some_overlap o (drop (p - 1) items) ≡ some_overlap o items → some_overlap o (drop (p + 1 - 1) items) ≡ some_overlap o items
 overlap_on o law line items p d some lt valid sorted apart same =
-    let x = get_or items (p - 1) d in
-    let y = get_or items p d in
-    let up : p - 1 + 1 ≡ p = omega (arith, some) in
-    let there : p + 1 - 1 ≡ p = omega arith in
-    let here = drop_more items p d lt in
-    let pair = drop_more items (p - 1) d (omega (arith, lt)) ∙ ap (λ k. x ∷ drop k items) up ∙ ap (λ xs. x ∷ xs) here in
-    ap (λ k. some_overlap o (drop k items)) there ∙ ap (some_overlap o) here
-    ∙ sym (overlap_next o law line x y (drop (p + 1) items) (subst (AllByRecursion (λ i. o.valid i ≡ true)) pair (all_drop (λ i. o.valid i ≡ true) items (p - 1) valid)) (subst (IsNonDecreasingBy (λ (i : Item). i.a)) pair (IsNonDecreasingBy-drop (λ (i : Item). i.a) (p - 1) items sorted)) apart)
-    ∙ sym (ap (some_overlap o) pair) ∙ same
+    let pair = neighbours items p d some lt in
+    let here = subst (AllByRecursion (λ i. o.valid i ≡ true)) pair (all_drop (λ i. o.valid i ≡ true) items (p - 1) valid) in
+    let in_order = subst (IsNonDecreasingBy (λ (i : Item). i.a)) pair (IsNonDecreasingBy-drop (λ (i : Item). i.a) (p - 1) items sorted) in
+    one_place_on (some_overlap o) items p d some lt (overlap_next o law line (get_or items (p - 1) d) (get_or items p d) (drop (p + 1) items) here in_order apart) same
 
 -- no two are left
 pub none_left : {K : Type 0} (o : Order K) (items : List Item) (k : ℕ) → length items ≤ k + 1 → some_overlap o (drop k items) ≡ false

@@ -5,17 +5,12 @@ pub mod StepLemmas
 pub mod SoundLemmas
 pub mod StoreOrderLemmas
 pub mod ReaderLemmas
-pub mod PlanLemmas
 pub mod NodeLemmas
 pub mod ChangeLemmas
 pub mod ClashLemmas
 pub mod WriterLemmas
 pub mod BeginLemmas
-pub mod ShallowLemmas
 pub mod LatchedLemmas
 pub mod WideningLemmas
 pub mod ReplacementLemmas
-pub mod AttemptLemmas
-pub mod RestLemmas
 pub mod LoadingLemmas
-pub mod StillLemmas

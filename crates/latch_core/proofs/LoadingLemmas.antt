@@ -1,28 +1,18 @@
--- An attempt whose loads are steps of somebody who learns by them, load by load.
-use Rattle.std.proofs.Common.{◌≡◌, ◌≢◌, ℕ, zero, suc, ◌+◌, ◌-◌, ◌*◌, ◌<◌, ◌≤◌, ◌⊎◌, inl, inr, ⊎_elim, false, List, [], ◌∷◌, ◌++◌, Some, refl, sym, ◌∙◌, ap, subst, arith, append_assoc, append-nil, length-append}
+-- An attempt whose loads are steps of somebody who learns by them, load by load; and one in words
+-- that stand still.
+use Rattle.std.proofs.Common.{◌≡◌, ◌≢◌, ℕ, ◌+◌, ◌-◌, ◌*◌, ◌<◌, ◌≤◌, List, [], ◌∷◌, ◌++◌, Some, refl, sym, ◌∙◌, ap, subst, arith, append_assoc, append-nil, length-append}
 use Rattle.std.specs.declared.cmp.Ordering.{Ordering}
 use Rattle.std.specs.declared.cmp.Ordering.TheVariants.{Less, Equal, Greater}
-use Rattle.word_layout.specs.Words.{left_word}
+use Rattle.word_layout.specs.Words.{left_word, at}
 use Rattle.latch_core.specs.Sequences.{stable_copy_of}
-use Rattle.std.specs.Prelude.{nat_lt}
-use Rattle.std.proofs.lemmas.Bool.{le-ltb}
 use Rattle.order_laws.specs.declared.items.Item.{Item}
 use Rattle.order_laws.specs.Orders.{Order}
-use Rattle.latch_core.specs.Attempts.{Reading, Load, Ends, Outcome, WalkEnd, AtEmptyLink, Stuck, outcome, last_load, after_item, visit, walk, attempt, attempt_after, rest_after}
+use Rattle.latch_core.specs.Attempts.{Reading, Load, Ends, Outcome, WalkEnd, outcome, last_load, after_item, visit, walk, attempt, attempt_after, rest_after, Stand}
 use Rattle.latch_core.specs.Loading.{Leads, IsReady, HasLoaded, HasTried}
-use Rattle.latch_core.proofs.ReadingLemmas.{rest_push}
+use Rattle.latch_core.proofs.ReadingLemmas.{rest_push, stand_push, ends_as}
 use Rattle.latch_core.proofs.ReaderLemmas.{walk_visits}
 use Rattle.latch_core.proofs.WalkLemmas.{attempt_length}
-
--- a walk that comes to a link of no node, or has no visit left
-stuck_at : {K : Type 0} (o : Order K) (n : ℕ) (k : K) (s visits_left link : ℕ) → link ≢ 0 → (n < link) ⊎ (visits_left ≡ 0) → walk o n k s visits_left link ≡ last_load s Stuck
-stuck_at o n k s visits_left zero some h = absurd (some refl)
-stuck_at o n k s zero (suc i) some h = refl
-stuck_at o n k s (suc visits_left) (suc i) some h =
-    ⊎_elim
-    (λ far. let e : nat_lt i n ≡ false = le-ltb i n (omega arith) in rw e refl)
-    (λ no. absurd (omega arith))
-    h
+use Rattle.latch_core.specs.Whole.{outcome_in, loads_in}
 
 abbrev pub item_of : ℕ → ℕ → ℕ → Item
 item_of a b t = record { a = a; b = b; tag = t }
@@ -91,15 +81,6 @@ module _ {S : Type 0} (gives : S → ℕ → ℕ → S → Type 0) where
           let four : loads + 1 + 1 + 1 + 1 ≡ loads + 4 = omega arith in
           record { visits_left = on.visits_left - 1; few = omega arith; here = subst (HasLoaded gives s (attempt_after o n k first) m' (walk o n k first (on.visits_left - 1) next)) four h }
 
-      pub ends_nowhere : link ≡ 0 → HasLoaded gives s (attempt_after o n k first) m (last_load first AtEmptyLink) loads
-      ends_nowhere is = subst (λ z. HasLoaded gives s (attempt_after o n k first) m (walk o n k first on.visits_left z) loads) is on.here
-
-      pub ends_lost : link ≢ 0 → (n < link) ⊎ (4 * n + 2 ≤ loads) → HasLoaded gives s (attempt_after o n k first) m (last_load first Stuck) loads
-      ends_lost some out =
-          let f = on.few in
-          subst (λ r. HasLoaded gives s (attempt_after o n k first) m r loads)
-          (stuck_at o n k first on.visits_left link some (⊎_elim (λ far. inl far) (λ no. inr (omega arith)) out)) on.here
-
     -- the rest of a visit, by the item that was loaded
     pub turns : (m : S) (loads i : ℕ) (x : Item) (go : ℕ → Reading) (c c' : Ordering) → c ≡ c'
         → HasLoaded gives s (attempt_after o n k first) m (after_item first i x go c) loads → HasLoaded gives s (attempt_after o n k first) m (after_item first i x go c') loads
@@ -141,3 +122,17 @@ few gives o n k first s m found loads h =
     let counted = whole.counted in
     let one = length-append whole.values (whole.last ∷ []) in
     omega arith
+
+pub comes_to : {S K : Type 0} (o : Order K) (n : ℕ) (k : K) (words : List ℕ) (s s' : S) (out : Outcome) (loads : ℕ)
+    → HasTried (λ (a : S) w x (b : S). x ≡ at words w) (λ (a : S) x (b : S). x ≡ at words 0) o n k (at words 0) s s' out loads
+    → (out ≡ outcome_in words (attempt o n k)) × (loads ≡ loads_in words (attempt o n k))
+comes_to {S} o n k words s s' out loads h =
+    let gives = λ (a : S) (w x : ℕ) (b : S). x ≡ at words w in
+    let first = at words 0 in
+    let walked = leads_along gives (λ a v. Stand words (attempt o n k) v) (attempt o n k) (λ a b v w x go st e is. stand_push words (attempt o n k) v w go x e st (sym is))
+    s (attempt_after o n k first) (first ∷ []) (refl, tt) refl h.values h.m (last_load first h.found) h.leads in
+    let stand = stand_push words (attempt o n k) (first ∷ h.values) 0 (λ t. Ends (outcome first t h.found)) h.last walked.1 walked.0 (sym h.ended) in
+    let e = ends_as words (attempt o n k) (first ∷ (h.values ++ h.last ∷ [])) out stand h.whole in
+    let one = length-append h.values (h.last ∷ []) in
+    let counted = h.counted in
+    (e.0, omega (arith, e.1))

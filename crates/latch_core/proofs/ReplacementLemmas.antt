@@ -1,22 +1,23 @@
 -- What a difference finds of a table and a list of items; and a table whose items were replaced by a
 -- list that rises is that list.
-use Rattle.std.proofs.Common.{◌≡◌, ℕ, zero, suc, ◌+◌, ◌<◌, ◌≤◌, true, false, cond, List, [], ◌∷◌, ◌++◌, length, drop, map, get_or, append-nil, ◌-◌, None, Some, refl, sym, ◌∙◌, ap, subst, inl, inr, ⊎_elim, arith, append_assoc}
+use Rattle.std.proofs.Common.{◌≡◌, ℕ, zero, suc, ◌+◌, ◌<◌, ◌≤◌, true, false, cond, List, [], ◌∷◌, ◌++◌, length, take, drop, map, get_or, append-nil, None, Some, refl, sym, ◌∙◌, ap, subst, inl, inr, ⊎_elim, arith, append_assoc}
 use Rattle.std.specs.Prelude.{Bool, not, ◌&&◌, ◌||◌, ◌==◌, ◌⊎◌, slice_get, Contains, filter}
-use Rattle.std.specs.List.{AllByRecursion, list_all, list_any}
+use Rattle.std.specs.List.{list_all, list_any}
 use Rattle.std.proofs.lemmas.Bool.{and_parts, and_from, cases_lt, eq-eqb, eqb-true, or_parts}
 use Rattle.std.proofs.lemmas.Bool.Decides.{nat_tests}
-use Rattle.std.proofs.lemmas.List.{drop_all, drop_more}
-use Rattle.std.proofs.lemmas.List.Elements.{All-contains, All-contains_itself, All-filter, All-weaker, filter_passes}
+use Rattle.std.proofs.lemmas.List.{drop_all, drop_more, take-append-drop}
+use Rattle.std.proofs.lemmas.List.Elements.{All-contains, All-contains_itself, All-filter, All-from_recursion, All-weaker, filter_passes}
 use Rattle.std.proofs.lemmas.List.Folds.{Any-from_list_any, list_any_at}
 use Rattle.std.proofs.lemmas.List.Sums.{AllPass-from_list_all, list_all-from_AllPass}
 use Rattle.std.proofs.lemmas.Option.{slice_get-get_or}
 use Rattle.order_laws.specs.declared.items.Item.{Item}
 use Rattle.order_laws.specs.Orders.{Order, Precedes, IsLawful}
 use Rattle.order_laws.specs.Tables.{IsTable, without_all}
+use Rattle.order_laws.proofs.SetLemmas.{same_items}
 use Rattle.facts.proofs.Bools.{false_by_contrary}
-use Rattle.facts.proofs.Each.{all_at}
+use Rattle.facts.proofs.Each.{all_at, all_from, all_weaker}
 use Rattle.facts.proofs.Lists.{pushed_before}
-use Rattle.facts.proofs.Members.{Contains-cons_cases, Contains-head, Contains-none, Contains-rest, Contains-map}
+use Rattle.facts.proofs.Members.{Contains-cons_cases, Contains-head, Contains-none, Contains-rest, Contains-map, Contains-slice_get}
 use Rattle.table_updates.specs.declared.updates.Update.{Update}
 use Rattle.table_updates.specs.declared.updates.Update.TheVariants.{Batch}
 use Rattle.table_updates.specs.Updates.{after, refusal_for}
@@ -108,7 +109,7 @@ module _ {K : Type 0} (o : Order K) (law : IsLawful o) where
       ∙ among_none (o.less y) x ys (and_parts (list_all (λ z. o.less y z) ys) (is_rising o ys) h).0 n
 
   -- the lists that rise, by their neighbours
-  rising_on : (x y : Item) (ys : List Item) → o.less x y ≡ true
+  pub rising_on : (x y : Item) (ys : List Item) → o.less x y ≡ true
       → is_rising o (x ∷ y ∷ ys) ≡ is_rising o (y ∷ ys)
   rising_on x y ys l =
       elim (is_rising o (y ∷ ys)) as (λ b. is_rising o (y ∷ ys) ≡ b → (list_all (λ z. o.less x z) (y ∷ ys) && b) ≡ b) [
@@ -151,56 +152,15 @@ found erase insert rest table = Batch (erase ++ map (λ x. x.a) (not_among rest 
 pub all_found : (erase : List ℕ) (insert rest : List Item) → Batch erase (insert ++ rest) ≡ found erase insert rest []
 all_found erase insert rest = λ i. Batch (sym (append-nil erase) i) (insert ++ sym (none_left_out rest) i)
 
-module _ {K : Type 0} (o : Order K) (law : IsLawful o) (erase : List ℕ) (insert : List Item) where
-  -- an item of the list before the next one of the table
-  passed : (r x : Item) (rest more : List Item) → o.less r x ≡ true → is_rising o (x ∷ more) ≡ true
-      → found erase (insert ++ r ∷ []) rest (x ∷ more) ≡ found erase insert (r ∷ rest) (x ∷ more)
-  passed r x rest more l h =
-      let below : is_among r (x ∷ more) ≡ false = among_none (o.less r) r (x ∷ more) (below_rising o law r x more l h) (law.irreflexive r) in
-      let here : not_among (x ∷ more) (r ∷ rest) ≡ r ∷ not_among (x ∷ more) rest = one_not_among r (x ∷ more) rest below in
-      let there : not_among (r ∷ rest) (x ∷ more) ≡ not_among rest (x ∷ more) = one_more_other r rest (x ∷ more) below in
-      let pushed : (insert ++ r ∷ []) ++ not_among (x ∷ more) rest ≡ insert ++ not_among (x ∷ more) (r ∷ rest) =
-      pushed_before r insert (not_among (x ∷ more) rest) ∙ ap (λ l. insert ++ l) (sym here) in
-      λ i. Batch (erase ++ map (λ (x : Item). x.a) (sym there i)) (pushed i)
-
-  -- the same item in both
-  met : (x : Item) (rest more : List Item) → is_rising o (x ∷ rest) ≡ true → is_rising o (x ∷ more) ≡ true
-      → found erase insert rest more ≡ found erase insert (x ∷ rest) (x ∷ more)
-  met x rest more h k =
-      let first : is_among x rest ≡ false = among_none (o.less x) x rest (and_parts (list_all (λ y. o.less x y) rest) (is_rising o rest) h).0 (law.irreflexive x) in
-      let second : is_among x more ≡ false = among_none (o.less x) x more (and_parts (list_all (λ y. o.less x y) more) (is_rising o more) k).0 (law.irreflexive x) in
-      let gone : not_among (x ∷ rest) (x ∷ more) ≡ not_among rest more =
-      one_among x (x ∷ rest) more (among_first x rest) ∙ one_more_other x rest more second in
-      let new : not_among (x ∷ more) (x ∷ rest) ≡ not_among more rest =
-      one_among x (x ∷ more) rest (among_first x more) ∙ one_more_other x more rest first in
-      λ i. Batch (erase ++ map (λ (x : Item). x.a) (sym gone i)) (insert ++ sym new i)
-
-  -- an item of the table that is not in the list
-  gone : (x : Item) (rest more : List Item) → is_among x rest ≡ false
-      → found (erase ++ x.a ∷ []) insert rest more ≡ found erase insert rest (x ∷ more)
-  gone x rest more d =
-      let here : not_among rest (x ∷ more) ≡ x ∷ not_among rest more = one_not_among x rest more d in
-      let there : not_among (x ∷ more) rest ≡ not_among more rest = one_more_other x more rest d in
-      let words : (erase ++ x.a ∷ []) ++ map (λ (x : Item). x.a) (not_among rest more) ≡ erase ++ map (λ (x : Item). x.a) (not_among rest (x ∷ more)) =
-      pushed_before x.a erase (map (λ (x : Item). x.a) (not_among rest more)) ∙ ap (λ l. erase ++ map (λ (x : Item). x.a) l) (sym here) in
-      λ i. Batch (words i) (insert ++ sym there i)
-
 -- what is left of a list that rises
+rising_after : {K : Type 0} (o : Order K) (xs ys : List Item) → is_rising o (xs ++ ys) ≡ true → is_rising o ys ≡ true
+rising_after o [] ys h = h
+rising_after o (x ∷ xs) ys h = rising_after o xs ys (and_parts (list_all (λ y. o.less x y) (xs ++ ys)) (is_rising o (xs ++ ys)) h).1
+
 rising_drop : {K : Type 0} (o : Order K) (xs : List Item) (i : ℕ) → is_rising o xs ≡ true → is_rising o (drop i xs) ≡ true
-rising_drop o xs zero h = h
-rising_drop o [] (suc i) h = refl
-rising_drop o (x ∷ xs) (suc i) h = rising_drop o xs i (and_parts (list_all (λ y. o.less x y) xs) (is_rising o xs) h).1
+rising_drop o xs i h = rising_after o (take i xs) (drop i xs) (ap (is_rising o) (take-append-drop i xs) ∙ h)
 
 module _ {K : Type 0} (o : Order K) (law : IsLawful o) where
-  -- whether a list rises, from one place to the next
-  pub rising_next : (xs : List Item) (k : ℕ) (d : Item) → 1 ≤ k → k < length xs
-      → o.less (get_or xs (k - 1) d) (get_or xs k d) ≡ true → is_rising o (drop (k - 1) xs) ≡ is_rising o (drop k xs)
-  rising_next xs k d some lt l =
-      let before : k - 1 + 1 ≡ k = omega arith in
-      let first : drop (k - 1) xs ≡ get_or xs (k - 1) d ∷ drop k xs = drop_more xs (k - 1) d (omega arith) ∙ ap (λ j. get_or xs (k - 1) d ∷ drop j xs) before in
-      let second = drop_more xs k d lt in
-      ap (is_rising o) (first ∙ ap (λ r. get_or xs (k - 1) d ∷ r) second) ∙ rising_on o law (get_or xs (k - 1) d) (get_or xs k d) (drop (k + 1) xs) l ∙ ap (is_rising o) (sym second)
-
   pub rising_short : (xs : List Item) (k : ℕ) → length xs ≤ k + 1 → is_rising o (drop k xs) ≡ true
   rising_short [] zero h = refl
   rising_short [] (suc k) h = refl
@@ -210,29 +170,47 @@ module _ {K : Type 0} (o : Order K) (law : IsLawful o) where
 
 -- one step of a difference at a place of its list
 module _ {K : Type 0} (o : Order K) (law : IsLawful o) (erase : List ℕ) (insert items : List Item) (k : ℕ) (d x : Item) where
+  -- an item of the list before the next one of the table
   pub passed_at : (more new : List Item) → k < length items → new ≡ insert ++ get_or items k d ∷ []
       → o.less (get_or items k d) x ≡ true → is_rising o (x ∷ more) ≡ true
       → found erase new (drop (k + 1) items) (x ∷ more) ≡ found erase insert (drop k items) (x ∷ more)
   passed_at more new lt e l h =
-      ap (λ i. found erase i (drop (k + 1) items) (x ∷ more)) e
-      ∙ passed o law erase insert (get_or items k d) x (drop (k + 1) items) more l h
-      ∙ ap (λ r. found erase insert r (x ∷ more)) (sym (drop_more items k d lt))
+      let r = get_or items k d in
+      let rest = drop (k + 1) items in
+      let below : is_among r (x ∷ more) ≡ false = among_none (o.less r) r (x ∷ more) (below_rising o law r x more l h) (law.irreflexive r) in
+      let here : not_among (x ∷ more) (r ∷ rest) ≡ r ∷ not_among (x ∷ more) rest = one_not_among r (x ∷ more) rest below in
+      let there : not_among (r ∷ rest) (x ∷ more) ≡ not_among rest (x ∷ more) = one_more_other r rest (x ∷ more) below in
+      let pushed : new ++ not_among (x ∷ more) rest ≡ insert ++ not_among (x ∷ more) (r ∷ rest) =
+      ap (λ i. i ++ not_among (x ∷ more) rest) e ∙ pushed_before r insert (not_among (x ∷ more) rest) ∙ ap (λ l. insert ++ l) (sym here) in
+      (λ i. Batch (erase ++ map (λ (x : Item). x.a) (sym there i)) (pushed i)) ∙ ap (λ ys. found erase insert ys (x ∷ more)) (sym (drop_more items k d lt))
 
+  -- the same item in both
   pub met_at : (more : List Item) → k < length items → get_or items k d ≡ x → is_rising o items ≡ true
       → is_rising o (x ∷ more) ≡ true
       → found erase insert (drop (k + 1) items) more ≡ found erase insert (drop k items) (x ∷ more)
-  met_at more lt same rises h =
-      let here : drop k items ≡ x ∷ drop (k + 1) items = drop_more items k d lt ∙ ap (λ y. y ∷ drop (k + 1) items) same in
-      met o law erase insert x (drop (k + 1) items) more (ap (is_rising o) (sym here) ∙ rising_drop o items k rises) h
-      ∙ ap (λ r. found erase insert r (x ∷ more)) (sym here)
+  met_at more lt same rises rise =
+      let rest = drop (k + 1) items in
+      let here : drop k items ≡ x ∷ rest = drop_more items k d lt ∙ ap (λ y. y ∷ rest) same in
+      let rise' = ap (is_rising o) (sym here) ∙ rising_drop o items k rises in
+      let first : is_among x rest ≡ false = among_none (o.less x) x rest (and_parts (list_all (λ y. o.less x y) rest) (is_rising o rest) rise').0 (law.irreflexive x) in
+      let second : is_among x more ≡ false = among_none (o.less x) x more (and_parts (list_all (λ y. o.less x y) more) (is_rising o more) rise).0 (law.irreflexive x) in
+      let gone : not_among (x ∷ rest) (x ∷ more) ≡ not_among rest more =
+      one_among x (x ∷ rest) more (among_first x rest) ∙ one_more_other x rest more second in
+      let new : not_among (x ∷ more) (x ∷ rest) ≡ not_among more rest =
+      one_among x (x ∷ more) rest (among_first x more) ∙ one_more_other x more rest first in
+      (λ i. Batch (erase ++ map (λ (x : Item). x.a) (sym gone i)) (insert ++ sym new i)) ∙ ap (λ ys. found erase insert ys (x ∷ more)) (sym here)
 
+  -- an item of the table that is not in the list
   pub gone_at : (more : List Item) (new : List ℕ) → new ≡ erase ++ x.a ∷ []
       → ((first : Item) → slice_get items k ≡ Some first → o.less first x ≡ false)
       → (k < length items → is_same x (get_or items k d) ≡ false) → is_rising o items ≡ true
       → found new insert (drop k items) more ≡ found erase insert (drop k items) (x ∷ more)
   gone_at more new e stops differs rises =
-      ap (λ w. found w insert (drop k items) more) e
-      ∙ gone o law erase insert x (drop k items) more none
+      let rest = drop k items in
+      let here : not_among rest (x ∷ more) ≡ x ∷ not_among rest more = one_not_among x rest more none in
+      let words : new ++ map (λ (x : Item). x.a) (not_among rest more) ≡ erase ++ map (λ (x : Item). x.a) (not_among rest (x ∷ more)) =
+      ap (λ w. w ++ map (λ (x : Item). x.a) (not_among rest more)) e ∙ pushed_before x.a erase (map (λ (x : Item). x.a) (not_among rest more)) ∙ ap (λ l. erase ++ map (λ (x : Item). x.a) l) (sym here) in
+      λ i. Batch (words i) (insert ++ sym (one_more_other x more rest none) i)
     where
       none : is_among x (drop k items) ≡ false
       none =
@@ -250,82 +228,63 @@ pub compared : (x y : Item) → (x.a == y.a && (x.b == y.b && x.tag == y.tag)) �
 compared x y = grind (arith, nat_tests)
 
 -- what was told in two parts
-module _ {K : Type 0} (o : Order K) (items : List Item) where
-  rising_after : (xs ys : List Item) → is_rising o (xs ++ ys) ≡ true → is_rising o ys ≡ true
-  rising_after [] ys h = h
-  rising_after (x ∷ xs) ys h = rising_after xs ys (and_parts (list_all (λ y. o.less x y) (xs ++ ys)) (is_rising o (xs ++ ys)) h).1
-
-  pub tells_both : (d d' d'' : Difference) (xs ys : List Item) → Tells o items d xs d' → Tells o items d' ys d''
-      → Tells o items d (xs ++ ys) d''
-  tells_both d d' d'' xs ys first second more h =
-      let whole : (xs ++ ys) ++ more ≡ xs ++ (ys ++ more) = append_assoc xs ys more in
-      let rises : is_rising o (xs ++ (ys ++ more)) ≡ true = subst (λ l. is_rising o l ≡ true) whole h in
-      second more (rising_after xs (ys ++ more) rises) ∙ first (ys ++ more) rises
-      ∙ ap (λ l. update_found d items l) (sym whole)
+pub tells_both : {K : Type 0} (o : Order K) (items : List Item) (d d' d'' : Difference) (xs ys : List Item) → Tells o items d xs d' → Tells o items d' ys d''
+    → Tells o items d (xs ++ ys) d''
+tells_both o items d d' d'' xs ys first second more h =
+    let whole : (xs ++ ys) ++ more ≡ xs ++ (ys ++ more) = append_assoc xs ys more in
+    let rises : is_rising o (xs ++ (ys ++ more)) ≡ true = subst (λ l. is_rising o l ≡ true) whole h in
+    second more (rising_after o xs (ys ++ more) rises) ∙ first (ys ++ more) rises
+    ∙ ap (λ l. update_found d items l) (sym whole)
 
 -- ---- a table whose items were replaced
 
 module _ {K : Type 0} (o : Order K) (law : IsLawful o) where
   pub table_rises : (t : List Item) → IsTable o t → is_rising o t ≡ true
   table_rises [] is = refl
-  table_rises (x ∷ xs) is = and_from (list_all (λ y. o.less x y) xs) (is_rising o xs) (all_less xs is.1) (table_rises xs is.2)
-    where
-      all_less : (ys : List Item) → AllByRecursion (Precedes o x) ys → list_all (λ y. o.less x y) ys ≡ true
-      all_less [] a = refl
-      all_less (y ∷ ys) a = and_from (o.less x y) (list_all (λ y. o.less x y) ys) a.0.is_less (all_less ys a.1)
+  table_rises (x ∷ xs) is =
+      let less = all_weaker (Precedes o x) (λ y. o.less x y ≡ true) (λ y p. p.is_less) xs is.1 in
+      and_from (list_all (λ y. o.less x y) xs) (is_rising o xs) (list_all-from_AllPass (o.less x) xs (All-from_recursion (λ y. o.less x y ≡ true) xs less)) (table_rises xs is.2)
 
-  not_itself : (x y : Item) → o.less x y ≡ true → x ≡ y → ⊥
-  not_itself x y l e =
-      let itself : o.less x x ≡ true = subst (λ z. o.less x z ≡ true) (sym e) l in
-      let never : o.less x x ≡ false = law.irreflexive x in
-      absurd (cc)
-
-  same_first : (x y : Item) (t u : List Item) → list_all (λ z. o.less x z) t ≡ true
-      → list_all (λ z. o.less y z) u ≡ true → Contains (y ∷ u) x → Contains (x ∷ t) y → x ≡ y
-  same_first x y t u below-t below-u in-u in-t =
-      ⊎_elim (λ e. e)
-      (λ y-in-t. ⊎_elim (λ e. sym e)
-      (λ x-in-u. absurd (not_itself x x (law.transitive x y x (all_have (λ z. o.less x z) t y below-t y-in-t) (all_have (λ z. o.less y z) u x below-u x-in-u)) refl))
-      (Contains-cons_cases y x u in-u))
-      (Contains-cons_cases x y t in-t)
-
-  in_rest : (x y : Item) (t u : List Item) → list_all (λ z. o.less x z) t ≡ true → x ≡ y
-      → ((z : Item) → Contains (x ∷ t) z → Contains (y ∷ u) z) → (z : Item) → Contains t z → Contains u z
-  in_rest x y t u below same f z m =
+  -- of two items of a table one precedes the other
+  one_precedes : (t : List Item) (x y : Item) → IsTable o t → Contains t x → Contains t y → (x ≡ y) ⊎ (Precedes o x y ⊎ Precedes o y x)
+  one_precedes [] x y is mx my = absurd (Contains-none x mx)
+  one_precedes (z ∷ t) x y is mx my =
       ⊎_elim
-      (λ e. absurd (not_itself x z (all_have (λ z. o.less x z) t z below m) (same ∙ e)))
-      (λ r. r)
-      (Contains-cons_cases y z u (f z (Contains-rest x z t m)))
-
-  -- two lists that rise and have the same items are one
-  rising_is_one : (t u : List Item) → is_rising o t ≡ true → is_rising o u ≡ true
-      → ((z : Item) → Contains t z → Contains u z) → ((z : Item) → Contains u z → Contains t z) → t ≡ u
-  rising_is_one [] [] rt ru f g = refl
-  rising_is_one [] (y ∷ u) rt ru f g = absurd (Contains-none y (g y (Contains-head y y u refl)))
-  rising_is_one (x ∷ t) [] rt ru f g = absurd (Contains-none x (f x (Contains-head x x t refl)))
-  rising_is_one (x ∷ t) (y ∷ u) rt ru f g =
-      let of-t = and_parts (list_all (λ z. o.less x z) t) (is_rising o t) rt in
-      let of-u = and_parts (list_all (λ z. o.less y z) u) (is_rising o u) ru in
-      let same = same_first x y t u of-t.0 of-u.0 (f x (Contains-head x x t refl)) (g y (Contains-head y y u refl)) in
-      let rest : t ≡ u = rising_is_one t u of-t.1 of-u.1 (in_rest x y t u of-t.0 same f) (in_rest y x u t of-u.0 (sym same) g) in
-      λ k. same k ∷ rest k
-
-  -- of the items of a table two with one first word are one
-  one_of_word : (t : List Item) (x y : Item) → IsTable o t → Contains t x → Contains t y → x.a ≡ y.a → x ≡ y
-  one_of_word [] x y is mx my e = absurd (Contains-none x mx)
-  one_of_word (z ∷ t) x y is mx my e =
-      ⊎_elim
-      (λ zx. ⊎_elim (λ zy. sym zx ∙ zy)
-      (λ ty. absurd (apart_words z y (all_at (Precedes o z) t y is.1 ty) (ap (λ (v : Item). v.a) zx ∙ e)))
-      (Contains-cons_cases z y t my))
-      (λ tx. ⊎_elim
-      (λ zy. absurd (apart_words z x (all_at (Precedes o z) t x is.1 tx) (ap (λ (v : Item). v.a) zy ∙ sym e)))
-      (λ ty. one_of_word t x y is.2 tx ty e)
-      (Contains-cons_cases z y t my))
+      (λ zx. ⊎_elim (λ zy. inl (sym zx ∙ zy)) (λ ty. inr (inl (subst (λ v. Precedes o v y) zx (all_at (Precedes o z) t y is.1 ty)))) (Contains-cons_cases z y t my))
+      (λ tx. ⊎_elim (λ zy. inr (inr (subst (λ v. Precedes o v x) zy (all_at (Precedes o z) t x is.1 tx)))) (λ ty. one_precedes t x y is.2 tx ty) (Contains-cons_cases z y t my))
       (Contains-cons_cases z x t mx)
-    where
-      apart_words : (v w : Item) → Precedes o v w → v.a ≡ w.a → ⊥
-      apart_words v w p same = law.own_first_word v w p.first_valid p.second_valid p.is_apart same
+
+  -- the lesser of two does
+  lesser_precedes : (t : List Item) (x y : Item) → IsTable o t → Contains t x → Contains t y → o.less x y ≡ true → Precedes o x y
+  lesser_precedes t x y is mx my l =
+      let never : o.less x x ≡ false = law.irreflexive x in
+      ⊎_elim
+      (λ e. absurd (let itself : o.less x x ≡ true = ap (o.less x) e ∙ l in cc))
+      (λ p. ⊎_elim (λ q. q) (λ q. absurd (let itself : o.less x x ≡ true = law.transitive x y x l q.is_less in cc)) p)
+      (one_precedes t x y is mx my)
+
+  -- and two with one first word are one
+  one_of_word : (t : List Item) (x y : Item) → IsTable o t → Contains t x → Contains t y → x.a ≡ y.a → x ≡ y
+  one_of_word t x y is mx my e =
+      ⊎_elim
+      (λ same. same)
+      (λ p. absurd (⊎_elim (λ q. law.own_first_word x y q.first_valid q.second_valid q.is_apart e) (λ q. law.own_first_word y x q.first_valid q.second_valid q.is_apart (sym e)) p))
+      (one_precedes t x y is mx my)
+
+  is_valid : (t : List Item) (x : Item) → IsTable o t → Contains t x → o.valid x ≡ true
+  is_valid [] x is m = absurd (Contains-none x m)
+  is_valid (z ∷ t) x is m = ⊎_elim (λ e. ap o.valid (sym e) ∙ is.0) (λ r. is_valid t x is.2 r) (Contains-cons_cases z x t m)
+
+  -- items of a table that rise are a table
+  rising_table : (t : List Item) → IsTable o t → (u : List Item) → is_rising o u ≡ true → ((z : Item) → Contains u z → Contains t z) → IsTable o u
+  rising_table t is [] h f = tt
+  rising_table t is (x ∷ u) h f =
+      let two = and_parts (list_all (λ y. o.less x y) u) (is_rising o u) h in
+      let in_u : (j : ℕ) (d : Item) → j < length u → Contains u (get_or u j d) = λ j d lt. Contains-slice_get u j (get_or u j d) (slice_get-get_or u j d lt) in (
+        is_valid t x is (f x (Contains-head x x u refl)),
+        all_from (Precedes o x) u (λ j d lt. lesser_precedes t x (get_or u j d) is (f x (Contains-head x x u refl)) (f (get_or u j d) (Contains-rest x (get_or u j d) u (in_u j d lt))) (all_have (o.less x) u (get_or u j d) two.0 (in_u j d lt))),
+        rising_table t is u two.1 (λ z m. f z (Contains-rest x z u m)),
+      )
 
   -- ---- the table after a replacement
 
@@ -372,9 +331,8 @@ module _ {K : Type 0} (o : Order K) (law : IsLawful o) where
       → is_rising o items ≡ true → refusal_for o n limit false table seq (replacement table items) ≡ None
       → after o table (replacement table items) ≡ items
   replaced_table n limit table items seq is fits rises free =
-      rising_is_one (after o table (replacement table items)) items
-      (table_rises (after o table (replacement table items)) (accepted_table o law n limit table seq (replacement table items) free is fits).0)
-      rises from to
+      let table' = (accepted_table o law n limit table seq (replacement table items) free is fits).0 in
+      same_items o law (after o table (replacement table items)) items table' (rising_table (after o table (replacement table items)) table' items rises to) from to
     where
       from : (x : Item) → Contains (after o table (replacement table items)) x → Contains items x
       from x m =

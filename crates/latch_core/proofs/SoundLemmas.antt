@@ -1,24 +1,23 @@
--- The stable copy always holds the table that the sequence names.
-use Rattle.std.proofs.Common.{◌≡◌, ◌≢◌, ℕ, ◌+◌, ◌-◌, ◌*◌, ◌%◌, ◌<◌, ◌≤◌, true, false, cond, List, [], ◌∷◌, ◌++◌, length, take, Some, None, refl, sym, ◌∙◌, ap, subst, inl, inr, ⊎_elim, arith, length-append, length-set}
+-- The stable copy always holds the table that the sequence names; and which table a latch with no
+-- pending update holds.
+use Rattle.std.proofs.Common.{◌≡◌, ◌≢◌, ℕ, ◌+◌, ◌-◌, ◌*◌, ◌%◌, ◌<◌, ◌≤◌, true, false, cond, List, [], ◌∷◌, ◌++◌, length, take, Some, None, refl, sym, ◌∙◌, ap, subst, inl, inr, ⊎_elim, arith, length-append, length-set, Option}
 use Rattle.std.specs.Prelude.{◌==◌}
 use Rattle.std.proofs.lemmas.Bool.{eq-eqb, ne_eqb, eqb-true}
 use Rattle.std.proofs.lemmas.List.{take-append-le, take_all, get_or-replicate}
 use Rattle.word_layout.specs.declared.stores.Store.{Store}
 use Rattle.table_updates.specs.declared.updates.Update.{Update}
+use Rattle.order_laws.specs.declared.items.Item.{Item}
 use Rattle.order_laws.specs.Orders.{Order, IsLawful}
 use Rattle.order_laws.specs.Tables.{IsTable}
-use Rattle.table_updates.specs.Updates.{after, refusal_for}
-use Rattle.table_updates.specs.Updates.{replay}
+use Rattle.table_updates.specs.Updates.{after, refusal_for, replay}
 use Rattle.latch_core.specs.Histories.{table_at, current_table}
 use Rattle.word_layout.specs.Words.{words_per_node, at, root_word, none, HoldsTable}
 use Rattle.latch_core.specs.Sequences.{generation_of, stable_copy_of}
 use Rattle.latch_core.specs.Latches.{PendingUpdate, Latch, IsWriterStep, flips_after, latch_after_step, latch_with_update, opening_latch}
 use Rattle.word_layout.specs.Stores.{words_after}
 use Rattle.latch_core.specs.Invariants.{IsPendingUpdate, IsPendingOf, IsSound}
-use Rattle.word_layout.proofs.HoldsLemmas.{holds_on}
-use Rattle.word_layout.proofs.HoldsLemmas.{flip_same, flip_adds}
+use Rattle.word_layout.proofs.HoldsLemmas.{holds_on, flip_same, flip_adds}
 use Rattle.latch_core.proofs.StepLemmas.{hidden_same, tables_push, replay_push}
-use Rattle.std.proofs.Common.{Option}
 
 -- what a step leaves, by its kind: the sequence, the number of flips, and what the stable copy
 -- holds
@@ -33,59 +32,46 @@ flips_of_flip f s z = let e : (s.word == 0) ≡ true = eq-eqb s.word 0 z in rw e
 pub flips_of_store : (f : ℕ) (s : Store) → s.word ≢ 0 → flips_after f s ≡ f
 flips_of_store f s z = let e : (s.word == 0) ≡ false = ne_eqb s.word 0 z in rw e refl
 
-left_by : {K : Type 0} (o : Order K) (n start : ℕ) (us : List Update) (l : Latch) (h : PendingUpdate) (s : Store) → IsSound o n start us l → IsPendingUpdate o start (at l.words 0) us h → IsWriterStep n l h s → Left o n start us l h s
-left_by o n start us l h s ok pending may =
-    ⊎_elim
-    (λ hid.
-    let same : at (words_after l.words s) 0 ≡ at l.words 0 = hidden_same n l.words h.old_words s hid 0 (inl refl) in
-    let none_made : flips_after h.flips_made s ≡ h.flips_made = flips_of_store h.flips_made s hid.not_sequence in
-    let still = holds_on l.words (words_after l.words s) n (stable_copy_of (at l.words 0)) (current_table o start us l.words) (λ w u. hidden_same n l.words h.old_words s hid w (inr u)) ok.current in
-    record {
-      sequence = omega (arith, same, none_made);
-      flips = omega (arith, none_made, pending.flips);
-      current = subst (λ q. HoldsTable (words_after l.words s) n (stable_copy_of q) (table_at o start us (generation_of q))) (sym same) still;
-    })
-    (⊎_elim
-    (λ f.
-    let seq = at l.words 0 in
-    let adds : at (words_after l.words s) 0 ≡ seq + 1 = flip_adds l.words s ok.sized f.sequence f.adds_one in
-    let one_made : flips_after h.flips_made s ≡ h.flips_made + 1 = flips_of_flip h.flips_made s f.sequence in
-    let to : stable_copy_of (seq + 1) ≡ 1 = (let e : seq % 2 ≡ 0 = f.is_even in omega arith) in
-    let g : generation_of (seq + 1) - generation_of start ≡ length us - 1 =
-    (let c : seq + 2 ≡ start + 2 * length us + h.flips_made = pending.count in
-    let z : h.flips_made ≡ 0 = f.no_flip in
-    let ev : start % 2 ≡ 0 = ok.even in
-    let some : 0 < length us = pending.last in
-    omega arith) in
-    let table : h.old_table ≡ table_at o start us (generation_of (seq + 1)) = pending.old ∙ ap (λ j. replay o [] (take j us)) (sym g) in
-    let there = holds_on l.words (words_after l.words s) n 1 h.old_table (flip_same n 1 l.words s f.sequence) f.both_old.1 in
-    let here : HoldsTable (words_after l.words s) n (stable_copy_of (seq + 1)) (table_at o start us (generation_of (seq + 1))) =
-    subst (λ c. HoldsTable (words_after l.words s) n c (table_at o start us (generation_of (seq + 1)))) (sym to) (subst (HoldsTable (words_after l.words s) n 1) table there) in
-    record {
-      sequence = omega (arith, adds, one_made);
-      flips = omega (arith, one_made, f.no_flip);
-      current = subst (λ q. HoldsTable (words_after l.words s) n (stable_copy_of q) (table_at o start us (generation_of q))) (sym adds) here;
-    })
-    (λ f.
-    let seq = at l.words 0 in
-    let adds : at (words_after l.words s) 0 ≡ seq + 1 = flip_adds l.words s ok.sized f.sequence f.adds_one in
-    let one_made : flips_after h.flips_made s ≡ h.flips_made + 1 = flips_of_flip h.flips_made s f.sequence in
-    let to : stable_copy_of (seq + 1) ≡ 0 = (let e : seq % 2 ≡ 1 = f.is_odd in omega arith) in
-    let g : generation_of (seq + 1) - generation_of start ≡ length us =
-    (let c : seq + 2 ≡ start + 2 * length us + h.flips_made = pending.count in
-    let z : h.flips_made ≡ 1 = f.one_flip in
-    let ev : start % 2 ≡ 0 = ok.even in
-    omega arith) in
-    let table : l.newest_table ≡ table_at o start us (generation_of (seq + 1)) = ok.table_is ∙ ap (replay o []) (sym (take_all (length us) us (omega arith))) ∙ ap (λ j. replay o [] (take j us)) (sym g) in
-    let there = holds_on l.words (words_after l.words s) n 0 l.newest_table (flip_same n 0 l.words s f.sequence) f.first_new in
-    let here : HoldsTable (words_after l.words s) n (stable_copy_of (seq + 1)) (table_at o start us (generation_of (seq + 1))) =
-    subst (λ c. HoldsTable (words_after l.words s) n c (table_at o start us (generation_of (seq + 1)))) (sym to) (subst (HoldsTable (words_after l.words s) n 0) table there) in
-    record {
-      sequence = omega (arith, adds, one_made);
-      flips = omega (arith, one_made, f.one_flip);
-      current = subst (λ q. HoldsTable (words_after l.words s) n (stable_copy_of q) (table_at o start us (generation_of q))) (sym adds) here;
-    }))
-    may.kind
+module _ {K : Type 0} (o : Order K) (n start : ℕ) (us : List Update) (l : Latch) (h : PendingUpdate) (s : Store) (ok : IsSound o n start us l) where
+  -- a flip leads readers to this copy, which holds the table of the next generation
+  left_by_flip : (copy : ℕ) (table : List Item) → s.word ≡ 0 → s.value ≡ at l.words 0 + 1 → h.flips_made ≤ 1 → stable_copy_of (at l.words 0 + 1) ≡ copy → table ≡ table_at o start us (generation_of (at l.words 0 + 1)) → HoldsTable l.words n copy table → Left o n start us l h s
+  left_by_flip copy table first value few to is holds =
+      let adds = flip_adds l.words s ok.sized first value in
+      let one_made = flips_of_flip h.flips_made s first in
+      let there = holds_on l.words (words_after l.words s) n copy table (flip_same n copy l.words s first) holds in
+      let here = subst (λ c. HoldsTable (words_after l.words s) n c (table_at o start us (generation_of (at l.words 0 + 1)))) (sym to) (subst (HoldsTable (words_after l.words s) n copy) is there) in
+      record {
+        sequence = omega (arith, adds, one_made);
+        flips = omega (arith, one_made, few);
+        current = subst (λ q. HoldsTable (words_after l.words s) n (stable_copy_of q) (table_at o start us (generation_of q))) (sym adds) here;
+      }
+
+  left_by : IsPendingUpdate o start (at l.words 0) us h → IsWriterStep n l h s → Left o n start us l h s
+  left_by pending may =
+      let c = pending.count in
+      let ev : start % 2 ≡ 0 = ok.even in
+      ⊎_elim
+      (λ hid.
+      let same : at (words_after l.words s) 0 ≡ at l.words 0 = hidden_same n l.words h.old_words s hid 0 (inl refl) in
+      let none_made : flips_after h.flips_made s ≡ h.flips_made = flips_of_store h.flips_made s hid.not_sequence in
+      let still = holds_on l.words (words_after l.words s) n (stable_copy_of (at l.words 0)) (current_table o start us l.words) (λ w u. hidden_same n l.words h.old_words s hid w (inr u)) ok.current in
+      record {
+        sequence = omega (arith, same, none_made);
+        flips = omega (arith, none_made, pending.flips);
+        current = subst (λ q. HoldsTable (words_after l.words s) n (stable_copy_of q) (table_at o start us (generation_of q))) (sym same) still;
+      })
+      (⊎_elim
+      (λ f.
+      let e : at l.words 0 % 2 ≡ 0 = f.is_even in
+      let z : h.flips_made ≡ 0 = f.no_flip in
+      let g : generation_of (at l.words 0 + 1) - generation_of start ≡ length us - 1 = (let some : 0 < length us = pending.last in omega arith) in
+      left_by_flip 1 h.old_table f.sequence f.adds_one (omega arith) (omega arith) (pending.old ∙ ap (λ j. replay o [] (take j us)) (sym g)) f.both_old.1)
+      (λ f.
+      let e : at l.words 0 % 2 ≡ 1 = f.is_odd in
+      let z : h.flips_made ≡ 1 = f.one_flip in
+      let g : generation_of (at l.words 0 + 1) - generation_of start ≡ length us = omega arith in
+      left_by_flip 0 l.newest_table f.sequence f.adds_one (omega arith) (omega arith) (ok.table_is ∙ ap (replay o []) (sym (take_all (length us) us (omega arith))) ∙ ap (λ j. replay o [] (take j us)) (sym g)) f.first_new))
+      may.kind
 
 pub sound_step : {K : Type 0} (o : Order K) (n start : ℕ) (us : List Update) (l : Latch) (h : PendingUpdate) (s : Store) → IsSound o n start us l → l.pending ≡ Some h → IsWriterStep n l h s → IsSound o n start us (latch_after_step l h s)
 sound_step o n start us l h s ok in_hand may =
@@ -145,3 +131,33 @@ gen_within o n start us l ok = by l.pending ok.in_hand
         → generation_of (at l.words 0) - generation_of start ≤ length us
     by None e = let ev : start % 2 ≡ 0 = ok.even in omega arith
     by (Some h) e = let ev : start % 2 ≡ 0 = ok.even in let c = e.count in let f = e.flips in let p = e.last in omega arith
+
+-- with nothing pending the sequence names all accepted updates
+pub sequence_at_rest : {K : Type 0} (o : Order K) (n start : ℕ) (us : List Update) (l : Latch)
+    → IsSound o n start us l → l.pending ≡ None → at l.words 0 ≡ start + 2 * length us
+sequence_at_rest o n start us l ok rest = subst (IsPendingOf o start (at l.words 0) us) rest ok.in_hand
+
+pub current_at_rest : {K : Type 0} (o : Order K) (n start : ℕ) (us : List Update) (l : Latch)
+    → IsSound o n start us l → l.pending ≡ None → current_table o start us l.words ≡ replay o [] us
+current_at_rest o n start us l ok rest =
+    let seq = sequence_at_rest o n start us l ok rest in
+    let all : length us ≤ generation_of (at l.words 0) - generation_of start = (let ev : start % 2 ≡ 0 = ok.even in omega arith) in
+    ap (replay o []) (take_all (generation_of (at l.words 0) - generation_of start) us all)
+
+-- before any update none is pending
+pub none_begun : {K : Type 0} (o : Order K) (n start : ℕ) (l : Latch) → IsSound o n start [] l → l.pending ≡ None
+none_begun o n start l ok = go l.pending ok.in_hand
+  where
+    go : (h : Option PendingUpdate) → IsPendingOf o start (at l.words 0) [] h → h ≡ None
+    go None is = refl
+    go (Some h) is = absurd (omega (arith, is.last))
+
+-- the table after a list of updates
+pub table_at_rest : {K : Type 0} (o : Order K) (n start : ℕ) (us : List Update) (l : Latch) → IsSound o n start us l → IsTable o (replay o [] us)
+table_at_rest o n start us l ok =
+    subst (λ v. IsTable o (replay o [] v)) (take_all (length us) us (omega arith)) (ok.tables (length us)).0
+
+-- and the current table is the newest
+pub rest_is_current : {K : Type 0} (o : Order K) (n start : ℕ) (us : List Update) (l : Latch)
+    → IsSound o n start us l → l.pending ≡ None → current_table o start us l.words ≡ l.newest_table
+rest_is_current o n start us l ok rest = current_at_rest o n start us l ok rest ∙ sym ok.table_is

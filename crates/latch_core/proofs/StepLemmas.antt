@@ -1,5 +1,5 @@
 -- What the writer's steps keep.
-use Rattle.std.proofs.Common.{◌≡◌, ◌≢◌, ℕ, ◌+◌, ◌<◌, ◌≤◌, false, List, [], ◌∷◌, ◌++◌, length, take, Some, None, refl, sym, ◌∙◌, ap, subst, inl, inr, ⊎_elim, arith, length-append, get_or-set_other}
+use Rattle.std.proofs.Common.{◌≡◌, ◌≢◌, ℕ, ◌+◌, ◌<◌, ◌≤◌, false, List, [], ◌∷◌, ◌++◌, length, take, None, refl, sym, ◌∙◌, ap, subst, inl, inr, ⊎_elim, arith, length-append, get_or-set_other}
 use Rattle.std.specs.Prelude.{◌⊎◌, ◌==◌, not}
 use Rattle.std.proofs.lemmas.Bool.{cases_lt, eqb-false, ltb-false, not-false, or_parts}
 use Rattle.std.proofs.lemmas.List.{take-append-le, take_all}
@@ -10,11 +10,10 @@ use Rattle.table_updates.specs.declared.updates.Update.{Update}
 use Rattle.table_updates.specs.declared.updates.Update.TheVariants.{Insert, Erase, Batch}
 use Rattle.order_laws.specs.Orders.{Order, IsLawful}
 use Rattle.order_laws.specs.Tables.{IsTable, meets, with_item, without, without_all}
-use Rattle.table_updates.specs.Updates.{after, refusal_for, some_overlap, some_meet}
-use Rattle.table_updates.specs.Updates.{replay}
+use Rattle.table_updates.specs.Updates.{after, refusal_for, some_overlap, some_meet, replay}
 use Rattle.word_layout.specs.Words.{at, root_word, by_root, InUse}
 use Rattle.latch_core.specs.Sequences.{stable_copy_of}
-use Rattle.latch_core.specs.Attempts.{Reading, Load, attempt, rest_after}
+use Rattle.latch_core.specs.Attempts.{attempt}
 use Rattle.latch_core.specs.Latches.{PendingUpdate, Latch, IsHidden, IsWriterStep}
 use Rattle.word_layout.specs.Stores.{words_after}
 use Rattle.latch_core.specs.Invariants.{IsStanding, AreTables}
@@ -24,7 +23,7 @@ use Rattle.order_laws.proofs.WithoutLemmas.{length_without_all, without_all_tabl
 use Rattle.order_laws.proofs.MeetLemmas.{not_meeting}
 use Rattle.latch_core.proofs.TestLemmas.{NoneHolds, all_tests, none_holds}
 use Rattle.table_updates.proofs.BatchLemmas.{all_valid, all_apart, all_off, with_items_table, length_with_items}
-use Rattle.latch_core.proofs.ReadingLemmas.{AllLoads, stand_on, stand_push}
+use Rattle.latch_core.proofs.ReadingLemmas.{AllLoads, stand_on}
 use Rattle.latch_core.proofs.WalkLemmas.{walk_uses}
 
 -- what a step does to the words
@@ -91,15 +90,12 @@ replay_push o table (v ∷ us) u = replay_push o (after o table v) us u
 pub tables_push : {K : Type 0} (o : Order K) → IsLawful o → (n limit : ℕ) (us : List Update) (seq : ℕ) (u : Update) → refusal_for o n limit false (replay o [] us) seq u ≡ None → AreTables o n us → AreTables o n (us ++ u ∷ [])
 tables_push o law n limit us seq u e h j =
     ⊎_elim
-    (λ le. let t : take j (us ++ u ∷ []) ≡ take j us = take-append-le j us (u ∷ []) le in
-    (subst (λ xs. IsTable o (replay o [] xs)) (sym t) (h j).0, subst (λ xs. length (replay o [] xs) ≤ n) (sym t) (h j).1))
     (λ gt.
     let t : take j (us ++ u ∷ []) ≡ us ++ u ∷ [] = take_all j (us ++ u ∷ []) (omega (arith, length-append us (u ∷ []))) in
     let whole : take (length us) us ≡ us = take_all (length us) us (omega arith) in
     let now = accepted_table o law n limit (replay o [] us) seq u e (subst (λ xs. IsTable o (replay o [] xs)) whole (h (length us)).0) (subst (λ xs. length (replay o [] xs) ≤ n) whole (h (length us)).1) in
     let same : replay o [] (take j (us ++ u ∷ [])) ≡ after o (replay o [] us) u = ap (replay o []) t ∙ replay_push o [] us u in
     (subst (IsTable o) (sym same) now.0, subst (λ xs. length xs ≤ n) (sym same) now.1))
-    (cases_le j (length us))
-  where
-    cases_le : (a b : ℕ) → (a ≤ b) ⊎ (b < a)
-    cases_le a b = ⊎_elim (λ lt. inr lt) (λ le. inl le) (cases_lt b a)
+    (λ le. let t : take j (us ++ u ∷ []) ≡ take j us = take-append-le j us (u ∷ []) le in
+    (subst (λ xs. IsTable o (replay o [] xs)) (sym t) (h j).0, subst (λ xs. length (replay o [] xs) ≤ n) (sym t) (h j).1))
+    (cases_lt (length us) j)

@@ -1,49 +1,46 @@
--- Stores that lead each copy from the old table to the new make an update.
-use Rattle.std.proofs.Common.{◌≡◌, ◌≢◌, ℕ, suc, ◌+◌, ◌-◌, ◌%◌, ◌<◌, ◌≤◌, false, cond, List, [], ◌∷◌, ◌++◌, length, Some, None, refl, sym, ◌∙◌, ap, subst, inl, inr, arith, length-append, length-set, get_or-set_other}
+-- Stores that lead each copy from the old table to the new make an update, through which the stable
+-- copy stays a red-black tree.
+use Rattle.std.proofs.Common.{◌≡◌, ◌≢◌, ℕ, suc, ◌+◌, ◌-◌, ◌%◌, ◌<◌, ◌≤◌, false, cond, List, [], ◌∷◌, ◌++◌, length, Some, None, refl, sym, ◌∙◌, ap, subst, inl, inr, arith, length-append, length-set, get_or-set_other, ◌*◌}
 use Rattle.std.specs.Prelude.{◌⊎◌, ◌==◌}
 use Rattle.std.specs.List.{AllByRecursion}
 use Rattle.std.proofs.lemmas.Bool.{ne_eqb}
 use Rattle.order_laws.specs.declared.items.Item.{Item}
-use Rattle.facts.proofs.Each.{all_weaker}
-use Rattle.word_layout.proofs.LinkLemmas.{links_elsewhere, links_not_zero, zero_kept}
+use Rattle.facts.proofs.Each.{all_weaker, all_append}
+use Rattle.word_layout.proofs.LinkLemmas.{links_elsewhere, links_not_zero, zero_kept, not_in_use}
 use Rattle.word_layout.specs.declared.stores.Store.{Store}
-use Rattle.word_layout.specs.Words.{at, words_for, root_word, left_word, right_word, Nodes, Holds, Reaches, by_root, by_left, by_right, InUse, IsUnreached}
+use Rattle.word_layout.specs.Words.{at, words_for, root_word, left_word, right_word, Nodes, Holds, Reaches, by_root, by_left, by_right, InUse, IsUnreached, words_per_node, none}
 use Rattle.word_layout.specs.Stores.{IsItemWord, words_after, words_after_all, AreLinkStores}
 use Rattle.word_layout.proofs.WordLemmas.{IsCopyWord, in_copy, one_item, link_no_item, link_no_other, link_place, item_place, item_not_zero, item_not_root, item_not_left, item_not_right, copy_not_zero, unused_item}
 use Rattle.word_layout.proofs.StoreLemmas.{Agree, length_after, after_append, untouched, agree_after}
-use Rattle.word_layout.proofs.HoldsLemmas.{holds_untouched, tree_agree}
+use Rattle.word_layout.proofs.HoldsLemmas.{holds_untouched, tree_agree, flip_adds, tree_untouched}
 use Rattle.rb_trees.specs.Trees.{IsBalanced}
 use Rattle.latch_core.specs.Sequences.{stable_copy_of}
-use Rattle.latch_core.specs.Latches.{PendingUpdate, BothHold, IsHidden, IsFirstFlip, IsSecondFlip, flips_after}
+use Rattle.latch_core.specs.Latches.{PendingUpdate, BothHold, IsHidden, IsFirstFlip, IsSecondFlip, flips_after, opening_latch}
 use Rattle.latch_core.specs.Plans.{IsPlan, flip_to, update_stores}
-use Rattle.word_layout.proofs.HoldsLemmas.{flip_adds}
 use Rattle.latch_core.proofs.SoundLemmas.{flips_of_store}
+use Rattle.std.proofs.lemmas.List.{get_or-replicate}
+use Rattle.word_layout.proofs.HeldLemmas.{leads_once}
+use Rattle.rb_trees.proofs.DepthLemmas.{balanced_none}
+use Rattle.latch_core.specs.Writers.{IsShallow, StaysShallow}
 
--- each step's kind, the last step's duty apart
-abbrev Kinds : ℕ → List Item → List Item → List ℕ → ℕ → List ℕ → List Store → Type 0
-Kinds n old new began flips m [] = Unit {0}
-Kinds n old new began flips m (s ∷ ss) =
+-- each step's kind, the last step's duty apart, and how many flips there are in the end
+abbrev Kinds : ℕ → List Item → List Item → List ℕ → ℕ → List ℕ → List Store → ℕ → Type 0
+Kinds n old new began flips m [] made = flips ≡ made
+Kinds n old new began flips m (s ∷ ss) made =
     ((left : ℕ) → let h : PendingUpdate = record { old_table = old; old_words = began; flips_made = flips; steps_left = left } in IsHidden n m began s.word ⊎ (IsFirstFlip n m h s ⊎ IsSecondFlip n m h new s))
-    × Kinds n old new began (flips_after flips s) (words_after m s) ss
+    × Kinds n old new began (flips_after flips s) (words_after m s) ss made
 
-abbrev flips_after_all : ℕ → List Store → ℕ
-flips_after_all f [] = f
-flips_after_all f (s ∷ ss) = flips_after_all (flips_after f s) ss
-
-kinds_append : (n : ℕ) (old new : List Item) (began : List ℕ) (f : ℕ) (m : List ℕ) (xs ys : List Store) → Kinds n old new began f m xs → Kinds n old new began (flips_after_all f xs) (words_after_all m xs) ys → Kinds n old new began f m (xs ++ ys)
-kinds_append n old new began f m [] ys a b = b
-kinds_append n old new began f m (x ∷ xs) ys a b = (a.0, kinds_append n old new began (flips_after f x) (words_after m x) xs ys a.1 b)
-
-flips_append : (f : ℕ) (xs ys : List Store) → flips_after_all f (xs ++ ys) ≡ flips_after_all (flips_after_all f xs) ys
-flips_append f [] ys = refl
-flips_append f (x ∷ xs) ys = flips_append (flips_after f x) xs ys
+kinds_append : (n : ℕ) (old new : List Item) (began : List ℕ) (f g made : ℕ) (m : List ℕ) (xs ys : List Store) → Kinds n old new began f m xs g → Kinds n old new began g (words_after_all m xs) ys made → Kinds n old new began f m (xs ++ ys) made
+kinds_append n old new began f g made m [] ys a b = subst (λ k. Kinds n old new began k m ys made) (sym a) b
+kinds_append n old new began f g made m (x ∷ xs) ys a b = (a.0, kinds_append n old new began (flips_after f x) g made (words_after m x) xs ys a.1 b)
 
 -- kinds of steps, with two flips and the new table in both copies in the end, make a plan
-plan_of_kinds : (n : ℕ) (old new : List Item) (began : List ℕ) (f : ℕ) (m : List ℕ) (s : Store) (ss : List Store) → Kinds n old new began f m (s ∷ ss) → flips_after_all f (s ∷ ss) ≡ 2 → BothHold (words_after_all m (s ∷ ss)) n new → IsPlan n (record { words = m; newest_table = new; pending = Some (record { old_table = old; old_words = began; flips_made = f; steps_left = length (s ∷ ss) }) }) (s ∷ ss)
-plan_of_kinds n old new began f m s [] k two both =
-    (_, refl, record { kind = k.0 1; at_end = λ e. (two, both) }, refl)
-plan_of_kinds n old new began f m s (t ∷ ss) k two both =
-    let rest = plan_of_kinds n old new began (flips_after f s) (words_after m s) t ss k.1 two both in
+plan_of_kinds : (n : ℕ) (old new : List Item) (began : List ℕ) (f : ℕ) (m : List ℕ) (ss : List Store) → 0 < length ss → Kinds n old new began f m ss 2 → BothHold (words_after_all m ss) n new → IsPlan n (record { words = m; newest_table = new; pending = Some (record { old_table = old; old_words = began; flips_made = f; steps_left = length ss }) }) ss
+plan_of_kinds n old new began f m [] some k both = absurd (omega arith)
+plan_of_kinds n old new began f m (s ∷ []) some k both =
+    (_, refl, record { kind = k.0 1; at_end = λ e. (k.1, both) }, refl)
+plan_of_kinds n old new began f m (s ∷ t ∷ ss) some k both =
+    let rest = plan_of_kinds n old new began (flips_after f s) (words_after m s) (t ∷ ss) (omega arith) k.1 both in
     let more : (suc (suc (length ss)) == 1) ≡ false = ne_eqb (suc (suc (length ss))) 1 (λ e. absurd (omega arith)) in
     let less : suc (suc (length ss)) - 1 ≡ suc (length ss) = omega arith in (
       _,
@@ -71,8 +68,8 @@ reached_before m m' n copy c same _ (by_left i j r lt e) = by_left i j (reached_
 reached_before m m' n copy c same _ (by_right i j r lt e) = by_right i j (reached_before m m' n copy c same i r) lt (sym (same (right_word copy i) (λ k is. item_not_right k copy i c is)) ∙ e)
 
 -- the items' words, before the first flip
-items_kinds : (n : ℕ) (old new : List Item) (began m : List ℕ) (ss : List Store) → AreFreeStores began n ss → stable_copy_of (at m 0) ≡ 0 → length m ≡ words_for n → Agree NoItemWord began m → Kinds n old new began 0 m ss
-items_kinds n old new began m [] is even sized same = tt
+items_kinds : (n : ℕ) (old new : List Item) (began m : List ℕ) (ss : List Store) → AreFreeStores began n ss → stable_copy_of (at m 0) ≡ 0 → length m ≡ words_for n → Agree NoItemWord began m → Kinds n old new began 0 m ss 0
+items_kinds n old new began m [] is even sized same = refl
 items_kinds n old new began m (s ∷ ss) is even sized same =
     let node = is.0.0 in
     let free = is.0.2 in
@@ -88,14 +85,14 @@ items_kinds n old new began m (s ∷ ss) is even sized same =
     } in
     let zero_same : at (words_after m s) 0 ≡ at m 0 = get_or-set_other m s.word 0 s.value 0 (λ e. place.0 (sym e)) in (
       (λ left. inl hidden),
-      subst (λ f. Kinds n old new began f (words_after m s) ss) (sym (flips_of_store 0 s place.0))
+      subst (λ f. Kinds n old new began f (words_after m s) ss 0) (sym (flips_of_store 0 s place.0))
           (items_kinds n old new began (words_after m s) ss is.1 (ap stable_copy_of zero_same ∙ even) (length-set m s.word s.value ∙ sized)
           (λ w no_item. get_or-set_other m s.word w s.value 0 (λ e. no_item node (subst (IsItemWord node) (sym e) word)) ∙ same w no_item)),
     )
 
 -- one copy's root and links, while readers walk the other
-links_kinds : (n : ℕ) (old new : List Item) (began m : List ℕ) (f copy other : ℕ) → copy + other ≡ 1 → (ss : List Store) → AreLinkStores n copy ss → stable_copy_of (at m 0) ≡ other → length m ≡ words_for n → Kinds n old new began f m ss
-links_kinds n old new began m f copy other c [] ls seq sized = tt
+links_kinds : (n : ℕ) (old new : List Item) (began m : List ℕ) (f copy other : ℕ) → copy + other ≡ 1 → (ss : List Store) → AreLinkStores n copy ss → stable_copy_of (at m 0) ≡ other → length m ≡ words_for n → Kinds n old new began f m ss f
+links_kinds n old new began m f copy other c [] ls seq sized = refl
 links_kinds n old new began m f copy other c (s ∷ ss) ls seq sized =
     let place = link_place n copy s.word (omega arith) ls.0 in
     let hidden : IsHidden n m began s.word =
@@ -107,17 +104,9 @@ links_kinds n old new began m f copy other c (s ∷ ss) ls seq sized =
     } in
     let zero_same : at (words_after m s) 0 ≡ at m 0 = get_or-set_other m s.word 0 s.value 0 (λ e. place.0 (sym e)) in (
       (λ left. inl hidden),
-      subst (λ g. Kinds n old new began g (words_after m s) ss) (sym (flips_of_store f s place.0))
+      subst (λ g. Kinds n old new began g (words_after m s) ss f) (sym (flips_of_store f s place.0))
           (links_kinds n old new began (words_after m s) f copy other c ss ls.1 (ap stable_copy_of zero_same ∙ seq) (length-set m s.word s.value ∙ sized)),
     )
-
-store_flips : (f : ℕ) (ss : List Store) → AllByRecursion (λ (s : Store). s.word ≢ 0) ss → flips_after_all f ss ≡ f
-store_flips f [] h = refl
-store_flips f (s ∷ ss) h = ap (λ g. flips_after_all g ss) (flips_of_store f s h.0) ∙ store_flips f ss h.1
-
-plan_of_any : (n : ℕ) (old new : List Item) (began m : List ℕ) (ss : List Store) → 0 < length ss → Kinds n old new began 0 m ss → flips_after_all 0 ss ≡ 2 → BothHold (words_after_all m ss) n new → IsPlan n (record { words = m; newest_table = new; pending = Some (record { old_table = old; old_words = began; flips_made = 0; steps_left = length ss }) }) ss
-plan_of_any n old new began m [] some k two both = absurd (omega arith)
-plan_of_any n old new began m (s ∷ ss) some k two both = plan_of_kinds n old new began 0 m s ss k two both
 
 -- what the stores of an update owe: each copy is led from the old table to the new, in these trees,
 -- by the items' words and its own links
@@ -228,35 +217,20 @@ module _ (n : ℕ) (old new : List Item) (m : List ℕ) (items ls0 ls1 : List St
   new1_5 : Holds m5 n 1 new t1
   new1_5 = tree_agree (words_after_all m1 ls1) m5 n 1 new t1 (agree_after (IsCopyWord 1) m1 m4 ls1 (sized4 ∙ sym sized1) same14) is.leads_one
 
-  -- the kinds of the steps, and the flips
+  -- the kinds of the steps
   abbrev flips0 : List Store
   flips0 = flip_to (at m 0 + 1) ∷ ls0
 
   abbrev flips1 : List Store
   flips1 = flip_to (at m 0 + 2) ∷ ls1
 
-  flips_items : flips_after_all 0 items ≡ 0
-  flips_items = store_flips 0 items (items_not_zero m n items is.items_free)
-
-  flips_front : flips_after_all 0 (items ++ flips0) ≡ 1
-  flips_front =
-      flips_append 0 items flips0
-      ∙ ap (λ f. flips_after_all f flips0) flips_items
-      ∙ store_flips 1 ls0 (links_not_zero n 0 ls0 (omega arith) is.links_zero)
-
-  flips_all : flips_after_all 0 ((items ++ flips0) ++ flips1) ≡ 2
-  flips_all =
-      flips_append 0 (items ++ flips0) flips1
-      ∙ ap (λ f. flips_after_all f flips1) flips_front
-      ∙ store_flips 2 ls1 (links_not_zero n 1 ls1 (omega arith) is.links_one)
-
-  first_flip : Kinds n old new m 0 m1 flips0
+  first_flip : Kinds n old new m 0 m1 flips0 1
   first_flip = (
     (λ left. inr (inl (record { sequence = refl; adds_one = ap (λ q. q + 1) (sym seq1); is_even = ap stable_copy_of seq1 ∙ is.even; no_flip = refl; both_old = old1 }))),
     links_kinds n old new m m2 1 0 1 refl ls0 is.links_zero odd2 sized2,
   )
 
-  second_flip : Kinds n old new m 1 m3 flips1
+  second_flip : Kinds n old new m 1 m3 flips1 2
   second_flip = (
     (λ left. inr (inr (record { sequence = refl; adds_one = next_is; is_odd = odd3; one_flip = refl; first_new = (t0, new0_3) }))),
     links_kinds n old new m m4 2 1 0 refl ls1 is.links_one even4 sized4,
@@ -265,17 +239,11 @@ module _ (n : ℕ) (old new : List Item) (m : List ℕ) (items ls0 ls1 : List St
   pub words_front : words_after_all m (items ++ flips0) ≡ m3
   words_front = after_append m items flips0
 
-  kinds_front : Kinds n old new m 0 m (items ++ flips0)
-  kinds_front =
-      kinds_append n old new m 0 m items flips0
-      (items_kinds n old new m m items is.items_free is.even is.sized (λ w away. refl))
-      (subst (λ f. Kinds n old new m f m1 flips0) (sym flips_items) first_flip)
-
-  kinds_all : Kinds n old new m 0 m ((items ++ flips0) ++ flips1)
+  kinds_all : Kinds n old new m 0 m ((items ++ flips0) ++ flips1) 2
   kinds_all =
-      kinds_append n old new m 0 m (items ++ flips0) flips1 kinds_front
-      (subst (λ f. Kinds n old new m f (words_after_all m (items ++ flips0)) flips1) (sym flips_front)
-      (subst (λ x. Kinds n old new m 1 x flips1) (sym words_front) second_flip))
+      kinds_append n old new m 0 1 2 m (items ++ flips0) flips1
+      (kinds_append n old new m 0 0 1 m items flips0 (items_kinds n old new m m items is.items_free is.even is.sized (λ w away. refl)) first_flip)
+      (subst (λ x. Kinds n old new m 1 x flips1 2) (sym words_front) second_flip)
 
   -- the words after all, and the plan
   pub update_words : words_after_all m (update_stores (at m 0) items ls0 ls1) ≡ m5
@@ -293,5 +261,72 @@ module _ (n : ℕ) (old new : List Item) (m : List ℕ) (items ls0 ls1 : List St
   pub update_plan : (left : ℕ) → left ≡ length (update_stores (at m 0) items ls0 ls1) → IsPlan n (record { words = m; newest_table = new; pending = Some (record { old_table = old; old_words = m; flips_made = 0; steps_left = left }) }) (update_stores (at m 0) items ls0 ls1)
   update_plan left e =
       let some : 0 < length ((items ++ flips0) ++ flips1) = omega (arith, length-append (items ++ flips0) flips1) in
-      let plan = plan_of_any n old new m m ((items ++ flips0) ++ flips1) some kinds_all flips_all ((t0, update_zero), (t1, update_one)) in
+      let plan = plan_of_kinds n old new m 0 m ((items ++ flips0) ++ flips1) some kinds_all ((t0, update_zero), (t1, update_one)) in
       subst (λ x. IsPlan n (record { words = m; newest_table = new; pending = Some (record { old_table = old; old_words = m; flips_made = 0; steps_left = x }) }) (update_stores (at m 0) items ls0 ls1)) (sym e) plan
+
+stays_append : (n : ℕ) (m : List ℕ) (xs ys : List Store) → StaysShallow n m xs → StaysShallow n (words_after_all m xs) ys → StaysShallow n m (xs ++ ys)
+stays_append n m [] ys a b = b
+stays_append n m (x ∷ xs) ys a b = (a.0, stays_append n (words_after m x) xs ys a.1 b)
+
+-- stores that keep away from what is in use in the stable copy
+module _ (n : ℕ) (m : List ℕ) (c : ℕ) (table : List Item) (t : Nodes) (now : stable_copy_of (at m 0) ≡ c) (holds : Holds m n c table t) (good : IsBalanced t) where
+  abbrev Away : List Store → Type 0
+  Away ss = AllByRecursion (λ (s : Store). InUse m n c s.word → ⊥) ss × AllByRecursion (λ (s : Store). s.word ≢ 0) ss
+
+  shallow_after : (done : List Store) → Away done → IsShallow n (words_after_all m done)
+  shallow_after done away =
+      let seq : stable_copy_of (at (words_after_all m done) 0) ≡ c = ap stable_copy_of (zero_kept m done away.1) ∙ now in
+      (table, t, subst (λ d. Holds (words_after_all m done) n d table t) (sym seq) (tree_untouched m n c table t done away.0 holds), good)
+
+  stays_from : (done rest : List Store) → Away done → Away rest → StaysShallow n (words_after_all m done) rest
+  stays_from done [] a b = shallow_after done a
+  stays_from done (s ∷ ss) a b =
+      let more : Away (done ++ s ∷ []) = (all_append (λ (s : Store). InUse m n c s.word → ⊥) done (s ∷ []) a.0 (b.0.0, tt), all_append (λ (s : Store). s.word ≢ 0) done (s ∷ []) a.1 (b.1.0, tt)) in
+      (shallow_after done a, subst (λ w. StaysShallow n w ss) (after_append m done (s ∷ [])) (stays_from (done ++ s ∷ []) ss more (b.0.1, b.1.1)))
+
+  stays_shallow : (ss : List Store) → Away ss → StaysShallow n m ss
+  stays_shallow ss away = stays_from [] ss (tt, tt) away
+
+module _ (n : ℕ) (old new : List Item) (m : List ℕ) (items ls0 ls1 : List Store) (t0 t1 : Nodes) (is : Leading n old new m items ls0 ls1 t0 t1) where
+  pub update_shallow : StaysShallow n m (update_stores (at m 0) items ls0 ls1)
+  update_shallow =
+      let f1 = flip_to (at m 0 + 1) in
+      let f2 = flip_to (at m 0 + 2) in
+      let m1 = words_after_all m items in
+      let m2 = words_after m1 f1 in
+      let m3 = words_after_all m2 ls0 in
+      let m4 = words_after m3 f2 in
+      let u0 = is.old_trees.0 in
+      let u1 = is.old_trees.1 in
+      let unused = items_unused m n items is.items_free in
+      let nonzero = items_not_zero m n items is.items_free in
+      let a = stays_shallow n m 0 old u0 is.even is.old_trees.2 is.old_trees.4 items (unused.0, nonzero) in
+      let s1 = shallow_after n m 0 old u0 is.even is.old_trees.2 is.old_trees.4 items (unused.0, nonzero) in
+      let one1 : Holds m1 n 1 old u1 = tree_untouched m n 1 old u1 items unused.1 is.old_trees.3 in
+      let one2 : Holds m2 n 1 old u1 = tree_agree m1 m2 n 1 old u1 (flip_far 1 m1 (at m 0 + 1)) one1 in
+      let unused0 = not_in_use m2 n 1 ls0 (links_elsewhere n 0 1 ls0 refl is.links_zero) in
+      let nonzero0 = links_not_zero n 0 ls0 (omega arith) is.links_zero in
+      let odd = odd2 n old new m items ls0 ls1 t0 t1 is in
+      let b = stays_shallow n m2 1 old u1 odd one2 is.old_trees.5 ls0 (unused0, nonzero0) in
+      let s3 = shallow_after n m2 1 old u1 odd one2 is.old_trees.5 ls0 (unused0, nonzero0) in
+      let even = even4 n old new m items ls0 ls1 t0 t1 is in
+      let unused1 = not_in_use m4 n 0 ls1 (links_elsewhere n 1 0 ls1 refl is.links_one) in
+      let nonzero1 = links_not_zero n 1 ls1 (omega arith) is.links_one in
+      let d = stays_shallow n m4 0 new t0 even (new0_4 n old new m items ls0 ls1 t0 t1 is) is.new_trees.0 ls1 (unused1, nonzero1) in
+      stays_append n m (items ++ f1 ∷ ls0) (f2 ∷ ls1) (stays_append n m items (f1 ∷ ls0) a (s1, b))
+      (subst (λ w. StaysShallow n w (f2 ∷ ls1)) (sym (words_front n old new m items ls0 ls1 t0 t1 is)) (s3, d))
+
+-- before any step both copies are empty
+pub opening_shallow : (n start : ℕ) → stable_copy_of start ≡ 0 → IsShallow n (opening_latch n start).words
+opening_shallow n start even =
+    let root : at (opening_latch n start).words (root_word (stable_copy_of start)) ≡ 0 = ap (λ c. at (opening_latch n start).words (root_word c)) even ∙ get_or-replicate (words_per_node * n + 2) 0 0 0 (omega arith) in
+    ([], none, record { leads = root; listed_items = refl }, balanced_none)
+
+-- whichever table and tree the stable copy holds, the tree is red-black
+pub shallow_tree : (n : ℕ) (m : List ℕ) (table : List Item) (t : Nodes) → Holds m n (stable_copy_of (at m 0)) table t → IsShallow n m → IsBalanced t
+shallow_tree n m table t holds low =
+    subst IsBalanced (leads_once m n (stable_copy_of (at m 0)) (at m (root_word (stable_copy_of (at m 0)))) low.1 t low.2.leads holds.leads) low.3
+
+pub stays_now : (n : ℕ) (m : List ℕ) (ss : List Store) → StaysShallow n m ss → IsShallow n m
+stays_now n m [] h = h
+stays_now n m (s ∷ ss) h = h.0

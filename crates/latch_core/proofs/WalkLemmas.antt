@@ -1,20 +1,22 @@
--- Attempts in one memory: they look the key up in the table that the stable copy holds.
-use Rattle.std.proofs.Common.{◌≡◌, ℕ, suc, zero, ◌+◌, ◌*◌, ◌^◌, ◌<◌, ◌≤◌, true, false, cond, List, length, Option, Some, None, refl, sym, ◌∙◌, ap, subst, inl, inr, arith}
+-- Attempts in one memory: they look the key up in the table that the stable copy holds, and an answer
+-- is given only where word 0 gives the first number again.
+use Rattle.std.proofs.Common.{◌≡◌, ℕ, suc, zero, ◌+◌, ◌*◌, ◌^◌, ◌<◌, ◌≤◌, true, false, cond, List, length, Option, Some, None, refl, sym, ◌∙◌, ap, subst, inl, inr, arith, [], ◌∷◌, ◌++◌}
 use Rattle.std.specs.Prelude.{◌⊎◌, ◌==◌, nat_lt}
 use Rattle.std.specs.declared.cmp.Ordering.TheVariants.{Less, Equal, Greater}
-use Rattle.std.proofs.lemmas.Bool.{lt-ltb, ltb-true, eq-eqb}
+use Rattle.std.proofs.lemmas.Bool.{lt-ltb, ltb-true, eq-eqb, eqb-true}
 use Rattle.order_laws.specs.declared.items.Item.{Item}
 use Rattle.order_laws.specs.Orders.{Order, IsLawful}
 use Rattle.order_laws.specs.Tables.{IsTable, look}
 use Rattle.word_layout.specs.Words.{at, root_word, left_word, right_word, item_at, Nodes, none, fork, items, Leads, Holds, Reaches, by_left, by_right, InUse, listed}
 use Rattle.latch_core.specs.Sequences.{generation_of, stable_copy_of}
-use Rattle.latch_core.specs.Attempts.{Outcome, Answer, Reading, Load, Ends, WalkEnd, AtItem, AtEmptyLink, Stuck, outcome, last_load, after_item, visit, walk, attempt, rest_after, Stand, IsAttempt}
+use Rattle.latch_core.specs.Attempts.{Outcome, Answer, Reading, Load, Ends, WalkEnd, AtItem, AtEmptyLink, Stuck, outcome, last_load, after_item, visit, walk, attempt, rest_after, Stand, IsAttempt, Again}
 use Rattle.word_layout.proofs.HoldsLemmas.{size, size_items, size_listed}
 use Rattle.rb_trees.specs.Trees.{IsBalanced, depth}
 use Rattle.rb_trees.proofs.DepthLemmas.{balanced_depth}
 use Rattle.order_laws.proofs.TableLemmas.{parted, look_less, look_greater, look_equal}
 use Rattle.latch_core.specs.Whole.{outcome_in, loads_in}
-use Rattle.latch_core.proofs.ReadingLemmas.{AllLoads, Within, ends_as, loads_so_far, loads_below, within_length, within_below}
+use Rattle.latch_core.proofs.ReadingLemmas.{AllLoads, Within, ends_as, loads_so_far, loads_below, within_length, stand_push}
+use Rattle.latch_core.specs.Invariants.{IsStanding}
 
 -- how a walk ended, by what was looked up
 abbrev pub found_of : Option Item → WalkEnd
@@ -86,31 +88,27 @@ module _ {K : Type 0} (o : Order K) (m : List ℕ) (n : ℕ) (k : K) (s : ℕ) w
       ] refl
 
 -- whatever the words hold, a walk ends
-pub walk_within : {K : Type 0} (o : Order K) (n : ℕ) (k : K) (s left link b : ℕ) → 4 * left + 1 ≤ b → Within b (walk o n k s left link)
-walk_within o n k s left zero zero le = absurd (omega arith)
-walk_within o n k s left zero (suc b) le = λ t. tt
-walk_within o n k s zero (suc i) zero le = absurd (omega arith)
-walk_within o n k s zero (suc i) (suc b) le = λ t. tt
-walk_within o n k s (suc left) (suc i) zero le = absurd (omega arith)
-walk_within o n k s (suc left) (suc i) (suc zero) le = absurd (omega arith)
-walk_within o n k s (suc left) (suc i) (suc (suc zero)) le = absurd (omega arith)
-walk_within o n k s (suc left) (suc i) (suc (suc (suc zero))) le = absurd (omega arith)
-walk_within o n k s (suc left) (suc i) (suc (suc (suc (suc b)))) le =
-    elim (nat_lt i n) as (λ c. Within (suc (suc (suc (suc b)))) (cond c (visit o k s i (walk o n k s left)) (last_load s Stuck))) [
+pub walk_within : {K : Type 0} (o : Order K) (n : ℕ) (k : K) (s left link : ℕ) → Within (4 * left + 1) (walk o n k s left link)
+walk_within o n k s left zero = let e : suc (4 * left) ≡ 4 * left + 1 = omega arith in subst (λ b. Within b (walk o n k s left zero)) e (λ t. tt)
+walk_within o n k s zero (suc i) = λ t. tt
+walk_within o n k s (suc left) (suc i) =
+    let e : suc (suc (suc (suc (4 * left + 1)))) ≡ 4 * suc left + 1 = omega arith in
+    subst (λ b. Within b (walk o n k s (suc left) (suc i))) e
+    (elim (nat_lt i n) as (λ c. Within (suc (suc (suc (suc (4 * left + 1))))) (cond c (visit o k s i (walk o n k s left)) (last_load s Stuck))) [
       | false ↦ λ t. tt
       | true ↦ λ x y z.
-          elim (o.comp k (record { a = x; b = y; tag = z })) as (λ c. Within (suc b) (after_item s i (record { a = x; b = y; tag = z }) (walk o n k s left) c)) [
-            | Less ↦ λ p. walk_within o n k s left p b (omega arith)
+          elim (o.comp k (record { a = x; b = y; tag = z })) as (λ c. Within (suc (4 * left + 1)) (after_item s i (record { a = x; b = y; tag = z }) (walk o n k s left) c)) [
+            | Less ↦ λ p. walk_within o n k s left p
             | Equal ↦ λ p. tt
-            | Greater ↦ λ p. walk_within o n k s left p b (omega arith)
+            | Greater ↦ λ p. walk_within o n k s left p
           ]
-    ]
+    ])
 
 -- an attempt takes at most 4n + 3 loads, whatever it loads
 pub attempt_within : {K : Type 0} (o : Order K) (n : ℕ) (k : K) → Within (4 * n + 3) (attempt o n k)
 attempt_within o n k =
     let e : suc (suc (4 * n + 1)) ≡ 4 * n + 3 = omega arith in
-    subst (λ b. Within b (attempt o n k)) e (λ s p. walk_within o n k s n p (4 * n + 1) (omega arith))
+    subst (λ b. Within b (attempt o n k)) e (λ s p. walk_within o n k s n p)
 
 pub attempt_length : {K : Type 0} (o : Order K) (n : ℕ) (k : K) (v : List ℕ) (r : Reading) → rest_after (attempt o n k) v ≡ Some r → length v ≤ 4 * n + 3
 attempt_length o n k v r e = within_length (4 * n + 3) (attempt o n k) v r (attempt_within o n k) e
@@ -158,3 +156,86 @@ pub few_deep_any : (m : List ℕ) (n : ℕ) (table : List Item) (t : Nodes) → 
 few_deep_any m n table t holds good =
     let same : length (listed t) ≡ length table = omega (arith, size_listed t, size_items m t, ap length holds.listed_items) in
     subst (λ q. 2 ^ depth t ≤ (q + 1) * (q + 1)) same (balanced_depth t good)
+
+-- an answer is given only at a load of word 0 that gives the first number again
+abbrev AnswersAt : ℕ → ℕ → ℕ → Reading → Type 0
+AnswersAt s w x (Load u go) = Unit {0}
+AnswersAt s w x (Ends Again) = Unit {0}
+AnswersAt s w x (Ends (Answer i g)) = (w ≡ 0) × (x ≡ s)
+
+abbrev Closes : ℕ → Reading → Type 0
+Closes s (Load w go) = (x : ℕ) → AnswersAt s w x (go x) × Closes s (go x)
+Closes s (Ends out) = Unit {0}
+
+if_equal : (s t : ℕ) (r : Option Item) → AnswersAt s 0 t (Ends (cond (s == t) (Answer r (generation_of s)) Again)) × Unit {0}
+if_equal s t r =
+    elim (s == t) as (λ b. (s == t) ≡ b → AnswersAt s 0 t (Ends (cond b (Answer r (generation_of s)) Again)) × Unit {0}) [
+      | true ↦ λ e. ((refl, sym (eqb-true s t e)), tt)
+      | false ↦ λ e. (tt, tt)
+    ] refl
+
+closing_closes : (s : ℕ) (f : WalkEnd) → Closes s (last_load s f)
+closing_closes s Stuck t = (tt, tt)
+closing_closes s (AtItem i) t = if_equal s t (Some i)
+closing_closes s AtEmptyLink t = if_equal s t None
+
+module _ {K : Type 0} (o : Order K) (n : ℕ) (k : K) (s : ℕ) where
+  not_answer : (w x left link : ℕ) → AnswersAt s w x (walk o n k s left link)
+  not_answer w x left zero = tt
+  not_answer w x zero (suc i) = tt
+  not_answer w x (suc left) (suc i) =
+      elim (nat_lt i n) as (λ b. AnswersAt s w x (cond b (visit o k s i (walk o n k s left)) (last_load s Stuck))) [ true ↦ tt | false ↦ tt ]
+
+  turn_answers : (w x i : ℕ) (y : Item) (left : ℕ)
+      → AnswersAt s w x (after_item s i y (walk o n k s left) (o.comp k y))
+  turn_answers w x i y left = elim (o.comp k y) as (λ c. AnswersAt s w x (after_item s i y (walk o n k s left) c)) [ Less ↦ tt | Equal ↦ tt | Greater ↦ tt ]
+
+  walk_closes : (left link : ℕ) → Closes s (walk o n k s left link)
+  walk_closes left zero = closing_closes s AtEmptyLink
+  walk_closes zero (suc i) = closing_closes s Stuck
+  walk_closes (suc left) (suc i) =
+      elim (nat_lt i n) as (λ b. Closes s (cond b (visit o k s i (walk o n k s left)) (last_load s Stuck))) [
+        | false ↦ closing_closes s Stuck
+        | true ↦ λ a. (
+          tt,
+          λ b. (
+            tt,
+            λ tag.
+                let y : Item = record { a = a; b = b; tag = tag } in (
+                  turn_answers _ tag i y left,
+                  elim (o.comp k y) as (λ c. Closes s (after_item s i y (walk o n k s left) c)) [
+                    | Less ↦ λ p. (not_answer _ p left p, walk_closes left p)
+                    | Equal ↦ closing_closes s (AtItem y)
+                    | Greater ↦ λ p. (not_answer _ p left p, walk_closes left p)
+                  ],
+                ),
+          ),
+        )
+      ]
+
+closes_rest : (s : ℕ) (r : Reading) (v : List ℕ) (r' : Reading) → Closes s r
+    → rest_after r v ≡ Some r' → Closes s r'
+closes_rest s r [] r' h e = let same : r ≡ r' = cc in subst (Closes s) same h
+closes_rest s (Load w go) (x ∷ v) r' h e = closes_rest s (go x) v r' (h x).1 e
+closes_rest s (Ends out) (x ∷ v) r' h e = absurd (cc)
+
+-- one load more
+pub standing_push : (m : List ℕ) (go0 : ℕ → Reading) (v : List ℕ) (word : ℕ) (go : ℕ → Reading)
+    → rest_after (Load 0 go0) v ≡ Some (Load word go) → IsStanding m (Load 0 go0) v
+    → IsStanding m (Load 0 go0) (v ++ at m word ∷ [])
+standing_push m go0 [] word go e st =
+    let z : word ≡ 0 = cc in
+    (let f : at m word ≡ at m 0 = ap (at m) z in omega arith, λ is. (sym is, tt))
+standing_push m go0 (s ∷ v) word go e st = (st.0, λ is. stand_push m (Load 0 go0) (s ∷ v) word go (at m word) e (st.1 is) refl)
+
+-- an answer: its first number is the sequence
+pub answer_first : {K : Type 0} (o : Order K) (n : ℕ) (k : K) (m : List ℕ) (v : List ℕ) (word : ℕ)
+    (go : ℕ → Reading) (i : Option Item) (g : ℕ)
+    → rest_after (attempt o n k) v ≡ Some (Load word go) → IsStanding m (attempt o n k) v
+    → go (at m word) ≡ Ends (Answer i g) → Stand m (attempt o n k) v
+answer_first o n k m [] word go i g e st is = tt
+answer_first o n k m (s ∷ v) word go i g e st is =
+    let first : Closes s (Load (root_word (stable_copy_of s)) (walk o n k s n)) = λ p. (not_answer o n k s _ p n p, walk_closes o n k s n p) in
+    let at_end = (closes_rest s (Load (root_word (stable_copy_of s)) (walk o n k s n)) v (Load word go) first e (at m word)).0 in
+    let both : AnswersAt s word (at m word) (Ends (Answer i g)) = subst (AnswersAt s word (at m word)) is at_end in
+    st.1 (sym both.1 ∙ ap (at m) both.0)

@@ -31,15 +31,11 @@ may_widen w l e =
     let smaller = or_parts (nat_lt (capacity_of l) w.capacity) (nat_lt (limit_of l) w.limit) tests.1.0 in
     (nil-from_length w.stores_left tests.0, ltb-false (capacity_of l) w.capacity smaller.0, ltb-false (limit_of l) w.limit smaller.1)
 
--- the sequence is in the first word, which stays
-same_sequence : (n n' : ℕ) (m : List ℕ) → at (wider_words n n' m) 0 ≡ at m 0
-same_sequence n n' m = at_wider n n' m 0
-
 shallow_wider : (n n' : ℕ) (m : List ℕ) → n ≤ n' → IsShallow n m → IsShallow n' (wider_words n n' m)
 shallow_wider n n' m le is = (
   is.0,
   is.1,
-  subst (λ q. Holds (wider_words n n' m) n' (stable_copy_of q) is.0 is.1) (sym (same_sequence n n' m)) (holds_wider m n n' (stable_copy_of (at m 0)) is.0 is.1 le is.2),
+  subst (λ q. Holds (wider_words n n' m) n' (stable_copy_of q) is.0 is.1) (sym (at_wider n n' m 0)) (holds_wider m n n' (stable_copy_of (at m 0)) is.0 is.1 le is.2),
   is.3,
 )
 
@@ -50,7 +46,7 @@ widened_pictures w l idle le latch p rest =
     let n' = capacity_of l in
     let m = latch.words in
     let now = rest_now w latch p idle in
-    let same = same_sequence n n' m in
+    let same = at_wider n n' m 0 in
     let shallow : IsShallow n m = subst (λ ss. StaysShallow n m ss) idle p.shallow in
     subst (λ ss. RepresentsLatch (record { capacity = n'; limit = limit_of l; sequence = w.sequence; table = w.table; zero_tree = w.zero_tree; one_tree = w.one_tree; stores_left = ss }) (widened_latch n n' latch)) (sym idle)
     (record {
@@ -72,7 +68,7 @@ widened_pictures w l idle le latch p rest =
 pub widened_sound : {K : Type 0} (o : Order K) (n n' start : ℕ) (us : List Update) (l : Latch) → n ≤ n' → IsSound o n start us l → IsSound o n' start us (widened_latch n n' l)
 widened_sound o n n' start us l le is =
     let m = l.words in
-    let same = same_sequence n n' m in
+    let same = at_wider n n' m 0 in
     let more = table_wider m n n' (stable_copy_of (at m 0)) (table_at o start us (generation_of (at m 0))) le is.current in
     record {
       even = is.even;
@@ -86,7 +82,7 @@ widened_sound o n n' start us l le is =
 -- words of which the stable copy holds what was shown hold it with more nodes
 pub latched_wider : {K : Type 0} (o : Order K) (n n' base : ℕ) (m : List ℕ) (known : List Update) → n ≤ n' → IsLatched o n base m known → IsLatched o n' base (wider_words n n' m) known
 latched_wider o n n' base m known le is =
-    let same = same_sequence n n' m in
+    let same = at_wider n n' m 0 in
     let table = replay o [] known in
     record {
       sized = length_wider n n' m le is.sized;

@@ -1,9 +1,9 @@
--- What the writer's core pictures, from one call to the next.
-use Rattle.std.proofs.Common.{◌≡◌, ℕ, suc, ◌+◌, ◌*◌, ◌%◌, ◌<◌, true, false, cond, List, [], ◌∷◌, length, drop, Some, None, refl, sym, ◌∙◌, ap, subst, ⊎_elim, arith, get_or-set_other, get_or-set_same}
+-- One step of a plan, and what the writer's core pictures, from one call to the next.
+use Rattle.std.proofs.Common.{◌≡◌, ℕ, suc, ◌+◌, ◌*◌, ◌%◌, ◌<◌, true, false, cond, List, [], ◌∷◌, length, drop, Some, None, refl, sym, ◌∙◌, ap, subst, ⊎_elim, arith, get_or-set_other, get_or-set_same, ◌-◌}
 use Rattle.std.specs.Prelude.{◌==◌, MatchOption, is_some, nat_lt, slice_get, Contains, slice_set}
-use Rattle.std.proofs.lemmas.Bool.{lt-ltb, cases_eq, eq-eqb, ne_eqb}
+use Rattle.std.proofs.lemmas.Bool.{lt-ltb, cases_eq, eq-eqb, ne_eqb, eqb-true}
 use Rattle.order_laws.specs.Orders.{Order}
-use Rattle.facts.proofs.Lists.{first_and_rest}
+use Rattle.facts.proofs.Lists.{first_and_rest, nil-from_length}
 use Rattle.std.proofs.lemmas.List.{get_or-replicate, length-replicate}
 use Rattle.word_layout.specs.declared.layouts.Layout.{Layout}
 use Rattle.word_layout.specs.Layouts.{capacity_of}
@@ -18,12 +18,44 @@ use Rattle.table_updates.specs.Updates.{refusal_for, after}
 use Rattle.latch_core.specs.Latches.{PendingUpdate, Latch, IsWriterStep, latch_after_step, latch_with_update, opening_latch}
 use Rattle.latch_core.specs.Plans.{IsPlan, update_stores}
 use Rattle.latch_core.specs.WriterViews.{WriterView}
-use Rattle.latch_core.specs.Writers.{IsMemoryAtRest, StaysShallow, RepresentsLatch, next_store, why_refused, sequence_after, writer_after_step, opening_writer}
-use Rattle.latch_core.proofs.StoreOrderLemmas.{Leading, update_plan, update_zero, update_one, update_sequence}
-use Rattle.latch_core.proofs.ShallowLemmas.{update_shallow, opening_shallow}
+use Rattle.latch_core.specs.Writers.{IsMemoryAtRest, StaysShallow, RepresentsLatch, next_store, why_refused, sequence_after, writer_after_step, opening_writer, has_pending}
+use Rattle.latch_core.proofs.StoreOrderLemmas.{Leading, update_plan, update_zero, update_one, update_sequence, update_shallow, opening_shallow}
+use Rattle.latch_core.proofs.TestLemmas.{all_tests, none_holds}
 use Rattle.rb_trees.proofs.DepthLemmas.{balanced_none}
-use Rattle.latch_core.proofs.PlanLemmas.{plan_step, plan_left}
-use Rattle.latch_core.specs.Writers.{has_pending}
+
+-- a plan's first store is a step that the writer may make, after which the rest is the plan
+pub plan_step : (n : ℕ) (l : Latch) (h : PendingUpdate) (s : Store) (xs : List Store) → IsPlan n l xs → l.pending ≡ Some h → slice_get xs 0 ≡ Some s → IsPlan n (latch_after_step l h s) (drop 1 xs)
+plan_step n l h s xs plan pending is =
+    let p = subst (IsPlan n l) (first_and_rest xs s is) plan in
+    let same : p.0 ≡ h = (let e = p.1 in cc) in
+    subst (λ g. IsPlan n (latch_after_step l g s) (drop 1 xs)) same p.3
+
+-- how many steps are left, by what is pending after one
+at_last : (left : ℕ) (g : PendingUpdate) → cond (left == 1) None (Some g) ≡ None → left ≡ 1
+at_last left g =
+    elim (left == 1) as (λ b. (left == 1) ≡ b → cond b None (Some g) ≡ None → left ≡ 1) [
+      | true ↦ λ e f. eqb-true left 1 e
+      | false ↦ λ e f. absurd (cc)
+    ] refl
+
+before_last : (left : ℕ) (g k : PendingUpdate) → cond (left == 1) None (Some g) ≡ Some k → g ≡ k
+before_last left g k =
+    elim (left == 1) as (λ b. cond b None (Some g) ≡ Some k → g ≡ k) [
+      | true ↦ λ f. absurd (cc)
+      | false ↦ λ f. cc
+    ]
+
+pub plan_left : (n : ℕ) (l : Latch) (h : PendingUpdate) (ss : List Store) → IsPlan n l ss → l.pending ≡ Some h → h.steps_left ≡ length ss
+plan_left n l h [] plan e = absurd (cc)
+plan_left n l h (s ∷ []) plan e =
+    let same : plan.0 ≡ h = (let f = plan.1 in cc) in
+    ap (λ (g : PendingUpdate). g.steps_left) (sym same) ∙ at_last plan.0.steps_left _ plan.3
+plan_left n l h (s ∷ t ∷ ss) plan e =
+    let same : plan.0 ≡ h = (let f = plan.1 in cc) in
+    let rest = plan_left n (latch_after_step l plan.0 s) plan.3.0 (t ∷ ss) plan.3 plan.3.1 in
+    let g = before_last plan.0.steps_left _ plan.3.0 plan.3.1 in
+    let less : plan.0.steps_left - 1 ≡ length (t ∷ ss) = ap (λ (k : PendingUpdate). k.steps_left) g ∙ rest in
+    ap (λ (k : PendingUpdate). k.steps_left) (sym same) ∙ (let two : plan.0.steps_left ≡ suc (suc (length ss)) = omega arith in two)
 
 -- the next store, and whether there is a pending update
 plan_next : (n : ℕ) (l : Latch) (xs : List Store) → IsPlan n l xs → MatchOption (slice_get xs 0) (l.pending ≡ None) (λ s. (h : PendingUpdate) × (l.pending ≡ Some h) × IsWriterStep n l h s)
@@ -136,16 +168,9 @@ opening_pictures l start even =
       };
       table = refl;
       sequence = refl;
-      shallow = opening_shallow n start even [] refl;
+      shallow = opening_shallow n start even;
     }
 
 -- an update begins at rest
 pub rests_before : {K : Type 0} (o : Order K) (w : WriterView) (u : Update) → why_refused o w u ≡ None → w.stores_left ≡ []
-rests_before o w u accepted = none_left w.stores_left refl
-  where
-    none_left : (left : List Store) → w.stores_left ≡ left → left ≡ []
-    none_left [] is = refl
-    none_left (s ∷ ss) is =
-        let busy : has_pending w ≡ true = lt-ltb 0 (length w.stores_left) (omega (arith, ap (λ (z : List Store). length z) is)) in
-        let no : refusal_for o w.capacity w.limit true w.table w.sequence u ≡ None = ap (λ b. refusal_for o w.capacity w.limit b w.table w.sequence u) (sym busy) ∙ accepted in
-        absurd (cc)
+rests_before o w u accepted = nil-from_length w.stores_left (none_holds (all_tests o w.capacity w.limit (has_pending w) w.table w.sequence u) accepted).0

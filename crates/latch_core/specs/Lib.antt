@@ -25,10 +25,8 @@ pub mod Replacements
 pub mod Whole
 -- what a reader's core has still to do, and how the values that it takes lead it on
 pub mod Cores
--- what a writer's core shows
+-- what a writer's core and its list of stores show
 pub mod WriterViews
--- what a writer's list of stores shows
-pub mod PlanViews
 -- a latch in words that readers share, and what they have loaded of it
 pub mod Latched
 -- attempts whose loads are steps of somebody who learns by them

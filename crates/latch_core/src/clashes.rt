@@ -18,15 +18,10 @@ pub fn in_order(alloc: Global, words: &[u64]) -> Result<Vec<u64>, AllocError>
     ensures permutation { IfOk result (λ sorted. IsPermutation words.now sorted.items) }
     ensures sorted { IfOk result (λ sorted. IsNonDecreasing sorted.items) }
 {
-    let mut sorted = copied(alloc, words)?;
+    let mut sorted = Vec::new(alloc);
+    sorted.extend_from_slice(words)?;
     sorted.sort_unstable();
     Ok(sorted)
-}
-
-fn copied(alloc: Global, words: &[u64]) -> Result<Vec<u64>, AllocError>
-    ensures { IfOk result (λ copy. copy.items ≡ words.now) }
-{
-    words.to_vec(alloc)
 }
 
 /// Whether some number is in the list twice. Only neighbours are compared if the list is
@@ -43,6 +38,7 @@ pub fn some_twice(words: &[u64], rising: bool) -> bool
 }
 
 // Whether a sorted list has two equal neighbours, as it has if some number is in it twice.
+#[tactic(auto, using(crate::proofs::ClashLemmas::twice_on))]
 fn has_equal_neighbours(words: &[u64]) -> bool
     requires sorted { IsNonDecreasing words.now }
     ensures { result ≡ some_twice words.now }
@@ -74,15 +70,10 @@ fn by_first_word(alloc: Global, items: &[Item]) -> Result<Vec<Item>, AllocError>
     ensures permutation { IfOk result (λ sorted. IsPermutation items.now sorted.items) }
     ensures sorted { IfOk result (λ sorted. IsNonDecreasingBy (λ (i : Item). i.a) sorted.items) }
 {
-    let mut sorted = copied_items(alloc, items)?;
+    let mut sorted = Vec::new(alloc);
+    sorted.extend_from_slice(items)?;
     sorted.sort_unstable_by_key(|i| i.a);
     Ok(sorted)
-}
-
-fn copied_items(alloc: Global, items: &[Item]) -> Result<Vec<Item>, AllocError>
-    ensures { IfOk result (λ copy. copy.items ≡ items.now) }
-{
-    items.to_vec(alloc)
 }
 
 // Whether two neighbours are not apart in a list that is sorted by first words, as they are if

@@ -26,6 +26,7 @@ use order_laws::TreeOrder;
 /// An attempt whose values all are in one memory gives what the key finds in the table of the
 /// stable copy, with the generation of the sequence, and takes at most four loads for each item and
 /// three.
+#[tactic(auto, using(crate::proofs::WalkLemmas::attempt_answers, crate::proofs::WalkLemmas::attempt_loads))]
 pub fn attempt_answers<O: TreeOrder>()
     ensures { (m : List ℕ) (n : ℕ) (k : O.Key) (table : List Item) (tree : Nodes)
         → (values : List ℕ) (out : Outcome)
@@ -37,6 +38,7 @@ pub fn attempt_answers<O: TreeOrder>()
 
 /// An attempt whose values so far all are in one memory, and that is not at its end, has taken
 /// fewer than that.
+#[tactic(auto, using(crate::proofs::WalkLemmas::attempt_below))]
 pub fn attempt_is_short<O: TreeOrder>()
     ensures { (m : List ℕ) (n : ℕ) (k : O.Key) (table : List Item) (tree : Nodes)
         → (values : List ℕ) (word : ℕ) (go : ℕ → Reading)
@@ -49,6 +51,7 @@ pub fn attempt_is_short<O: TreeOrder>()
 /// If the stable copy's tree is red-black, an attempt takes at most four loads for each node on
 /// a way down and three, and no way down is longer than twice the binary logarithm of the number of
 /// items and one.
+#[tactic(auto, using(crate::proofs::WalkLemmas::attempt_depth, crate::proofs::WalkLemmas::attempt_below_depth, crate::proofs::WalkLemmas::few_deep_any))]
 pub fn attempt_is_shallow<O: TreeOrder>()
     ensures deep { (m : List ℕ) (n : ℕ) (table : List Item) (tree : Nodes)
         → Holds m n (stable_copy_of (at m 0)) table tree → IsBalanced tree
@@ -65,6 +68,7 @@ pub fn attempt_is_shallow<O: TreeOrder>()
 {}
 
 /// Whatever values an attempt takes, it ends: after at most four loads for each node and three.
+#[tactic(auto, using(crate::proofs::WalkLemmas::attempt_length, crate::proofs::ReaderLemmas::values_before))]
 pub fn attempt_ends<O: TreeOrder>()
     ensures whole { (n : ℕ) (k : O.Key) (values : List ℕ) (rest : Reading)
         → rest_after (attempt O.order n k) values ≡ Some rest → length values ≤ 4 * n + 3 }
@@ -76,6 +80,7 @@ pub fn attempt_ends<O: TreeOrder>()
 /// While the sequence is what an attempt read first, each value that it loaded still is in its
 /// word: each step that the writer may make keeps this, and so does each load of the word that the
 /// attempt asks for.
+#[tactic(auto, using(crate::proofs::WalkLemmas::standing_push))]
 pub fn loaded_values_stand<O: TreeOrder>()
     ensures step { (n : ℕ) (k : O.Key) (l : Latch) (h : PendingUpdate) (s : Store) (values : List ℕ)
         → 0 < length l.words → IsWriterStep n l h s
@@ -88,6 +93,7 @@ pub fn loaded_values_stand<O: TreeOrder>()
 {}
 
 /// A step of the writer leaves the sequence as it is, or adds 1.
+#[tactic(auto, using(crate::proofs::StepLemmas::sequence_after))]
 pub fn sequence_never_falls()
     ensures { (n : ℕ) (l : Latch) (h : PendingUpdate) (s : Store) → 0 < length l.words
         → IsWriterStep n l h s
@@ -114,6 +120,7 @@ pub fn latch_stays_sound<O: TreeOrder>()
 
 /// A table whose items are replaced by a list that rises is that list, if nothing is against
 /// the update. Replaced by itself, it is left alone: the update is the batch of no entries.
+#[tactic(auto, using(crate::proofs::ReplacementLemmas::replaced_table, crate::proofs::ReplacementLemmas::replaced_by_itself))]
 pub fn a_replacement_leaves_its_items<O: TreeOrder>()
     ensures table { (n limit seq : ℕ) (table items : List Item)
         → IsTable O.order table → length table ≤ n → is_rising O.order items ≡ true

@@ -11,10 +11,8 @@ pub fn all_nodes(alloc: Global, capacity: u32) -> Result<Vec<u32>, AllocError>
     ensures all { IfOk result (λ nodes. AreAllNodes capacity nodes.items) }
     ensures room { IfOk result (λ nodes. capacity ≤ vec_capacity nodes) }
 {
-    let mut nodes = Vec::with_capacity(alloc, capacity as usize)?;
-    for node in 0..capacity {
-        nodes.push_reserved(node);
-    }
+    let mut nodes = Vec::new(alloc);
+    add_nodes(&mut nodes, 0, capacity)?;
     Ok(nodes)
 }
 

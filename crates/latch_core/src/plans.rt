@@ -21,7 +21,7 @@ pub struct Plan {
 
 impl Model for Plan {
     ghost use Rattle.std.specs.Prelude.{◌≤◌, ◌-◌, vec_len, vec_capacity};
-    ghost use Rattle.latch_core.specs.PlanViews.{PlanView, plan_code, plan_view};
+    ghost use Rattle.latch_core.specs.WriterViews.{PlanView, plan_code, plan_view};
 
     ghost Value = { PlanView };
 

@@ -4,7 +4,7 @@ ghost use Rattle.std.specs.Prelude.{◌≡◌, false, ◌↔◌, ◌+◌, ◌*�
 ghost use Rattle.std.specs.Prelude.{IsTrue, IsSome, IfSome, IfOk, IfErr, OnOk, OnErr, length};
 ghost use Rattle.std.specs.Prelude.{List, vec_len, vec_capacity, IfNone, OnSome, All};
 ghost use Rattle.order_laws.specs.declared.items.Item.{Item};
-ghost use Rattle.order_laws.specs.Tables.{has, without_all};
+ghost use Rattle.order_laws.specs.Tables.{has, meets, without_all};
 ghost use Rattle.word_layout.specs.declared.stores.Store.{Store};
 ghost use Rattle.word_layout.specs.Layouts.{capacity_of, limit_of};
 ghost use Rattle.word_layout.specs.Limits.{most_nodes};
@@ -151,6 +151,7 @@ impl<O: TreeOrder> WriterCore<O> {
     /// then by [`Refusal::BadItem`], then by [`Refusal::Overlap`] or [`Refusal::NoSuchItem`], by
     /// [`Refusal::Full`], by [`Refusal::SequenceSpent`] and last by [`Refusal::OutOfMemory`]; a
     /// refusal changes nothing.
+    #[tactic(auto, using(crate::proofs::WriterLemmas::refuses_pictured))]
     pub fn begin_from(&mut self, u: &Update) -> Result<u64, Refusal>
         ensures accepted { IfOk result (λ left. why_refused O.order self.old u.now ≡ None) }
         ensures begun { IfOk result (λ left. (left ≡ length self.new.stores_left)
@@ -231,13 +232,21 @@ impl<O: TreeOrder> WriterCore<O> {
     {
         if !O::valid(item) {
             Some(Refusal::BadItem)
-        } else if self.shape.meets(item, &[]) {
+        } else if self.meets(item) {
             Some(Refusal::Overlap)
-        } else if self.shape.len() == self.layout.capacity() {
+        } else if self.len() == self.layout().capacity() {
             Some(Refusal::Full)
         } else {
             None
         }
+    }
+
+    /// Whether an item of the table is not apart from this one.
+    #[tactic(auto, using(order_laws::proofs::PlaceLemmas::without_none))]
+    fn meets(&self, item: &Item) -> bool
+        ensures { result ≡ meets O.order item.now self.now.table }
+    {
+        self.shape.meets(item, &[])
     }
 
     /// Why a first word is not to be erased, if it is not.
@@ -255,6 +264,7 @@ impl<O: TreeOrder> WriterCore<O> {
     /// Why a batch is not to be carried out, if it is not.
     ///
     /// Its first words are tested in order, and as they came if there is no memory for a copy.
+    #[tactic(auto, using(crate::proofs::ClashLemmas::tests_moved))]
     fn batch_test(&self, erase: &[u64], insert: &[Item]) -> Option<Refusal>
         ensures { result ≡ failed_test O.order self.now.capacity self.now.table
             (Update.Batch erase.now insert.now) }
@@ -413,6 +423,7 @@ impl<O: TreeOrder> WriterCore<O> {
     /// Its word lies in the memory. On any words that the core pictures it is a step that a writer
     /// may make.
     #[inline(always)]
+    #[tactic(auto, using(crate::proofs::WriterLemmas::next_may))]
     pub fn next(&self) -> Option<Store>
         ensures which { result ≡ next_store self.now }
         ensures some { IsSome result ↔ (0 < length self.now.stores_left) }
@@ -483,6 +494,7 @@ impl<O: TreeOrder> WriterCore<O> {
     }
 
     /// How many stores are left until the pending update is at its end; 0 if none is pending.
+    #[tactic(auto, using(crate::proofs::WriterLemmas::remaining_pictured))]
     pub fn remaining(&self) -> u64
         ensures count { result ≡ length self.now.stores_left }
         ensures left { (l : Latch) (h : PendingUpdate) → RepresentsLatch self.now l
@@ -517,13 +529,6 @@ impl<O: TreeOrder> WriterCore<O> {
             → result ≡ length l.newest_table }
     {
         self.shape.len()
-    }
-
-    /// Whether the table after all accepted updates has no item.
-    pub fn is_empty(&self) -> bool
-        ensures { IsTrue result ↔ (self.now.table ≡ []) }
-    {
-        self.len() == 0
     }
 
     /// What the table differs in from other items, before any is given: whoever keeps the

@@ -21,7 +21,7 @@ use Rattle.latch_core.specs.Whole.{outcome_in, loads_in}
 use Rattle.latch_core.specs.Writers.{RepresentsLatch, IsShallow}
 use Rattle.latch_core.proofs.ReadingLemmas.{rest_push}
 use Rattle.latch_core.proofs.WalkLemmas.{attempt_ran, attempt_count, attempt_depth_count, few_deep_any}
-use Rattle.latch_core.proofs.ShallowLemmas.{shallow_tree, stays_now}
+use Rattle.latch_core.proofs.StoreOrderLemmas.{shallow_tree, stays_now}
 use Rattle.rb_trees.specs.Trees.{depth}
 use Rattle.latch_steps.specs.declared.events.Event.TheVariants.{Start, Read}
 use Rattle.latch_steps.specs.declared.replies.Returned.{Returned}

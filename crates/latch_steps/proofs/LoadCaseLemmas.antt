@@ -12,8 +12,7 @@ use Rattle.latch_core.specs.Histories.{current_table}
 use Rattle.latch_core.specs.Attempts.{Answer, Again, Reading, Load, Ends, attempt, rest_after, Stand}
 use Rattle.latch_core.specs.Invariants.{IsStanding, IsSound}
 use Rattle.latch_core.proofs.ReadingLemmas.{rest_push, stand_push}
-use Rattle.latch_core.proofs.WalkLemmas.{attempt_answers}
-use Rattle.latch_core.proofs.AttemptLemmas.{standing_push, answer_first}
+use Rattle.latch_core.proofs.WalkLemmas.{attempt_answers, standing_push, answer_first}
 use Rattle.latch_steps.specs.Runs.{PendingLookup, Moment}
 use Rattle.latch_steps.specs.Steps.{AfterLoad, Goes, Retries, Returns, with_value, next_attempt, return_of, after_value, load_left, after_load}
 

@@ -16,7 +16,7 @@ use Rattle.latch_core.specs.Histories.{current_table}
 use Rattle.latch_core.specs.Invariants.{IsSound, IsPendingOf}
 use Rattle.latch_core.specs.Latches.{PendingUpdate, Latch}
 use Rattle.latch_core.specs.Attempts.{attempt, Stand}
-use Rattle.latch_core.proofs.SoundLemmas.{sound_opening}
+use Rattle.latch_core.proofs.SoundLemmas.{sound_opening, current_at_rest}
 use Rattle.latch_core.proofs.WalkLemmas.{attempt_loads}
 use Rattle.latch_steps.specs.declared.commands.Command.{Command}
 use Rattle.latch_steps.specs.declared.commands.Command.TheVariants.{Begin as BeginCommand, Write as WriteCommand, WriteFlip, WriteEnd, Start as StartCommand, Read as ReadCommand}
@@ -29,7 +29,6 @@ use Rattle.latch_steps.specs.Expands.{event_of, most_of, Repeats}
 use Rattle.latch_steps.specs.Plain.{IsPlainEvent, IsPlain, ArePlain, IsLookAfter, IsLookReply, AreLooksAfter}
 use Rattle.latch_steps.proofs.LoadCaseLemmas.{IsGoing, none_loaded, by_load}
 use Rattle.latch_steps.proofs.LatchLemmas.{step_sound}
-use Rattle.latch_core.proofs.RestLemmas.{current_at_rest}
 
 -- a pending lookup at its first attempt, since whose start the writer has had no pending update
 record IsAlone {K : Type 0} (o : Order K) (n : ℕ) (latch : Latch) (l : PendingLookup K) : Type 0 where

@@ -7,7 +7,7 @@ use Rattle.order_laws.specs.Orders.{Order}
 use Rattle.word_layout.specs.Layouts.{capacity_of}
 use Rattle.latch_core.specs.Latches.{PendingUpdate, Latch}
 use Rattle.latch_core.specs.Writers.{IsShallow}
-use Rattle.latch_core.proofs.ShallowLemmas.{stays_now}
+use Rattle.latch_core.proofs.StoreOrderLemmas.{stays_now}
 use Rattle.latch_steps.specs.declared.commands.Command.{Command}
 use Rattle.latch_steps.specs.declared.commands.Command.TheVariants.{Read as ReadCommand}
 use Rattle.latch_steps.specs.declared.events.Event.{Event}

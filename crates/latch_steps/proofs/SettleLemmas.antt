@@ -6,7 +6,7 @@ use Rattle.word_layout.specs.Layouts.{capacity_of, limit_of}
 use Rattle.word_layout.specs.declared.stores.Store.{Store}
 use Rattle.table_updates.specs.declared.updates.Update.{Update}
 use Rattle.latch_core.specs.Invariants.{IsSound}
-use Rattle.latch_core.proofs.RestLemmas.{rest_is_current}
+use Rattle.latch_core.proofs.SoundLemmas.{rest_is_current}
 use Rattle.latch_steps.specs.declared.events.Event.{Event}
 use Rattle.latch_steps.specs.declared.events.Event.TheVariants.{Begin, Write, Start, Read}
 use Rattle.latch_steps.specs.declared.replies.Reply.{Reply}

@@ -30,7 +30,7 @@ use Rattle.latch_steps.proofs.LatchLemmas.{KeepsLatch, read_keeps, start_keeps}
 use Rattle.latch_steps.proofs.SafeStepLemmas.{IsWorld, step_leads}
 use Rattle.latch_core.proofs.SoundLemmas.{gen_within}
 use Rattle.latch_core.proofs.WalkLemmas.{attempt_below, attempt_below_depth, few_deep_any}
-use Rattle.latch_core.proofs.ShallowLemmas.{shallow_tree}
+use Rattle.latch_core.proofs.StoreOrderLemmas.{shallow_tree}
 use Rattle.rb_trees.specs.Trees.{depth}
 use Rattle.latch_steps.specs.Near.{AreShallow, IsDepth, AreNear}
 

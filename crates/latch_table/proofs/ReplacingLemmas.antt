@@ -17,7 +17,7 @@ use Rattle.latch_core.specs.WriterViews.{WriterView}
 use Rattle.latch_core.specs.Writers.{IsMemoryAtRest}
 use Rattle.word_layout.specs.Stores.{words_after_all}
 use Rattle.latch_core.proofs.ReplacementLemmas.{tells_both, replaced_table, table_rises}
-use Rattle.latch_core.proofs.RestLemmas.{table_at_rest}
+use Rattle.latch_core.proofs.SoundLemmas.{table_at_rest}
 use Rattle.latch_table.specs.declared.knowledge.Knowledge.{Knowledge}
 use Rattle.latch_table.specs.declared.knowledge.WriterKnowledge.{WriterKnowledge}
 use Rattle.latch_table.specs.Seats.{writer_of, writer_knowledge}

@@ -26,7 +26,7 @@ use Rattle.engines.specs.LoadedWorlds.{HoldsBelow, AreInsertsOf}
 use Rattle.modules.proofs.NumberedItemLemmas.{has_addresses, is_apart_from, none_overlap, some_left}
 use Rattle.modules.proofs.LoadedItemLemmas.{LoadsItems, erases_none, inserts_accepted, inserts_these, is_given, loads_items, none_held}
 use Rattle.engines.proofs.LoadLemmas.{in_table, one_update_more, table_length}
-use Rattle.latch_core.proofs.RestLemmas.{sequence_at_rest}
+use Rattle.latch_core.proofs.SoundLemmas.{sequence_at_rest}
 use Rattle.latch_steps.proofs.IdleLemmas.{NoLookup, same_readers, writes_keep}
 use Rattle.modules.specs.Loads.{load_of}
 use Rattle.engines.proofs.table.load.Goals as goal

@@ -10,9 +10,6 @@ use Rattle.latch_core.proofs.LoadingLemmas.{tries, few}
 use Rattle.latch_core.proofs.attempts.attempt_from.Goals as goal
 use Rattle.latch_core.proofs.attempts.attempt_from.Goals.{in-At, in-Nowhere, in_default-2, in_default-3, in_default}
 
-pub sequence-last-requires-clause-can : goal.sequence-last-requires-clause-can
-sequence-last-requires-clause-can g c = c.requires.ready.ends c.walk-walked.ensures.values _ _ c.walk-walked.ensures.leads
-
 pub overflow_add-result : goal.overflow_add-result
 overflow_add-result g c =
     let most = few (g.W.Loads.load_gives c.args.words.now) g.O.TreeOrder.order (capacity_of c.args.l) c.args.key c.args.first c.args.seat.now c.walk-walked.new.seat (found_by c.walk-walked.result.0) c.walk-walked.result.1 c.walk-walked.ensures in

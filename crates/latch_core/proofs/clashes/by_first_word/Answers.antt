@@ -1,11 +1,7 @@
-use Rattle.std.proofs.Common.{rules, subst}
-use Rattle.std.specs.List.Sorted.{IsPermutation}
+use Rattle.std.proofs.Common.{rules}
 use Rattle.std.proofs.lemmas.List.Sorted.{IsNonDecreasingBy-from_sort_by_key}
 use Rattle.order_laws.specs.declared.items.Item.{Item}
 use Rattle.latch_core.proofs.clashes.by_first_word.Goals as goal
-
-pub returns-clause-permutation : goal.returns-clause-permutation
-returns-clause-permutation c = subst (λ xs. IsPermutation xs c.sort_unstable_by_key.new.self.items) c.in_ok-sorted.ensures c.sort_unstable_by_key.ensures.permutation
 
 pub returns-clause-sorted : goal.returns-clause-sorted
 returns-clause-sorted c = IsNonDecreasingBy-from_sort_by_key (λ (i : Item). i.a) c.sort_unstable_by_key.new.self.items c.sort_unstable_by_key.ensures.sorted (λ a r q k. search rules)

@@ -1,9 +1,6 @@
-use Rattle.latch_core.proofs.SoundLemmas.{sound_opening, sound_step, sound_begin}
+use Rattle.latch_core.proofs.SoundLemmas.{sound_step, sound_begin}
 use Rattle.latch_core.proofs.WideningLemmas.{widened_sound}
 use Rattle.latch_core.proofs.laws.latch_stays_sound.Goals as goal
-
-pub returns-clause-opening : goal.returns-clause-opening
-returns-clause-opening g c = λ n start even. sound_opening g.O.TreeOrder.order n start even
 
 pub returns-clause-step : goal.returns-clause-step
 returns-clause-step g c = λ n start us l h s sound pending may. sound_step g.O.TreeOrder.order n start us l h s sound pending may

@@ -1,10 +1,8 @@
-use Rattle.std.proofs.Common.{◌≡◌, ◌≤◌, ◌+◌, ◌*◌, ◌++◌, false, length, take, sym, ◌∙◌, ap, subst, arith}
-use Rattle.order_laws.specs.Tables.{without_all}
+use Rattle.std.proofs.Common.{◌≡◌, ◌≤◌, ◌+◌, ◌*◌, ◌++◌, length, take, sym, ◌∙◌, ap, subst, arith}
 use Rattle.word_layout.specs.Layouts.{capacity_of, limit_of}
-use Rattle.rb_words.specs.Pictures.{Picture}
 use Rattle.rb_words.specs.Mirrors.{mirror_stores}
 use Rattle.table_updates.specs.declared.updates.Update.TheVariants.{Batch}
-use Rattle.table_updates.specs.Updates.{some_meet, size_of}
+use Rattle.table_updates.specs.Updates.{size_of}
 use Rattle.latch_core.specs.Plans.{update_stores}
 use Rattle.latch_core.specs.Changes.{stores_of_placed, InsertsItems}
 use Rattle.latch_core.specs.WriterViews.{WriterView}
@@ -20,21 +18,6 @@ reserve-requires-clause-size g c =
     let erase = c.args.erase.now in
     let ok = subst (λ (v : WriterView). AcceptedBatch g.O.TreeOrder.order v erase c.args.insert.now) (sym c.self.view_is) (accepted_batch g.O.TreeOrder.order c.args.self.now erase c.args.insert.now c.requires.accepted) in
     omega (arith, few_words erase s.shape.table ok.there ok.once, ok.fits, s.layout.most)
-
-pub plan_inserts-requires-clause-off : goal.plan_inserts-requires-clause-off
-plan_inserts-requires-clause-off g c =
-    let o = g.O.TreeOrder.order in
-    let erase = c.args.erase.now in
-    let insert = c.args.insert.now in
-    let ok = subst (λ (v : WriterView). AcceptedBatch o v erase insert) (sym c.self.view_is) (accepted_batch o c.args.self.now erase insert c.requires.accepted) in
-    let table = c.plan_erases.ensures.plan.2.table ∙ ap (λ (p : Picture). without_all erase p.table) c.reserve.ensures.kept in
-    subst (λ t. some_meet o insert t ≡ false) (sym table) ok.off
-
-pub close-requires-clause-room : goal.close-requires-clause-room
-close-requires-clause-room g c =
-    let none_left = ap length c.reserve.ensures.plan_kept in
-    let empty = c.in_ok-reserve.ensures.links.1 in
-    omega (arith, c.deref.ensures.len, c.plan_inserts.ensures.few, c.plan_inserts.ensures.plan_len, c.plan_inserts.ensures.plan_room_left, c.plan_erases.ensures.few, none_left, empty, c.in_ok-reserve.ensures.plan_room)
 
 planned : (g : Over) (c : After-drop-links-2 g)
     → PlansUpdate g.O.TreeOrder.order (capacity_of c.self.inside.layout) (with_room c.self.inside.shape c.reserve.new.shape.room) c.plan_inserts.new.shape
@@ -69,5 +52,5 @@ returns-clause-begun g c =
     let s = c.self.inside in
     let ok = accepted_batch g.O.TreeOrder.order c.args.self.now c.args.erase.now c.args.insert.now c.requires.accepted in
     planned_begun g.O.TreeOrder.order (capacity_of s.layout) (limit_of s.layout) s.sequence s.shape c.reserve.new.shape c.plan_inserts.new.shape c.reserve.new.shape.room (Batch c.args.erase.now c.args.insert.now) s.free.items
-    c.plan_inserts.new.free.items c.plan_inserts.ensures.plan.0 c.close.new.self.stores_left s.plan.stores_left c.args.self.now c.self.view_is ok.accepted.idle c.self.invariant.0
+    c.plan_inserts.new.free.items c.plan_inserts.ensures.plan.0 c.close.new.self.stores_left s.plan.stores_left c.args.self.now c.self.view_is ok.idle c.self.invariant.0
     c.reserve.ensures.kept (planned g c) c.stays_sound.ensures.balanced c.stays_sound-2.ensures.balanced
