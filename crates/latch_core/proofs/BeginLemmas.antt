@@ -1,27 +1,26 @@
 -- An update that begins: what was tested; an update whose items are placed in free nodes, and whose
 -- links lead both copies: the stores that are planned for it carry it out.
-use Rattle.std.proofs.Common.{◌≡◌, ℕ, ◌+◌, ◌*◌, ◌<◌, ◌≤◌, false, List, [], ◌∷◌, ◌++◌, length, None, ap, subst, arith, length-append, ◌≢◌, take, refl, sym, ◌∙◌, inl, inr}
-use Rattle.std.specs.Prelude.{All, nat_lt, insert, Contains, map}
+use Rattle.std.proofs.Common.{◌≡◌, ℕ, ◌+◌, ◌*◌, ◌<◌, ◌≤◌, List, [], ◌∷◌, ◌++◌, length, None, ap, subst, arith, length-append, ◌≢◌, take, refl, sym, ◌∙◌, inl, inr}
+use Rattle.std.specs.Prelude.{All, insert, Contains, map}
 use Rattle.std.proofs.lemmas.Bool.{ltb-false, or_parts}
 use Rattle.std.proofs.lemmas.List.Elements.{All-append, All-cons, All-from_recursion, Contains-append_right}
 use Rattle.std.proofs.Math.Nat.{mul-le-mul_right}
 use Rattle.order_laws.specs.declared.items.Item.{Item}
 use Rattle.order_laws.specs.Orders.{Order}
-use Rattle.order_laws.specs.Tables.{without_all, place_for, place_of}
+use Rattle.order_laws.specs.Tables.{place_for, place_of}
 use Rattle.word_layout.specs.declared.stores.Store.{Store}
 use Rattle.word_layout.specs.Words.{words_for, Nodes, listed, at, a_word, b_word, tag_word, Holds, IsUnreached}
 use Rattle.word_layout.specs.Stores.{AreLinkStores, words_after_all, IsItemWord}
 use Rattle.rb_words.specs.Pictures.{Picture, IsPictured}
-use Rattle.facts.proofs.Lists.{nil-from_length}
 use Rattle.word_layout.proofs.LinkLemmas.{links_in_range, same_item}
 use Rattle.table_updates.specs.declared.updates.Update.{Update}
 use Rattle.table_updates.specs.declared.updates.Update.TheVariants.{Batch, Insert, Erase}
-use Rattle.table_updates.specs.Updates.{after, size_of, some_invalid, some_missing, some_twice, some_overlap, some_meet, with_items}
+use Rattle.table_updates.specs.Updates.{after, size_of, some_missing, some_twice, with_items}
 use Rattle.latch_core.specs.Latches.{Latch}
 use Rattle.latch_core.specs.Plans.{flip_to, update_stores}
 use Rattle.latch_core.specs.FreeNodes.{AreAllNodes}
 use Rattle.latch_core.specs.WriterViews.{WriterView}
-use Rattle.latch_core.specs.Writers.{IsMemoryAtRest, HasBegun, AreInStep, why_refused}
+use Rattle.latch_core.specs.Writers.{IsMemoryAtRest, HasBegun, AreInStep, why_refused, has_pending}
 use Rattle.latch_core.proofs.TestLemmas.{NoneHolds, all_tests, none_holds}
 use Rattle.latch_core.proofs.StoreOrderLemmas.{Leading, AreFreeStores, items_unused}
 use Rattle.latch_core.proofs.NodeLemmas.{last_is_free, node_taken, node_freed}
@@ -39,34 +38,15 @@ use Rattle.rb_words.specs.Rows.{AreDistinct}
 use Rattle.latch_core.specs.Sequences.{stable_copy_of}
 use Rattle.latch_core.specs.Changes.{PlacedItems, stores_of_placed, AreInPlace, RelinksBoth, ErasesWords, InsertsItems}
 use Rattle.latch_core.proofs.StepLemmas.{after_insert, after_erase}
-use Rattle.latch_core.proofs.ChangeLemmas.{both_then, both_insert, both_erase, free_node}
+use Rattle.latch_core.proofs.ChangeLemmas.{both_then, both_insert, both_erase, few_words, free_node}
 use Rattle.rb_words.proofs.PlanLemmas.{item_put}
 
--- what an accepted batch has passed
-pub record AcceptedBatch {K : Type 0} (o : Order K) (w : WriterView) (erase : List ℕ) (insert : List Item) : Type 0 where
-  pub idle : w.stores_left ≡ []
-  pub valid : some_invalid o insert ≡ false
-  pub there : some_missing erase w.table ≡ false
-  pub once : some_twice erase ≡ false
-  pub apart : some_overlap o insert ≡ false
-  pub off : some_meet o insert (without_all erase w.table) ≡ false
-  pub fits : length w.table + length insert ≤ w.capacity
-
-pub accepted_batch : {K : Type 0} (o : Order K) (w : WriterView) (erase : List ℕ) (insert : List Item) → why_refused o w (Batch erase insert) ≡ None → AcceptedBatch o w erase insert
-accepted_batch o w erase insert e =
-    let tests = all_tests o w.capacity w.limit (nat_lt 0 (length w.stores_left)) w.table w.sequence (Batch erase insert) in
-    let h : NoneHolds tests = none_holds tests e in
+-- an accepted batch erases no more items than there are, and what it inserts fits beside them
+pub batch_is_small : {K : Type 0} (o : Order K) (w : WriterView) (erase : List ℕ) (insert : List Item) → why_refused o w (Batch erase insert) ≡ None → (length erase ≤ length w.table) × (length w.table + length insert ≤ w.capacity)
+batch_is_small o w erase insert e =
+    let h : NoneHolds (all_tests o w.capacity w.limit (has_pending w) w.table w.sequence (Batch erase insert)) = none_holds (all_tests o w.capacity w.limit (has_pending w) w.table w.sequence (Batch erase insert)) e in
     let words = or_parts (some_missing erase w.table) (some_twice erase) h.1.1.0 in
-    let items = or_parts (some_overlap o insert) (some_meet o insert (without_all erase w.table)) h.1.1.1.0 in
-    record {
-      idle = nil-from_length w.stores_left h.0;
-      valid = h.1.0;
-      there = words.0;
-      once = words.1;
-      apart = items.0;
-      off = items.1;
-      fits = ltb-false w.capacity (length w.table + length insert) h.1.1.1.1.0;
-    }
+    (few_words erase w.table words.0 words.1, ltb-false w.capacity (length w.table + length insert) h.1.1.1.1.0)
 
 -- the free node that an insert takes
 pub taken_node : (n : ℕ) (zero one : Picture) (free rest : List ℕ) (node : ℕ) (left : List Store)

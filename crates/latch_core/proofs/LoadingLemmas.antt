@@ -10,8 +10,7 @@ use Rattle.order_laws.specs.Orders.{Order}
 use Rattle.latch_core.specs.Attempts.{Reading, Load, Ends, Outcome, WalkEnd, outcome, last_load, after_item, visit, walk, attempt, attempt_after, rest_after, Stand}
 use Rattle.latch_core.specs.Loading.{Leads, IsReady, HasLoaded, HasTried}
 use Rattle.latch_core.proofs.ReadingLemmas.{rest_push, stand_push, ends_as}
-use Rattle.latch_core.proofs.ReaderLemmas.{walk_visits}
-use Rattle.latch_core.proofs.WalkLemmas.{attempt_length}
+use Rattle.latch_core.proofs.ReaderLemmas.{values_before, walk_visits}
 use Rattle.latch_core.specs.Whole.{outcome_in, loads_in}
 
 abbrev pub item_of : ℕ → ℕ → ℕ → Item
@@ -117,10 +116,8 @@ tries gives ends o n k first s m s' found loads last out h ended is = record {
 pub few : {S K : Type 0} (gives : S → ℕ → ℕ → S → Type 0) (o : Order K) (n : ℕ) (k : K) (first : ℕ) (s m : S) (found : WalkEnd) (loads : ℕ)
     → HasLoaded gives s (attempt_after o n k first) m (last_load first found) loads → loads + 1 ≤ 4 * n + 3
 few gives o n k first s m found loads h =
-    let whole : HasTried gives (λ a x b. Unit {0}) o n k first s m (outcome first 0 found) (loads + 1) = tries gives (λ a x b. Unit {0}) o n k first s m m found loads 0 (outcome first 0 found) h tt refl in
-    let most = attempt_length o n k (first ∷ (whole.values ++ whole.last ∷ [])) (Ends (outcome first 0 found)) whole.whole in
-    let counted = whole.counted in
-    let one = length-append whole.values (whole.last ∷ []) in
+    let before = values_before o n k (first ∷ h.values) 0 (λ t. Ends (outcome first t found)) (leads_rest gives s (attempt_after o n k first) h.values m (last_load first found) h.leads) in
+    let counted = h.counted in
     omega arith
 
 pub comes_to : {S K : Type 0} (o : Order K) (n : ℕ) (k : K) (words : List ℕ) (s s' : S) (out : Outcome) (loads : ℕ)

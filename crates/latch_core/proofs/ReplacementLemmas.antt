@@ -3,7 +3,7 @@
 use Rattle.std.proofs.Common.{◌≡◌, ℕ, zero, suc, ◌+◌, ◌<◌, ◌≤◌, true, false, cond, List, [], ◌∷◌, ◌++◌, length, take, drop, map, get_or, append-nil, None, Some, refl, sym, ◌∙◌, ap, subst, inl, inr, ⊎_elim, arith, append_assoc}
 use Rattle.std.specs.Prelude.{Bool, not, ◌&&◌, ◌||◌, ◌==◌, ◌⊎◌, slice_get, Contains, filter}
 use Rattle.std.specs.List.{list_all, list_any}
-use Rattle.std.proofs.lemmas.Bool.{and_parts, and_from, cases_lt, eq-eqb, eqb-true, or_parts}
+use Rattle.std.proofs.lemmas.Bool.{and_parts, and_from, cases_lt, eq-eqb, eqb-true, or_parts, false_from_ne_true, true_from_ne_false}
 use Rattle.std.proofs.lemmas.Bool.Decides.{nat_tests}
 use Rattle.std.proofs.lemmas.List.{drop_all, drop_more, take-append-drop}
 use Rattle.std.proofs.lemmas.List.Elements.{All-contains, All-contains_itself, All-filter, All-from_recursion, All-weaker, filter_passes}
@@ -294,13 +294,11 @@ module _ {K : Type 0} (o : Order K) (law : IsLawful o) where
   stays_listed table items x m =
       let gone : List ℕ = map (λ (z : Item). z.a) (not_among items table) in
       let stays = from_filter (λ (z : Item). not (list_any (λ a. a == z.a) gone)) table x m in
-      elim (is_among x items) as (λ b. is_among x items ≡ b → Contains items x) [
-        | true ↦ λ e. among_them x items e
-        | false ↦ λ e.
-            let listed : Contains (not_among items table) x = to_filter (λ z. not (is_among z items)) table x (ap not e) stays.0 in
-            let erased : list_any (λ a. a == x.a) gone ≡ true = has_any (λ a. a == x.a) gone x.a (Contains-map (λ (z : Item). z.a) (not_among items table) x listed) (eq-eqb x.a x.a refl) in
-            absurd (let f : false ≡ true = sym (ap not erased) ∙ stays.1 in cc)
-      ] refl
+      among_them x items (true_from_ne_false (is_among x items) (λ e.
+      let listed : Contains (not_among items table) x = to_filter (λ z. not (is_among z items)) table x (ap not e) stays.0 in
+      let erased : list_any (λ a. a == x.a) gone ≡ true = has_any (λ a. a == x.a) gone x.a (Contains-map (λ (z : Item). z.a) (not_among items table) x listed) (eq-eqb x.a x.a refl) in
+      let f : false ≡ true = sym (ap not erased) ∙ stays.1 in
+      absurd (cc)))
 
   -- an item of the table that is in the list stays
   listed_stays : (table items : List Item) (x : Item) → IsTable o table → Contains table x → Contains items x
@@ -311,16 +309,14 @@ module _ {K : Type 0} (o : Order K) (law : IsLawful o) where
     where
       none : list_any (λ a. a == x.a) (map (λ z. z.a) (not_among items table)) ≡ false
       none =
-          elim (list_any (λ a. a == x.a) (map (λ z. z.a) (not_among items table))) as (λ b. list_any (λ a. a == x.a) (map (λ z. z.a) (not_among items table)) ≡ b → b ≡ false) [
-            | true ↦ λ e.
-                let word = any_has (λ a. a == x.a) (map (λ (z : Item). z.a) (not_among items table)) e in
-                let of = of_word (not_among items table) word.0 word.1 in
-                let other = from_filter (λ z. not (is_among z items)) table of.0 of.1 in
-                let same : of.0 ≡ x = one_of_word table of.0 x is other.0 there (of.2 ∙ eqb-true word.0 x.a word.2) in
-                let among : is_among of.0 items ≡ true = subst (λ z. is_among z items ≡ true) (sym same) (one_of_them x items listed) in
-                absurd (let f : false ≡ true = sym (ap not among) ∙ other.1 in cc)
-            | false ↦ λ e. refl
-          ] refl
+          false_from_ne_true (list_any (λ a. a == x.a) (map (λ z. z.a) (not_among items table))) (λ e.
+          let word = any_has (λ a. a == x.a) (map (λ (z : Item). z.a) (not_among items table)) e in
+          let of = of_word (not_among items table) word.0 word.1 in
+          let other = from_filter (λ z. not (is_among z items)) table of.0 of.1 in
+          let same : of.0 ≡ x = one_of_word table of.0 x is other.0 there (of.2 ∙ eqb-true word.0 x.a word.2) in
+          let among : is_among of.0 items ≡ true = subst (λ z. is_among z items ≡ true) (sym same) (one_of_them x items listed) in
+          let f : false ≡ true = sym (ap not among) ∙ other.1 in
+          absurd (cc))
 
   -- the items of the table that stay
   abbrev kept : List Item → List Item → List Item

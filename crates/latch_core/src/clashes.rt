@@ -1,4 +1,4 @@
-//! Whether some entries of a batch clash, in few comparisons.
+//! Whether some entries of a batch are not valid or clash, in few comparisons.
 //!
 //! Entries that clash are side by side in a sorted copy. If there is no memory for the copy,
 //! and in an order in which items that clash need not be neighbours, each is compared with each.
@@ -7,9 +7,9 @@ ghost use Rattle.std.specs.Prelude.{◌≡◌, false, IsTrue, IfOk};
 ghost use Rattle.std.specs.List.Sorted.{IsPermutation, IsNonDecreasing, IsNonDecreasingBy};
 ghost use Rattle.order_laws.specs.declared.items.Item.{Item};
 ghost use Rattle.order_laws.specs.Orders.{IsInLine};
+ghost use Rattle.order_laws.specs.Tables.{meets};
 ghost use Rattle.table_updates.specs.Updates.{some_twice, some_invalid, some_overlap};
 
-use crate::plain;
 use order_laws::{Item, TreeOrder};
 use std::alloc::{AllocError, Global};
 
@@ -24,6 +24,13 @@ pub fn in_order(alloc: Global, words: &[u64]) -> Result<Vec<u64>, AllocError>
     Ok(sorted)
 }
 
+/// Whether some item is not valid.
+pub fn some_invalid<O: TreeOrder>(items: &[Item]) -> bool
+    ensures { result ≡ some_invalid O.order items.now }
+{
+    items.iter().any(|i| !O::valid(i))
+}
+
 /// Whether some number is in the list twice. Only neighbours are compared if the list is
 /// `rising`.
 pub fn some_twice(words: &[u64], rising: bool) -> bool
@@ -33,7 +40,7 @@ pub fn some_twice(words: &[u64], rising: bool) -> bool
     if rising {
         has_equal_neighbours(words)
     } else {
-        plain::some_twice(words)
+        has_equal_entries(words)
     }
 }
 
@@ -51,17 +58,29 @@ fn has_equal_neighbours(words: &[u64]) -> bool
     false
 }
 
+// Whether two entries of the list are equal.
+fn has_equal_entries(words: &[u64]) -> bool
+    ensures { result ≡ some_twice words.now }
+{
+    for (place, a) in words.iter().enumerate() {
+        if words[place + 1..].contains(a) {
+            return true;
+        }
+    }
+    false
+}
+
 /// Whether two of some valid items are not apart.
 pub fn some_overlap<O: TreeOrder>(alloc: Global, items: &[Item]) -> bool
     requires valid { some_invalid O.order items.now ≡ false }
     ensures { result ≡ some_overlap O.order items.now }
 {
     if !O::in_line() {
-        return plain::some_overlap::<O>(items);
+        return has_overlapping_entries::<O>(items);
     }
     match by_first_word(alloc, items) {
         Ok(sorted) => has_overlapping_neighbours::<O>(sorted.as_slice()),
-        Err(_) => plain::some_overlap::<O>(items),
+        Err(_) => has_overlapping_entries::<O>(items),
     }
 }
 
@@ -90,4 +109,23 @@ fn has_overlapping_neighbours<O: TreeOrder>(items: &[Item]) -> bool
         }
     }
     false
+}
+
+// Whether two items of the list are not apart.
+fn has_overlapping_entries<O: TreeOrder>(items: &[Item]) -> bool
+    ensures { result ≡ some_overlap O.order items.now }
+{
+    for (place, item) in items.iter().enumerate() {
+        if meets::<O>(&items[place + 1..], item) {
+            return true;
+        }
+    }
+    false
+}
+
+// Whether some item of the list is not apart from this one.
+fn meets<O: TreeOrder>(table: &[Item], item: &Item) -> bool
+    ensures { result ≡ meets O.order item.now table.now }
+{
+    table.iter().any(|x| !O::apart(x, item))
 }

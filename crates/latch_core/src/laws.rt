@@ -120,7 +120,7 @@ pub fn latch_stays_sound<O: TreeOrder>()
 
 /// A table whose items are replaced by a list that rises is that list, if nothing is against
 /// the update. Replaced by itself, it is left alone: the update is the batch of no entries.
-#[tactic(auto, using(crate::proofs::ReplacementLemmas::replaced_table, crate::proofs::ReplacementLemmas::replaced_by_itself))]
+#[tactic(auto, using(crate::proofs::ReplacementLemmas::replaced_by_itself))]
 pub fn a_replacement_leaves_its_items<O: TreeOrder>()
     ensures table { (n limit seq : ℕ) (table items : List Item)
         → IsTable O.order table → length table ≤ n → is_rising O.order items ≡ true

@@ -45,7 +45,6 @@ mod changes;
 mod clashes;
 pub mod laws;
 mod nodes;
-mod plain;
 mod plans;
 mod progress;
 pub mod readers;

@@ -24,9 +24,8 @@ ghost use Rattle.latch_core.specs.Widening.{IsWideningRefused};
 ghost use Rattle.latch_core.specs.Replacements.{replacement, update_found};
 
 use crate::changes::{plan_erases, plan_inserts};
-use crate::clashes::{in_order, some_overlap, some_twice};
+use crate::clashes::{in_order, some_invalid, some_overlap, some_twice};
 use crate::nodes::{add_nodes, all_nodes};
-use crate::plain::some_invalid;
 use crate::plans::Plan;
 use crate::replacements::Difference;
 use crate::sequences::{generation, is_spent};

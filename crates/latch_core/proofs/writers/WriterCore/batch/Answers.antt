@@ -6,18 +6,17 @@ use Rattle.table_updates.specs.Updates.{size_of}
 use Rattle.latch_core.specs.Plans.{update_stores}
 use Rattle.latch_core.specs.Changes.{stores_of_placed, InsertsItems}
 use Rattle.latch_core.specs.WriterViews.{WriterView}
-use Rattle.latch_core.proofs.ChangeLemmas.{few_words}
-use Rattle.latch_core.proofs.BeginLemmas.{AcceptedBatch, accepted_batch, with_room, PlansUpdate, batch_planned, planned_step, planned_begun}
+use Rattle.latch_core.proofs.WriterLemmas.{rests_before}
+use Rattle.latch_core.proofs.BeginLemmas.{batch_is_small, with_room, PlansUpdate, batch_planned, planned_step, planned_begun}
 use Rattle.latch_core.proofs.writers.WriterCore.batch.Given.{Over}
 use Rattle.latch_core.proofs.writers.WriterCore.batch.Goals as goal
 use Rattle.latch_core.proofs.writers.WriterCore.batch.Goals.{After-drop-links-2}
 
 pub reserve-requires-clause-size : goal.reserve-requires-clause-size
 reserve-requires-clause-size g c =
-    let s = c.self.inside in
-    let erase = c.args.erase.now in
-    let ok = subst (λ (v : WriterView). AcceptedBatch g.O.TreeOrder.order v erase c.args.insert.now) (sym c.self.view_is) (accepted_batch g.O.TreeOrder.order c.args.self.now erase c.args.insert.now c.requires.accepted) in
-    omega (arith, few_words erase s.shape.table ok.there ok.once, ok.fits, s.layout.most)
+    let small = subst (λ (v : WriterView). (length c.args.erase.now ≤ length v.table) × (length v.table + length c.args.insert.now ≤ v.capacity)) (sym c.self.view_is)
+    (batch_is_small g.O.TreeOrder.order c.args.self.now c.args.erase.now c.args.insert.now c.requires.accepted) in
+    omega (arith, small.0, small.1, c.self.inside.layout.most)
 
 planned : (g : Over) (c : After-drop-links-2 g)
     → PlansUpdate g.O.TreeOrder.order (capacity_of c.self.inside.layout) (with_room c.self.inside.shape c.reserve.new.shape.room) c.plan_inserts.new.shape
@@ -50,7 +49,6 @@ invariant_of-self-2 g c =
 pub returns-clause-begun : goal.returns-clause-begun
 returns-clause-begun g c =
     let s = c.self.inside in
-    let ok = accepted_batch g.O.TreeOrder.order c.args.self.now c.args.erase.now c.args.insert.now c.requires.accepted in
     planned_begun g.O.TreeOrder.order (capacity_of s.layout) (limit_of s.layout) s.sequence s.shape c.reserve.new.shape c.plan_inserts.new.shape c.reserve.new.shape.room (Batch c.args.erase.now c.args.insert.now) s.free.items
-    c.plan_inserts.new.free.items c.plan_inserts.ensures.plan.0 c.close.new.self.stores_left s.plan.stores_left c.args.self.now c.self.view_is ok.idle c.self.invariant.0
+    c.plan_inserts.new.free.items c.plan_inserts.ensures.plan.0 c.close.new.self.stores_left s.plan.stores_left c.args.self.now c.self.view_is (rests_before g.O.TreeOrder.order c.args.self.now (Batch c.args.erase.now c.args.insert.now) c.requires.accepted) c.self.invariant.0
     c.reserve.ensures.kept (planned g c) c.stays_sound.ensures.balanced c.stays_sound-2.ensures.balanced

@@ -17,6 +17,12 @@ plan_links_apart-met-requires-clause-free g c =
     let node = taken_node (capacity_of s.layout) s.shape (second_picture s.shape) s.free.items c.pop.new.self.items c.in-Some.node s.plan.stores_left c.self.invariant.0 c.in-Some.ensures.items in
     λ is. node.1 (subst (λ (p : Picture). Contains (listed p.tree) c.in-Some.node) c.reserve.ensures.kept is)
 
+pub plan_links_apart-met-requires-clause-in_range : goal.plan_links_apart-met-requires-clause-in_range
+plan_links_apart-met-requires-clause-in_range g c =
+    let s = c.self.inside in
+    let node = taken_node (capacity_of s.layout) s.shape (second_picture s.shape) s.free.items c.pop.new.self.items c.in-Some.node s.plan.stores_left c.self.invariant.0 c.in-Some.ensures.items in
+    omega (arith, node.0, ap (λ (p : Picture). p.capacity) c.reserve.ensures.kept, c.self.invariant.0.zero_capacity)
+
 -- what was planned
 planned : (g : Over) (c : After-close g)
     → PlansUpdate g.O.TreeOrder.order (capacity_of c.self.inside.layout) (with_room c.self.inside.shape c.reserve.new.shape.room) c.plan_links_apart-met.new.self

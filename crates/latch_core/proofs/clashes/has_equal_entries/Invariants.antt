@@ -1,6 +1,6 @@
 use Rattle.std.proofs.Common.{◌≡◌, drop}
 use Rattle.table_updates.specs.Updates.{some_twice}
-use Rattle.latch_core.proofs.plain.some_twice.Given as goal
+use Rattle.latch_core.proofs.clashes.has_equal_entries.Given as goal
 
 abbrev pub invariant-loop-place : goal.invariant-loop-place
 invariant-loop-place l = some_twice (drop l.place l.words) ≡ some_twice l.words
