@@ -49,10 +49,10 @@ batch_is_small o w erase insert e =
     (few_words erase w.table words.0 words.1, ltb-false w.capacity (length w.table + length insert) h.1.1.1.1.0)
 
 -- the free node that an insert takes
-pub taken_node : (n : ℕ) (zero one : Picture) (free rest : List ℕ) (node : ℕ) (left : List Store)
-    → AreInStep n zero one free left → free ≡ rest ++ node ∷ []
+pub taken_node : (n : ℕ) (zero : Picture) (free rest : List ℕ) (node : ℕ) (left : List Store)
+    → AreInStep n zero free left → free ≡ rest ++ node ∷ []
     → (node < n) × (Contains (listed zero.tree) node → ⊥)
-taken_node n zero one free rest node left step e =
+taken_node n zero free rest node left step e =
     last_is_free n node rest (listed zero.tree) (subst (λ xs. AreAllNodes n (xs ++ listed zero.tree)) e step.nodes)
 
 -- the stores lie in the memory
@@ -162,17 +162,17 @@ pub record PlansUpdate {K : Type 0} (o : Order K) (n : ℕ) (old new : Picture) 
 
 module _ {K : Type 0} (o : Order K) (n : ℕ) (zero new : Picture) (r : ℕ) (u : Update)
     (free free' : List ℕ) (placed : PlacedItems) (seq : ℕ) (stores left : List Store)
-    (step : AreInStep n zero (second_picture zero) free left)
+    (step : AreInStep n zero free left)
     (planned : PlansUpdate o n (with_room zero r) new u free free' placed seq stores) where
   links_zero : AreLinkStores n 0 planned.links
   links_zero =
-      subst (λ k. AreLinkStores k 0 planned.links) step.zero_capacity
-      (subst (λ c. AreLinkStores zero.capacity c planned.links) step.zero_copy
+      subst (λ k. AreLinkStores k 0 planned.links) step.capacity
+      (subst (λ c. AreLinkStores zero.capacity c planned.links) step.copy
       planned.both.zero.links_only)
 
   links_one : AreLinkStores n 1 (mirror_stores planned.links)
   links_one =
-      subst (λ k. AreLinkStores k 1 (mirror_stores planned.links)) step.zero_capacity
+      subst (λ k. AreLinkStores k 1 (mirror_stores planned.links)) step.capacity
       planned.both.one.links_only
 
   within : AllByRecursion (λ (p : ℕ × Item). p.0 < n) placed
@@ -181,19 +181,15 @@ module _ {K : Type 0} (o : Order K) (n : ℕ) (zero new : Picture) (r : ℕ) (u 
       (λ p c. (free_node n free (listed zero.tree) p.0 step.nodes c).0) placed planned.in_free
 
   -- both copies stay in step
-  pub planned_step : AreInStep n new (second_picture new) free' stores
+  pub planned_step : AreInStep n new free' stores
   planned_step =
       let both = planned.both in
       let stored = update_in_range n seq (stores_of_placed placed) planned.links (mirror_stores planned.links)
       (All-from_recursion (λ (s : Store). s.word < words_for n) (stores_of_placed placed) (placed_within n placed within))
       links_zero links_one in
       record {
-        zero_capacity = both.zero.capacity ∙ step.zero_capacity;
-        zero_copy = both.zero.copy ∙ step.zero_copy;
-        one_capacity = both.one.capacity ∙ step.one_capacity;
-        one_copy = refl;
-        same_table = refl;
-        same_nodes = refl;
+        capacity = both.zero.capacity ∙ step.capacity;
+        copy = both.zero.copy ∙ step.copy;
         nodes = planned.nodes;
         in_range = subst (All (λ (s : Store). s.word < words_for n)) (sym planned.listed_stores) stored;
       }
@@ -218,8 +214,8 @@ module _ {K : Type 0} (o : Order K) (n : ℕ) (zero new : Picture) (r : ℕ) (u 
       let stand = all_placed m n placed sized within planned.distinct in
       let zero1 : Holds m1 n 0 zero.table zero.tree = tree_untouched m n 0 zero.table zero.tree items unused.0 holds0 in
       let one1 : Holds m1 n 1 zero.table zero.tree = tree_untouched m n 1 zero.table zero.tree items unused.1 holds1 in
-      let then0 = both.zero.leads m1 (pictured m1 n 0 r zero sized1 step.zero_capacity step.zero_copy zero1) stand in
-      let then1 = both.one.leads m1 (pictured m1 n 1 r (second_picture zero) sized1 step.one_capacity refl one1) stand in
+      let then0 = both.zero.leads m1 (pictured m1 n 0 r zero sized1 step.capacity step.copy zero1) stand in
+      let then1 = both.one.leads m1 (pictured m1 n 1 r (second_picture zero) sized1 step.capacity refl one1) stand in
       record {
         sized = sized;
         even = even;
@@ -231,10 +227,10 @@ module _ {K : Type 0} (o : Order K) (n : ℕ) (zero new : Picture) (r : ℕ) (u 
         links_one = links_one;
         leads_zero =
             unpictured (words_after_all m1 planned.links) n 0 (after o zero.table u) new
-            (both.zero.capacity ∙ step.zero_capacity) (both.zero.copy ∙ step.zero_copy) planned.table then0;
+            (both.zero.capacity ∙ step.capacity) (both.zero.copy ∙ step.copy) planned.table then0;
         leads_one =
             unpictured (words_after_all m1 (mirror_stores planned.links)) n 1 (after o zero.table u) (second_picture new)
-            (both.one.capacity ∙ step.one_capacity) refl planned.table then1;
+            (both.one.capacity ∙ step.capacity) refl planned.table then1;
       }
 
 -- what a core shows whose copies have one table in one tree
@@ -245,7 +241,7 @@ shown n limit seq table tree left = record { capacity = n; limit = limit; sequen
 pub planned_begun : {K : Type 0} (o : Order K) (n limit seq : ℕ) (zero z new : Picture) (r : ℕ) (u : Update)
     (free free' : List ℕ) (placed : PlacedItems) (stores left : List Store) (w : WriterView)
     → shown n limit seq zero.table zero.tree left ≡ w → w.stores_left ≡ []
-    → AreInStep n zero (second_picture zero) free left → z ≡ with_room zero r
+    → AreInStep n zero free left → z ≡ with_room zero r
     → PlansUpdate o n (with_room zero r) new u free free' placed seq stores
     → IsBalanced z.tree → IsBalanced new.tree
     → HasBegun o w u (shown n limit seq new.table new.tree stores)
@@ -265,7 +261,7 @@ planned_begun o n limit seq zero z new r u free free' placed stores left w is id
 -- an insert
 pub insert_planned : {K : Type 0} (o : Order K) (n : ℕ) (zero z new : Picture) (r node : ℕ) (item : Item)
     (free free' : List ℕ) (seq : ℕ) (stores left links : List Store)
-    → AreInStep n zero (second_picture zero) free left → free ≡ free' ++ node ∷ [] → z ≡ with_room zero r
+    → AreInStep n zero free left → free ≡ free' ++ node ∷ [] → z ≡ with_room zero r
     → Inserts o z new node item → LeadsWithItem z new node item links → length links ≤ 13
     → stores ≡ update_stores seq (item_stores node item) links (mirror_stores links)
     → PlansUpdate o n (with_room zero r) new (Insert item) free free' ((node, item) ∷ []) seq stores
@@ -275,7 +271,7 @@ insert_planned o n zero z new r node item free free' seq stores left links step 
     record {
       links = links;
       listed_stores = listed_stores;
-      both = both_insert o (with_room zero r) new node item links step.zero_copy inserts (subst (λ p. LeadsWithItem p new node item links) is leads);
+      both = both_insert o (with_room zero r) new node item links step.copy inserts (subst (λ p. LeadsWithItem p new node item links) is leads);
       few = omega (arith, few);
       in_free = (subst (λ xs. Contains xs node) (sym taken) (Contains-append_right free' (node ∷ []) node (0, omega arith, refl)), tt);
       distinct = (tt, tt);
@@ -286,7 +282,7 @@ insert_planned o n zero z new r node item free free' seq stores left links step 
 -- an erase
 pub erase_planned : {K : Type 0} (o : Order K) (n : ℕ) (zero z new : Picture) (r a node : ℕ)
     (free : List ℕ) (seq : ℕ) (stores left links : List Store)
-    → AreInStep n zero (second_picture zero) free left → z ≡ with_room zero r
+    → AreInStep n zero free left → z ≡ with_room zero r
     → Erases z new a node → LeadsByLinks z new links → length links ≤ 16
     → stores ≡ update_stores seq [] links (mirror_stores links)
     → PlansUpdate o n (with_room zero r) new (Erase a) free (free ++ node ∷ []) [] seq stores
@@ -295,7 +291,7 @@ erase_planned o n zero z new r a node free seq stores left links step is er lead
     record {
       links = links;
       listed_stores = listed_stores;
-      both = both_erase (with_room zero r) new a node links step.zero_copy erases (subst (λ p. LeadsByLinks p new links) is leads);
+      both = both_erase (with_room zero r) new a node links step.copy erases (subst (λ p. LeadsByLinks p new links) is leads);
       few = omega (arith, few);
       in_free = tt;
       distinct = tt;
@@ -306,7 +302,7 @@ erase_planned o n zero z new r a node free seq stores left links step is er lead
 -- a batch: erases, and then inserts in nodes that were free before them
 pub batch_planned : {K : Type 0} (o : Order K) (n : ℕ) (zero z0 z1 z2 : Picture) (r : ℕ) (erase : List ℕ) (insert : List Item) (placed : PlacedItems)
     (xs ys : List Store) (free free1 free2 : List ℕ) (seq : ℕ) (stores left : List Store)
-    → AreInStep n zero (second_picture zero) free left → z0 ≡ with_room zero r
+    → AreInStep n zero free left → z0 ≡ with_room zero r
     → ErasesWords z0 z1 erase xs free free1 → InsertsItems o z1 z2 insert placed ys (take (length free) free1) free2
     → length (stores_of_placed placed) + length (xs ++ ys) ≤ 16 * size_of (Batch erase insert)
     → stores ≡ update_stores seq (stores_of_placed placed) (xs ++ ys) (mirror_stores (xs ++ ys))
@@ -314,11 +310,11 @@ pub batch_planned : {K : Type 0} (o : Order K) (n : ℕ) (zero z0 z1 z2 : Pictur
 batch_planned o n zero z0 z1 z2 r erase insert placed xs ys free free1 free2 seq stores left step is erases inserts few listed_stores =
     let erased : ErasesWords (with_room zero r) z1 erase xs free free1 = subst (λ p. ErasesWords p z1 erase xs free free1) is erases in
     let fresh : take (length free) free1 ≡ free = ap (take (length free)) erased.behind ∙ take-append-le (length free) free erased.freed (omega arith) ∙ take_all (length free) free (omega arith) in
-    let same_capacity : z1.capacity ≡ n = erased.both.zero.capacity ∙ step.zero_capacity in
+    let same_capacity : z1.capacity ≡ n = erased.both.zero.capacity ∙ step.capacity in
     record {
       links = xs ++ ys;
       listed_stores = listed_stores;
-      both = both_then (with_room zero r) z1 z2 [] placed xs ys step.zero_copy erased.both inserts.both;
+      both = both_then (with_room zero r) z1 z2 [] placed xs ys step.copy erased.both inserts.both;
       few = few;
       in_free = subst (λ ns. AllByRecursion (λ (p : ℕ × Item). Contains ns p.0) placed) fresh inserts.in_fresh;
       distinct = inserts.distinct;

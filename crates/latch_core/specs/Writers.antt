@@ -125,15 +125,11 @@ abbrev pub writer_after_step : WriterView → Store → WriterView
 writer_after_step w s =
     record w { sequence = sequence_after w.sequence s; stores_left = drop 1 w.stores_left }
 
--- Both copies are in step: they list equal nodes with equal items, and these and the free
--- nodes are all that there are. The stores that are left lie in the memory.
-pub record AreInStep (n : ℕ) (zero one : Picture) (free : List ℕ) (left : List Store) : Type 0 where
-  pub zero_capacity : zero.capacity ≡ n
-  pub zero_copy : zero.copy ≡ 0
-  pub one_capacity : one.capacity ≡ n
-  pub one_copy : one.copy ≡ 1
-  pub same_table : one.table ≡ zero.table
-  pub same_nodes : listed one.tree ≡ listed zero.tree
+-- One picture, of copy 0, serves both copies: its nodes and the free ones are all that there are.
+-- The stores that are left lie in the memory.
+pub record AreInStep (n : ℕ) (zero : Picture) (free : List ℕ) (left : List Store) : Type 0 where
+  pub capacity : zero.capacity ≡ n
+  pub copy : zero.copy ≡ 0
   pub nodes : AreAllNodes n (free ++ listed zero.tree)
   pub in_range : All (λ s. s.word < words_for n) left
 

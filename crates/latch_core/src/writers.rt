@@ -58,7 +58,6 @@ impl<O: TreeOrder> Model for WriterCore<O> {
     ghost use Rattle.std.specs.Prelude.{◌≤◌, vec_capacity};
     ghost use Rattle.word_layout.specs.Layouts.{capacity_of, limit_of};
     ghost use Rattle.word_layout.specs.Limits.{most_nodes};
-    ghost use Rattle.rb_words.specs.Mirrors.{second_picture};
     ghost use Rattle.latch_core.specs.WriterViews.{WriterView, writer_code};
     ghost use Rattle.latch_core.specs.Writers.{AreInStep};
 
@@ -77,8 +76,7 @@ impl<O: TreeOrder> Model for WriterCore<O> {
     } };
 
     ghost invariant = { λ w.
-        AreInStep (capacity_of w.layout) w.shape
-        (second_picture w.shape) w.free.items w.plan.stores_left
+        AreInStep (capacity_of w.layout) w.shape w.free.items w.plan.stores_left
         × (capacity_of w.layout ≤ vec_capacity w.free) };
 }
 

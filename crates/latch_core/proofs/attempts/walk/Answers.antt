@@ -50,39 +50,29 @@ with_a : (g : Over) (c : After-load-a g)
     → HasLoaded (g.W.Loads.load_gives c.args.words.now) c.args.seat.now (attempt_after g.O.TreeOrder.order (capacity_of c.args.l) c.args.key c.args.first) c.load-a.new.seat
     (after_a g.O.TreeOrder.order c.args.key c.args.first (c.loop-link.link - 1) (walk g.O.TreeOrder.order (capacity_of c.args.l) c.args.key c.args.first (c.loop-link.invariant.on.visits_left - 1)) c.load-a.result) (c.loop-link.loads + 1)
 with_a g c =
-    let some : c.loop-link.link ≢ 0 = λ e. omega arith in
-    let word = c.a_of.ensures in
-    loads_on (g.W.Loads.load_gives c.args.words.now) _ _ _ (a_word (c.loop-link.link - 1)) _ _ _ (node g c.before) (omega arith) _ _ c.load-a.ensures
+    loads_on (g.W.Loads.load_gives c.args.words.now) _ _ _ (a_word (c.loop-link.link - 1)) _ _ _ (node g c.before) (omega (arith, c.a_of.ensures)) _ _ c.load-a.ensures
 
 -- and its b
 with_b : (g : Over) (c : After-load-b g)
     → HasLoaded (g.W.Loads.load_gives c.args.words.now) c.args.seat.now (attempt_after g.O.TreeOrder.order (capacity_of c.args.l) c.args.key c.args.first) c.load-b.new.seat
     (after_b g.O.TreeOrder.order c.args.key c.args.first (c.loop-link.link - 1) (walk g.O.TreeOrder.order (capacity_of c.args.l) c.args.key c.args.first (c.loop-link.invariant.on.visits_left - 1)) c.load-a.result c.load-b.result) (c.loop-link.loads + 1 + 1)
 with_b g c =
-    let some : c.loop-link.link ≢ 0 = λ e. omega arith in
-    let word = c.b_of.ensures in
-    loads_on (g.W.Loads.load_gives c.args.words.now) _ _ _ (b_word (c.loop-link.link - 1)) _ _ _ (with_a g c.before.before.before) (omega arith) _ _ c.load-b.ensures
+    loads_on (g.W.Loads.load_gives c.args.words.now) _ _ _ (b_word (c.loop-link.link - 1)) _ _ _ (with_a g c.before.before.before) (omega (arith, c.b_of.ensures)) _ _ c.load-b.ensures
 
 -- and its tag
 with_tag : (g : Over) (c : After-load-tag g)
     → HasLoaded (g.W.Loads.load_gives c.args.words.now) c.args.seat.now (attempt_after g.O.TreeOrder.order (capacity_of c.args.l) c.args.key c.args.first) c.load-tag.new.seat
     (after_item c.args.first (c.loop-link.link - 1) (item_of c.load-a.result c.load-b.result c.load-tag.result) (walk g.O.TreeOrder.order (capacity_of c.args.l) c.args.key c.args.first (c.loop-link.invariant.on.visits_left - 1)) (g.O.TreeOrder.order.comp c.args.key (item_of c.load-a.result c.load-b.result c.load-tag.result))) (c.loop-link.loads + 1 + 1 + 1)
 with_tag g c =
-    let some : c.loop-link.link ≢ 0 = λ e. omega arith in
-    let word = c.tag_of.ensures in
-    loads_on (g.W.Loads.load_gives c.args.words.now) _ _ _ (tag_word (c.loop-link.link - 1)) _ _ _ (with_b g c.before.before.before) (omega arith) _ _ c.load-tag.ensures
+    loads_on (g.W.Loads.load_gives c.args.words.now) _ _ _ (tag_word (c.loop-link.link - 1)) _ _ _ (with_b g c.before.before.before) (omega (arith, c.tag_of.ensures)) _ _ c.load-tag.ensures
 
 pub load-b-requires-clause-can : goal.load-b-requires-clause-can
 load-b-requires-clause-can g c =
-    let some : c.loop-link.link ≢ 0 = λ e. omega arith in
-    let word = c.b_of.ensures in
-    may_load (g.W.Loads.load_gives c.args.words.now) _ _ _ (b_word (c.loop-link.link - 1)) _ _ _ (with_a g (goal.at.load-b-requires-clause-can g c).After-load-a) (omega arith) _ _ c.requires.ready (omega arith)
+    may_load (g.W.Loads.load_gives c.args.words.now) _ _ _ (b_word (c.loop-link.link - 1)) _ _ _ (with_a g (goal.at.load-b-requires-clause-can g c).After-load-a) (omega (arith, c.b_of.ensures)) _ _ c.requires.ready (omega arith)
 
 pub load-tag-requires-clause-can : goal.load-tag-requires-clause-can
 load-tag-requires-clause-can g c =
-    let some : c.loop-link.link ≢ 0 = λ e. omega arith in
-    let word = c.tag_of.ensures in
-    may_load (g.W.Loads.load_gives c.args.words.now) _ _ _ (tag_word (c.loop-link.link - 1)) _ _ _ (with_b g (goal.at.load-tag-requires-clause-can g c).After-load-b) (omega arith) _ _ c.requires.ready (omega arith)
+    may_load (g.W.Loads.load_gives c.args.words.now) _ _ _ (tag_word (c.loop-link.link - 1)) _ _ _ (with_b g (goal.at.load-tag-requires-clause-can g c).After-load-b) (omega (arith, c.tag_of.ensures)) _ _ c.requires.ready (omega arith)
 
 -- and goes on from an item that the key is not in
 go_on : (g : Over) (c : After-load-tag g) (aside : ℕ) → (g.O.TreeOrder.order.comp c.args.key (item_of c.load-a.result c.load-b.result c.load-tag.result) ≢ Equal) → (g.O.TreeOrder.order.comp c.args.key (item_of c.load-a.result c.load-b.result c.load-tag.result) ≡ Less → aside ≡ 0) → (g.O.TreeOrder.order.comp c.args.key (item_of c.load-a.result c.load-b.result c.load-tag.result) ≡ Greater → aside ≡ 1)

@@ -2,7 +2,7 @@ use Rattle.std.proofs.Common.{◌≡◌, ◌≤◌, ◌++◌, ◌∷◌, [], len
 use Rattle.std.specs.Prelude.{IfSome, is_some}
 use Rattle.word_layout.specs.Layouts.{capacity_of, limit_of}
 use Rattle.rb_words.specs.Plans.{Erases}
-use Rattle.rb_words.specs.Mirrors.{mirror_stores, second_picture}
+use Rattle.rb_words.specs.Mirrors.{mirror_stores}
 use Rattle.table_updates.specs.declared.updates.Update.TheVariants.{Erase}
 use Rattle.latch_core.specs.Plans.{update_stores}
 use Rattle.latch_core.specs.Writers.{AreInStep}
@@ -31,7 +31,7 @@ invariant_of-self-2 g c =
     let s = c.self.inside in
     let new = c.plan_erase_found.new.self in
     let stores = c.close.new.self.stores_left in (
-      subst (λ xs. AreInStep (capacity_of s.layout) new (second_picture new) xs stores) (sym c.push_reserved.ensures.items)
+      subst (λ xs. AreInStep (capacity_of s.layout) new xs stores) (sym c.push_reserved.ensures.items)
           (planned_step g.O.TreeOrder.order (capacity_of s.layout) s.shape new c.reserve.new.shape.room (Erase c.args.a) s.free.items (s.free.items ++ c.in-Some.node ∷ []) [] s.sequence stores s.plan.stores_left
           c.self.invariant.0 (planned g c)),
       omega (arith, c.push_reserved.ensures.capacity, c.self.invariant.1),

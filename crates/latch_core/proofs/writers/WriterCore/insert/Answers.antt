@@ -3,7 +3,7 @@ use Rattle.std.specs.Prelude.{Contains}
 use Rattle.word_layout.specs.Layouts.{capacity_of, limit_of}
 use Rattle.word_layout.specs.Words.{listed}
 use Rattle.rb_words.specs.Pictures.{Picture}
-use Rattle.rb_words.specs.Mirrors.{mirror_stores, second_picture}
+use Rattle.rb_words.specs.Mirrors.{mirror_stores}
 use Rattle.table_updates.specs.declared.updates.Update.TheVariants.{Insert}
 use Rattle.latch_core.specs.Plans.{update_stores}
 use Rattle.latch_core.proofs.BeginLemmas.{taken_node, with_room, PlansUpdate, insert_planned, planned_step, planned_begun}
@@ -14,14 +14,14 @@ use Rattle.latch_core.proofs.writers.WriterCore.insert.Goals.{After-close}
 pub plan_links_apart-met-requires-clause-free : goal.plan_links_apart-met-requires-clause-free
 plan_links_apart-met-requires-clause-free g c =
     let s = c.self.inside in
-    let node = taken_node (capacity_of s.layout) s.shape (second_picture s.shape) s.free.items c.pop.new.self.items c.in-Some.node s.plan.stores_left c.self.invariant.0 c.in-Some.ensures.items in
+    let node = taken_node (capacity_of s.layout) s.shape s.free.items c.pop.new.self.items c.in-Some.node s.plan.stores_left c.self.invariant.0 c.in-Some.ensures.items in
     λ is. node.1 (subst (λ (p : Picture). Contains (listed p.tree) c.in-Some.node) c.reserve.ensures.kept is)
 
 pub plan_links_apart-met-requires-clause-in_range : goal.plan_links_apart-met-requires-clause-in_range
 plan_links_apart-met-requires-clause-in_range g c =
     let s = c.self.inside in
-    let node = taken_node (capacity_of s.layout) s.shape (second_picture s.shape) s.free.items c.pop.new.self.items c.in-Some.node s.plan.stores_left c.self.invariant.0 c.in-Some.ensures.items in
-    omega (arith, node.0, ap (λ (p : Picture). p.capacity) c.reserve.ensures.kept, c.self.invariant.0.zero_capacity)
+    let node = taken_node (capacity_of s.layout) s.shape s.free.items c.pop.new.self.items c.in-Some.node s.plan.stores_left c.self.invariant.0 c.in-Some.ensures.items in
+    omega (arith, node.0, ap (λ (p : Picture). p.capacity) c.reserve.ensures.kept, c.self.invariant.0.capacity)
 
 -- what was planned
 planned : (g : Over) (c : After-close g)
