@@ -23,7 +23,7 @@ use Rattle.latch_core.specs.WriterViews.{WriterView}
 use Rattle.latch_core.specs.Writers.{IsMemoryAtRest, HasBegun, AreInStep, why_refused, has_pending}
 use Rattle.latch_core.proofs.TestLemmas.{NoneHolds, all_tests, none_holds}
 use Rattle.latch_core.proofs.StoreOrderLemmas.{Leading, AreFreeStores, items_unused}
-use Rattle.latch_core.proofs.NodeLemmas.{last_is_free, node_taken, node_freed}
+use Rattle.latch_core.proofs.ChangeLemmas.{last_is_free, node_taken, node_freed, both_then, both_insert, both_erase, few_words, free_node}
 use Rattle.latch_core.proofs.WriterLemmas.{begun_pictures, rest_now, unlisted}
 use Rattle.std.specs.List.{AllByRecursion}
 use Rattle.std.proofs.lemmas.List.{length-map, take-append-le, take_all}
@@ -37,8 +37,7 @@ use Rattle.rb_words.specs.Mirrors.{mirror_stores, mirror_store, second_picture}
 use Rattle.rb_words.specs.Rows.{AreDistinct}
 use Rattle.latch_core.specs.Sequences.{stable_copy_of}
 use Rattle.latch_core.specs.Changes.{PlacedItems, stores_of_placed, AreInPlace, RelinksBoth, ErasesWords, InsertsItems}
-use Rattle.latch_core.proofs.StepLemmas.{after_insert, after_erase}
-use Rattle.latch_core.proofs.ChangeLemmas.{both_then, both_insert, both_erase, few_words, free_node}
+use Rattle.latch_core.proofs.SoundLemmas.{after_insert, after_erase}
 use Rattle.rb_words.proofs.PlanLemmas.{item_put}
 
 -- an accepted batch erases no more items than there are, and what it inserts fits beside them

@@ -1,18 +1,18 @@
--- Several changes of both copies, one after another.
-use Rattle.std.proofs.Common.{◌≡◌, ◌≢◌, ℕ, ◌+◌, ◌-◌, ◌<◌, ◌≤◌, true, false, List, [], ◌∷◌, ◌++◌, length, take, drop, get_or, refl, sym, ◌∙◌, ap, subst, inl, inr, arith, append_assoc}
-use Rattle.std.specs.Prelude.{not, ◌==◌, map, Contains, insert}
-use Rattle.std.specs.List.{AllByRecursion, list_any, swap_remove}
-use Rattle.std.proofs.lemmas.List.Elements.{All-contains_itself, recursion_from_All}
-use Rattle.std.proofs.lemmas.Bool.{not-false, or_parts}
+-- The nodes of a memory, and several changes of both copies, one after another.
+use Rattle.std.proofs.Common.{◌≡◌, ◌≢◌, ℕ, ◌+◌, ◌-◌, ◌<◌, ◌≤◌, true, false, List, [], ◌∷◌, ◌++◌, length, take, drop, get_or, refl, sym, ◌∙◌, ap, subst, inl, inr, arith, append_assoc, Some, length-append}
+use Rattle.std.specs.Prelude.{not, ◌==◌, map, Contains, insert, nat_eq, remove, slice_get}
+use Rattle.std.specs.List.{AllByRecursion, list_any, swap_remove, IsDistinct}
+use Rattle.std.proofs.lemmas.List.Elements.{All-contains_itself, recursion_from_All, All-nil, All-push, All-weaker, All-head, Contains-append_left}
+use Rattle.std.proofs.lemmas.Bool.{not-false, or_parts, eq-eqb}
 use Rattle.std.proofs.lemmas.List.{map-append, take_more, append-nil, drop_more}
-use Rattle.std.proofs.lemmas.List.Sorted.{IsPermutation-trans, IsPermutation-append_left, IsPermutation-append_comm, IsPermutation-swap_remove}
+use Rattle.std.proofs.lemmas.List.Sorted.{IsPermutation-trans, IsPermutation-append_left, IsPermutation-append_comm, IsPermutation-swap_remove, IsPermutation-insert, IsPermutation-remove, IsPermutation-append_right, All-permutation, length_permutation}
 use Rattle.order_laws.specs.declared.items.Item.{Item}
 use Rattle.order_laws.specs.Orders.{Order, IsLawful}
 use Rattle.order_laws.specs.Tables.{without, without_all, with_item, has, place_for, place_of}
 use Rattle.order_laws.proofs.PlaceLemmas.{without_none}
-use Rattle.facts.proofs.Each.{all_append, all_left, all_right, all_weaker}
-use Rattle.facts.proofs.Lists.{take-swap_remove}
-use Rattle.facts.proofs.Tests.{all_fail}
+use Rattle.facts.proofs.Each.{all_append, all_left, all_right, all_weaker, all_at}
+use Rattle.facts.proofs.Lists.{take-swap_remove, pushed_before}
+use Rattle.facts.proofs.Tests.{all_fail, list_any-above}
 use Rattle.order_laws.proofs.WithoutLemmas.{all_has_without, length_without_one, without_more}
 use Rattle.word_layout.proofs.LinkLemmas.{same_item}
 use Rattle.word_layout.specs.declared.stores.Store.{Store}
@@ -29,7 +29,68 @@ use Rattle.table_updates.specs.Updates.{some_missing, some_twice, some_invalid, 
 use Rattle.latch_core.specs.FreeNodes.{AreAllNodes}
 use Rattle.latch_core.specs.Changes.{PlacedItems, stores_of_placed, AreInPlace, RelinksCopy, RelinksBoth, ErasesWords, InsertsItems}
 use Rattle.table_updates.proofs.BatchLemmas.{AreApart, AreOff, all_valid, all_apart, all_off, still_off}
-use Rattle.latch_core.proofs.NodeLemmas.{moved_nodes, node_freed, node_taken, last_is_free}
+use Rattle.std.specs.List.Sorted.{IsPermutation}
+use Rattle.std.specs.Cmp.{nat_eq_equiv}
+use Rattle.std.proofs.lemmas.Bool.Decides.{nat_tests}
+use Rattle.std.proofs.lemmas.Option.{slice_get_within, slice_get-get_or}
+use Rattle.std.proofs.lemmas.Map.Keys.{IsDistinct-IsPermutation, IsDistinct-push, IsDistinct-head}
+
+pub no_nodes : AreAllNodes 0 []
+unfolding IsDistinct
+no_nodes = record { below = All-nil (λ i. i < 0); distinct = tt; as_many = refl }
+
+pub one_node_more : (i : ℕ) (xs : List ℕ) → AreAllNodes i xs → AreAllNodes (i + 1) (xs ++ i ∷ [])
+one_node_more i xs are =
+    record {
+      below = All-push (λ x. x < i + 1) xs i (All-weaker (λ x. x < i) (λ x. x < i + 1) (λ x lt. omega arith) xs are.below) (omega arith);
+      distinct = IsDistinct-push nat_eq_equiv xs i are.distinct (list_any-above i xs are.below);
+      as_many = omega (arith, length-append xs (i ∷ []), are.as_many);
+    }
+
+-- in another order they are the same
+pub moved_nodes : (n : ℕ) (xs ys : List ℕ) → IsPermutation xs ys → AreAllNodes n xs → AreAllNodes n ys
+moved_nodes n xs ys p are =
+    record {
+      below = All-permutation (λ i. i < n) xs ys p are.below;
+      distinct = IsDistinct-IsPermutation nat_eq (λ x y. grind (arith, nat_tests)) xs ys p are.distinct;
+      as_many = length_permutation xs ys p ∙ are.as_many;
+    }
+
+-- the last free node is one of the memory's and none of the tree's
+pub last_is_free : (n node : ℕ) (rest nodes : List ℕ) → AreAllNodes n ((rest ++ node ∷ []) ++ nodes) → (node < n) × (Contains nodes node → ⊥)
+last_is_free n node rest nodes are =
+    let first = moved_nodes n (rest ++ node ∷ nodes) (node ∷ nodes ++ rest) (IsPermutation-append_comm rest (node ∷ nodes)) (subst (AreAllNodes n) (pushed_before node rest nodes) are) in (
+      All-head (λ i. i < n) node (nodes ++ rest) first.below,
+      λ is.
+          let differ : nat_eq node node ≡ false = all_at (λ y. nat_eq node y ≡ false) (nodes ++ rest) node (IsDistinct-head nat_eq node (nodes ++ rest) first.distinct) (Contains-append_left nodes rest node is) in
+          let same : nat_eq node node ≡ true = eq-eqb node node refl in
+          absurd (let no : true ≡ false = sym same ∙ differ in cc),
+    )
+
+-- one node more is free
+pub one_free_more : (i : ℕ) (free nodes : List ℕ) → AreAllNodes i (free ++ nodes) → AreAllNodes (i + 1) ((free ++ i ∷ []) ++ nodes)
+one_free_more i free nodes are =
+    subst (AreAllNodes (i + 1)) (sym (pushed_before i free nodes))
+    (moved_nodes (i + 1) (free ++ (nodes ++ i ∷ [])) (free ++ i ∷ nodes)
+    (IsPermutation-append_right free (nodes ++ i ∷ []) (i ∷ nodes) (IsPermutation-append_comm nodes (i ∷ [])))
+    (subst (AreAllNodes (i + 1)) (append_assoc free nodes (i ∷ [])) (one_node_more i (free ++ nodes) are)))
+
+-- it goes into the tree
+pub node_taken : (n node place : ℕ) (rest nodes : List ℕ) → AreAllNodes n ((rest ++ node ∷ []) ++ nodes) → AreAllNodes n (rest ++ insert nodes place node)
+node_taken n node place rest nodes are =
+    moved_nodes n (rest ++ node ∷ nodes) (rest ++ insert nodes place node)
+    (IsPermutation-append_right rest (node ∷ nodes) (insert nodes place node) (IsPermutation-insert nodes place node))
+    (subst (AreAllNodes n) (pushed_before node rest nodes) are)
+
+-- and comes back
+pub node_freed : (n node place : ℕ) (free nodes : List ℕ) → slice_get nodes place ≡ Some node → AreAllNodes n (free ++ nodes) → AreAllNodes n ((free ++ node ∷ []) ++ remove nodes place)
+node_freed n node place free nodes is are =
+    let within : place < length nodes = slice_get_within nodes place node is in
+    let here : node ≡ get_or nodes place node = (let e = sym is ∙ slice_get-get_or nodes place node within in cc) in
+    subst (AreAllNodes n) (sym (pushed_before node free (remove nodes place)))
+    (moved_nodes n (free ++ nodes) (free ++ node ∷ remove nodes place)
+    (IsPermutation-append_right free nodes (node ∷ remove nodes place) (IsPermutation-remove nodes place node within here))
+    are)
 
 placed_kept : (m : List ℕ) (n copy : ℕ) (links : List Store) → copy ≤ 1 → AreLinkStores n copy links → (placed : PlacedItems) → AreInPlace m placed → AreInPlace (words_after_all m links) placed
 placed_kept m n copy links c are placed h =

@@ -13,7 +13,7 @@ use Rattle.table_updates.specs.Updates.{replay}
 use Rattle.table_updates.specs.declared.updates.Update.{Update}
 use Rattle.latch_core.specs.Latches.{PendingUpdate, Latch, IsHidden, IsWriterStep}
 use Rattle.latch_core.proofs.ReadingLemmas.{AllLoads}
-use Rattle.latch_core.proofs.StepLemmas.{hidden_same, attempt_uses, sequence_after}
+use Rattle.latch_core.proofs.SoundLemmas.{hidden_same, attempt_uses, sequence_after}
 use Rattle.latch_core.proofs.WalkLemmas.{attempt_answers, attempt_loads}
 use Rattle.latch_core.specs.Latched.{loads_of, IsKept, StandAll, IsSteady, IsLatched}
 

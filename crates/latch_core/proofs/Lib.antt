@@ -1,11 +1,8 @@
 pub mod ReadingLemmas
 pub mod WalkLemmas
 pub mod TestLemmas
-pub mod StepLemmas
 pub mod SoundLemmas
 pub mod StoreOrderLemmas
-pub mod ReaderLemmas
-pub mod NodeLemmas
 pub mod ChangeLemmas
 pub mod ClashLemmas
 pub mod WriterLemmas

@@ -24,7 +24,7 @@ use Rattle.table_updates.specs.Updates.{after, refusal_for}
 use Rattle.table_updates.proofs.HistoryLemmas.{from_items, to_items}
 use Rattle.latch_core.specs.Replacements.{is_same, not_among, replacement, is_rising, update_found, Tells}
 use Rattle.latch_core.specs.declared.replacements.Difference.{Difference}
-use Rattle.latch_core.proofs.StepLemmas.{accepted_table}
+use Rattle.latch_core.proofs.SoundLemmas.{accepted_table}
 
 -- ---- tests of lists, and their members
 

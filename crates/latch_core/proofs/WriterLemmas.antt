@@ -1,6 +1,7 @@
 -- One step of a plan, and what the writer's core pictures, from one call to the next.
 use Rattle.std.proofs.Common.{◌≡◌, ℕ, suc, ◌+◌, ◌*◌, ◌%◌, ◌<◌, true, false, cond, List, [], ◌∷◌, length, drop, Some, None, refl, sym, ◌∙◌, ap, subst, ⊎_elim, arith, get_or-set_other, get_or-set_same, ◌-◌}
 use Rattle.std.specs.Prelude.{◌==◌, MatchOption, is_some, nat_lt, slice_get, Contains, slice_set}
+use Rattle.std.proofs.lemmas.Bool.Decides.{nat_tests}
 use Rattle.std.proofs.lemmas.Bool.{lt-ltb, cases_eq, eq-eqb, ne_eqb, eqb-true}
 use Rattle.order_laws.specs.Orders.{Order}
 use Rattle.facts.proofs.Lists.{first_and_rest, nil-from_length}
@@ -32,18 +33,10 @@ plan_step n l h s xs plan pending is =
 
 -- how many steps are left, by what is pending after one
 at_last : (left : ℕ) (g : PendingUpdate) → cond (left == 1) None (Some g) ≡ None → left ≡ 1
-at_last left g =
-    elim (left == 1) as (λ b. (left == 1) ≡ b → cond b None (Some g) ≡ None → left ≡ 1) [
-      | true ↦ λ e f. eqb-true left 1 e
-      | false ↦ λ e f. absurd (cc)
-    ] refl
+at_last left g e = grind (arith, nat_tests)
 
 before_last : (left : ℕ) (g k : PendingUpdate) → cond (left == 1) None (Some g) ≡ Some k → g ≡ k
-before_last left g k =
-    elim (left == 1) as (λ b. cond b None (Some g) ≡ Some k → g ≡ k) [
-      | true ↦ λ f. absurd (cc)
-      | false ↦ λ f. cc
-    ]
+before_last left g k e = grind (arith, nat_tests)
 
 pub plan_left : (n : ℕ) (l : Latch) (h : PendingUpdate) (ss : List Store) → IsPlan n l ss → l.pending ≡ Some h → h.steps_left ≡ length ss
 plan_left n l h [] plan e = absurd (cc)

@@ -68,7 +68,7 @@ pub fn attempt_is_shallow<O: TreeOrder>()
 {}
 
 /// Whatever values an attempt takes, it ends: after at most four loads for each node and three.
-#[tactic(auto, using(crate::proofs::WalkLemmas::attempt_length, crate::proofs::ReaderLemmas::values_before))]
+#[tactic(auto, using(crate::proofs::WalkLemmas::attempt_length, crate::proofs::LoadingLemmas::values_before))]
 pub fn attempt_ends<O: TreeOrder>()
     ensures whole { (n : ℕ) (k : O.Key) (values : List ℕ) (rest : Reading)
         → rest_after (attempt O.order n k) values ≡ Some rest → length values ≤ 4 * n + 3 }
@@ -93,7 +93,7 @@ pub fn loaded_values_stand<O: TreeOrder>()
 {}
 
 /// A step of the writer leaves the sequence as it is, or adds 1.
-#[tactic(auto, using(crate::proofs::StepLemmas::sequence_after))]
+#[tactic(auto, using(crate::proofs::SoundLemmas::sequence_after))]
 pub fn sequence_never_falls()
     ensures { (n : ℕ) (l : Latch) (h : PendingUpdate) (s : Store) → 0 < length l.words
         → IsWriterStep n l h s

@@ -217,7 +217,8 @@ impl<O: TreeOrder> WriterCore<O> {
     {
         match u {
             Update::Insert(item) => self.insert_test(item),
-            Update::Erase(a) => self.erase_test(*a),
+            Update::Erase(a) if self.shape.has(*a) => None,
+            Update::Erase(_) => Some(Refusal::NoSuchItem),
             Update::Batch { erase, insert } => self.batch_test(erase.as_slice(), insert.as_slice()),
         }
     }
@@ -244,18 +245,6 @@ impl<O: TreeOrder> WriterCore<O> {
         ensures { result ≡ meets O.order item.now self.now.table }
     {
         self.shape.meets(item, &[])
-    }
-
-    /// Why a first word is not to be erased, if it is not.
-    fn erase_test(&self, a: u64) -> Option<Refusal>
-        ensures { result
-            ≡ failed_test O.order self.now.capacity self.now.table (Update.Erase a) }
-    {
-        if self.shape.has(a) {
-            None
-        } else {
-            Some(Refusal::NoSuchItem)
-        }
     }
 
     /// Why a batch is not to be carried out, if it is not.

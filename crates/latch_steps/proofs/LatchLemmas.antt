@@ -20,8 +20,7 @@ use Rattle.table_updates.specs.Updates.{refusal_for}
 use Rattle.latch_core.specs.Latches.{PendingUpdate, Latch, IsWriterStep}
 use Rattle.latch_core.specs.Invariants.{IsSound}
 use Rattle.word_layout.proofs.HoldsLemmas.{flip_adds}
-use Rattle.latch_core.proofs.StepLemmas.{hidden_same}
-use Rattle.latch_core.proofs.SoundLemmas.{sound_step, sound_begin}
+use Rattle.latch_core.proofs.SoundLemmas.{hidden_same, sound_step, sound_begin}
 use Rattle.latch_steps.specs.Runs.{PendingLookup, Moment, Done, accepted, moment_at}
 use Rattle.latch_steps.specs.Steps.{machine, IsBegin, IsWrite, AfterLoad, Goes, Retries, Returns, after_load, start_done, load_done, read_done, Step, Run}
 use Rattle.latch_steps.specs.Quiet.{is_step, is_flip, flips_between}

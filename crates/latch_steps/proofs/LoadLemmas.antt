@@ -7,7 +7,7 @@ use Rattle.latch_core.specs.Attempts.{Reading, Load, Ends, Again, Answer, attemp
 use Rattle.latch_core.specs.declared.readers.ReaderCore.{ReaderCore}
 use Rattle.latch_core.specs.declared.readers.Taken.TheVariants.{Going, Retrying, Returned}
 use Rattle.latch_core.specs.Cores.{capacity_of_core, key_of_core, rest_of_core, HasTaken, HandsBack}
-use Rattle.latch_core.proofs.ReaderLemmas.{core_loads}
+use Rattle.latch_core.proofs.LoadingLemmas.{core_loads}
 use Rattle.latch_core.proofs.ReadingLemmas.{rest_push}
 use Rattle.latch_steps.specs.declared.lookups.Lookup.{Lookup}
 use Rattle.latch_steps.specs.declared.lookups.LoadOutcome.TheVariants.{Going as GoingLoad, Retrying as RetryingLoad, Returned as ReturnedLoad}

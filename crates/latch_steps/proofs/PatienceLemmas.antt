@@ -20,7 +20,7 @@ use Rattle.latch_steps.specs.Runs.{PendingLookup, Moment, opening, Done, accepte
 use Rattle.latch_steps.specs.Steps.{machine, counted_up, IsBegin, IsWrite, after_load, start_done, load_done, read_done, Step, Run}
 use Rattle.latch_steps.specs.Quiet.{flips_between, IsPatientReply, IsQuiet}
 use Rattle.latch_core.specs.Invariants.{IsStanding}
-use Rattle.latch_core.proofs.StepLemmas.{sequence_after}
+use Rattle.latch_core.proofs.SoundLemmas.{sequence_after}
 use Rattle.latch_steps.proofs.LoadCaseLemmas.{IsGoing, by_sound_load}
 use Rattle.latch_steps.proofs.SafeStepLemmas.{IsWorld, IsRight, step_leads}
 use Rattle.latch_steps.proofs.SafeRunLemmas.{IsLeft, all_left, left_next, moment_there, opening_world}

@@ -22,8 +22,7 @@ use Rattle.latch_steps.specs.Runs.{PendingLookup, Moment, accepted}
 use Rattle.latch_steps.specs.Steps.{machine, counted_up, with_event, with_latch, with_lookups, IsBegin, IsWrite, start_done, load_done, read_done, Step}
 use Rattle.latch_core.specs.Invariants.{IsSound}
 use Rattle.latch_steps.proofs.LoadCaseLemmas.{IsGoing, none_loaded, by_sound_load}
-use Rattle.latch_core.proofs.StepLemmas.{standing_step}
-use Rattle.latch_core.proofs.SoundLemmas.{sound_step, sound_begin}
+use Rattle.latch_core.proofs.SoundLemmas.{standing_step, sound_step, sound_begin}
 
 -- what holds of a pending lookup
 pub record IsLookup {K : Type 0} (o : Order K) (n : ℕ) (m : List ℕ) (c : ℕ)

@@ -13,7 +13,7 @@ use Rattle.latch_core.specs.Sequences.{generation_of}
 use Rattle.table_updates.specs.Updates.{replay}
 use Rattle.latch_core.specs.Attempts.{Reading, Load, Ends, Answer, attempt, rest_after, IsAttempt}
 use Rattle.latch_core.specs.Latches.{PendingUpdate, Latch, IsWriterStep}
-use Rattle.latch_core.proofs.StepLemmas.{sequence_after}
+use Rattle.latch_core.proofs.SoundLemmas.{sequence_after}
 use Rattle.latch_table.specs.declared.knowledge.ReaderKnowledge.{ReaderKnowledge}
 use Rattle.latch_core.specs.Latched.{loads_of, IsKept, StandAll, IsSteady, IsLatched}
 use Rattle.latch_table.specs.Seats.{blank_reader, with_sequence, with_word, last_or}

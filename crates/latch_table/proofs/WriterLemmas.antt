@@ -25,8 +25,7 @@ use Rattle.latch_core.specs.Invariants.{IsPendingUpdate, IsPendingOf, IsSound}
 use Rattle.latch_core.specs.WriterViews.{WriterView}
 use Rattle.latch_core.specs.Writers.{RepresentsLatch, next_store, why_refused, has_pending, writer_after_step, HasBegun}
 use Rattle.word_layout.proofs.HoldsLemmas.{flip_adds}
-use Rattle.latch_core.proofs.StepLemmas.{hidden_same}
-use Rattle.latch_core.proofs.SoundLemmas.{flips_of_flip, flips_of_store, sound_step, sound_begin}
+use Rattle.latch_core.proofs.SoundLemmas.{hidden_same, flips_of_flip, flips_of_store, sound_step, sound_begin}
 use Rattle.latch_core.proofs.WriterLemmas.{next_may, did_pictures, refuses_pictured}
 use Rattle.latch_table.specs.declared.knowledge.WriterKnowledge.{WriterKnowledge}
 use Rattle.latch_table.specs.declared.knowledge.Knowledge.{Knowledge}

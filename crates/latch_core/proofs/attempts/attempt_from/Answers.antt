@@ -4,9 +4,8 @@ use Rattle.latch_core.specs.Sequences.{generation_of}
 use Rattle.latch_core.specs.Attempts.{outcome}
 use Rattle.latch_core.specs.Whole.{outcome_of}
 use Rattle.latch_core.specs.Loading.{found_by}
-use Rattle.latch_core.proofs.ReaderLemmas.{again, again_none}
+use Rattle.latch_core.proofs.LoadingLemmas.{again, again_none, tries, few}
 use Rattle.latch_core.proofs.WalkLemmas.{answers}
-use Rattle.latch_core.proofs.LoadingLemmas.{tries, few}
 use Rattle.latch_core.proofs.attempts.attempt_from.Goals as goal
 use Rattle.latch_core.proofs.attempts.attempt_from.Goals.{in-At, in-Nowhere, in_default-2, in_default-3, in_default}
 

@@ -1,4 +1,4 @@
-use Rattle.latch_core.proofs.StepLemmas.{standing_step}
+use Rattle.latch_core.proofs.SoundLemmas.{standing_step}
 use Rattle.latch_core.proofs.laws.loaded_values_stand.Goals as goal
 
 pub returns-clause-step : goal.returns-clause-step

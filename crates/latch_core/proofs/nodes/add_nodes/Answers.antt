@@ -1,6 +1,6 @@
 use Rattle.std.proofs.Common.{◌+◌, ◌++◌, sym, subst, arith}
 use Rattle.latch_core.specs.FreeNodes.{AreAllNodes}
-use Rattle.latch_core.proofs.NodeLemmas.{one_free_more}
+use Rattle.latch_core.proofs.ChangeLemmas.{one_free_more}
 use Rattle.latch_core.proofs.nodes.add_nodes.Goals as goal
 
 pub loop-node-preserved : goal.loop-node-preserved

@@ -1,6 +1,6 @@
 use Rattle.std.proofs.Common.{◌++◌, [], append-nil, sym, subst}
 use Rattle.latch_core.specs.FreeNodes.{AreAllNodes}
-use Rattle.latch_core.proofs.NodeLemmas.{no_nodes}
+use Rattle.latch_core.proofs.ChangeLemmas.{no_nodes}
 use Rattle.latch_core.proofs.nodes.all_nodes.Goals as goal
 
 pub returns-clause-all : goal.returns-clause-all
