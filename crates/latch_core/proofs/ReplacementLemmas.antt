@@ -160,13 +160,12 @@ rising_after o (x ∷ xs) ys h = rising_after o xs ys (and_parts (list_all (λ y
 rising_drop : {K : Type 0} (o : Order K) (xs : List Item) (i : ℕ) → is_rising o xs ≡ true → is_rising o (drop i xs) ≡ true
 rising_drop o xs i h = rising_after o (take i xs) (drop i xs) (ap (is_rising o) (take-append-drop i xs) ∙ h)
 
-module _ {K : Type 0} (o : Order K) (law : IsLawful o) where
-  pub rising_short : (xs : List Item) (k : ℕ) → length xs ≤ k + 1 → is_rising o (drop k xs) ≡ true
-  rising_short [] zero h = refl
-  rising_short [] (suc k) h = refl
-  rising_short (x ∷ []) zero h = refl
-  rising_short (x ∷ y ∷ ys) zero h = absurd (omega arith)
-  rising_short (x ∷ xs) (suc k) h = rising_short xs k (omega arith)
+pub rising_short : {K : Type 0} (o : Order K) (xs : List Item) (k : ℕ) → length xs ≤ k + 1 → is_rising o (drop k xs) ≡ true
+rising_short o [] zero h = refl
+rising_short o [] (suc k) h = refl
+rising_short o (x ∷ []) zero h = refl
+rising_short o (x ∷ y ∷ ys) zero h = absurd (omega arith)
+rising_short o (x ∷ xs) (suc k) h = rising_short o xs k (omega arith)
 
 -- one step of a difference at a place of its list
 module _ {K : Type 0} (o : Order K) (law : IsLawful o) (erase : List ℕ) (insert items : List Item) (k : ℕ) (d x : Item) where

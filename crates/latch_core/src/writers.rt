@@ -171,19 +171,12 @@ impl<O: TreeOrder> WriterCore<O> {
             }
         };
         if !begun {
-            return Err(self.refused(u));
+            return match self.refusal(u) {
+                Some(refusal) => Err(refusal),
+                None => Err(Refusal::OutOfMemory),
+            };
         }
         Ok(self.plan.remaining())
-    }
-
-    /// Why an update is refused that was not begun.
-    fn refused(&self, u: &Update) -> Refusal
-        ensures { IsRefusedBy O.order self.now u.now result }
-    {
-        match self.refusal(u) {
-            Some(refusal) => refusal,
-            None => Refusal::OutOfMemory,
-        }
     }
 
     /// Whether no update is pending, and two flips more keep within the greatest sequence.

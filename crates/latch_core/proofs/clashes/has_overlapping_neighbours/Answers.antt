@@ -1,4 +1,4 @@
-use Rattle.std.proofs.Common.{◌≤◌, ◌+◌, ◌-◌, length, sym, ◌∙◌, arith}
+use Rattle.std.proofs.Common.{◌-◌, sym, ◌∙◌, arith}
 use Rattle.order_laws.specs.declared.items.Item.{Item}
 use Rattle.table_updates.proofs.BatchLemmas.{all_valid}
 use Rattle.latch_core.proofs.ClashLemmas.{overlap_on, none_left}
@@ -15,7 +15,4 @@ loop-place-preserved g c =
 
 pub returns : goal.returns
 returns g c =
-    let some = c.loop-place.invariant.some in
-    let all = c.loop-place-test.false in
-    let most : length c.args.items.now ≤ c.loop-place.place - 1 + 1 = omega (arith, some, all) in
-    sym (none_left g.O.TreeOrder.order c.args.items.now (c.loop-place.place - 1) most) ∙ c.loop-place.invariant.same
+    sym (none_left g.O.TreeOrder.order c.args.items.now (c.loop-place.place - 1) (omega (arith, c.loop-place.invariant.some, c.loop-place-test.false))) ∙ c.loop-place.invariant.same

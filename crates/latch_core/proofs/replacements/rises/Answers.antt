@@ -1,4 +1,4 @@
-use Rattle.std.proofs.Common.{◌≤◌, ◌+◌, ◌-◌, get_or, drop, length, sym, ◌∙◌, arith}
+use Rattle.std.proofs.Common.{◌+◌, ◌-◌, get_or, drop, sym, ◌∙◌, arith}
 use Rattle.order_laws.specs.declared.items.Item.{Item}
 use Rattle.latch_core.specs.Replacements.{is_rising}
 use Rattle.latch_core.proofs.ReplacementLemmas.{rising_on, rising_short}
@@ -18,7 +18,4 @@ loop-place-preserved g c =
 
 pub returns : goal.returns
 returns g c =
-    let some = c.loop-place.invariant.some in
-    let all = c.loop-place-test.false in
-    let most : length c.args.items.now ≤ c.loop-place.place - 1 + 1 = omega (arith, some, all) in
-    sym (rising_short g.O.TreeOrder.order g.met.O.TreeOrder.lawful c.args.items.now (c.loop-place.place - 1) most) ∙ c.loop-place.invariant.same
+    sym (rising_short g.O.TreeOrder.order c.args.items.now (c.loop-place.place - 1) (omega (arith, c.loop-place.invariant.some, c.loop-place-test.false))) ∙ c.loop-place.invariant.same
