@@ -55,15 +55,11 @@ taken_node n zero free rest node left step e =
     last_is_free n node rest (listed zero.tree) (subst (λ xs. AreAllNodes n (xs ++ listed zero.tree)) e step.nodes)
 
 -- the stores lie in the memory
-
-flip_in_range : (n seq : ℕ) (links : List Store) → All (λ (s : Store). s.word < words_for n) links → All (λ (s : Store). s.word < words_for n) (flip_to seq ∷ links)
-flip_in_range n seq links all = All-cons (λ (s : Store). s.word < words_for n) (flip_to seq) links (omega arith) all
-
 update_in_range : (n seq : ℕ) (items links0 links1 : List Store) → All (λ (s : Store). s.word < words_for n) items → AreLinkStores n 0 links0 → AreLinkStores n 1 links1 → All (λ (s : Store). s.word < words_for n) (update_stores seq items links0 links1)
 update_in_range n seq items links0 links1 all zero one =
     let P : Store → Type 0 = λ s. s.word < words_for n in
-    let f0 = flip_in_range n (seq + 1) links0 (links_in_range n 0 links0 (omega arith) zero) in
-    let f1 = flip_in_range n (seq + 2) links1 (links_in_range n 1 links1 (omega arith) one) in
+    let f0 = All-cons P (flip_to (seq + 1)) links0 (omega arith) (links_in_range n 0 links0 (omega arith) zero) in
+    let f1 = All-cons P (flip_to (seq + 2)) links1 (omega arith) (links_in_range n 1 links1 (omega arith) one) in
     All-append P (items ++ flip_to (seq + 1) ∷ links0) (flip_to (seq + 2) ∷ links1) (All-append P items (flip_to (seq + 1) ∷ links0) all f0) f1
 
 -- how many stores an update has
