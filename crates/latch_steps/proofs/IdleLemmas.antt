@@ -62,7 +62,7 @@ pub record Reads {K : Type 0} (r : ℕ) (w : Moment K) (done : Reply K × Moment
   pub ends : Ends r done.0 done.1
 
 module _ {K : Type 0} (r : ℕ) where
-  start_differs : (w : Moment K) (k : K) (found : Option (PendingLookup K)) → Differs r w (start_done w r k found).1
+  pub start_differs : (w : Moment K) (k : K) (found : Option (PendingLookup K)) → Differs r w (start_done w r k found).1
   start_differs w k None = record { latch = refl; others = λ q ne. get-insert_other w.lookups q r (new_lookup k (counted_up w.events)) ne }
   start_differs w k (Some l) = record { latch = refl; others = λ q ne. refl }
 
@@ -71,7 +71,7 @@ module _ {K : Type 0} (r : ℕ) where
   load_reads w (Retries l) = record { differs = record { latch = refl; others = λ q ne. get-insert_other w.lookups q r l ne }; ends = tt }
   load_reads w (Returns x) = record { differs = record { latch = refl; others = λ q ne. get-remove_other w.lookups q r ne }; ends = get-remove_same w.lookups r }
 
-  read_reads : (o : Order K) (n : ℕ) (w : Moment K) (found : Option (PendingLookup K)) → Reads r w (read_done o n w r found)
+  pub read_reads : (o : Order K) (n : ℕ) (w : Moment K) (found : Option (PendingLookup K)) → Reads r w (read_done o n w r found)
   read_reads o n w None = record { differs = record { latch = refl; others = λ q ne. refl }; ends = tt }
   read_reads o n w (Some l) = load_reads w (after_load o n w r l)
 

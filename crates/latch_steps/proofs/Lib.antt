@@ -1,22 +1,12 @@
 mod LoadCaseLemmas
-mod SafeStepLemmas
-mod PendingLookupLemmas
+mod StepLemmas
 mod SafeRunLemmas
-mod MemoryLemmas
-mod LatchLemmas
-mod UndisturbedLemmas
-mod PatienceLemmas
+mod QuietRunLemmas
 mod LoadLemmas
-mod NextLoadLemmas
 mod WorldLemmas
-mod EventCountLemmas
 pub mod RunLemmas
 pub mod ReportLemmas
 mod RecordingLemmas
-mod DriverLemmas
-mod HeldLookupLemmas
-mod Promising
-mod SettleLemmas
-mod FindLemmas
+mod AtOnceLemmas
 mod PlainRunLemmas
 pub mod IdleLemmas

@@ -1,7 +1,10 @@
 -- What one load makes of a pending lookup, by cases: whatever holds of a lookup whose attempt goes
 -- on, of one that has to try again and of one that returns the look of its key, holds of what the
 -- load leads to.
-use Rattle.std.proofs.Common.{◌≡◌, ℕ, ◌-◌, ◌≤◌, List, [], ◌∷◌, ◌++◌, length, Some, refl, sym, ◌∙◌, ap, subst}
+use Rattle.std.proofs.Common.{◌≡◌, ℕ, ◌-◌, ◌≤◌, true, false, cond, List, [], ◌∷◌, ◌++◌, length, Some, None, refl, sym, ◌∙◌, ap, subst}
+use Rattle.std.specs.Ordering.{nat_cmp, eq_by_cmp}
+use Rattle.std.specs.Cmp.{nat_cmp_total}
+use Rattle.std.specs.FinMap.{FinMap, get, insert, remove, get-insert, get-remove}
 use Rattle.order_laws.specs.declared.items.Item.{Item}
 use Rattle.order_laws.specs.Orders.{Order, IsLawful}
 use Rattle.order_laws.specs.Tables.{IsTable, look}
@@ -15,6 +18,24 @@ use Rattle.latch_core.proofs.ReadingLemmas.{rest_push, stand_push}
 use Rattle.latch_core.proofs.WalkLemmas.{attempt_answers, standing_push, answer_first}
 use Rattle.latch_steps.specs.Runs.{PendingLookup, Moment}
 use Rattle.latch_steps.specs.Steps.{AfterLoad, Goes, Retries, Returns, with_value, next_attempt, return_of, after_value, load_left, after_load}
+
+-- what holds of each pending lookup holds of each after a change at one reader
+module _ {K : Type 0} (Holds_of : PendingLookup K → Type 0) (ls : FinMap nat_cmp (PendingLookup K)) (r : ℕ) where
+  pub each_insert : (new : PendingLookup K) → ((q : ℕ) (l : PendingLookup K) → get ls q ≡ Some l → Holds_of l) → Holds_of new
+      → (q : ℕ) (l : PendingLookup K) → get (insert ls r new) q ≡ Some l → Holds_of l
+  each_insert new h is q l e =
+      elim (eq_by_cmp nat_cmp q r) as (λ b. cond b (Some new) (get ls q) ≡ Some l → Holds_of l) [
+        | true ↦ λ f. (let same : new ≡ l = cc in subst Holds_of same is)
+        | false ↦ λ f. h q l f
+      ] (sym (get-insert nat_cmp_total ls r new q) ∙ e)
+
+  pub each_remove : ((q : ℕ) (l : PendingLookup K) → get ls q ≡ Some l → Holds_of l)
+      → (q : ℕ) (l : PendingLookup K) → get (remove ls r) q ≡ Some l → Holds_of l
+  each_remove h q l e =
+      elim (eq_by_cmp nat_cmp q r) as (λ b. cond b None (get ls q) ≡ Some l → Holds_of l) [
+        | true ↦ λ f. absurd (cc)
+        | false ↦ λ f. h q l f
+      ] (sym (get-remove nat_cmp_total ls r q) ∙ e)
 
 -- a pending lookup: while its first number is word 0 its values stand, and its attempt asks for a
 -- word

@@ -1,4 +1,4 @@
--- One load of a lookup.
+-- One load of a lookup, and what it loads next.
 use Rattle.std.proofs.Common.{◌≡◌, ℕ, List, [], ◌∷◌, ◌++◌, Option, Some, sym, ◌∙◌, ap}
 use Rattle.order_laws.specs.declared.items.Item.{Item}
 use Rattle.order_laws.specs.Orders.{Order}
@@ -6,14 +6,15 @@ use Rattle.word_layout.specs.Words.{at}
 use Rattle.latch_core.specs.Attempts.{Reading, Load, Ends, Again, Answer, attempt, rest_after}
 use Rattle.latch_core.specs.declared.readers.ReaderCore.{ReaderCore}
 use Rattle.latch_core.specs.declared.readers.Taken.TheVariants.{Going, Retrying, Returned}
-use Rattle.latch_core.specs.Cores.{capacity_of_core, key_of_core, rest_of_core, HasTaken, HandsBack}
+use Rattle.latch_core.specs.Cores.{capacity_of_core, key_of_core, rest_of_core, HasTaken, HandsBack, IsWanted}
 use Rattle.latch_core.proofs.LoadingLemmas.{core_loads}
 use Rattle.latch_core.proofs.ReadingLemmas.{rest_push}
 use Rattle.latch_steps.specs.declared.lookups.Lookup.{Lookup}
 use Rattle.latch_steps.specs.declared.lookups.LoadOutcome.TheVariants.{Going as GoingLoad, Retrying as RetryingLoad, Returned as ReturnedLoad}
 use Rattle.latch_steps.specs.Runs.{PendingLookup, Moment}
 use Rattle.latch_steps.specs.Steps.{counted_up, with_value, next_attempt, Returns, after_value, load_left, after_load}
-use Rattle.latch_steps.specs.Lookups.{IsLookupOf, LoadsTo}
+use Rattle.latch_steps.specs.Lookups.{IsLookupOf, LoadsTo, LoadsNextFrom, word_asked}
+use Rattle.latch_steps.specs.declared.replies.NextLoad.{NextLoad}
 
 module _ {O K : Type 0} (o : Order K) (n : ℕ) (c : Lookup O K) (l : PendingLookup K) (is : IsLookupOf o n c l) (words : List ℕ) (word value : ℕ)
     (wants : (values : List ℕ) → HasTaken o values c.core → (go : ℕ → Reading) × (rest_after (attempt o (capacity_of_core c.core) (key_of_core c.core)) values ≡ Some (Load word go)))
@@ -73,3 +74,15 @@ module _ {O K : Type 0} (o : Order K) (n : ℕ) (c : Lookup O K) (l : PendingLoo
       let count : counted_up l.loads ≡ loads = ap counted_up (sym is.loads) ∙ sym e in
       leads_to (Ends (Answer x g)) left w r same
       ∙ (λ i. Returns (record { reader = r; key = same_key i; answer = x; generation = g; first = sym is.first i; last = now i; loads = count i; attempts = sym is.attempts i }))
+
+module _ {O K : Type 0} (o : Order K) where
+  -- a core's wanted word is the one that its attempt asks for
+  pub loads_next : (c : Lookup O K) (words : List ℕ) (load : NextLoad K)
+      → load.key ≡ key_of_core c.core → IsWanted o c.core load.word
+      → load.value ≡ at words load.word → load.loads ≡ counted_up c.loads
+      → load.attempts ≡ c.attempts → LoadsNextFrom o c words load
+  loads_next c words load key wants value loads attempts n l is =
+      let asks = wants l.values is.leads in
+      let same : attempt o (capacity_of_core c.core) (key_of_core c.core) ≡ attempt o n l.key = (λ i. attempt o (is.capacity i) (is.key i)) in
+      let word : load.word ≡ word_asked (rest_after (attempt o n l.key) l.values) = sym (ap word_asked (ap (λ a. rest_after a l.values) (sym same) ∙ asks.1)) in
+      λ i. record { key = (key ∙ is.key) i; word = word i; value = (value ∙ ap (at words) word) i; loads = (loads ∙ ap counted_up is.loads) i; attempts = (attempts ∙ is.attempts) i }

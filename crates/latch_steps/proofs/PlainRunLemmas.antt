@@ -1,5 +1,5 @@
 -- Runs in which updates and lookups come one after another.
-use Rattle.std.proofs.Common.{◌≡◌, ◌≢◌, ℕ, ◌+◌, ◌-◌, ◌*◌, ◌%◌, ◌<◌, ◌≤◌, true, List, [], ◌∷◌, ◌++◌, length, Option, Some, None, refl, sym, ◌∙◌, ap, subst, ⊎_elim, arith, length-append}
+use Rattle.std.proofs.Common.{◌≡◌, ◌≢◌, ℕ, ◌+◌, ◌-◌, ◌*◌, ◌%◌, ◌<◌, ◌≤◌, Bool, true, false, cond, List, [], ◌∷◌, ◌++◌, length, Option, Some, None, refl, sym, ◌∙◌, ap, subst, ⊎_elim, arith, length-append}
 use Rattle.std.specs.Prelude.{is_some}
 use Rattle.std.specs.Ordering.{nat_cmp}
 use Rattle.std.specs.FinMap.{get, insert, remove, get-empty}
@@ -7,7 +7,6 @@ use Rattle.std.proofs.lemmas.Bool.{cases_eq}
 use Rattle.order_laws.specs.Orders.{Order, IsLawful}
 use Rattle.order_laws.specs.Tables.{look}
 use Rattle.order_laws.specs.declared.refusals.Refusal.{Refusal}
-use Rattle.facts.proofs.Maps.{get-insert_other, get-insert_same, get-remove_other, get-remove_same}
 use Rattle.word_layout.specs.Words.{at}
 use Rattle.table_updates.specs.declared.updates.Update.{Update}
 use Rattle.latch_core.specs.Sequences.{generation_of, stable_copy_of}
@@ -24,11 +23,12 @@ use Rattle.latch_steps.specs.declared.events.Event.{Event}
 use Rattle.latch_steps.specs.declared.events.Event.TheVariants.{Begin, Write, Start, Read}
 use Rattle.latch_steps.specs.declared.replies.Reply.{Reply}
 use Rattle.latch_steps.specs.Runs.{PendingLookup, Moment, Done, accepted, last_of, opening}
-use Rattle.latch_steps.specs.Steps.{machine, with_lookups, IsBegin, IsWrite, AfterLoad, Goes, Retries, Returns, return_of, after_load, start_done, load_done, read_done, Step, Run}
-use Rattle.latch_steps.specs.Expands.{event_of, most_of, Repeats}
+use Rattle.latch_steps.specs.Steps.{machine, with_lookups, IsBegin, IsWrite, return_of, start_done, load_done, read_done, Step, Run}
+use Rattle.latch_steps.specs.Expands.{ends, event_of, most_of, Repeats}
 use Rattle.latch_steps.specs.Plain.{IsPlainEvent, IsPlain, ArePlain, IsLookAfter, IsLookReply, AreLooksAfter}
-use Rattle.latch_steps.proofs.LoadCaseLemmas.{IsGoing, none_loaded, by_load}
-use Rattle.latch_steps.proofs.LatchLemmas.{step_sound}
+use Rattle.latch_steps.proofs.LoadCaseLemmas.{IsGoing, each_insert, each_remove, none_loaded, by_load}
+use Rattle.latch_steps.proofs.IdleLemmas.{read_reads}
+use Rattle.latch_steps.proofs.StepLemmas.{step_sound}
 
 -- a pending lookup at its first attempt, since whose start the writer has had no pending update
 record IsAlone {K : Type 0} (o : Order K) (n : ℕ) (latch : Latch) (l : PendingLookup K) : Type 0 where
@@ -53,24 +53,10 @@ module _ {K : Type 0} (o : Order K) (law : IsLawful o) (n start : ℕ) (us : Lis
 
   set : (r : ℕ) (new : PendingLookup K) → IsAlone o n w.latch new
       → AreAlone o n (with_lookups w (insert w.lookups r new))
-  set r new is q l there =
-      ⊎_elim
-      (λ same.
-      let f : Some new ≡ Some l = sym (get-insert_same w.lookups r new) ∙ sym (ap (get (insert w.lookups r new)) same) ∙ there in
-      let g : new ≡ l = cc in
-      subst (IsAlone o n w.latch) g is)
-      (λ ne. alone q l (sym (get-insert_other w.lookups q r new ne) ∙ there))
-      (cases_eq q r)
+  set r new is = each_insert (IsAlone o n w.latch) w.lookups r new alone is
 
   gone : (r : ℕ) → AreAlone o n (with_lookups w (remove w.lookups r))
-  gone r q l there =
-      ⊎_elim
-      (λ same.
-      let nothing : Option (PendingLookup K) = None in
-      let f : nothing ≡ Some l = sym (get-remove_same w.lookups r) ∙ sym (ap (get (remove w.lookups r)) same) ∙ there in
-      absurd (cc))
-      (λ ne. alone q l (sym (get-remove_other w.lookups q r ne) ∙ there))
-      (cases_eq q r)
+  gone r = each_remove (IsAlone o n w.latch) w.lookups r alone
 
   begin_leads : (u : Update) (why : Option Refusal) (reply : Reply K) (w' : Moment K)
       → IsPlainEvent w (Begin u) → IsBegin o n w u why reply w' → Leads (reply, w')
@@ -152,22 +138,6 @@ exact_where_plain {K = K} o law n limit start run even steps plain =
     exact_run o law n limit start [] w0 run (sound_opening {K = K} o n start even)
     (λ q l there. (let no : get w0.lookups q ≡ None = get-empty nat_cmp q in absurd (cc))) steps plain
 
--- an event at most once
-abbrev IsOnce : {K : Type 0} → Event K → List (Done K) → Type 0
-IsOnce e [] = Unit {0}
-IsOnce e (d ∷ []) = d.event ≡ e
-IsOnce e (d ∷ d' ∷ run) = ⊥
-
-begun_once : {K : Type 0} (u : Update) (run : List (Done K)) → Repeats (BeginCommand u) 1 run → IsOnce (Begin u) run
-begun_once u [] again = tt
-begun_once u (d ∷ []) again = again.1
-begun_once u (d ∷ d' ∷ run) again = let none : 0 < 0 = again.2.0 in absurd (omega arith)
-
-started_once : {K : Type 0} (r : ℕ) (k : K) (run : List (Done K)) → Repeats (StartCommand r k) 1 run → IsOnce (Start r k) run
-started_once r k [] again = tt
-started_once r k (d ∷ []) again = again.1
-started_once r k (d ∷ d' ∷ run) again = let none : 0 < 0 = again.2.0 in absurd (omega arith)
-
 -- a writer step or a load leaves nothing pending that is not its own
 module _ {K : Type 0} (o : Order K) (n limit : ℕ) where
   writes_plain : (w : Moment K) (pending : Option PendingUpdate) (reply : Reply K) (w' : Moment K)
@@ -184,58 +154,48 @@ module _ {K : Type 0} (o : Order K) (n limit : ℕ) where
           readers = λ q e. ⊎_elim (λ same. ap Read (sym same)) (λ ne. plain.readers q (sym (ap is_some (others q ne)) ∙ e)) (cases_eq q r);
         }
 
-    load_plain : (x : AfterLoad K) → IsPlainEvent (load_done w r x).1 (Read r)
-    load_plain (Goes l) = other_lookups _ refl (λ q ne. get-insert_other w.lookups q r l ne)
-    load_plain (Retries l) = other_lookups _ refl (λ q ne. get-insert_other w.lookups q r l ne)
-    load_plain (Returns x) = other_lookups _ refl (λ q ne. get-remove_other w.lookups q r ne)
-
     read_plain : (found : Option (PendingLookup K)) → IsPlainEvent (read_done o n w r found).1 (Read r)
-    read_plain None = other_lookups _ refl (λ q ne. refl)
-    read_plain (Some l) = load_plain (after_load o n w r l)
+    read_plain found = let d = (read_reads r o n w found).differs in other_lookups _ d.latch d.others
 
   step_plain_write : (w : Moment K) (d : Done K) → d.event ≡ Write
       → Step (machine o n limit) w d.event d.reply d.after → IsPlainEvent w Write → IsPlainEvent d.after Write
   step_plain_write w d same step plain =
       writes_plain w w.latch.pending d.reply d.after (subst (λ e. Step (machine o n limit) w e d.reply d.after) same step) plain
 
-  step_plain_read : (w : Moment K) (r : ℕ) (d : Done K) → d.event ≡ Read r
+  step_plain_read : (r : ℕ) (w : Moment K) (d : Done K) → d.event ≡ Read r
       → Step (machine o n limit) w d.event d.reply d.after → IsPlainEvent w (Read r) → IsPlainEvent d.after (Read r)
-  step_plain_read w r d same step plain =
+  step_plain_read r w d same step plain =
       let s : read_done o n w r (get w.lookups r) ≡ (d.reply, d.after) = subst (λ e. Step (machine o n limit) w e d.reply d.after) same step in
       subst (λ (done : Reply K × Moment K). IsPlainEvent done.1 (Read r)) s (read_plain w r plain (get w.lookups r))
 
   -- a command's part of the run, where nothing else is pending before it
-  writing_plain : (c : Command K) → event_of c ≡ Write → (w : Moment K) (most : ℕ) (run : List (Done K))
-      → Run (machine o n limit) w run → Repeats c most run → IsPlainEvent w Write → IsPlain w run
-  writing_plain c is w most [] steps again plain = tt
-  writing_plain c is w most (d ∷ run) steps again plain =
-      let same : d.event ≡ Write = again.1 ∙ is in (
-        subst (IsPlainEvent w) (sym same) plain,
-        writing_plain c is d.after _ run steps.1 again.2 (step_plain_write w d same steps.0 plain),
-      )
-
-  reading_plain : (r most' : ℕ) (w : Moment K) (most : ℕ) (run : List (Done K)) → Run (machine o n limit) w run
-      → Repeats (ReadCommand r most') most run → IsPlainEvent w (Read r) → IsPlain w run
-  reading_plain r most' w most [] steps again plain = tt
-  reading_plain r most' w most (d ∷ run) steps again plain = (
+  repeats_plain : (c : Command K)
+      → ((w : Moment K) (d : Done K) → d.event ≡ event_of c → Step (machine o n limit) w d.event d.reply d.after → IsPlainEvent w (event_of c) → IsPlainEvent d.after (event_of c))
+      → (w : Moment K) (most : ℕ) (run : List (Done K)) → Run (machine o n limit) w run → Repeats c most run → IsPlainEvent w (event_of c) → IsPlain w run
+  repeats_plain c keeps w most [] steps again plain = tt
+  repeats_plain c keeps w most (d ∷ run) steps again plain = (
     subst (IsPlainEvent w) (sym again.1) plain,
-    reading_plain r most' d.after _ run steps.1 again.2 (step_plain_read w r d again.1 steps.0 plain),
+    repeats_plain c keeps d.after _ run steps.1 again.2 (keeps w d again.1 steps.0 plain),
   )
 
   -- and a command of one event
-  once_plain : (e : Event K) (w : Moment K) (run : List (Done K)) → IsOnce e run → IsPlainEvent w e → IsPlain w run
-  once_plain e w [] once plain = tt
-  once_plain e w (d ∷ []) once plain = (subst (IsPlainEvent w) (sym once) plain, tt)
-  once_plain e w (d ∷ d' ∷ run) once plain = absurd once
+  once_plain : (c : Command K) (w : Moment K) (run : List (Done K)) → Repeats c 1 run → IsPlainEvent w (event_of c) → IsPlain w run
+  once_plain c w [] again plain = tt
+  once_plain c w (d ∷ []) again plain = (subst (IsPlainEvent w) (sym again.1) plain, tt)
+  once_plain c w (d ∷ d' ∷ run) again plain = absurd (none_left (ends c d.reply d.after) again.2.0)
+    where
+      none_left : (b : Bool) → 0 < cond b 0 (1 - 1) → ⊥
+      none_left true lt = omega arith
+      none_left false lt = omega arith
 
   part_plain : (c : Command K) (w : Moment K) (run : List (Done K)) → Run (machine o n limit) w run
       → Repeats c (most_of w c) run → IsPlainEvent w (event_of c) → IsPlain w run
-  part_plain (BeginCommand u) w run steps again plain = once_plain (Begin u) w run (begun_once u run again) plain
-  part_plain (WriteCommand most) w run steps again plain = writing_plain (WriteCommand most) refl w _ run steps again plain
-  part_plain WriteFlip w run steps again plain = writing_plain WriteFlip refl w _ run steps again plain
-  part_plain WriteEnd w run steps again plain = writing_plain WriteEnd refl w _ run steps again plain
-  part_plain (StartCommand r k) w run steps again plain = once_plain (Start r k) w run (started_once r k run again) plain
-  part_plain (ReadCommand r most) w run steps again plain = reading_plain r most w _ run steps again plain
+  part_plain (BeginCommand u) w run steps again plain = once_plain (BeginCommand u) w run again plain
+  part_plain (WriteCommand most) w run steps again plain = repeats_plain (WriteCommand most) step_plain_write w _ run steps again plain
+  part_plain WriteFlip w run steps again plain = repeats_plain WriteFlip step_plain_write w _ run steps again plain
+  part_plain WriteEnd w run steps again plain = repeats_plain WriteEnd step_plain_write w _ run steps again plain
+  part_plain (StartCommand r k) w run steps again plain = once_plain (StartCommand r k) w run again plain
+  part_plain (ReadCommand r most) w run steps again plain = repeats_plain (ReadCommand r most) (step_plain_read r) w _ run steps again plain
 
   -- one part after another
   plain_append : (w : Moment K) (run next : List (Done K)) → IsPlain w run → IsPlain (last_of w run) next

@@ -1,18 +1,35 @@
--- What is kept of the events of a run that is recorded.
-use Rattle.std.proofs.Common.{◌≡◌, ℕ, ◌+◌, ◌^◌, ◌<◌, Bool, true, false, List, [], ◌∷◌, ◌++◌, length, refl, sym, ◌∙◌, ap, subst, arith, append_assoc, append-nil}
-use Rattle.order_laws.specs.Orders.{Order}
+-- What is kept of the events of a run that is recorded, what is promised of its trace, and a driver
+-- that goes on by a command.
+use Rattle.std.proofs.Common.{◌≡◌, ℕ, ◌+◌, ◌^◌, ◌<◌, Bool, true, false, List, [], ◌∷◌, ◌++◌, length, refl, sym, ◌∙◌, ap, subst, arith, append_assoc, append-nil, take, get_or}
+use Rattle.order_laws.specs.Orders.{Order, IsLawful}
 use Rattle.word_layout.specs.declared.layouts.Layout.{Layout}
-use Rattle.word_layout.specs.Layouts.{capacity_of}
+use Rattle.word_layout.specs.Layouts.{capacity_of, limit_of}
 use Rattle.latch_steps.specs.declared.traces.Recording.{Recording}
 use Rattle.latch_steps.specs.declared.traces.Trace.{Trace}
 use Rattle.latch_steps.specs.declared.worlds.World.{World}
-use Rattle.latch_steps.specs.Recordings.{IsEmpty, IsWhole, Keeps}
-use Rattle.latch_steps.specs.Reports.{AreReported, IsReportedRun}
+use Rattle.latch_steps.specs.Recordings.{IsEmpty, IsWhole, Keeps, AreWhole}
+use Rattle.latch_steps.specs.Reports.{AreReported, IsReportedRun, ObeysFromAny}
 use Rattle.latch_steps.specs.Runs.{Moment, Done, opening, last_of}
 use Rattle.latch_steps.specs.Steps.{machine_of, Run}
 use Rattle.latch_steps.specs.Traces.{IsTraceOf, kept, events_of, notes_of}
-use Rattle.latch_steps.specs.Worlds.{layout_in}
-use Rattle.latch_steps.proofs.RunLemmas.{events_length, notes_append}
+use Rattle.latch_steps.specs.Worlds.{layout_in, RepresentsMoment}
+use Rattle.latch_steps.proofs.RunLemmas.{events_length, notes_append, expand_push, last_append, run_append, shallow_append}
+use Rattle.facts.proofs.Lists.{take_push}
+use Rattle.latch_core.specs.Writers.{MayOpen}
+use Rattle.latch_steps.specs.declared.commands.Command.{Command}
+use Rattle.latch_steps.specs.declared.events.Event.{Event}
+use Rattle.latch_steps.specs.declared.reports.Outcome.{Outcome}
+use Rattle.latch_steps.specs.Near.{AreShallow}
+use Rattle.latch_steps.specs.Expands.{Expand}
+use Rattle.latch_steps.specs.Promises.{IsSafeTrace, IsQuietTrace, IsNearTrace}
+use Rattle.latch_steps.proofs.ReportLemmas.{none_reported, runs_reported}
+use Rattle.latch_steps.proofs.SafeRunLemmas.{safe}
+use Rattle.latch_steps.proofs.QuietRunLemmas.{quiet, near}
+use Rattle.latch_steps.specs.declared.drivers.Driver.{Driver}
+use Rattle.latch_steps.specs.declared.traces.Notes.{Notes}
+use Rattle.latch_steps.specs.Drivers.{HasDriven, DrivesOn, LeavesNotes, notes_in}
+use Rattle.latch_steps.proofs.StepLemmas.{few_counted}
+use Rattle.latch_steps.proofs.PlainRunLemmas.{exact_where_plain}
 
 -- what is kept of two lists one after another
 pub kept_append : {X : Type 0} (keeps : Bool) (xs ys : List X) → kept keeps (xs ++ ys) ≡ kept keeps xs ++ kept keeps ys
@@ -54,3 +71,100 @@ trace_of o l start old new a b run t lay empty sound whole h =
 -- a trace with so few events is of a run with so few
 pub few_done : {O K : Type 0} (o : Order K) (l : Layout) (start : ℕ) (t : Trace O K) (run : List (Done K)) → IsTraceOf o l start t run → length t.events.items < 2 ^ 64 → length run < 2 ^ 64
 few_done o l start t run h few = omega (arith, events_length run, ap length h.events)
+
+-- a world did what these commands ask for, and reported it
+pub record Obeyed {O K T : Type 0} (o : Order K) (reports : T → Event K → Outcome K → T → Type 0) (w : Moment K) (old new : World O K) (a b : T)
+    (commands : List (Command K)) : Type 0 where
+  pub run : List (Done K)
+  pub reported : IsReportedRun o reports old new a b w run
+  pub expands : Expand w commands run
+
+module _ {O K T : Type 0} (o : Order K) (reports : T → Event K → Outcome K → T → Type 0) (w : Moment K) (old : World O K) (a : T) where
+  pub obeyed_none : RepresentsMoment o old w → Obeyed o reports w old old a a []
+  obeyed_none s = record { run = []; reported = none_reported o reports old a w s; expands = refl }
+
+  -- one command more of a list
+  pub obeyed_more : (now new : World O K) (b b' : T) (commands : List (Command K)) (i : ℕ) (c : Command K)
+      → i < length commands → c ≡ get_or commands i c → Obeyed o reports w old now a b (take i commands)
+      → ObeysFromAny o reports c now new b b' → Obeyed o reports w old new a b' (take (i + 1) commands)
+  obeyed_more now new b b' commands i c there is h obeys =
+      let (next, done, repeats) = obeys (last_of w h.run) h.reported.shows in
+      let more = expand_push w (take i commands) c h.run next h.expands repeats in
+      record {
+        run = h.run ++ next;
+        reported = runs_reported o reports old now new a b b' w h.run next h.reported done;
+        expands = subst (λ cs. Expand w cs (h.run ++ next)) (take_push commands i c there is) more;
+      }
+
+module _ {O K : Type 0} (o : Order K) (law : IsLawful o) (l : Layout) (start : ℕ) (opened : MayOpen l start) where
+  pub safe_trace : (t : Trace O K) → length t.events.items < 2 ^ 64 → IsSafeTrace o l start t
+  safe_trace t few = λ run h.
+      safe o law (capacity_of l) (limit_of l) start opened.0 run (few_done o l start t run h few) h.steps
+
+  pub quiet_trace : (t : Trace O K) → length t.events.items < 2 ^ 64 → IsQuietTrace o l start t
+  quiet_trace t few = λ run h.
+      quiet o law (capacity_of l) (limit_of l) start opened.0 run (few_done o l start t run h few) h.steps
+
+  -- the trees were red-black at each moment
+  pub near_trace : (old new : World O K) (a b : Recording K) (run : List (Done K)) (t : Trace O K) → layout_in old ≡ l → IsEmpty a → b.ran_out ≡ false → IsWhole o new b t
+      → IsReportedRun o (Keeps true) old new a b (opening (capacity_of l) start) run → IsNearTrace o l start t
+  near_trace old new a b run t lay empty sound whole h =
+      let told = trace_of o l start old new a b run t lay empty sound whole h in
+      let few = few_done o l start t run told whole.few in
+      (run, told, near o law (capacity_of l) (limit_of l) start opened.0 run few told.steps (subst (λ k. AreShallow (capacity_of k) run) lay h.shallow))
+
+module _ {O K : Type 0} (o : Order K) where
+  pub driven_none : (l : Layout) (start : ℕ) (d : Driver O K) → MayOpen l start → layout_in d.world ≡ l → RepresentsMoment o d.world (opening (capacity_of l) start) → IsEmpty d.recording
+      → HasDriven o l start [] [] d
+  driven_none l start d opened lay shows empty = record {
+    opened = opened;
+    layout = lay;
+    run = [];
+    steps = tt;
+    expands = refl;
+    notes = empty.notes;
+    shows = shows;
+    shallow = tt;
+  }
+
+  pub driven_more : (c : Command K) (old new : Driver O K) → new.recording.ran_out ≡ false → ObeysFromAny o (Keeps false) c old.world new.world old.recording new.recording
+      → DrivesOn o c old new
+  driven_more c old new sound obeys = λ l start commands taken h.
+      let w0 : Moment K = opening (capacity_of l) start in
+      let (next, r, repeats) = obeys (last_of w0 h.run) h.shows in
+      let kept = all_kept o (capacity_of (layout_in old.world)) false (last_of w0 h.run) next old.recording new.recording r.reported sound in
+      record {
+        opened = h.opened;
+        layout = r.layout ∙ h.layout;
+        run = h.run ++ next;
+        steps = run_append o (capacity_of l) (limit_of l) w0 h.run next h.steps
+            (subst (λ a. Run (machine_of o a) (last_of w0 h.run) next) h.layout r.steps);
+        expands = expand_push w0 commands c h.run next h.expands repeats;
+        notes = ap (λ xs. taken ++ xs) kept.2
+            ∙ sym (append_assoc taken (notes_in old) (notes_of next))
+            ∙ ap (λ xs. xs ++ notes_of next) h.notes ∙ sym (notes_append h.run next);
+        shows = subst (RepresentsMoment o new.world) (sym (last_append w0 h.run next)) r.shows;
+        shallow = shallow_append (capacity_of l) h.run next h.shallow
+            (subst (λ a. AreShallow (capacity_of a) next) h.layout r.shallow);
+      }
+
+  pub driven_whole : IsLawful o → (d : Driver O K) (t : Notes O K) → AreWhole o d.world d.recording t
+      → LeavesNotes o d t
+  driven_whole law d t whole = λ l start commands taken h.
+      let n = capacity_of l in
+      let limit = limit_of l in
+      let last : Moment K = last_of (opening n start) h.run in
+      let few = few_counted o n limit start h.run h.steps (whole.few last h.shows) in
+      record {
+        run = h.run;
+        notes = record {
+          steps = h.steps;
+          notes = ap (λ xs. taken ++ xs) whole.notes ∙ h.notes;
+          sequence = whole.sequence last h.shows;
+        };
+        expands = h.expands;
+        safe = safe o law n limit start h.opened.0 h.run few h.steps;
+        quiet = quiet o law n limit start h.opened.0 h.run few h.steps;
+        near = near o law n limit start h.opened.0 h.run few h.steps h.shallow;
+        plain = exact_where_plain o law n limit start h.run h.opened.0 h.steps;
+      }

@@ -21,7 +21,7 @@ use Rattle.latch_steps.specs.Steps.{machine, read_done, Step, Run}
 use Rattle.latch_steps.specs.Traces.{events_of, note_of, notes_of}
 use Rattle.latch_steps.specs.Worlds.{RepresentsMoment, layout_in}
 use Rattle.latch_steps.specs.WorldSteps.{Does, MayDo, IsWorldStep, is_refused_for_memory}
-use Rattle.latch_steps.proofs.LatchLemmas.{KeepsLatch, read_keeps}
+use Rattle.latch_steps.proofs.StepLemmas.{KeepsLatch, read_keeps}
 
 module _ {K : Type 0} where
   pub last_append : (w : Moment K) (run next : List (Done K)) → last_of w (run ++ next) ≡ last_of (last_of w run) next

@@ -1,14 +1,20 @@
 -- What the methods of a world do to the moments that it shows.
-use Rattle.std.proofs.Common.{◌≡◌, ◌≢◌, ℕ, ◌<◌, ◌≤◌, true, false, cond, List, [], ◌∷◌, length, Option, Some, None, refl, sym, ◌∙◌, ap, subst, inl, inr, ⊎_elim, arith, Vec, Global}
-use Rattle.std.specs.Prelude.{◌⊎◌, is_some, nat_lt}
-use Rattle.std.proofs.lemmas.Bool.{lt-ltb}
+use Rattle.std.proofs.Common.{◌≡◌, ◌≢◌, ℕ, Bool, true, false, cond, Option, Some, None, refl, sym, ◌∙◌, ap, subst, ⊎_elim, arith, ◌<◌, ◌≤◌, List, [], ◌∷◌, length, inl, inr, Vec, Global}
 use Rattle.std.specs.Ordering.{nat_cmp}
 use Rattle.std.specs.Option.{option_flatten}
 use Rattle.std.specs.BTreeMap.{BTreeMap, get as tree_get, is_at}
 use Rattle.std.specs.FinMap.{FinMap, get, insert, remove, empty, get-empty}
+use Rattle.std.proofs.lemmas.Bool.{cases_eq, lt-ltb}
+use Rattle.std.proofs.lemmas.Bool.Decides.{nat_tests}
+use Rattle.order_laws.specs.Orders.{Order}
+use Rattle.facts.proofs.Maps.{get-insert_other, get-insert_same, get-remove_other, get-remove_same}
+use Rattle.latch_steps.specs.declared.lookups.Lookup.{Lookup}
+use Rattle.latch_steps.specs.Runs.{PendingLookup, Moment}
+use Rattle.latch_steps.specs.Lookups.{IsPendingLookup, IsLookupOf, lookup_at, LoadsTo}
+use Rattle.latch_steps.specs.Worlds.{ArePendingLookups, RepresentsMoment, IsAtRest}
+use Rattle.std.specs.Prelude.{◌⊎◌, is_some, nat_lt}
 use Rattle.order_laws.specs.declared.refusals.Refusal.{Refusal}
 use Rattle.order_laws.specs.declared.refusals.Refusal.TheVariants.{OutOfMemory, ReaderBusy, ReaderIdle}
-use Rattle.order_laws.specs.Orders.{Order}
 use Rattle.word_layout.specs.declared.stores.Store.{Store}
 use Rattle.word_layout.specs.Layouts.{capacity_of, limit_of}
 use Rattle.word_layout.specs.Words.{at}
@@ -23,17 +29,65 @@ use Rattle.latch_core.specs.Writers.{RepresentsLatch, HasBegun, has_pending, why
 use Rattle.latch_steps.specs.declared.events.Event.TheVariants.{Begin, Write, Start, Read}
 use Rattle.latch_steps.specs.declared.replies.Returned.{Returned}
 use Rattle.latch_steps.specs.declared.replies.Reply.{Reply}
-use Rattle.latch_steps.specs.declared.replies.Reply.TheVariants.{Begun, Wrote, Idle, Started, Loaded, Retried, Returned as ReturnedReply, Refused}
-use Rattle.latch_steps.specs.declared.lookups.Lookup.{Lookup}
-use Rattle.latch_steps.specs.declared.lookups.LoadOutcome.TheVariants.{Going, Retrying, Returned as ReturnedLoad}
+use Rattle.latch_steps.specs.declared.replies.Reply.TheVariants.{Begun, Wrote, Idle, Started, Returned as ReturnedReply, Refused}
+use Rattle.latch_steps.specs.declared.lookups.LoadOutcome.TheVariants.{Returned as ReturnedLoad}
 use Rattle.latch_steps.specs.declared.worlds.World.{World}
-use Rattle.latch_steps.specs.Runs.{PendingLookup, Moment}
-use Rattle.latch_steps.specs.Steps.{counted_up, with_event, new_lookup, with_latch, with_lookups, IsBegin, IsWrite, after_load, start_done, load_done, read_done}
+use Rattle.latch_steps.specs.Steps.{AfterLoad, counted_up, with_event, new_lookup, with_latch, with_lookups, IsBegin, IsWrite, after_load, start_done, load_done, read_done}
 use Rattle.latch_steps.specs.Expands.{writes_left}
-use Rattle.latch_steps.specs.Lookups.{IsPendingLookup, IsLookupOf, LoadsTo, lookup_at}
-use Rattle.latch_steps.proofs.PendingLookupLemmas.{in_hand_set, in_hand_remove}
-use Rattle.latch_steps.specs.Worlds.{ArePendingLookups, RepresentsMoment, IsAtRest}
 use Rattle.latch_steps.specs.WorldSteps.{Does, MayDo}
+
+-- the code's map and that of a moment, changed at one reader alone
+module _ {O K : Type 0} (o : Order K) (n : ℕ) where
+  pub in_hand_at : (cs ds : ℕ → Option (Lookup O K)) (ls ms : FinMap nat_cmp (PendingLookup K))
+      (r : ℕ) (left : Option (Lookup O K)) → ArePendingLookups o n cs ls
+      → ((q : ℕ) → ds q ≡ cond (is_at (nat_cmp r) q) left (cs q)) → IsPendingLookup o n left (get ms r)
+      → ((q : ℕ) → q ≢ r → get ms q ≡ get ls q) → ArePendingLookups o n ds ms
+  in_hand_at cs ds ls ms r left h e is others q =
+      ⊎_elim
+      (λ same.
+      let here : is_at (nat_cmp r) r ≡ true = grind (arith, nat_tests) in
+      let f : ds r ≡ left = e r ∙ ap (λ b. cond b left (cs r)) here in
+      subst (λ j. IsPendingLookup {O = O} o n (ds j) (get ms j)) (sym same) (subst (λ x. IsPendingLookup {O = O} o n x (get ms r)) (sym f) is))
+      (λ ne.
+      let there : is_at (nat_cmp r) q ≡ false = grind (arith, nat_tests) in
+      let f : ds q ≡ cs q = e q ∙ ap (λ b. cond b left (cs q)) there in
+      subst (λ x. IsPendingLookup {O = O} o n x (get ms q)) (sym f) (subst (λ x. IsPendingLookup {O = O} o n (cs q) x) (sym (others q ne)) (h q)))
+      (cases_eq q r)
+
+  pub in_hand_set : (cs ds : ℕ → Option (Lookup O K)) (ls : FinMap nat_cmp (PendingLookup K)) (r : ℕ)
+      (new : Lookup O K) (l : PendingLookup K) → ArePendingLookups o n cs ls
+      → ((q : ℕ) → ds q ≡ cond (is_at (nat_cmp r) q) (Some new) (cs q)) → IsLookupOf o n new l
+      → ArePendingLookups o n ds (insert ls r l)
+  in_hand_set cs ds ls r new l h e is =
+      in_hand_at cs ds ls (insert ls r l) r (Some new) h e (subst (IsPendingLookup o n (Some new)) (sym (get-insert_same ls r l)) is) (λ q ne. get-insert_other ls q r l ne)
+
+  pub in_hand_remove : (cs ds : ℕ → Option (Lookup O K)) (ls : FinMap nat_cmp (PendingLookup K))
+      (r : ℕ) → ArePendingLookups o n cs ls → ((q : ℕ) → ds q ≡ cond (is_at (nat_cmp r) q) None (cs q))
+      → ArePendingLookups o n ds (remove ls r)
+  in_hand_remove cs ds ls r h e =
+      in_hand_at cs ds ls (remove ls r) r None h e (subst (IsPendingLookup {O = O} o n None) (sym (get-remove_same ls r)) tt) (λ q ne. get-remove_other ls q r ne)
+
+-- the readers' places after a change at one of them
+module _ {O K : Type 0} (old new : BTreeMap ℕ (Option (Lookup O K))) (r : ℕ) (place : Option (Lookup O K)) (e : (q : ℕ) → tree_get nat_cmp new q ≡ cond (is_at (nat_cmp r) q) (Some place) (tree_get nat_cmp old q)) where
+  pub lookup_set : (q : ℕ) → lookup_at new q ≡ cond (is_at (nat_cmp r) q) place (lookup_at old q)
+  lookup_set q = ap option_flatten (e q) ∙ by (is_at (nat_cmp r) q)
+    where
+      by : (b : Bool) → option_flatten (cond b (Some place) (tree_get nat_cmp old q)) ≡ cond b place (lookup_at old q)
+      by true = refl
+      by false = refl
+
+  -- which may be none
+  pub lookup_kept : place ≡ lookup_at old r → (q : ℕ) → lookup_at new q ≡ lookup_at old q
+  lookup_kept same q =
+      lookup_set q
+      ∙ ⊎_elim
+      (λ here. by_place (is_at (nat_cmp r) q) (same ∙ ap (lookup_at old) (sym here)))
+      (λ ne. let there : is_at (nat_cmp r) q ≡ false = grind (arith, nat_tests) in ap (λ b. cond b place (lookup_at old q)) there)
+      (cases_eq q r)
+    where
+      by_place : (b : Bool) → place ≡ lookup_at old q → cond b place (lookup_at old q) ≡ lookup_at old q
+      by_place true f = f
+      by_place false f = refl
 
 -- the pending lookup that is shown
 module _ {O K : Type 0} (o : Order K) (n : ℕ) where
@@ -169,6 +223,11 @@ module _ {O K : Type 0} (o : Order K) (c : World O K) where
   )
 
   -- the readers
+  placed : (w : Moment K) (y : ℕ) (ds : BTreeMap ℕ (Option (Lookup O K))) (ls : FinMap nat_cmp (PendingLookup K)) → RepresentsMoment o c w
+      → y ≡ counted_up c.events → ArePendingLookups o (capacity_of c.layout) (lookup_at ds) ls
+      → RepresentsMoment o (record c { lookups = ds; events = y }) (with_lookups w ls)
+  placed w y ds ls s e is = record { capacity = s.capacity; limit = s.limit; words = s.words; writer = s.writer; lookups = is; events = e ∙ ap counted_up s.events }
+
   pub busy : (r y : ℕ) (k : K) → is_some (lookup_at c.lookups r) ≡ true → y ≡ counted_up c.events
       → MayDo o c (Start r k) (Refused ReaderBusy) (record c { events = y })
   busy r y k there e =
@@ -192,14 +251,7 @@ module _ {O K : Type 0} (o : Order K) (c : World O K) where
       let next = with_lookups w (insert w.lookups r l) in (
         next,
         ap (start_done w r k) none_there,
-        record {
-          capacity = s.capacity;
-          limit = s.limit;
-          words = s.words;
-          writer = s.writer;
-          lookups = in_hand_set o (capacity_of c.layout) (lookup_at c.lookups) (lookup_at ds) w.lookups r new l s.lookups e (subst (λ j. IsLookupOf o (capacity_of c.layout) new (new_lookup k j)) count is);
-          events = count;
-        },
+        placed w y ds _ s ey (in_hand_set o (capacity_of c.layout) (lookup_at c.lookups) (lookup_at ds) w.lookups r new l s.lookups e (subst (λ j. IsLookupOf o (capacity_of c.layout) new (new_lookup k j)) count is)),
       ))
 
   pub idle : (r y : ℕ) (ds : BTreeMap ℕ (Option (Lookup O K))) → lookup_at c.lookups r ≡ None
@@ -209,56 +261,25 @@ module _ {O K : Type 0} (o : Order K) (c : World O K) where
       let none_there : get w.lookups r ≡ None = shown_none o (capacity_of c.layout) (lookup_at c.lookups r) (get w.lookups r) free (s.lookups r) in (
         with_event w,
         ap (read_done o (capacity_of c.layout) w r) none_there,
-        record {
-          capacity = s.capacity;
-          limit = s.limit;
-          words = s.words;
-          writer = s.writer;
-          lookups = λ q. subst (λ x. IsPendingLookup o (capacity_of c.layout) x (get w.lookups q)) (sym (e q)) (s.lookups q);
-          events = ey ∙ ap counted_up s.events;
-        },
+        placed w y ds w.lookups s ey (λ q. subst (λ x. IsPendingLookup o (capacity_of c.layout) x (get w.lookups q)) (sym (e q)) (s.lookups q)),
       )
 
   -- a load after which the lookup is pending
-  stays : (r y : ℕ) (reply : Reply K) (lk new : Lookup O K) (ds : BTreeMap ℕ (Option (Lookup O K)))
+  pub stays : (r y : ℕ) (becomes : PendingLookup K → AfterLoad K) (reply : Reply K) (lk new : Lookup O K) (ds : BTreeMap ℕ (Option (Lookup O K)))
       (words : List ℕ) → Some lk ≡ lookup_at c.lookups r → words ≡ c.words.items
       → ((l : PendingLookup K) → IsLookupOf o (capacity_of c.layout) lk l → (next : PendingLookup K) × IsLookupOf o (capacity_of c.layout) new next
-      × ((w : Moment K) → w.latch.words ≡ words → load_done w r (after_load o (capacity_of c.layout) w r l) ≡ (reply, with_lookups w (insert w.lookups r next))))
+      × ((w : Moment K) → w.latch.words ≡ words → after_load o (capacity_of c.layout) w r l ≡ becomes next))
+      → ((w : Moment K) (next : PendingLookup K) → load_done w r (becomes next) ≡ (reply, with_lookups w (insert w.lookups r next)))
       → ((q : ℕ) → lookup_at ds q ≡ cond (is_at (nat_cmp r) q) (Some new) (lookup_at c.lookups q))
       → y ≡ counted_up c.events
       → Does o c (Read r) reply (record c { lookups = ds; events = y })
-  stays r y reply lk new ds words there ew loads e ey = λ w s.
+  stays r y becomes reply lk new ds words there ew loads leads e ey = λ w s.
       let m = shown o (capacity_of c.layout) (lookup_at c.lookups r) (get w.lookups r) lk there (s.lookups r) in
       let g = loads m.0 m.2 in (
         with_lookups w (insert w.lookups r g.0),
-        ap (read_done o (capacity_of c.layout) w r) m.1 ∙ g.2 w (sym s.words ∙ sym ew),
-        record {
-          capacity = s.capacity;
-          limit = s.limit;
-          words = s.words;
-          writer = s.writer;
-          lookups = in_hand_set o (capacity_of c.layout) (lookup_at c.lookups) (lookup_at ds) w.lookups r new g.0 s.lookups e g.1;
-          events = ey ∙ ap counted_up s.events;
-        },
+        ap (read_done o (capacity_of c.layout) w r) m.1 ∙ ap (load_done w r) (g.2 w (sym s.words ∙ sym ew)) ∙ leads w g.0,
+        placed w y ds _ s ey (in_hand_set o (capacity_of c.layout) (lookup_at c.lookups) (lookup_at ds) w.lookups r new g.0 s.lookups e g.1),
       )
-
-  pub goes_on : (r y : ℕ) (lk new : Lookup O K) (ds : BTreeMap ℕ (Option (Lookup O K))) (words : List ℕ)
-      → Some lk ≡ lookup_at c.lookups r → words ≡ c.words.items
-      → ((l : PendingLookup K) → IsLookupOf o (capacity_of c.layout) lk l → LoadsTo o (capacity_of c.layout) words r y l (Going new))
-      → ((q : ℕ) → lookup_at ds q ≡ cond (is_at (nat_cmp r) q) (Some new) (lookup_at c.lookups q))
-      → y ≡ counted_up c.events
-      → Does o c (Read r) Loaded (record c { lookups = ds; events = y })
-  goes_on r y lk new ds words there ew loads e ey =
-      stays r y Loaded lk new ds words there ew (λ l is. let g = loads l is in (g.0, g.1, λ w same. ap (load_done w r) (g.2 w same))) e ey
-
-  pub tries_again : (r y : ℕ) (lk new : Lookup O K) (ds : BTreeMap ℕ (Option (Lookup O K))) (words : List ℕ)
-      → Some lk ≡ lookup_at c.lookups r → words ≡ c.words.items
-      → ((l : PendingLookup K) → IsLookupOf o (capacity_of c.layout) lk l → LoadsTo o (capacity_of c.layout) words r y l (Retrying new))
-      → ((q : ℕ) → lookup_at ds q ≡ cond (is_at (nat_cmp r) q) (Some new) (lookup_at c.lookups q))
-      → y ≡ counted_up c.events
-      → Does o c (Read r) Retried (record c { lookups = ds; events = y })
-  tries_again r y lk new ds words there ew loads e ey =
-      stays r y Retried lk new ds words there ew (λ l is. let g = loads l is in (g.0, g.1, λ w same. ap (load_done w r) (g.2 w same))) e ey
 
   pub returns : (r y : ℕ) (lk : Lookup O K) (x : Returned K) (ds : BTreeMap ℕ (Option (Lookup O K)))
       (words : List ℕ) → Some lk ≡ lookup_at c.lookups r → words ≡ c.words.items
@@ -273,14 +294,7 @@ module _ {O K : Type 0} (o : Order K) (c : World O K) where
       let next = with_lookups w (remove w.lookups r) in (
         next,
         ap (read_done o (capacity_of c.layout) w r) m.1 ∙ ap (load_done w r) g,
-        record {
-          capacity = s.capacity;
-          limit = s.limit;
-          words = s.words;
-          writer = s.writer;
-          lookups = in_hand_remove o (capacity_of c.layout) (lookup_at c.lookups) (lookup_at ds) w.lookups r s.lookups e;
-          events = count;
-        },
+        placed w y ds _ s ey (in_hand_remove o (capacity_of c.layout) (lookup_at c.lookups) (lookup_at ds) w.lookups r s.lookups e),
       )
 
 -- nobody has a pending lookup at the opening

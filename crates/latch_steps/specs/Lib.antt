@@ -21,20 +21,16 @@ pub mod Traces
 -- the run that a list of commands means
 pub mod Expands
 -- What the code means: a lookup, a world, and what one event and a whole call do to it.
--- a lookup of the code
+-- a lookup of the code, and what it loads next
 pub mod Lookups
 -- a world, and one after a history of accepted updates
 pub mod Worlds
--- what a reader loads next
-pub mod NextLoads
 -- one event, and memory that runs out
 pub mod WorldSteps
 -- an update settled, and a key found, at once
 pub mod AtOnce
--- how events are reported, and the commands that a world obeys
+-- how events are reported, the commands that a world obeys, and a lookup held apart
 pub mod Reports
--- a lookup held apart while its loads run
-pub mod HeldLookups
 -- what is kept of a run that is recorded
 pub mod Recordings
 -- a run whose commands come one after another

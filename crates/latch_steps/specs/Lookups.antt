@@ -1,7 +1,7 @@
--- What a lookup of the code means, and what one load of it does.
+-- What a lookup of the code means, what one load of it does, and what it loads next.
 use Rattle.std.specs.Prelude.{◌≡◌, ℕ, List, Option, Some, None}
 use Rattle.std.specs.Ordering.{nat_cmp}
-use Rattle.std.specs.Option.{option_flatten}
+use Rattle.std.specs.Option.{option_flatten, option_map}
 use Rattle.std.specs.BTreeMap.{BTreeMap, get as tree_get}
 use Rattle.order_laws.specs.Orders.{Order}
 use Rattle.latch_core.specs.Cores.{capacity_of_core, key_of_core, HasTaken}
@@ -10,6 +10,10 @@ use Rattle.latch_steps.specs.declared.lookups.LoadOutcome.{LoadOutcome}
 use Rattle.latch_steps.specs.declared.lookups.LoadOutcome.TheVariants.{Going, Retrying, Returned}
 use Rattle.latch_steps.specs.Runs.{PendingLookup, Moment}
 use Rattle.latch_steps.specs.Steps.{counted_up, Goes, Retries, Returns, after_load}
+use Rattle.std.specs.FinMap.{get}
+use Rattle.word_layout.specs.Words.{at}
+use Rattle.latch_core.specs.Attempts.{Reading, Load, attempt, rest_after}
+use Rattle.latch_steps.specs.declared.replies.NextLoad.{NextLoad}
 
 -- a lookup at n nodes
 pub record IsLookupOf {O K : Type 0} (o : Order K) (n : ℕ) (c : Lookup O K)
@@ -51,3 +55,29 @@ abbrev pub LoadsFromAny : {O K : Type 0} → Order K → Lookup O K → List ℕ
     → Type 0
 LoadsFromAny {O} {K} o c words r last loaded =
     (n : ℕ) (l : PendingLookup K) → IsLookupOf o n c l → LoadsTo o n words r last l loaded
+
+-- the word that what is left of an attempt asks for; no lookup of a run is at its attempt's end
+abbrev pub word_asked : Option Reading → ℕ
+word_asked (Some (Load word go)) = word
+word_asked _ = 0
+
+-- what a lookup loads next of these words, at n nodes
+abbrev pub next_load : {K : Type 0} → Order K → ℕ → List ℕ → PendingLookup K → NextLoad K
+next_load o n words l =
+    let word = word_asked (rest_after (attempt o n l.key) l.values) in
+    record {
+      key = l.key;
+      word = word;
+      value = at words word;
+      loads = counted_up l.loads;
+      attempts = l.attempts;
+    }
+
+-- and what the lookup of this reader does, at a moment
+abbrev pub load_of : {K : Type 0} → Order K → ℕ → Moment K → ℕ → Option (NextLoad K)
+load_of o n w r = option_map (next_load o n w.latch.words) (get w.lookups r)
+
+-- so of whatever lookup of the definitions the code's is
+abbrev pub LoadsNextFrom : {O K : Type 0} → Order K → Lookup O K → List ℕ → NextLoad K → Type 0
+LoadsNextFrom {O} {K} o c words load =
+    (n : ℕ) (l : PendingLookup K) → IsLookupOf o n c l → load ≡ next_load o n words l

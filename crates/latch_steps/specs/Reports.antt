@@ -1,5 +1,7 @@
--- How the events of a run are reported, and the commands that a world obeys so.
-use Rattle.std.specs.Prelude.{◌≡◌, ℕ, Bool, ◌&&◌, ◌||◌, List, [], ◌∷◌, is_none, Option, None}
+-- How the events of a run are reported, the commands that a world obeys so, and a lookup that is
+-- held apart while its loads run.
+use Rattle.std.specs.Prelude.{◌≡◌, ℕ, Bool, ◌&&◌, ◌||◌, List, [], ◌∷◌, is_none, Option, None, Some}
+use Rattle.std.specs.Prelude.{◌≢◌}
 use Rattle.order_laws.specs.Orders.{Order}
 use Rattle.word_layout.specs.Words.{at}
 use Rattle.word_layout.specs.Layouts.{capacity_of}
@@ -12,11 +14,15 @@ use Rattle.latch_steps.specs.declared.reports.Outcome.{Outcome}
 use Rattle.latch_steps.specs.declared.worlds.World.{World}
 use Rattle.latch_steps.specs.Expands.{Repeats, ends, event_of, most_of}
 use Rattle.latch_steps.specs.Near.{AreShallow}
-use Rattle.latch_steps.specs.NextLoads.{load_of}
+use Rattle.latch_steps.specs.Lookups.{load_of, IsPendingLookup}
 use Rattle.latch_steps.specs.Quiet.{is_flip}
 use Rattle.latch_steps.specs.Runs.{Done, Moment, last_of, step_done}
-use Rattle.latch_steps.specs.Steps.{Run}
+use Rattle.latch_steps.specs.Steps.{Run, Machine, machine}
 use Rattle.latch_steps.specs.Worlds.{RepresentsMoment, layout_in, machine_in}
+use Rattle.std.specs.FinMap.{get}
+use Rattle.latch_steps.specs.declared.commands.Command.TheVariants.{Read as ReadCommand}
+use Rattle.latch_steps.specs.declared.lookups.Lookup.{Lookup}
+use Rattle.latch_steps.specs.declared.lookups.LookupProgress.{LookupProgress}
 
 -- what an event loads at a moment, if it is a load of a pending lookup
 abbrev pub load_by : {K : Type 0} → Order K → ℕ → Moment K → Event K → Option (NextLoad K)
@@ -101,3 +107,30 @@ IsLoadBy {O} {K} o c e load =
 abbrev pub EndsAt : {O K : Type 0} → Order K → World O K → Bool → Reply K → Bool → Type 0
 EndsAt {O} {K} o c to_flip reply whether =
     (w : Moment K) → RepresentsMoment o c w → whether ≡ ends_writing to_flip reply w
+
+-- a moment differs from an earlier one in this reader's lookup and in the count of events alone
+pub record ChangesOneLookup {O K : Type 0} (o : Order K) (n : ℕ) (w v : Moment K) (r : ℕ)
+    (c : Option (Lookup O K)) (count : ℕ) : Type 0 where
+  pub latch : v.latch ≡ w.latch
+  pub lookup : IsPendingLookup o n c (get v.lookups r)
+  pub others : (q : ℕ) → q ≢ r → get v.lookups q ≡ get w.lookups q
+  pub events : count ≡ v.events
+
+-- loads of the reader from a moment, as one command asks for them, came to this and were reported
+pub record LoadsOn {O K T : Type 0} (m : Machine K)
+    (reports : T → Event K → Outcome K → T → Type 0) (w : Moment K) (r most : ℕ)
+    (a : T) (loads : LookupProgress O K) (b : T) : Type 0 where
+  pub run : List (Done K)
+  pub steps : Run m w run
+  pub repeats : Repeats (ReadCommand r most) most run
+  pub reported : AreReported m.order m.capacity reports w run a b
+  pub holding : ChangesOneLookup m.order m.capacity w (last_of w run) r loads.lookup loads.events
+
+-- they came to it from each moment of these words that has this pending lookup, after `events`
+-- events
+abbrev pub LoadsFrom : {O K T : Type 0} → Order K → (T → Event K → Outcome K → T → Type 0)
+    → List ℕ → Lookup O K → ℕ → ℕ → ℕ → T → LookupProgress O K → T → Type 0
+LoadsFrom {O} {K} o reports words c r most events a loads b =
+    (n limit : ℕ) (w : Moment K) → w.latch.words ≡ words
+    → IsPendingLookup o n (Some c) (get w.lookups r) → events ≡ w.events
+    → LoadsOn (machine o n limit) reports w r most a loads b

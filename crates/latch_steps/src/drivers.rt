@@ -25,7 +25,7 @@ impl<O: TreeOrder> Driver<O> {
     ///
     /// Refused by [`Refusal::BadCapacity`] if the start is odd or above the layout's limit, and
     /// by [`Refusal::OutOfMemory`].
-    #[tactic(auto, using(crate::proofs::DriverLemmas::driven_none))]
+    #[tactic(auto, using(crate::proofs::RecordingLemmas::driven_none))]
     pub fn open(alloc: Global, l: Layout, start: u64) -> Result<Self, Refusal>
         ensures driven { IfOk result (HasDriven O.order l start [] []) }
         ensures none { IfOk result (λ driver. notes_in driver ≡ []) }
@@ -39,6 +39,7 @@ impl<O: TreeOrder> Driver<O> {
 
     /// Does the events of a command. Refused by [`Refusal::OutOfMemory`] alone, which gives up the
     /// whole run.
+    #[tactic(auto, using(crate::proofs::RecordingLemmas::driven_more))]
     pub fn obey(&mut self, command: &Command<O::Key>) -> Result<(), Refusal>
         ensures driven { OnOk result (DrivesOn O.order command.now self.old self.new) }
         ensures refusal { IfErr result (λ why. why ≡ Refusal.OutOfMemory) }

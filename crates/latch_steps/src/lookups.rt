@@ -42,9 +42,8 @@ pub(crate) struct LookupProgress<O: TreeOrder> {
 }
 
 impl<O: TreeOrder> Lookup<O> {
-    ghost use Rattle.latch_steps.specs.Lookups.{IsLookupOf, LoadsFromAny};
-    ghost use Rattle.latch_steps.specs.HeldLookups.{LoadsFrom};
-    ghost use Rattle.latch_steps.specs.NextLoads.{LoadsNextFrom};
+    ghost use Rattle.latch_steps.specs.Lookups.{IsLookupOf, LoadsFromAny, LoadsNextFrom};
+    ghost use Rattle.latch_steps.specs.Reports.{LoadsFrom};
 
     /// A lookup that has loaded nothing, begun by event number `first`.
     pub(crate) fn start(l: Layout, key: O::Key, first: u64) -> Self

@@ -5,19 +5,20 @@ ghost use Rattle.latch_steps.specs.WorldSteps.{is_refused_for_memory};
 
 use crate::commands::Command;
 use crate::events::Event;
-use crate::replies::{NextLoad, Reply};
+use crate::replies::Reply;
 use crate::reports::{Outcome, Report};
 use crate::worlds::World;
 use order_laws::{Refusal, TreeOrder};
 
 impl<O: TreeOrder> World<O> {
-    ghost use Rattle.latch_steps.specs.Reports.{EndsAt, IsLoadBy, ObeysFromAny, ReportsEvent};
-    ghost use Rattle.latch_steps.specs.Reports.{ObeysOnce, ObeysWriting};
+    ghost use Rattle.latch_steps.specs.Reports.{EndsAt, ObeysFromAny, ObeysOnce, ObeysWriting};
+    ghost use Rattle.latch_steps.specs.Reports.{ReportsEvent};
     ghost use Rattle.latch_steps.specs.Worlds.{layout_in};
     ghost use Rattle.latch_steps.specs.WorldSteps.{IsWorldStep};
 
     /// Does the events of a command, and reports each. Refused by [`Refusal::OutOfMemory`] alone,
     /// which gives up the run, with nothing reported of the command.
+    #[tactic(auto, using(crate::proofs::ReportLemmas::obeyed_once))]
     pub fn obey<R: Report<O::Key>>(
         &mut self,
         command: &Command<O::Key>,
@@ -84,16 +85,6 @@ impl<O: TreeOrder> World<O> {
             report.report(to, event, &outcome);
         }
         reply
-    }
-
-    /// What an event loads, if it is a load of a pending lookup.
-    fn load_by(&self, event: &Event<O::Key>) -> Option<NextLoad<O::Key>>
-        ensures { IsLoadBy O.order self.now event.now result }
-    {
-        match event {
-            Event::Read(reader) => self.next_load(*reader),
-            _ => None,
-        }
     }
 
     /// Does an event that its command asks for once. Refused as [`obey`](World::obey) is.

@@ -39,10 +39,9 @@ impl<O: TreeOrder> World<O> {
     ghost use Rattle.latch_steps.specs.Worlds.{RepresentsMoment, IsAtRest, layout_in, IsAfter};
     ghost use Rattle.latch_steps.specs.Worlds.{StaysAfter, HasSequence, HasStepsLeft};
     ghost use Rattle.latch_steps.specs.Worlds.{CountsExactly, HasEvents};
-    ghost use Rattle.latch_steps.specs.NextLoads.{LoadsNext};
     ghost use Rattle.latch_steps.specs.WorldSteps.{Does, MayDo, IsWorldStep};
     ghost use Rattle.latch_steps.specs.Lookups.{lookup_at};
-    ghost use Rattle.latch_steps.specs.Reports.{ObeysFromAny};
+    ghost use Rattle.latch_steps.specs.Reports.{IsLoadBy, ObeysFromAny};
     ghost use Rattle.latch_steps.specs.declared.commands.Command.TheVariants as Command;
     ghost use Rattle.latch_steps.specs.AtOnce.{SettlesFromAny, IsSettledFromAny, FindsFromAny};
     ghost use Rattle.latch_steps.specs.AtOnce.{IsFoundFromAny, IsNearFromAny, KeepsUpdates};
@@ -310,11 +309,14 @@ impl<O: TreeOrder> World<O> {
         self.writer.remaining()
     }
 
-    /// What a reader's pending lookup loads next; none without a pending lookup.
-    pub fn next_load(&self, reader: u32) -> Option<NextLoad<O::Key>>
-        ensures { LoadsNext O.order self.now reader result }
+    /// What an event loads, if it is a load of a pending lookup.
+    pub(crate) fn load_by(&self, event: &Event<O::Key>) -> Option<NextLoad<O::Key>>
+        ensures { IsLoadBy O.order self.now event.now result }
     {
-        match self.lookups.get(&reader) {
+        let Event::Read(reader) = event else {
+            return None;
+        };
+        match self.lookups.get(reader) {
             Some(Some(lookup)) => Some(lookup.next_load(self.words.as_slice())),
             _ => None,
         }

@@ -4,8 +4,7 @@ use Rattle.word_layout.specs.Layouts.{capacity_of}
 use Rattle.latch_steps.specs.Recordings.{Keeps}
 use Rattle.latch_steps.specs.Runs.{opening}
 use Rattle.latch_steps.specs.Expands.{Expand}
-use Rattle.latch_steps.proofs.Promising.{obeyed_none, obeyed_more, safe_trace, quiet_trace, near_trace}
-use Rattle.latch_steps.proofs.RecordingLemmas.{trace_of}
+use Rattle.latch_steps.proofs.RecordingLemmas.{obeyed_none, obeyed_more, safe_trace, quiet_trace, near_trace, trace_of}
 use Rattle.latch_steps.proofs.runs.drive.Goals as goal
 
 pub loop-command-init : goal.loop-command-init

@@ -4,8 +4,7 @@ use Rattle.facts.proofs.Lists.{take_push}
 use Rattle.word_layout.specs.Layouts.{capacity_of}
 use Rattle.latch_steps.specs.Recordings.{Keeps}
 use Rattle.latch_steps.specs.Runs.{step_done, last_of, opening}
-use Rattle.latch_steps.proofs.Promising.{safe_trace, quiet_trace, near_trace}
-use Rattle.latch_steps.proofs.RecordingLemmas.{trace_of}
+use Rattle.latch_steps.proofs.RecordingLemmas.{safe_trace, quiet_trace, near_trace, trace_of}
 use Rattle.latch_steps.proofs.ReportLemmas.{none_reported, runs_reported}
 use Rattle.latch_steps.proofs.RunLemmas.{events_append}
 use Rattle.latch_steps.proofs.runs.run.Goals as goal

@@ -1,4 +1,4 @@
-use Rattle.latch_steps.proofs.DriverLemmas.{driven_whole}
+use Rattle.latch_steps.proofs.RecordingLemmas.{driven_whole}
 use Rattle.latch_steps.proofs.drivers.Driver.finish.Goals as goal
 
 pub returns-clause-notes : goal.returns-clause-notes

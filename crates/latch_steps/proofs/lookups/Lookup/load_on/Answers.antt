@@ -1,13 +1,12 @@
-use Rattle.std.proofs.Common.{◌+◌, subst, sym, arith}
+use Rattle.std.proofs.Common.{refl, ◌+◌, subst, sym, arith}
 use Rattle.latch_steps.specs.declared.events.Event.TheVariants.{Read}
 use Rattle.latch_steps.specs.declared.lookups.Lookup.{Lookup}
+use Rattle.latch_steps.specs.declared.replies.Reply.TheVariants.{Loaded, Retried}
 use Rattle.latch_steps.specs.declared.reports.Outcome.{Outcome}
-use Rattle.latch_steps.proofs.HeldLookupLemmas.{Loading, no_loads, load_goes, load_retries, load_ends, all_loaded}
+use Rattle.latch_steps.specs.Steps.{Goes, Retries}
+use Rattle.latch_steps.proofs.ReportLemmas.{Loading, loads_more, load_ends, all_loaded}
 use Rattle.latch_steps.proofs.lookups.Lookup.load_on.Goals as goal
 use Rattle.latch_steps.proofs.lookups.Lookup.load_on.Goals.{in-Going, in-Retrying}
-
-pub loop-turn-init : goal.loop-turn-init
-loop-turn-init g c = λ n limit w words is e. no_loads g.O.TreeOrder.order n limit (g.R.Report.reports c.args.report.now) w c.args.reader c.args.most c.args.to.now c.args.self c.args.events is e
 
 pub loop-turn-preserved : goal.loop-turn-preserved
 loop-turn-preserved g c = λ n limit w words is e.
@@ -20,10 +19,10 @@ loop-turn-preserved g c = λ n limit w words is e.
     let made = λ (lk : Lookup g.row.O.Denot g.row.O-Key.Denot). Loading o n limit reports w c.args.reader c.args.most c.args.to.now (c.loop-turn._turn + 1) lk next c.report-in-loop-turn.new.to in
     elim c.match-load.branch [
       | in-Going x ↦ subst made (sym x.lookup-is)
-          (load_goes o n limit reports w c.args.reader c.args.most c.args.to.now old c.loop-turn.events next c.loop-turn._turn c.loop-turn.to c.report-in-loop-turn.new.to h c.saturating_add-events.ensures c.args.words.now words c.next_load.result c.next_load.ensures c.word_at.result c.word_at.ensures x.in-Going.next (x.in-Going.ensures n)
+          (loads_more o n limit reports w c.args.reader c.args.most c.args.to.now old c.loop-turn.events next c.loop-turn._turn c.loop-turn.to c.report-in-loop-turn.new.to h c.saturating_add-events.ensures c.args.words.now words c.next_load.result c.next_load.ensures c.word_at.result c.word_at.ensures Goes x.in-Going.next Loaded (x.in-Going.ensures n) (λ l. refl) (λ v. refl)
           (subst told x.outcome-is c.report-in-loop-turn.ensures))
       | in-Retrying x ↦ subst made (sym x.lookup-is)
-          (load_retries o n limit reports w c.args.reader c.args.most c.args.to.now old c.loop-turn.events next c.loop-turn._turn c.loop-turn.to c.report-in-loop-turn.new.to h c.saturating_add-events.ensures c.args.words.now words c.next_load.result c.next_load.ensures c.word_at.result c.word_at.ensures x.in-Retrying.next (x.in-Retrying.ensures n)
+          (loads_more o n limit reports w c.args.reader c.args.most c.args.to.now old c.loop-turn.events next c.loop-turn._turn c.loop-turn.to c.report-in-loop-turn.new.to h c.saturating_add-events.ensures c.args.words.now words c.next_load.result c.next_load.ensures c.word_at.result c.word_at.ensures Retries x.in-Retrying.next Retried (x.in-Retrying.ensures n) (λ l. refl) (λ v. refl)
           (subst told x.outcome-is c.report-in-loop-turn.ensures))
     ]
 

@@ -2,7 +2,7 @@ use Rattle.std.proofs.Common.{◌≡◌, ℕ, Some}
 use Rattle.std.specs.FinMap.{get}
 use Rattle.latch_steps.specs.Runs.{Moment}
 use Rattle.latch_steps.specs.Lookups.{IsPendingLookup}
-use Rattle.latch_steps.proofs.HeldLookupLemmas.{Loading}
+use Rattle.latch_steps.proofs.ReportLemmas.{Loading}
 use Rattle.latch_steps.proofs.lookups.Lookup.load_on.Given as goal
 
 -- the reader has made as many loads as the loop has turned, and none returned

@@ -1,6 +1,6 @@
 use Rattle.std.proofs.Common.{◌∙◌, refl, sym, arith}
 use Rattle.facts.proofs.Options.{None-from_is_none}
-use Rattle.latch_steps.proofs.FindLemmas.{look_found, look_right, look_near, look_never, after_found}
+use Rattle.latch_steps.proofs.AtOnceLemmas.{look_found, look_right, look_near, look_never, after_found}
 use Rattle.latch_steps.proofs.worlds.World.find_now.Goals as goal
 
 pub returns-in_default-clause-refusal : goal.returns-in_default-clause-refusal
@@ -25,9 +25,4 @@ returns-clause-near g c = λ start us h.
 
 pub returns-clause-after : goal.returns-clause-after
 returns-clause-after g c =
-    let free = None-from_is_none _ (sym c.is_looking-is_busy.ensures ∙ c.if-is_busy.false) in
-    let fits = c.in-Some.ensures.fits in
-    let finds = look_found g.O.TreeOrder.order g.met.O.TreeOrder.lawful c.args.self.now c.args.reader c.args.key
-    c.in-Some.answer c.in-Some.generation c.in-Some.loads c.saturating_add-first.result c.saturating_add-self-2.result
-    (omega arith) free c.in-Some.ensures.found c.saturating_add-first.ensures c.saturating_add-self-2.ensures in
-    after_found g.O.TreeOrder.order g.met.O.TreeOrder.lawful c.args.self.now c.args.reader c.args.key _ _ finds refl
+    after_found g.O.TreeOrder.order g.met.O.TreeOrder.lawful c.args.self.now c.args.reader c.args.key _ _ (returns-clause-finds g c) refl

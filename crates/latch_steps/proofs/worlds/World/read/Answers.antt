@@ -4,9 +4,10 @@ use Rattle.std.specs.Option.{option_copied_mut, option_flatten}
 use Rattle.std.specs.Ordering.{nat_cmp}
 use Rattle.std.specs.BTreeMap.{is_at}
 use Rattle.word_layout.specs.Layouts.{capacity_of}
+use Rattle.latch_steps.specs.declared.replies.Reply.TheVariants.{Loaded, Retried}
 use Rattle.latch_steps.specs.Lookups.{lookup_at}
-use Rattle.latch_steps.proofs.PendingLookupLemmas.{lookup_set, lookup_kept}
-use Rattle.latch_steps.proofs.WorldLemmas.{idle, goes_on, tries_again, returns}
+use Rattle.latch_steps.specs.Steps.{Goes, Retries}
+use Rattle.latch_steps.proofs.WorldLemmas.{lookup_set, lookup_kept, idle, stays, returns}
 use Rattle.latch_steps.proofs.worlds.World.read.Goals as goal
 
 pub returns-in_default-clause-steps : goal.returns-in_default-clause-steps
@@ -24,16 +25,16 @@ returns-in_default-take-clause-steps g c =
 pub returns-in-Going-clause-steps : goal.returns-in-Going-clause-steps
 returns-in-Going-clause-steps g c =
     let there = sym c.in-Some-take.is ∙ c.take.ensures.value ∙ ap option_flatten c.in-Some.ensures.value in
-    goes_on g.O.TreeOrder.order c.args.self.now c.args.reader _ c.in-Some-take.lookup c.in-Going.next _ c.as_slice.result.now there c.as_slice.ensures.value
-    (c.in-Going.ensures (capacity_of c.args.self.now.layout))
+    stays g.O.TreeOrder.order c.args.self.now c.args.reader _ Goes Loaded c.in-Some-take.lookup c.in-Going.next _ c.as_slice.result.now there c.as_slice.ensures.value
+    (c.in-Going.ensures (capacity_of c.args.self.now.layout)) (λ w next. refl)
     (lookup_set c.args.self.now.lookups (c.get_mut.follows.lender (Some c.in-Going.next)) c.args.reader (Some c.in-Going.next) ((c.get_mut.follows.holds (Some c.in-Going.next)).3 (subst IsSome c.in-Some.ensures.value refl)).0)
     c.saturating_add-self.ensures
 
 pub returns-in-Retrying-clause-steps : goal.returns-in-Retrying-clause-steps
 returns-in-Retrying-clause-steps g c =
     let there = sym c.in-Some-take.is ∙ c.take.ensures.value ∙ ap option_flatten c.in-Some.ensures.value in
-    tries_again g.O.TreeOrder.order c.args.self.now c.args.reader _ c.in-Some-take.lookup c.in-Retrying.next _ c.as_slice.result.now there c.as_slice.ensures.value
-    (c.in-Retrying.ensures (capacity_of c.args.self.now.layout))
+    stays g.O.TreeOrder.order c.args.self.now c.args.reader _ Retries Retried c.in-Some-take.lookup c.in-Retrying.next _ c.as_slice.result.now there c.as_slice.ensures.value
+    (c.in-Retrying.ensures (capacity_of c.args.self.now.layout)) (λ w next. refl)
     (lookup_set c.args.self.now.lookups (c.get_mut.follows.lender (Some c.in-Retrying.next)) c.args.reader (Some c.in-Retrying.next) ((c.get_mut.follows.holds (Some c.in-Retrying.next)).3 (subst IsSome c.in-Some.ensures.value refl)).0)
     c.saturating_add-self.ensures
 

@@ -1,9 +1,6 @@
-use Rattle.std.proofs.Common.{◌∙◌, refl}
-use Rattle.latch_steps.proofs.SettleLemmas.{no_writes, one_write, all_written, is_settled}
+use Rattle.std.proofs.Common.{◌∙◌}
+use Rattle.latch_steps.proofs.AtOnceLemmas.{one_write, all_written, is_settled}
 use Rattle.latch_steps.proofs.worlds.World.settle.Goals as goal
-
-pub loop-init : goal.loop-init
-loop-init g c = record { layout = refl; writing = no_writes g.O.TreeOrder.order c.args.self.now }
 
 pub loop-preserved : goal.loop-preserved
 loop-preserved g c =
@@ -13,11 +10,6 @@ loop-preserved g c =
       layout = made.layout ∙ kept.layout;
       writing = λ w s. one_write g.O.TreeOrder.order c.args.self.now c.loop.self c.make.new.self c.in-Some.field-0 w (kept.writing w s) kept.layout made.made;
     }
-
-pub returns-clause-settles : goal.returns-clause-settles
-returns-clause-settles g c = λ w s.
-    let rest = c.in_default.ensures.none in
-    all_written g.O.TreeOrder.order c.args.self.now c.loop.self c.make.new.self w (c.loop.invariant.writing w s) rest.1 rest.0
 
 pub returns-clause-settled : goal.returns-clause-settled
 returns-clause-settled g c = λ start us.

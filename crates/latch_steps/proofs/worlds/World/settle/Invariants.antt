@@ -1,7 +1,7 @@
 use Rattle.std.proofs.Common.{◌≡◌, length}
 use Rattle.latch_steps.specs.Runs.{Moment}
 use Rattle.latch_steps.specs.Worlds.{RepresentsMoment, layout_in}
-use Rattle.latch_steps.proofs.SettleLemmas.{Writing}
+use Rattle.latch_steps.proofs.AtOnceLemmas.{Writing}
 use Rattle.latch_steps.proofs.worlds.World.settle.Given as goal
 
 abbrev pub invariant-loop : goal.invariant-loop

@@ -1,7 +1,6 @@
 use Rattle.std.proofs.Common.{Some, ◌∙◌, sym}
 use Rattle.facts.proofs.Options.{None-from_is_none}
-use Rattle.latch_steps.proofs.WorldLemmas.{busy, starts}
-use Rattle.latch_steps.proofs.PendingLookupLemmas.{lookup_set}
+use Rattle.latch_steps.proofs.WorldLemmas.{busy, starts, lookup_set}
 use Rattle.latch_steps.proofs.worlds.World.start.Goals as goal
 
 pub returns-then-is_looking-clause-steps : goal.returns-then-is_looking-clause-steps

@@ -1,7 +1,7 @@
 use Rattle.std.proofs.Common.{sym, subst}
 use Rattle.latch_steps.specs.declared.events.Event.{Event}
 use Rattle.latch_steps.specs.WorldSteps.{IsWorldStep}
-use Rattle.latch_steps.proofs.SettleLemmas.{event_after}
+use Rattle.latch_steps.proofs.AtOnceLemmas.{event_after}
 use Rattle.latch_steps.proofs.worlds.World.step_from.Goals as goal
 
 pub returns-in-Begin-clause-after : goal.returns-in-Begin-clause-after

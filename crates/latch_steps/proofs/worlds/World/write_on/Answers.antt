@@ -1,12 +1,6 @@
-use Rattle.std.proofs.Common.{◌∙◌, refl, sym, arith}
-use Rattle.latch_steps.proofs.ReportLemmas.{writing_none, writing_all, writing_more, writing_last}
+use Rattle.std.proofs.Common.{◌∙◌, sym, arith}
+use Rattle.latch_steps.proofs.ReportLemmas.{writing_all, writing_more, writing_last}
 use Rattle.latch_steps.proofs.worlds.World.write_on.Goals as goal
-
-pub loop-turn-init : goal.loop-turn-init
-loop-turn-init g c = record {
-  layout = refl;
-  writes = λ d is w s. writing_none g.O.TreeOrder.order (g.R.Report.reports c.args.report.now) d c.args.self.now c.args.to.now w s;
-}
 
 pub loop-turn-preserved : goal.loop-turn-preserved
 loop-turn-preserved g c = record {
@@ -16,15 +10,9 @@ loop-turn-preserved g c = record {
       (c.loop-turn.invariant.writes d is w s) c.step_reported-reply.ensures.steps c.step_reported-reply.ensures.reported (sym is.0) (λ v t. c.ends.ensures v t ∙ sym (is.1 c.step_reported-reply.result v)) c.if-ends.false;
 }
 
-pub returns-after-loop-turn-clause-layout : goal.returns-after-loop-turn-clause-layout
-returns-after-loop-turn-clause-layout g c = c.loop-turn.invariant.layout
-
 pub returns-after-loop-turn-clause-written : goal.returns-after-loop-turn-clause-written
 returns-after-loop-turn-clause-written g c = λ d is w s.
     writing_all g.O.TreeOrder.order (g.R.Report.reports c.args.report.now) d c.args.self.now c.args.to.now c.loop-turn.self c.loop-turn.to c.loop-turn._turn c.args.most w (c.loop-turn.invariant.writes d is w s) (omega arith)
-
-pub returns-then-ends-clause-layout : goal.returns-then-ends-clause-layout
-returns-then-ends-clause-layout g c = c.step_reported-reply.ensures.layout ∙ c.loop-turn.invariant.layout
 
 pub returns-then-ends-clause-written : goal.returns-then-ends-clause-written
 returns-then-ends-clause-written g c = λ d is w s.

@@ -1,7 +1,7 @@
--- What events do to the latch: each accepted update is the last of the history, and each flip adds
--- one to the sequence.
-use Rattle.std.proofs.Common.{◌≡◌, ℕ, suc, zero, ◌+◌, ◌-◌, ◌<◌, ◌≤◌, Bool, false, cond, List, [], ◌∷◌, ◌++◌, length, take, drop, Option, Some, None, refl, sym, ◌∙◌, ap, subst, inl, ⊎_elim, arith, append-nil}
-use Rattle.std.specs.Prelude.{◌==◌, is_some, count_by}
+-- What events do to the latch and to the count of events: each accepted update is the last of the
+-- history, and each flip adds one to the sequence.
+use Rattle.std.proofs.Common.{◌≡◌, ℕ, suc, zero, ◌+◌, ◌-◌, ◌<◌, ◌≤◌, Bool, false, cond, List, [], ◌∷◌, ◌++◌, length, take, drop, Option, Some, None, refl, sym, ◌∙◌, ap, subst, inl, ⊎_elim, arith, append-nil, ◌^◌}
+use Rattle.std.specs.Prelude.{◌==◌, is_some, count_by, min}
 use Rattle.std.specs.FinMap.{get}
 use Rattle.std.proofs.lemmas.Bool.{eq-eqb, ne_eqb}
 use Rattle.std.proofs.lemmas.List.{drop-take, take-take}
@@ -21,30 +21,30 @@ use Rattle.latch_core.specs.Latches.{PendingUpdate, Latch, IsWriterStep}
 use Rattle.latch_core.specs.Invariants.{IsSound}
 use Rattle.word_layout.proofs.HoldsLemmas.{flip_adds}
 use Rattle.latch_core.proofs.SoundLemmas.{hidden_same, sound_step, sound_begin}
-use Rattle.latch_steps.specs.Runs.{PendingLookup, Moment, Done, accepted, moment_at}
-use Rattle.latch_steps.specs.Steps.{machine, IsBegin, IsWrite, AfterLoad, Goes, Retries, Returns, after_load, start_done, load_done, read_done, Step, Run}
+use Rattle.latch_steps.specs.Runs.{PendingLookup, Moment, Done, accepted, moment_at, opening, last_of}
+use Rattle.latch_steps.specs.Steps.{machine, IsBegin, IsWrite, AfterLoad, Goes, Retries, Returns, after_load, start_done, load_done, read_done, Step, Run, counted_up}
 use Rattle.latch_steps.specs.Quiet.{is_step, is_flip, flips_between}
 
--- a reply that is no step of the writer, and a moment with the same latch
+-- a reply that is no step of the writer, and a moment with the same latch, one event later
 abbrev pub KeepsLatch : {K : Type 0} → Moment K → Reply K × Moment K → Type 0
-KeepsLatch w done = (done.1.latch ≡ w.latch) × (is_step done.0 ≡ false)
+KeepsLatch w done = (done.1.latch ≡ w.latch) × (is_step done.0 ≡ false) × (done.1.events ≡ counted_up w.events)
 
 module _ {K : Type 0} where
   -- neither a load nor a start changes the latch, and neither is a step of the writer
   load_keeps : (w : Moment K) (r : ℕ) (x : AfterLoad K) → KeepsLatch w (load_done w r x)
-  load_keeps w r (Goes l) = (refl, refl)
-  load_keeps w r (Retries l) = (refl, refl)
-  load_keeps w r (Returns x) = (refl, refl)
+  load_keeps w r (Goes l) = (refl, refl, refl)
+  load_keeps w r (Retries l) = (refl, refl, refl)
+  load_keeps w r (Returns x) = (refl, refl, refl)
 
   pub read_keeps : (o : Order K) (n : ℕ) (w : Moment K) (r : ℕ) (found : Option (PendingLookup K))
       → KeepsLatch w (read_done o n w r found)
-  read_keeps o n w r None = (refl, refl)
+  read_keeps o n w r None = (refl, refl, refl)
   read_keeps o n w r (Some l) = load_keeps w r (after_load o n w r l)
 
   pub start_keeps : (w : Moment K) (r : ℕ) (k : K) (found : Option (PendingLookup K))
       → KeepsLatch w (start_done w r k found)
-  start_keeps w r k (Some l) = (refl, refl)
-  start_keeps w r k None = (refl, refl)
+  start_keeps w r k (Some l) = (refl, refl, refl)
+  start_keeps w r k None = (refl, refl, refl)
 
   no_flip : (reply : Reply K) → is_step reply ≡ false → is_flip reply ≡ false
   no_flip (Wrote s) e = absurd (cc)
@@ -170,4 +170,33 @@ flips_counted o law n limit start us w run ok steps i j le within =
     let at_j = flips_upto o law n limit start us w run ok steps j within in
     let split : i + (j - i) ≡ j = omega arith in
     let parts = subst (λ p. count_by flips (take p run) ≡ count_by flips (take i run) + flips_between run i j) split (count_between run i (j - i)) in
+    omega arith
+
+module _ {K : Type 0} (o : Order K) (n limit : ℕ) where
+  begin_counts : (w w' : Moment K) (u : Update) (why : Option Refusal) (reply : Reply K) → IsBegin o n w u why reply w' → w'.events ≡ counted_up w.events
+  begin_counts w w' u (Some why) reply (er, ew) = ap (λ v. v.events) ew
+  begin_counts w w' u None reply (left, some, most, er, ew) = ap (λ v. v.events) ew
+
+  write_counts : (w w' : Moment K) (pending : Option PendingUpdate) (reply : Reply K) → IsWrite n w pending reply w' → w'.events ≡ counted_up w.events
+  write_counts w w' None reply (er, ew) = ap (λ v. v.events) ew
+  write_counts w w' (Some h) reply (s, may, er, ew) = ap (λ v. v.events) ew
+
+  pub step_counts : (w w' : Moment K) (e : Event K) (reply : Reply K) → Step (machine o n limit) w e reply w' → w'.events ≡ counted_up w.events
+  step_counts w w' (Begin u) reply s = begin_counts w w' u (refusal_for o n limit (is_some w.latch.pending) w.latch.newest_table (at w.latch.words 0) u) reply s
+  step_counts w w' Write reply s = write_counts w w' w.latch.pending reply s
+  step_counts w w' (Start r k) reply s = (subst (KeepsLatch w) s (start_keeps w r k (get w.lookups r))).2
+  step_counts w w' (Read r) reply s = (subst (KeepsLatch w) s (read_keeps o n w r (get w.lookups r))).2
+
+  run_counts : (run : List (Done K)) (w : Moment K) → Run (machine o n limit) w run → (last_of w run).events < 2 ^ 64 - 1 → w.events + length run ≡ (last_of w run).events
+  run_counts [] w steps below = omega arith
+  run_counts (d ∷ run) w steps below =
+      let one : d.after.events ≡ min (w.events + 1) 18446744073709551615 = step_counts w d.after d.event d.reply steps.0 in
+      let rest = run_counts run d.after steps.1 below in
+      omega arith
+
+-- a run whose count is below the greatest has as many events
+pub few_counted : {K : Type 0} (o : Order K) (n limit start : ℕ) (run : List (Done K)) → Run (machine o n limit) (opening n start) run → (last_of (opening n start) run).events < 2 ^ 64 - 1 → length run < 2 ^ 64
+few_counted {K = K} o n limit start run steps below =
+    let w0 : Moment K = opening n start in
+    let exact = run_counts o n limit run w0 steps below in
     omega arith

@@ -1,8 +1,8 @@
 -- A lookup that the writer leaves alone returns at its first attempt, and each other attempt needs
 -- a flip.
-use Rattle.std.proofs.Common.{◌≡◌, ◌≢◌, ℕ, ◌+◌, ◌-◌, ◌*◌, ◌^◌, ◌<◌, ◌≤◌, true, false, cond, List, [], ◌∷◌, ◌++◌, length, take, Option, Some, None, refl, sym, ◌∙◌, ap, subst, arith, length-append, append_assoc}
+use Rattle.std.proofs.Common.{◌≡◌, ◌≢◌, ℕ, ◌+◌, ◌-◌, ◌*◌, ◌^◌, ◌<◌, ◌≤◌, true, false, cond, List, [], ◌∷◌, ◌++◌, length, take, Option, Some, None, refl, sym, ◌∙◌, ap, subst, arith, length-append, append_assoc, ⊎_elim}
 use Rattle.std.specs.Prelude.{◌==◌}
-use Rattle.std.specs.FinMap.{get}
+use Rattle.std.specs.FinMap.{get, FinMap, get-empty}
 use Rattle.std.proofs.lemmas.Bool.{eqb-true, eqb-false}
 use Rattle.order_laws.specs.declared.items.Item.{Item}
 use Rattle.table_updates.specs.declared.updates.Update.{Update}
@@ -14,25 +14,30 @@ use Rattle.latch_steps.specs.declared.replies.Reply.{Reply}
 use Rattle.latch_steps.specs.declared.replies.Reply.TheVariants.{Started, Loaded, Returned as ReturnedReply, Refused}
 use Rattle.order_laws.specs.Orders.{Order, IsLawful}
 use Rattle.order_laws.specs.Tables.{IsTable}
-use Rattle.facts.proofs.Maps.{get-insert_other, get-insert_same, get-remove_other}
+use Rattle.facts.proofs.Maps.{get-insert_same}
 use Rattle.table_updates.specs.Updates.{replay}
 use Rattle.latch_core.specs.Histories.{current_table}
 use Rattle.word_layout.specs.Words.{at, Nodes, Holds}
 use Rattle.latch_core.specs.Sequences.{generation_of, stable_copy_of}
 use Rattle.latch_core.specs.Attempts.{Reading, Load, attempt, rest_after, Stand}
-use Rattle.latch_core.specs.Latches.{PendingUpdate}
-use Rattle.latch_steps.specs.Runs.{PendingLookup, Moment, Done, step_done, accepted, history}
-use Rattle.latch_steps.specs.Steps.{machine, counted_up, with_event, new_lookup, with_value, IsBegin, IsWrite, AfterLoad, Goes, Retries, Returns, after_load, start_done, load_done, read_done, Step, Run}
-use Rattle.latch_steps.specs.Quiet.{is_step, is_load_of, up_to_next_step, replies_to, ReturnsWithin, ReturnsFromStart, AreUndisturbed}
+use Rattle.latch_core.specs.Latches.{PendingUpdate, Latch}
+use Rattle.latch_steps.specs.Runs.{PendingLookup, Moment, Done, step_done, accepted, history, opening}
+use Rattle.latch_steps.specs.Steps.{machine, counted_up, with_event, new_lookup, with_value, IsBegin, IsWrite, after_load, start_done, load_done, read_done, Step, Run}
+use Rattle.latch_steps.specs.Quiet.{is_step, is_load_of, up_to_next_step, replies_to, ReturnsWithin, ReturnsFromStart, AreUndisturbed, flips_between, IsPatientReply, IsQuiet}
 use Rattle.std.proofs.lemmas.List.{take-append-le}
-use Rattle.latch_steps.proofs.LoadCaseLemmas.{IsGoing, none_loaded, by_load}
-use Rattle.latch_steps.proofs.LatchLemmas.{KeepsLatch, read_keeps, start_keeps}
-use Rattle.latch_steps.proofs.SafeStepLemmas.{IsWorld, step_leads}
-use Rattle.latch_core.proofs.SoundLemmas.{gen_within}
+use Rattle.latch_steps.proofs.LoadCaseLemmas.{IsGoing, each_insert, each_remove, none_loaded, by_load, by_sound_load}
+use Rattle.latch_steps.proofs.IdleLemmas.{Differs, start_differs, read_reads}
+use Rattle.latch_steps.proofs.StepLemmas.{KeepsLatch, read_keeps, start_keeps, sequence_at, flips_counted}
+use Rattle.latch_steps.proofs.SafeRunLemmas.{IsWorld, step_leads, IsRight, IsLeft, all_left, left_next, moment_there, opening_world}
+use Rattle.latch_core.proofs.SoundLemmas.{gen_within, sequence_after}
 use Rattle.latch_core.proofs.WalkLemmas.{attempt_below, attempt_below_depth, few_deep_any}
 use Rattle.latch_core.proofs.StoreOrderLemmas.{shallow_tree}
 use Rattle.rb_trees.specs.Trees.{depth}
 use Rattle.latch_steps.specs.Near.{AreShallow, IsDepth, AreNear}
+use Rattle.std.specs.List.{AllByRecursion}
+use Rattle.std.specs.Ordering.{nat_cmp}
+use Rattle.word_layout.specs.Stores.{words_after}
+use Rattle.latch_core.specs.Invariants.{IsStanding}
 
 -- a lookup whose values all stand in this memory
 record IsCalm {K : Type 0} (o : Order K) (n : ℕ) (m : List ℕ) (w : Moment K) (r : ℕ) : Type 0 where
@@ -59,24 +64,17 @@ module _ {K : Type 0} (o : Order K) (law : IsLawful o) (n limit : ℕ) (m : List
   abbrev Recording : ℕ → Reply K × Moment K → Type 0
   Recording count done = (c' : IsCalm o n m done.1 r) × (length c'.l.values ≡ count)
 
+  other_calm : (w : Moment K) (q : ℕ) → r ≢ q → (done : Reply K × Moment K) → Differs q w done.1
+      → (c : IsCalm o n m w r) → Recording (length c.l.values) done
+  other_calm w q ne done d c = kept w done.1 (ap (λ (l : Latch). l.words) d.latch) (d.others r ne) c
+
   start_calm : (w : Moment K) (q : ℕ) (k : K) (found : Option (PendingLookup K))
       → get w.lookups q ≡ found → (c : IsCalm o n m w r) → Recording (length c.l.values)
       (start_done w q k found)
   start_calm w q k (Some l) e c = kept w (with_event w) refl refl c
   start_calm w q k None e c =
       let ne : r ≢ q = (λ same. let f : get w.lookups r ≡ None = ap (get w.lookups) same ∙ e in let g = c.in_hand in absurd (cc)) in
-      kept w _ refl (get-insert_other w.lookups r q _ ne) c
-
-  load_calm : (w : Moment K) (q : ℕ) → r ≢ q → (x : AfterLoad K) (c : IsCalm o n m w r)
-      → Recording (length c.l.values) (load_done w q x)
-  load_calm w q ne (Goes l) c = kept w _ refl (get-insert_other w.lookups r q l ne) c
-  load_calm w q ne (Retries l) c = kept w _ refl (get-insert_other w.lookups r q l ne) c
-  load_calm w q ne (Returns x) c = kept w _ refl (get-remove_other w.lookups r q ne) c
-
-  other_calm : (w : Moment K) (q : ℕ) → r ≢ q → (found : Option (PendingLookup K))
-      (c : IsCalm o n m w r) → Recording (length c.l.values) (read_done o n w q found)
-  other_calm w q ne None c = kept w (with_event w) refl refl c
-  other_calm w q ne (Some l) c = load_calm w q ne (after_load o n w q l) c
+      other_calm w q ne (start_done w q k None) (start_differs q w k None) c
 
   -- the reader's own load
   abbrev IsCalmNext : ℕ → Reply K → Moment K → Type 0
@@ -162,7 +160,7 @@ module _ {K : Type 0} (o : Order K) (law : IsLawful o) (n limit : ℕ) (m : List
                 let own : read_done o n w r (get w.lookups r) ≡ (reply, d.after) = subst (λ p. read_done o n w p (get w.lookups p) ≡ (reply, d.after)) (eqb-true q r e) step in
                 loads left (step_done (Read q) reply d.after) run e (subst (λ done. IsCalmNext left done.0 done.1) own (own_load w left c total)) (go (left - 1))
             | false ↦ λ e.
-                let k = subst (Recording (length c.l.values)) step (other_calm w q (λ same. eqb-false q r e (sym same)) (get w.lookups q) c) in
+                let k = subst (Recording (length c.l.values)) step (other_calm w q (λ same. eqb-false q r e (sym same)) (read_done o n w q (get w.lookups q)) (read_reads q o n w (get w.lookups q)).differs c) in
                 passes left (step_done (Read q) reply d.after) run (subst (KeepsLatch w) step (read_keeps o n w q (get w.lookups q))).1 e (go left k.0 (omega (arith, k.1)))
           ] refl
 
@@ -244,3 +242,159 @@ module _ {K : Type 0} (o : Order K) (law : IsLawful o) (n limit start : ℕ) (wh
         ),
         near_run run us' (c + 1) d.after leads.world (omega arith) steps.1 low.1 e',
       )
+
+-- the attempts so far, against the sequence at the start and at this attempt's first load
+abbrev Tried : ℕ → ℕ → ℕ → List ℕ → Type 0
+Tried from seq attempts [] = (from ≤ seq) × (attempts ≤ 1 + (seq - from))
+Tried from seq attempts (s ∷ v) = (from ≤ s) × (attempts ≤ 1 + (s - from))
+
+abbrev IsTried : {K : Type 0} → (ℕ → ℕ) → ℕ → PendingLookup K → Type 0
+IsTried seqs seq l = Tried (seqs l.first) seq l.attempts l.values
+
+abbrev AreTried : {K : Type 0} → (ℕ → ℕ) → ℕ → FinMap nat_cmp (PendingLookup K) → Type 0
+AreTried {K} seqs seq ls = (q : ℕ) (l : PendingLookup K) → get ls q ≡ Some l → IsTried seqs seq l
+
+tried_later : (from seq seq' attempts : ℕ) (v : List ℕ) → seq ≤ seq' → Tried from seq attempts v
+    → Tried from seq' attempts v
+tried_later from seq seq' attempts [] le h = (let a = h.0 in omega arith, let a = h.0 in let b = h.1 in omega arith)
+tried_later from seq seq' attempts (s ∷ v) le h = h
+
+tried_push : (from seq attempts : ℕ) (v : List ℕ) (x : ℕ) → (v ≡ [] → x ≡ seq) → Tried from seq attempts v
+    → Tried from seq attempts (v ++ x ∷ [])
+tried_push from seq attempts [] x is h = let e = is refl in (let a = h.0 in omega arith, let a = h.0 in let b = h.1 in omega arith)
+tried_push from seq attempts (s ∷ v) x is h = h
+
+abbrev IsPatientNow : {K : Type 0} → (ℕ → ℕ) → ℕ → Reply K → Type 0
+IsPatientNow seqs seq (ReturnedReply x) = x.attempts ≤ 1 + (seq - seqs x.first)
+IsPatientNow seqs seq _ = Unit {0}
+
+record StaysTried {K : Type 0} (seqs : ℕ → ℕ) (w' : Moment K) (reply : Reply K) : Type 0 where
+  lookups : AreTried seqs (at w'.latch.words 0) w'.lookups
+  now : IsPatientNow seqs (at w'.latch.words 0) reply
+
+module _ {K : Type 0} (o : Order K) (law : IsLawful o) (n limit start : ℕ) (us : List Update) (c : ℕ) (seqs : ℕ → ℕ) (w : Moment K) (ok : IsWorld o n start us c w) (tried : AreTried seqs (at w.latch.words 0) w.lookups) where
+  -- a reply and the moment after it
+  abbrev GoesTo : Reply K × Moment K → Type 0
+  GoesTo done = StaysTried seqs done.1 done.0
+
+  load_goes : (r : ℕ) (l : PendingLookup K) → get w.lookups r ≡ Some l
+      → GoesTo (load_done w r (after_load o n w r l))
+  load_goes r l e =
+      let m = w.latch.words in
+      let is = (ok.lookups r l e).going in
+      by_sound_load o law n start us w ok.latch r l is (λ x. GoesTo (load_done w r x))
+      (λ going. record {
+        lookups = each_insert (IsTried seqs (at m 0)) w.lookups r _ tried (tried_push (seqs l.first) (at m 0) l.attempts l.values (at m is.word) (first_number is) (tried r l e));
+        now = tt;
+      })
+      (λ moved. record { lookups = each_insert (IsTried seqs (at m 0)) w.lookups r _ tried (once_more l.values is.standing moved (tried r l e)); now = tt })
+      (record { lookups = each_remove (IsTried seqs (at m 0)) w.lookups r tried; now = done l.values is.standing (tried r l e) })
+    where
+      first_number : (is : IsGoing o n w.latch.words l) → l.values ≡ []
+          → at w.latch.words is.word ≡ at w.latch.words 0
+      first_number is none_yet =
+          let f : rest_after (attempt o n l.key) [] ≡ Some (Load is.word is.go) = subst (λ v. rest_after (attempt o n l.key) v ≡ Some (Load is.word is.go)) none_yet is.left in
+          let z : is.word ≡ 0 = cc in
+          ap (at w.latch.words) z
+
+      once_more : (v : List ℕ) → IsStanding w.latch.words (attempt o n l.key) v
+          → (Stand w.latch.words (attempt o n l.key) v → ⊥) → Tried (seqs l.first)
+          (at w.latch.words 0) l.attempts v → Tried (seqs l.first) (at w.latch.words 0)
+          (counted_up l.attempts) []
+      once_more [] st moved h = absurd (moved tt)
+      once_more (s ∷ v) st moved h =
+          let ne : s ≢ at w.latch.words 0 = λ e. moved (st.1 e) in
+          let le = st.0 in
+          let a = h.0 in
+          let b = h.1 in
+          (omega arith, omega arith)
+
+      done : (v : List ℕ) → IsStanding w.latch.words (attempt o n l.key) v → Tried (seqs l.first)
+          (at w.latch.words 0) l.attempts v → l.attempts ≤ 1 + (at w.latch.words 0 - seqs l.first)
+      done [] st h = h.1
+      done (s ∷ v) st h = let le = st.0 in let a = h.0 in let b = h.1 in omega arith
+
+  read_goes : (r : ℕ) (found : Option (PendingLookup K)) → get w.lookups r ≡ found
+      → GoesTo (read_done o n w r found)
+  read_goes r None e = record { lookups = tried; now = tt }
+  read_goes r (Some l) e = load_goes r l e
+
+  start_goes : (r : ℕ) (k : K) (found : Option (PendingLookup K))
+      → seqs (counted_up w.events) ≡ at w.latch.words 0 → GoesTo (start_done w r k found)
+  start_goes r k (Some l) there = record { lookups = tried; now = tt }
+  start_goes r k None there = record { lookups = each_insert (IsTried seqs (at w.latch.words 0)) w.lookups r _ tried (omega arith, omega arith); now = tt }
+
+  write_goes : (pending : Option PendingUpdate) → (reply : Reply K) (w' : Moment K) → IsWrite n w pending reply w'
+      → StaysTried seqs w' reply
+  write_goes None reply w' (er, ew) = subst GoesTo (λ i. (sym er i, sym ew i)) (record { lookups = tried; now = tt })
+  write_goes (Some h) reply w' (s, may, er, ew) =
+      let le : at w.latch.words 0 ≤ at (words_after w.latch.words s) 0 =
+      ⊎_elim (λ (hid, e). omega arith) (λ e. omega arith) (sequence_after n w.latch h s ok.latch.sized may) in
+      subst GoesTo (λ i. (sym er i, sym ew i))
+      (record { lookups = λ q l e. tried_later (seqs l.first) (at w.latch.words 0) (at (words_after w.latch.words s) 0) l.attempts l.values le (tried q l e); now = tt })
+
+  begin_goes : (u : Update) (why : Option Refusal) (reply : Reply K) (w' : Moment K)
+      → IsBegin o n w u why reply w' → StaysTried seqs w' reply
+  begin_goes u (Some why) reply w' (er, ew) = subst GoesTo (λ i. (sym er i, sym ew i)) (record { lookups = tried; now = tt })
+  begin_goes u None reply w' (left, some, bound, er, ew) = subst GoesTo (λ i. (sym er i, sym ew i)) (record { lookups = tried; now = tt })
+
+  step_goes : (e : Event K) (reply : Reply K) (w' : Moment K)
+      → seqs (counted_up w.events) ≡ at w'.latch.words 0 → Step (machine o n limit) w e reply w'
+      → StaysTried seqs w' reply
+  step_goes (Begin u) reply w' there s = begin_goes u _ reply w' s
+  step_goes Write reply w' there s = write_goes w.latch.pending reply w' s
+  step_goes (Start r k) reply w' there s =
+      let keeps = subst (KeepsLatch w) s (start_keeps w r k (get w.lookups r)) in
+      subst GoesTo s (start_goes r k (get w.lookups r) (there ∙ ap (λ (l : Latch). at l.words 0) keeps.0))
+  step_goes (Read r) reply w' there s = subst GoesTo s (read_goes r (get w.lookups r) refl)
+
+patient_reply : {K : Type 0} (o : Order K) (start : ℕ) (us : List Update) (w' w0 : Moment K)
+    (all : List (Done K)) (seq c : ℕ) (r : Reply K) → sequence_at w0 all c ≡ seq
+    → ((i : ℕ) → i ≤ c → sequence_at w0 all c ≡ sequence_at w0 all i + flips_between all i c)
+    → IsRight o start us c w' r → IsPatientNow (sequence_at w0 all) seq r → IsPatientReply all r
+patient_reply o start us w' w0 all seq c (ReturnedReply x) e counts right h =
+    let added = counts x.first right.first in
+    let few : x.attempts ≤ 1 + flips_between all x.first c = omega arith in
+    subst (λ j. x.attempts ≤ 1 + flips_between all x.first j) (sym right.last) few
+patient_reply o start us w' w0 all seq c _ e counts right h = tt
+
+abbrev Counts : {K : Type 0} → Moment K → List (Done K) → Type 0
+Counts w0 all = (i j : ℕ) → i ≤ j → j ≤ length all → sequence_at w0 all j ≡ sequence_at w0 all i + flips_between all i j
+
+patient_run : {K : Type 0} (o : Order K) → IsLawful o → (n limit start : ℕ) (w0 : Moment K)
+    (all : List (Done K)) → Counts w0 all → (run : List (Done K)) (us : List Update) (c : ℕ)
+    (w : Moment K) → IsLeft w0 all c w run → IsWorld o n start us c w
+    → AreTried (sequence_at w0 all) (at w.latch.words 0) w.lookups → c + length run < 2 ^ 64
+    → Run (machine o n limit) w run → AllByRecursion (λ (d : Done K). IsPatientReply all d.reply) run
+patient_run o law n limit start w0 all counts [] us c w left ok tried room steps = tt
+patient_run o law n limit start w0 all counts (d ∷ run) us c w left ok tried room steps =
+    let one : counted_up c ≡ c + 1 = omega arith in
+    let leads = step_leads o law n limit start us c w ok one d.event d.reply d.after steps.0 in
+    let us' = us ++ accepted d.event d.reply in
+    let left' = left_next w0 all c w d run left in
+    let there : sequence_at w0 all (c + 1) ≡ at d.after.latch.words 0 = ap (λ (v : Moment _). at v.latch.words 0) (moment_there w0 all (c + 1) d.after run left') in
+    let count = left'.count in
+    let g = step_goes o law n limit start us c (sequence_at w0 all) w ok tried d.event d.reply d.after (ap (sequence_at w0 all) (ap counted_up ok.events ∙ one) ∙ there) steps.0 in (
+      patient_reply o start us' d.after w0 all (at d.after.latch.words 0) (c + 1) d.reply there (λ i le. counts i (c + 1) le (omega arith)) leads.right g.now,
+      patient_run o law n limit start w0 all counts run us' (c + 1) d.after left' leads.world g.lookups (omega arith) steps.1,
+    )
+
+-- every run from the opening is quiet
+pub quiet : {K : Type 0} (o : Order K) → IsLawful o → (n limit start : ℕ) → stable_copy_of start ≡ 0
+    → (run : List (Done K)) → length run < 2 ^ 64 → Run (machine o n limit) (opening n start) run
+    → IsQuiet o start run
+quiet {K = K} o law n limit start even run room steps =
+    let w0 : Moment K = opening n start in
+    let ok = opening_world o n start even in
+    let counts : Counts w0 run = flips_counted o law n limit start [] w0 run ok.latch steps in
+    record {
+      undisturbed = quiet_run o law n limit start (history run) run [] 0 w0 ok (omega arith) steps refl;
+      patient = patient_run o law n limit start w0 run counts run [] 0 w0 (all_left w0 run) ok (λ q l e. (let none_yet : get w0.lookups q ≡ None = get-empty nat_cmp q in absurd (cc))) (omega arith) steps;
+    }
+
+-- and near, where the writer keeps its trees red-black
+pub near : {K : Type 0} (o : Order K) → IsLawful o → (n limit start : ℕ) → stable_copy_of start ≡ 0
+    → (run : List (Done K)) → length run < 2 ^ 64 → Run (machine o n limit) (opening n start) run
+    → AreShallow n run → AreNear o start (history run) run
+near o law n limit start even run room steps low =
+    near_run o law n limit start (history run) run [] 0 (opening n start) (opening_world o n start even) (omega arith) steps low refl
