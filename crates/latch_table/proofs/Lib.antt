@@ -1,11 +1,8 @@
 pub mod ReaderLemmas
 pub mod RuleLemmas
 pub mod WriterLemmas
-pub mod FinishLemmas
-pub mod MeetingLemmas
 pub mod WalkLemmas
 pub mod LookupLemmas
 pub mod MemoryLemmas
-pub mod OpeningLemmas
 pub mod EnlargingLemmas
 pub mod ReplacingLemmas

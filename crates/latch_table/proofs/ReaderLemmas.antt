@@ -16,9 +16,13 @@ use Rattle.latch_core.specs.Latches.{PendingUpdate, Latch, IsWriterStep}
 use Rattle.latch_core.proofs.SoundLemmas.{sequence_after}
 use Rattle.latch_table.specs.declared.knowledge.ReaderKnowledge.{ReaderKnowledge}
 use Rattle.latch_core.specs.Latched.{loads_of, IsKept, StandAll, IsSteady, IsLatched}
-use Rattle.latch_table.specs.Seats.{blank_reader, with_sequence, with_word, last_or}
-use Rattle.latch_table.specs.Rule.{Rises, EndsRight, ReaderKnows, LoadsSequence}
+use Rattle.latch_table.specs.Seats.{blank_reader, with_sequence, with_word, last_or, joined_knowledge, reader_of}
+use Rattle.latch_table.specs.Rule.{Rises, EndsRight, ReaderKnows, LoadsSequence, as_reader}
 use Rattle.latch_core.proofs.LatchedLemmas.{steady_step, steady_load, steady_first, stand_end, latched_answers}
+use Rattle.atomic_table.specs.Table.{Me}
+use Rattle.latch_table.specs.declared.knowledge.WriterKnowledge.{WriterKnowledge}
+use Rattle.latch_table.specs.declared.knowledge.Knowledge.{Knowledge}
+use Rattle.latch_table.specs.Readers.{Met}
 
 pub rises_more : (low : ℕ) (xs : List ℕ) (top top' : ℕ) → top ≤ top' → Rises low xs top → Rises low xs top'
 rises_more low [] top top' more r = let r' : low ≤ top = r in omega arith
@@ -135,3 +139,14 @@ module _ {K : Type 0} (o : Order K) where
     where
       none_ended : (k : K) (s : ℕ) (v : List ℕ) → [] ≡ loads_of (attempt o n k) (s ∷ (v ++ s ∷ [])) → ⊥
       none_ended k s v e' = let h : 0 ≡ suc (length (loads_of (Load _ _) (v ++ s ∷ []))) = ap (λ (z : List (ℕ × ℕ)). length z) e' in omega arith
+
+-- what a reader knows that loaded the sequence while it was joined to the writer
+pub met : {S K : Type 0} (o : Order K) (v w : Knowledge) (m m' : Me S Knowledge) (s : ℕ) (p : WriterKnowledge)
+    → m.0 ≡ joined_knowledge v w → v.writer ≡ Some p → (known : List Update) × LoadsSequence o (reader_of m.0) s known × ((q : WriterKnowledge) → m.0.writer ≡ Some q → known ≡ q.known) × (m' ≡ as_reader (with_sequence s known (reader_of m.0)) m)
+    → Met (reader_of w) (reader_of m'.0) p.known
+met {S} o v w m m' s p both writes h =
+    let e : reader_of m.0 ≡ reader_of w = ap reader_of both in
+    let looks = subst (λ (z : ReaderKnowledge). LoadsSequence o z s h.0) e h.1 in
+    let there : reader_of m'.0 ≡ with_sequence s h.0 (reader_of w) = ap (λ (z : Me S Knowledge). reader_of z.0) h.3 ∙ ap (with_sequence s h.0) e in
+    subst (λ (z : ReaderKnowledge). Met (reader_of w) z p.known) (sym there)
+    (s, refl, h.2 p (ap (λ (z : Knowledge). z.writer) both ∙ writes), record { base = refl; capacity = refl; floor = refl; known = looks.begins }, looks.floored)

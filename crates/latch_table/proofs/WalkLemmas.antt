@@ -206,9 +206,6 @@ module _ {T S K : Type 0} (table_of : T → TableId) (me_of : T → Me S Knowled
     pub table_now : table_of s' ≡ table
     table_now = h.ended.0 ∙ there.0.0
 
-    pub reads_now : me_of s' ≡ (reader_knowledge (reader_of (me_of s').0), [])
-    reads_now = h.ended.1.2 ∙ (λ i. (reader_knowledge (sym ends_is i), []))
-
     -- the attempt began with that load
     pub begun_now : IsPrefix (before.seen ++ first ∷ []) (reader_of (me_of s').0).seen
     begun_now = (h.last ∷ [], sym (ap (λ (e : ReaderKnowledge). e.seen) ends_is ∙ ap (λ (e : ReaderKnowledge). e.seen ++ h.last ∷ []) there.1.same))

@@ -1,43 +1,43 @@
 -- The writer's core, its seat and the pending update, from one call to the next.
+use mathlib.Core.Option as maybe
 use Rattle.std.proofs.Common.{◌≡◌, ◌≢◌, ℕ, suc, ◌+◌, ◌-◌, ◌*◌, ◌%◌, ◌<◌, ◌≤◌, true, false, cond, List, [], ◌∷◌, ◌++◌, length, take, drop, Option, Some, None, refl, sym, ◌∙◌, ap, subst, inl, inr, ⊎_elim, arith, length-append, length-set}
 use Rattle.std.specs.Prelude.{◌⊎◌, ◌==◌, ◌&&◌, MatchOption, nat_lt}
 use Rattle.std.proofs.lemmas.Bool.{eq-eqb, ne_eqb}
-use Rattle.std.proofs.lemmas.List.{take-append-le, take-append-drop, take_all, length-take-le}
-use mathlib.Core.Option as maybe
+use Rattle.std.proofs.lemmas.List.{take-append-le, take-append-drop, take_all, length-take-le, length-replicate}
 use mathlib.Core.List.{IsPrefix}
-use Rattle.atomic_table.specs.Table.{Me, step, Allows}
+use Rattle.atomic_table.specs.Table.{Me, step, Allows, opening}
 use Rattle.atomic_table.specs.Seated.{TableId}
 use Rattle.order_laws.specs.Orders.{Order, IsLawful}
 use Rattle.order_laws.specs.Tables.{look}
 use Rattle.order_laws.specs.declared.items.Item.{Item}
 use Rattle.facts.proofs.Lists.{first_and_rest, IsPrefix-whole}
 use Rattle.word_layout.specs.declared.stores.Store.{Store}
-use Rattle.word_layout.specs.Words.{at, words_for, HoldsTable}
+use Rattle.word_layout.specs.Words.{at, words_for, HoldsTable, words_per_node}
 use Rattle.word_layout.specs.Stores.{words_after}
 use Rattle.word_layout.proofs.StoreLemmas.{length_after}
-use Rattle.latch_core.proofs.WriterLemmas.{rests_before}
+use Rattle.latch_core.proofs.WriterLemmas.{rests_before, next_may, did_pictures, refuses_pictured}
 use Rattle.table_updates.specs.declared.updates.Update.{Update}
 use Rattle.latch_core.specs.Sequences.{generation_of, stable_copy_of}
-use Rattle.table_updates.specs.Updates.{refusal_for}
-use Rattle.table_updates.specs.Updates.{replay}
-use Rattle.latch_core.specs.Latches.{PendingUpdate, Latch, IsWriterStep, flips_after, latch_after_step}
+use Rattle.table_updates.specs.Updates.{refusal_for, replay}
+use Rattle.latch_core.specs.Latches.{PendingUpdate, Latch, IsWriterStep, flips_after, latch_after_step, opening_latch}
 use Rattle.latch_core.specs.Invariants.{IsPendingUpdate, IsPendingOf, IsSound}
 use Rattle.latch_core.specs.WriterViews.{WriterView}
-use Rattle.latch_core.specs.Writers.{RepresentsLatch, next_store, why_refused, has_pending, writer_after_step, HasBegun}
+use Rattle.latch_core.specs.Writers.{RepresentsLatch, next_store, why_refused, has_pending, writer_after_step, HasBegun, opening_writer}
 use Rattle.word_layout.proofs.HoldsLemmas.{flip_adds}
-use Rattle.latch_core.proofs.SoundLemmas.{hidden_same, flips_of_flip, flips_of_store, sound_step, sound_begin}
-use Rattle.latch_core.proofs.WriterLemmas.{next_may, did_pictures, refuses_pictured}
+use Rattle.latch_core.proofs.SoundLemmas.{hidden_same, flips_of_flip, flips_of_store, sound_step, sound_begin, sound_opening}
 use Rattle.latch_table.specs.declared.knowledge.WriterKnowledge.{WriterKnowledge}
 use Rattle.latch_table.specs.declared.knowledge.Knowledge.{Knowledge}
 use Rattle.latch_core.specs.Attempts.{Answer, attempt, IsAttempt}
 use Rattle.latch_core.specs.Latched.{loads_of, IsLatched}
 use Rattle.latch_table.specs.Lookups.{FindsIn}
-use Rattle.latch_table.specs.Seats.{writer_of, writer_knowledge, with_store, with_loads, with_update, shown_after}
+use Rattle.latch_table.specs.Seats.{writer_of, writer_knowledge, with_store, with_loads, with_update, shown_after, blank_writer}
 use Rattle.latch_table.specs.Rule.{KnowledgeHolds, as_writer, word_stored}
-use Rattle.latch_table.proofs.RuleLemmas.{allows_store}
+use Rattle.latch_table.proofs.RuleLemmas.{allows_store, opens}
 use Rattle.latch_table.specs.declared.writers.Did.{Did}
 use Rattle.latch_table.specs.declared.writers.Did.TheVariants.{Flip, Store as ToStore}
-use Rattle.latch_table.specs.Writers.{WriterState, shown_updates, steps_left_of, kind_of_store, Steps, Finds, Begins, pending_of, writer_state, IsTied, state_with_update, state_after_step}
+use Rattle.latch_table.specs.Writers.{WriterState, shown_updates, steps_left_of, kind_of_store, Steps, Finds, Begins, pending_of, writer_state, IsTied, state_with_update, state_after_step, OnTheWay, Finishes}
+use Rattle.word_layout.specs.declared.layouts.Layout.{Layout}
+use Rattle.word_layout.specs.Layouts.{capacity_of}
 
 -- what a step does to the sequence, and at which of its numbers
 abbrev StepKind : ℕ → ℕ → ℕ → ℕ → Type 0
@@ -346,3 +346,55 @@ did_flip s did z is = let e : (s.word == 0) ≡ true = eq-eqb s.word 0 z in is �
 
 pub did_store : (s : Store) (did : Did) → s.word ≢ 0 → did ≡ ToStore → did ≡ kind_of_store s
 did_store s did other is = let e : (s.word == 0) ≡ false = ne_eqb s.word 0 other in is ∙ sym (ap (λ b. cond b Flip ToStore) e)
+
+pub steps_down : (w w' : WriterState) (did : Did) → Steps w w' (Some did) → steps_left_of w'.latch.pending < steps_left_of w.latch.pending
+steps_down w w' did s = omega (arith, s.0)
+
+pub on_the_way : (w a b : WriterState) (did : Did) → OnTheWay w a → Steps a b (Some did) → OnTheWay w b
+on_the_way w a b did way s =
+    let is = s.1.5 in
+    let there : b ≡ record a { latch = b.latch } = subst (λ (z : WriterState). z ≡ record a { latch = z.latch }) (sym is) refl in
+    there ∙ (λ i. record (way i) { latch = b.latch })
+
+pub finishes : (w a b : WriterState) (g : ℕ) → OnTheWay w a → Steps a b None → g ≡ generation_of (at b.latch.words 0) → Finishes w b g
+finishes w a b g way s is =
+    let there : OnTheWay w b = subst (OnTheWay w) (sym s.1) way in
+    let all : b.history ≡ w.history = ap (λ (z : WriterState). z.history) there in
+    let base : b.base ≡ w.base = ap (λ (z : WriterState). z.base) there in
+    let same : b ≡ a = s.1 in
+    let shown : shown_updates b ≡ b.history = subst (λ (z : WriterState). shown_updates z ≡ z.history) (sym same) s.2 in
+    let counted : generation_of (at b.latch.words 0) ≡ b.base + length b.history = subst (λ (z : WriterState). generation_of (at z.latch.words 0) ≡ z.base + length z.history) (sym same) s.3 in
+    (there, ap (λ (z : WriterState). z.latch.pending) same ∙ s.0, shown ∙ all, is ∙ counted ∙ (λ i. base i + length (all i)))
+
+module _ {K : Type 0} (o : Order K) (n start : ℕ) (even : stable_copy_of start ≡ 0) where
+  latched_opening : IsLatched o n (generation_of start) (opening_latch n start).words []
+  latched_opening = record {
+    sized = omega (arith, length-replicate {A = ℕ} (words_per_node * n + 2) 0);
+    counted = omega arith;
+    is_table = tt;
+    fits = omega arith;
+    holds = subst (HoldsTable (opening_latch n start).words n (stable_copy_of start)) (ap (replay o []) (take_all (generation_of start - generation_of start) [] (omega arith))) (sound_opening o n start even).current;
+  }
+
+  -- a row of these words keeps the rule
+  pub opens_first : {S : Type 0} (words : List ℕ) (slots : List S) → words ≡ (opening_latch n start).words → KnowledgeHolds o n (generation_of start) (opening words slots (writer_knowledge (blank_writer n start)))
+  opens_first words slots is =
+      opens o n (generation_of start) words slots (blank_writer n start) (record { based = refl; capacity = refl; picture = sym is; shown = refl })
+      (subst (λ m. IsLatched o n (generation_of start) m []) (sym is) latched_opening)
+
+-- and the core is tied to its first seat
+pub tied_opening : {S K : Type 0} (o : Order K) (l : Layout) (start : ℕ) → stable_copy_of start ≡ 0 → (place : TableId) (readers : ℕ) (m : Me S Knowledge) (core : WriterView) → m ≡ (writer_knowledge (blank_writer (capacity_of l) start), [])
+    → core ≡ opening_writer l start → RepresentsLatch core (opening_latch (capacity_of l) start) → IsTied o m core (writer_state place readers m.0 core)
+tied_opening {S} o l start even place readers m core is opened pictures =
+    let n : ℕ = capacity_of l in
+    let first : Me S Knowledge = (writer_knowledge (blank_writer n start), []) in
+    let twice : start ≡ 2 * generation_of start = (let e : start % 2 ≡ 0 = even in omega arith) in
+    let sound : IsSound o n (2 * generation_of start) [] (opening_latch n start) = subst (λ s. IsSound o n s [] (opening_latch n start)) twice (sound_opening o n start even) in
+    subst (λ (z : Me S Knowledge × WriterView). IsTied o z.0 z.1 (writer_state place readers z.0.0 z.1)) (λ i. (sym is i, sym opened i))
+    (record {
+      alone = refl;
+      capacity = refl;
+      pictures = subst (λ (w : WriterView). RepresentsLatch w (opening_latch n start)) opened pictures;
+      sound = sound;
+      known = sym (take_all (generation_of start - generation_of start) [] (omega arith));
+    })

@@ -1,6 +1,6 @@
 use Rattle.std.proofs.Common.{rules, [], ◌∙◌}
 use Rattle.word_layout.specs.Layouts.{capacity_of}
-use Rattle.latch_table.proofs.OpeningLemmas.{opens_first, tied_opening}
+use Rattle.latch_table.proofs.WriterLemmas.{opens_first, tied_opening}
 use Rattle.latch_table.proofs.opening.open.Goals as goal
 
 pub build-requires-clause-rule : goal.build-requires-clause-rule

@@ -1,9 +1,5 @@
-use Rattle.std.proofs.Common.{refl}
-use Rattle.latch_table.proofs.FinishLemmas.{steps_down, on_the_way, finishes}
+use Rattle.latch_table.proofs.WriterLemmas.{steps_down, on_the_way, finishes}
 use Rattle.latch_table.proofs.writers.Writer.finish.Goals as goal
-
-pub loop-init : goal.loop-init
-loop-init g c = refl
 
 pub loop-smaller : goal.loop-smaller
 loop-smaller g c = steps_down c.loop.self c.step.new.self c.in-Some.field-0 c.in-Some.ensures
