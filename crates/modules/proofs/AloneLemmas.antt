@@ -1,13 +1,13 @@
 -- The modules of symbols alone lie apart, and have distinct names.
-use Rattle.modules.proofs.Words.{◌≡◌, ◌≢◌, ℕ, ◌-◌, ◌^◌, ◌<◌, Bool, true, false, ◌||◌, nat_le, nat_lt, cond, List, [], ◌∷◌, ◌++◌, length, get_or, map, Option, Some, None, refl, sym, ap, subst, ◌∙◌, ⊎_elim, arith, All, filter, find, fold, first_so, second_so, AllPairs, flat_map, list_any, option_to_list, bytes_eq, rules, common_steps, nat_tests}
-use Rattle.modules.proofs.Lemmas.{and_parts, cases_lt, le-leb, leb-false, leb-true, ltb-true, or_cases, or_left, or_parts, get_or-map, length-map, All-append, All-contains, All-filter, All-head, All-nil, All-cons, All-push, All-tail, filter_passes, list_any_at, AllPass-from_list_all, AllPairs-few, find-has, find-passes}
-use Rattle.modules.proofs.Definitions.{Accepted, names_of, HasItsRegions, IsFromSymbols, is_kept_line, owner_names, with_name, AreDistinctNames, is_built_in, lies_in, HaveFirstLines, kernel_regions, BoundNames, ListedSymbol, is_nearest_line, is_outside, module_of_address, posts, is_core, IsPlaced, PlacedModule, AreSoundModules, AreApart, holds, is_apart, lies_in_any, Core}
+use Rattle.modules.proofs.Words.{◌≡◌, ◌≢◌, ℕ, count_by, sum_by, ◌-◌, ◌^◌, ◌<◌, Bool, true, false, ◌||◌, nat_le, nat_lt, cond, List, [], ◌∷◌, ◌++◌, length, get_or, map, Option, Some, None, refl, sym, ap, subst, ◌∙◌, ⊎_elim, arith, All, filter, find, fold, first_so, second_so, AllPairs, flat_map, list_any, option_to_list, bytes_eq, rules, common_steps, nat_tests}
+use Rattle.modules.proofs.Lemmas.{and_parts, cases_lt, le-leb, leb-false, leb-true, ltb-true, or_cases, or_left, or_parts, get_or-map, length-map, All-append, All-contains, All-filter, All-head, All-nil, All-cons, All-push, All-tail, filter_passes, list_any_at, AllPass-from_list_all, AllPairs-cons, AllPairs-few, count_by-either, find-has, find-passes}
+use Rattle.modules.proofs.Definitions.{Accepted, catalog_with, entries_of, is_kept, names_of, HasItsRegions, IsFromSymbols, is_kept_line, owner_names, with_name, AreDistinctNames, is_built_in, lies_in, HaveFirstLines, kernel_regions, BoundNames, ListedSymbol, is_nearest_line, is_outside, module_of_address, posts, is_core, IsPlaced, PlacedModule, AreSoundModules, AreApart, holds, is_apart, lies_in_any, Core}
 use Rattle.modules.proofs.KeptOrderLemmas.{first_lines}
-use Rattle.modules.proofs.MarkedModuleLemmas.{pairs_cons, pairs_first, pairs_rest}
 use Rattle.modules.proofs.OwnLineLemmas.{is_of}
 use Rattle.modules.proofs.PostLemmas.{all_of_passing}
 use Rattle.modules.proofs.SoundnessLemmas.{AreDistinct-push, kernel_apart}
-use Rattle.modules.proofs.SpacedLemmas.{Range, inside, within}
+use Rattle.modules.proofs.CountLemmas.{kept_in_one_of}
+use Rattle.modules.proofs.SpacedLemmas.{Range, inside, pairs_first, pairs_rest, within}
 
 -- ---- whose an address is
 
@@ -103,18 +103,7 @@ placed lines m its (addr, lt, is) =
 -- ---- regions that lie apart
 
 apart_or_meet : (r s : Range) → r.0 < r.1 → s.0 < s.1 → ((x : ℕ) → holds r x ≡ true → holds s x ≡ true → ⊥) → is_apart r s ≡ true
-apart_or_meet r s r_valid s_valid none = by (is_apart r s) refl
-  where
-    by : (b : Bool) → is_apart r s ≡ b → b ≡ true
-    by true e = refl
-    by false e =
-        let both = or_parts (nat_le r.1 s.0) (nat_le s.1 r.0) e in
-        let before : s.0 < r.1 = leb-false r.1 s.0 both.0 in
-        let after : r.0 < s.1 = leb-false s.1 r.0 both.1 in
-        absurd (⊎_elim
-        (λ less. none s.0 (within r s.0 (omega arith) before) (within s s.0 (omega arith) s_valid))
-        (λ ge. none r.0 (within r r.0 (omega arith) r_valid) (within s r.0 ge after))
-        (cases_lt r.0 s.0))
+apart_or_meet r s r_valid s_valid none = grind (arith, nat_tests, cases_lt r.0 s.0, within, none r.0, none s.0)
 
 -- no address lies in the region and in the module
 abbrev IsClear : Range → PlacedModule → Type 0
@@ -137,7 +126,7 @@ all_valid (m ∷ ms) valid = All-append (λ (r : Range). r.0 < r.1) m.regions (f
 pairs_append : {X : Type 0} (R : X → X → Type 0) (xs ys : List X) → AllPairs R xs → AllPairs R ys → All (λ x. All (R x) ys) xs → AllPairs R (xs ++ ys)
 pairs_append R [] ys of_xs of_ys across = of_ys
 pairs_append R (x ∷ xs) ys of_xs of_ys across =
-    pairs_cons R x (xs ++ ys)
+    AllPairs-cons R x (xs ++ ys)
     (All-append (R x) xs ys (pairs_first R x xs of_xs) (All-head (λ z. All (R z) ys) x xs across))
     (pairs_append R xs ys (pairs_rest R x xs of_xs) of_ys (All-tail (λ z. All (R z) ys) x xs across))
 
@@ -192,3 +181,9 @@ sound_alone names lines a h =
           (with_kernel kernel (flat_map (λ m. m.regions) ms) (kernel_apart names lines) (across_kernel kernel lines ms (first_lines names lines) h.regions) (all_valid ms (valid_in ps ms h.regions)) (apart_modules ps ms h.regions distinct));
       distinct = distinct;
     }
+
+pub kept_alone : (names : Option BoundNames) (lines : List ListedSymbol) (a : Accepted) → IsFromSymbols names lines a → sum_by (λ m. length m.symbols) (entries_of (catalog_with a lines)) ≡ count_by (is_kept a) lines
+kept_alone names lines a h = kept_in_one_of a lines (sound_alone names lines a h).distinct
+
+-- each line is counted once
+pub ruleset alone_counted = (kept_alone, count_by-either)

@@ -23,10 +23,10 @@ above_same symbols addr s h =
     ap (λ b. b && list_all (λ (u : SymbolEntry). nat_le u.addr s.addr || nat_le t.addr u.addr) symbols) (le_or_past_below s.addr addr t.addr low (none k d lt))
     ∙ ap (λ b. nat_lt addr t.addr && b) (list_all-agree (λ (u : SymbolEntry). nat_le u.addr s.addr || nat_le t.addr u.addr) (λ (u : SymbolEntry). nat_le u.addr addr || nat_le t.addr u.addr) symbols (λ i e l. least_above_below s.addr addr t.addr (get_or symbols i e).addr low (none i e l)))))
 
-nearest_parts : (symbols : List SymbolEntry) (addr : ℕ) (s : SymbolEntry) → is_nearest symbols addr s ≡ true → (s.addr ≤ addr) × All (λ t. (nat_le t.addr s.addr || nat_lt addr t.addr) ≡ true) symbols
+pub nearest_parts : (symbols : List SymbolEntry) (addr : ℕ) (s : SymbolEntry) → is_nearest symbols addr s ≡ true → (s.addr ≤ addr) × All (λ t. (nat_le t.addr s.addr || nat_lt addr t.addr) ≡ true) symbols
 nearest_parts symbols addr s h = grind (arith, leb-true, AllPass-from_list_all)
 
-next_parts : (symbols : List SymbolEntry) (addr : ℕ) (s : SymbolEntry) → is_next symbols addr s ≡ true → (addr < s.addr) × All (λ t. (nat_le t.addr addr || nat_le s.addr t.addr) ≡ true) symbols
+pub next_parts : (symbols : List SymbolEntry) (addr : ℕ) (s : SymbolEntry) → is_next symbols addr s ≡ true → (addr < s.addr) × All (λ t. (nat_le t.addr addr || nat_le s.addr t.addr) ≡ true) symbols
 next_parts symbols addr s h = grind (arith, ltb-true, AllPass-from_list_all)
 
 -- the nearest symbols have one address
@@ -52,12 +52,7 @@ all_above symbols addr none = λ k d lt.
     let some : list_any (λ (s : SymbolEntry). nat_le s.addr addr) symbols ≡ true = list_any_at (λ (s : SymbolEntry). nat_le s.addr addr) symbols k d lt (le-leb (get_or symbols k d).addr addr under) in
     let best = least_in (λ (s : SymbolEntry). nat_le s.addr addr) (λ (s : SymbolEntry). addr - s.addr) symbols some in
     let low : best.0.addr ≤ addr = leb-true best.0.addr addr best.1.passing in
-    let near : is_nearest symbols addr best.0 ≡ true = and_from (nat_le best.0.addr addr) (list_all (λ (t : SymbolEntry). nat_le t.addr best.0.addr || nat_lt addr t.addr) symbols) best.1.passing (list_all-from_AllPass (λ (t : SymbolEntry). nat_le t.addr best.0.addr || nat_lt addr t.addr) symbols (λ j e l. ⊎_elim
-    (λ above. or_from_cases (nat_le (get_or symbols j e).addr best.0.addr) (nat_lt addr (get_or symbols j e).addr) (inr (lt-ltb addr (get_or symbols j e).addr above)))
-    (λ below.
-    let less : addr - best.0.addr ≤ addr - (get_or symbols j e).addr = best.1.least j e l (le-leb (get_or symbols j e).addr addr below) in
-    or_from_cases (nat_le (get_or symbols j e).addr best.0.addr) (nat_lt addr (get_or symbols j e).addr) (inl (le-leb (get_or symbols j e).addr best.0.addr (omega arith))))
-    (cases_lt addr (get_or symbols j e).addr))) in
+    let near : is_nearest symbols addr best.0 ≡ true = and_from (nat_le best.0.addr addr) (list_all (λ (t : SymbolEntry). nat_le t.addr best.0.addr || nat_lt addr t.addr) symbols) best.1.passing (list_all-from_AllPass (λ (t : SymbolEntry). nat_le t.addr best.0.addr || nat_lt addr t.addr) symbols (λ j e l. le_or_past (get_or symbols j e).addr best.0.addr addr (⊎_elim (λ above. inr above) (λ below. let less : addr - best.0.addr ≤ addr - (get_or symbols j e).addr = best.1.least j e l (le-leb (get_or symbols j e).addr addr below) in inl (omega arith)) (cases_lt addr (get_or symbols j e).addr)))) in
     let far : is_nearest symbols addr best.0 ≡ false = All-contains (λ (s : SymbolEntry). is_nearest symbols addr s ≡ false) symbols best.0 (All-from_find (is_nearest symbols addr) symbols none) best.1.there in
     absurd (cc))
     (cases_lt addr (get_or symbols k d).addr)
@@ -69,12 +64,7 @@ none_over symbols addr none = λ k d lt.
     (λ over.
     let some : list_any (λ (s : SymbolEntry). nat_lt addr s.addr) symbols ≡ true = list_any_at (λ (s : SymbolEntry). nat_lt addr s.addr) symbols k d lt (lt-ltb addr (get_or symbols k d).addr over) in
     let best = least_in (λ (s : SymbolEntry). nat_lt addr s.addr) (λ (s : SymbolEntry). s.addr) symbols some in
-    let next : is_next symbols addr best.0 ≡ true = and_from (nat_lt addr best.0.addr) (list_all (λ (t : SymbolEntry). nat_le t.addr addr || nat_le best.0.addr t.addr) symbols) best.1.passing (list_all-from_AllPass (λ (t : SymbolEntry). nat_le t.addr addr || nat_le best.0.addr t.addr) symbols (λ j e l. ⊎_elim
-    (λ above.
-    let least : best.0.addr ≤ (get_or symbols j e).addr = best.1.least j e l (lt-ltb addr (get_or symbols j e).addr above) in
-    or_from_cases (nat_le (get_or symbols j e).addr addr) (nat_le best.0.addr (get_or symbols j e).addr) (inr (le-leb best.0.addr (get_or symbols j e).addr least)))
-    (λ below. or_from_cases (nat_le (get_or symbols j e).addr addr) (nat_le best.0.addr (get_or symbols j e).addr) (inl (le-leb (get_or symbols j e).addr addr below)))
-    (cases_lt addr (get_or symbols j e).addr))) in
+    let next : is_next symbols addr best.0 ≡ true = and_from (nat_lt addr best.0.addr) (list_all (λ (t : SymbolEntry). nat_le t.addr addr || nat_le best.0.addr t.addr) symbols) best.1.passing (list_all-from_AllPass (λ (t : SymbolEntry). nat_le t.addr addr || nat_le best.0.addr t.addr) symbols (λ j e l. least_above best.0.addr (get_or symbols j e).addr addr (⊎_elim (λ above. inr (best.1.least j e l (lt-ltb addr (get_or symbols j e).addr above))) (λ below. inl below) (cases_lt addr (get_or symbols j e).addr)))) in
     let not_next : is_next symbols addr best.0 ≡ false = All-contains (λ (s : SymbolEntry). is_next symbols addr s ≡ false) symbols best.0 (All-from_find (is_next symbols addr) symbols none) best.1.there in
     absurd (cc))
     (λ under. under)

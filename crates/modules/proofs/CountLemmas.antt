@@ -12,12 +12,6 @@ total-fold a (m ∷ ms) = omega (arith, total-fold (after_module a m) ms, total-
 pub modules_counted : (names : Option BoundNames) (modules : List ListedModule) (regions : List ListedRegion) (symbols : List ListedSymbol) → let n = counts_of names modules regions symbols in n.modules + n.double + n.overlap ≡ length modules
 modules_counted names modules regions symbols = omega (arith, total-fold (none_yet (kernel_regions names symbols)) (map (placed_line regions) modules), length-map modules (placed_line regions))
 
-pub symbols_counted : (names : Option BoundNames) (modules : List ListedModule) (regions : List ListedRegion) (symbols : List ListedSymbol) → let n = counts_of names modules regions symbols in n.symbols + n.stray ≡ length symbols
-symbols_counted names modules regions symbols = count_by-either (is_kept (accepted_of (kernel_regions names symbols) regions modules)) symbols
-
-pub regions_counted : (names : Option BoundNames) (modules : List ListedModule) (regions : List ListedRegion) (symbols : List ListedSymbol) → let n = counts_of names modules regions symbols in n.regions + n.stray_regions ≡ length regions
-regions_counted names modules regions symbols = count_by-either (is_used (accepted_of (kernel_regions names symbols) regions modules) regions) regions
-
 -- ---- each kept line is in one module
 
 length-symbols_that : (p : ListedSymbol → Bool) (symbols : List ListedSymbol) → length (symbols_that p symbols) ≡ count_by p symbols
@@ -75,6 +69,11 @@ sum_of_modules : (symbols : List ListedSymbol) (lines : List PlacedModule) → s
 sum_of_modules symbols [] = refl
 sum_of_modules symbols (m ∷ ms) = omega (arith, length-symbols_that (belongs m) symbols, sum_of_modules symbols ms, sum_by-cons (λ (e : ModuleEntry). length e.symbols) (entry_for symbols m) (map (entry_for symbols) ms), sum_by-cons (λ n. count_by (belongs n) symbols) m ms)
 
+-- so that the lists have as many symbols as are kept
+pub kept_in_lists : (a : Accepted) (symbols : List ListedSymbol) → AreDistinctNames (names_of a.modules)
+    → length (symbols_that (is_built_in a.built_in) symbols) + sum_by (λ (m : ModuleEntry). length m.symbols) (map (entry_for symbols) a.modules) ≡ count_by (is_kept a) symbols
+kept_in_lists a symbols distinct = omega (arith, length-symbols_that (is_built_in a.built_in) symbols, sum_of_modules symbols a.modules, symbols_by_home a.modules symbols, kept_by_home a.built_in a symbols refl distinct)
+
 none_built_in : (symbols : List ListedSymbol) → count_by (is_built_in []) symbols ≡ 0
 none_built_in [] = refl
 none_built_in (s ∷ symbols) = omega (arith, none_built_in symbols, count-and_false (is_none s.owner), sum_by-cons (λ x. cond (is_built_in [] x) 1 0) s symbols)
@@ -91,3 +90,8 @@ pub kept_in_one : (names : Option BoundNames) (modules : List ListedModule) (reg
     → sum_by (λ m. length m.symbols) (entries_of (catalog_of names modules regions symbols)) ≡ (counts_of names modules regions symbols).symbols
 kept_in_one names modules regions symbols fit regions_fit few =
     kept_in_one_of (accepted_of (kernel_regions names symbols) regions modules) symbols (accepted_good names modules regions symbols fit regions_fit).distinct
+
+-- each line is counted once
+pub ruleset counted_once = (modules_counted, count_by-either)
+
+pub ruleset either_counted = (count_by-either)

@@ -4,10 +4,6 @@ use Rattle.modules.proofs.Lemmas.{cases_lt, eqb-true, eq-eqb, append-nil, length
 use Rattle.modules.proofs.Definitions.{is_of, starts_of, Part}
 use Rattle.modules.proofs.LoadLemmas.{starts_more}
 
--- ---- just one first address, or several
-
--- ---- first addresses compared with words
-
 module _ (core init : Bool) (rs : List (ℕ × ℕ)) (ps : List Part) (i : ℕ) (r : ℕ × ℕ) (p : Part) (lt : i < length rs) (lp : i < length ps) where
   pub wanted_more : is_of core init (get_or ps i p) ≡ true → starts_of core init (take (i + 1) rs) (take (i + 1) ps) ≡ starts_of core init (take i rs) (take i ps) ++ (get_or rs i r).0 ∷ []
   wanted_more is = starts_more core init rs ps i r p lt lp ∙ ap (λ b. starts_of core init (take i rs) (take i ps) ++ cond b ((get_or rs i r).0 ∷ []) []) is

@@ -1,34 +1,26 @@
 -- One more run of symbol lines.
 use Rattle.modules.proofs.Words.{◌≡◌, ℕ, ◌+◌, ◌<◌, ◌≤◌, Bool, false, cond, List, ◌++◌, length, get_or, map, not, Some, None, Ok, Err, Option, Result, refl, sym, ap, ◌∙◌, ⊎_elim, arith, filter, count_by, OnOk, Bor, Vec, position_from, option_copied, option_map_or, AllocError, bytes_eq, common_steps, nat_tests}
 use Rattle.modules.proofs.Lemmas.{cases_eq, map-append, append-nil, filter-append, length-filter_both, sum_by-append}
-use Rattle.modules.proofs.Definitions.{Accepted, names_of, SymbolEntry, CountsStay, Gathers, HasRoom, Keeps, KeepsRun, lies_for, owner_for, AreDistinctNames, belongs, is_built_in, is_kept, symbols_that, entry_of, ListedSymbol, PlacedModule, lines_of_run, line_of, Gathered, Owner, Run}
+use Rattle.modules.proofs.Definitions.{Accepted, names_of, SymbolEntry, Gathers, HasRoom, Keeps, KeepsRun, lies_for, owner_for, AreDistinctNames, belongs, is_built_in, is_kept, symbols_that, entry_of, ListedSymbol, PlacedModule, lines_of_run, line_of, Gathered, Owner, Run}
 use Rattle.modules.specs.declared.gathering.Owner.TheVariants as owner
-use Rattle.modules.proofs.HomeLemmas.{that_run, that_none, count_run, count_rest, kept_unnamed, kept_nowhere, kept_there, belongs_there}
-use Rattle.modules.proofs.KeptLemmas.{no_home, only_home, place_within}
+use Rattle.modules.proofs.HomeLemmas.{no_home, only_home, place_within, that_run, that_none, belongs_there}
 
 that-append : (p : ListedSymbol → Bool) (xs ys : List ListedSymbol) → symbols_that p (xs ++ ys) ≡ symbols_that p xs ++ symbols_that p ys
 that-append p xs ys = ap (map entry_of) (filter-append p xs ys) ∙ map-append entry_of (filter p xs) (filter p ys)
 
--- what the lines of a run add to each list and each count
-record Adds (a : Accepted) (n : Option (List ℕ)) (q : SymbolEntry → Bool) (ss : List SymbolEntry) (g h : Gathered) : Type 0 where
+-- what the lines of a run add to each list
+record Adds (a : Accepted) (n : Option (List ℕ)) (ss : List SymbolEntry) (g h : Gathered) : Type 0 where
   pub built_in : h.built_in.items ≡ g.built_in.items ++ symbols_that (is_built_in a.built_in) (map (line_of n) ss)
   pub lists : length h.modules.items ≡ length g.modules.items
   pub each : (j : ℕ) (d : Vec SymbolEntry) (m : PlacedModule) → j < length a.modules → (get_or h.modules.items j d).items ≡ (get_or g.modules.items j d).items ++ symbols_that (belongs (get_or a.modules j m)) (map (line_of n) ss)
-  pub is : (s : SymbolEntry) → is_kept a (line_of n s) ≡ q s
-  pub kept : h.kept ≡ g.kept + length (filter q ss)
-  pub stray : h.stray + length (filter q ss) ≡ g.stray + length ss
 
-Gathers-added : (a : Accepted) (n : Option (List ℕ)) (q : SymbolEntry → Bool) (ss : List SymbolEntry) (xs : List ListedSymbol) (g h : Gathered) → Gathers a xs g → Adds a n q ss g h → Gathers a (xs ++ map (line_of n) ss) h
-Gathers-added a n q ss xs g h before adds =
+Gathers-added : (a : Accepted) (n : Option (List ℕ)) (ss : List SymbolEntry) (xs : List ListedSymbol) (g h : Gathered) → Gathers a xs g → Adds a n ss g h → Gathers a (xs ++ map (line_of n) ss) h
+Gathers-added a n ss xs g h before adds =
     let lines : List ListedSymbol = map (line_of n) ss in
-    let kept : count_by (is_kept a) lines ≡ length (filter q ss) = count_run (is_kept a) q n adds.is ss in
-    let rest : count_by (λ s. not (is_kept a s)) lines + length (filter q ss) ≡ length ss = count_rest (is_kept a) q n adds.is ss in
     record {
       built_in = adds.built_in ∙ ap (λ es. es ++ symbols_that (is_built_in a.built_in) lines) before.built_in ∙ sym (that-append (is_built_in a.built_in) xs lines);
       lists = adds.lists ∙ before.lists;
       each = λ j d m lt. adds.each j d m lt ∙ ap (λ es. es ++ symbols_that (belongs (get_or a.modules j m)) lines) (before.each j d m lt) ∙ sym (that-append (belongs (get_or a.modules j m)) xs lines);
-      kept = omega (arith, adds.kept, before.kept, kept, sum_by-append (λ (s : ListedSymbol). cond (is_kept a s) 1 0) xs lines);
-      stray = omega (arith, adds.stray, before.stray, rest, sum_by-append (λ (s : ListedSymbol). cond (not (is_kept a s)) 1 0) xs lines);
     }
 
 -- a list to which nothing is put
@@ -42,22 +34,19 @@ grows p q n ss es fs is more = more ∙ ap (λ xs. es ++ xs) (sym (that_run p q 
 abbrev lies : Accepted → Owner → SymbolEntry → Bool
 lies a o s = lies_for a o s.addr
 
-kernel_adds : (a : Accepted) (ss : List SymbolEntry) (g h : Gathered) → Keeps owner.BuiltIn (filter (lies a owner.BuiltIn) ss) g h → h.kept ≡ g.kept + length (filter (lies a owner.BuiltIn) ss) → h.stray + length (filter (lies a owner.BuiltIn) ss) ≡ g.stray + length ss → Adds a None (lies a owner.BuiltIn) ss g h
-kernel_adds a ss g h keeps kept stray = grind (arith, common_steps, nat_tests, grows, stays, kept_unnamed, grows (is_built_in a.built_in) (lies a owner.BuiltIn) None ss g.built_in.items h.built_in.items)
+kernel_adds : (a : Accepted) (ss : List SymbolEntry) (g h : Gathered) → Keeps owner.BuiltIn (filter (lies a owner.BuiltIn) ss) g h → Adds a None ss g h
+kernel_adds a ss g h keeps = grind (arith, common_steps, nat_tests, grows, stays, grows (is_built_in a.built_in) (lies a owner.BuiltIn) None ss g.built_in.items h.built_in.items)
 
 abbrev owner_at : Option ℕ → Owner
 owner_at o = option_map_or (λ place. owner.Module place) o owner.Nobody
 
-named_adds : (a : Accepted) (name : List ℕ) (o : Option ℕ) (ss : List SymbolEntry) (g h : Gathered) → AreDistinctNames (names_of a.modules) → position_from (bytes_eq name) 0 (names_of a.modules) ≡ o → Keeps (owner_at o) (filter (lies a (owner_at o)) ss) g h → h.kept ≡ g.kept + length (filter (lies a (owner_at o)) ss) → h.stray + length (filter (lies a (owner_at o)) ss) ≡ g.stray + length ss → Adds a (Some name) (lies a (owner_at o)) ss g h
-named_adds a name None ss g h distinct at keeps kept stray = record {
+named_adds : (a : Accepted) (name : List ℕ) (o : Option ℕ) (ss : List SymbolEntry) (g h : Gathered) → AreDistinctNames (names_of a.modules) → position_from (bytes_eq name) 0 (names_of a.modules) ≡ o → Keeps (owner_at o) (filter (lies a (owner_at o)) ss) g h → Adds a (Some name) ss g h
+named_adds a name None ss g h distinct at keeps = record {
   built_in = stays (is_built_in a.built_in) (Some name) ss g.built_in.items h.built_in.items (λ s. refl) keeps.0;
   lists = ap length keeps.1;
   each = λ j d m lt. stays (belongs (get_or a.modules j m)) (Some name) ss (get_or g.modules.items j d).items (get_or h.modules.items j d).items (λ s. no_home a (line_of (Some name) s) name refl at j m lt) (ap (λ (ls : List (Vec SymbolEntry)). (get_or ls j d).items) keeps.1);
-  is = kept_nowhere a name at;
-  kept = kept;
-  stray = stray;
 }
-named_adds a name (Some k) ss g h distinct at keeps kept stray = record {
+named_adds a name (Some k) ss g h distinct at keeps = record {
   built_in = stays (is_built_in a.built_in) (Some name) ss g.built_in.items h.built_in.items (λ s. refl) keeps.0;
   lists = keeps.1;
   each = λ j d m lt. ⊎_elim
@@ -68,23 +57,14 @@ named_adds a name (Some k) ss g h distinct at keeps kept stray = record {
       (λ s. only_home a (line_of (Some name) s) name k distinct refl at j m lt other)
       (ap (λ (v : Vec SymbolEntry). v.items) (keeps.3 j d other)))
       (cases_eq j k);
-  is = kept_there a name k distinct at;
-  kept = kept;
-  stray = stray;
 }
 
-run_adds : (a : Accepted) (n : Option (List ℕ)) (ss : List SymbolEntry) (g h : Gathered) → AreDistinctNames (names_of a.modules) → Keeps (owner_for a n) (filter (lies a (owner_for a n)) ss) g h → h.kept ≡ g.kept + length (filter (lies a (owner_for a n)) ss) → h.stray + length (filter (lies a (owner_for a n)) ss) ≡ g.stray + length ss → Adds a n (lies a (owner_for a n)) ss g h
-run_adds a None ss g h distinct keeps kept stray = kernel_adds a ss g h keeps kept stray
-run_adds a (Some name) ss g h distinct keeps kept stray = named_adds a name (position_from (bytes_eq name) 0 (names_of a.modules)) ss g h distinct refl keeps kept stray
+run_adds : (a : Accepted) (n : Option (List ℕ)) (ss : List SymbolEntry) (g h : Gathered) → AreDistinctNames (names_of a.modules) → Keeps (owner_for a n) (filter (lies a (owner_for a n)) ss) g h → Adds a n ss g h
+run_adds a None ss g h distinct keeps = kernel_adds a ss g h keeps
+run_adds a (Some name) ss g h distinct keeps = named_adds a name (position_from (bytes_eq name) 0 (names_of a.modules)) ss g h distinct refl keeps
 
 pub Gathers-run : (a : Accepted) (xs : List ListedSymbol) (r : Run) (g h : Gathered) → AreDistinctNames (names_of a.modules) → Gathers a xs g → KeepsRun a r g h → Gathers a (xs ++ lines_of_run r) h
-Gathers-run a xs r g h distinct before keeps =
-    let n : Option (List ℕ) = option_copied r.module in
-    Gathers-added a n (lies a (owner_for a n)) r.symbols.items xs g h before (run_adds a n r.symbols.items g h distinct keeps.lists keeps.kept keeps.stray)
-
--- no more are kept than there are
-pub kept_within : (a : Accepted) (o : Owner) (ss kept : List SymbolEntry) → kept ≡ filter (lies a o) ss → length kept ≤ length ss
-kept_within a o ss kept is = omega (arith, ap (λ (es : List SymbolEntry). length es) is, length-filter_both (lies a o) (λ s. not (lies a o s)) (λ s. refl) ss)
+Gathers-run a xs r g h distinct before keeps = Gathers-added a (option_copied r.module) r.symbols.items xs g h before (run_adds a (option_copied r.module) r.symbols.items g h distinct keeps)
 
 -- an owner has a list
 room_at : (a : Accepted) (name : List ℕ) (o : Option ℕ) (g : Gathered) → length g.modules.items ≡ length a.modules → position_from (bytes_eq name) 0 (names_of a.modules) ≡ o → HasRoom g (owner_at o)
@@ -96,9 +76,3 @@ room_for a (Some name) g lists = room_at a name (position_from (bytes_eq name) 0
 
 pub room_of : (a : Accepted) (m : Option (Bor (List ℕ))) (g : Gathered) (o : Owner) → o ≡ owner_for a (option_copied m) → length g.modules.items ≡ length a.modules → HasRoom g o
 room_of a m g o is lists = rw is (room_for a (option_copied m) g lists)
-
--- what a run adds is in the lists and in the counts
-pub kept_or_fails : (a : Accepted) (r : Run) (g : Gathered) (kept rest : ℕ) (o : Owner) (symbols : List SymbolEntry) (h : Gathered) (result : Result (Unit {0}) AllocError) → o ≡ owner_for a (option_copied r.module) → symbols ≡ filter (lies a o) r.symbols.items → kept ≡ length symbols → rest + length symbols ≡ length r.symbols.items
-    → OnOk result (Keeps o symbols (record g { kept = g.kept + kept; stray = g.stray + rest }) h) → OnOk result (CountsStay (record g { kept = g.kept + kept; stray = g.stray + rest }) h) → OnOk result (KeepsRun a r g h)
-kept_or_fails a r g kept rest o symbols h (Err e) owner is few others lists counts = tt
-kept_or_fails a r g kept rest o symbols h (Ok v) owner is few others lists counts = grind arith

@@ -1,9 +1,30 @@
--- Which lines of a run are kept, and where.
-use Rattle.modules.proofs.Words.{◌≡◌, ℕ, ◌+◌, ◌<◌, Bool, false, not, List, [], ◌∷◌, length, get_or, map, Some, None, Option, refl, sym, ap, ◌∙◌, ⊎_elim, arith, filter, count_by, list_any, position_from, bytes_eq, common_steps}
-use Rattle.modules.proofs.Lemmas.{cases_Bool, cases_eq, list_any_at, list_any_none, sum_by-cons, slice_get-get_or, or-false, count_either}
-use Rattle.modules.proofs.Definitions.{Accepted, names_of, SymbolEntry, lies_for, AreDistinctNames, belongs, is_kept, symbols_that, ListedSymbol, PlacedModule, line_of}
+-- Where a symbol is kept, and which lines of a run are.
+use Rattle.modules.proofs.Words.{◌≡◌, ℕ, ◌+◌, ◌<◌, Bool, false, not, List, [], ◌∷◌, length, get_or, map, Some, None, Option, refl, sym, ap, ◌∙◌, ⊎_elim, arith, filter, count_by, list_any, position_from, bytes_eq, common_steps, true, bytes_decides, nat_tests}
+use Rattle.modules.proofs.Lemmas.{cases_Bool, cases_eq, list_any_at, list_any_none, sum_by-cons, slice_get-get_or, or-false, count_either, cases_order, false_from_ne_true, and_left, position_from-zero, get_or-map, length-map, position-Some, is_some-position_from}
+use Rattle.modules.proofs.Definitions.{Accepted, names_of, SymbolEntry, lies_for, AreDistinctNames, belongs, is_kept, symbols_that, ListedSymbol, PlacedModule, line_of, BelongsOnlyAt, is_built_in}
 use Rattle.modules.specs.declared.gathering.Owner.TheVariants as owner
-use Rattle.modules.proofs.KeptLemmas.{no_home, place_within, only_home}
+
+pub not_built_in : (built_in : List (ℕ × ℕ)) (s : ListedSymbol) (name : List ℕ) → s.owner ≡ Some name → is_built_in built_in s ≡ false
+not_built_in built_in s name owner = rw owner
+
+name_at : (lines : List PlacedModule) (j : ℕ) (m : PlacedModule) → j < length lines → get_or (names_of lines) j [] ≡ (get_or lines j m).name
+name_at lines j m lt = get_or-map (λ (l : PlacedModule). l.name) lines j m [] lt
+
+-- a name that has no place is the name of no module
+pub no_home : (a : Accepted) (s : ListedSymbol) (name : List ℕ) → s.owner ≡ Some name → position_from (bytes_eq name) 0 (names_of a.modules) ≡ None → (j : ℕ) (m : PlacedModule) → j < length a.modules → belongs (get_or a.modules j m) s ≡ false
+no_home a s name owner absent j m lt = grind (arith, common_steps, nat_tests, is_some-position_from, false_from_ne_true, list_any_at, length-map, name_at, and_left, is_some-position_from (bytes_eq name) 0 (names_of a.modules))
+
+-- the place of a name
+pub place_within : (lines : List PlacedModule) (name : List ℕ) (k : ℕ) → position_from (bytes_eq name) 0 (names_of lines) ≡ Some k → (k < length lines) × ((m : PlacedModule) → bytes_eq name (get_or lines k m).name ≡ true)
+place_within lines name k at =
+    let found = position-Some (bytes_eq name) (names_of lines) k [] (position_from-zero (bytes_eq name) (names_of lines) ∙ at) in
+    grind (arith, common_steps, nat_tests, position-Some, position_from-zero, length-map, name_at)
+
+-- names are distinct, so that a symbol belongs to the module of its name or to none
+pub only_home : (a : Accepted) (s : ListedSymbol) (name : List ℕ) (k : ℕ) → AreDistinctNames (names_of a.modules) → s.owner ≡ Some name → position_from (bytes_eq name) 0 (names_of a.modules) ≡ Some k → BelongsOnlyAt a s k
+only_home a s name k distinct owner at j m lt other =
+    let found = position-Some (bytes_eq name) (names_of a.modules) k [] (position_from-zero (bytes_eq name) (names_of a.modules) ∙ at) in
+    grind (arith, common_steps, nat_tests, position-Some, position_from-zero, bytes_decides, length-map, cases_order, false_from_ne_true, name_at, and_left)
 
 -- of the lines of a module, where a test of a line is one of its symbol
 pub that_run : (p : ListedSymbol → Bool) (q : SymbolEntry → Bool) (o : Option (List ℕ)) → ((s : SymbolEntry) → p (line_of o s) ≡ q s) → (ss : List SymbolEntry) → symbols_that p (map (line_of o) ss) ≡ filter q ss
@@ -14,40 +35,6 @@ pub that_none : (p : ListedSymbol → Bool) (o : Option (List ℕ)) → ((s : Sy
 that_none p o none [] = refl
 that_none p o none (s ∷ ss) = grind (arith, that_none p o none ss)
 
-pub count_run : (p : ListedSymbol → Bool) (q : SymbolEntry → Bool) (o : Option (List ℕ)) → ((s : SymbolEntry) → p (line_of o s) ≡ q s) → (ss : List SymbolEntry) → count_by p (map (line_of o) ss) ≡ length (filter q ss)
-count_run p q o is [] = refl
-count_run p q o is (s ∷ ss) = grind (arith, common_steps, sum_by-cons, count_run p q o is ss)
-
-pub count_rest : (p : ListedSymbol → Bool) (q : SymbolEntry → Bool) (o : Option (List ℕ)) → ((s : SymbolEntry) → p (line_of o s) ≡ q s) → (ss : List SymbolEntry) → count_by (λ l. not (p l)) (map (line_of o) ss) + length (filter q ss) ≡ length ss
-count_rest p q o is [] = refl
-count_rest p q o is (s ∷ ss) = grind (arith, common_steps, sum_by-cons, count_either, count_rest p q o is ss)
-
-no_lines : (a : Accepted) (s : ListedSymbol) → ((j : ℕ) (m : PlacedModule) → j < length a.modules → belongs (get_or a.modules j m) s ≡ false) → list_any (λ m. belongs m s) a.modules ≡ false
-no_lines a s none = list_any_none (λ (m : PlacedModule). belongs m s) a.modules none
-
--- a line of the kernel itself is kept where its regions have it
-pub kept_unnamed : (a : Accepted) (s : SymbolEntry) → is_kept a (line_of None s) ≡ lies_for a owner.BuiltIn s.addr
-kept_unnamed a s = grind (arith, no_lines, or-false)
-
--- that of a module which was not accepted is not
-pub kept_nowhere : (a : Accepted) (name : List ℕ) → position_from (bytes_eq name) 0 (names_of a.modules) ≡ None → (s : SymbolEntry) → is_kept a (line_of (Some name) s) ≡ false
-kept_nowhere a name absent s = no_lines a (line_of (Some name) s) (no_home a (line_of (Some name) s) name refl absent)
-
--- and that of an accepted module is where its regions have it
+-- a line of an accepted module is kept where its regions have it
 pub belongs_there : (a : Accepted) (name : List ℕ) (k : ℕ) → position_from (bytes_eq name) 0 (names_of a.modules) ≡ Some k → (m : PlacedModule) (s : SymbolEntry) → belongs (get_or a.modules k m) (line_of (Some name) s) ≡ lies_for a (owner.Module k) s.addr
 belongs_there a name k at m s = grind (arith, place_within, slice_get-get_or)
-
-pub kept_there : (a : Accepted) (name : List ℕ) (k : ℕ) → AreDistinctNames (names_of a.modules) → position_from (bytes_eq name) 0 (names_of a.modules) ≡ Some k → (s : SymbolEntry) → is_kept a (line_of (Some name) s) ≡ lies_for a (owner.Module k) s.addr
-kept_there a name k distinct at s =
-    let none : PlacedModule = record { name = []; regions = []; parts = [] } in
-    let line : ListedSymbol = line_of (Some name) s in
-    let within : k < length a.modules = (place_within a.modules name k at).0 in
-    let here : (m : PlacedModule) → belongs (get_or a.modules k m) line ≡ lies_for a (owner.Module k) s.addr = λ m. belongs_there a name k at m s in
-    ⊎_elim
-    (λ yes. list_any_at (λ (m : PlacedModule). belongs m line) a.modules k none within (here none ∙ yes) ∙ sym yes)
-    (λ no. no_lines a line (λ j m lt. ⊎_elim
-    (λ same. ap (λ (i : ℕ). belongs (get_or a.modules i m) line) same ∙ here m ∙ no)
-    (λ other. only_home a line name k distinct refl at j m lt other)
-    (cases_eq j k))
-    ∙ sym no)
-    (cases_Bool (lies_for a (owner.Module k) s.addr))

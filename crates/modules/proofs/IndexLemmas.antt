@@ -1,7 +1,7 @@
 -- The order of the index.
 use Rattle.modules.proofs.Words.{◌≡◌, ℕ, zero, suc, subst, ◌+◌, ◌-◌, ◌<◌, ◌≤◌, ◌⊎◌, true, false, nat_le, List, [], ◌∷◌, length, get_or, map, Some, None, sym, ap, ◌∙◌, arith, IsStrictWeakOrder, All, slice_get, enumerate_from, option_map, IsNonDecreasingBy, IsPartitionPoint, common_steps, nat_tests}
-use Rattle.modules.proofs.Lemmas.{slice_get_cases, length-map, get_or_default, length-enumerate_from, All-permutation, IsPermutation-sym, sorted_far, cases_lt, leb-false, leb-true, pairs_chain, pairs_not_before, pairs_one_way}
-use Rattle.modules.proofs.Definitions.{symbol_below, address_above, SymbolEntry, comes_before, index_entries_of, IsIndex, IsSplit, IsSplitBy, IndexEntry}
+use Rattle.modules.proofs.Lemmas.{slice_get_cases, length-map, get_or_default, length-enumerate_from, All-permutation, IsPermutation-sym, IsPermutation-trans, sorted_far, cases_lt, leb-false, leb-true, pairs_chain, pairs_not_before, pairs_one_way}
+use Rattle.modules.proofs.Definitions.{symbol_below, address_above, SymbolEntry, comes_before, index_entries_of, IsIndex, IsBorder, IsSplit, IsSplitBy, IndexEntry}
 use Rattle.modules.proofs.AroundLemmas.{above_found, above_none, below_found, below_none}
 
 -- the order of the index by numbers
@@ -47,6 +47,19 @@ pub IsSplitBy-from_partition : {A : Type 0} (measure : A → ℕ) (xs : List A) 
     → IsSplitBy measure xs addr split
 IsSplitBy-from_partition measure xs addr split bound point = grind (arith, leb-true, leb-false)
 
+-- where a list rises, the neighbours of a place tell what lies below it
+pub split_from_border : {A : Type 0} (measure : A → ℕ) (xs : List A) (addr place : ℕ)
+    → IsNonDecreasingBy measure xs → IsBorder measure xs addr place → IsSplitBy measure xs addr place
+split_from_border measure xs addr place rising border =
+    let bound = border.bound in
+    record {
+      bound = bound;
+      below = λ k d lt.
+          omega (arith, rising k (place - 1) d (omega arith) (omega arith), border.below d (omega arith));
+      above = λ k d le lt.
+          omega (arith, rising place k d le lt, border.above d (omega arith));
+    }
+
 -- ---- the symbol that is not above an address
 
 pub none_below : (symbols : List SymbolEntry) (index : List IndexEntry) → IsIndex symbols index → (addr : ℕ) → IsSplit index addr 0 → symbol_below symbols addr ≡ None
@@ -81,3 +94,6 @@ none_above symbols index is addr split parts all = above_none symbols addr (all_
 
 pub above_at : (symbols : List SymbolEntry) (index : List IndexEntry) → IsIndex symbols index → (addr split : ℕ) → IsSplit index addr split → option_map (λ e. e.addr) (slice_get index split) ≡ address_above symbols addr
 above_at symbols index is addr split parts = grind (arith, common_steps, nat_tests, first_above, none_above, slice_get_cases, first_above symbols index is addr split parts, none_above symbols index is addr split parts, slice_get_cases index split)
+
+-- entries that are moved twice
+pub ruleset moved_on = (common_steps, IsPermutation-trans)

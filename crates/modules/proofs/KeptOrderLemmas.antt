@@ -1,11 +1,11 @@
 -- The modules in the order of their first kept lines are those of the lines.
 use Rattle.modules.proofs.Words.{◌≡◌, ◌≢◌, ℕ, ◌-◌, ◌^◌, ◌<◌, Bool, true, false, ◌||◌, nat_lt, nat_eq, cond, List, [], ◌∷◌, ◌++◌, get_or, map, Option, Some, None, refl, sym, ap, subst, ◌∙◌, arith, All, IfSome, filter, fold, flat_map, list_any, option_map_or, option_to_list, bytes_eq, bytes_decides, rules, common_steps, nat_tests}
-use Rattle.modules.proofs.Lemmas.{and_parts, eq-eqb, eqb-true, ltb-true, map-append, All-cons, All-filter, All-head, All-nil, All-push, All-tail, begins, ends, look_is, find-passes, is_some-position_from}
+use Rattle.modules.proofs.Lemmas.{and_parts, false_from_ne_true, eq-eqb, eqb-true, ltb-true, map-append, All-cons, All-filter, All-head, All-map, All-nil, All-push, All-tail, begins, ends, look_is, find-passes, is_some-position_from}
 use Rattle.modules.proofs.Definitions.{Item, half_open, look, HasItsRegions, IsFromSymbols, is_kept_line, with_name, is_built_in, accepted_with, AreNamed, HasFirstLine, HaveFirstLines, is_kept_mark, kept_numbers, kernel_marks, mark_of, marks_of, modules_numbered, name_of, number_for, number_in, with_number, built_in_region, kernel_regions, with_apart, BoundNames, ListedSymbol, numbered_module, AreRegions, HoldsFor, is_outside, posts, PlacedModule, Mark}
 use Rattle.modules.proofs.LaidLemmas.{found}
 use Rattle.modules.proofs.MarkedModuleLemmas.{its_regions}
 use Rattle.modules.proofs.OwnLineLemmas.{is_of, of_is}
-use Rattle.modules.proofs.PostLemmas.{all_mapped, listed_found, marks_stand, number_names}
+use Rattle.modules.proofs.PostLemmas.{listed_found, marks_stand, number_names}
 
 -- ---- the first lines of the kernel's regions
 
@@ -54,11 +54,7 @@ module _ (kernel : List (ℕ × ℕ)) (names : List (List ℕ)) (lines : List Li
       grind (arith, common_steps, nat_tests, marks_stand, numbered, of_is, at_look, by_look, is_of)
 
   kernel_not_kept : (r : ℕ × ℕ) → is_kept_mark items (record { addr = r.0; owner = 0 }) ≡ false
-  kernel_not_kept r = by (is_kept_mark items (record { addr = r.0; owner = 0 })) refl
-    where
-      by : (b : Bool) → is_kept_mark items (record { addr = r.0; owner = 0 }) ≡ b → b ≡ false
-      by true h = absurd (let owns = ((regions.exact 0 r.0).0 (at_look 0 r.0 (look half_open r.0 items) refl h)).1 in owns.some refl)
-      by false h = refl
+  kernel_not_kept r = false_from_ne_true (is_kept_mark items (record { addr = r.0; owner = 0 })) (λ h. ((regions.exact 0 r.0).0 (at_look 0 r.0 (look half_open r.0 items) refl h)).1.some refl)
 
   -- ---- line by line
 
@@ -128,7 +124,7 @@ module _ (kernel : List (ℕ × ℕ)) (names : List (List ℕ)) (lines : List Li
   good_marks : AreNamed names lines → All (IsNumber names) (kept_marks (marks_of kernel names lines))
   good_marks all =
       subst (λ (ms : List Mark). All (IsNumber names) (map (λ (m : Mark). m.owner) ms)) (sym (without_kernel kernel (map (mark_of names) (filter (is_outside kernel) lines))))
-      (all_mapped (λ (m : Mark). m.owner) (IsNumber names) (filter (is_kept_mark items) (map (mark_of names) (filter (is_outside kernel) lines)))
+      (All-map (IsNumber names) (λ (m : Mark). m.owner) (filter (is_kept_mark items) (map (mark_of names) (filter (is_outside kernel) lines)))
       (All-filter (is_kept_mark items) (λ (m : Mark). IsNumber names m.owner) (map (mark_of names) (filter (is_outside kernel) lines)) (good_lines lines all)))
 
 -- ---- numbers in the order of names
@@ -174,7 +170,7 @@ from_symbols bounds lines names items all regions =
       named = names_numbered names items numbers
           ∙ fold_names names (map (λ (m : Mark). m.owner) (filter (is_kept_mark items) marks)) [] every (All-nil (IsNumber names))
           ∙ ap (fold with_name []) (kept_names kernel names lines items has regions all);
-      regions = all_mapped (λ n. numbered_module n (name_of names n) items) (HasItsRegions (posts kernel lines)) numbers (λ k d lt.
+      regions = All-map (HasItsRegions (posts kernel lines)) (λ n. numbered_module n (name_of names n) items) numbers (λ k d lt.
           let n : ℕ = get_or numbers k d in
           let its = good k d lt in
           its_regions marks items (posts kernel lines) n (name_of names n) regions (marks_stand names lines kernel n (name_of names n) has its.0 its.1));

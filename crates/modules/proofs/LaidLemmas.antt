@@ -1,7 +1,7 @@
 -- The region that an address lies in, among regions that are laid.
-use Rattle.modules.proofs.Words.{◌≡◌, ℕ, ◌-◌, ◌<◌, ◌≤◌, true, false, nat_le, List, length, get_or, Option, Some, None, ap, sym, ◌∙◌, ⊎_elim, arith, Contains, IsNonDecreasingBy, IsPartitionPoint, common_steps, nat_tests}
-use Rattle.modules.proofs.Lemmas.{cases_lt, leb-true, leb-false, get_or_default, begins, ends, equal_inside, look_is}
-use Rattle.modules.proofs.Definitions.{Item, half_open, IsLook, look, AreLaid}
+use Rattle.modules.proofs.Words.{◌≡◌, ℕ, ◌-◌, ◌<◌, ◌≤◌, ◌⊎◌, true, false, nat_le, List, length, get_or, Option, Some, None, ap, sym, ◌∙◌, ⊎_elim, arith, Contains, IsNonDecreasingBy, IsPartitionPoint, common_steps, nat_tests}
+use Rattle.modules.proofs.Lemmas.{cases_lt, leb-true, leb-false, get_or_default, Contains-get_or, begins, ends, equal_inside, look_is}
+use Rattle.modules.proofs.Definitions.{Item, half_open, IsLook, IsSplitBy, look, AreLaid}
 
 module _ (items : List Item) (laid : AreLaid items) where
   ends_before : (i j : ℕ) (d : Item) → i < j → j < length items → (get_or items i d).b ≤ (get_or items j d).a
@@ -25,41 +25,29 @@ module _ (items : List Item) (laid : AreLaid items) where
   none : (addr : ℕ) → ((y : Item) → Contains items y → y.a ≤ addr → addr < y.b → ⊥) → (r : Option Item) → IsLook half_open addr items r → None ≡ r
   none addr not_in r h = grind (arith, begins, ends)
 
-  module _ (addr split : ℕ) (bound : split ≤ length items) (point : IsPartitionPoint (λ i. nat_le i.a addr ≡ true) (λ i. nat_le i.a addr ≡ false) items split) where
-    from_below : (k : ℕ) (d : Item) → k < split → (get_or items k d).a ≤ addr
-    from_below k d lt = leb-true (get_or items k d).a addr (point.0 k d (omega arith) lt)
-
-    from_above : (k : ℕ) (d : Item) → split ≤ k → k < length items → addr < (get_or items k d).a
-    from_above k d le lt = leb-false (get_or items k d).a addr (point.1 k d le lt)
-
-    -- what holds the address stands below the place
-    stands_below : (y : Item) → Contains items y → y.a ≤ addr → (k : ℕ) × (k < split) × (get_or items k y ≡ y)
-    stands_below y (k, lt, at) from = (k, ⊎_elim (λ less. less) (λ ge. absurd (let f = from_above k y ge lt in let e : (get_or items k y).a ≡ y.a = ap (λ (i : Item). i.a) at in omega arith)) (cases_lt k split), at)
-
+  module _ (addr split : ℕ) (parts : IsSplitBy (λ i. i.a) items addr split) where
     pub look_first : split ≡ 0 → None ≡ look half_open addr items
-    look_first e = none addr (λ y there from below. let (k, lt, at) = stands_below y there from in omega arith) (look half_open addr items) (look_is half_open addr items)
+    look_first e = none addr (λ y there from below. let a : addr < (get_or items there.0 y).a = parts.above there.0 y (omega arith) there.1 in let same : (get_or items there.0 y).a ≡ y.a = ap (λ (i : Item). i.a) there.2 in omega arith) (look half_open addr items) (look_is half_open addr items)
 
-    module _ (x : Item) (some : 0 < split) (last : get_or items (split - 1) x ≡ x) where
-      listed : Contains items x
-      listed = (split - 1, omega arith, last)
+    module _ (d : Item) (some : 0 < split) where
+      abbrev last : Item
+      last = get_or items (split - 1) d
 
-      begins_below : x.a ≤ addr
-      begins_below = let f = from_below (split - 1) x (omega arith) in let e : (get_or items (split - 1) x).a ≡ x.a = ap (λ (i : Item). i.a) last in omega arith
+      listed : Contains items last
+      listed = let b = parts.bound in Contains-get_or items (split - 1) d (omega arith)
 
-      pub look_last : addr < x.b → Some x ≡ look half_open addr items
-      look_last below = found x addr listed begins_below below (look half_open addr items) (look_is half_open addr items)
+      begins_below : last.a ≤ addr
+      begins_below = parts.below (split - 1) d (omega arith)
 
-      pub look_past : x.b ≤ addr → None ≡ look half_open addr items
-      look_past past = none addr (λ y there from below.
-          let (k, lt, at) = stands_below y there from in
-          ⊎_elim
-          (λ before. not_before_last y k before at below)
-          (λ ge. let same : k ≡ split - 1 = omega arith in
-          let e : x ≡ y = sym last ∙ get_or_default items (split - 1) x y (omega arith) ∙ ap (λ j. get_or items j y) (sym same) ∙ at in
-          let f : x.b ≡ y.b = ap (λ (i : Item). i.b) e in omega arith)
-          (cases_lt k (split - 1)))
-          (look half_open addr items) (look_is half_open addr items)
-        where
-          not_before_last : (y : Item) (k : ℕ) → k < split - 1 → get_or items k y ≡ y → addr < y.b → ⊥
-          not_before_last y k before at below =
-              not_before y x addr k (split - 1) before (omega arith) at last below begins_below
+      pub look_last : addr < (get_or items (split - 1) d).b → Some (get_or items (split - 1) d) ≡ look half_open addr items
+      look_last below = found last addr listed begins_below below (look half_open addr items) (look_is half_open addr items)
+
+      -- an item that begins at or below the address is the last, or ends before it
+      others : (y : Item) → Contains items y → y.a ≤ addr → (last ≡ y) ⊎ (y.b ≤ last.a)
+      others y (k, lt, at) from = let b = parts.bound in grind (arith, cases_lt, get_or_default, ends_before k (split - 1) y, parts.above k y, at)
+
+      pub look_past : (get_or items (split - 1) d).b ≤ addr → None ≡ look half_open addr items
+      look_past past = none addr (λ y there from below. ⊎_elim (λ same. let e : last.b ≡ y.b = ap (λ (i : Item). i.b) same in omega arith) (λ before. let b = begins_below in omega arith) (others y there from)) (look half_open addr items) (look_is half_open addr items)
+
+-- what a binary search of them tells
+pub ruleset laid_search = (common_steps, rising, look_first, look_last, look_past)

@@ -11,10 +11,11 @@ pub use Rattle.std.proofs.lemmas.Iterator.{YieldsList-from_slice}
 pub use Rattle.std.proofs.lemmas.Iterator.Adapters.{position_from-zero, serves_from_places}
 pub use Rattle.std.proofs.lemmas.Iterator.Consumers.{YieldsList-at}
 pub use Rattle.std.proofs.lemmas.List.{append-nil, get_or-map, get_or-set_other, get_or_append_left, get_or_default, get_or_push, length-map, length-take-le, map-append, nil_from_length, same_lists, take_all, take_at, take_more}
-pub use Rattle.std.proofs.lemmas.List.Concat.{flat_map-append}
-pub use Rattle.std.proofs.lemmas.List.Elements.{All-append, All-cons, All-contains, All-filter, All-head, All-map, All-nil, All-push, All-tail, Contains-append_left, Contains-append_right, Contains-get_or, Contains-push, Contains-push_cases, filter-append, filter_agree, filter_passes}
+pub use Rattle.std.proofs.lemmas.List.Concat.{flat_map-append, length-flat_map}
+pub use Rattle.std.proofs.lemmas.List.Kept.{AllPairs-cons}
+pub use Rattle.std.proofs.lemmas.List.Elements.{All-append, All-cons, All-contains, All-filter, All-head, All-map, All-nil, All-pop, All-push, All-tail, Contains-append_left, Contains-append_right, Contains-get_or, Contains-push, Contains-push_cases, filter-append, filter_agree, filter_passes}
 pub use Rattle.std.proofs.lemmas.List.Filters.{length-filter_both}
-pub use Rattle.std.proofs.lemmas.List.Folds.{list_all-append, list_all_more, list_any-append, list_any_at, list_any_none}
+pub use Rattle.std.proofs.lemmas.List.Folds.{find-append, flat_map-map, list_all-append, list_all_more, list_any-append, list_any_at, list_any_none}
 pub use Rattle.std.proofs.lemmas.List.FromFn.{get_or-range_with_len, length-enumerate_from, length-range_with_len}
 pub use Rattle.std.proofs.lemmas.List.Quantifiers.{all_pairs_push, position-Some}
 pub use Rattle.std.proofs.lemmas.List.Sorted.{All-permutation, Contains-permutation, IsNonDecreasingBy-from_all_adjacent, IsNonDecreasingBy-from_sort_by_key, IsPartitionPoint-from_clause, IsPartitionedBy-leb, IsPermutation-sym, IsPermutation-trans, answers_always, length_permutation, ranks_by, searchable_from_sorted, sorted_far}

@@ -8,17 +8,10 @@ pub mod Definitions
 pub mod SpreadLemmas
 -- the region lines of one name stand side by side
 pub mod ByNameLemmas
-pub mod GroupLemmas
 -- each module has 1 to 7 regions
 pub mod RegionLemmas
--- a module whose name is new
-pub mod NewNameLemmas
 -- one more module
 pub mod AdmissionLemmas
--- each module has a region of its core
-pub mod StartLemmas
--- a split of a list by the neighbours of a place
-pub mod BorderLemmas
 -- the order of the index
 pub mod IndexLemmas
 -- copies of symbols in the order of their index
@@ -27,14 +20,10 @@ pub mod OrderedLemmas
 pub mod RisingLemmas
 -- lines that have the name of their module by their run
 pub mod RunLemmas
--- where a symbol is kept
-pub mod KeptLemmas
--- which lines of a run are kept, and where
+-- where a symbol is kept, and which lines of a run are
 pub mod HomeLemmas
 -- one more run of symbol lines
 pub mod GatheringLemmas
--- a name among names that are distinct
-pub mod NameLemmas
 -- the accepted modules have distinct names and regions that lie apart
 pub mod SoundnessLemmas
 -- a number above that of the regions is no module's
@@ -57,8 +46,8 @@ pub mod NumberedItemLemmas
 pub mod LoadedItemLemmas
 -- the symbol below an address and the address above it
 pub mod AroundLemmas
--- the preferred symbol of a list is the first that no other one wins against
-pub mod PreferredLemmas
+-- the symbols around an address, one symbol more at a time
+pub mod AnyOrderLemmas
 -- what a search of the regions by rising first address finds
 pub mod RegionIndexLemmas
 -- the symbols below and above an address, by their places
@@ -93,8 +82,6 @@ pub mod NumberLemmas
 pub mod LineMarkLemmas
 -- the regions of numbers, of which some are taken
 pub mod TakenLemmas
--- the modules of a listing that is kept in runs
-pub mod SymbolModuleLemmas
 pub mod SymbolNameLemmas
 -- the modules of symbols alone lie apart, and have distinct names
 pub mod AloneLemmas

@@ -1,14 +1,13 @@
 -- The marks of the lines of runs.
 use Rattle.modules.proofs.Words.{◌≡◌, ℕ, ◌≤◌, true, false, List, [], ◌∷◌, ◌++◌, length, map, Some, None, refl, arith, append_assoc, All, is_some, option_copied, rules, common_steps, nat_tests}
-use Rattle.modules.proofs.Lemmas.{All-append, take_more, take_all}
+use Rattle.modules.proofs.Lemmas.{All-append, All-map, take_more, take_all}
 use Rattle.modules.proofs.Definitions.{SymbolEntry, line_marks, marks_of, number_for, number_in, symbol_marks, ListedSymbol, lines_of_all, lines_of_run, line_of, Mark, Run}
 use Rattle.modules.proofs.NumberLemmas.{number_within}
-use Rattle.modules.proofs.PostLemmas.{all_mapped}
 use Rattle.modules.proofs.RunLemmas.{lines_of_all-last}
 
 -- the number of the owner of a mark is at most the count of the names
 pub owners_within : (kernel : List (ℕ × ℕ)) (names : List (List ℕ)) (lines : List ListedSymbol) → All (λ m. m.owner ≤ length names) (marks_of kernel names lines)
-owners_within kernel names lines = search (rules, All-append, all_mapped, number_within)
+owners_within kernel names lines = search (rules, All-append, All-map, number_within)
 
 module _ (kernel : List (ℕ × ℕ)) (names : List (List ℕ)) where
   -- ---- the lines of a run

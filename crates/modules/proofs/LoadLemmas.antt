@@ -1,7 +1,7 @@
 -- Which updates a load, an unload, and the end of a module's start give.
-use Rattle.modules.proofs.Words.{◌≡◌, ℕ, ◌+◌, ◌<◌, ◌≤◌, Bool, true, false, ◌&&◌, ◌||◌, nat_eq, cond, zero, suc, List, [], ◌∷◌, ◌++◌, length, get_or, map, take, drop, drop-cons, Some, Ok, Err, Option, Result, refl, sym, ap, subst, ◌∙◌, inr, ⊎_elim, arith, add-one, bytes_decides, list_any, option_map_or, rules, common_steps, nat_tests}
+use Rattle.modules.proofs.Words.{◌≡◌, ℕ, ◌+◌, ◌<◌, ◌≤◌, Bool, true, false, ◌&&◌, ◌||◌, nat_eq, cond, zero, suc, List, [], ◌∷◌, ◌++◌, length, get_or, map, take, drop, drop-cons, Some, None, Ok, Err, Option, Result, refl, sym, ap, subst, ◌∙◌, inr, ⊎_elim, arith, add-one, bytes_decides, list_any, option_map_or, rules, common_steps, nat_tests}
 use Rattle.modules.proofs.Lemmas.{and_parts, eqb-true, not-true, or_cases, or_left, or_right, eq-eqb, length-map, and_by_second, or_by_first, or_by_second, eqb-one_false, eqb-one_more}
-use Rattle.modules.proofs.Definitions.{Update, Batch, Item, Refusal, OutOfMemory, UnknownModule, ModuleEntry, GivesOrLacksMemory, GivesSome, TakesMemory, drop_init_update, is_erasing, is_inserting, item_of, load_update, has_no_items, is_item_of, same_items, unload_update, update_of, is_init, is_of, starts_of, Held, Part}
+use Rattle.modules.proofs.Definitions.{Update, Batch, Item, Refusal, OutOfMemory, UnknownModule, ModuleEntry, GivesOrLacksMemory, GivesSome, TakesMemory, drop_init_update, is_erasing, is_inserting, item_of, load_update, has_no_items, is_item_of, only_of, same_items, unload_update, update_of, is_init, is_of, starts_of, Held, Part}
 
 -- ---- the first addresses of the regions, one more at a time
 
@@ -53,6 +53,9 @@ none_from xs h = grind arith
 insert_batch : (items : List Item) → nat_eq (length items) 1 ≡ false → update_of [] items ≡ Batch [] items
 insert_batch items h = grind arith
 
+pub erase_batch : (starts : List ℕ) → only_of starts ≡ None → update_of starts [] ≡ Batch starts []
+erase_batch starts h = grind arith
+
 pub erasing_from : (starts : List ℕ) (u : Update) → is_erasing starts u ≡ true → update_of starts [] ≡ u
 erasing_from starts u h = grind (arith, bytes_decides, and_parts, not-true, none_from)
 
@@ -73,14 +76,11 @@ inserting_of number rs u h = subst (λ (v : Update). is_inserting number rs v �
 
 -- ---- what is given for some answer of what is held
 
-given : (a b : Update) → ◌≡◌ {A = Result Update Refusal} (Ok a) (Ok b) → a ≡ b
-given a b h = cc
-
 chosen : (b : Bool) (e : Refusal) (v u : Update) → cond b (Err e) (Ok v) ≡ Ok u → v ≡ u
-chosen b e v u h = grind (arith, given)
+chosen b e v u h = grind arith
 
 chosen_not : (b : Bool) (e : Refusal) (v u : Update) → cond b (Ok v) (Err e) ≡ Ok u → v ≡ u
-chosen_not b e v u h = grind (arith, given)
+chosen_not b e v u h = grind arith
 
 abbrev pub asked : (Held → ModuleEntry → Result Update Refusal) → Option ModuleEntry → Held → Result Update Refusal
 asked f o held = option_map_or (f held) o (Err UnknownModule)

@@ -11,14 +11,7 @@ as_ties : (l s : Mark) → ties (λ (x y : Mark). is_lt (nat_cmp x.addr y.addr))
 as_ties l s = grind (arith, nat_tests)
 
 find_in_filter : (p : Mark → Bool) (xs ys : List Mark) → filter p xs ≡ filter p ys → find p xs ≡ find p ys
-find_in_filter p xs ys same = sym (whole xs) ∙ ap (find p) same ∙ whole ys
-  where
-    twice : (b : Bool) → (b && b) ≡ b
-    twice true = refl
-    twice false = refl
-
-    whole : (zs : List Mark) → find p (filter p zs) ≡ find p zs
-    whole zs = find-filter p p zs ∙ find-agree (λ x. p x && p x) p zs (λ k d lt. twice (p (get_or zs k d)))
+find_in_filter p xs ys same = grind (arith, find-filter p p xs, find-filter p p ys, find-agree (λ x. p x && p x) p)
 
 -- the first listed of its address
 pub found_first : (xs : List Mark) (l : Mark) → IsFirstMark xs l → find (is_at l.addr) xs ≡ Some l

@@ -1,18 +1,8 @@
 -- Regions by the numbers of their modules.
 use Rattle.modules.proofs.Words.{◌≡◌, ℕ, ◌<◌, ◌≤◌, suc, true, false, cond, nat_eq, List, [], ◌∷◌, length, get_or, map, refl, ⊎_elim, arith, All, Contains, filter, AllPairs, common_steps, nat_tests}
-use Rattle.modules.proofs.Lemmas.{cases_lt, or_cases, or_left, or_right, eqb-true, eq-eqb, All-head, All-tail, All-cons, All-nil, Contains-cons_cases, Contains-head, Contains-rest}
+use Rattle.modules.proofs.Lemmas.{cases_lt, or_cases, or_left, or_right, eqb-true, eq-eqb, All-head, All-tail, All-cons, All-nil, AllPairs-cons, Contains-cons_cases, Contains-head, Contains-rest}
 use Rattle.modules.proofs.Definitions.{Item, ListedSymbol, holds, Follows, HoldsFor, AreRegions, Mark, ranges_of, numbered_module, StandsFor, HasItsRegions}
-use Rattle.modules.proofs.SpacedLemmas.{lies, inside, within, Range}
-
-module _ {X : Type 0} (R : X → X → Type 0) (x : X) (xs : List X) where
-  pub pairs_rest : AllPairs R (x ∷ xs) → AllPairs R xs
-  pairs_rest pairs = λ i j d less lt. pairs (suc i) (suc j) d (omega arith) (omega arith)
-
-  pub pairs_first : AllPairs R (x ∷ xs) → All (R x) xs
-  pairs_first pairs = λ k d lt. pairs 0 (suc k) d (omega arith) (omega arith)
-
-  pub pairs_cons : All (R x) xs → AllPairs R xs → (i j : ℕ) (d : X) → i < j → j < length (x ∷ xs) → R (get_or (x ∷ xs) i d) (get_or (x ∷ xs) j d)
-  pairs_cons head tail i j d less lt = grind arith
+use Rattle.modules.proofs.SpacedLemmas.{lies, inside, pairs_first, pairs_rest, within, Range}
 
 module _ (n : ℕ) where
   pub valid_ranges : (items : List Item) → All (λ i. i.a < i.b) items → All (λ (r : Range). r.0 < r.1) (ranges_of n items)
@@ -31,7 +21,7 @@ module _ (n : ℕ) where
   spaced [] pairs = λ i j d less lt. absurd (omega arith)
   spaced (i ∷ is) pairs =
       elim (nat_eq i.tag n) as (λ b. nat_eq i.tag n ≡ b → AllPairs (λ (r s : Range). r.1 < s.0) (map (λ (x : Item). (x.a, x.b)) (cond b (i ∷ filter (λ x. nat_eq x.tag n) is) (filter (λ x. nat_eq x.tag n) is)))) [
-        | true ↦ λ e. pairs_cons (λ (r s : Range). r.1 < s.0) (i.a, i.b) (ranges_of n is) (past i is (eqb-true i.tag n e) (pairs_first (λ i j. Follows i j) i is pairs)) (spaced is (pairs_rest (λ i j. Follows i j) i is pairs))
+        | true ↦ λ e. AllPairs-cons (λ (r s : Range). r.1 < s.0) (i.a, i.b) (ranges_of n is) (past i is (eqb-true i.tag n e) (pairs_first (λ i j. Follows i j) i is pairs)) (spaced is (pairs_rest (λ i j. Follows i j) i is pairs))
         | false ↦ λ _. spaced is (pairs_rest (λ i j. Follows i j) i is pairs)
       ] refl
 

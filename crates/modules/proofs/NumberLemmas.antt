@@ -1,38 +1,24 @@
 -- The names of modules, their numbers, and one name more.
-use Rattle.modules.proofs.Words.{◌≡◌, ℕ, ◌≤◌, Bool, true, false, cond, suc, List, [], ◌∷◌, ◌++◌, length, get_or, Option, Some, None, refl, sym, ap, subst, ◌∙◌, arith, All, is_some, Bor, bytes_decides, list_any, position_from, option_copied, option_map, option_map_or, bytes_eq, common_steps, nat_tests}
-use Rattle.modules.proofs.Lemmas.{or_left, or_right, position_from-zero, map-append, All-append, list_any-append, position-Some, is_some-position_from, position_from-new}
+use Rattle.modules.proofs.Words.{◌≡◌, ℕ, ◌<◌, ◌≤◌, true, false, cond, List, [], ◌∷◌, ◌++◌, length, get_or, Option, Some, None, sym, subst, ◌∙◌, arith, All, Bor, bytes_decides, list_any, position_from, option_copied, option_map_or, bytes_eq, common_steps, nat_tests}
+use Rattle.modules.proofs.Lemmas.{or_left, or_right, position_from-zero, length-map, map-append, All-append, All-map, list_any-append, position-Some, position_from-new}
 use Rattle.modules.proofs.Definitions.{AreNamed, number_for, with_owner, ListedSymbol, names_at, lines_of_all, lines_of_run, line_of, Run}
-use Rattle.modules.proofs.PostLemmas.{all_mapped}
 use Rattle.modules.proofs.RunLemmas.{lines_of_all-last}
 
--- ---- the map of numbers
+-- the place of each name, once a name that was not there stands after the others
+pub places_more : (items after : List (Bor (List ℕ))) (new : Bor (List ℕ)) (name : List ℕ) (k : ℕ) (o p : Option ℕ)
+    → list_any (bytes_eq new.now) (names_at items) ≡ false → k ≡ length items
+    → o ≡ position_from (bytes_eq name) 0 (names_at items)
+    → p ≡ cond (bytes_eq new.now name) (Some k) o → after ≡ items ++ new ∷ []
+    → p ≡ position_from (bytes_eq name) 0 (names_at after)
+places_more items after new name k o p absent last was is more = grind (arith, map-append, position_from-new, length-map)
 
-mapped_some : {X Y : Type 0} (f : X → Y) (o : Option X) → is_some (option_map f o) ≡ is_some o
-mapped_some f o = grind arith
-
--- a name has a number where it is among the names
-pub has_number : (names : List (List ℕ)) (name : List ℕ) (o : Option ℕ) (r : Bool) → o ≡ option_map suc (position_from (bytes_eq name) 0 names) → r ≡ is_some o → list_any (bytes_eq name) names ≡ r
-has_number names name o r found answers = grind (arith, is_some-position_from, mapped_some)
-
-mapped_either : (b : Bool) (n : ℕ) (o : Option ℕ) → cond b (Some (suc n)) (option_map suc o) ≡ option_map suc (cond b (Some n) o)
-mapped_either b n o = grind arith
-
--- the numbers once a name that was not there stands at the end
-pub numbers_more : (names : List (List ℕ)) (new name : List ℕ) (n : ℕ) (o : Option ℕ) → list_any (bytes_eq new) names ≡ false → n ≡ suc (length names) → o ≡ option_map suc (position_from (bytes_eq name) 0 names)
-    → cond (bytes_eq new name) (Some n) o ≡ option_map suc (position_from (bytes_eq name) 0 (names ++ new ∷ []))
-numbers_more names new name n o absent last found = grind (arith, mapped_either, position_from-new)
-
-pub names_more : (items pushed : List (Bor (List ℕ))) (b : Bor (List ℕ)) → pushed ≡ items ++ b ∷ [] → names_at pushed ≡ names_at items ++ b.now ∷ []
-names_more items pushed b is = ap names_at is ∙ map-append (λ (n : Bor (List ℕ)). n.now) items (b ∷ [])
+pub found_within : (names : List (List ℕ)) (name : List ℕ) (k : ℕ) → position_from (bytes_eq name) 0 names ≡ Some k → k < length names
+found_within names name k at = (position-Some (bytes_eq name) names k [] (position_from-zero (bytes_eq name) names ∙ at)).0
 
 -- no number is above the count of the names
 pub number_within : (names : List (List ℕ)) (owner : Option (List ℕ)) → number_for names owner ≤ length names
 number_within names None = omega arith
-number_within names (Some name) = by (position_from (bytes_eq name) 0 names) refl
-  where
-    by : (o : Option ℕ) → position_from (bytes_eq name) 0 names ≡ o → option_map_or suc o 0 ≤ length names
-    by None at = omega arith
-    by (Some k) at = let there = position-Some (bytes_eq name) names k [] (position_from-zero (bytes_eq name) names ∙ at) in omega (arith, there.0)
+number_within names (Some name) = grind (arith, found_within)
 
 -- ---- the names with that of an owner
 
@@ -48,11 +34,11 @@ module _ (names : List (List ℕ)) where
   is_owner owner = grind (arith, common_steps, nat_tests, list_any-append, or_right, or_left, bytes_decides)
 
   -- the modules of the lines of one run more
-  pub named_more : (runs : List Run) (run : Run) → AreNamed names (lines_of_all runs) → AreNamed (with_owner names (option_copied run.module)) (lines_of_all (runs ++ run ∷ []))
-  named_more runs run named =
+  pub named_more : (new : List (List ℕ)) (runs : List Run) (run : Run) → AreNamed names (lines_of_all runs) → new ≡ with_owner names (option_copied run.module) → AreNamed new (lines_of_all (runs ++ run ∷ []))
+  named_more new runs run named is =
       let owner : Option (List ℕ) = option_copied run.module in
       let IsNamed = λ (l : ListedSymbol). IsOwner (with_owner names owner) l.owner in
-      subst (λ (ls : List ListedSymbol). All IsNamed ls) (sym (lines_of_all-last runs run))
+      rw is (subst (λ (ls : List ListedSymbol). All IsNamed ls) (sym (lines_of_all-last runs run))
       (All-append IsNamed (lines_of_all runs) (lines_of_run run)
       (λ k d lt. stays_owner owner (get_or (lines_of_all runs) k d).owner (named k d lt))
-      (all_mapped (line_of owner) IsNamed run.symbols.items (λ k d lt. is_owner owner)))
+      (All-map IsNamed (line_of owner) run.symbols.items (λ k d lt. is_owner owner))))

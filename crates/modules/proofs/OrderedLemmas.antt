@@ -60,3 +60,6 @@ module _ (symbols ordered : List SymbolEntry) (is : IsOrdered symbols ordered) w
         ∙ sym (first_above symbols is.index is.is addr split of_index within e (get_or_default is.index split no_entry e within)))
         (λ (past, got). ap (option_map (λ (t : SymbolEntry). t.addr)) got ∙ sym (none_above symbols is.index is.is addr split of_index (omega (arith, as_many, past))))
         (slice_get_cases ordered split).1
+
+-- the symbols around an address
+pub ruleset around_ordered = (common_steps, last_below, above_at)

@@ -1,47 +1,24 @@
 -- What a further piece changes.
-use Rattle.modules.proofs.Words.{◌≡◌, ℕ, ◌<◌, ◌≤◌, List, [], ◌∷◌, ◌++◌, length, get_or, sym, subst, ◌∙◌, arith, length-append, ◌≢◌, ◌⊎◌, ◌↔◌, All, AllPairs, rules, common_steps, nat_tests}
-use Rattle.modules.proofs.Lemmas.{cases_lt, get_or_append_left, get_or-append_seam, All-push, Contains-push, Contains-append_left, Contains-push_cases, all_pairs_push}
+use Rattle.modules.proofs.Words.{◌≡◌, ℕ, ◌<◌, ◌≤◌, List, [], ◌∷◌, ◌++◌, get_or, Some, refl, sym, subst, ◌∙◌, arith, ◌≢◌, ◌⊎◌, ◌↔◌, All, AllPairs, rules, common_steps, nat_tests}
+use Rattle.modules.proofs.Lemmas.{cases_lt, All-pop, All-push, AllPairs-across, AllPairs-left, Contains-get_or, Contains-head, Contains-push, Contains-append_left, Contains-push_cases, all_pairs_push}
 use Rattle.modules.proofs.Definitions.{Item, AreLaid, Follows, HoldsFor}
-
-module _ {X : Type 0} (xs : List X) (y : X) where
-  longer : (k : ℕ) → k < length xs → k < length (xs ++ y ∷ [])
-  longer k lt = omega (arith, length-append xs (y ∷ []))
-
-  at_end : length xs < length (xs ++ y ∷ [])
-  at_end = omega (arith, length-append xs (y ∷ []))
-
-  all_front : (P : X → Type 0) → All P (xs ++ y ∷ []) → All P xs
-  all_front P h = λ k d lt. subst P (get_or_append_left xs (y ∷ []) d k lt) (h k d (longer k lt))
-
-  all_last : (P : X → Type 0) → All P (xs ++ y ∷ []) → P y
-  all_last P h = subst P (get_or-append_seam xs y [] y) (h (length xs) y at_end)
-
-  pairs_front : (R : X → X → Type 0) → AllPairs R (xs ++ y ∷ []) → AllPairs R xs
-  pairs_front R h = λ i j d less lt.
-      subst (λ a. R a (get_or xs j d)) (get_or_append_left xs (y ∷ []) d i (omega arith))
-      (subst (λ b. R (get_or (xs ++ y ∷ []) i d) b) (get_or_append_left xs (y ∷ []) d j lt) (h i j d less (longer j lt)))
-
-  pairs_last : (R : X → X → Type 0) → AllPairs R (xs ++ y ∷ []) → All (λ x. R x y) xs
-  pairs_last R h = λ k d lt.
-      subst (λ a. R a y) (get_or_append_left xs (y ∷ []) d k lt)
-      (subst (λ b. R (get_or (xs ++ y ∷ []) k d) b) (get_or-append_seam xs y [] d) (h k (length xs) d lt at_end))
 
 -- a piece that the items do not go on into
 laid_with : (items : List Item) (p : Item) → AreLaid items → p.a < p.b → All (λ i. Follows i p) items → AreLaid (items ++ p ∷ [])
 laid_with items p laid valid after = search (rules, All-push, all_pairs_push)
 
 front_laid : (items : List Item) (last : Item) → AreLaid (items ++ last ∷ []) → AreLaid items
-front_laid items last laid = search (rules, all_front, pairs_front)
+front_laid items last laid = record { valid = (All-pop (λ (i : Item). i.a < i.b) (items ++ last ∷ []) items (Some last) refl laid.valid).0; follow = AllPairs-left (λ (i j : Item). Follows i j) items (last ∷ []) laid.follow }
 
 module _ (init old new : List Item) (last p : Item) (was : old ≡ init ++ last ∷ []) (laid : AreLaid old) where
   whole : AreLaid (init ++ last ∷ [])
   whole = subst AreLaid was laid
 
   pub last_valid : last.a < last.b
-  last_valid = all_last init last (λ i. i.a < i.b) whole.valid
+  last_valid = (All-pop (λ (i : Item). i.a < i.b) (init ++ last ∷ []) init (Some last) refl whole.valid).1
 
   before_last : All (λ i. Follows i last) init
-  before_last = pairs_last init last (λ i j. Follows i j) whole.follow
+  before_last = λ k d lt. AllPairs-across (λ (i j : Item). Follows i j) init (last ∷ []) (get_or init k d) last whole.follow (Contains-get_or init k d lt) (Contains-head last last [] refl)
 
   -- the piece is put behind the last item
   pub laid_put : new ≡ old ++ p ∷ [] → p.a < p.b → last.b ≤ p.a → (last.b ≡ p.a → last.tag ≢ p.tag) → AreLaid new

@@ -1,8 +1,8 @@
 -- Whose an address is by the marks of a listing is what its lines say.
-use Rattle.modules.proofs.Words.{◌≡◌, ◌≢◌, ℕ, ◌+◌, ◌<◌, ◌≤◌, Bool, true, false, ◌&&◌, ◌||◌, nat_lt, nat_eq, cond, suc, List, [], ◌∷◌, ◌++◌, get_or, map, Option, Some, None, refl, sym, ap, subst, ◌∙◌, ⊎_elim, arith, ◌⊎◌, All, Contains, filter, find, is_none, first_so, second_so, position_from, option_and_then, option_map, option_map_or, bytes_eq, bytes_decides, rules, common_steps, nat_tests}
-use Rattle.modules.proofs.Lemmas.{and_from, and_parts, cases_lt, eq-eqb, eqb-true, le-leb, leb-true, lt-ltb, ltb-true, ne_eqb, or_cases, or_left, or_parts, or_right, position_from-zero, All-append, All-cons, All-contains, All-head, All-nil, All-tail, list_any_at, position-Some, AllPass-from_list_all, list_all-from_AllPass, Contains-slice_get, find-agree, find-filter, find-has, find-passes, find_place}
+use Rattle.modules.proofs.Words.{◌≡◌, ◌≢◌, ℕ, ◌+◌, ◌-◌, ◌<◌, ◌≤◌, inl, inr, Bool, true, false, ◌&&◌, ◌||◌, nat_lt, nat_eq, cond, suc, List, [], ◌∷◌, ◌++◌, get_or, map, Option, Some, None, refl, sym, ap, subst, ◌∙◌, ⊎_elim, arith, ◌⊎◌, All, Contains, filter, find, is_none, first_so, second_so, position_from, option_and_then, option_map, option_map_or, bytes_eq, bytes_decides, rules, common_steps, nat_tests}
+use Rattle.modules.proofs.Lemmas.{and_from, and_parts, cases_lt, eq-eqb, eqb-true, le-leb, leb-true, lt-ltb, ltb-true, ne_eqb, or_cases, or_left, or_parts, or_right, position_from-zero, All-append, All-cons, All-map, All-contains, All-head, All-nil, All-tail, list_any_at, position-Some, Contains-append_left, Contains-append_right, Contains-get_or, Contains-map, AllPass-from_list_all, list_all-from_AllPass, Contains-slice_get, find-agree, find-filter, find-has, find-passes, find_place}
 use Rattle.modules.proofs.Definitions.{is_built_in, HaveFirstLines, kernel_marks, line_marks, mark_of, marks_of, name_of, number_for, number_in, ListedSymbol, StandsFor, GoesOn, IsFirstMark, IsNearestMark, IsNextMark, Owns, goes_on, is_in_page, is_nearest_line, is_next_line, is_of_one_module, is_outside, module_of_address, post_above, post_below, posts, reach, holds, lies_in_any, Mark}
-use Rattle.modules.proofs.KeptLemmas.{not_built_in}
+use Rattle.modules.proofs.HomeLemmas.{not_built_in}
 use Rattle.modules.proofs.MarkOrderLemmas.{first_found, found_first, is_at}
 use Rattle.modules.proofs.OwnLineLemmas.{is_of, named}
 use Rattle.modules.proofs.SpacedLemmas.{inside, within}
@@ -24,10 +24,6 @@ all_of_passing p Q (x ∷ xs) all =
       | true ↦ λ _ both. All-cons (λ y. p y ≡ true → Q y) x xs (λ _. All-head Q x (filter p xs) both) (all_of_passing p Q xs (All-tail Q x (filter p xs) both))
       | false ↦ λ fails rest. All-cons (λ y. p y ≡ true → Q y) x xs (λ passes. absurd (cc)) (all_of_passing p Q xs rest)
     ] refl all
-
-pub all_mapped : {X Y : Type 0} (f : X → Y) (Q : Y → Type 0) (xs : List X) → All (λ x. Q (f x)) xs → All Q (map f xs)
-all_mapped f Q [] all = All-nil Q
-all_mapped f Q (x ∷ xs) all = All-cons Q (f x) (map f xs) (All-head (λ y. Q (f y)) x xs all) (all_mapped f Q xs (All-tail (λ y. Q (f y)) x xs all))
 
 all_of_mapped : {X Y : Type 0} (f : X → Y) (Q : Y → Type 0) (xs : List X) → All Q (map f xs) → All (λ x. Q (f x)) xs
 all_of_mapped f Q [] all = All-nil (λ x. Q (f x))
@@ -116,14 +112,11 @@ owner_named names (Some name) n is some = ap (λ (w : List ℕ). Some w) (sym (n
 
 -- ---- the kernel and the lines outside
 
-abbrev is_inside : List (ℕ × ℕ) → ℕ → Bool
-is_inside kernel a = lies_in_any kernel a
-
-outside_not_inside : (kernel : List (ℕ × ℕ)) (l : ListedSymbol) → is_outside kernel l ≡ true → is_inside kernel l.addr ≡ false
+outside_not_inside : (kernel : List (ℕ × ℕ)) (l : ListedSymbol) → is_outside kernel l ≡ true → lies_in_any kernel l.addr ≡ false
 outside_not_inside kernel l h = grind (arith, common_steps, nat_tests, and_parts)
 
 -- of lines at an address outside the kernel's region, just those of modules are posts
-posts_at : (kernel : List (ℕ × ℕ)) (lines : List ListedSymbol) (a : ℕ) → is_inside kernel a ≡ false → find (is_line_at a) (posts kernel lines) ≡ find (is_line_at a) (filter (is_outside kernel) lines)
+posts_at : (kernel : List (ℕ × ℕ)) (lines : List ListedSymbol) (a : ℕ) → lies_in_any kernel a ≡ false → find (is_line_at a) (posts kernel lines) ≡ find (is_line_at a) (filter (is_outside kernel) lines)
 posts_at kernel lines a out = grind (arith, common_steps, nat_tests, find-filter, find-agree, eqb-true)
 
 first_apart : (r : ℕ × ℕ) (a : ℕ) → r.0 < r.1 → holds r a ≡ false → r.0 ≡ a → ⊥
@@ -139,10 +132,10 @@ abbrev AreValid : List (ℕ × ℕ) → Type 0
 AreValid kernel = All (λ (r : ℕ × ℕ). r.0 < r.1) kernel
 
 -- none of them is at an address outside
-found_behind : (kernel : List (ℕ × ℕ)) (ms : List Mark) (a : ℕ) → AreValid kernel → is_inside kernel a ≡ false → find (is_at a) (kernel_marks kernel ++ ms) ≡ find (is_at a) ms
+found_behind : (kernel : List (ℕ × ℕ)) (ms : List Mark) (a : ℕ) → AreValid kernel → lies_in_any kernel a ≡ false → find (is_at a) (kernel_marks kernel ++ ms) ≡ find (is_at a) ms
 found_behind [] ms a valid out = refl
 found_behind (r ∷ rs) ms a valid out =
-    let parts = or_parts (holds r a) (is_inside rs a) out in
+    let parts = or_parts (holds r a) (lies_in_any rs a) out in
     let other : nat_eq r.0 a ≡ false = ne_eqb r.0 a (first_apart r a (All-head (λ (s : ℕ × ℕ). s.0 < s.1) r rs valid) parts.0) in
     ap (λ b. cond b (Some (first_of r)) (find (is_at a) (kernel_marks rs ++ ms))) other
     ∙ found_behind rs ms a (All-tail (λ (s : ℕ × ℕ). s.0 < s.1) r rs valid) parts.1
@@ -153,39 +146,24 @@ module_behind [] ms m some h = h
 module_behind (r ∷ rs) ms m some h = grind (arith, common_steps, nat_tests, is_at, module_behind rs ms m some)
 
 all_behind : (Q : Mark → Type 0) (kernel : List (ℕ × ℕ)) (ms : List Mark) → All Q (kernel_marks kernel ++ ms) → All Q ms
-all_behind Q [] ms all = all
-all_behind Q (r ∷ rs) ms all = all_behind Q rs ms (All-tail Q (first_of r) (kernel_marks rs ++ ms) all)
+all_behind Q kernel ms all = λ k d lt. All-contains Q (kernel_marks kernel ++ ms) (get_or ms k d) all (Contains-append_right (kernel_marks kernel) ms (get_or ms k d) (Contains-get_or ms k d lt))
 
 all_of_kernel : (Q : Mark → Type 0) (kernel : List (ℕ × ℕ)) (ms : List Mark) → All Q (kernel_marks kernel ++ ms) → All (λ r. Q (first_of r)) kernel
-all_of_kernel Q [] ms all = All-nil (λ r. Q (first_of r))
-all_of_kernel Q (r ∷ rs) ms all = All-cons (λ r. Q (first_of r)) r rs (All-head Q (first_of r) (kernel_marks rs ++ ms) all) (all_of_kernel Q rs ms (All-tail Q (first_of r) (kernel_marks rs ++ ms) all))
+all_of_kernel Q kernel ms all = λ k d lt. All-contains Q (kernel_marks kernel ++ ms) (first_of (get_or kernel k d)) all (Contains-append_left (kernel_marks kernel) ms (first_of (get_or kernel k d)) (Contains-map first_of kernel (get_or kernel k d) (Contains-get_or kernel k d lt)))
 
 -- a line of the kernel between a module's post and an address above has the first of its region
 -- between them
 region_clear : (r : ℕ × ℕ) (x a t : ℕ) → holds r a ≡ false → (r.0 ≤ a) ⊎ (x < r.0) → holds r t ≡ true → (t ≤ a) ⊎ (x < t)
 region_clear r x a t out first in' = grind (arith, inside, within, cases_lt)
 
-kernel_clear : (kernel : List (ℕ × ℕ)) (x a t : ℕ) → is_inside kernel a ≡ false → All (λ (r : ℕ × ℕ). (r.0 ≤ a) ⊎ (x < r.0)) kernel → is_inside kernel t ≡ true → (t ≤ a) ⊎ (x < t)
+kernel_clear : (kernel : List (ℕ × ℕ)) (x a t : ℕ) → lies_in_any kernel a ≡ false → All (λ (r : ℕ × ℕ). (r.0 ≤ a) ⊎ (x < r.0)) kernel → lies_in_any kernel t ≡ true → (t ≤ a) ⊎ (x < t)
 kernel_clear [] x a t out all in' = absurd (cc)
 kernel_clear (r ∷ rs) x a t out all in' =
-    let parts = or_parts (holds r a) (is_inside rs a) out in
+    let parts = or_parts (holds r a) (lies_in_any rs a) out in
     ⊎_elim
     (λ here. region_clear r x a t parts.0 (All-head (λ (s : ℕ × ℕ). (s.0 ≤ a) ⊎ (x < s.0)) r rs all) here)
     (λ rest. kernel_clear rs x a t parts.1 (All-tail (λ (s : ℕ × ℕ). (s.0 ≤ a) ⊎ (x < s.0)) r rs all) rest)
-    (or_cases (holds r t) (is_inside rs t) in')
-
--- a line of the kernel that is above is not below the next mark
-region_next : (r : ℕ × ℕ) (x a b t : ℕ) → a ≤ x → holds r a ≡ false → (r.0 ≤ a) ⊎ (x < r.0) → (r.0 ≤ x) ⊎ (b ≤ r.0) → holds r t ≡ true → (t ≤ x) ⊎ (b ≤ t)
-region_next r x a b t low out first next in' = grind (arith, inside, within, cases_lt, region_clear)
-
-kernel_next : (kernel : List (ℕ × ℕ)) (x a b t : ℕ) → a ≤ x → is_inside kernel a ≡ false → All (λ (r : ℕ × ℕ). (r.0 ≤ a) ⊎ (x < r.0)) kernel → All (λ (r : ℕ × ℕ). (r.0 ≤ x) ⊎ (b ≤ r.0)) kernel → is_inside kernel t ≡ true → (t ≤ x) ⊎ (b ≤ t)
-kernel_next [] x a b t low out near next in' = absurd (cc)
-kernel_next (r ∷ rs) x a b t low out near next in' =
-    let parts = or_parts (holds r a) (is_inside rs a) out in
-    ⊎_elim
-    (λ here. region_next r x a b t low parts.0 (All-head (λ (s : ℕ × ℕ). (s.0 ≤ a) ⊎ (x < s.0)) r rs near) (All-head (λ (s : ℕ × ℕ). (s.0 ≤ x) ⊎ (b ≤ s.0)) r rs next) here)
-    (λ rest. kernel_next rs x a b t low parts.1 (All-tail (λ (s : ℕ × ℕ). (s.0 ≤ a) ⊎ (x < s.0)) r rs near) (All-tail (λ (s : ℕ × ℕ). (s.0 ≤ x) ⊎ (b ≤ s.0)) r rs next) rest)
-    (or_cases (holds r t) (is_inside rs t) in')
+    (or_cases (holds r t) (lies_in_any rs t) in')
 
 module _ (names : List (List ℕ)) (lines : List ListedSymbol) where
   -- ---- the first mark of an address
@@ -193,7 +171,7 @@ module _ (names : List (List ℕ)) (lines : List ListedSymbol) where
   all_valid : (kernel : List (ℕ × ℕ)) → HaveFirstLines kernel lines → AreValid kernel
   all_valid kernel has = λ k d lt. (has k d lt).0
 
-  found_mark : (kernel : List (ℕ × ℕ)) (l : ListedSymbol) → HaveFirstLines kernel lines → is_inside kernel l.addr ≡ false → find (is_line_at l.addr) (filter (is_outside kernel) lines) ≡ Some l → find (is_at l.addr) (marks_of kernel names lines) ≡ Some (mark_of names l)
+  found_mark : (kernel : List (ℕ × ℕ)) (l : ListedSymbol) → HaveFirstLines kernel lines → lies_in_any kernel l.addr ≡ false → find (is_line_at l.addr) (filter (is_outside kernel) lines) ≡ Some l → find (is_at l.addr) (marks_of kernel names lines) ≡ Some (mark_of names l)
   found_mark kernel l has out h = grind (arith, found_behind, all_valid, out, find_mapped, is_at)
 
   marked : (kernel : List (ℕ × ℕ)) (m : Mark) → find (is_at m.addr) (map (mark_of names) (filter (is_outside kernel) lines)) ≡ Some m → (l : ListedSymbol) × (find (is_line_at m.addr) (filter (is_outside kernel) lines) ≡ Some l) × (mark_of names l ≡ m)
@@ -211,10 +189,10 @@ module _ (names : List (List ℕ)) (lines : List ListedSymbol) where
   firsts : (kernel : List (ℕ × ℕ)) (P : ℕ → Type 0) → All (λ (t : Mark). P t.addr) (marks_of kernel names lines) → All (λ (r : ℕ × ℕ). P r.0) kernel
   firsts kernel P all = all_of_kernel (λ (t : Mark). P t.addr) kernel (line_marks kernel names lines) all
 
-  built_in_inside : (kernel : List (ℕ × ℕ)) (t : ListedSymbol) → is_built_in kernel t ≡ true → is_inside kernel t.addr ≡ true
-  built_in_inside kernel t h = (and_parts (is_none t.owner) (is_inside kernel t.addr) h).1
+  built_in_inside : (kernel : List (ℕ × ℕ)) (t : ListedSymbol) → is_built_in kernel t ≡ true → lies_in_any kernel t.addr ≡ true
+  built_in_inside kernel t h = (and_parts (is_none t.owner) (lies_in_any kernel t.addr) h).1
 
-  near_posts : (kernel : List (ℕ × ℕ)) (x a : ℕ) → is_inside kernel a ≡ false → IsNearestIn (marks_of kernel names lines) x a → IsNearestOf (posts kernel lines) x a
+  near_posts : (kernel : List (ℕ × ℕ)) (x a : ℕ) → lies_in_any kernel a ≡ false → IsNearestIn (marks_of kernel names lines) x a → IsNearestOf (posts kernel lines) x a
   near_posts kernel x a out n = record {
     below = n.below;
     clear = all_passing (λ l. is_built_in kernel l || is_outside kernel l) (λ (t : ListedSymbol). (t.addr ≤ a) ⊎ (x < t.addr)) lines (λ k d lt passes.
@@ -225,30 +203,30 @@ module _ (names : List (List ℕ)) (lines : List ListedSymbol) where
         (or_cases (is_built_in kernel t) (is_outside kernel t) passes));
   }
 
-  next_posts : (kernel : List (ℕ × ℕ)) (x a b : ℕ) → is_inside kernel a ≡ false → IsNearestIn (marks_of kernel names lines) x a → IsNextIn (marks_of kernel names lines) x b → IsNextOf (posts kernel lines) x b
+  next_posts : (kernel : List (ℕ × ℕ)) (x a b : ℕ) → lies_in_any kernel a ≡ false → IsNearestIn (marks_of kernel names lines) x a → IsNextIn (marks_of kernel names lines) x b → IsNextOf (posts kernel lines) x b
   next_posts kernel x a b out near n = record {
     above = n.above;
     clear = all_passing (λ l. is_built_in kernel l || is_outside kernel l) (λ (t : ListedSymbol). (t.addr ≤ x) ⊎ (b ≤ t.addr)) lines (λ k d lt passes.
         let t : ListedSymbol = get_or lines k d in
         ⊎_elim
-        (λ own. kernel_next kernel x a b t.addr near.below out (firsts kernel (λ c. (c ≤ a) ⊎ (x < c)) near.clear) (firsts kernel (λ c. (c ≤ x) ⊎ (b ≤ c)) n.clear) (built_in_inside kernel t own))
+        (λ own. let high = n.above in let low = near.below in ⊎_elim (λ le. inl (omega arith)) (λ gt. inr (omega arith)) (kernel_clear kernel (b - 1) a t.addr out (λ j r less. ⊎_elim (λ le. inl le) (λ gt. ⊎_elim (λ le. absurd (omega arith)) (λ ge. inr (omega arith)) (firsts kernel (λ c. (c ≤ x) ⊎ (b ≤ c)) n.clear j r less)) (firsts kernel (λ c. (c ≤ a) ⊎ (x < c)) near.clear j r less)) (built_in_inside kernel t own)))
         (λ its. outside_all kernel (λ c. (c ≤ x) ⊎ (b ≤ c)) n.clear k d lt its)
         (or_cases (is_built_in kernel t) (is_outside kernel t) passes));
   }
 
   others_all : (kernel : List (ℕ × ℕ)) (P : ℕ → Type 0) → All (λ (t : ListedSymbol). (is_built_in kernel t || is_outside kernel t) ≡ true → P t.addr) lines → All (λ (t : Mark). P t.addr) (map (mark_of names) (filter (is_outside kernel) lines))
-  others_all kernel P all = search (rules, all_mapped, all_passing, or_right)
+  others_all kernel P all = search (rules, All-map, all_passing, or_right)
 
   -- what holds of the posts' addresses holds of the marks'
   marks_all : (kernel : List (ℕ × ℕ)) (P : ℕ → Type 0) → HaveFirstLines kernel lines → All (λ (t : ListedSymbol). P t.addr) (posts kernel lines) → All (λ (t : Mark). P t.addr) (marks_of kernel names lines)
   marks_all kernel P has all =
       let each = all_of_passing (λ l. is_built_in kernel l || is_outside kernel l) (λ (t : ListedSymbol). P t.addr) lines all in
       All-append (λ (t : Mark). P t.addr) (kernel_marks kernel) (line_marks kernel names lines)
-      (all_mapped first_of (λ (t : Mark). P t.addr) kernel (λ k d lt.
+      (All-map (λ (t : Mark). P t.addr) first_of kernel (λ k d lt.
       let r : ℕ × ℕ = get_or kernel k d in
       let (valid, first) = has k d lt in
       let (l, there, none, at) = first in
-      let in' : is_inside kernel r.0 ≡ true = list_any_at (λ s. holds s r.0) kernel k d lt (within r r.0 (omega arith) valid) in
+      let in' : lies_in_any kernel r.0 ≡ true = list_any_at (λ s. holds s r.0) kernel k d lt (within r r.0 (omega arith) valid) in
       let built_in : is_built_in kernel l ≡ true = rw (none, at) in' in
       subst P at
       (All-contains (λ (t : ListedSymbol). (is_built_in kernel t || is_outside kernel t) ≡ true → P t.addr) lines l each there
@@ -270,7 +248,7 @@ module _ (names : List (List ℕ)) (lines : List ListedSymbol) where
   is_named_outside kernel l name own passes = ⊎_elim (λ built_in. absurd (let other : is_built_in kernel l ≡ false = not_built_in kernel l name own in cc)) (λ its. its) (or_cases (is_built_in kernel l) (is_outside kernel l) passes)
 
   -- a found post of a module is outside
-  found_outside : (kernel : List (ℕ × ℕ)) (p : ListedSymbol → Bool) (l : ListedSymbol) (name : List ℕ) → find p (posts kernel lines) ≡ Some l → l.owner ≡ Some name → is_inside kernel l.addr ≡ false
+  found_outside : (kernel : List (ℕ × ℕ)) (p : ListedSymbol → Bool) (l : ListedSymbol) (name : List ℕ) → find p (posts kernel lines) ≡ Some l → l.owner ≡ Some name → lies_in_any kernel l.addr ≡ false
   found_outside kernel p l name at own =
       let passes : (is_built_in kernel l || is_outside kernel l) ≡ true = find-has p (posts kernel lines) l at (λ t. (is_built_in kernel t || is_outside kernel t) ≡ true) (all_passing (λ t. is_built_in kernel t || is_outside kernel t) (λ t. (is_built_in kernel t || is_outside kernel t) ≡ true) lines (λ k d lt yes. yes)) in
       outside_not_inside kernel l (is_named_outside kernel l name own passes)
@@ -278,7 +256,7 @@ module _ (names : List (List ℕ)) (lines : List ListedSymbol) where
   -- the line of a first mark of a module, which is the first of its address among the posts
   record IsLineOf (kernel : List (ℕ × ℕ)) (m : Mark) (l : ListedSymbol) : Type 0 where
     made : mark_of names l ≡ m
-    out : is_inside kernel l.addr ≡ false
+    out : lies_in_any kernel l.addr ≡ false
     first : find (is_line_at l.addr) (posts kernel lines) ≡ Some l
 
   line_of_first : (kernel : List (ℕ × ℕ)) (m : Mark) → m.owner ≢ 0 → IsFirstMark (marks_of kernel names lines) m → (l : ListedSymbol) × IsLineOf kernel m l
@@ -289,7 +267,7 @@ module _ (names : List (List ℕ)) (lines : List ListedSymbol) where
       owner_named names l.owner n (ap (λ (s : Mark). s.owner) line.made ∙ its) some ∙ ap (λ (w : List ℕ). Some w) (number_names names name n is some)
 
   -- the first mark of a post of a module
-  mark_of_first : (kernel : List (ℕ × ℕ)) (l : ListedSymbol) → HaveFirstLines kernel lines → is_inside kernel l.addr ≡ false → find (is_line_at l.addr) (posts kernel lines) ≡ Some l → find (is_at l.addr) (marks_of kernel names lines) ≡ Some (mark_of names l)
+  mark_of_first : (kernel : List (ℕ × ℕ)) (l : ListedSymbol) → HaveFirstLines kernel lines → lies_in_any kernel l.addr ≡ false → find (is_line_at l.addr) (posts kernel lines) ≡ Some l → find (is_at l.addr) (marks_of kernel names lines) ≡ Some (mark_of names l)
   mark_of_first kernel l has out found = found_mark kernel l has out (sym (posts_at kernel lines l.addr out) ∙ found)
 
   -- ---- how far a module goes on

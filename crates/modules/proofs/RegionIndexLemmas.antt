@@ -40,3 +40,6 @@ module _ (c : CatalogEntries) (sound : IsSoundCatalog c) where
 
       pub last_ends_below : i.b ≤ addr → None ≡ item_of_address c addr
       last_ends_below past = none_found c sound addr (item_of_address c addr) (beyond past) (look_is half_open addr (items_of c))
+
+-- what stands before a split is what is found, or nothing is
+pub ruleset found_by_split = (common_steps, last_begins_below, last_found, last_ends_below)

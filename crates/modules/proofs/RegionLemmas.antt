@@ -1,7 +1,8 @@
 -- Each module has 1 to 7 regions.
 use Rattle.modules.proofs.Words.{◌≡◌, ℕ, ◌+◌, ◌^◌, ◌<◌, ◌≤◌, true, false, ◌||◌, nat_le, cond, List, [], ◌∷◌, length, get_or, map, refl, sym, ap, ◌∙◌, ⊎_elim, arith, All, bytes_decides, list_any, bytes_eq, nat_tests}
 use Rattle.modules.proofs.Lemmas.{leb-true, length-map, All-nil, All-cons, All-map, All-filter, AllPass-from_list_all, some_passes}
-use Rattle.modules.proofs.Definitions.{region_line_region, fits, is_region, region_fits, module_line_region, ListedModule, ListedRegion, is_core, IsPlaced, PlacedModule, are_few, has_core, lines_named, placed_line, placed_alone, placed_by}
+use Rattle.modules.proofs.Definitions.{region_line_region, fits, is_region, region_fits, module_line_region, ListedModule, ListedRegion, Core, is_core, IsPlaced, PlacedModule, are_few, has_core, lines_named, placed_line, placed_alone, placed_by}
+use Rattle.modules.proofs.ByNameLemmas.{any_mapped}
 
 pub region_parts : (base size : ℕ) → is_region base size ≡ true → (base < base + size) × (base + size < 2 ^ 64)
 region_parts base size h = (grind (arith, nat_tests), grind (arith, nat_tests))
@@ -12,25 +13,17 @@ few_named regions name few =
     ⊎_elim
     (λ empty. omega arith)
     (λ some.
-    let d : ListedRegion = get_or regions some.0 (first_of regions some.0 some.1) in
+    let d : ListedRegion = record { name = name; part = Core; base = 0; size = 0 } in
     let is : (get_or regions some.0 d).name ≡ name = (bytes_decides (get_or regions some.0 d).name name).0 (some.2 d) in
     let at : nat_le (length (lines_named (get_or regions some.0 d).name regions)) 7 ≡ true = AllPass-from_list_all (λ (r : ListedRegion). nat_le (length (lines_named r.name regions)) 7) regions few some.0 d some.1 in
     leb-true (length (lines_named name regions)) 7 (ap (λ (n : List ℕ). nat_le (length (lines_named n regions)) 7) (sym is) ∙ at))
     (some_passes (λ (r : ListedRegion). bytes_eq r.name name) regions)
-  where
-    first_of : (xs : List ListedRegion) (k : ℕ) → k < length xs → ListedRegion
-    first_of [] k lt = absurd (omega arith)
-    first_of (x ∷ xs) k lt = x
-
-parts_mapped : (lines : List ListedRegion) → list_any is_core (map (λ r. r.part) lines) ≡ has_core lines
-parts_mapped [] = refl
-parts_mapped (l ∷ ls) = ap (λ b. is_core l.part || b) (parts_mapped ls)
 
 placed_in_lines : (lines : List ListedRegion) (line : ListedModule) → has_core lines ≡ true → All (λ l. region_fits l ≡ true) lines → IsPlaced (placed_by lines line)
 placed_in_lines lines line core fit =
     record {
       same = length-map lines (λ (r : ListedRegion). r.part) ∙ sym (length-map lines region_line_region);
-      some_core = parts_mapped lines ∙ core;
+      some_core = any_mapped is_core (λ (r : ListedRegion). r.part) lines ∙ core;
       valid = All-map (λ (r : ℕ × ℕ). r.0 < r.1) region_line_region lines (λ k d lt. (region_parts (get_or lines k d).base (get_or lines k d).size (fit k d lt)).0);
     }
 

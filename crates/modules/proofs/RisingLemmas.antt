@@ -8,9 +8,9 @@ pub IsFirstOf-from_partition : (symbols : List SymbolEntry) (addr split : ℕ) �
 IsFirstOf-from_partition symbols addr split bound point = grind (arith, ltb-true, ltb-false)
 
 -- where symbols rise, the neighbours of a place tell which are below an address
-pub IsFirstOf-from_border : (symbols : List SymbolEntry) (addr place : ℕ) → IsRising symbols
+pub first_from_border : (symbols : List SymbolEntry) (addr place : ℕ) → IsRising symbols
     → IsFirstBorder (λ s. s.addr) symbols addr place → IsFirstOf symbols addr place
-IsFirstOf-from_border symbols addr place rising border =
+first_from_border symbols addr place rising border =
     let bound = border.bound in
     record {
       bound = bound;

@@ -1,6 +1,6 @@
 -- The region that an address lies in, of regions that rise.
-use Rattle.modules.proofs.Words.{◌≡◌, ℕ, ◌-◌, ◌<◌, ◌≤◌, true, false, List, length, get_or, refl, sym, subst, ⊎_elim, arith, IsNonDecreasingBy}
-use Rattle.modules.proofs.Lemmas.{cases_lt, false_from_ne_true, get_or_default, list_any_at, list_any_none}
+use Rattle.modules.proofs.Words.{◌≡◌, ℕ, ◌-◌, ◌<◌, ◌≤◌, true, false, List, length, get_or, refl, sym, subst, ⊎_elim, arith, IsNonDecreasingBy, common_steps}
+use Rattle.modules.proofs.Lemmas.{cases_lt, le-ltb, false_from_ne_true, get_or_default, list_any_at, list_any_none}
 use Rattle.modules.proofs.Definitions.{IsSplitBy, AreRising, holds, lies_in_any}
 use Rattle.modules.proofs.SpacedLemmas.{inside}
 
@@ -41,3 +41,6 @@ module _ (regions : List (ℕ × ℕ)) (r : AreRising regions) where
             let same : split - 1 ≡ k = omega arith in
             subst (λ n. holds (get_or regions n x) addr ≡ false) same
             (subst (λ s. holds s addr ≡ false) (get_or_default regions (split - 1) d x (let b = parts.bound in omega arith)) e)
+
+-- what a binary search of them tells
+pub ruleset rising_search = (common_steps, le-ltb, starts_rise, in_none, in_last)

@@ -1,6 +1,6 @@
 -- Lines that have the name of their module by their run.
 use Rattle.modules.proofs.Words.{◌≡◌, ℕ, zero, suc, ◌<◌, true, false, ◌&&◌, List, [], ◌∷◌, ◌++◌, length, map, take, drop, get_or, Some, None, Option, refl, sym, ap, ◌∙◌, arith, append_assoc, find, is_none, is_some, Bor, option_copied, option_map, bytes_eq, common_steps, nat_tests}
-use Rattle.modules.proofs.Lemmas.{map-append, append-nil, flat_map-append}
+use Rattle.modules.proofs.Lemmas.{map-append, append-nil, flat_map-append, take_more}
 use Rattle.modules.proofs.Definitions.{SymbolEntry, first_address, ListedSymbol, line_of, lines_of_run, lines_of_all, Run}
 
 -- the lines of all runs, and those of the last
@@ -53,3 +53,6 @@ first_in_last runs last name none = ap (first_address name) (lines_of_all-last r
 
 pub first_in_front : (runs : List Run) (last : Run) (name : List ℕ) (o : Option ℕ) → (o ≡ None → ⊥) → o ≡ first_address name (lines_of_all runs) → o ≡ first_address name (lines_of_all (runs ++ last ∷ []))
 first_in_front runs last name o some is = grind (arith, lines_of_all-last, first_address-front)
+
+-- run by run
+pub ruleset run_by_run = (common_steps, take_more, lines_of_all-last, first_address-append)

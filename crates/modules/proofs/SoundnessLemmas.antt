@@ -1,6 +1,6 @@
 -- The accepted modules have distinct names and regions that lie apart.
-use Rattle.modules.proofs.Words.{◌≡◌, ℕ, ◌+◌, ◌*◌, ◌<◌, ◌≤◌, true, false, ◌&&◌, nat_lt, cond, List, [], ◌∷◌, ◌++◌, length, map, Some, None, Option, refl, sym, ap, ◌∙◌, subst, arith, append_assoc, length-append, All, IfSome, fold, bytes_decides, flat_map, list_any, list_all, option_and_then, option_to_list, bytes_eq, rules, common_steps, nat_tests}
-use Rattle.modules.proofs.Lemmas.{append-nil, length-map, map-append, flat_map-append, All-nil, All-push, All-head, All-tail, All-cons, list_all-append, list_any_at, all_pairs_push, AllPass-from_list_all, and_from, and_parts, AllPairs-few}
+use Rattle.modules.proofs.Words.{◌≡◌, ℕ, ◌+◌, ◌*◌, ◌<◌, ◌≤◌, true, false, ◌&&◌, nat_lt, cond, List, [], ◌∷◌, ◌++◌, length, get_or, map, Some, None, Option, refl, sym, ap, ◌∙◌, subst, sum_by, arith, append_assoc, length-append, All, IfSome, fold, bytes_decides, flat_map, list_any, list_all, option_and_then, option_to_list, bytes_eq, rules, common_steps, nat_tests}
+use Rattle.modules.proofs.Lemmas.{append-nil, get_or_append_left, length-map, map-append, flat_map-append, flat_map-map, length-flat_map, All-map, All-nil, All-push, All-head, All-tail, All-cons, list_all-append, list_any_at, all_pairs_push, AllPass-from_list_all, and_from, and_parts, AllPairs-few}
 use Rattle.modules.proofs.Definitions.{Accepted, accepted_of, after_module, names_of, none_yet, taken_regions, built_in_with, kernel_at, module_with, placed_module_of, IsSoundCatalog, built_in_of, catalog_of, catalog_with, entry_for, ModuleEntry, SymbolEntry, AreDistinctNames, is_built_in, symbols_that, fits, region_fits, first_address, built_in_region, kernel_regions, BoundNames, ListedModule, ListedRegion, ListedSymbol, names_in, IsPlaced, PlacedModule, are_few, placed_line, AreSoundModules, AreApart, are_beside, is_apart, lie_apart, Core}
 use Rattle.modules.proofs.RegionLemmas.{HasFew, IsPlaced-placed, few_placed}
 
@@ -81,33 +81,27 @@ none_beside [] = refl
 none_beside (r ∷ rs) = none_beside rs
 
 pub all_placed : (regions : List ListedRegion) (modules : List ListedModule) → All (λ l. fits l ≡ true) modules → All (λ l. region_fits l ≡ true) regions → All IsPlaced (map (placed_line regions) modules)
-all_placed regions [] fit regions_fit = All-nil IsPlaced
-all_placed regions (l ∷ ls) fit regions_fit =
-    All-cons IsPlaced (placed_line regions l) (map (placed_line regions) ls) (IsPlaced-placed regions l (All-head (λ (x : ListedModule). fits x ≡ true) l ls fit) regions_fit) (all_placed regions ls (All-tail (λ (x : ListedModule). fits x ≡ true) l ls fit) regions_fit)
+all_placed regions modules fit regions_fit = All-map IsPlaced (placed_line regions) modules (λ k d lt. IsPlaced-placed regions (get_or modules k d) (fit k d lt) regions_fit)
 
 pub accepted_good : (names : Option BoundNames) (modules : List ListedModule) (regions : List ListedRegion) (symbols : List ListedSymbol) → All (λ l. fits l ≡ true) modules → All (λ l. region_fits l ≡ true) regions → AreSoundModules (accepted_of (kernel_regions names symbols) regions modules)
 accepted_good names modules regions symbols fit regions_fit = AreSoundModules-fold (none_yet (kernel_regions names symbols)) (map (placed_line regions) modules) (AreSoundModules-none (kernel_regions names symbols) (kernel_apart names symbols)) (all_placed regions modules fit regions_fit)
 
 -- ---- of the catalog
 
-built_in_after : (a : Accepted) (m : PlacedModule) → (after_module a m).built_in ≡ a.built_in
-built_in_after a m = grind arith
-
 pub built_in_kept : (a : Accepted) (ms : List PlacedModule) → (fold after_module a ms).built_in ≡ a.built_in
 built_in_kept a [] = refl
-built_in_kept a (m ∷ ms) = built_in_kept (after_module a m) ms ∙ built_in_after a m
+built_in_kept a (m ∷ ms) = grind (arith, built_in_kept (after_module a m) ms)
 
 pub built_in_of_accepted : (built_in : List (ℕ × ℕ)) (regions : List ListedRegion) (modules : List ListedModule) → (accepted_of built_in regions modules).built_in ≡ built_in
 built_in_of_accepted built_in regions modules = built_in_kept (none_yet built_in) (map (placed_line regions) modules)
 
 pub module_regions : (symbols : List ListedSymbol) (ms : List PlacedModule) → flat_map (λ (m : ModuleEntry). m.regions) (map (entry_for symbols) ms) ≡ flat_map (λ (m : PlacedModule). m.regions) ms
-module_regions symbols [] = refl
-module_regions symbols (m ∷ ms) = ap (λ rs. m.regions ++ rs) (module_regions symbols ms)
+module_regions symbols ms = flat_map-map (λ (m : ModuleEntry). m.regions) (entry_for symbols) ms
 
 all_regions : (built_in : List (ℕ × ℕ)) (symbols : List ListedSymbol) (ms : List PlacedModule) → flat_map (λ (m : ModuleEntry). m.regions) (option_to_list (built_in_of built_in symbols) ++ map (entry_for symbols) ms) ≡ built_in ++ flat_map (λ (m : PlacedModule). m.regions) ms
 all_regions built_in symbols ms = grind (arith, module_regions)
 
-module_names : (symbols : List ListedSymbol) (ms : List PlacedModule) → names_in (map (entry_for symbols) ms) ≡ names_of ms
+pub module_names : (symbols : List ListedSymbol) (ms : List PlacedModule) → names_in (map (entry_for symbols) ms) ≡ names_of ms
 module_names symbols [] = refl
 module_names symbols (m ∷ ms) = ap (λ ns. m.name ∷ ns) (module_names symbols ms)
 
@@ -116,16 +110,14 @@ pub kernel_placed : (r : ℕ × ℕ) (rs : List (ℕ × ℕ)) → All (λ r. r.0
 kernel_placed r rs valid = record { same = length-map (r ∷ rs) (λ (_ : ℕ × ℕ). Core); some_core = refl; valid = valid }
 
 modules_placed : (symbols : List ListedSymbol) (ms : List PlacedModule) → All IsPlaced ms → All (λ m. IsPlaced (placed_module_of m)) (map (entry_for symbols) ms)
-modules_placed symbols [] all = All-nil (λ (m : ModuleEntry). IsPlaced (placed_module_of m))
-modules_placed symbols (m ∷ ms) all = All-cons (λ (x : ModuleEntry). IsPlaced (placed_module_of x)) (entry_for symbols m) (map (entry_for symbols) ms) (All-head IsPlaced m ms all) (modules_placed symbols ms (All-tail IsPlaced m ms all))
+modules_placed symbols ms all = All-map (λ (m : ModuleEntry). IsPlaced (placed_module_of m)) (entry_for symbols) ms all
 
 entries_placed : (built_in : List (ℕ × ℕ)) (symbols : List ListedSymbol) (ms : List PlacedModule) → All (λ r. r.0 < r.1) built_in → All IsPlaced ms → All (λ m. IsPlaced (placed_module_of m)) (option_to_list (built_in_of built_in symbols) ++ map (entry_for symbols) ms)
 entries_placed [] symbols ms valid all = modules_placed symbols ms all
 entries_placed (r ∷ rs) symbols ms valid all = All-cons (λ (x : ModuleEntry). IsPlaced (placed_module_of x)) (module_with (kernel_at (r ∷ rs)) (symbols_that (is_built_in (r ∷ rs)) symbols)) (map (entry_for symbols) ms) (kernel_placed r rs valid) (modules_placed symbols ms all)
 
 pub valid_kernel : (built_in rest : List (ℕ × ℕ)) → All (λ r. r.0 < r.1) (built_in ++ rest) → All (λ r. r.0 < r.1) built_in
-valid_kernel [] rest valid = All-nil (λ (x : ℕ × ℕ). x.0 < x.1)
-valid_kernel (r ∷ rs) rest valid = All-cons (λ (x : ℕ × ℕ). x.0 < x.1) r rs (All-head (λ (x : ℕ × ℕ). x.0 < x.1) r (rs ++ rest) valid) (valid_kernel rs rest (All-tail (λ (x : ℕ × ℕ). x.0 < x.1) r (rs ++ rest) valid))
+valid_kernel built_in rest valid = λ k d lt. subst (λ (r : ℕ × ℕ). r.0 < r.1) (get_or_append_left built_in rest d k lt) (valid k d (omega (arith, length-append built_in rest)))
 
 pub IsSound-catalog_with : (a : Accepted) (symbols : List ListedSymbol) → AreSoundModules a → IsSoundCatalog (catalog_with a symbols)
 IsSound-catalog_with a symbols good =
@@ -139,8 +131,8 @@ pub IsSound-catalog_of : (names : Option BoundNames) (modules : List ListedModul
 IsSound-catalog_of names modules regions symbols fit regions_fit = search (rules, IsSound-catalog_with, accepted_good)
 
 -- how many regions the kernel itself and the modules have
-pub count_of_regions : (built_in : List (ℕ × ℕ)) (symbols : List SymbolEntry) (modules : List ModuleEntry) → length built_in + length (flat_map (λ m. m.regions) modules) ≡ length (flat_map (λ m. m.regions) (option_to_list (built_in_with built_in symbols) ++ modules))
-count_of_regions built_in symbols modules = grind (arith, length-append)
+pub count_of_regions : (built_in : List (ℕ × ℕ)) (symbols : List SymbolEntry) (modules : List ModuleEntry) → length built_in + sum_by (λ m. length m.regions) modules ≡ length (flat_map (λ m. m.regions) (option_to_list (built_in_with built_in symbols) ++ modules))
+count_of_regions built_in symbols modules = grind (arith, length-append, length-flat_map (λ (m : ModuleEntry). m.regions) modules)
 
 -- ---- how many regions
 
@@ -155,8 +147,7 @@ pub accepted_few : (built_in : List (ℕ × ℕ)) (regions : List ListedRegion) 
 accepted_few built_in regions modules few = few_fold regions (none_yet built_in) modules few (All-nil HasFew)
 
 few_entries : (symbols : List ListedSymbol) (ms : List PlacedModule) → All HasFew ms → All (λ (m : ModuleEntry). length m.regions ≤ 7) (map (entry_for symbols) ms)
-few_entries symbols [] all = All-nil (λ (m : ModuleEntry). length m.regions ≤ 7)
-few_entries symbols (m ∷ ms) all = All-cons (λ (x : ModuleEntry). length x.regions ≤ 7) (entry_for symbols m) (map (entry_for symbols) ms) (All-head HasFew m ms all) (few_entries symbols ms (All-tail HasFew m ms all))
+few_entries symbols ms all = All-map (λ (m : ModuleEntry). length m.regions ≤ 7) (entry_for symbols) ms all
 
 -- no module of the catalog of listings has more than seven
 pub few_in_catalog : (names : Option BoundNames) (modules : List ListedModule) (regions : List ListedRegion) (symbols : List ListedSymbol) → are_few regions ≡ true → All (λ m. length m.regions ≤ 7) (catalog_of names modules regions symbols).modules
@@ -167,12 +158,9 @@ few_regions : (ms : List PlacedModule) → All HasFew ms → length (flat_map (�
 few_regions [] all = omega arith
 few_regions (m ∷ ms) all = grind (arith, All-head, HasFew, All-tail, length-append, few_regions ms (All-tail HasFew m ms all))
 
-count_after : (a : Accepted) (m : PlacedModule) → length (after_module a m).modules ≤ length a.modules + 1
-count_after a m = grind (arith, length-append)
-
 count_fold : (a : Accepted) (ms : List PlacedModule) → length (fold after_module a ms).modules ≤ length a.modules + length ms
 count_fold a [] = omega arith
-count_fold a (m ∷ ms) = omega (arith, count_fold (after_module a m) ms, count_after a m)
+count_fold a (m ∷ ms) = grind (arith, length-append, count_fold (after_module a m) ms)
 
 -- no more than seven regions a line of a module
 pub few_accepted : (built_in : List (ℕ × ℕ)) (regions : List ListedRegion) (modules : List ListedModule) → are_few regions ≡ true → length (flat_map (λ m. m.regions) (accepted_of built_in regions modules).modules) ≤ 7 * length modules

@@ -16,11 +16,15 @@ within r x le lt = grind (arith, nat_tests)
 abbrev pub lies : List Range → ℕ → Bool
 lies rs x = list_any (λ r. holds r x) rs
 
-pairs_head : (r : Range) (rs : List Range) → AllPairs (λ r s. r.1 < s.0) (r ∷ rs) → All (λ s. r.1 < s.0) rs
-pairs_head r rs pairs = λ k d lt. pairs 0 (suc k) d (omega arith) (omega arith)
+module _ {X : Type 0} (R : X → X → Type 0) (x : X) (xs : List X) where
+  pub pairs_rest : AllPairs R (x ∷ xs) → AllPairs R xs
+  pairs_rest pairs = λ i j d less lt. pairs (suc i) (suc j) d (omega arith) (omega arith)
 
-pairs_tail : (r : Range) (rs : List Range) → AllPairs (λ r s. r.1 < s.0) (r ∷ rs) → AllPairs (λ r s. r.1 < s.0) rs
-pairs_tail r rs pairs = λ i j d less lt. pairs (suc i) (suc j) d (omega arith) (omega arith)
+  pub pairs_first : AllPairs R (x ∷ xs) → All (R x) xs
+  pairs_first pairs = λ k d lt. pairs 0 (suc k) d (omega arith) (omega arith)
+
+abbrev Before : Range → Range → Type 0
+Before r s = r.1 < s.0
 
 -- all addresses of regions that begin above one lie above it
 above : (rs : List Range) (n x : ℕ) → All (λ s. n < s.0) rs → lies rs x ≡ true → n < x
@@ -54,8 +58,8 @@ same_regions (r ∷ rs) [] v g w f to from =
 same_regions (r ∷ rs) (s ∷ ss) v g w f to from =
     let r_valid = All-head (λ (t : Range). t.0 < t.1) r rs v in
     let s_valid = All-head (λ (t : Range). t.0 < t.1) s ss w in
-    let r_last = pairs_head r rs g in
-    let s_last = pairs_head s ss f in
+    let r_last = pairs_first Before r rs g in
+    let s_last = pairs_first Before s ss f in
     let ge : s.0 ≤ r.0 = first_ge r rs s ss r_valid s_valid r_last s_last to in
     let le : r.0 ≤ s.0 = first_ge s ss r rs s_valid r_valid s_last r_last from in
     let start : r.0 ≡ s.0 = omega arith in
@@ -64,7 +68,7 @@ same_regions (r ∷ rs) (s ∷ ss) v g w f to from =
     let end : r.1 ≡ s.1 = omega arith in
     let same : r ≡ s = ap (λ n. (n, r.1)) start ∙ ap (λ n. (s.0, n)) end in
     ap (λ t. t ∷ rs) same
-    ∙ ap (λ ts. s ∷ ts) (same_regions rs ss (All-tail (λ (t : Range). t.0 < t.1) r rs v) (pairs_tail r rs g) (All-tail (λ (t : Range). t.0 < t.1) s ss w) (pairs_tail s ss f)
+    ∙ ap (λ ts. s ∷ ts) (same_regions rs ss (All-tail (λ (t : Range). t.0 < t.1) r rs v) (pairs_rest Before r rs g) (All-tail (λ (t : Range). t.0 < t.1) s ss w) (pairs_rest Before s ss f)
     (tail_sub r rs s ss r_valid s_valid r_last s_last to end) (tail_sub s ss r rs s_valid r_valid s_last r_last from (sym end)))
 
 pub one_module : (lines : List ListedSymbol) (m n : PlacedModule) → HasItsRegions lines m → HasItsRegions lines n → m.name ≡ n.name → m ≡ n

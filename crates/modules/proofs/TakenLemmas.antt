@@ -1,6 +1,6 @@
 -- The regions of numbers, of which some are taken.
 use Rattle.modules.proofs.Words.{◌≡◌, ◌≢◌, ℕ, zero, suc, zero-add, ◌+◌, ◌<◌, ◌≤◌, Bool, true, false, ◌||◌, nat_eq, cond, List, [], ◌∷◌, ◌++◌, length, get_or, map, take, Option, refl, ap, ◌∙◌, ⊎_elim, arith, length-append, All, Contains, filter, fold, count_by, Vec, flat_map, list_any, option_map_or, rules, common_steps, nat_tests}
-use Rattle.modules.proofs.Lemmas.{set, length-set, cases_eq, eqb-true, eq-eqb, ne_eqb, or_parts, append-nil, get_or-set_other, get_or_default, map-append, take_more, All-contains, count_by-le-length, sum_by-append, sum_by-cons, get_or-set_at, look_is}
+use Rattle.modules.proofs.Lemmas.{set, length-set, cases_eq, eqb-true, eq-eqb, ne_eqb, or_parts, append-nil, flat_map-map, get_or-set_other, get_or_default, map-append, take_more, All-contains, count_by-le-length, sum_by-append, sum_by-cons, get_or-set_at, look_is}
 use Rattle.modules.proofs.Definitions.{Item, half_open, look, AreLeft, is_kept_mark, kept_numbers, modules_numbered, name_of, with_number, numbered_module, ranges_of, AreLaid, AreRegions, HoldsFor, PlacedModule, AreRising, Mark}
 use Rattle.modules.proofs.MarkedModuleLemmas.{from_holds, spaced, valid_ranges}
 
@@ -111,8 +111,7 @@ once_all [] acc once = once
 once_all (n ∷ ns) acc once = once_all ns (with_number acc n) (once_more acc n once)
 
 regions_of_numbered : (names : List (List ℕ)) (items : List Item) (ns : List ℕ) → flat_map (λ (m : PlacedModule). m.regions) (modules_numbered names items ns) ≡ flat_map (λ n. ranges_of n items) ns
-regions_of_numbered names items [] = refl
-regions_of_numbered names items (n ∷ ns) = ap (λ (rs : List (ℕ × ℕ)). ranges_of n items ++ rs) (regions_of_numbered names items ns)
+regions_of_numbered names items ns = flat_map-map (λ (m : PlacedModule). m.regions) (λ n. numbered_module n (name_of names n) items) ns
 
 pub few_regions : (names : List (List ℕ)) (items : List Item) (marks : List Mark) → length (flat_map (λ (m : PlacedModule). m.regions) (modules_numbered names items (kept_numbers items marks))) ≤ length items
 few_regions names items marks = search (rules, once_all, few_ranges, regions_of_numbered)
@@ -123,15 +122,11 @@ few_regions names items marks = search (rules, once_all, few_ranges, regions_of_
 pub items_numbered : (count : ℕ) (marks : List Mark) (items : List Item) → AreRegions marks items → All (λ m. m.owner ≤ count) marks → All (λ i. (0 < i.tag) × (i.tag ≤ count)) items
 items_numbered count marks items regions within = λ k d lt.
     let i : Item = get_or items k d in
-    let some : i.a < i.b = regions.laid.valid k d lt in
-    let holds : HoldsFor items i.tag i.a = record { item = i; there = (k, lt, get_or_default items k i d lt); its = refl; from = omega arith; below = some } in
+    let valid : i.a < i.b = regions.laid.valid k d lt in
+    let holds : HoldsFor items i.tag i.a = record { item = i; there = (k, lt, get_or_default items k i d lt); its = refl; from = omega arith; below = valid } in
     let owns = ((regions.exact i.tag i.a).0 holds).1 in
     let near = owns.nearest.its in
     let most : (get_or marks near.place owns.mark).owner ≤ count = within near.place owns.mark near.within in
     let is : (get_or marks near.place owns.mark).owner ≡ i.tag = ap (λ (m : Mark). m.owner) near.listed ∙ owns.its in
-    let positive : 0 < i.tag = pos i.tag owns.some in
-    (positive, omega (arith, most, is))
-  where
-    pos : (n : ℕ) → n ≢ 0 → 0 < n
-    pos zero some = absurd (some refl)
-    pos (suc n) some = omega arith
+    let some : i.tag ≢ 0 = owns.some in
+    (omega arith, omega (arith, most, is))

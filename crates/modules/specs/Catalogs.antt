@@ -41,19 +41,21 @@ catalog_of names modules regions symbols =
     catalog_with (accepted_of (kernel_regions names symbols) regions modules) symbols
 
 -- how many lines went where
+abbrev pub counts_with : Accepted → List ListedRegion → List ListedSymbol → BuildCounts
+counts_with a regions symbols = record {
+  modules = length a.modules;
+  double = a.double;
+  overlap = a.overlap;
+  regions = count_by (is_used a regions) regions;
+  stray_regions = count_by (λ r. not (is_used a regions r)) regions;
+  symbols = count_by (is_kept a) symbols;
+  stray = count_by (λ s. not (is_kept a s)) symbols;
+}
+
 abbrev pub counts_of : Option BoundNames → List ListedModule → List ListedRegion
     → List ListedSymbol → BuildCounts
 counts_of names modules regions symbols =
-    let a = accepted_of (kernel_regions names symbols) regions modules in
-    record {
-      modules = length a.modules;
-      double = a.double;
-      overlap = a.overlap;
-      regions = count_by (is_used a regions) regions;
-      stray_regions = count_by (λ r. not (is_used a regions r)) regions;
-      symbols = count_by (is_kept a) symbols;
-      stray = count_by (λ s. not (is_kept a s)) symbols;
-    }
+    counts_with (accepted_of (kernel_regions names symbols) regions modules) regions symbols
 
 -- how many modules, how many regions these have, and how many lines of symbols went where
 abbrev pub kept_counts : Accepted → List ListedSymbol → BuildCounts

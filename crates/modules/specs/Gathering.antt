@@ -1,6 +1,6 @@
 -- Symbols that are put where they are kept.
-use Rattle.std.specs.Prelude.{◌≡◌, ◌≢◌, ℕ, ◌+◌, ◌<◌, false, Bool, not, List, [], ◌++◌, length}
-use Rattle.std.specs.Prelude.{filter, slice_index_or, slice_get, count_by, Option, Some, None}
+use Rattle.std.specs.Prelude.{◌≡◌, ◌≢◌, ℕ, ◌<◌, false, Bool, List, [], ◌++◌, length}
+use Rattle.std.specs.Prelude.{filter, slice_index_or, slice_get, Option, Some, None}
 use Rattle.std.specs.Vec.{vec_len}
 use Rattle.std.specs.Global.{Vec}
 use Rattle.std.specs.List.{position_from}
@@ -8,7 +8,7 @@ use Rattle.std.specs.Option.{option_copied, option_map_or}
 use Rattle.std.specs.Str.{bytes_eq}
 use Rattle.modules.specs.Accepted.{Accepted, names_of}
 use Rattle.modules.specs.Entries.{SymbolEntry}
-use Rattle.modules.specs.Kept.{belongs, is_built_in, is_kept, lies_in, symbols_that}
+use Rattle.modules.specs.Kept.{belongs, is_built_in, lies_in, symbols_that}
 use Rattle.modules.specs.Listed.{ListedSymbol}
 use Rattle.modules.specs.Placed.{PlacedModule}
 use Rattle.modules.specs.Regions.{lies_in_any}
@@ -67,19 +67,13 @@ Keeps (owner.Module place) kept g h =
 Keeps owner.Nobody kept g h =
     (h.built_in.items ≡ g.built_in.items) × (h.modules.items ≡ g.modules.items)
 
--- the counts are as they were
-abbrev pub CountsStay : Gathered → Gathered → Type 0
-CountsStay g h = (h.kept ≡ g.kept) × (h.stray ≡ g.stray)
-
 -- the symbols of a run that are kept
 abbrev pub kept_of : Accepted → Run → List SymbolEntry
 kept_of a r = filter (λ s. lies_for a (owner_for a (option_copied r.module)) s.addr) r.symbols.items
 
 -- the lines of a run are gone through
-pub record KeepsRun (a : Accepted) (r : Run) (g h : Gathered) : Type 0 where
-  pub lists : Keeps (owner_for a (option_copied r.module)) (kept_of a r) g h
-  pub kept : h.kept ≡ g.kept + length (kept_of a r)
-  pub stray : h.stray + length (kept_of a r) ≡ g.stray + length r.symbols.items
+abbrev pub KeepsRun : Accepted → Run → Gathered → Gathered → Type 0
+KeepsRun a r g h = Keeps (owner_for a (option_copied r.module)) (kept_of a r) g h
 
 -- an empty list for each of so many modules
 pub record IsEmptyFor (modules : ℕ) (g : Gathered) : Type 0 where
@@ -87,8 +81,6 @@ pub record IsEmptyFor (modules : ℕ) (g : Gathered) : Type 0 where
   pub lists : length g.modules.items ≡ modules
   pub each : (j : ℕ) (d : Vec SymbolEntry) → j < modules
       → (slice_index_or g.modules.items j d).items ≡ []
-  pub kept : g.kept ≡ 0
-  pub stray : g.stray ≡ 0
 
 -- what the lines leave in each list
 pub record Gathers (a : Accepted) (symbols : List ListedSymbol) (g : Gathered) : Type 0 where
@@ -97,5 +89,3 @@ pub record Gathers (a : Accepted) (symbols : List ListedSymbol) (g : Gathered) :
   pub each : (j : ℕ) (d : Vec SymbolEntry) (m : PlacedModule) → j < length a.modules
       → (slice_index_or g.modules.items j d).items
       ≡ symbols_that (belongs (slice_index_or a.modules j m)) symbols
-  pub kept : g.kept ≡ count_by (is_kept a) symbols
-  pub stray : g.stray ≡ count_by (λ s. not (is_kept a s)) symbols

@@ -23,8 +23,6 @@ pub mod Names
 pub mod Catalogs
 -- the symbols around an address, in a list that is in no order
 pub mod Around
--- the best symbols of a list
-pub mod Preferred
 -- the symbol that an address belongs to
 pub mod Found
 -- whose an address is, by a listing of symbols alone
@@ -46,8 +44,8 @@ pub mod Marks
 pub mod MarkedModules
 -- the marks of the lines of a listing, by the numbers of their modules
 pub mod LineMarks
--- the numbers of names
-pub mod Numbered
+-- names that are found
+pub mod FoundNames
 -- lines of symbols that have the name of their module by the number of a run
 pub mod Runs
 -- regions in the order of their first addresses
@@ -56,7 +54,7 @@ pub mod Spread
 pub mod ByName
 -- the region lines by name
 pub mod Grouped
--- modules in their regions, with the place of each name
+-- modules in their regions
 pub mod PlacedModules
 -- what the lines accepted so far stand for
 pub mod Admissions

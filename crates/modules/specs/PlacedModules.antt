@@ -1,10 +1,5 @@
--- Modules in their regions, with the place of each name.
-use Rattle.std.specs.Prelude.{◌≡◌, ℕ, List, All}
-use Rattle.std.specs.List.{position_from}
-use Rattle.std.specs.BTreeMap.{get_by}
-use Rattle.std.specs.Cmp.Lexicographic.{slice_cmp}
-use Rattle.std.specs.Ordering.{nat_cmp}
-use Rattle.std.specs.Str.{bytes_eq}
+-- Modules in their regions.
+use Rattle.std.specs.Prelude.{◌≡◌, All}
 use Rattle.modules.specs.Accepted.{Accepted, accepted_with, names_of, taken_regions}
 use Rattle.modules.specs.Kept.{AreDistinctNames}
 use Rattle.modules.specs.Placed.{IsPlaced}
@@ -14,12 +9,9 @@ use Rattle.modules.specs.declared.placed_modules.PlacedModules.TheInside.{Inside
 abbrev pub placed_modules_view : Inside → Accepted
 placed_modules_view p = accepted_with p.built_in.items p.modules.items
 
--- each name is found at its first place
-abbrev pub HasPlaces : Inside → Type 0
-HasPlaces p =
-    (name : List ℕ)
-    → get_by (λ k. slice_cmp nat_cmp name k.now) p.places
-    ≡ position_from (bytes_eq name) 0 (names_of p.modules.items)
+-- their names are those that are found
+abbrev pub AreFound : Inside → Type 0
+AreFound p = names_of p.modules.items ≡ p.names
 
 -- each module has a region of its core, all regions have addresses and lie apart, and no two
 -- modules have one name

@@ -35,11 +35,15 @@ pub(crate) trait Addressed {
 /// Among how many of its bucket the first above an address mostly is.
 const MOST_IN_BUCKET: usize = 4;
 
-/// How many of the next `N` entries from `from` on are at or below `addr`; none if fewer are left.
+/// The place of the first from a place on that is above the address, if it is one of the next `N`.
 ///
-/// They are counted and not sought, since a processor that guesses wrongly where a search ends
-/// loses what it has begun of the next.
-fn count_next<T: Addressed, const N: usize>(listed: &[T], from: usize, addr: u64) -> Option<usize> {
+/// Those at or below the address are counted and not sought, since a processor that guesses wrongly
+/// where a search ends loses what it has begun of the next.
+pub(crate) fn place_near<T: Addressed, const N: usize>(
+    listed: &[T],
+    from: usize,
+    addr: u64,
+) -> Option<usize> {
     if listed.len() < N || from > listed.len() - N {
         return None;
     }
@@ -47,18 +51,10 @@ fn count_next<T: Addressed, const N: usize>(listed: &[T], from: usize, addr: u64
     for it in &listed[from..from + N] {
         count = count.wrapping_add(usize::from(it.addr() <= addr));
     }
-    Some(count)
-}
-
-/// The place of the first from a place on that is above the address, if it is one of the next `N`.
-pub(crate) fn place_near<T: Addressed, const N: usize>(
-    listed: &[T],
-    from: usize,
-    addr: u64,
-) -> Option<usize> {
-    match count_next::<T, N>(listed, from, addr) {
-        Some(count) if count < N => Some(from.wrapping_add(count)),
-        _ => None,
+    if count < N {
+        Some(from.wrapping_add(count))
+    } else {
+        None
     }
 }
 
@@ -155,10 +151,10 @@ impl Buckets {
 
     /// How many lie below a bucket.
     pub(crate) fn below(&self, bucket: usize) -> usize {
-        match self.below.get(bucket).or(self.below.last()) {
-            Some(count) => *count as usize,
-            None => 0,
-        }
+        self.below
+            .get(bucket)
+            .or(self.below.last())
+            .map_or(0, |count| *count as usize)
     }
 
     /// How many lie below each.
@@ -217,13 +213,21 @@ pub(crate) fn is_first<T: Addressed>(listed: &[T], place: usize, addr: u64) -> b
 }
 
 /// How many entries of a list by rising address are at or below an address, by a binary search.
+pub(crate) fn split_of<T: Addressed>(listed: &[T], addr: u64) -> usize
+    requires { IsNonDecreasingBy T.addr_of listed.now }
+    ensures { IsSplitBy T.addr_of listed.now addr result }
+{
+    listed.partition_point(|it| it.addr() <= addr)
+}
+
+/// The same, apart from the code that mostly needs no search.
 #[cold]
 #[inline(never)]
 fn seek_split<T: Addressed>(listed: &[T], addr: u64) -> usize
     requires { IsNonDecreasingBy T.addr_of listed.now }
     ensures { IsSplitBy T.addr_of listed.now addr result }
 {
-    listed.partition_point(|it| it.addr() <= addr)
+    split_of(listed, addr)
 }
 
 /// How many entries of a list by rising address are at or below an address. `near` is tried first.

@@ -1,13 +1,13 @@
 //! How a catalog is built, step by step.
 
-ghost use Rattle.std.specs.Prelude.{◌≡◌, ◌+◌, ◌-◌, ◌^◌, ◌<◌, ◌≤◌, true, All, length};
-ghost use Rattle.std.specs.Prelude.{IfOk, count_by};
-ghost use Rattle.std.specs.List.{flat_map};
+ghost use Rattle.std.specs.Prelude.{◌≡◌, ◌+◌, ◌-◌, ◌^◌, ◌<◌, ◌≤◌, true, [], All, length};
+ghost use Rattle.std.specs.Prelude.{IfOk, count_by, sum_by};
 ghost use Rattle.std.specs.Option.{option_copied};
 ghost use Rattle.modules.specs.Accepted.{Accepted, accepted_of, taken_regions};
-ghost use Rattle.modules.specs.Admissions.{admission_view, module_counts};
+ghost use Rattle.modules.specs.Admissions.{admission_view};
 ghost use Rattle.modules.specs.Building.{AreModules, built_in_with};
-ghost use Rattle.modules.specs.Catalogs.{catalog_of, catalog_with, counts_of, kept_counts};
+ghost use Rattle.modules.specs.Catalogs.{catalog_of, catalog_with, counts_of, counts_with};
+ghost use Rattle.modules.specs.Catalogs.{kept_counts};
 ghost use Rattle.modules.specs.FromSymbols.{IsFromSymbols};
 ghost use Rattle.modules.specs.Kept.{is_used};
 ghost use Rattle.modules.specs.Lines.{fits, kernel_regions, region_fits};
@@ -21,7 +21,6 @@ use crate::from_symbols::modules_of;
 use crate::gathering::gather;
 use crate::lines::{KernelBounds, ModuleLine, RegionLine};
 use crate::module::Module;
-use crate::names::by_name;
 use crate::placed_modules::PlacedModules;
 use crate::placing::{Placed, RegionLines};
 use crate::regions::Region;
@@ -69,8 +68,8 @@ fn modules_from<'a>(
 
 /// How many regions the modules have.
 fn regions_in(modules: &[Module]) -> usize
-    requires { length (flat_map (λ m. m.regions) modules.now) < 2 ^ 64 }
-    ensures { result ≡ length (flat_map (λ m. m.regions) modules.now) }
+    requires { sum_by (λ m. length m.regions) modules.now < 2 ^ 64 }
+    ensures { result ≡ sum_by (λ m. length m.regions) modules.now }
 {
     let mut count = 0;
     for module in modules {
@@ -79,8 +78,20 @@ fn regions_in(modules: &[Module]) -> usize
     count
 }
 
-/// Puts each symbol where it is kept, and indexes symbols, where it pays, and names. Counts the
-/// modules, their regions and the symbols.
+/// How many symbols the modules have, after those of the kernel itself.
+fn symbols_in(of_kernel: usize, modules: &[Module]) -> usize
+    requires { of_kernel + sum_by (λ m. length m.symbols) modules.now < 2 ^ 64 }
+    ensures { result ≡ of_kernel + sum_by (λ m. length m.symbols) modules.now }
+{
+    let mut count = of_kernel;
+    for module in modules {
+        count += module.symbols().len();
+    }
+    count
+}
+
+/// Puts each symbol where it is kept, and indexes symbols, where it pays. Counts the modules, their
+/// regions and the symbols.
 fn catalog_with<'a>(
     alloc: Global,
     placed: PlacedModules<'a>,
@@ -92,26 +103,28 @@ fn catalog_with<'a>(
     ensures built { IfOk result (λ r. r.0 ≡ catalog_with placed.entry symbols.entry) }
     ensures counted { IfOk result (λ r. r.1 ≡ kept_counts placed.entry symbols.entry) }
 {
+    let listed = symbols.len() as u64;
     let gathered = gather(alloc, &placed, symbols)?;
     let of_kernel = placed.built_in.len();
+    let first = gathered.built_in.len();
     let built_in = built_in_module(alloc, placed.built_in, gathered.built_in, asked)?;
     let modules = modules_from(alloc, placed.modules, gathered.modules, asked)?;
-    let by_name = by_name(alloc, modules.as_slice())?;
     let regions = regions_in(modules.as_slice());
+    let kept = symbols_in(first, modules.as_slice()) as u64;
     let counts = BuildCounts {
         modules: modules.len() as u64,
         double: 0,
         overlap: 0,
         regions: regions as u64,
         stray_regions: 0,
-        symbols: gathered.kept,
-        stray: gathered.stray,
+        symbols: kept,
+        stray: listed - kept,
     };
     let catalog = Catalog {
         regions: of_kernel + regions,
         built_in,
         modules,
-        by_name,
+        names: placed.names,
     };
     Ok((catalog, counts))
 }
@@ -135,8 +148,9 @@ fn used_in(accepted: &PlacedModules, regions: &RegionLines) -> usize
 }
 
 /// How many lines of modules and of regions went where. No lines of symbols are counted yet.
+#[tactic(auto, using(crate::proofs::CountLemmas::either_counted))]
 fn module_counts(admission: &Admission, regions: &RegionLines) -> BuildCounts
-    ensures { result ≡ module_counts (admission_view admission.now) regions.now }
+    ensures { result ≡ counts_with (admission_view admission.now) regions.now [] }
 {
     let used = used_in(&admission.accepted, regions) as u64;
     BuildCounts {
@@ -166,7 +180,7 @@ fn accept_lines<'a>(
         ≡ accepted_of (kernel_regions (option_copied names.entry) symbols.now) regions.now
         modules.now) }
     ensures counted { IfOk result
-        (λ r. r.1 ≡ module_counts (admission_view r.0) regions.now) }
+        (λ r. r.1 ≡ counts_with (admission_view r.0) regions.now []) }
     ensures sound { IfOk result (λ r. AreSoundModules r.0.accepted) }
     ensures few { IfOk result (λ r. length (taken_regions r.0.accepted) < 2 ^ 64) }
 {

@@ -19,7 +19,7 @@ use crate::build::{assemble, assemble_symbols};
 use crate::lines::{KernelBounds, ModuleLine, RegionLine};
 use crate::loads::{inserting, is_inserting};
 use crate::module::Module;
-use crate::names::place_of;
+use crate::names::Names;
 use crate::placing::RegionLines;
 use crate::symbol_lines::SymbolLines;
 use order_laws::Refusal;
@@ -87,7 +87,7 @@ pub struct Held {
 pub struct Catalog<'a> {
     pub(crate) built_in: Option<Module<'a>>,
     pub(crate) modules: Vec<Module<'a>>,
-    pub(crate) by_name: Vec<usize>,
+    pub(crate) names: Names<'a>,
     /// How many regions all of them have.
     pub(crate) regions: usize,
 }
@@ -199,7 +199,7 @@ impl<'a> Catalog<'a> {
                 None
             };
         }
-        let place = place_of(self.modules.as_slice(), self.by_name.as_slice(), name)?;
+        let place = self.names.place_of(name)?;
         Some(place as u64 + 1)
     }
 

@@ -36,6 +36,7 @@ struct LastFound<'c, 'a> {
 }
 
 /// The module of the region that an address lies in, if there is one.
+#[tactic(auto, using(crate::proofs::AgainLemmas::item_again))]
 #[inline(always)]
 fn owner_of<'c, 'a>(
     catalog: &'c IndexedCatalog<'a>,

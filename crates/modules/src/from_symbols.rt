@@ -26,7 +26,7 @@ ghost use Rattle.order_laws.specs.declared.items.Item.{Item};
 
 use crate::line_marks::marks_of;
 use crate::marks::{Mark, region_at, regions_of_marks};
-use crate::module_numbers::ModuleNumbers;
+use crate::names::Names;
 use crate::placing::Placed;
 use crate::regions::Region;
 use crate::symbol_lines::SymbolLines;
@@ -39,10 +39,7 @@ fn is_kept(items: &[Item], mark: Mark) -> bool
     requires { AreLaid items.now }
     ensures { result ≡ is_kept_mark items.now mark }
 {
-    match region_at(items, mark.addr) {
-        Some(item) => item.tag == mark.owner,
-        None => false,
-    }
+    region_at(items, mark.addr).is_some_and(|item| item.tag == mark.owner)
 }
 
 /// A list for each number below `count`, with nothing in it.
@@ -78,7 +75,7 @@ fn regions_by_number(
 /// that its later lines find none, and nothing is asked of them.
 fn modules_in_order<'a>(
     alloc: Global,
-    numbers: &ModuleNumbers<'a>,
+    numbers: &Names<'a>,
     marks: &[Mark],
     items: &[Item],
 ) -> Result<Vec<Placed<'a>>, AllocError>
@@ -114,25 +111,8 @@ pub(crate) fn modules_of<'a>(
         (λ v. length (flat_map (λ m. m.regions) v.items) < 2 ^ 64 - 2) }
 {
     let runs = lines.runs.as_slice();
-    let numbers = ModuleNumbers::of(alloc, runs, &lines.last)?;
+    let numbers = Names::of_runs(alloc, runs, &lines.last)?;
     let marks = marks_of(alloc, kernel, runs, &lines.last, &numbers)?;
     let items = regions_of_marks(alloc, Vec::from_slice(alloc, marks.as_slice())?)?;
     modules_in_order(alloc, &numbers, marks.as_slice(), items.as_slice())
 }
-
-/// The marks of a module's number say whose an address is as the lines do.
-fn marks_stand_for_lines()
-    ensures { (kernel : List (ℕ × ℕ)) (names : List (List ℕ)) (lines : List ListedSymbol) (n : ℕ)
-        (name : List ℕ) → HaveFirstLines kernel lines → n ≢ 0 → number_in names name ≡ n
-        → StandsFor (marks_of kernel names lines) (posts kernel lines) n name }
-{}
-
-/// The modules of the kept numbers, in the regions of the marks, are those of the lines.
-fn marks_give_the_modules()
-    ensures { (bounds : Option BoundNames) (lines : List ListedSymbol) (names : List (List ℕ))
-        (items : List Item) → let kernel = kernel_regions bounds lines in
-        let marks = marks_of kernel names lines in
-        AreNamed names lines → AreRegions marks items
-        → IsFromSymbols bounds lines
-        (accepted_with kernel (modules_numbered names items (kept_numbers items marks))) }
-{}

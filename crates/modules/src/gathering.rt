@@ -13,12 +13,11 @@
 //! The strays are taken out of the list of a run, and the first list of a module becomes the
 //! module's own; so no symbol is copied if the lines of each module lie side by side.
 
-ghost use Rattle.std.specs.Prelude.{◌≡◌, ◌+◌, ◌<◌, ◌^◌, ◌++◌, ◌∷◌, [], IfOk, OnOk, filter, length};
-ghost use Rattle.std.specs.Prelude.{vec_len};
+ghost use Rattle.std.specs.Prelude.{◌≡◌, ◌++◌, ◌∷◌, [], IfOk, OnOk, filter, length};
 ghost use Rattle.std.specs.Option.{option_copied};
 ghost use Rattle.modules.specs.Accepted.{names_of};
 ghost use Rattle.modules.specs.Kept.{AreDistinctNames};
-ghost use Rattle.modules.specs.Gathering.{owner_for, lies_for, CountsStay, HasRoom, Keeps};
+ghost use Rattle.modules.specs.Gathering.{owner_for, lies_for, HasRoom, Keeps};
 ghost use Rattle.modules.specs.Gathering.{KeepsRun, IsEmptyFor, Gathers};
 ghost use Rattle.modules.specs.Runs.{lines_of_all};
 
@@ -39,17 +38,13 @@ enum Owner {
     Nobody,
 }
 
-/// The symbols kept so far, in the order listed, and how many lines were gone through.
+/// The symbols kept so far, in the order listed.
 #[derive(Drop)]
 pub(crate) struct Gathered<'a> {
     /// The symbols of the kernel itself.
     pub(crate) built_in: Vec<Symbol<'a>>,
     /// The symbols of the accepted modules, by place.
     pub(crate) modules: Vec<Vec<Symbol<'a>>>,
-    /// How many lines were kept.
-    pub(crate) kept: u64,
-    /// How many were not.
-    pub(crate) stray: u64,
 }
 
 impl<'a> Gathered<'a> {
@@ -63,16 +58,13 @@ impl<'a> Gathered<'a> {
         Ok(Gathered {
             built_in: Vec::new(alloc),
             modules: lists,
-            kept: 0,
-            stray: 0,
         })
     }
 
     /// Puts symbols after the others of their owner.
     fn put(&mut self, owner: Owner, symbols: Vec<Symbol<'a>>) -> Result<(), AllocError>
         requires room { HasRoom self.old owner }
-        ensures lists { OnOk result (Keeps owner symbols.entry.items self.old self.new) }
-        ensures counts { OnOk result (CountsStay self.old self.new) }
+        ensures { OnOk result (Keeps owner symbols.entry.items self.old self.new) }
     {
         match owner {
             Owner::BuiltIn => join(&mut self.built_in, symbols),
@@ -86,16 +78,11 @@ impl<'a> Gathered<'a> {
 
     /// Goes through the lines of a run.
     fn keep_run(&mut self, placed: &PlacedModules, run: Run<'a>) -> Result<(), AllocError>
-        requires lists { length self.old.modules.items ≡ length placed.now.modules }
-        requires counts { self.old.kept + self.old.stray + vec_len run.symbols < 2 ^ 64 }
+        requires { length self.old.modules.items ≡ length placed.now.modules }
         ensures { OnOk result (KeepsRun placed.now run.entry self.old self.new) }
     {
         let owner = owner_of(placed, run.module);
-        let listed = run.symbols.len();
-        let symbols = without_strays(placed, owner, run.symbols);
-        self.kept += symbols.len() as u64;
-        self.stray += (listed - symbols.len()) as u64;
-        self.put(owner, symbols)
+        self.put(owner, without_strays(placed, owner, run.symbols))
     }
 }
 
@@ -158,8 +145,7 @@ fn gather_runs<'a>(
     runs: Vec<Run<'a>>,
     last: Run<'a>,
 ) -> Result<Gathered<'a>, AllocError>
-    requires distinct { AreDistinctNames (names_of placed.now.modules) }
-    requires few { length (lines_of_all (runs.items ++ last ∷ [])) < 2 ^ 64 }
+    requires { AreDistinctNames (names_of placed.now.modules) }
     ensures { IfOk result
         (Gathers placed.now (lines_of_all (runs.entry.items ++ last.entry ∷ []))) }
 {
@@ -177,7 +163,7 @@ pub(crate) fn gather<'a>(
     placed: &PlacedModules,
     symbols: SymbolLines<'a>,
 ) -> Result<Gathered<'a>, AllocError>
-    requires distinct { AreDistinctNames (names_of placed.now.modules) }
+    requires { AreDistinctNames (names_of placed.now.modules) }
     ensures { IfOk result (Gathers placed.now symbols.entry) }
 {
     let SymbolLines { runs, last, .. } = symbols;

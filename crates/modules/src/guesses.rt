@@ -35,24 +35,6 @@ impl Guess {
     };
 }
 
-/// From which place on an address is to be sought in a module, if there is one.
-#[inline(always)]
-fn start_in(module: Option<&Module>, addr: u64) -> usize {
-    match module {
-        Some(module) => module.start_of(addr),
-        None => 0,
-    }
-}
-
-/// The place that the search from a place on comes to.
-#[inline(always)]
-fn place_in(module: Option<&Module>, from: usize, addr: u64) -> usize {
-    match module {
-        Some(module) => module.place_from(from, addr),
-        None => 0,
-    }
-}
-
 /// The module of the region that was gone to last. The next address mostly lies in the same.
 #[derive(Drop)]
 struct LastModule<'c, 'a> {
@@ -85,7 +67,7 @@ fn begin_all(guesses: &mut [Guess], catalog: &IndexedCatalog, addrs: &[u64]) {
     for (guess, addr) in guesses.iter_mut().zip(addrs) {
         let region = catalog.region_near(last.region, *addr);
         last.go_to(catalog, region);
-        let place = start_in(last.module, *addr);
+        let place = last.module.map_or(0, |module| module.start_of(*addr));
         *guess = Guess { region, place };
     }
 }
@@ -95,17 +77,19 @@ fn step_all(guesses: &mut [Guess], catalog: &IndexedCatalog, addrs: &[u64]) {
     let mut last = LastModule::first(catalog);
     for (guess, addr) in guesses.iter_mut().zip(addrs) {
         last.go_to(catalog, guess.region);
-        guess.place = place_in(last.module, guess.place, *addr);
+        let from = guess.place;
+        guess.place = last
+            .module
+            .map_or(0, |module| module.place_from(from, *addr));
     }
 }
 
 /// The guess of an address, whose region is tried first if another guess has it.
 fn guess_near(catalog: &IndexedCatalog, region: usize, addr: u64) -> Guess {
     let region = catalog.region_near(region, addr);
-    let place = match catalog.module_at(region) {
-        Some(module) => module.place_of(addr),
-        None => 0,
-    };
+    let place = catalog
+        .module_at(region)
+        .map_or(0, |module| module.place_of(addr));
     Guess { region, place }
 }
 

@@ -14,6 +14,7 @@ ghost use Rattle.modules.specs.Listed.{BoundNames, ListedModule, ListedRegion, L
 ghost use Rattle.modules.specs.Placed.{are_few, PlacedModule};
 
 /// Each line of each listing is counted once.
+#[tactic(auto, using(crate::proofs::CountLemmas::counted_once))]
 pub fn each_line_is_counted_once()
     ensures modules { (names : Option BoundNames) (modules : List ListedModule)
         (regions : List ListedRegion) (symbols : List ListedSymbol)
@@ -43,6 +44,7 @@ pub fn each_kept_line_is_in_one_module()
 
 /// So it is with the lines of symbols alone: each is counted once, and is the symbol of one module
 /// if it is kept.
+#[tactic(auto, using(crate::proofs::AloneLemmas::alone_counted))]
 pub fn each_line_of_symbols_alone_is_counted_once()
     ensures counted { (a : Accepted) (symbols : List ListedSymbol)
         → let n = kept_counts a symbols in

@@ -19,7 +19,6 @@ pub mod lines;
 mod loads;
 mod marks;
 pub mod module;
-mod module_numbers;
 mod names;
 mod placed_modules;
 mod placing;

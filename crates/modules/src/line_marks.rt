@@ -16,7 +16,7 @@ ghost use Rattle.modules.specs.LineMarks.{symbol_marks};
 ghost use Rattle.modules.specs.Runs.{lines_of_all, lines_of_run};
 
 use crate::marks::Mark;
-use crate::module_numbers::ModuleNumbers;
+use crate::names::Names;
 use crate::placing::lies_in_any;
 use crate::regions::Region;
 use crate::symbol_lines::Run;
@@ -56,7 +56,7 @@ fn push_run(
     marks: &mut Vec<Mark>,
     kernel: &[Region],
     run: &Run,
-    numbers: &ModuleNumbers,
+    numbers: &Names,
 ) -> Result<(), AllocError>
     ensures { OnOk result (marks.new.items
         ≡ marks.old.items ++ line_marks kernel.now numbers.now (lines_of_run run.now)) }
@@ -76,14 +76,13 @@ fn push_run(
 fn kernel_marks(alloc: Global, kernel: &[Region]) -> Result<Vec<Mark>, AllocError>
     ensures { IfOk result (λ v. v.items ≡ kernel_marks kernel.now) }
 {
-    let mut marks = Vec::new(alloc);
-    for region in kernel {
-        marks.push(Mark {
+    kernel
+        .iter()
+        .map(|region| Mark {
             addr: region.start(),
             owner: 0,
-        })?;
-    }
-    Ok(marks)
+        })
+        .collect(alloc)
 }
 
 /// The marks of the kernel itself, and then of the lines of modules as they are listed.
@@ -93,7 +92,7 @@ pub(crate) fn marks_of(
     kernel: &[Region],
     runs: &[Run],
     last: &Run,
-    numbers: &ModuleNumbers,
+    numbers: &Names,
 ) -> Result<Vec<Mark>, AllocError>
     ensures { IfOk result (λ v. v.items
         ≡ marks_of kernel.now numbers.now (lines_of_all (runs.now ++ last.now ∷ []))) }

@@ -61,6 +61,7 @@ pub(crate) fn inserting(alloc: Global, regions: &[Region], number: u64) -> Resul
 
 /// The first addresses of the core regions, if `core` asks for them, and of the init regions,
 /// if `init` does.
+#[tactic(auto, using(crate::proofs::ErasingLemmas::wanted_more, crate::proofs::ErasingLemmas::other_more))]
 fn starts_of(
     alloc: Global,
     regions: &[Region],
@@ -96,18 +97,9 @@ fn only_start(regions: &[Region], parts: &[Part], core: bool, init: bool) -> Opt
     if count == 1 { Some(last) } else { None }
 }
 
-/// The update that takes out the items of these first words.
-fn erasing_words(alloc: Global, starts: &[u64]) -> Result<Update, Refusal>
-    ensures { GivesOrLacksMemory (Ok (update_of starts.now [])) result }
-{
-    if let [start] = starts {
-        return Ok(Update::Erase(*start));
-    }
-    Ok(Update::batch(alloc, starts, &[])?)
-}
-
 /// The update that takes out the core regions, if `core` asks for them, and the init regions,
 /// if `init` does.
+#[tactic(auto, using(crate::proofs::LoadLemmas::erase_batch))]
 pub(crate) fn erasing(
     alloc: Global,
     regions: &[Region],
@@ -123,7 +115,7 @@ pub(crate) fn erasing(
         return Ok(Update::Erase(start));
     }
     let starts = starts_of(alloc, regions, parts, core, init)?;
-    erasing_words(alloc, starts.as_slice())
+    Ok(Update::batch(alloc, starts.as_slice(), &[])?)
 }
 
 /// Whether the words are the first addresses of the regions that are asked for.

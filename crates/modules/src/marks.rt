@@ -23,6 +23,7 @@ ghost use Rattle.modules.specs.Owners.{is_in_page, reach};
 ghost use Rattle.modules.specs.declared.marks.Mark.{Mark};
 ghost use Rattle.order_laws.specs.declared.items.Item.{Item};
 
+use crate::buckets::split_of;
 use order_laws::Item;
 use std::alloc::{AllocError, Global};
 
@@ -147,21 +148,15 @@ pub(crate) fn regions_of_marks(alloc: Global, marks: Vec<Mark>) -> Result<Vec<It
 }
 
 /// The region that an address lies in, of regions by rising address.
+#[tactic(auto, using(crate::proofs::LaidLemmas::laid_search))]
 pub(crate) fn region_at(items: &[Item], addr: u64) -> Option<Item>
     requires { AreLaid items.now }
     ensures { result ≡ look half_open addr items.now }
 {
-    let split = items.partition_point(|item| item.a <= addr);
+    let split = split_of(items, addr);
     if split == 0 {
         return None;
     }
     let item = items[split - 1];
     if addr < item.b { Some(item) } else { None }
 }
-
-/// The regions of the marks of a module's lines are that module's regions.
-pub(crate) fn marks_give_a_module_its_regions()
-    ensures { (marks : List Mark) (items : List Item) (lines : List ListedSymbol) (n : ℕ)
-        (name : List ℕ) → AreRegions marks items → StandsFor marks lines n name
-        → HasItsRegions lines (numbered_module n name items) }
-{}

@@ -95,12 +95,6 @@ fn init_start(regions: &[Region], parts: &[Part]) -> Option<u64>
     start_at(regions, place)
 }
 
-fn has_init(parts: &[Part]) -> bool
-    ensures { result ≡ list_any is_init parts.now }
-{
-    parts.iter().any(|part| part.is_init())
-}
-
 /// The buckets of symbols by rising address, if they pay for what is asked.
 fn buckets_of(alloc: Global, symbols: &[Symbol], asked: Asked<'_>) -> Result<Buckets, AllocError> {
     if asked.pays_buckets(symbols.len()) {
@@ -225,7 +219,7 @@ impl<'a> Module<'a> {
     pub(crate) fn has_init(&self) -> bool
         ensures { result ≡ list_any is_init self.now.parts }
     {
-        has_init(self.parts.as_slice())
+        self.parts.iter().any(|part| part.is_init())
     }
 
     /// The symbols that lie in the regions, in the order listed, for callers that list a catalog.
@@ -236,15 +230,8 @@ impl<'a> Module<'a> {
     }
 
     /// The symbol of the greatest address that is not above `addr`, the first listed among equal
-    /// addresses; and the least address of a symbol above `addr`.
-    pub fn around(&self, addr: u64) -> (Option<&Symbol<'a>>, Option<u64>)
-        ensures below { option_copied result.0 ≡ symbol_below self.now.symbols addr }
-        ensures above { result.1 ≡ address_above self.now.symbols addr }
-    {
-        self.around_near(self.place_of(addr), addr)
-    }
-
-    /// The same as `around`, tried first at a place by rising address.
+    /// addresses; and the least address of a symbol above `addr`. A place by rising address is tried
+    /// first.
     #[inline(always)]
     pub(crate) fn around_near(&self, near: usize, addr: u64) -> (Option<&Symbol<'a>>, Option<u64>)
         ensures below { option_copied result.0 ≡ symbol_below self.now.symbols addr }

@@ -1,71 +1,135 @@
-//! Modules by name.
+//! Names that are found: those of the modules of a catalog, and of the modules that a listing of
+//! symbols has lines of.
+//!
+//! In a listing of symbols the modules are numbered from 1 on by their first lines; 0 is the kernel
+//! itself:
+//!
+//! ```text
+//! runs:     none   "ext4"   none   "nfs"   "ext4"
+//! numbers:  0      1        0      2       1
+//! ```
 
-ghost use Rattle.std.specs.Prelude.{◌≡◌, ◌<◌, [], length, slice_index_or, IfOk, IfSome};
-ghost use Rattle.std.specs.List.{position_from, range_with_len};
-ghost use Rattle.std.specs.Cmp.Lexicographic.{slice_cmp};
-ghost use Rattle.std.specs.Ordering.{nat_cmp};
+ghost use Rattle.std.specs.Prelude.{◌≡◌, ◌<◌, ◌≤◌, ◌+◌, ◌^◌, ◌++◌, ◌∷◌, [], false, length, IfOk};
+ghost use Rattle.std.specs.Prelude.{IfSome, OnErr, OnOk};
+ghost use Rattle.std.specs.List.{list_any, position_from};
+ghost use Rattle.std.specs.Option.{option_copied};
 ghost use Rattle.std.specs.Str.{bytes_eq};
-ghost use Rattle.modules.specs.Kept.{AreDistinctNames};
-ghost use Rattle.modules.specs.Names.{names_in, IsNameIndex};
+ghost use Rattle.modules.specs.LineMarks.{AreNamed, name_of, number_for, with_owner};
+ghost use Rattle.modules.specs.Runs.{lines_of_all};
 
-use crate::module::Module;
+use crate::symbol_lines::Run;
 use std::alloc::{AllocError, Global};
-use std::cmp::Ordering;
+use std::collections::BTreeMap;
+use std::marker::Model;
 
-/// The name of the module at a place, or no bytes if there is none.
-fn name_at<'a>(modules: &[Module<'a>], place: usize) -> &'a [u8]
-    ensures { result.now ≡ slice_index_or (names_in modules.now) place [] }
-{
-    match modules.get(place) {
-        Some(module) => module.name(),
-        None => &[],
+/// Names in their order, and the place of each. A contract sees the list of the names.
+#[derive(Drop)]
+pub(crate) struct Names<'a> {
+    listed: Vec<&'a [u8]>,
+    places: BTreeMap<&'a [u8], usize>,
+}
+
+impl<'a> Model for Names<'a> {
+    ghost use Rattle.std.specs.Prelude.{List, ℕ, map};
+    ghost use Rattle.modules.specs.FoundNames.{names_at, HasPlaces};
+
+    ghost Value = { List (List ℕ) };
+
+    ghost view = { λ n. names_at n.listed.items };
+
+    ghost invariant = { HasPlaces };
+}
+
+impl<'a> Names<'a> {
+    /// No names.
+    pub(crate) fn new(alloc: Global) -> Names<'a>
+        ensures { result ≡ [] }
+    {
+        Names {
+            listed: Vec::new(alloc),
+            places: BTreeMap::new(alloc),
+        }
     }
-}
 
-/// How the name at one place compares to that at another.
-fn compare_places(modules: &[Module], x: usize, y: usize) -> Ordering
-    ensures { result ≡ slice_cmp nat_cmp (slice_index_or (names_in modules.now) x [])
-        (slice_index_or (names_in modules.now) y []) }
-{
-    name_at(modules, x).cmp(name_at(modules, y))
-}
-
-/// How the name at a place compares to this one.
-fn compare_at(modules: &[Module], place: usize, name: &[u8]) -> Ordering
-    ensures { result ≡ slice_cmp nat_cmp (slice_index_or (names_in modules.now) place []) name.now }
-{
-    name_at(modules, place).cmp(name)
-}
-
-/// The first `count` places: 0, 1 and on.
-fn places(alloc: Global, count: usize) -> Result<Vec<usize>, AllocError>
-    ensures { IfOk result (λ v. v.items ≡ range_with_len 0 count) }
-{
-    let mut places = Vec::with_capacity(alloc, count)?;
-    for place in 0..count {
-        places.push(place)?;
+    /// The names of the modules that these lines are of.
+    pub(crate) fn of_runs(
+        alloc: Global,
+        runs: &[Run<'a>],
+        last: &Run<'a>,
+    ) -> Result<Names<'a>, AllocError>
+        ensures { IfOk result (λ n. AreNamed n (lines_of_all (runs.now ++ last.now ∷ []))) }
+    {
+        let mut names = Names::new(alloc);
+        for run in runs {
+            names.take(run.module)?;
+        }
+        names.take(last.module)?;
+        Ok(names)
     }
-    Ok(places)
-}
 
-/// The places of the modules in the order of their names.
-pub(crate) fn by_name(alloc: Global, modules: &[Module]) -> Result<Vec<usize>, AllocError>
-    ensures { IfOk result (λ v. IsNameIndex (names_in modules.now) v.items) }
-{
-    let mut places = places(alloc, modules.len())?;
-    places.sort_by(|x, y| compare_places(modules, *x, *y))?;
-    Ok(places)
-}
+    /// The place of a name, if it is among these.
+    pub(crate) fn place_of(&self, name: &[u8]) -> Option<usize>
+        ensures place { result ≡ position_from (bytes_eq name.now) 0 self.now }
+        ensures within { IfSome result (λ place. place + 1 < 2 ^ 64) }
+    {
+        self.places.get(name).copied()
+    }
 
-/// The place of the module of this name.
-pub(crate) fn place_of(modules: &[Module], by_name: &[usize], name: &[u8]) -> Option<usize>
-    requires indexed { IsNameIndex (names_in modules.now) by_name.now }
-    requires distinct { AreDistinctNames (names_in modules.now) }
-    ensures place { result ≡ position_from (bytes_eq name.now) 0 (names_in modules.now) }
-    ensures within { IfSome result (λ place. place < length modules.now) }
-{
-    match by_name.binary_search_by(|place| compare_at(modules, *place, name)) {
-        Ok(at) => Some(by_name[at]),
-        Err(_) => None,
+    /// Whether a name is among these.
+    pub(crate) fn has(&self, name: &[u8]) -> bool
+        ensures { result ≡ list_any (bytes_eq name.now) self.now }
+    {
+        self.places.contains_key(name)
+    }
+
+    /// Puts a name, which is not among these, after the others. An error leaves these as they were.
+    pub(crate) fn push(&mut self, name: &'a [u8]) -> Result<(), AllocError>
+        requires { list_any (bytes_eq name.now) self.old ≡ false }
+        ensures pushed { OnOk result (self.new ≡ self.old ++ name.now ∷ []) }
+        ensures err { OnErr result (self.new ≡ self.old) }
+    {
+        self.listed.reserve(1)?;
+        self.places.insert(name, self.listed.len())?;
+        self.listed.push(name).unwrap();
+        Ok(())
+    }
+
+    /// Takes the name of the module of a run, if it is of a module and not among these.
+    fn take(&mut self, owner: Option<&'a [u8]>) -> Result<(), AllocError>
+        ensures { OnOk result (self.new ≡ with_owner self.old (option_copied owner.entry)) }
+    {
+        match owner {
+            Some(name) if !self.has(name) => self.push(name),
+            _ => Ok(()),
+        }
+    }
+
+    /// How many numbers there are, the kernel's own among them.
+    pub(crate) fn count(&self) -> usize
+        ensures { result ≡ length self.now + 1 }
+    {
+        self.listed.len() + 1
+    }
+
+    /// The number of the module of a run: 0 for the kernel itself.
+    pub(crate) fn number_of(&self, owner: Option<&[u8]>) -> u64
+        ensures { result ≡ number_for self.now (option_copied owner.entry) }
+    {
+        let Some(name) = owner else {
+            return 0;
+        };
+        match self.place_of(name) {
+            Some(place) => place as u64 + 1,
+            None => 0,
+        }
+    }
+
+    /// The name of the module of a number, from 1 on.
+    pub(crate) fn name_of(&self, number: u64) -> &'a [u8]
+        requires some { 0 < number }
+        requires within { number ≤ length self.now }
+        ensures { result.now ≡ name_of self.now number }
+    {
+        self.listed[(number - 1) as usize]
     }
 }

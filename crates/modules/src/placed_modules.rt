@@ -6,10 +6,10 @@ ghost use Rattle.std.specs.Str.{bytes_eq};
 ghost use Rattle.modules.specs.Accepted.{accepted_with, names_of, none_yet};
 ghost use Rattle.modules.specs.Kept.{AreDistinctNames};
 
+use crate::names::Names;
 use crate::placing::Placed;
 use crate::regions::Region;
 use std::alloc::{AllocError, Global};
-use std::collections::BTreeMap;
 use std::marker::Model;
 
 /// The regions of the kernel itself, and modules in theirs, which are found by name. A
@@ -20,8 +20,8 @@ pub(crate) struct PlacedModules<'a> {
     pub(crate) built_in: Vec<Region>,
     /// The modules in their order.
     pub(crate) modules: Vec<Placed<'a>>,
-    /// The place of each name among them.
-    places: BTreeMap<&'a [u8], usize>,
+    /// Their names.
+    pub(crate) names: Names<'a>,
 }
 
 impl<'a> Model for PlacedModules<'a> {
@@ -29,11 +29,11 @@ impl<'a> Model for PlacedModules<'a> {
 
     ghost Value = { Accepted };
 
-    ghost use Rattle.modules.specs.PlacedModules.{placed_modules_view, HasPlaces};
+    ghost use Rattle.modules.specs.PlacedModules.{placed_modules_view, AreFound};
 
     ghost view = { placed_modules_view };
 
-    ghost invariant = { HasPlaces };
+    ghost invariant = { AreFound };
 }
 
 impl<'a> PlacedModules<'a> {
@@ -44,7 +44,7 @@ impl<'a> PlacedModules<'a> {
         PlacedModules {
             built_in,
             modules: Vec::new(alloc),
-            places: BTreeMap::new(alloc),
+            names: Names::new(alloc),
         }
     }
 
@@ -75,14 +75,14 @@ impl<'a> PlacedModules<'a> {
     pub(crate) fn place_of(&self, name: &[u8]) -> Option<usize>
         ensures { result ≡ position_from (bytes_eq name.now) 0 (names_of self.now.modules) }
     {
-        self.places.get(name).copied()
+        self.names.place_of(name)
     }
 
     /// Whether a module has this name.
     pub(crate) fn has(&self, name: &[u8]) -> bool
         ensures { result ≡ list_any (bytes_eq name.now) (names_of self.now.modules) }
     {
-        self.places.contains_key(name)
+        self.names.has(name)
     }
 
     /// Puts a module, whose name none has, after the others. An error leaves these as they were.
@@ -93,7 +93,7 @@ impl<'a> PlacedModules<'a> {
         ensures err { OnErr result (self.new ≡ self.old) }
     {
         self.modules.reserve(1)?;
-        self.places.insert(added.name, self.modules.len())?;
+        self.names.push(added.name)?;
         self.modules.push(added).unwrap();
         Ok(())
     }

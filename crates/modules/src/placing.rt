@@ -17,6 +17,7 @@ ghost use Rattle.modules.specs.Placed.{are_few, has_core, lines_named, placed_li
 ghost use Rattle.modules.specs.Regions.{AreRising, lies_in_any};
 ghost use Rattle.modules.specs.declared.lines.Part.TheVariants.{Core};
 
+use crate::buckets::split_of;
 use crate::by_name::{Named, all_named, sort_by_name};
 use crate::lines::{ModuleLine, Part, RegionLine};
 use crate::module::MOST_REGIONS;
@@ -53,11 +54,12 @@ impl<'a> Model for Placed<'a> {
 }
 
 /// Whether the address lies in one of the regions, which rise.
+#[tactic(auto, using(crate::proofs::RisingRegionLemmas::rising_search))]
 fn lies_in_rising(regions: &[Region], addr: u64) -> bool
     requires { AreRising regions.now }
     ensures { result ≡ lies_in_any regions.now addr }
 {
-    let split = regions.partition_point(|region| region.start() <= addr);
+    let split = split_of(regions, addr);
     split > 0 && regions[split - 1].holds(addr)
 }
 
@@ -68,12 +70,19 @@ pub(crate) fn lies_in_any(regions: &[Region], addr: u64) -> bool
     regions.iter().any(|region| region.holds(addr))
 }
 
+/// A part of the core for each region.
+fn core_parts(alloc: Global, regions: &[Region]) -> Result<Vec<Part>, AllocError>
+    ensures { IfOk result (λ v. v.items ≡ map (λ _. Core) regions.now) }
+{
+    regions.iter().map(|_| Part::Core).collect(alloc)
+}
+
 impl<'a> Placed<'a> {
     /// The kernel itself, in its regions.
     pub(crate) fn kernel(alloc: Global, regions: Vec<Region>) -> Result<Placed<'static>, AllocError>
         ensures { IfOk result (λ p. p ≡ kernel_at regions.items) }
     {
-        let parts = vec![in alloc; Part::Core; regions.len()]?;
+        let parts = core_parts(alloc, &regions)?;
         Ok(Placed {
             name: b"-",
             regions,
@@ -124,7 +133,7 @@ impl<'a> Placed<'a> {
           parts = map (λ _. Core) regions.items;
         }) }
     {
-        let parts = vec![in alloc; Part::Core; regions.len()]?;
+        let parts = core_parts(alloc, &regions)?;
         Ok(Placed {
             name,
             regions,
@@ -170,6 +179,7 @@ impl<'l, 'a> Named for &'l RegionLine<'a> {
 }
 
 /// The lines of this name, which lie side by side in the order of names.
+#[tactic(auto, using(crate::proofs::ByNameLemmas::named_at))]
 fn lines_in<'i, 'l, 'a>(index: &'i [&'l RegionLine<'a>], name: &[u8]) -> &'i [&'l RegionLine<'a>]
     requires { IsSortedBy (comes_first (λ l. l.now.name)) index.now }
     ensures { lines_at result.now ≡ lines_named name.now (lines_at index.now) }
@@ -197,7 +207,7 @@ fn any_core(lines: &[&RegionLine]) -> bool
 }
 
 /// Whether one of the lines is of a core region.
-#[tactic(auto, using(crate::proofs::GroupLemmas::core_at))]
+#[tactic(auto, using(crate::proofs::ByNameLemmas::any_mapped))]
 fn has_core(lines: &[&RegionLine]) -> bool
     ensures { result ≡ has_core (lines_at lines.now) }
 {

@@ -13,6 +13,7 @@
 //!
 //! Mostly they are in order then, as a sort sees by going over them once. Each step is a swap, and
 //! that the entries stay the same is all that contracts say.
+#![tactic(auto, using(crate::proofs::IndexLemmas::moved_on))]
 
 ghost use Rattle.std.specs.List.Sorted.{IsPermutation};
 
@@ -101,20 +102,14 @@ fn go_down(entries: &mut [IndexEntry], place: usize)
     }
 }
 
-fn all_go_down(entries: &mut [IndexEntry])
-    ensures { IsPermutation entries.old entries.new }
-{
-    for place in 1..entries.len() {
-        go_down(entries, place);
-    }
-}
-
 /// Brings the entries near their places. Returns their buckets.
 pub(crate) fn presort(alloc: Global, entries: &mut [IndexEntry]) -> Result<Buckets, AllocError>
     ensures { IsPermutation entries.old entries.new }
 {
     let mut filling = Filling::of(alloc, entries)?;
     distribute(entries, &mut filling);
-    all_go_down(entries);
+    for place in 1..entries.len() {
+        go_down(entries, place);
+    }
     Ok(filling.buckets)
 }

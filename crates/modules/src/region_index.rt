@@ -129,6 +129,7 @@ impl<'a> IndexedCatalog<'a> {
     }
 
     /// The same, tried first at a place by rising address.
+    #[tactic(auto, using(crate::proofs::RegionIndexLemmas::found_by_split))]
     pub(crate) fn find_near(&self, near: usize, addr: u64) -> Option<Item>
         ensures is { result ≡ item_of_address self.now addr }
         ensures holds { IfSome result (λ i. (i.a ≤ addr) × (addr < i.b)) }

@@ -4,6 +4,7 @@ ghost use Rattle.std.specs.Prelude.{◌≡◌, ◌<◌, ℕ, Bool, true, ◌&&�
 ghost use Rattle.std.specs.List.{list_all};
 ghost use Rattle.modules.specs.Regions.{holds, is_apart};
 
+use crate::buckets::Addressed;
 use std::alloc::{AllocError, Global};
 use std::collections::BTreeMap;
 use std::marker::Model;
@@ -63,6 +64,14 @@ impl Region {
         ensures { result ≡ is_apart self other }
     {
         self.end <= other.start || other.end <= self.start
+    }
+}
+
+impl Addressed for Region {
+    ghost addr_of = { λ r. r.0 };
+
+    fn addr(&self) -> u64 {
+        self.start
     }
 }
 

@@ -195,6 +195,7 @@ impl<'a> SymbolLines<'a> {
 }
 
 /// The address of the first line without a module that has this name, of lines in runs.
+#[tactic(auto, using(crate::proofs::RunLemmas::run_by_run))]
 fn first_in_runs(runs: &[Run], name: &[u8]) -> Option<u64>
     ensures { result ≡ first_address name.now (lines_of_all runs.now) }
 {
@@ -207,6 +208,7 @@ fn first_in_runs(runs: &[Run], name: &[u8]) -> Option<u64>
 }
 
 /// The address of the first line without a module that has this name.
+#[tactic(auto, using(crate::proofs::RunLemmas::first_in_last, crate::proofs::RunLemmas::first_in_front))]
 fn first_address(lines: &SymbolLines, name: &[u8]) -> Option<u64>
     ensures { result ≡ first_address name.now lines.now }
 {

@@ -16,14 +16,12 @@
 //! To order them costs as much as to go through the symbols some times. So if few addresses are
 //! asked of a module, it has no such copy, and its symbols are gone through for each.
 
-ghost use Rattle.std.specs.Prelude.{◌≡◌, ◌<◌, true, IfOk, List, Some, filter, length, map, nat_le};
-ghost use Rattle.std.specs.Prelude.{nat_lt, slice_get};
+ghost use Rattle.std.specs.Prelude.{◌≡◌, ◌<◌, ◌++◌, ◌∷◌, [], true, IfOk, List, length, map, slice_get};
 ghost use Rattle.std.specs.Option.{option_copied};
 ghost use Rattle.modules.specs.Around.{symbol_below, address_above};
 ghost use Rattle.modules.specs.Entries.{SymbolEntry};
 ghost use Rattle.modules.specs.Index.{index_entries_of, IsIndex, IsRising, IsFirstOf, IsFirstAt};
 ghost use Rattle.modules.specs.Index.{IsOrdered, symbol_of_entry};
-ghost use Rattle.modules.specs.Preferred.{highest_of, is_above, is_below, lowest_of, preferred};
 
 use crate::buckets::{Addressed, Buckets, address_at, is_first, split_at};
 use crate::presort::presort;
@@ -146,6 +144,7 @@ fn symbol_at<'s, 'a>(symbols: &'s [Symbol<'a>], place: usize) -> Option<&'s Symb
 }
 
 /// The symbols around an address, by copies of them in order.
+#[tactic(auto, using(crate::proofs::OrderedLemmas::around_ordered))]
 #[inline(always)]
 pub(crate) fn around_in_order<'s, 'a>(
     ordered: &'s [Symbol<'a>],
@@ -262,54 +261,38 @@ fn around_as_listed<'s, 'a>(
     (symbol_at(symbols, first), above)
 }
 
-/// The second symbol if it lies above the first, and else the first.
-fn higher<'s, 'a>(first: Option<&'s Symbol<'a>>, second: &'s Symbol<'a>) -> &'s Symbol<'a>
-    ensures { Some result.now ≡ preferred is_above (option_copied first.entry) second.now }
+/// The symbol below an address, if that of symbols is known and one more is listed.
+#[tactic(auto, using(crate::proofs::AnyOrderLemmas::one_more_below))]
+fn higher<'s, 'a>(
+    first: Option<&'s Symbol<'a>>,
+    second: &'s Symbol<'a>,
+    addr: u64,
+) -> Option<&'s Symbol<'a>>
+    ensures { (symbols : List SymbolEntry)
+        → option_copied first.entry ≡ symbol_below symbols addr
+        → option_copied result ≡ symbol_below (symbols ++ second.now ∷ []) addr }
 {
     match first {
-        Some(first) if second.addr <= first.addr => first,
-        _ => second,
+        _ if addr < second.addr => first,
+        Some(it) if second.addr <= it.addr => first,
+        _ => Some(second),
     }
 }
 
-/// The second symbol if it lies below the first, and else the first.
-fn lower<'s, 'a>(first: Option<&'s Symbol<'a>>, second: &'s Symbol<'a>) -> &'s Symbol<'a>
-    ensures { Some result.now ≡ preferred is_below (option_copied first.entry) second.now }
+/// The same of the least address above.
+#[tactic(auto, using(crate::proofs::AnyOrderLemmas::one_more_above))]
+fn lower(first: Option<u64>, second: &Symbol, addr: u64) -> Option<u64>
+    ensures { (symbols : List SymbolEntry) → first ≡ address_above symbols addr
+        → result ≡ address_above (symbols ++ second.now ∷ []) addr }
 {
     match first {
-        Some(first) if first.addr <= second.addr => first,
-        _ => second,
+        _ if second.addr <= addr => first,
+        Some(it) if it <= second.addr => first,
+        _ => Some(second.addr),
     }
-}
-
-/// The highest symbol that is not above an address, of symbols in any order.
-fn highest_up_to<'s, 'a>(symbols: &'s [Symbol<'a>], addr: u64) -> Option<&'s Symbol<'a>>
-    ensures { option_copied result ≡ highest_of (filter (λ s. nat_le s.addr addr) symbols.now) }
-{
-    let mut highest = None;
-    for symbol in symbols {
-        if symbol.addr <= addr {
-            highest = Some(higher(highest, symbol));
-        }
-    }
-    highest
-}
-
-/// The lowest symbol above an address, of symbols in any order.
-fn lowest_above<'s, 'a>(symbols: &'s [Symbol<'a>], addr: u64) -> Option<&'s Symbol<'a>>
-    ensures { option_copied result ≡ lowest_of (filter (λ s. nat_lt addr s.addr) symbols.now) }
-{
-    let mut lowest = None;
-    for symbol in symbols {
-        if addr < symbol.addr {
-            lowest = Some(lower(lowest, symbol));
-        }
-    }
-    lowest
 }
 
 /// The symbols around an address, in any order.
-#[tactic(auto, using(crate::proofs::PreferredLemmas::below_is_highest, crate::proofs::PreferredLemmas::above_is_lowest))]
 fn around_in_any_order<'s, 'a>(
     symbols: &'s [Symbol<'a>],
     addr: u64,
@@ -317,11 +300,13 @@ fn around_in_any_order<'s, 'a>(
     ensures below { option_copied result.0 ≡ symbol_below symbols.now addr }
     ensures above { result.1 ≡ address_above symbols.now addr }
 {
-    let above = lowest_above(symbols, addr);
-    (
-        highest_up_to(symbols, addr),
-        above.map(|symbol| symbol.addr),
-    )
+    let mut below = None;
+    let mut above = None;
+    for symbol in symbols {
+        below = higher(below, symbol, addr);
+        above = lower(above, symbol, addr);
+    }
+    (below, above)
 }
 
 /// The symbols around an address, which rise if that is said.

@@ -1,7 +1,8 @@
-use Rattle.modules.proofs.Words.{◌≡◌, ◌+◌, ◌<◌, List, Option, sym, ap, subst, ◌∙◌, length, map, arith, All, ◌++◌, option_to_list, flat_map, common_steps, nat_tests, length-append}
-use Rattle.modules.proofs.Definitions.{Accepted, AreModules, built_in_with, IsSoundCatalog, entry_for, ModuleEntry, Gathers, PlacedModule}
-use Rattle.modules.proofs.SoundnessLemmas.{count_of_regions, valid_kernel, IsSound-catalog_with}
-use Rattle.modules.proofs.MakingLemmas.{catalog_from, kept_from, modules_are, regions_made}
+use Rattle.modules.proofs.Words.{◌≡◌, ◌+◌, ◌<◌, List, Option, sym, ap, subst, ◌∙◌, length, map, sum_by, arith, All, ◌++◌, option_to_list, flat_map, common_steps, nat_tests, length-append}
+use Rattle.modules.proofs.Definitions.{Accepted, names_in, names_of, AreModules, built_in_with, IsSoundCatalog, entry_for, is_kept, ModuleEntry, PlacedModule}
+use Rattle.modules.proofs.SoundnessLemmas.{count_of_regions, module_names, valid_kernel, IsSound-catalog_with}
+use Rattle.modules.proofs.Lemmas.{count_by-le-length}
+use Rattle.modules.proofs.MakingLemmas.{catalog_from, kept_from, kept_made, modules_are, regions_made}
 use Rattle.modules.proofs.build.catalog_with.Goals as goal
 
 pub built_in_module-requires : goal.built_in_module-requires
@@ -13,18 +14,35 @@ pub modules_from-requires : goal.modules_from-requires
 modules_from-requires c = grind (arith)
 
 pub regions_in-regions-requires : goal.regions_in-regions-requires
-regions_in-regions-requires c = grind (arith, common_steps, nat_tests, length-append, regions_made, modules_are c.args.placed c.args.symbols c.in_ok-gathered.gathered c.in_ok-modules.modules.items)
+regions_in-regions-requires c =
+    let a : Accepted = c.args.placed in
+    let made : List ModuleEntry = c.in_ok-modules.modules.items in
+    let others = modules_are a _ c.args.symbols c.in_ok-gathered.gathered made c.placed.view_is c.in_ok-gathered.ensures c.in_ok-modules.ensures in
+    rw c.as_slice.ensures.value (omega (arith, regions_made a c.args.symbols made others, length-append a.built_in (flat_map (λ (m : PlacedModule). m.regions) a.modules), c.requires.few))
+
+pub symbols_in-kept-requires : goal.symbols_in-kept-requires
+symbols_in-kept-requires c =
+    let a : Accepted = c.args.placed in
+    let g = c.in_ok-gathered.gathered in
+    let made : List ModuleEntry = c.in_ok-modules.modules.items in
+    let others = modules_are a _ c.args.symbols g made c.placed.view_is c.in_ok-gathered.ensures c.in_ok-modules.ensures in
+    rw c.as_slice-2.ensures.value (omega (arith, kept_made a g c.args.symbols made c.requires.sound.distinct c.in_ok-gathered.ensures others, count_by-le-length (is_kept a) c.args.symbols, c.len-first.ensures, g.built_in.ok.0, c.len-listed.ensures))
+
+pub overflow_sub-counts : goal.overflow_sub-counts
+overflow_sub-counts c =
+    let a : Accepted = c.args.placed in
+    let g = c.in_ok-gathered.gathered in
+    let made : List ModuleEntry = c.in_ok-modules.modules.items in
+    let others = modules_are a _ c.args.symbols g made c.placed.view_is c.in_ok-gathered.ensures c.in_ok-modules.ensures in
+    omega (arith, rw c.as_slice-2.ensures.value at c.symbols_in-kept.ensures, kept_made a g c.args.symbols made c.requires.sound.distinct c.in_ok-gathered.ensures others, count_by-le-length (is_kept a) c.args.symbols, c.len-first.ensures, g.built_in.ok.0, c.len-listed.ensures)
 
 pub overflow_add-catalog : goal.overflow_add-catalog
 overflow_add-catalog c =
     let a : Accepted = c.args.placed in
-    let symbols = c.args.symbols in
-    let g = c.in_ok-gathered.gathered in
     let made : List ModuleEntry = c.in_ok-modules.modules.items in
-    let gathers : Gathers a symbols g = c.in_ok-gathered.ensures in
-    let others : made ≡ map (entry_for symbols) a.modules = modules_are a symbols g made gathers (subst (λ (x : Accepted). AreModules x.modules g.modules.items made) c.placed.view_is c.in_ok-modules.ensures) in
-    let total : length (flat_map (λ (m : ModuleEntry). m.regions) made) ≡ length (flat_map (λ (m : PlacedModule). m.regions) a.modules) = ap length (regions_made a symbols made others) in
-    grind (arith, common_steps, nat_tests, modules_are, regions_made)
+    let others = modules_are a _ c.args.symbols c.in_ok-gathered.gathered made c.placed.view_is c.in_ok-gathered.ensures c.in_ok-modules.ensures in
+    let kernel : c.len-of_kernel.result ≡ length a.built_in = c.len-of_kernel.ensures ∙ c.placed.inside.built_in.ok.0 ∙ ap (λ (x : Accepted). length x.built_in) c.placed.view_is in
+    omega (arith, kernel, rw c.as_slice.ensures.value at c.regions_in-regions.ensures, regions_made a c.args.symbols made others, length-append a.built_in (flat_map (λ (m : PlacedModule). m.regions) a.modules), c.requires.few)
 
 pub invariant_of-catalog : goal.invariant_of-catalog
 invariant_of-catalog c =
@@ -33,16 +51,15 @@ invariant_of-catalog c =
     let g = c.in_ok-gathered.gathered in
     let built_in = c.in_ok-built_in.built_in in
     let made : List ModuleEntry = c.in_ok-modules.modules.items in
-    let gathers : Gathers a symbols g = c.in_ok-gathered.ensures in
-    let others : made ≡ map (entry_for symbols) a.modules = modules_are a symbols g made gathers (subst (λ (x : Accepted). AreModules x.modules g.modules.items made) c.placed.view_is c.in_ok-modules.ensures) in
+    let others : made ≡ map (entry_for symbols) a.modules = modules_are a _ symbols g made c.placed.view_is c.in_ok-gathered.ensures c.in_ok-modules.ensures in
     let first : built_in ≡ built_in_with a.built_in g.built_in.items = c.in_ok-built_in.ensures ∙ ap (λ (x : Accepted). built_in_with x.built_in g.built_in.items) c.placed.view_is in
-    let built = catalog_from a g symbols built_in made gathers first others in
+    let built = catalog_from a g symbols built_in made c.in_ok-gathered.ensures first others in
     let kernel = c.len-of_kernel.ensures ∙ c.placed.inside.built_in.ok.0 ∙ ap (λ (x : Accepted). length x.built_in) c.placed.view_is in
     record {
       sound = subst IsSoundCatalog (sym built) (IsSound-catalog_with a symbols c.requires.sound);
-      named = rw (← c.as_slice.ensures.value) c.in_ok-by_name.ensures;
+      named = ap names_in others ∙ module_names symbols a.modules ∙ ap (λ (x : Accepted). names_of x.modules) (sym c.placed.view_is) ∙ c.placed.invariant;
       counted = ap (λ n. n + c.regions_in-regions.result) kernel
-          ∙ ap (λ n. length a.built_in + n) (c.regions_in-regions.ensures ∙ ap (λ (ms : List ModuleEntry). length (flat_map (λ (m : ModuleEntry). m.regions) ms)) c.as_slice-2.ensures.value)
+          ∙ ap (λ n. length a.built_in + n) (c.regions_in-regions.ensures ∙ ap (sum_by (λ (m : ModuleEntry). length m.regions)) c.as_slice.ensures.value)
           ∙ count_of_regions a.built_in g.built_in.items made
           ∙ ap (λ (o : Option ModuleEntry). length (flat_map (λ (m : ModuleEntry). m.regions) (option_to_list o ++ made))) (sym first);
     }
@@ -56,7 +73,8 @@ returns-clause-counted c =
     let symbols = c.args.symbols in
     let g = c.in_ok-gathered.gathered in
     let made : List ModuleEntry = c.in_ok-modules.modules.items in
-    let gathers : Gathers a symbols g = c.in_ok-gathered.ensures in
-    let others : made ≡ map (entry_for symbols) a.modules = modules_are a symbols g made gathers (subst (λ (x : Accepted). AreModules x.modules g.modules.items made) c.placed.view_is c.in_ok-modules.ensures) in
-    kept_from a g symbols made c.len.result c.regions_in-regions.result gathers others (c.len.ensures ∙ c.in_ok-modules.modules.ok.0)
-    (c.regions_in-regions.ensures ∙ ap (λ (ms : List ModuleEntry). length (flat_map (λ (m : ModuleEntry). m.regions) ms)) c.as_slice-2.ensures.value)
+    let others = modules_are a _ symbols g made c.placed.view_is c.in_ok-gathered.ensures c.in_ok-modules.ensures in
+    kept_from a symbols made c.len.result c.regions_in-regions.result c.symbols_in-kept.result c.len-listed.result others (c.len.ensures ∙ c.in_ok-modules.modules.ok.0)
+    (rw c.as_slice.ensures.value at c.regions_in-regions.ensures ∙ regions_made a symbols made others)
+    (omega (arith, rw c.as_slice-2.ensures.value at c.symbols_in-kept.ensures, kept_made a g symbols made c.requires.sound.distinct c.in_ok-gathered.ensures others, c.len-first.ensures, g.built_in.ok.0))
+    c.len-listed.ensures

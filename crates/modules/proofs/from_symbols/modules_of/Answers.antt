@@ -1,10 +1,16 @@
-use Rattle.modules.proofs.Words.{◌≡◌, ◌<◌, ◌≤◌, List, [], ◌∷◌, ◌++◌, length, sym, ap, subst, ◌∙◌, arith, All, flat_map}
+use Rattle.modules.proofs.Words.{◌≡◌, ℕ, ◌<◌, ◌≤◌, Option, common_steps, nat_tests, List, [], ◌∷◌, ◌++◌, length, sym, ap, subst, ◌∙◌, arith, All, flat_map}
 use Rattle.std.proofs.lemmas.Result.{IfOk-weaker}
-use Rattle.modules.proofs.Definitions.{Item, AreNamed, kept_numbers, marks_of, modules_numbered, AreLaid, AreRegions, PlacedModule, lines_of_all, Mark, Run}
+use Rattle.modules.proofs.Definitions.{Item, accepted_with, IsFromSymbols, kernel_regions, BoundNames, ListedSymbol, AreNamed, kept_numbers, marks_of, modules_numbered, AreLaid, AreRegions, PlacedModule, lines_of_all, Mark, Run}
 use Rattle.modules.proofs.LineMarkLemmas.{owners_within}
-use Rattle.modules.proofs.SymbolModuleLemmas.{found_modules}
+use Rattle.modules.proofs.KeptOrderLemmas.{from_symbols}
 use Rattle.modules.proofs.TakenLemmas.{few_regions, items_numbered}
 use Rattle.modules.proofs.from_symbols.modules_of.Goals as goal
+
+-- the modules of the kept numbers are those of the listing
+found_modules : (bounds : Option BoundNames) (kernel : List (ℕ × ℕ)) (names : List (List ℕ)) (runs : List Run) (lines : List ListedSymbol) (marks : List Mark) (items : List Item) (modules : List PlacedModule)
+    → lines_of_all runs ≡ lines → AreNamed names (lines_of_all runs) → marks ≡ marks_of kernel names (lines_of_all runs) → AreRegions marks items
+    → modules ≡ modules_numbered names items (kept_numbers items marks) → kernel ≡ kernel_regions bounds lines → IsFromSymbols bounds lines (accepted_with kernel modules)
+found_modules bounds kernel names runs lines marks items modules shown named are regions is at = grind (arith, common_steps, nat_tests, from_symbols, from_symbols bounds lines names items)
 
 pub modules_in_order-requires : goal.modules_in_order-requires
 modules_in_order-requires c =

@@ -8,5 +8,4 @@ invariant-loop-run l = record {
   finite : (goal.iterator-loop-run).is_finite l.run-iterator;
   gone : l.fn.runs.items ≡ l.yielded ++ into_iter_items l.run-iterator;
   gathers : Gathers l.placed (lines_of_all l.yielded) l.gathered;
-  counted : l.gathered.kept + l.gathered.stray ≡ length (lines_of_all l.yielded);
 }

@@ -1,6 +1,6 @@
 use Rattle.modules.proofs.Words.{◌≡◌, ◌∙◌, ap, sym, arith, common_steps}
 use Rattle.modules.proofs.Definitions.{lines_at, lines_named}
-use Rattle.modules.proofs.GroupLemmas.{named_at}
+use Rattle.modules.proofs.ByNameLemmas.{named_at}
 use Rattle.modules.proofs.placing.by_name.Goals as goal
 
 pub returns : goal.returns

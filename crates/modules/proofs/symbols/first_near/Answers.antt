@@ -1,7 +1,7 @@
-use Rattle.modules.proofs.RisingLemmas.{IsFirstOf-from_border}
+use Rattle.modules.proofs.RisingLemmas.{first_from_border}
 use Rattle.modules.proofs.symbols.first_near.Goals as goal
 
 pub returns-then-is_first : goal.returns-then-is_first
 returns-then-is_first c =
-    IsFirstOf-from_border c.args.symbols.now c.args.addr c.args.near c.requires
+    first_from_border c.args.symbols.now c.args.addr c.args.near c.requires
     (c.is_first.ensures c.if-is_first.true)

@@ -1,6 +1,6 @@
-use Rattle.modules.proofs.Words.{◌∙◌, List, ap, subst, arith, common_steps}
+use Rattle.modules.proofs.Words.{◌∙◌, List, ap, subst}
 use Rattle.modules.proofs.Definitions.{Item, IsItemSplit, item_of_address}
-use Rattle.modules.proofs.RegionIndexLemmas.{last_begins_below, last_ends_below, last_found, nothing_below}
+use Rattle.modules.proofs.RegionIndexLemmas.{nothing_below}
 use Rattle.modules.proofs.region_index.IndexedCatalog.find_near.Goals as goal
 
 pub returns-then-split-eq0-clause-is : goal.returns-then-split-eq0-clause-is
@@ -9,12 +9,3 @@ returns-then-split-eq0-clause-is c =
     let parts : IsItemSplit items c.args.addr c.split_at-split.result = subst (λ (l : List Item). IsItemSplit l c.args.addr c.split_at-split.result) c.deref.ensures.value c.split_at-split.ensures in
     nothing_below c.self.inside.catalog c.self.invariant.sound items c.self.invariant.indexed c.args.addr c.split_at-split.result parts c.if-split-eq0.true
     ∙ ap (λ k. item_of_address k c.args.addr) c.self.view_is
-
-pub returns-then-addr-item-clause-is : goal.returns-then-addr-item-clause-is
-returns-then-addr-item-clause-is c = grind (arith, common_steps, last_found)
-
-pub returns-else-addr-item-clause-is : goal.returns-else-addr-item-clause-is
-returns-else-addr-item-clause-is c = grind (arith, common_steps, last_ends_below)
-
-pub returns-then-addr-item-clause-holds : goal.returns-then-addr-item-clause-holds
-returns-then-addr-item-clause-holds c = grind (arith, common_steps, last_begins_below)

@@ -1,6 +1,0 @@
-use Rattle.std.proofs.Common.{take}
-use Rattle.modules.proofs.Definitions.{AreNamed, lines_of_all}
-use Rattle.modules.proofs.module_numbers.ModuleNumbers.of.Given as goal
-
-abbrev pub invariant-loop-run : goal.invariant-loop-run
-invariant-loop-run l = AreNamed l.numbers (lines_of_all (take l.run-index l.runs))

@@ -1,0 +1,6 @@
+use Rattle.std.proofs.Common.{take}
+use Rattle.modules.proofs.Definitions.{AreNamed, lines_of_all}
+use Rattle.modules.proofs.names.Names.of_runs.Given as goal
+
+abbrev pub invariant-loop-run : goal.invariant-loop-run
+invariant-loop-run l = AreNamed l.names (lines_of_all (take l.run-index l.runs))

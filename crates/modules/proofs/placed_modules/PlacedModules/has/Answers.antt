@@ -1,6 +1,0 @@
-use Rattle.modules.proofs.Words.{arith, common_steps}
-use Rattle.facts.proofs.Tests.{is_some-position_from}
-use Rattle.modules.proofs.placed_modules.PlacedModules.has.Goals as goal
-
-pub returns : goal.returns
-returns c = grind (arith, common_steps, is_some-position_from, c.self.invariant c.args.name.now)
