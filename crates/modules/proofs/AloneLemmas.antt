@@ -1,23 +1,16 @@
 -- The modules of symbols alone lie apart, and have distinct names.
 use Rattle.modules.proofs.Words.{◌≡◌, ◌≢◌, ℕ, count_by, sum_by, ◌-◌, ◌^◌, ◌<◌, Bool, true, false, ◌||◌, nat_le, nat_lt, cond, List, [], ◌∷◌, ◌++◌, length, get_or, map, Option, Some, None, refl, sym, ap, subst, ◌∙◌, ⊎_elim, arith, All, filter, find, fold, first_so, second_so, AllPairs, flat_map, list_any, option_to_list, bytes_eq, rules, common_steps, nat_tests}
 use Rattle.modules.proofs.Lemmas.{and_parts, cases_lt, le-leb, leb-false, leb-true, ltb-true, or_cases, or_left, or_parts, get_or-map, length-map, All-append, All-contains, All-filter, All-head, All-nil, All-cons, All-push, All-tail, filter_passes, list_any_at, AllPass-from_list_all, AllPairs-cons, AllPairs-few, count_by-either, find-has, find-passes}
-use Rattle.modules.proofs.Definitions.{Accepted, catalog_with, entries_of, is_kept, names_of, HasItsRegions, IsFromSymbols, is_kept_line, owner_names, with_name, AreDistinctNames, is_built_in, lies_in, HaveFirstLines, kernel_regions, BoundNames, ListedSymbol, is_nearest_line, is_outside, module_of_address, posts, is_core, IsPlaced, PlacedModule, AreSoundModules, AreApart, holds, is_apart, lies_in_any, Core}
+use Rattle.modules.proofs.Definitions.{Accepted, catalog_with, entries_of, is_kept, names_of, HasItsRegions, IsFromSymbols, is_kept_line, owner_names, with_name, AreDistinctNames, is_built_in, lies_in, HaveFirstLines, kernel_regions, BoundNames, ListedSymbol, is_nearest_line, is_outside, module_of_address, post_below, posts, is_core, IsPlaced, PlacedModule, AreSoundModules, AreApart, holds, is_apart, lies_in_any, Core}
 use Rattle.modules.proofs.KeptOrderLemmas.{first_lines}
-use Rattle.modules.proofs.OwnLineLemmas.{is_of}
-use Rattle.modules.proofs.PostLemmas.{all_of_passing}
+use Rattle.modules.proofs.SpacedLemmas.{is_of, Range, inside, pairs_first, pairs_rest, within}
+use Rattle.modules.proofs.PostLemmas.{all_of_passing, owned}
 use Rattle.modules.proofs.SoundnessLemmas.{AreDistinct-push, kernel_apart}
 use Rattle.modules.proofs.CountLemmas.{kept_in_one_of}
-use Rattle.modules.proofs.SpacedLemmas.{Range, inside, pairs_first, pairs_rest, within}
 
--- ---- whose an address is
-
--- the line of a module that says so
-record IsOwner (lines : List ListedSymbol) (addr : ℕ) (name : List ℕ) (l : ListedSymbol) : Type 0 where
-  pub found : find (is_nearest_line lines addr) lines ≡ Some l
-  pub its : l.owner ≡ Some name
-
-owner_of : (lines : List ListedSymbol) (addr : ℕ) (name : List ℕ) → module_of_address lines addr ≡ Some name → (l : ListedSymbol) × IsOwner lines addr name l
-owner_of lines addr name h = grind (arith, common_steps, nat_tests)
+All-flat_map : {X Y : Type 0} (f : X → List Y) (P : Y → Type 0) (xs : List X) → All (λ x. All P (f x)) xs → All P (flat_map f xs)
+All-flat_map f P [] all = All-nil P
+All-flat_map f P (x ∷ xs) all = All-append P (f x) (flat_map f xs) (All-head (λ y. All P (f y)) x xs all) (All-flat_map f P xs (All-tail (λ y. All P (f y)) x xs all))
 
 -- ---- a module and the kernel itself
 
@@ -33,11 +26,11 @@ kernel_owns : (kernel : List Range) (lines : List ListedSymbol) (k : ℕ) (d : R
 kernel_owns kernel lines k d addr name has lt in' h =
     let r : Range = get_or kernel k d in
     let kept = posts kernel lines in
-    let (l, owner) = owner_of kept addr name h in
-    let near : is_nearest_line kept addr l ≡ true = find-passes (is_nearest_line kept addr) kept l owner.found in
-    let passes : is_post kernel l ≡ true = find-has (is_nearest_line kept addr) kept l owner.found (λ t. is_post kernel t ≡ true) (filter_passes (is_post kernel) lines) in
-    let out : lies_in_any kernel l.addr ≡ false = outside kernel l name owner.its passes in
-    let held : (x : ℕ) → holds r x ≡ true → lies_in_any kernel x ≡ true = λ x its. list_any_at (λ s. holds s x) kernel k d lt its in
+    let (l, found, reached, its) = owned kept addr name (post_below kept addr) h in
+    let near : is_nearest_line kept addr l ≡ true = find-passes (is_nearest_line kept addr) kept l found in
+    let passes : is_post kernel l ≡ true = find-has (is_nearest_line kept addr) kept l found (λ t. is_post kernel t ≡ true) (filter_passes (is_post kernel) lines) in
+    let out : lies_in_any kernel l.addr ≡ false = outside kernel l name its passes in
+    let held : (x : ℕ) → holds r x ≡ true → lies_in_any kernel x ≡ true = λ x in_r. list_any_at (λ s. holds s x) kernel k d lt in_r in
     let (nonempty, first) = has k d lt in
     let (t, there, unowned, at_start) = first in
     let clear : All (λ t. (nat_le t.addr l.addr || nat_lt addr t.addr) ≡ true) kept = AllPass-from_list_all (λ (t : ListedSymbol). nat_le t.addr l.addr || nat_lt addr t.addr) kept (second_so (nat_le l.addr addr) _ near) in
@@ -45,7 +38,7 @@ kernel_owns kernel lines k d addr name has lt in' h =
     let here : lies_in_any kernel t.addr ≡ true = held t.addr (within r t.addr (omega (arith, at_start)) (omega (arith, at_start))) in
     let start : is_post kernel t ≡ true = or_left (is_built_in kernel t) (is_outside kernel t) (rw unowned here) in
     let cleared : (nat_le t.addr l.addr || nat_lt addr t.addr) ≡ true = All-contains (λ (u : ListedSymbol). is_post kernel u ≡ true → (nat_le u.addr l.addr || nat_lt addr u.addr) ≡ true) lines t (all_of_passing (is_post kernel) (λ u. (nat_le u.addr l.addr || nat_lt addr u.addr) ≡ true) lines clear) there start in
-    grind (arith, common_steps, nat_tests, Range, owner_of, find-passes, find-has, filter_passes, outside, list_any_at, AllPass-from_list_all, second_so, inside, within, or_left, All-contains, all_of_passing, leb-true, first_so, ltb-true, or_cases)
+    grind (arith, common_steps, nat_tests, Range, find-passes, find-has, filter_passes, outside, list_any_at, AllPass-from_list_all, second_so, inside, within, or_left, All-contains, all_of_passing, leb-true, first_so, ltb-true, or_cases)
 
 -- ---- each module has a kept line
 
@@ -62,11 +55,7 @@ module _ (kernel : List Range) (lines : List ListedSymbol) where
   kept_owner l (Some name) own post kept = grind (arith, is_of, All-cons, below_top, All-nil)
 
   kept_owners : (ls : List ListedSymbol) → All (λ l. is_post kernel l ≡ true) ls → All (λ l. is_kept_line lines l ≡ true) ls → All (HasAddress lines) (flat_map (λ l. option_to_list l.owner) ls)
-  kept_owners [] posts kept = All-nil (HasAddress lines)
-  kept_owners (l ∷ ls) posts kept =
-      All-append (HasAddress lines) (option_to_list l.owner) (flat_map (λ (t : ListedSymbol). option_to_list t.owner) ls)
-      (kept_owner l l.owner refl (All-head (λ (t : ListedSymbol). is_post kernel t ≡ true) l ls posts) (All-head (λ (t : ListedSymbol). is_kept_line lines t ≡ true) l ls kept))
-      (kept_owners ls (All-tail (λ (t : ListedSymbol). is_post kernel t ≡ true) l ls posts) (All-tail (λ (t : ListedSymbol). is_kept_line lines t ≡ true) l ls kept))
+  kept_owners ls posts kept = All-flat_map (λ (l : ListedSymbol). option_to_list l.owner) (HasAddress lines) ls (λ k d lt. kept_owner (get_or ls k d) (get_or ls k d).owner refl (posts k d lt) (kept k d lt))
 
 all_names : (P : List ℕ → Type 0) (names acc : List (List ℕ)) → All P names → All P acc → All P (fold with_name acc names)
 all_names P [] acc every all = all
@@ -116,12 +105,10 @@ apart_from_module : (r : Range) (m : PlacedModule) → r.0 < r.1 → AreValid m 
 apart_from_module r m r_valid valid clear = grind (arith, apart_or_meet, list_any_at)
 
 apart_from_modules : (r : Range) (ms : List PlacedModule) → r.0 < r.1 → All AreValid ms → All (IsClear r) ms → All (λ s. is_apart r s ≡ true) (flat_map (λ m. m.regions) ms)
-apart_from_modules r [] r_valid valid clear = All-nil (λ s. is_apart r s ≡ true)
-apart_from_modules r (m ∷ ms) r_valid valid clear = search (rules, All-append, apart_from_module, All-head, All-tail, apart_from_modules r ms r_valid (All-tail AreValid m ms valid) (All-tail (IsClear r) m ms clear))
+apart_from_modules r ms r_valid valid clear = All-flat_map (λ (m : PlacedModule). m.regions) (λ s. is_apart r s ≡ true) ms (λ k d lt. apart_from_module r (get_or ms k d) r_valid (valid k d lt) (clear k d lt))
 
 all_valid : (ms : List PlacedModule) → All AreValid ms → All (λ r. r.0 < r.1) (flat_map (λ m. m.regions) ms)
-all_valid [] valid = All-nil (λ (r : Range). r.0 < r.1)
-all_valid (m ∷ ms) valid = All-append (λ (r : Range). r.0 < r.1) m.regions (flat_map (λ (n : PlacedModule). n.regions) ms) (All-head AreValid m ms valid) (all_valid ms (All-tail AreValid m ms valid))
+all_valid ms valid = All-flat_map (λ (m : PlacedModule). m.regions) (λ (r : Range). r.0 < r.1) ms valid
 
 pairs_append : {X : Type 0} (R : X → X → Type 0) (xs ys : List X) → AllPairs R xs → AllPairs R ys → All (λ x. All (R x) ys) xs → AllPairs R (xs ++ ys)
 pairs_append R [] ys of_xs of_ys across = of_ys

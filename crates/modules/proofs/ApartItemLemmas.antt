@@ -3,9 +3,7 @@ use Rattle.modules.proofs.Words.{◌≡◌, ℕ, ◌<◌, ◌≤◌, ◌⊎◌, 
 use Rattle.modules.proofs.Lemmas.{cases_lt, get_or_default, length-map, All-contains, Contains-map, get_or-map_default, begins, ends, equal_inside}
 use Rattle.modules.proofs.Definitions.{Item, half_open, IsLook, IsSoundCatalog, CatalogEntries, items_of, is_apart}
 use Rattle.modules.proofs.ItemLemmas.{all_regions, region_of}
-
-beside : (x y : Item) → is_apart (region_of x) (region_of y) ≡ true → (x.b ≤ y.a) ⊎ (y.b ≤ x.a)
-beside x y h = ⊎_elim (λ lt. inr (let q : y.b ≤ x.a = grind (arith, nat_tests) in q)) (λ le. inl le) (cases_lt y.a x.b)
+use Rattle.modules.proofs.SpreadLemmas.{apart_cases}
 
 module _ (c : CatalogEntries) (sound : IsSoundCatalog c) where
   pairs : AllPairs (λ r s. is_apart r s ≡ true) (map region_of (items_of c))
@@ -15,7 +13,7 @@ module _ (c : CatalogEntries) (sound : IsSoundCatalog c) where
   earlier : (x y : Item) (i j : ℕ) → i < j → j < length (items_of c) → get_or (items_of c) i x ≡ x → get_or (items_of c) j y ≡ y → (x.b ≤ y.a) ⊎ (y.b ≤ x.a)
   earlier x y i j less lt at there =
       let r = pairs i j (region_of x) less (omega (arith, length-map (items_of c) region_of)) in
-      grind (arith, common_steps, nat_tests, region_of, length-map, get_or-map_default, get_or_default, beside)
+      grind (arith, common_steps, nat_tests, region_of, length-map, get_or-map_default, get_or_default, apart_cases)
 
   -- two items are one, or apart
   pub same_or_apart : (x y : Item) → Contains (items_of c) x → Contains (items_of c) y → (x ≡ y) ⊎ ((x.b ≤ y.a) ⊎ (y.b ≤ x.a))

@@ -1,5 +1,5 @@
 -- What has one name lies side by side in the order of names.
-use Rattle.modules.proofs.Words.{map, ◌≡◌, ℕ, ◌-◌, ◌<◌, ◌≤◌, Bool, true, false, List, [], ◌∷◌, length, get_or, take, drop, refl, ap, sym, subst, ◌∙◌, ⊎_elim, arith, All, bytes_decides, filter, slice_cmp, IsNonDecreasingBy, IsPartitionPoint, IsPartitionedBy, IsSortedBy, IsStableBy, ties, is_eq, is_le, is_lt, nat_cmp, ordering_index, Ordering, bytes_eq, ◌||◌, Bor, list_any}
+use Rattle.modules.proofs.Words.{common_steps, map, ◌≡◌, ℕ, ◌-◌, ◌<◌, ◌≤◌, Bool, true, false, List, [], ◌∷◌, length, get_or, take, drop, refl, ap, sym, subst, ◌∙◌, ⊎_elim, arith, All, bytes_decides, filter, slice_cmp, IsNonDecreasingBy, IsPartitionPoint, IsPartitionedBy, IsSortedBy, IsStableBy, ties, is_eq, is_le, is_lt, nat_cmp, ordering_index, Ordering, bytes_eq, ◌||◌, Bor, list_any}
 use Rattle.modules.proofs.Lemmas.{cases_lt, nat_list_cmp_total, searchable_from_sorted, bytes_eq-neither, is_eq-between, is_le-index, is_lt-index, is_lt-is_le, is_lt-not_eq, not_le-not_eq, filter-middle, filter_agree, filter_passes, is_eq-slice_cmp, get_or-map, length-map}
 use Rattle.modules.proofs.Definitions.{IsCut, comes_first, lines_at, ListedRegion, is_core, has_core, lines_named}
 
@@ -74,3 +74,5 @@ any_mapped p f (x ∷ xs) = ap (λ b. p (f x) || b) (any_mapped p f xs)
 pub all_at : (P : ListedRegion → Type 0) (index : List (Bor ListedRegion)) → All P (lines_at index) → All (λ l. P l.now) index
 all_at P index all = λ k d lt.
     subst P (get_or-map (λ (l : Bor ListedRegion). l.now) index k d d.now lt) (all k d.now (rw (length-map index (λ (l : Bor ListedRegion). l.now)) lt))
+
+pub ruleset lines_by_name = (common_steps, named_at, length-map)

@@ -54,10 +54,7 @@ one_home [] s distinct = refl
 one_home (m ∷ ms) s distinct = grind (arith, common_steps, sum_by-cons, count-or, distinct_tail, no_home_left, one_home ms s (distinct_tail m ms distinct))
 
 -- a symbol of the kernel itself belongs to no module
-abbrev pub without_owner : Option (List ℕ) → ℕ → PlacedModule → Bool
-without_owner owner addr m = option_map_or (λ name. bytes_eq name m.name) owner false && lies_in m addr
-
-unowned : (owner : Option (List ℕ)) (addr : ℕ) (ms : List PlacedModule) → is_none owner ≡ true → list_any (without_owner owner addr) ms ≡ false
+unowned : (owner : Option (List ℕ)) (addr : ℕ) (ms : List PlacedModule) → is_none owner ≡ true → list_any (λ m. option_map_or (λ name. bytes_eq name m.name) owner false && lies_in m addr) ms ≡ false
 unowned owner addr ms h = grind (arith, list_any_none)
 
 -- each kept symbol is counted once

@@ -10,7 +10,7 @@ pub use Rattle.modules.specs.FromSymbols.{HasItsRegions, IsFromSymbols, is_kept_
 pub use Rattle.modules.specs.Gathering.{BelongsOnlyAt, Gathers, HasRoom, Keeps, KeepsRun, lies_for, owner_for}
 pub use Rattle.modules.specs.ByName.{IsCut, IsSortedByName, comes_first}
 pub use Rattle.modules.specs.Grouped.{lines_at}
-pub use Rattle.modules.specs.Index.{IsBorder, IsFirstBorder, IsFirstOf, IsIndex, IsOrdered, IsRising, IsSplit, IsSplitBy, IsSplitOf, comes_before, index_entries_of, symbol_of_entry}
+pub use Rattle.modules.specs.Index.{IsBorder, IsFirstBorder, IsFirstOf, IsIndex, IsOrdered, IsRising, IsSplit, IsSplitBy, comes_before, index_entries_of, symbol_of_entry}
 pub use Rattle.modules.specs.Items.{item_of_address, items_at, items_below, items_of}
 pub use Rattle.modules.specs.Kept.{AreDistinctNames, belongs, entry_of, is_built_in, is_kept, is_used, lies_in, symbols_that}
 pub use Rattle.modules.specs.LineMarks.{AreLeft, AreNamed, HasFirstLine, HaveFirstLines, is_kept_mark, kept_numbers, kernel_marks, line_marks, mark_of, marks_of, modules_numbered, name_of, number_for, number_in, symbol_marks, with_number, with_owner}
@@ -27,9 +27,8 @@ pub use Rattle.modules.specs.Parts.{is_core, is_init, is_of}
 pub use Rattle.modules.specs.Placed.{IsPlaced, PlacedModule, are_few, has_core, lines_named, placed_alone, placed_by, placed_line}
 pub use Rattle.modules.specs.PlacedModules.{AreSoundModules}
 pub use Rattle.modules.specs.RegionIndexes.{IsIndexOf, IsItemSplit}
-pub use Rattle.modules.specs.Regions.{AreApart, AreRising, are_beside, holds, is_apart, lie_apart, lies_in_any}
+pub use Rattle.modules.specs.Regions.{AreApart, AreRising, IsSpread, are_beside, holds, is_apart, lie_apart, lies_in_any}
 pub use Rattle.modules.specs.Runs.{line_of, lines_of_all, lines_of_run}
-pub use Rattle.modules.specs.Spread.{IsSpread}
 pub use Rattle.modules.specs.SymbolNames.{IsNamesOf, SymbolName, named_symbols, names_of_symbols, names_below, names_in_module, all_of_name}
 pub use Rattle.modules.specs.Starts.{first_start, start_at, start_where, starts_of}
 pub use Rattle.modules.specs.declared.admission.Admission.{Admission}

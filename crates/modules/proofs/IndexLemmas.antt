@@ -97,3 +97,5 @@ above_at symbols index is addr split parts = grind (arith, common_steps, nat_tes
 
 -- entries that are moved twice
 pub ruleset moved_on = (common_steps, IsPermutation-trans)
+
+pub ruleset moved_twice = (IsPermutation-trans)

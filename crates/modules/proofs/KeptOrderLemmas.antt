@@ -4,8 +4,8 @@ use Rattle.modules.proofs.Lemmas.{and_parts, false_from_ne_true, eq-eqb, eqb-tru
 use Rattle.modules.proofs.Definitions.{Item, half_open, look, HasItsRegions, IsFromSymbols, is_kept_line, with_name, is_built_in, accepted_with, AreNamed, HasFirstLine, HaveFirstLines, is_kept_mark, kept_numbers, kernel_marks, mark_of, marks_of, modules_numbered, name_of, number_for, number_in, with_number, built_in_region, kernel_regions, with_apart, BoundNames, ListedSymbol, numbered_module, AreRegions, HoldsFor, is_outside, posts, PlacedModule, Mark}
 use Rattle.modules.proofs.LaidLemmas.{found}
 use Rattle.modules.proofs.MarkedModuleLemmas.{its_regions}
-use Rattle.modules.proofs.OwnLineLemmas.{is_of, of_is}
-use Rattle.modules.proofs.PostLemmas.{listed_found, marks_stand, number_names}
+use Rattle.modules.proofs.SpacedLemmas.{is_of, of_is}
+use Rattle.modules.proofs.PostLemmas.{all_passing, listed_found, marks_stand, number_names}
 
 -- ---- the first lines of the kernel's regions
 
@@ -78,26 +78,11 @@ module _ (kernel : List (ℕ × ℕ)) (names : List (List ℕ)) (lines : List Li
 
   by_lines : (ls : List ListedSymbol) → AreNamed names ls → map (name_of names) (kept_marks (map (mark_of names) (filter (is_outside kernel) ls))) ≡ kept_owners (posts_in ls)
   by_lines [] all = refl
-  by_lines (l ∷ ls) all =
-      let rest = by_lines ls (All-tail (λ (t : ListedSymbol). option_map_or (λ name. list_any (bytes_eq name) names) t.owner true ≡ true) l ls all) in
-      by l.owner refl (All-head (λ (t : ListedSymbol). option_map_or (λ name. list_any (bytes_eq name) names) t.owner true ≡ true) l ls all) rest
+  by_lines (l ∷ ls) all = by l.owner refl (All-head (λ (t : ListedSymbol). option_map_or (λ name. list_any (bytes_eq name) names) t.owner true ≡ true) l ls all) (by_lines ls (All-tail (λ (t : ListedSymbol). option_map_or (λ name. list_any (bytes_eq name) names) t.owner true ≡ true) l ls all))
     where
-      unowned : (b : Bool) → l.owner ≡ None → is_built_in kernel l ≡ b → map (name_of names) (kept_marks (map (mark_of names) (filter (is_outside kernel) ls))) ≡ kept_owners (posts_in ls) → map (name_of names) (kept_marks (map (mark_of names) (filter (is_outside kernel) ls))) ≡ kept_owners (cond (b || false) (l ∷ posts_in ls) (posts_in ls))
-      unowned true none is rest = let no : is_kept_line (posts kernel lines) l ≡ false = rw none refl in rw no rest
-      unowned false none is rest = rest
-
-      owned : (b : Bool) (name : List ℕ) → l.owner ≡ Some name → list_any (bytes_eq name) names ≡ true → is_outside kernel l ≡ b → map (name_of names) (kept_marks (map (mark_of names) (filter (is_outside kernel) ls))) ≡ kept_owners (posts_in ls) → map (name_of names) (kept_marks (map (mark_of names) (cond b (l ∷ filter (is_outside kernel) ls) (filter (is_outside kernel) ls)))) ≡ kept_owners (cond b (l ∷ posts_in ls) (posts_in ls))
-      owned true name own some is rest = one_kept l (is_kept_line (posts kernel lines) l) [] [] (map (mark_of names) (filter (is_outside kernel) ls)) (posts_in ls) name own some rest (kept_same l name own some (below_top l is)) refl
-      owned false name own some is rest = rest
-
       by : (o : Option (List ℕ)) → l.owner ≡ o → option_map_or (λ name. list_any (bytes_eq name) names) l.owner true ≡ true → map (name_of names) (kept_marks (map (mark_of names) (filter (is_outside kernel) ls))) ≡ kept_owners (posts_in ls) → map (name_of names) (kept_marks (map (mark_of names) (filter (is_outside kernel) (l ∷ ls)))) ≡ kept_owners (posts_in (l ∷ ls))
-      by None own some rest =
-          let out : is_outside kernel l ≡ false = rw own refl in
-          rw out (unowned (is_built_in kernel l) own refl rest)
-      by (Some name) own some rest =
-          let out : is_built_in kernel l ≡ false = rw own refl in
-          let known : list_any (bytes_eq name) names ≡ true = sym (ap (λ (o : Option (List ℕ)). option_map_or (λ (w : List ℕ). list_any (bytes_eq w) names) o true) own) ∙ some in
-          rw out (owned (is_outside kernel l) name own known refl rest)
+      by None own some rest = grind arith
+      by (Some name) own some rest = grind (arith, below_top l, kept_same l name own, one_kept l (is_kept_line (posts kernel lines) l) [] [] (map (mark_of names) (filter (is_outside kernel) ls)) (posts_in ls) name own)
 
   without_kernel : (k : List (ℕ × ℕ)) (ms : List Mark) → filter (is_kept_mark items) (kernel_marks k ++ ms) ≡ filter (is_kept_mark items) ms
   without_kernel [] ms = refl
@@ -107,19 +92,11 @@ module _ (kernel : List (ℕ × ℕ)) (names : List (List ℕ)) (lines : List Li
   kept_names all = grind (arith, without_kernel, by_lines)
 
   good_lines : (ls : List ListedSymbol) → AreNamed names ls → All (λ (m : Mark). IsNumber names m.owner) (map (mark_of names) (filter (is_outside kernel) ls))
-  good_lines [] all = All-nil (λ (m : Mark). IsNumber names m.owner)
-  good_lines (l ∷ ls) all =
-      let rest = good_lines ls (All-tail (λ (t : ListedSymbol). option_map_or (λ name. list_any (bytes_eq name) names) t.owner true ≡ true) l ls all) in
-      elim (is_outside kernel l) as (λ b. is_outside kernel l ≡ b → All (λ (m : Mark). IsNumber names m.owner) (map (mark_of names) (cond b (l ∷ filter (is_outside kernel) ls) (filter (is_outside kernel) ls)))) [
-        | true ↦ λ out. All-cons (λ (m : Mark). IsNumber names m.owner) (mark_of names l) (map (mark_of names) (filter (is_outside kernel) ls)) (by l.owner refl (All-head (λ (t : ListedSymbol). option_map_or (λ name. list_any (bytes_eq name) names) t.owner true ≡ true) l ls all) out) rest
-        | false ↦ λ _. rest
-      ] refl
+  good_lines ls all = All-map (λ (m : Mark). IsNumber names m.owner) (mark_of names) (filter (is_outside kernel) ls) (all_passing (is_outside kernel) (λ (l : ListedSymbol). IsNumber names (number_for names l.owner)) ls (λ k d lt out. by (get_or ls k d) (get_or ls k d).owner refl (all k d lt) out))
     where
-      by : (o : Option (List ℕ)) → l.owner ≡ o → option_map_or (λ name. list_any (bytes_eq name) names) l.owner true ≡ true → is_outside kernel l ≡ true → IsNumber names (number_for names l.owner)
-      by None own some out = absurd (let no : is_outside kernel l ≡ false = rw own refl in cc)
-      by (Some name) own some out =
-          let known : list_any (bytes_eq name) names ≡ true = sym (ap (λ (o : Option (List ℕ)). option_map_or (λ (w : List ℕ). list_any (bytes_eq w) names) o true) own) ∙ some in
-          subst (λ (o : Option (List ℕ)). IsNumber names (number_for names o)) (sym own) (IsNumber-in names name known)
+      by : (l : ListedSymbol) (o : Option (List ℕ)) → l.owner ≡ o → option_map_or (λ name. list_any (bytes_eq name) names) l.owner true ≡ true → is_outside kernel l ≡ true → IsNumber names (number_for names l.owner)
+      by l None own some out = grind arith
+      by l (Some name) own some out = grind (arith, IsNumber-in names name)
 
   good_marks : AreNamed names lines → All (IsNumber names) (kept_marks (marks_of kernel names lines))
   good_marks all =

@@ -10,7 +10,7 @@ pub use Rattle.std.proofs.lemmas.Grind.{get_or-set_at}
 pub use Rattle.std.proofs.lemmas.Iterator.{YieldsList-from_slice}
 pub use Rattle.std.proofs.lemmas.Iterator.Adapters.{position_from-zero, serves_from_places}
 pub use Rattle.std.proofs.lemmas.Iterator.Consumers.{YieldsList-at}
-pub use Rattle.std.proofs.lemmas.List.{append-nil, get_or-map, get_or-set_other, get_or_append_left, get_or_default, get_or_push, length-map, length-take-le, map-append, nil_from_length, same_lists, take_all, take_at, take_more}
+pub use Rattle.std.proofs.lemmas.List.{append-nil, get_or-map, get_or-set_other, get_or-take, get_or_append_left, get_or_default, get_or_push, length-map, length-take-le, map-append, nil_from_length, same_lists, take_all, take_at, take_more}
 pub use Rattle.std.proofs.lemmas.List.Concat.{flat_map-append, length-flat_map}
 pub use Rattle.std.proofs.lemmas.List.Kept.{AllPairs-cons}
 pub use Rattle.std.proofs.lemmas.List.Elements.{All-append, All-cons, All-contains, All-filter, All-head, All-map, All-nil, All-pop, All-push, All-tail, Contains-append_left, Contains-append_right, Contains-get_or, Contains-push, Contains-push_cases, filter-append, filter_agree, filter_passes}

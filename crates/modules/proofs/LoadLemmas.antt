@@ -1,6 +1,6 @@
--- Which updates a load, an unload, and the end of a module's start give.
-use Rattle.modules.proofs.Words.{◌≡◌, ℕ, ◌+◌, ◌<◌, ◌≤◌, Bool, true, false, ◌&&◌, ◌||◌, nat_eq, cond, zero, suc, List, [], ◌∷◌, ◌++◌, length, get_or, map, take, drop, drop-cons, Some, None, Ok, Err, Option, Result, refl, sym, ap, subst, ◌∙◌, inr, ⊎_elim, arith, add-one, bytes_decides, list_any, option_map_or, rules, common_steps, nat_tests}
-use Rattle.modules.proofs.Lemmas.{and_parts, eqb-true, not-true, or_cases, or_left, or_right, eq-eqb, length-map, and_by_second, or_by_first, or_by_second, eqb-one_false, eqb-one_more}
+-- Which updates a load, an unload, and the end of a module's start give, and which first addresses they take out.
+use Rattle.modules.proofs.Words.{◌≡◌, ℕ, ◌+◌, ◌<◌, ◌≤◌, Bool, true, false, ◌&&◌, ◌||◌, nat_eq, cond, zero, suc, List, [], ◌∷◌, ◌++◌, length, get_or, map, take, drop, drop-cons, Some, None, Ok, Err, Option, Result, refl, sym, ap, subst, ◌∙◌, inr, ⊎_elim, arith, add-one, bytes_decides, list_any, option_map_or, rules, common_steps, nat_tests, length-append, bytes_eq}
+use Rattle.modules.proofs.Lemmas.{and_parts, eqb-true, not-true, or_cases, or_left, or_right, eq-eqb, length-map, and_by_second, or_by_first, or_by_second, eqb-one_false, eqb-one_more, cases_lt, append-nil, length-take-le, get_or-append_seam, take-length}
 use Rattle.modules.proofs.Definitions.{Update, Batch, Item, Refusal, OutOfMemory, UnknownModule, ModuleEntry, GivesOrLacksMemory, GivesSome, TakesMemory, drop_init_update, is_erasing, is_inserting, item_of, load_update, has_no_items, is_item_of, only_of, same_items, unload_update, update_of, is_init, is_of, starts_of, Held, Part}
 
 -- ---- the first addresses of the regions, one more at a time
@@ -9,13 +9,7 @@ pub starts_more : (core init : Bool) (rs : List (ℕ × ℕ)) (ps : List Part) (
 starts_more core init [] ps i r p lt lp = absurd (omega arith)
 starts_more core init (x ∷ xs) [] i r p lt lp = absurd (omega arith)
 starts_more core init (x ∷ xs) (y ∷ ys) zero r p lt lp = refl
-starts_more core init (x ∷ xs) (y ∷ ys) (suc i) r p lt lp =
-    let rest = starts_more core init xs ys i r p (omega arith) (omega arith) in
-    rw add-one (by_first (is_of core init y) (starts_of core init (take (suc i) xs) (take (suc i) ys)) (starts_of core init (take i xs) (take i ys)) (cond (is_of core init (get_or ys i p)) ((get_or xs i r).0 ∷ []) []) (rw (← add-one) rest))
-  where
-    by_first : (b : Bool) (new old last : List ℕ) → new ≡ old ++ last → cond b (x.0 ∷ new) new ≡ cond b (x.0 ∷ old) old ++ last
-    by_first true new old last h = ap (λ ys. x.0 ∷ ys) h
-    by_first false new old last h = h
+starts_more core init (x ∷ xs) (y ∷ ys) (suc i) r p lt lp = grind (arith, add-one, starts_more core init xs ys i r p (omega arith) (omega arith))
 
 -- ---- the items of regions
 
@@ -23,9 +17,7 @@ pub items_from : (number : ℕ) (rs : List (ℕ × ℕ)) (is : List Item) → sa
 items_from number [] [] h = refl
 items_from number [] (i ∷ is) h = absurd (cc)
 items_from number (r ∷ rs) [] h = absurd (cc)
-items_from number (r ∷ rs) (i ∷ is) h =
-    let rest = and_parts (nat_eq i.a r.0 && nat_eq i.b r.1 && nat_eq i.tag number) (same_items number rs is) h in
-    grind (arith, common_steps, nat_tests, and_parts, eqb-true, items_from number rs is rest.1, and_parts (nat_eq i.a r.0 && nat_eq i.b r.1) (nat_eq i.tag number) rest.0)
+items_from number (r ∷ rs) (i ∷ is) h = grind (arith, common_steps, nat_tests, and_parts, eqb-true, items_from number rs is)
 
 pub items_same : (number : ℕ) (rs : List (ℕ × ℕ)) → same_items number rs (map (item_of number) rs) ≡ true
 items_same number [] = refl
@@ -145,3 +137,26 @@ pub ruleset unload_either = (unload_answers_first, unload_answers_second)
 
 -- one item more
 pub ruleset one_item_more = (add-one, other_length, same_here, same_end)
+
+module _ (core init : Bool) (rs : List (ℕ × ℕ)) (ps : List Part) (i : ℕ) (r : ℕ × ℕ) (p : Part) (lt : i < length rs) (lp : i < length ps) where
+  pub wanted_more : is_of core init (get_or ps i p) ≡ true → starts_of core init (take (i + 1) rs) (take (i + 1) ps) ≡ starts_of core init (take i rs) (take i ps) ++ (get_or rs i r).0 ∷ []
+  wanted_more is = starts_more core init rs ps i r p lt lp ∙ ap (λ b. starts_of core init (take i rs) (take i ps) ++ cond b ((get_or rs i r).0 ∷ []) []) is
+
+  pub other_more : is_of core init (get_or ps i p) ≡ false → starts_of core init (take (i + 1) rs) (take (i + 1) ps) ≡ starts_of core init (take i rs) (take i ps)
+  other_more is = starts_more core init rs ps i r p lt lp ∙ ap (λ b. starts_of core init (take i rs) (take i ps) ++ cond b ((get_or rs i r).0 ∷ []) []) is ∙ append-nil (starts_of core init (take i rs) (take i ps))
+
+-- all first addresses are those before a place, that of the place, and those after it
+pub starts_split : (core init : Bool) (rs : List (ℕ × ℕ)) (ps : List Part) (i : ℕ) (r : ℕ × ℕ) (p : Part) → i < length rs → i < length ps → is_of core init (get_or ps i p) ≡ true
+    → starts_of core init rs ps ≡ starts_of core init (take i rs) (take i ps) ++ (get_or rs i r).0 ∷ starts_of core init (drop (suc i) rs) (drop (suc i) ps)
+starts_split core init [] ps i r p lt lp is = absurd (omega arith)
+starts_split core init (x ∷ xs) [] i r p lt lp is = absurd (omega arith)
+starts_split core init (x ∷ xs) (y ∷ ys) zero r p lt lp is = rw is refl
+starts_split core init (x ∷ xs) (y ∷ ys) (suc i) r p lt lp is = grind (arith, common_steps, nat_tests, starts_split core init xs ys i r p (omega arith) (omega arith) is)
+
+-- words that begin with the first addresses so far, and have another one next or none, are not all
+pub other_words : (words starts more : List ℕ) (start count : ℕ) → starts ≡ take count words → count ≤ length words → (count < length words → (d : ℕ) → get_or words count d ≡ start → ⊥)
+    → bytes_eq (starts ++ start ∷ more) words ≡ false
+other_words words starts more start count is bound other = grind (arith, common_steps, nat_tests, bytes_decides, length-take-le, length-append, get_or-append_seam, bytes_decides (starts ++ start ∷ more) words, length-take-le count words bound, length-append starts (start ∷ more), get_or-append_seam starts start more 0)
+
+pub all_words : (words starts : List ℕ) (count : ℕ) → starts ≡ take count words → count ≤ length words → nat_eq count (length words) ≡ bytes_eq starts words
+all_words words starts count is bound = grind (arith, common_steps, nat_tests, eqb-true, bytes_decides, length-take-le, take-length, eq-eqb, cases_lt)

@@ -24,22 +24,25 @@ modules_are a b symbols g modules is gathers of_b =
     (λ (past, _). absurd (omega arith))
     (slice_get_cases g.modules.items k).1)
 
-abbrev pub entries : Option ModuleEntry → List ModuleEntry → CatalogEntries
-entries built_in modules = record { built_in = built_in; modules = modules }
-
 -- what the steps made is the catalog of these modules
 pub catalog_from : (a : Accepted) (g : Gathered) (symbols : List ListedSymbol) (built_in : Option ModuleEntry) (made : List ModuleEntry) → Gathers a symbols g → built_in ≡ built_in_with a.built_in g.built_in.items → made ≡ map (entry_for symbols) a.modules
-    → entries built_in made ≡ catalog_with a symbols
+    → ◌≡◌ {A = CatalogEntries} (record { built_in = built_in; modules = made }) (catalog_with a symbols)
 catalog_from a g symbols built_in made gathers first others = grind arith
 
--- how many regions the modules that were made have
-pub regions_made : (a : Accepted) (symbols : List ListedSymbol) (made : List ModuleEntry) → made ≡ map (entry_for symbols) a.modules → sum_by (λ m. length m.regions) made ≡ length (flat_map (λ m. m.regions) a.modules)
-regions_made a symbols made others = rw others (sym (length-flat_map (λ (m : ModuleEntry). m.regions) (map (entry_for symbols) a.modules)) ∙ ap length (module_regions symbols a.modules))
+-- what the modules that were made are, and how many regions and symbols they have
+pub record IsMade (a : Accepted) (symbols : List ListedSymbol) (g : Gathered) (made : List ModuleEntry) : Type 0 where
+  pub others : made ≡ map (entry_for symbols) a.modules
+  pub regions : sum_by (λ m. length m.regions) made ≡ length (flat_map (λ m. m.regions) a.modules)
+  pub kept : length g.built_in.items + sum_by (λ m. length m.symbols) made ≡ count_by (is_kept a) symbols
 
--- and how many symbols these and the kernel itself
-pub kept_made : (a : Accepted) (g : Gathered) (symbols : List ListedSymbol) (made : List ModuleEntry) → AreDistinctNames (names_of a.modules) → Gathers a symbols g → made ≡ map (entry_for symbols) a.modules
-    → length g.built_in.items + sum_by (λ m. length m.symbols) made ≡ count_by (is_kept a) symbols
-kept_made a g symbols made distinct gathers others = rw (gathers.built_in, others) (kept_in_lists a symbols distinct)
+pub made_of : (a b : Accepted) (symbols : List ListedSymbol) (g : Gathered) (made : List ModuleEntry) → b ≡ a → AreDistinctNames (names_of a.modules) → Gathers a symbols g → AreModules b.modules g.modules.items made → IsMade a symbols g made
+made_of a b symbols g made is distinct gathers of_b =
+    let others = modules_are a b symbols g made is gathers of_b in
+    record {
+      others = others;
+      regions = rw others (sym (length-flat_map (λ (m : ModuleEntry). m.regions) (map (entry_for symbols) a.modules)) ∙ ap length (module_regions symbols a.modules));
+      kept = rw (gathers.built_in, others) (kept_in_lists a symbols distinct);
+    }
 
 -- what the steps counted are the counts of these modules
 pub kept_from : (a : Accepted) (symbols : List ListedSymbol) (made : List ModuleEntry) (n regions kept listed : ℕ) → made ≡ map (entry_for symbols) a.modules → n ≡ length made → regions ≡ length (flat_map (λ m. m.regions) a.modules)

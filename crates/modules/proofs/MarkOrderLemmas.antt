@@ -38,16 +38,12 @@ module _ (xs ys : List Mark) (moved : IsPermutation xs ys) (stable : IsStableByK
   owns_moved : (m x : ℕ) → Owns ys m x → Owns xs m x
   owns_moved m x o = grind (arith, common_steps, nat_tests, nearest_moved, goes_on_moved, nearest_moved x o.mark o.nearest, goes_on_moved x o.mark)
 
--- a key sort the other way
-stable_back : (xs ys : List Mark) → IsStableByKey (λ (s : Mark). s.addr) nat_cmp xs ys → IsStableByKey (λ (s : Mark). s.addr) nat_cmp ys xs
-stable_back xs ys stable = λ l. sym (stable l)
-
 -- the regions of the sorted marks are those of the marks
 pub regions_moved : (xs ys : List Mark) (items : List Item) → IsPermutation xs ys → IsStableByKey (λ (s : Mark). s.addr) nat_cmp xs ys → AreRegions ys items → AreRegions xs items
 regions_moved xs ys items moved stable r = record {
   laid = r.laid;
   exact = λ m x. (
     λ h. let (lt, o) = (r.exact m x).0 h in (lt, owns_moved xs ys moved stable m x o),
-    λ (lt, o). (r.exact m x).1 (lt, owns_moved ys xs (IsPermutation-sym xs ys moved) (stable_back xs ys stable) m x o),
+    λ (lt, o). (r.exact m x).1 (lt, owns_moved ys xs (IsPermutation-sym xs ys moved) (λ l. sym (stable l)) m x o),
   );
 }

@@ -1,17 +1,12 @@
 -- Regions by the numbers of their modules.
 use Rattle.modules.proofs.Words.{◌≡◌, ℕ, ◌<◌, ◌≤◌, suc, true, false, cond, nat_eq, List, [], ◌∷◌, length, get_or, map, refl, ⊎_elim, arith, All, Contains, filter, AllPairs, common_steps, nat_tests}
-use Rattle.modules.proofs.Lemmas.{cases_lt, or_cases, or_left, or_right, eqb-true, eq-eqb, All-head, All-tail, All-cons, All-nil, AllPairs-cons, Contains-cons_cases, Contains-head, Contains-rest}
+use Rattle.modules.proofs.Lemmas.{cases_lt, or_cases, or_left, or_right, eqb-true, eq-eqb, All-head, All-tail, All-cons, All-filter, All-map, All-nil, AllPairs-cons, Contains-cons_cases, Contains-head, Contains-rest}
 use Rattle.modules.proofs.Definitions.{Item, ListedSymbol, holds, Follows, HoldsFor, AreRegions, Mark, ranges_of, numbered_module, StandsFor, HasItsRegions}
 use Rattle.modules.proofs.SpacedLemmas.{lies, inside, pairs_first, pairs_rest, within, Range}
 
 module _ (n : ℕ) where
   pub valid_ranges : (items : List Item) → All (λ i. i.a < i.b) items → All (λ (r : Range). r.0 < r.1) (ranges_of n items)
-  valid_ranges [] all = All-nil (λ (r : Range). r.0 < r.1)
-  valid_ranges (i ∷ is) all =
-      elim (nat_eq i.tag n) as (λ b. All (λ (r : Range). r.0 < r.1) (map (λ (x : Item). (x.a, x.b)) (cond b (i ∷ filter (λ x. nat_eq x.tag n) is) (filter (λ x. nat_eq x.tag n) is)))) [
-        | true ↦ All-cons (λ (r : Range). r.0 < r.1) (i.a, i.b) (ranges_of n is) (All-head (λ (x : Item). x.a < x.b) i is all) (valid_ranges is (All-tail (λ (x : Item). x.a < x.b) i is all))
-        | false ↦ valid_ranges is (All-tail (λ (x : Item). x.a < x.b) i is all)
-      ]
+  valid_ranges items all = All-map (λ (r : Range). r.0 < r.1) (λ (i : Item). (i.a, i.b)) (filter (λ (i : Item). nat_eq i.tag n) items) (All-filter (λ (i : Item). nat_eq i.tag n) (λ (i : Item). i.a < i.b) items all)
 
   past : (i : Item) (is : List Item) → i.tag ≡ n → All (Follows i) is → All (λ (r : Range). i.b < r.0) (ranges_of n is)
   past i [] its all = All-nil (λ (r : Range). i.b < r.0)
@@ -25,19 +20,9 @@ module _ (n : ℕ) where
         | false ↦ λ _. spaced is (pairs_rest (λ i j. Follows i j) i is pairs)
       ] refl
 
-  more : (i : Item) (is : List Item) (x : ℕ) → HoldsFor is n x → HoldsFor (i ∷ is) n x
-  more i is x h = record { item = h.item; there = Contains-rest i h.item is h.there; its = h.its; from = h.from; below = h.below }
-
   to_holds : (items : List Item) (x : ℕ) → lies (ranges_of n items) x ≡ true → HoldsFor items n x
   to_holds [] x h = absurd (cc)
-  to_holds (i ∷ is) x h =
-      elim (nat_eq i.tag n) as (λ b. nat_eq i.tag n ≡ b → lies (map (λ (y : Item). (y.a, y.b)) (cond b (i ∷ filter (λ y. nat_eq y.tag n) is) (filter (λ y. nat_eq y.tag n) is))) x ≡ true → HoldsFor (i ∷ is) n x) [
-        | true ↦ λ e l. ⊎_elim
-            (λ here. let (le, lt) = inside (i.a, i.b) x here in record { item = i; there = Contains-head i i is refl; its = eqb-true i.tag n e; from = le; below = lt })
-            (λ rest. more i is x (to_holds is x rest))
-            (or_cases (holds (i.a, i.b) x) (lies (ranges_of n is) x) l)
-        | false ↦ λ _ l. more i is x (to_holds is x l)
-      ] refl h
+  to_holds (i ∷ is) x h = grind (arith, or_cases (holds (i.a, i.b) x), inside (i.a, i.b) x, Contains-head i i is, Contains-rest i, eqb-true i.tag n, to_holds is x)
 
   pub from_holds : (items : List Item) (x : ℕ) (i : Item) → Contains items i → i.tag ≡ n → i.a ≤ x → x < i.b → lies (ranges_of n items) x ≡ true
   from_holds [] x i there its from below = absurd (omega (arith, there.1))

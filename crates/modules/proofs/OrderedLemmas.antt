@@ -1,7 +1,7 @@
 -- Copies of symbols in the order of their index.
 use Rattle.modules.proofs.Words.{◌≡◌, ℕ, ◌-◌, ◌<◌, ◌≤◌, List, [], length, get_or, Some, None, ap, sym, subst, ◌∙◌, ⊎_elim, arith, slice_get, option_map, common_steps}
 use Rattle.modules.proofs.Lemmas.{get_or-map, get_or_default, length-map, slice_get-get_or, slice_get_cases}
-use Rattle.modules.proofs.Definitions.{address_above, symbol_below, SymbolEntry, IsIndex, IsOrdered, IsRising, IsSplit, IsSplitOf, symbol_of_entry, IndexEntry}
+use Rattle.modules.proofs.Definitions.{IsSplitBy, address_above, symbol_below, SymbolEntry, IsIndex, IsOrdered, IsRising, IsSplit, symbol_of_entry, IndexEntry}
 use Rattle.modules.proofs.IndexLemmas.{each_entry, first_above, last_below as last_entry_below, none_above, none_below as no_entry_below, rising as index_rises}
 
 abbrev no_symbol : SymbolEntry
@@ -27,7 +27,7 @@ module _ (symbols ordered : List SymbolEntry) (is : IsOrdered symbols ordered) w
   rising = λ i j s le lt.
       omega (arith, as_many, address_at i s no_entry (omega (arith, as_many)), address_at j s no_entry (omega (arith, as_many)), index_rises symbols is.index is.is i j no_entry le (omega (arith, as_many)))
 
-  module _ (addr split : ℕ) (parts : IsSplitOf ordered addr split) where
+  module _ (addr split : ℕ) (parts : IsSplitBy (λ (s : SymbolEntry). s.addr) ordered addr split) where
     of_index : IsSplit is.index addr split
     of_index =
         let bound = parts.bound in

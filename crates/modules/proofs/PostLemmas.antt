@@ -2,10 +2,9 @@
 use Rattle.modules.proofs.Words.{◌≡◌, ◌≢◌, ℕ, ◌+◌, ◌-◌, ◌<◌, ◌≤◌, inl, inr, Bool, true, false, ◌&&◌, ◌||◌, nat_lt, nat_eq, cond, suc, List, [], ◌∷◌, ◌++◌, get_or, map, Option, Some, None, refl, sym, ap, subst, ◌∙◌, ⊎_elim, arith, ◌⊎◌, All, Contains, filter, find, is_none, first_so, second_so, position_from, option_and_then, option_map, option_map_or, bytes_eq, bytes_decides, rules, common_steps, nat_tests}
 use Rattle.modules.proofs.Lemmas.{and_from, and_parts, cases_lt, eq-eqb, eqb-true, le-leb, leb-true, lt-ltb, ltb-true, ne_eqb, or_cases, or_left, or_parts, or_right, position_from-zero, All-append, All-cons, All-map, All-contains, All-head, All-nil, All-tail, list_any_at, position-Some, Contains-append_left, Contains-append_right, Contains-get_or, Contains-map, AllPass-from_list_all, list_all-from_AllPass, Contains-slice_get, find-agree, find-filter, find-has, find-passes, find_place}
 use Rattle.modules.proofs.Definitions.{is_built_in, HaveFirstLines, kernel_marks, line_marks, mark_of, marks_of, name_of, number_for, number_in, ListedSymbol, StandsFor, GoesOn, IsFirstMark, IsNearestMark, IsNextMark, Owns, goes_on, is_in_page, is_nearest_line, is_next_line, is_of_one_module, is_outside, module_of_address, post_above, post_below, posts, reach, holds, lies_in_any, Mark}
-use Rattle.modules.proofs.HomeLemmas.{not_built_in}
+use Rattle.modules.proofs.GatheringLemmas.{not_built_in}
 use Rattle.modules.proofs.MarkOrderLemmas.{first_found, found_first, is_at}
-use Rattle.modules.proofs.OwnLineLemmas.{is_of, named}
-use Rattle.modules.proofs.SpacedLemmas.{inside, within}
+use Rattle.modules.proofs.SpacedLemmas.{is_of, named, inside, within}
 
 -- ---- what passes a test
 
@@ -165,6 +164,10 @@ kernel_clear (r ∷ rs) x a t out all in' =
     (λ rest. kernel_clear rs x a t parts.1 (All-tail (λ (s : ℕ × ℕ). (s.0 ≤ a) ⊎ (x < s.0)) r rs all) rest)
     (or_cases (holds r t) (lies_in_any rs t) in')
 
+-- the line that says whose an address is
+pub owned : (ls : List ListedSymbol) (x : ℕ) (name : List ℕ) (o : Option ListedSymbol) → option_and_then (λ (l : ListedSymbol). cond (is_in_page l.addr x || goes_on ls x l) l.owner None) o ≡ Some name → (l : ListedSymbol) × (o ≡ Some l) × ((is_in_page l.addr x || goes_on ls x l) ≡ true) × (l.owner ≡ Some name)
+owned ls x name o h = grind arith
+
 module _ (names : List (List ℕ)) (lines : List ListedSymbol) where
   -- ---- the first mark of an address
 
@@ -301,9 +304,6 @@ module _ (names : List (List ℕ)) (lines : List ListedSymbol) where
       grind (arith, common_steps, nat_tests, next_near, next_line_is, find-passes, next_by_address, listed_found, mark_next, next_marks, mark_of_first, found_outside, next_line_is ps x t (find-passes (is_next_line ps x) ps t at), find-passes (is_next_line ps x) ps t at, next_by_address ps x t (listed_found (is_next_line ps x) ps t at), listed_found (is_next_line ps x) ps t at, mark_next (marks_of kernel names lines) x (mark_of names t), next_marks kernel x t.addr has, mark_of_first kernel t has (found_outside kernel (is_next_line ps x) t name at its), found_outside kernel (is_next_line ps x) t name at its)
 
   -- ---- whose an address is
-
-  owned : (ls : List ListedSymbol) (x : ℕ) (name : List ℕ) (o : Option ListedSymbol) → option_and_then (λ (l : ListedSymbol). cond (is_in_page l.addr x || goes_on ls x l) l.owner None) o ≡ Some name → (l : ListedSymbol) × (o ≡ Some l) × ((is_in_page l.addr x || goes_on ls x l) ≡ true) × (l.owner ≡ Some name)
-  owned ls x name o h = grind arith
 
   to_lines : (kernel : List (ℕ × ℕ)) (n x : ℕ) (name : List ℕ) → n ≢ 0 → number_in names name ≡ n → Owns (marks_of kernel names lines) n x → module_of_address (posts kernel lines) x ≡ Some name
   to_lines kernel n x name some is o =

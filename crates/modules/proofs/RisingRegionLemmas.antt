@@ -12,35 +12,28 @@ module _ (regions : List (ℕ × ℕ)) (r : AreRising regions) where
   starts_rise = grind (arith, ends_before, cases_lt)
 
   module _ (addr split : ℕ) (parts : IsSplitBy (λ s. s.0) regions addr split) where
-    above : (k : ℕ) (d : ℕ × ℕ) → split ≤ k → k < length regions → holds (get_or regions k d) addr ≡ false
-    above k d le lt = grind (arith, false_from_ne_true, inside)
-
-    before_last : (k : ℕ) (d : ℕ × ℕ) → k < split - 1 → holds (get_or regions k d) addr ≡ false
-    before_last k d lt = grind (arith, false_from_ne_true, inside, ends_before)
-
     -- no region begins at or below the address
     pub in_none : split ≡ 0 → lies_in_any regions addr ≡ false
-    in_none e = list_any_none (λ s. holds s addr) regions (λ k d lt. above k d (omega arith) lt)
+    in_none e = list_any_none (λ s. holds s addr) regions (λ k d lt. false_from_ne_true (holds (get_or regions k d) addr) (λ h. let (le, _) = inside (get_or regions k d) addr h in let far : addr < (get_or regions k d).0 = parts.above k d (omega arith) lt in omega arith))
 
-    -- the last that does so is the only one that may hold it
+    -- a region that holds the address is the last that does so
+    only_last : (k : ℕ) (d : ℕ × ℕ) → k < length regions → holds (get_or regions k d) addr ≡ true → k ≡ split - 1
+    only_last k d lt h =
+        let (le, less) = inside (get_or regions k d) addr h in
+        let b = parts.bound in
+        ⊎_elim
+        (λ before. let gap = ends_before k (split - 1) d before (omega arith) in let low = parts.below (split - 1) d (omega arith) in absurd (omega arith))
+        (λ ge. ⊎_elim (λ under. omega arith) (λ past. let far = parts.above k d past lt in absurd (omega arith)) (cases_lt k split))
+        (cases_lt k (split - 1))
+
+    -- the last that begins at or below it is the only one that may hold it
     pub in_last : (d : ℕ × ℕ) → 0 < split → holds (get_or regions (split - 1) d) addr ≡ lies_in_any regions addr
     in_last d some =
         elim (holds (get_or regions (split - 1) d) addr) as (λ b. holds (get_or regions (split - 1) d) addr ≡ b → b ≡ lies_in_any regions addr) [
           | true ↦ λ e. sym (list_any_at (λ s. holds s addr) regions (split - 1) d (let b = parts.bound in omega arith) e)
-          | false ↦ λ e. sym (list_any_none (λ s. holds s addr) regions (λ k x lt. ⊎_elim
-              (λ before. before_last k x before)
-              (λ ge. ⊎_elim
-              (λ less. at_last k x lt less ge e)
-              (λ past. above k x past lt)
-              (cases_lt k split))
-              (cases_lt k (split - 1))))
+          | false ↦ λ e. sym (list_any_none (λ s. holds s addr) regions (λ k x lt. false_from_ne_true (holds (get_or regions k x) addr) (λ h.
+              let same : holds (get_or regions (split - 1) d) addr ≡ true = subst (λ n. holds (get_or regions n d) addr ≡ true) (only_last k x lt h) (subst (λ s. holds s addr ≡ true) (get_or_default regions k x d lt) h) in cc)))
         ] refl
-      where
-        at_last : (k : ℕ) (x : ℕ × ℕ) → k < length regions → k < split → split - 1 ≤ k → holds (get_or regions (split - 1) d) addr ≡ false → holds (get_or regions k x) addr ≡ false
-        at_last k x lt less ge e =
-            let same : split - 1 ≡ k = omega arith in
-            subst (λ n. holds (get_or regions n x) addr ≡ false) same
-            (subst (λ s. holds s addr ≡ false) (get_or_default regions (split - 1) d x (let b = parts.bound in omega arith)) e)
 
 -- what a binary search of them tells
 pub ruleset rising_search = (common_steps, le-ltb, starts_rise, in_none, in_last)

@@ -1,6 +1,6 @@
 -- Lines that have the name of their module by their run.
-use Rattle.modules.proofs.Words.{◌≡◌, ℕ, zero, suc, ◌<◌, true, false, ◌&&◌, List, [], ◌∷◌, ◌++◌, length, map, take, drop, get_or, Some, None, Option, refl, sym, ap, ◌∙◌, arith, append_assoc, find, is_none, is_some, Bor, option_copied, option_map, bytes_eq, common_steps, nat_tests}
-use Rattle.modules.proofs.Lemmas.{map-append, append-nil, flat_map-append, take_more}
+use Rattle.modules.proofs.Words.{◌≡◌, ℕ, zero, suc, ◌<◌, true, false, ◌&&◌, List, [], ◌∷◌, ◌++◌, length, map, take, drop, get_or, Some, None, Option, refl, sym, ap, ◌∙◌, arith, append_assoc, find, is_none, is_some, Bor, option_copied, option_map, option_or, bytes_eq, common_steps, nat_tests}
+use Rattle.modules.proofs.Lemmas.{map-append, append-nil, flat_map-append, find-append, take_more}
 use Rattle.modules.proofs.Definitions.{SymbolEntry, first_address, ListedSymbol, line_of, lines_of_run, lines_of_all, Run}
 
 -- the lines of all runs, and those of the last
@@ -20,15 +20,9 @@ pub first_of_kernel : (name : List ℕ) (ss : List SymbolEntry) → first_addres
 first_of_kernel name [] = refl
 first_of_kernel name (s ∷ ss) = grind (arith, first_of_kernel name ss)
 
--- where the first lines have none of this name, the others decide
-pub first_address-append : (name : List ℕ) (xs ys : List ListedSymbol) → first_address name xs ≡ None → first_address name (xs ++ ys) ≡ first_address name ys
-first_address-append name [] ys none = refl
-first_address-append name (x ∷ xs) ys none = grind (arith, common_steps, nat_tests, first_address-append name xs ys)
-
--- and where they have one, it is the first
-pub first_address-front : (name : List ℕ) (xs ys : List ListedSymbol) (addr : ℕ) → first_address name xs ≡ Some addr → first_address name (xs ++ ys) ≡ Some addr
-first_address-front name [] ys addr some = cc
-first_address-front name (x ∷ xs) ys addr some = grind (arith, common_steps, nat_tests, first_address-front name xs ys addr)
+-- the first line of this name, of lines and of others after them
+pub first_address-append : (name : List ℕ) (xs ys : List ListedSymbol) → first_address name (xs ++ ys) ≡ option_or (first_address name xs) (first_address name ys)
+first_address-append name xs ys = grind (arith, find-append (λ (l : ListedSymbol). is_none l.owner && bytes_eq l.name name) xs ys)
 
 -- of a run
 pub first_of_some : (m : Option (Bor (List ℕ))) (name : List ℕ) (ss : List SymbolEntry) → is_some m ≡ true → None ≡ first_address name (map (line_of (option_copied m)) ss)
@@ -48,11 +42,8 @@ pub lines_of-more : (m n : Option (Bor (List ℕ))) (ss ts : List SymbolEntry) (
 lines_of-more m n ss ts s same more = grind (arith, map-append)
 
 -- the first line of a name, in all runs but the last or in the last
-pub first_in_last : (runs : List Run) (last : Run) (name : List ℕ) → first_address name (lines_of_all runs) ≡ None → first_address name (lines_of_all (runs ++ last ∷ [])) ≡ first_address name (lines_of_run last)
-first_in_last runs last name none = ap (first_address name) (lines_of_all-last runs last) ∙ first_address-append name (lines_of_all runs) (lines_of_run last) none
-
-pub first_in_front : (runs : List Run) (last : Run) (name : List ℕ) (o : Option ℕ) → (o ≡ None → ⊥) → o ≡ first_address name (lines_of_all runs) → o ≡ first_address name (lines_of_all (runs ++ last ∷ []))
-first_in_front runs last name o some is = grind (arith, lines_of_all-last, first_address-front)
+pub first_in_runs : (runs : List Run) (last : Run) (name : List ℕ) → first_address name (lines_of_all (runs ++ last ∷ [])) ≡ option_or (first_address name (lines_of_all runs)) (first_address name (lines_of_run last))
+first_in_runs runs last name = ap (first_address name) (lines_of_all-last runs last) ∙ first_address-append name (lines_of_all runs) (lines_of_run last)
 
 -- run by run
-pub ruleset run_by_run = (common_steps, take_more, lines_of_all-last, first_address-append)
+pub ruleset run_by_run = (common_steps, take_more, first_in_runs)

@@ -60,14 +60,11 @@ AreSoundModules-none built_in apart = grind (arith, All-nil, AllPairs-few, appen
 -- ---- the regions of the kernel itself
 
 -- a region between two symbols has an address
-pub valid_built_in : (start end : Option ℕ) → IfSome {T = ℕ × ℕ} (option_and_then (λ s. option_and_then (λ e. cond (nat_lt s e) (Some (s, e)) None) end) start) (λ r. r.0 < r.1)
-valid_built_in start end = grind arith
-
 abbrev IsValid : Option (ℕ × ℕ) → Type 0
 IsValid region = IfSome region (λ r. r.0 < r.1)
 
 valid_region : (names : BoundNames) (lines : List ListedSymbol) → IsValid (built_in_region names lines)
-valid_region names lines = valid_built_in (first_address names.start lines) (first_address names.end lines)
+valid_region names lines = grind arith
 
 apart_listed : (region : Option (ℕ × ℕ)) → IsValid region → AreApart (option_to_list region)
 apart_listed region valid = grind arith

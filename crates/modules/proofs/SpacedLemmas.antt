@@ -1,7 +1,7 @@
 -- Regions by rising address, with addresses between any two, are determined by what they hold.
-use Rattle.modules.proofs.Words.{◌≡◌, ℕ, ◌<◌, ◌≤◌, suc, Bool, true, List, [], ◌∷◌, map, Option, Some, refl, ap, sym, ◌∙◌, ⊎_elim, arith, All, AllPairs, list_any, common_steps, nat_tests}
+use Rattle.modules.proofs.Words.{◌≡◌, ℕ, ◌<◌, ◌≤◌, suc, Bool, true, List, [], ◌∷◌, map, Option, Some, refl, ap, sym, ◌∙◌, ⊎_elim, arith, All, AllPairs, list_any, common_steps, nat_tests, ◌-◌, ◌^◌, false, option_map_or, bytes_eq, bytes_decides}
 use Rattle.modules.proofs.Lemmas.{cases_lt, or_cases, or_left, or_right, All-head, All-tail}
-use Rattle.modules.proofs.Definitions.{Accepted, kernel_regions, BoundNames, ListedSymbol, posts, PlacedModule, holds, HasItsRegions, IsFromSymbols}
+use Rattle.modules.proofs.Definitions.{Accepted, kernel_regions, BoundNames, ListedSymbol, posts, PlacedModule, holds, HasItsRegions, IsFromSymbols, belongs, is_kept_line}
 
 abbrev pub Range : Type 0
 Range = ℕ × ℕ
@@ -29,11 +29,7 @@ Before r s = r.1 < s.0
 -- all addresses of regions that begin above one lie above it
 above : (rs : List Range) (n x : ℕ) → All (λ s. n < s.0) rs → lies rs x ≡ true → n < x
 above [] n x all h = absurd (cc)
-above (s ∷ ss) n x all h =
-    ⊎_elim
-    (λ here. let (le, lt) = inside s x here in let a : n < s.0 = All-head (λ (t : Range). n < t.0) s ss all in omega arith)
-    (λ rest. above ss n x (All-tail (λ (t : Range). n < t.0) s ss all) rest)
-    (or_cases (holds s x) (lies ss x) h)
+above (s ∷ ss) n x all h = grind (arith, inside, or_cases, All-head, above ss n x (All-tail (λ (t : Range). n < t.0) s ss all))
 
 module _ (r : Range) (rs : List Range) (s : Range) (ss : List Range) (r_valid : r.0 < r.1) (s_valid : s.0 < s.1) (r_last : All (λ t. r.1 < t.0) rs) (s_last : All (λ t. s.1 < t.0) ss) (sub : (x : ℕ) → lies (r ∷ rs) x ≡ true → lies (s ∷ ss) x ≡ true) where
   in_first : (x : ℕ) → r.0 ≤ x → x < r.1 → lies (s ∷ ss) x ≡ true
@@ -88,3 +84,17 @@ pub same_accepted : (names : Option BoundNames) (lines : List ListedSymbol) (a b
 same_accepted names lines a b p q =
     let modules : a.modules ≡ b.modules = same_modules (posts (kernel_regions names lines) lines) a.modules b.modules (p.named ∙ sym q.named) p.regions q.regions in
     grind (arith, common_steps, nat_tests, same_modules)
+
+-- ---- what is kept by the regions is what is kept by the lines
+
+pub named : (name : List ℕ) → bytes_eq name name ≡ true
+named name = (bytes_decides name name).1 refl
+
+pub is_of : (name : List ℕ) (o : Option (List ℕ)) → option_map_or (bytes_eq name) o false ≡ true → o ≡ Some name
+is_of name o h = grind (arith, bytes_decides)
+
+pub of_is : (name : List ℕ) (o : Option (List ℕ)) → o ≡ Some name → option_map_or (bytes_eq name) o false ≡ true
+of_is name o e = rw e (named name)
+
+pub kept_same : (lines : List ListedSymbol) (m : PlacedModule) (l : ListedSymbol) → HasItsRegions lines m → l.addr < 2 ^ 64 - 1 → l.owner ≡ Some m.name → belongs m l ≡ is_kept_line lines l
+kept_same lines m l h lt own = grind (arith, named, of_is, is_of)

@@ -1,22 +1,16 @@
 -- A region beside regions that are spread.
-use Rattle.modules.proofs.Words.{◌≡◌, ℕ, ◌<◌, ◌≤◌, true, false, nat_le, get_or, Some, None, refl, sym, ap, ◌∙◌, ⊎_elim, arith, Contains, IsSome, list_all, nat_cmp, BTreeMap, IsOrdered, Updates, get, nat_tests, common_steps}
+use Rattle.modules.proofs.Words.{◌≡◌, ℕ, ◌<◌, ◌≤◌, ◌⊎◌, inl, inr, true, false, nat_le, get_or, Some, None, refl, sym, ap, ◌∙◌, ⊎_elim, arith, Contains, IsSome, list_all, nat_cmp, BTreeMap, IsOrdered, Updates, get, nat_tests, common_steps}
 use Rattle.modules.proofs.Lemmas.{cases_lt, cases_order, nat_cmp_total, Contains-get_or, All-contains, AllPass-from_list_all, list_all-from_AllPass, exact_unsigned, All-found, btree_map_get_iff, inserted_cases, list_all-insert_entry}
 use Rattle.modules.proofs.Definitions.{is_apart, IsSpread}
 
-pub apart_before : (r s : ℕ × ℕ) → s.1 ≤ r.0 → is_apart r s ≡ true
-apart_before r s h = grind (arith, nat_tests)
+pub apart_if : (r s : ℕ × ℕ) → (r.1 ≤ s.0) ⊎ (s.1 ≤ r.0) → is_apart r s ≡ true
+apart_if r s h = grind (arith, nat_tests)
 
-pub apart_after : (r s : ℕ × ℕ) → r.1 ≤ s.0 → is_apart r s ≡ true
-apart_after r s h = grind (arith, nat_tests)
+pub apart_cases : (r s : ℕ × ℕ) → is_apart r s ≡ true → (r.1 ≤ s.0) ⊎ (s.1 ≤ r.0)
+apart_cases r s h = grind (arith, nat_tests, cases_lt s.0 r.1)
 
-pub not_apart : (r s : ℕ × ℕ) → s.0 < r.1 → r.0 < s.1 → is_apart r s ≡ false
+not_apart : (r s : ℕ × ℕ) → s.0 < r.1 → r.0 < s.1 → is_apart r s ≡ false
 not_apart r s h k = grind (arith, nat_tests)
-
-pub before_or_after : (r s : ℕ × ℕ) → is_apart r s ≡ true → r.0 < s.1 → r.1 ≤ s.0
-before_or_after r s h k = grind (arith, nat_tests)
-
-pub after_other : (r s : ℕ × ℕ) → is_apart r s ≡ true → s.0 < r.1 → s.1 ≤ r.0
-after_other r s h k = grind (arith, nat_tests)
 
 -- where the region with the greatest start below b ends at a or before it, all are apart from a ..
 -- b
@@ -30,13 +24,13 @@ apart_from_last m ordered spread a b s e found last ends =
     ⊎_elim
     (λ below.
     ⊎_elim
-    (λ same. apart_before (a, b) r (let is : Some r.1 ≡ Some e = sym at ∙ ap (get nat_cmp m) same ∙ found in let ends_are : r.1 ≡ e = cc in omega arith))
+    (λ same. apart_if (a, b) r (inr (let is : Some r.1 ≡ Some e = sym at ∙ ap (get nat_cmp m) same ∙ found in let ends_are : r.1 ≡ e = cc in omega arith)))
     (λ other. ⊎_elim
-    (λ lower. apart_before (a, b) r (let before : r.1 ≤ s = spread.spread r (s, e) here there lower in let valid : s < e = All-contains (λ (x : ℕ × ℕ). x.0 < x.1) m.entries (s, e) spread.valid there in omega arith))
+    (λ lower. apart_if (a, b) r (inr (let before : r.1 ≤ s = spread.spread r (s, e) here there lower in let valid : s < e = All-contains (λ (x : ℕ × ℕ). x.0 < x.1) m.entries (s, e) spread.valid there in omega arith)))
     (λ upper. let le : r.0 ≤ s = last r.0 below (let some : IsSome (get nat_cmp m r.0) = rw at refl in some) in absurd (omega arith))
     other)
     (cases_order r.0 s))
-    (λ above. apart_after (a, b) r above)
+    (λ above. apart_if (a, b) r (inl above))
     (cases_lt r.0 b))
 
 -- where no region begins below b, all are apart from a .. b
@@ -47,7 +41,7 @@ apart_from_none m ordered a b none =
     let at : get nat_cmp m r.0 ≡ Some r.1 = All-found nat_cmp_total m ordered k d lt in
     ⊎_elim
     (λ below. let nothing : get nat_cmp m r.0 ≡ None = none r.0 below in absurd (cc))
-    (λ above. apart_after (a, b) r above)
+    (λ above. apart_if (a, b) r (inl above))
     (cases_lt r.0 b))
 
 -- a region that begins below b and ends above a is not apart from a .. b
@@ -81,10 +75,10 @@ IsSpread-inserted m n om on a b some spread apart updates =
           ⊎_elim
           (λ new_r. ⊎_elim
           (λ new_s. absurd (omega (arith, new_r.0, new_s.0)))
-          (λ old_s. let is_valid : s.0 < s.1 = old_valid s old_s in let h : b ≤ s.0 = before_or_after (a, b) s (beside s old_s) (omega (arith, new_r.0)) in omega (arith, new_r.1))
+          (λ old_s. let is_valid : s.0 < s.1 = old_valid s old_s in let h : b ≤ s.0 = ⊎_elim (λ le. le) (λ ge. absurd (omega (arith, new_r.0))) (apart_cases (a, b) s (beside s old_s)) in omega (arith, new_r.1))
           (inserted_cases m n om on a b updates s in_s))
           (λ old_r. ⊎_elim
-          (λ new_s. let is_valid : r.0 < r.1 = old_valid r old_r in let h : r.1 ≤ a = after_other (a, b) r (beside r old_r) (omega (arith, new_s.0)) in omega (arith, new_s.0))
+          (λ new_s. let is_valid : r.0 < r.1 = old_valid r old_r in let h : r.1 ≤ a = ⊎_elim (λ le. absurd (omega (arith, new_s.0))) (λ ge. ge) (apart_cases (a, b) r (beside r old_r)) in omega (arith, new_s.0))
           (λ old_s. spread.spread r s old_r old_s lt)
           (inserted_cases m n om on a b updates s in_s))
           (inserted_cases m n om on a b updates r in_r);

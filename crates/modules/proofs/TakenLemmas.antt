@@ -4,16 +4,9 @@ use Rattle.modules.proofs.Lemmas.{set, length-set, cases_eq, eqb-true, eq-eqb, n
 use Rattle.modules.proofs.Definitions.{Item, half_open, look, AreLeft, is_kept_mark, kept_numbers, modules_numbered, name_of, with_number, numbered_module, ranges_of, AreLaid, AreRegions, HoldsFor, PlacedModule, AreRising, Mark}
 use Rattle.modules.proofs.MarkedModuleLemmas.{from_holds, spaced, valid_ranges}
 
--- ---- the ranges of one item more
-
-abbrev range_of : Item → ℕ × ℕ
-range_of i = (i.a, i.b)
-
--- ---- a list at a place
-
 -- the list of a number grows by the range of an item
 pub left_more : (count k : ℕ) (items : List Item) (i d : Item) (lists : List (Vec (ℕ × ℕ))) (v u : Vec (ℕ × ℕ)) → k < length items → i ≡ get_or items k d → i.tag < count → AreLeft count (take k items) [] lists
-    → u ≡ get_or lists i.tag u → v.items ≡ u.items ++ range_of i ∷ [] → AreLeft count (take (k + 1) items) [] (set lists i.tag v)
+    → u ≡ get_or lists i.tag u → v.items ≡ u.items ++ (i.a, i.b) ∷ [] → AreLeft count (take (k + 1) items) [] (set lists i.tag v)
 left_more count k items i d lists v u lt is within left at pushed = grind (arith, common_steps, nat_tests, length-set, cases_eq, take_more, set, get_or-set_at, eq-eqb, get_or-set_other, append-nil, ne_eqb)
 
 -- ---- one number more that is taken
@@ -90,9 +83,7 @@ few_ranges (i ∷ is) ns once = omega (arith, few_ranges is ns once, one_item i 
 
 none_counted : (t : ℕ) (ns : List ℕ) → list_any (nat_eq t) ns ≡ false → count_by (nat_eq t) ns ≡ 0
 none_counted t [] absent = refl
-none_counted t (n ∷ ns) absent =
-    let both = or_parts (nat_eq t n) (list_any (nat_eq t) ns) absent in
-    sum_by-cons (λ (x : ℕ). cond (nat_eq t x) 1 0) n ns ∙ ap (λ b. cond b 1 0 + count_by (nat_eq t) ns) both.0 ∙ zero-add (count_by (nat_eq t) ns) ∙ none_counted t ns both.1
+none_counted t (n ∷ ns) absent = grind (arith, common_steps, sum_by-cons, or_parts, none_counted t ns)
 
 once_more : (ns : List ℕ) (n : ℕ) → AreOnce ns → AreOnce (with_number ns n)
 once_more ns n once =

@@ -7,7 +7,7 @@ pub use Rattle.std.specs.Cmp.Lexicographic.{bytes_decides, slice_cmp}
 pub use Rattle.std.specs.Global.{Vec}
 pub use Rattle.std.specs.List.{AllPairs, IsAllAdjacentAnswer, enumerate_from, list_all, list_any, position_from, range_with_len}
 pub use Rattle.std.specs.List.Sorted.{IsNonDecreasingBy, IsPartitionPoint, IsPartitionedBy, IsSortedBy, IsStableBy, IsStableByKey, ties}
-pub use Rattle.std.specs.Option.{option_and_then, option_copied, option_map, option_map_or, option_to_list}
+pub use Rattle.std.specs.Option.{option_and_then, option_copied, option_map, option_map_or, option_or, option_to_list}
 pub use Rattle.std.specs.Ordering.{is_eq, is_le, is_lt, nat_cmp, ordering_index}
 pub use Rattle.std.specs.Str.{bytes_eq}
 pub use Rattle.std.specs.Vec.Iter.{into_iter_items}

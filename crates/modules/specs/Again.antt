@@ -1,10 +1,11 @@
--- For which addresses the same is found as was found last.
-use Rattle.std.specs.Prelude.{◌≡◌, ℕ, ◌-◌, ◌<◌, ◌≤◌, Some}
+-- For which addresses the same is found as was found last, and what a finder keeps.
+use Rattle.std.specs.Prelude.{◌≡◌, ℕ, ◌-◌, ◌<◌, ◌≤◌, IfSome, Some}
 use Rattle.order_laws.specs.declared.items.Item.{Item}
 use Rattle.modules.specs.Catalogs.{module_of}
 use Rattle.modules.specs.Entries.{CatalogEntries, ModuleEntry}
 use Rattle.modules.specs.Found.{symbol_at}
 use Rattle.modules.specs.Items.{item_of_address}
+use Rattle.modules.specs.declared.finder.Finder.TheInside.{Inside}
 use Rattle.modules.specs.declared.finder.LastFound.{LastFound}
 
 -- each address of the item lies in it alone, and it is a region of this module
@@ -22,3 +23,7 @@ pub record IsSameWithin (c : CatalogEntries) (l : LastFound) : Type 0 where
         offset = x - l.symbol.now.addr;
         size = l.size;
       })
+
+pub record IsWholeFinder (f : Inside) : Type 0 where
+  pub region : IfSome f.region (λ r. IsRegionOf f.catalog.now r.item r.owner.now)
+  pub last : IfSome f.last (IsSameWithin f.catalog.now)

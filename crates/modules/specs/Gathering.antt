@@ -44,26 +44,17 @@ HasRoom g owner.BuiltIn = Unit {0}
 HasRoom g (owner.Module place) = place < vec_len g.modules
 HasRoom g owner.Nobody = Unit {0}
 
--- the lists of all modules but that at the place are as they were
-abbrev pub OthersStay : ℕ → Gathered → Gathered → Type 0
-OthersStay place g h =
-    (j : ℕ) (d : Vec SymbolEntry) → j ≢ place
-    → slice_index_or h.modules.items j d ≡ slice_index_or g.modules.items j d
-
--- the list at the place has these symbols more
-abbrev pub GathersMore : ℕ → List SymbolEntry → Gathered → Gathered → Type 0
-GathersMore place kept g h =
-    (d : Vec SymbolEntry)
-    → (slice_index_or h.modules.items place d).items
-    ≡ (slice_index_or g.modules.items place d).items ++ kept
-
 -- the list of the owner has these symbols more, and the other lists are as they were
 abbrev pub Keeps : Owner → List SymbolEntry → Gathered → Gathered → Type 0
 Keeps owner.BuiltIn kept g h =
     (h.built_in.items ≡ g.built_in.items ++ kept) × (h.modules.items ≡ g.modules.items)
 Keeps (owner.Module place) kept g h =
     (h.built_in.items ≡ g.built_in.items) × (length h.modules.items ≡ length g.modules.items)
-    × GathersMore place kept g h × OthersStay place g h
+    × ((d : Vec SymbolEntry)
+    → (slice_index_or h.modules.items place d).items
+    ≡ (slice_index_or g.modules.items place d).items ++ kept)
+    × ((j : ℕ) (d : Vec SymbolEntry) → j ≢ place
+    → slice_index_or h.modules.items j d ≡ slice_index_or g.modules.items j d)
 Keeps owner.Nobody kept g h =
     (h.built_in.items ≡ g.built_in.items) × (h.modules.items ≡ g.modules.items)
 

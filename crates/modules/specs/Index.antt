@@ -41,10 +41,6 @@ IsSplit index addr place = IsSplitBy (λ e. e.addr) index addr place
 abbrev pub IsRising : List SymbolEntry → Type 0
 IsRising symbols = IsNonDecreasingBy (λ s. s.addr) symbols
 
--- the symbols below the place are not above the address, and the others are
-abbrev pub IsSplitOf : List SymbolEntry → ℕ → ℕ → Type 0
-IsSplitOf symbols addr place = IsSplitBy (λ s. s.addr) symbols addr place
-
 -- the symbols below the place are below the address, and the others are not
 pub record IsFirstOf (symbols : List SymbolEntry) (addr place : ℕ) : Type 0 where
   pub bound : place ≤ length symbols
@@ -58,11 +54,6 @@ pub record IsFirstBorder {A : Type 0} (measure : A → ℕ) (xs : List A) (addr 
   pub bound : place ≤ length xs
   pub below : (d : A) → 0 < place → measure (slice_index_or xs (place - 1) d) < addr
   pub others : (d : A) → place < length xs → addr ≤ measure (slice_index_or xs place d)
-
--- the first of the symbols that have the address of the one at a place
-abbrev pub IsFirstAt : List SymbolEntry → ℕ → ℕ → Type 0
-IsFirstAt symbols place first =
-    (d : SymbolEntry) → IsFirstOf symbols (slice_index_or symbols place d).addr first
 
 -- the symbol that an entry of their index stands for
 abbrev pub symbol_of_entry : List SymbolEntry → IndexEntry → SymbolEntry

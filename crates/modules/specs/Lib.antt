@@ -48,8 +48,6 @@ pub mod LineMarks
 pub mod FoundNames
 -- lines of symbols that have the name of their module by the number of a run
 pub mod Runs
--- regions in the order of their first addresses
-pub mod Spread
 -- what has a name, in the order of names
 pub mod ByName
 -- the region lines by name
@@ -66,11 +64,7 @@ pub mod Index
 pub mod Modules
 -- what a catalog keeps
 pub mod Sound
--- the items of all regions by rising first address
+-- the items of all regions by rising first address, and the catalog that has them
 pub mod RegionIndexes
--- what the catalog with this list keeps
-pub mod IndexedCatalogs
--- for which addresses the same is found
+-- for which addresses the same is found, and what a finder keeps
 pub mod Again
--- what a finder keeps
-pub mod Finders

@@ -1,5 +1,5 @@
 -- Modules in their regions.
-use Rattle.std.specs.Prelude.{◌≡◌, All}
+use Rattle.std.specs.Prelude.{All}
 use Rattle.modules.specs.Accepted.{Accepted, accepted_with, names_of, taken_regions}
 use Rattle.modules.specs.Kept.{AreDistinctNames}
 use Rattle.modules.specs.Placed.{IsPlaced}
@@ -8,10 +8,6 @@ use Rattle.modules.specs.declared.placed_modules.PlacedModules.TheInside.{Inside
 
 abbrev pub placed_modules_view : Inside → Accepted
 placed_modules_view p = accepted_with p.built_in.items p.modules.items
-
--- their names are those that are found
-abbrev pub AreFound : Inside → Type 0
-AreFound p = names_of p.modules.items ≡ p.names
 
 -- each module has a region of its core, all regions have addresses and lie apart, and no two
 -- modules have one name

@@ -1,6 +1,6 @@
 -- Regions of addresses, from a first address up to an end that is excluded.
-use Rattle.std.specs.Prelude.{◌≡◌, ℕ, ◌<◌, Bool, true, ◌||◌, ◌&&◌, nat_le, nat_lt, List, [], ◌∷◌}
-use Rattle.std.specs.Prelude.{All}
+use Rattle.std.specs.Prelude.{◌≡◌, ℕ, ◌<◌, ◌≤◌, Bool, true, ◌||◌, ◌&&◌, nat_le, nat_lt, List, [], ◌∷◌}
+use Rattle.std.specs.Prelude.{All, Contains}
 use Rattle.std.specs.List.{AllPairs, list_all, list_any}
 
 -- no address lies in both
@@ -33,3 +33,8 @@ pub record AreApart (regions : List (ℕ × ℕ)) : Type 0 where
 pub record AreRising (regions : List (ℕ × ℕ)) : Type 0 where
   pub valid : All (λ r. r.0 < r.1) regions
   pub rising : AllPairs (λ r s. r.1 < s.0) regions
+
+-- each has an address, and ends before the next one begins
+pub record IsSpread (regions : List (ℕ × ℕ)) : Type 0 where
+  pub valid : All (λ r. r.0 < r.1) regions
+  pub spread : (r s : ℕ × ℕ) → Contains regions r → Contains regions s → r.0 < s.0 → r.1 ≤ s.0

@@ -1,5 +1,5 @@
 -- Lines of symbols in runs of one module.
-use Rattle.std.specs.Prelude.{ℕ, List, [], ◌∷◌, map, flat_map, Option}
+use Rattle.std.specs.Prelude.{ℕ, List, map, flat_map, Option}
 use Rattle.std.specs.Option.{option_copied}
 use Rattle.modules.specs.Entries.{SymbolEntry}
 use Rattle.modules.specs.Listed.{ListedSymbol}
@@ -8,9 +8,6 @@ use Rattle.modules.specs.declared.symbol_lines.Run.{Run}
 -- the line of a symbol of this module, or of the kernel itself
 abbrev pub line_of : Option (List ℕ) → SymbolEntry → ListedSymbol
 line_of owner s = record { addr = s.addr; name = s.name; owner = owner }
-
-abbrev pub one_line : Option (List ℕ) → SymbolEntry → List ListedSymbol
-one_line owner s = line_of owner s ∷ []
 
 -- the lines of a run
 abbrev pub lines_of_run : Run → List ListedSymbol

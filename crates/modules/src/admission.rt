@@ -44,13 +44,6 @@ fn are_beside(taken: &Regions, regions: &[Region]) -> bool
     regions.iter().all(|region| taken.is_apart(*region))
 }
 
-/// Whether the regions lie apart from each other and from those that are taken.
-fn are_free(taken: &Regions, regions: &[Region]) -> bool
-    ensures { result ≡ (lie_apart regions.now && are_beside taken.now regions.now) }
-{
-    lie_apart(regions) && are_beside(taken, regions)
-}
-
 /// Takes the regions in, each after the others.
 fn take_all(taken: &mut Regions, regions: &[Region]) -> Result<(), AllocError>
     requires apart { lie_apart regions.now ≡ true }
@@ -95,7 +88,7 @@ impl<'a> Admission<'a> {
             return Ok(());
         }
         let regions = placed.regions.as_slice();
-        if !are_free(&self.taken, regions) {
+        if !(lie_apart(regions) && are_beside(&self.taken, regions)) {
             self.overlap += 1;
             return Ok(());
         }

@@ -66,28 +66,20 @@ fn modules_from<'a>(
     Ok(modules)
 }
 
-/// How many regions the modules have.
-fn regions_in(modules: &[Module]) -> usize
-    requires { sum_by (λ m. length m.regions) modules.now < 2 ^ 64 }
-    ensures { result ≡ sum_by (λ m. length m.regions) modules.now }
+/// How many regions the modules have, and how many symbols these and the kernel itself.
+fn sizes_of(of_kernel: usize, modules: &[Module]) -> (usize, usize)
+    requires regions { sum_by (λ m. length m.regions) modules.now < 2 ^ 64 }
+    requires symbols { of_kernel + sum_by (λ m. length m.symbols) modules.now < 2 ^ 64 }
+    ensures regions { result.0 ≡ sum_by (λ m. length m.regions) modules.now }
+    ensures symbols { result.1 ≡ of_kernel + sum_by (λ m. length m.symbols) modules.now }
 {
-    let mut count = 0;
+    let mut regions = 0;
+    let mut symbols = of_kernel;
     for module in modules {
-        count += module.regions().len();
+        regions += module.regions().len();
+        symbols += module.symbols().len();
     }
-    count
-}
-
-/// How many symbols the modules have, after those of the kernel itself.
-fn symbols_in(of_kernel: usize, modules: &[Module]) -> usize
-    requires { of_kernel + sum_by (λ m. length m.symbols) modules.now < 2 ^ 64 }
-    ensures { result ≡ of_kernel + sum_by (λ m. length m.symbols) modules.now }
-{
-    let mut count = of_kernel;
-    for module in modules {
-        count += module.symbols().len();
-    }
-    count
+    (regions, symbols)
 }
 
 /// Puts each symbol where it is kept, and indexes symbols, where it pays. Counts the modules, their
@@ -103,22 +95,21 @@ fn catalog_with<'a>(
     ensures built { IfOk result (λ r. r.0 ≡ catalog_with placed.entry symbols.entry) }
     ensures counted { IfOk result (λ r. r.1 ≡ kept_counts placed.entry symbols.entry) }
 {
-    let listed = symbols.len() as u64;
+    let listed = symbols.len();
     let gathered = gather(alloc, &placed, symbols)?;
     let of_kernel = placed.built_in.len();
     let first = gathered.built_in.len();
     let built_in = built_in_module(alloc, placed.built_in, gathered.built_in, asked)?;
     let modules = modules_from(alloc, placed.modules, gathered.modules, asked)?;
-    let regions = regions_in(modules.as_slice());
-    let kept = symbols_in(first, modules.as_slice()) as u64;
+    let (regions, kept) = sizes_of(first, modules.as_slice());
     let counts = BuildCounts {
         modules: modules.len() as u64,
         double: 0,
         overlap: 0,
         regions: regions as u64,
         stray_regions: 0,
-        symbols: kept,
-        stray: listed - kept,
+        symbols: kept as u64,
+        stray: (listed - kept) as u64,
     };
     let catalog = Catalog {
         regions: of_kernel + regions,

@@ -11,9 +11,9 @@
 ghost use Rattle.std.specs.Prelude.{◌≡◌, ℕ, List, OnOk, filter};
 ghost use Rattle.std.specs.Cmp.Lexicographic.{slice_cmp};
 ghost use Rattle.std.specs.List.Sorted.{IsSortedBy};
-ghost use Rattle.std.specs.Ordering.{is_le, is_lt, nat_cmp};
+ghost use Rattle.std.specs.Ordering.{nat_cmp};
 ghost use Rattle.std.specs.Str.{bytes_eq};
-ghost use Rattle.modules.specs.ByName.{comes_first, IsCut, IsSortedByName};
+ghost use Rattle.modules.specs.ByName.{comes_first, IsSortedByName};
 
 use std::alloc::{AllocError, Global};
 use std::cmp::Ordering;
@@ -35,29 +35,13 @@ fn compare_to<T: Named>(it: &T, name: &[u8]) -> Ordering
     it.name().cmp(name)
 }
 
-/// How many elements have a lesser name.
-fn lesser_than<T: Named>(index: &[T], name: &[u8]) -> usize
-    requires { IsSortedBy (comes_first T.name_of) index.now }
-    ensures { IsCut (λ x. is_lt (slice_cmp nat_cmp (T.name_of x) name.now)) index.now result }
-{
-    index.partition_point(|it| compare_to(it, name).is_lt())
-}
-
-/// How many elements have a name that is not greater.
-fn up_to<T: Named>(index: &[T], name: &[u8]) -> usize
-    requires { IsSortedBy (comes_first T.name_of) index.now }
-    ensures { IsCut (λ x. is_le (slice_cmp nat_cmp (T.name_of x) name.now)) index.now result }
-{
-    index.partition_point(|it| compare_to(it, name).is_le())
-}
-
 /// The elements of this name, which lie side by side.
 pub(crate) fn all_named<'i, T: Named>(index: &'i [T], name: &[u8]) -> &'i [T]
     requires { IsSortedBy (comes_first T.name_of) index.now }
     ensures { result.now ≡ filter (λ x. bytes_eq (T.name_of x) name.now) index.now }
 {
-    let start = lesser_than(index, name);
-    let end = up_to(index, name);
+    let start = index.partition_point(|it| compare_to(it, name).is_lt());
+    let end = index.partition_point(|it| compare_to(it, name).is_le());
     &index[start..end]
 }
 

@@ -59,13 +59,8 @@ impl BuildCounts {
         ensures { result ≡ build_of_listed listed self }
     {
         BuildCounts {
-            modules: self.modules,
-            double: self.double,
-            overlap: self.overlap,
-            regions: self.regions,
-            stray_regions: self.stray_regions,
-            symbols: self.symbols,
             stray: (listed as u64).saturating_sub(self.symbols),
+            ..self
         }
     }
 }
@@ -193,11 +188,7 @@ impl<'a> Catalog<'a> {
         ensures { result ≡ module_number_of self.now name.now }
     {
         if name == b"-".as_slice() {
-            return if self.built_in.is_some() {
-                Some(0)
-            } else {
-                None
-            };
+            return self.built_in.as_ref().map(|_| 0);
         }
         let place = self.names.place_of(name)?;
         Some(place as u64 + 1)

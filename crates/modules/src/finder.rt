@@ -94,7 +94,7 @@ impl<'c, 'a> Model for Finder<'c, 'a> {
 
     ghost Value = { CatalogEntries };
 
-    ghost use Rattle.modules.specs.Finders.{IsWholeFinder};
+    ghost use Rattle.modules.specs.Again.{IsWholeFinder};
 
     ghost view = { λ f. f.catalog.now };
 

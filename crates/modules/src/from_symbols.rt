@@ -24,6 +24,7 @@ ghost use Rattle.modules.specs.Marks.{AreLaid, AreRegions};
 ghost use Rattle.modules.specs.Owners.{posts};
 ghost use Rattle.order_laws.specs.declared.items.Item.{Item};
 
+use crate::gathering::empty_lists;
 use crate::line_marks::marks_of;
 use crate::marks::{Mark, region_at, regions_of_marks};
 use crate::names::Names;
@@ -40,17 +41,6 @@ fn is_kept(items: &[Item], mark: Mark) -> bool
     ensures { result ≡ is_kept_mark items.now mark }
 {
     region_at(items, mark.addr).is_some_and(|item| item.tag == mark.owner)
-}
-
-/// A list for each number below `count`, with nothing in it.
-fn empty_lists(alloc: Global, count: usize) -> Result<Vec<Vec<Region>>, AllocError>
-    ensures { IfOk result (λ v. AreLeft count [] [] v.items) }
-{
-    let mut lists = Vec::with_capacity(alloc, count)?;
-    for _ in 0..count {
-        lists.push(Vec::new(alloc))?;
-    }
-    Ok(lists)
 }
 
 /// The regions of each number below `count`, by number.

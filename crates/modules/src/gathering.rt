@@ -13,7 +13,7 @@
 //! The strays are taken out of the list of a run, and the first list of a module becomes the
 //! module's own; so no symbol is copied if the lines of each module lie side by side.
 
-ghost use Rattle.std.specs.Prelude.{◌≡◌, ◌++◌, ◌∷◌, [], IfOk, OnOk, filter, length};
+ghost use Rattle.std.specs.Prelude.{◌≡◌, ◌++◌, ◌∷◌, [], All, IfOk, OnOk, filter, length};
 ghost use Rattle.std.specs.Option.{option_copied};
 ghost use Rattle.modules.specs.Accepted.{names_of};
 ghost use Rattle.modules.specs.Kept.{AreDistinctNames};
@@ -47,17 +47,25 @@ pub(crate) struct Gathered<'a> {
     pub(crate) modules: Vec<Vec<Symbol<'a>>>,
 }
 
+/// So many lists with nothing in them.
+pub(crate) fn empty_lists<T: Drop>(alloc: Global, count: usize) -> Result<Vec<Vec<T>>, AllocError>
+    ensures { IfOk result
+        (λ v. (length v.items ≡ count) × All (λ list. list.items ≡ []) v.items) }
+{
+    let mut lists = Vec::with_capacity(alloc, count)?;
+    for _ in 0..count {
+        lists.push(Vec::new(alloc))?;
+    }
+    Ok(lists)
+}
+
 impl<'a> Gathered<'a> {
     fn new(alloc: Global, modules: usize) -> Result<Gathered<'a>, AllocError>
         ensures { IfOk result (IsEmptyFor modules) }
     {
-        let mut lists = Vec::new(alloc);
-        for _ in 0..modules {
-            lists.push(Vec::new(alloc))?;
-        }
         Ok(Gathered {
             built_in: Vec::new(alloc),
-            modules: lists,
+            modules: empty_lists(alloc, modules)?,
         })
     }
 

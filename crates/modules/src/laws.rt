@@ -102,7 +102,7 @@ pub fn the_symbols_determine_the_modules()
 
 /// A line of a module that has its regions lies in one of them if its own address is that
 /// module's, and nowhere else: so what is kept by the regions is what is kept by the lines.
-#[tactic(auto, using(crate::proofs::OwnLineLemmas::kept_same))]
+#[tactic(auto, using(crate::proofs::SpacedLemmas::kept_same))]
 pub fn a_line_is_kept_by_its_own_address()
     ensures { (lines : List ListedSymbol) (m : PlacedModule) (l : ListedSymbol)
         → HasItsRegions lines m → l.addr < 2 ^ 64 - 1 → l.owner ≡ Some m.name

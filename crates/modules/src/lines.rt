@@ -117,13 +117,6 @@ impl<'a> RegionLine<'a> {
         is_region(self.base, self.size)
     }
 
-    /// Whether the region is of the core.
-    pub(crate) fn is_core(&self) -> bool
-        ensures { result ≡ is_core self.now.part }
-    {
-        self.part.is_core()
-    }
-
     /// The region's first address and the excluded end.
     pub(crate) fn region(&self) -> Region
         requires { region_fits self.now ≡ true }

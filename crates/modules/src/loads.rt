@@ -61,7 +61,7 @@ pub(crate) fn inserting(alloc: Global, regions: &[Region], number: u64) -> Resul
 
 /// The first addresses of the core regions, if `core` asks for them, and of the init regions,
 /// if `init` does.
-#[tactic(auto, using(crate::proofs::ErasingLemmas::wanted_more, crate::proofs::ErasingLemmas::other_more))]
+#[tactic(auto, using(crate::proofs::LoadLemmas::wanted_more, crate::proofs::LoadLemmas::other_more))]
 fn starts_of(
     alloc: Global,
     regions: &[Region],

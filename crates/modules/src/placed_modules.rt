@@ -25,15 +25,16 @@ pub(crate) struct PlacedModules<'a> {
 }
 
 impl<'a> Model for PlacedModules<'a> {
-    ghost use Rattle.modules.specs.Accepted.{Accepted};
+    ghost use Rattle.std.specs.Prelude.{◌≡◌};
+    ghost use Rattle.modules.specs.Accepted.{Accepted, names_of};
 
     ghost Value = { Accepted };
 
-    ghost use Rattle.modules.specs.PlacedModules.{placed_modules_view, AreFound};
+    ghost use Rattle.modules.specs.PlacedModules.{placed_modules_view};
 
     ghost view = { placed_modules_view };
 
-    ghost invariant = { AreFound };
+    ghost invariant = { λ p. names_of p.modules.items ≡ p.names };
 }
 
 impl<'a> PlacedModules<'a> {
@@ -57,11 +58,15 @@ impl<'a> PlacedModules<'a> {
         requires { AreDistinctNames (names_of modules.items) }
         ensures { IfOk result (λ p. p ≡ accepted_with built_in.items modules.entry.items) }
     {
-        let mut placed = PlacedModules::new(alloc, built_in);
-        for module in modules {
-            placed.push(module)?;
+        let mut names = Names::new(alloc);
+        for module in &modules {
+            names.push(module.name)?;
         }
-        Ok(placed)
+        Ok(PlacedModules {
+            built_in,
+            modules,
+            names,
+        })
     }
 
     /// How many modules there are.

@@ -6,10 +6,8 @@
 
 ghost use Rattle.std.specs.Prelude.{◌≡◌, ◌<◌, nat_le, true, [], ◌∷◌, length, All, IfOk, map};
 ghost use Rattle.std.specs.List.{AllPairs, list_any};
-ghost use Rattle.std.specs.List.Sorted.{IsSortedBy};
 ghost use Rattle.modules.specs.Building.{kernel_at};
-ghost use Rattle.modules.specs.ByName.{comes_first};
-ghost use Rattle.modules.specs.Grouped.{IsGrouped, lines_at};
+ghost use Rattle.modules.specs.Grouped.{lines_at};
 ghost use Rattle.modules.specs.Kept.{lies_in};
 ghost use Rattle.modules.specs.Lines.{region_line_region, fits, region_fits};
 ghost use Rattle.modules.specs.Parts.{is_core};
@@ -108,14 +106,10 @@ impl<'a> Placed<'a> {
         ensures { IfOk result
             (λ p. p ≡ record { name = name.now; regions = region ∷ []; parts = Core ∷ [] }) }
     {
-        let mut regions = Vec::with_capacity(alloc, 1)?;
-        regions.push(region)?;
-        let mut parts = Vec::with_capacity(alloc, 1)?;
-        parts.push(Part::Core)?;
         Ok(Placed {
             name,
-            regions,
-            parts,
+            regions: vec![in alloc; region]?,
+            parts: vec![in alloc; Part::Core]?,
             rising: false,
         })
     }
@@ -178,32 +172,11 @@ impl<'l, 'a> Named for &'l RegionLine<'a> {
     }
 }
 
-/// The lines of this name, which lie side by side in the order of names.
-#[tactic(auto, using(crate::proofs::ByNameLemmas::named_at))]
-fn lines_in<'i, 'l, 'a>(index: &'i [&'l RegionLine<'a>], name: &[u8]) -> &'i [&'l RegionLine<'a>]
-    requires { IsSortedBy (comes_first (λ l. l.now.name)) index.now }
-    ensures { lines_at result.now ≡ lines_named name.now (lines_at index.now) }
-{
-    all_named(index, name)
-}
-
-/// The lines in the order of their names, and of one name as they were listed.
-fn by_name<'l, 'a>(
-    alloc: Global,
-    lines: &'l [RegionLine<'a>],
-) -> Result<Vec<&'l RegionLine<'a>>, AllocError>
-    ensures { IfOk result (λ v. IsGrouped lines.now v.items) }
-{
-    let mut index: Vec<&RegionLine> = lines.iter().collect(alloc)?;
-    sort_by_name(&mut index)?;
-    Ok(index)
-}
-
 /// Whether one of the lines that are referred to is of a core region.
 fn any_core(lines: &[&RegionLine]) -> bool
     ensures { result ≡ list_any (λ l. is_core l.now.part) lines.now }
 {
-    lines.iter().any(|line| line.is_core())
+    lines.iter().any(|line| line.part.is_core())
 }
 
 /// Whether one of the lines is of a core region.
@@ -241,18 +214,21 @@ impl<'l, 'a> RegionLines<'l, 'a> {
     ) -> Result<RegionLines<'l, 'a>, AllocError>
         ensures { IfOk result (λ r. r ≡ listed.now) }
     {
-        let by_name = by_name(alloc, listed)?;
+        let mut by_name: Vec<&RegionLine> = listed.iter().collect(alloc)?;
+        sort_by_name(&mut by_name)?;
         Ok(RegionLines { listed, by_name })
     }
 
     /// The lines of this name, in the order listed.
+    #[tactic(auto, using(crate::proofs::ByNameLemmas::lines_by_name))]
     pub(crate) fn named(&self, name: &[u8]) -> &[&'l RegionLine<'a>]
         ensures { lines_at result.now ≡ lines_named name.now self.now }
     {
-        lines_in(self.by_name.as_slice(), name)
+        all_named(self.by_name.as_slice(), name)
     }
 
     /// Whether no more lines have the name of this one than a module has regions.
+    #[tactic(auto, using(crate::proofs::ByNameLemmas::lines_by_name))]
     fn are_few_of(&self, line: &RegionLine) -> bool
         ensures { result ≡ nat_le (length (lines_named line.now.name self.now)) 7 }
     {

@@ -66,6 +66,7 @@ fn bounds(entries: &[IndexEntry]) -> (u64, u64) {
 }
 
 /// Swaps each entry into its bucket.
+#[tactic(auto, using(crate::proofs::IndexLemmas::moved_twice))]
 fn distribute(entries: &mut [IndexEntry], filling: &mut Filling)
     ensures { IsPermutation entries.old entries.new }
 {

@@ -17,6 +17,7 @@ ghost use Rattle.modules.specs.Items.{item_of_address};
 
 use crate::buckets::{Addressed, Buckets, split_at};
 use crate::catalog::Catalog;
+use crate::loads::item_of;
 use crate::module::Module;
 use crate::regions::Region;
 use order_laws::Item;
@@ -44,7 +45,7 @@ impl<'a> Model for IndexedCatalog<'a> {
 
     ghost Value = { CatalogEntries };
 
-    ghost use Rattle.modules.specs.IndexedCatalogs.{IsWholeIndex};
+    ghost use Rattle.modules.specs.RegionIndexes.{IsWholeIndex};
 
     ghost view = { λ c. c.catalog };
 
@@ -57,11 +58,7 @@ fn push_regions(items: &mut Vec<Item>, regions: &[Region], number: u64) -> Resul
         (λ _. items.new.items ≡ items.old.items ++ map (item_of number) regions.now) }
 {
     for region in regions {
-        items.push(Item {
-            a: region.start(),
-            b: region.end(),
-            tag: number,
-        })?;
+        items.push(item_of(*region, number))?;
     }
     Ok(())
 }

@@ -91,7 +91,7 @@ pub(crate) struct Regions {
 
 impl Model for Regions {
     ghost use Rattle.std.specs.Prelude.{List, ℕ};
-    ghost use Rattle.modules.specs.Spread.{IsSpread};
+    ghost use Rattle.modules.specs.Regions.{IsSpread};
 
     ghost Value = { List (ℕ × ℕ) };
 

@@ -14,7 +14,7 @@ ghost use Rattle.modules.specs.Lines.{first_address, built_in_region, code_regio
 ghost use Rattle.modules.specs.Lines.{kernel_regions, usual_bounds_of, usual_end, with_apart};
 ghost use Rattle.std.specs.Option.{option_copied, option_map, option_to_list};
 ghost use Rattle.std.specs.Str.{bytes_eq};
-ghost use Rattle.modules.specs.Runs.{lines_of_run, lines_of_all, one_line};
+ghost use Rattle.modules.specs.Runs.{line_of, lines_of_run, lines_of_all};
 
 use crate::lines::{KernelBounds, SymbolLine};
 use crate::regions::{Region, is_apart_from};
@@ -60,13 +60,11 @@ impl<'a> Run<'a> {
     /// A run of one line.
     fn of(alloc: Global, owner: Option<&'a [u8]>, symbol: Symbol<'a>) -> Result<Run<'a>, AllocError>
         ensures { IfOk result
-            (λ r. lines_of_run r ≡ one_line (option_copied owner.entry) symbol.entry) }
+            (λ r. lines_of_run r ≡ line_of (option_copied owner.entry) symbol.entry ∷ []) }
     {
-        let mut symbols = Vec::with_capacity(alloc, 1)?;
-        symbols.push(symbol)?;
         Ok(Run {
             module: owner,
-            symbols,
+            symbols: vec![in alloc; symbol]?,
         })
     }
 
@@ -101,7 +99,7 @@ fn put_line<'a>(
 ) -> Result<(), AllocError>
     ensures pushed { OnOk result (lines_of_all (runs.new.items ++ last.new ∷ [])
         ≡ lines_of_all (runs.old.items ++ last.old ∷ [])
-        ++ one_line (option_copied owner.entry) symbol.entry) }
+        ++ line_of (option_copied owner.entry) symbol.entry ∷ []) }
     ensures err { OnErr result (lines_of_all (runs.new.items ++ last.new ∷ [])
         ≡ lines_of_all (runs.old.items ++ last.old ∷ [])) }
 {
@@ -208,7 +206,7 @@ fn first_in_runs(runs: &[Run], name: &[u8]) -> Option<u64>
 }
 
 /// The address of the first line without a module that has this name.
-#[tactic(auto, using(crate::proofs::RunLemmas::first_in_last, crate::proofs::RunLemmas::first_in_front))]
+#[tactic(auto, using(crate::proofs::RunLemmas::first_in_runs))]
 fn first_address(lines: &SymbolLines, name: &[u8]) -> Option<u64>
     ensures { result ≡ first_address name.now lines.now }
 {

@@ -17,10 +17,11 @@
 //! asked of a module, it has no such copy, and its symbols are gone through for each.
 
 ghost use Rattle.std.specs.Prelude.{◌≡◌, ◌<◌, ◌++◌, ◌∷◌, [], true, IfOk, List, length, map, slice_get};
+ghost use Rattle.std.specs.Prelude.{slice_index_or};
 ghost use Rattle.std.specs.Option.{option_copied};
 ghost use Rattle.modules.specs.Around.{symbol_below, address_above};
 ghost use Rattle.modules.specs.Entries.{SymbolEntry};
-ghost use Rattle.modules.specs.Index.{index_entries_of, IsIndex, IsRising, IsFirstOf, IsFirstAt};
+ghost use Rattle.modules.specs.Index.{index_entries_of, IsIndex, IsRising, IsFirstOf};
 ghost use Rattle.modules.specs.Index.{IsOrdered, symbol_of_entry};
 
 use crate::buckets::{Addressed, Buckets, address_at, is_first, split_at};
@@ -235,7 +236,8 @@ fn first_back(symbols: &[Symbol], place: usize, addr: u64) -> usize
 fn first_of_equal(symbols: &[Symbol], place: usize) -> usize
     requires rising { IsRising symbols.now }
     requires within { place < length symbols.now }
-    ensures { IsFirstAt symbols.now place result }
+    ensures { (d : SymbolEntry)
+        → IsFirstOf symbols.now (slice_index_or symbols.now place d).addr result }
 {
     let symbol = &symbols[place];
     first_back(symbols, place, symbol.addr)

@@ -2,7 +2,7 @@ use Rattle.modules.proofs.Words.{◌≡◌, ◌+◌, ◌<◌, List, Option, sym,
 use Rattle.modules.proofs.Definitions.{Accepted, names_in, names_of, AreModules, built_in_with, IsSoundCatalog, entry_for, is_kept, ModuleEntry, PlacedModule}
 use Rattle.modules.proofs.SoundnessLemmas.{count_of_regions, module_names, valid_kernel, IsSound-catalog_with}
 use Rattle.modules.proofs.Lemmas.{count_by-le-length}
-use Rattle.modules.proofs.MakingLemmas.{catalog_from, kept_from, kept_made, modules_are, regions_made}
+use Rattle.modules.proofs.MakingLemmas.{catalog_from, kept_from, made_of, modules_are}
 use Rattle.modules.proofs.build.catalog_with.Goals as goal
 
 pub built_in_module-requires : goal.built_in_module-requires
@@ -13,36 +13,24 @@ built_in_module-requires c =
 pub modules_from-requires : goal.modules_from-requires
 modules_from-requires c = grind (arith)
 
-pub regions_in-regions-requires : goal.regions_in-regions-requires
-regions_in-regions-requires c =
-    let a : Accepted = c.args.placed in
-    let made : List ModuleEntry = c.in_ok-modules.modules.items in
-    let others = modules_are a _ c.args.symbols c.in_ok-gathered.gathered made c.placed.view_is c.in_ok-gathered.ensures c.in_ok-modules.ensures in
-    rw c.as_slice.ensures.value (omega (arith, regions_made a c.args.symbols made others, length-append a.built_in (flat_map (λ (m : PlacedModule). m.regions) a.modules), c.requires.few))
-
-pub symbols_in-kept-requires : goal.symbols_in-kept-requires
-symbols_in-kept-requires c =
-    let a : Accepted = c.args.placed in
-    let g = c.in_ok-gathered.gathered in
-    let made : List ModuleEntry = c.in_ok-modules.modules.items in
-    let others = modules_are a _ c.args.symbols g made c.placed.view_is c.in_ok-gathered.ensures c.in_ok-modules.ensures in
-    rw c.as_slice-2.ensures.value (omega (arith, kept_made a g c.args.symbols made c.requires.sound.distinct c.in_ok-gathered.ensures others, count_by-le-length (is_kept a) c.args.symbols, c.len-first.ensures, g.built_in.ok.0, c.len-listed.ensures))
+pub sizes_of-regions-requires : goal.sizes_of-regions-requires
+sizes_of-regions-requires c =
+    let is = made_of c.args.placed _ c.args.symbols c.in_ok-gathered.gathered c.in_ok-modules.modules.items c.placed.view_is c.requires.sound.distinct c.in_ok-gathered.ensures c.in_ok-modules.ensures in
+    rw c.as_slice.ensures.value (record {
+      regions = omega (arith, is.regions, length-append c.args.placed.built_in (flat_map (λ (m : PlacedModule). m.regions) c.args.placed.modules), c.requires.few);
+      symbols = omega (arith, is.kept, count_by-le-length (is_kept c.args.placed) c.args.symbols, c.len-first.ensures, c.in_ok-gathered.gathered.built_in.ok.0, c.len-listed.ensures);
+    })
 
 pub overflow_sub-counts : goal.overflow_sub-counts
 overflow_sub-counts c =
-    let a : Accepted = c.args.placed in
-    let g = c.in_ok-gathered.gathered in
-    let made : List ModuleEntry = c.in_ok-modules.modules.items in
-    let others = modules_are a _ c.args.symbols g made c.placed.view_is c.in_ok-gathered.ensures c.in_ok-modules.ensures in
-    omega (arith, rw c.as_slice-2.ensures.value at c.symbols_in-kept.ensures, kept_made a g c.args.symbols made c.requires.sound.distinct c.in_ok-gathered.ensures others, count_by-le-length (is_kept a) c.args.symbols, c.len-first.ensures, g.built_in.ok.0, c.len-listed.ensures)
+    let is = made_of c.args.placed _ c.args.symbols c.in_ok-gathered.gathered c.in_ok-modules.modules.items c.placed.view_is c.requires.sound.distinct c.in_ok-gathered.ensures c.in_ok-modules.ensures in
+    omega (arith, rw c.as_slice.ensures.value at c.sizes_of-regions.ensures.symbols, is.kept, count_by-le-length (is_kept c.args.placed) c.args.symbols, c.len-first.ensures, c.in_ok-gathered.gathered.built_in.ok.0, c.len-listed.ensures)
 
 pub overflow_add-catalog : goal.overflow_add-catalog
 overflow_add-catalog c =
-    let a : Accepted = c.args.placed in
-    let made : List ModuleEntry = c.in_ok-modules.modules.items in
-    let others = modules_are a _ c.args.symbols c.in_ok-gathered.gathered made c.placed.view_is c.in_ok-gathered.ensures c.in_ok-modules.ensures in
-    let kernel : c.len-of_kernel.result ≡ length a.built_in = c.len-of_kernel.ensures ∙ c.placed.inside.built_in.ok.0 ∙ ap (λ (x : Accepted). length x.built_in) c.placed.view_is in
-    omega (arith, kernel, rw c.as_slice.ensures.value at c.regions_in-regions.ensures, regions_made a c.args.symbols made others, length-append a.built_in (flat_map (λ (m : PlacedModule). m.regions) a.modules), c.requires.few)
+    let is = made_of c.args.placed _ c.args.symbols c.in_ok-gathered.gathered c.in_ok-modules.modules.items c.placed.view_is c.requires.sound.distinct c.in_ok-gathered.ensures c.in_ok-modules.ensures in
+    let kernel : c.len-of_kernel.result ≡ length c.args.placed.built_in = c.len-of_kernel.ensures ∙ c.placed.inside.built_in.ok.0 ∙ ap (λ (x : Accepted). length x.built_in) c.placed.view_is in
+    omega (arith, kernel, rw c.as_slice.ensures.value at c.sizes_of-regions.ensures.regions, is.regions, length-append c.args.placed.built_in (flat_map (λ (m : PlacedModule). m.regions) c.args.placed.modules), c.requires.few)
 
 pub invariant_of-catalog : goal.invariant_of-catalog
 invariant_of-catalog c =
@@ -58,8 +46,8 @@ invariant_of-catalog c =
     record {
       sound = subst IsSoundCatalog (sym built) (IsSound-catalog_with a symbols c.requires.sound);
       named = ap names_in others ∙ module_names symbols a.modules ∙ ap (λ (x : Accepted). names_of x.modules) (sym c.placed.view_is) ∙ c.placed.invariant;
-      counted = ap (λ n. n + c.regions_in-regions.result) kernel
-          ∙ ap (λ n. length a.built_in + n) (c.regions_in-regions.ensures ∙ ap (sum_by (λ (m : ModuleEntry). length m.regions)) c.as_slice.ensures.value)
+      counted = ap (λ n. n + c.sizes_of-regions.result.0) kernel
+          ∙ ap (λ n. length a.built_in + n) (c.sizes_of-regions.ensures.regions ∙ ap (sum_by (λ (m : ModuleEntry). length m.regions)) c.as_slice.ensures.value)
           ∙ count_of_regions a.built_in g.built_in.items made
           ∙ ap (λ (o : Option ModuleEntry). length (flat_map (λ (m : ModuleEntry). m.regions) (option_to_list o ++ made))) (sym first);
     }
@@ -69,12 +57,8 @@ returns-clause-built c = grind (arith, common_steps, modules_are, catalog_from)
 
 pub returns-clause-counted : goal.returns-clause-counted
 returns-clause-counted c =
-    let a : Accepted = c.args.placed in
-    let symbols = c.args.symbols in
-    let g = c.in_ok-gathered.gathered in
-    let made : List ModuleEntry = c.in_ok-modules.modules.items in
-    let others = modules_are a _ symbols g made c.placed.view_is c.in_ok-gathered.ensures c.in_ok-modules.ensures in
-    kept_from a symbols made c.len.result c.regions_in-regions.result c.symbols_in-kept.result c.len-listed.result others (c.len.ensures ∙ c.in_ok-modules.modules.ok.0)
-    (rw c.as_slice.ensures.value at c.regions_in-regions.ensures ∙ regions_made a symbols made others)
-    (omega (arith, rw c.as_slice-2.ensures.value at c.symbols_in-kept.ensures, kept_made a g symbols made c.requires.sound.distinct c.in_ok-gathered.ensures others, c.len-first.ensures, g.built_in.ok.0))
+    let is = made_of c.args.placed _ c.args.symbols c.in_ok-gathered.gathered c.in_ok-modules.modules.items c.placed.view_is c.requires.sound.distinct c.in_ok-gathered.ensures c.in_ok-modules.ensures in
+    kept_from c.args.placed c.args.symbols c.in_ok-modules.modules.items c.len.result c.sizes_of-regions.result.0 c.sizes_of-regions.result.1 c.len-listed.result is.others (c.len.ensures ∙ c.in_ok-modules.modules.ok.0)
+    (rw c.as_slice.ensures.value at c.sizes_of-regions.ensures.regions ∙ is.regions)
+    (omega (arith, rw c.as_slice.ensures.value at c.sizes_of-regions.ensures.symbols, is.kept, c.len-first.ensures, c.in_ok-gathered.gathered.built_in.ok.0))
     c.len-listed.ensures

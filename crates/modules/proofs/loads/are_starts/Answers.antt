@@ -1,7 +1,7 @@
 use Rattle.modules.proofs.Words.{ℕ, suc, List, get_or, take, drop, sym, ap, ◌∙◌, arith, bytes_eq, common_steps}
 use Rattle.modules.proofs.Lemmas.{get_or_default, take_push}
 use Rattle.modules.proofs.Definitions.{starts_of, Core}
-use Rattle.modules.proofs.ErasingLemmas.{all_words, other_more, other_words, starts_split, wanted_more}
+use Rattle.modules.proofs.LoadLemmas.{all_words, other_more, other_words, starts_split, wanted_more}
 use Rattle.modules.proofs.loads.are_starts.Goals as goal
 use Rattle.modules.proofs.loads.are_starts.Goals.{then-count-words-via-then-count-words, then-count-words-via-else-count-words+then-words-count}
 

@@ -1,7 +1,7 @@
 use Rattle.std.proofs.Common.{◌≡◌, ◌-◌, ◌^◌, ◌<◌, ◌≤◌, length, get_or, arith, rules}
 use Rattle.std.proofs.lemmas.List.{get_or_default}
 use Rattle.modules.specs.declared.marks.Mark.{Mark}
-use Rattle.modules.proofs.SweepLemmas.{exact_with, exact_none, from_first, from_next, from_same, is_above, none_above, reached_before, reached_last}
+use Rattle.modules.proofs.SweepLemmas.{exact_with, exact_none, from_first, from_next, from_same, is_above, reached_before, reached_last}
 use Rattle.modules.proofs.marks.regions_of_rising.Goals as goal
 use Rattle.modules.proofs.marks.regions_of_rising.Goals.{then-from-mark+in_ok-cover, else-from-mark}
 
@@ -53,7 +53,7 @@ returns c =
     let bounds = c.end_of_page.ensures.bounds in
     record {
       laid = c.in_ok-cover-2.ensures.laid;
-      exact = exact_with marks k c.loop-mark.from end (2 ^ 64 - 1) c.loop-mark.items.items c.cover-2.new.items.items i.head (none_above marks k (2 ^ 64 - 1) all) (omega (arith, bounds.0, bounds.1)) bounds.1
+      exact = exact_with marks k c.loop-mark.from end (2 ^ 64 - 1) c.loop-mark.items.items c.cover-2.new.items.items i.head (λ j d le inside. absurd (omega arith)) (omega (arith, bounds.0, bounds.1)) bounds.1
           (reached_last marks k c.loop-mark.from end i.head all c.end_of_page.ensures.exact)
           i.exact c.in_ok-cover-2.ensures.holds;
     }

@@ -1,7 +1,7 @@
 use Rattle.modules.proofs.Words.{List, ◌∷◌, [], ◌++◌, ap, subst, arith, common_steps}
 use Rattle.modules.proofs.Lemmas.{take_all, take_more}
 use Rattle.modules.proofs.Definitions.{AreNamed, lines_of_all, Run}
-use Rattle.modules.proofs.NumberLemmas.{named_more}
+use Rattle.modules.proofs.LineMarkLemmas.{named_more}
 use Rattle.modules.proofs.names.Names.of_runs.Goals as goal
 
 pub loop-run-preserved : goal.loop-run-preserved

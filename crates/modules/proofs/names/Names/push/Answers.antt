@@ -1,7 +1,7 @@
 use Rattle.modules.proofs.Words.{◌≡◌, ℕ, false, ◌∷◌, [], ◌++◌, length, List, ap, ◌∙◌, Bor, list_any, bytes_eq}
 use Rattle.modules.proofs.Lemmas.{btree_map_updates_str}
 use Rattle.modules.proofs.Definitions.{names_at}
-use Rattle.modules.proofs.NumberLemmas.{places_more}
+use Rattle.modules.proofs.LineMarkLemmas.{places_more}
 use Rattle.modules.proofs.names.Names.push.Goals as goal
 
 pub invariant_of-self-2 : goal.invariant_of-self-2

@@ -1,29 +1,22 @@
-use Rattle.modules.proofs.Words.{◌≡◌, ℕ, false, ◌∷◌, ◌++◌, List, get_or, refl, ap, sym, subst, ◌∙◌, append_assoc, bytes_decides, list_any, bytes_eq, into_iter_items, arith, common_steps}
-use Rattle.modules.proofs.Lemmas.{append-nil, nil_from_length, false_from_ne_true, get_or_default, map-append, list_any_none, Contains-head, AllPairs-across}
-use Rattle.modules.proofs.Definitions.{Accepted, names_of, AreDistinctNames, PlacedModule}
+use Rattle.modules.proofs.Words.{◌≡◌, ℕ, ◌<◌, false, List, length, take, get_or, ap, sym, ◌∙◌, arith, bytes_decides, list_any, bytes_eq}
+use Rattle.modules.proofs.Lemmas.{false_from_ne_true, get_or-map, get_or-take, length-map, length-take-le, list_any_none}
+use Rattle.modules.proofs.Definitions.{names_of, AreDistinctNames, PlacedModule}
 use Rattle.modules.proofs.placed_modules.PlacedModules.of.Goals as goal
 
+abbrev name_of : PlacedModule → List ℕ
+name_of m = m.name
+
 -- of modules with distinct names, none has the name of one after it
-new_after : (before rest : List PlacedModule) (m : PlacedModule) → AreDistinctNames (names_of (before ++ m ∷ rest)) → list_any (bytes_eq m.name) (names_of before) ≡ false
-new_after before rest m distinct =
-    let joined : AreDistinctNames (names_of before ++ names_of (m ∷ rest)) = subst AreDistinctNames (map-append (λ (n : PlacedModule). n.name) before (m ∷ rest)) distinct in
-    list_any_none (bytes_eq m.name) (names_of before) (λ k d lt. false_from_ne_true (bytes_eq m.name (get_or (names_of before) k d)) (λ same.
-    let is : m.name ≡ get_or (names_of before) k d = (bytes_decides m.name (get_or (names_of before) k d)).0 same in
-    AllPairs-across (λ (x y : List ℕ). x ≡ y → ⊥) (names_of before) (names_of (m ∷ rest)) (get_or (names_of before) k d) m.name joined
-    (k, lt, get_or_default (names_of before) k (get_or (names_of before) k d) d lt) (Contains-head m.name m.name (names_of rest) refl) (sym is)))
+new_at : (modules : List PlacedModule) (i : ℕ) (m : PlacedModule) → AreDistinctNames (names_of modules) → i < length modules → m ≡ get_or modules i m → list_any (bytes_eq m.name) (names_of (take i modules)) ≡ false
+new_at modules i m distinct lt is = list_any_none (bytes_eq m.name) (names_of (take i modules)) (λ k d less.
+    let many : length (take i modules) ≡ i = length-take-le i modules (omega arith) in
+    let before : k < i = omega (arith, length-map (take i modules) name_of) in
+    let at : get_or (names_of (take i modules)) k d ≡ (get_or modules k m).name = get_or-map name_of (take i modules) k m d (omega arith) ∙ ap name_of (get_or-take i modules k m before) in
+    false_from_ne_true (bytes_eq m.name (get_or (names_of (take i modules)) k d)) (λ same.
+    distinct k i d before (omega (arith, length-map modules name_of))
+    (get_or-map name_of modules k m d (omega arith) ∙ sym at ∙ sym ((bytes_decides m.name (get_or (names_of (take i modules)) k d)).0 same) ∙ ap name_of is ∙ sym (get_or-map name_of modules i m d lt))))
 
 pub push-requires : goal.push-requires
 push-requires c =
-    let i = c.loop-module.invariant in
-    let done = c.loop-module.yielded in
-    let added : PlacedModule = c.in-Some.module in
-    let rest : List PlacedModule = into_iter_items c.next.new.self in
-    let all : c.args.modules.items ≡ done ++ added ∷ rest = i.gone ∙ ap (λ (ms : List PlacedModule). done ++ ms) c.in-Some.ensures.steps.0 in
-    let new : list_any (bytes_eq added.name) (names_of done) ≡ false = new_after done rest added (subst (λ (ms : List PlacedModule). AreDistinctNames (names_of ms)) all c.requires) in
-    record { new = ap (λ (a : Accepted). list_any (bytes_eq added.name) (names_of a.modules)) i.shows ∙ new }
-
-pub loop-module-preserved : goal.loop-module-preserved
-loop-module-preserved c = grind (arith, common_steps, append_assoc)
-
-pub returns : goal.returns
-returns c = grind (arith, common_steps, nil_from_length, append-nil)
+    ap (λ (x : PlacedModule). list_any (bytes_eq x.name) c.loop-module.names) c.module.view_is ∙ ap (list_any (bytes_eq c.module-item.result.name)) c.loop-module.invariant
+    ∙ new_at c.args.modules.items c.loop-module.module-index c.module-item.result c.requires (rw c.deref-module-items.ensures.value at c.loop-module-test.true) (rw c.deref-module-items.ensures.value at c.module-item.is)

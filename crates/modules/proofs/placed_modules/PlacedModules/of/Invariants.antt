@@ -1,11 +1,6 @@
-use Rattle.modules.proofs.Words.{◌≡◌, ◌++◌, into_iter_items}
-use Rattle.modules.specs.Accepted.{accepted_with}
+use Rattle.modules.proofs.Words.{◌≡◌, take}
+use Rattle.modules.specs.Accepted.{names_of}
 use Rattle.modules.proofs.placed_modules.PlacedModules.of.Given as goal
 
 abbrev pub invariant-loop-module : goal.invariant-loop-module
-invariant-loop-module l = record {
-  can_next : (goal.iterator-loop-module).can_next l.module-iterator;
-  finite : (goal.iterator-loop-module).is_finite l.module-iterator;
-  gone : l.fn.modules.items ≡ l.yielded ++ into_iter_items l.module-iterator;
-  shows : l.placed ≡ accepted_with l.fn.built_in.items l.yielded;
-}
+invariant-loop-module l = l.names ≡ names_of (take l.module-index l.fn.modules.items)

@@ -1,8 +1,0 @@
-use Rattle.modules.proofs.Words.{◌≡◌, [], length, All}
-use Rattle.modules.proofs.gathering.Gathered.new.Given as goal
-
-abbrev pub invariant-loop : goal.invariant-loop
-invariant-loop l = record {
-  count : length l.lists.items ≡ l.counter;
-  empty : All (λ list. list.items ≡ []) l.lists.items;
-}
