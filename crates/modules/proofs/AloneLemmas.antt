@@ -1,10 +1,10 @@
 -- The modules of symbols alone lie apart, and have distinct names.
-use Rattle.modules.proofs.Words.{◌≡◌, ◌≢◌, ℕ, count_by, sum_by, ◌-◌, ◌^◌, ◌<◌, Bool, true, false, ◌||◌, nat_le, nat_lt, cond, List, [], ◌∷◌, ◌++◌, length, get_or, map, Option, Some, None, refl, sym, ap, subst, ◌∙◌, ⊎_elim, arith, All, filter, find, fold, first_so, second_so, AllPairs, flat_map, list_any, option_to_list, bytes_eq, rules, common_steps, nat_tests}
+use Rattle.modules.proofs.Words.{◌≡◌, ◌≢◌, ℕ, count_by, sum_by, ◌-◌, ◌^◌, ◌<◌, Bool, true, false, ◌||◌, nat_le, nat_lt, cond, List, [], ◌∷◌, ◌++◌, length, get_or, map, Option, Some, None, refl, sym, ap, subst, ◌∙◌, arith, All, filter, fold, first_so, second_so, AllPairs, flat_map, list_any, option_to_list, bytes_eq, rules, common_steps, nat_tests}
 use Rattle.modules.proofs.Lemmas.{and_parts, cases_lt, le-leb, leb-false, leb-true, ltb-true, or_cases, or_left, or_parts, get_or-map, length-map, All-append, All-contains, All-filter, All-head, All-nil, All-cons, All-push, All-tail, filter_passes, list_any_at, AllPass-from_list_all, AllPairs-cons, AllPairs-few, count_by-either, find-has, find-passes}
 use Rattle.modules.proofs.Definitions.{Accepted, catalog_with, entries_of, is_kept, names_of, HasItsRegions, IsFromSymbols, is_kept_line, owner_names, with_name, AreDistinctNames, is_built_in, lies_in, HaveFirstLines, kernel_regions, BoundNames, ListedSymbol, is_nearest_line, is_outside, module_of_address, post_below, posts, is_core, IsPlaced, PlacedModule, AreSoundModules, AreApart, holds, is_apart, lies_in_any, Core}
 use Rattle.modules.proofs.KeptOrderLemmas.{first_lines}
 use Rattle.modules.proofs.SpacedLemmas.{is_of, Range, inside, pairs_first, pairs_rest, within}
-use Rattle.modules.proofs.PostLemmas.{all_of_passing, owned}
+use Rattle.modules.proofs.PostLemmas.{all_of_passing, found_outside, owned}
 use Rattle.modules.proofs.SoundnessLemmas.{AreDistinct-push, kernel_apart}
 use Rattle.modules.proofs.CountLemmas.{kept_in_one_of}
 
@@ -17,10 +17,6 @@ All-flat_map f P (x ∷ xs) all = All-append P (f x) (flat_map f xs) (All-head (
 abbrev is_post : List Range → ListedSymbol → Bool
 is_post kernel l = is_built_in kernel l || is_outside kernel l
 
--- a post of a module lies outside the kernel's regions
-outside : (kernel : List Range) (l : ListedSymbol) (name : List ℕ) → l.owner ≡ Some name → is_post kernel l ≡ true → lies_in_any kernel l.addr ≡ false
-outside kernel l name own h = grind (arith, common_steps, nat_tests, or_cases, and_parts)
-
 -- no address of one of the kernel's regions is a module's
 kernel_owns : (kernel : List Range) (lines : List ListedSymbol) (k : ℕ) (d : Range) (addr : ℕ) (name : List ℕ) → HaveFirstLines kernel lines → k < length kernel → holds (get_or kernel k d) addr ≡ true → module_of_address (posts kernel lines) addr ≡ Some name → ⊥
 kernel_owns kernel lines k d addr name has lt in' h =
@@ -28,8 +24,7 @@ kernel_owns kernel lines k d addr name has lt in' h =
     let kept = posts kernel lines in
     let (l, found, reached, its) = owned kept addr name (post_below kept addr) h in
     let near : is_nearest_line kept addr l ≡ true = find-passes (is_nearest_line kept addr) kept l found in
-    let passes : is_post kernel l ≡ true = find-has (is_nearest_line kept addr) kept l found (λ t. is_post kernel t ≡ true) (filter_passes (is_post kernel) lines) in
-    let out : lies_in_any kernel l.addr ≡ false = outside kernel l name its passes in
+    let out : lies_in_any kernel l.addr ≡ false = found_outside [] lines kernel (is_nearest_line kept addr) l name found its in
     let held : (x : ℕ) → holds r x ≡ true → lies_in_any kernel x ≡ true = λ x in_r. list_any_at (λ s. holds s x) kernel k d lt in_r in
     let (nonempty, first) = has k d lt in
     let (t, there, unowned, at_start) = first in
@@ -38,7 +33,7 @@ kernel_owns kernel lines k d addr name has lt in' h =
     let here : lies_in_any kernel t.addr ≡ true = held t.addr (within r t.addr (omega (arith, at_start)) (omega (arith, at_start))) in
     let start : is_post kernel t ≡ true = or_left (is_built_in kernel t) (is_outside kernel t) (rw unowned here) in
     let cleared : (nat_le t.addr l.addr || nat_lt addr t.addr) ≡ true = All-contains (λ (u : ListedSymbol). is_post kernel u ≡ true → (nat_le u.addr l.addr || nat_lt addr u.addr) ≡ true) lines t (all_of_passing (is_post kernel) (λ u. (nat_le u.addr l.addr || nat_lt addr u.addr) ≡ true) lines clear) there start in
-    grind (arith, common_steps, nat_tests, Range, find-passes, find-has, filter_passes, outside, list_any_at, AllPass-from_list_all, second_so, inside, within, or_left, All-contains, all_of_passing, leb-true, first_so, ltb-true, or_cases)
+    grind (arith, common_steps, nat_tests, Range, find-passes, find-has, filter_passes, list_any_at, AllPass-from_list_all, second_so, inside, within, or_left, All-contains, all_of_passing, leb-true, first_so, ltb-true, or_cases)
 
 -- ---- each module has a kept line
 

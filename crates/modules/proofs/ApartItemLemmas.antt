@@ -1,5 +1,5 @@
 -- The items of a catalog have addresses, and two of them lie apart, so that one at most has an address.
-use Rattle.modules.proofs.Words.{◌≡◌, ℕ, ◌<◌, ◌≤◌, ◌⊎◌, inl, inr, ⊎_elim, true, length, map, get_or, Option, Some, None, sym, subst, arith, Contains, AllPairs, common_steps, nat_tests}
+use Rattle.modules.proofs.Words.{◌≡◌, ℕ, ◌<◌, ◌≤◌, ◌⊎◌, true, length, map, get_or, Option, Some, None, sym, subst, arith, Contains, AllPairs, common_steps, nat_tests}
 use Rattle.modules.proofs.Lemmas.{cases_lt, get_or_default, length-map, All-contains, Contains-map, get_or-map_default, begins, ends, equal_inside}
 use Rattle.modules.proofs.Definitions.{Item, half_open, IsLook, IsSoundCatalog, CatalogEntries, items_of, is_apart}
 use Rattle.modules.proofs.ItemLemmas.{all_regions, region_of}

@@ -1,6 +1,6 @@
 -- The symbol below an address and the address above it.
 use Rattle.modules.proofs.Words.{◌≢◌, ◌⊎◌, length, ◌≡◌, ℕ, ◌-◌, ◌<◌, ◌≤◌, true, ◌&&◌, ◌||◌, nat_lt, nat_le, List, get_or, Some, None, Option, refl, ap, ◌∙◌, false, arith, All, find, unwrap_or, list_all, option_map, first_so, second_so, inl, inr, ⊎_elim, list_any, common_steps, nat_tests}
-use Rattle.modules.proofs.Lemmas.{AllPass-from_list_all, leb-true, ltb-true, le-leb, lt-ltb, le_or_past_below, least_above_below, le_unless_past, least_above_past, find-agree, find-passes, list_all-agree, find-has, le_antisymm, cases_lt, and_from, All-contains, list_any_at, list_all-from_AllPass, or_from_cases, All-from_find, least_in, find-none, find-first, find-number, le-ltb, lt-leb, false_from_ne_true, le_or_past, least_above}
+use Rattle.modules.proofs.Lemmas.{AllPass-from_list_all, leb-true, ltb-true, le-leb, lt-ltb, le_or_past_below, least_above_below, le_unless_past, least_above_past, find-agree, find-passes, list_all-agree, find-has, le_antisymm, cases_lt, and_from, All-contains, list_any_at, list_all-from_AllPass, All-from_find, least_in, find-none, find-first, find-number, le-ltb, lt-leb, false_from_ne_true, le_or_past, least_above}
 use Rattle.modules.proofs.Definitions.{address_above, is_nearest, is_next, symbol_below, SymbolEntry}
 
 pub below_le : (symbols : List SymbolEntry) (addr : ℕ) (s : SymbolEntry) → symbol_below symbols addr ≡ Some s → s.addr ≤ addr

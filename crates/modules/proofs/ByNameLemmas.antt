@@ -1,7 +1,7 @@
 -- What has one name lies side by side in the order of names.
 use Rattle.modules.proofs.Words.{common_steps, map, ◌≡◌, ℕ, ◌-◌, ◌<◌, ◌≤◌, Bool, true, false, List, [], ◌∷◌, length, get_or, take, drop, refl, ap, sym, subst, ◌∙◌, ⊎_elim, arith, All, bytes_decides, filter, slice_cmp, IsNonDecreasingBy, IsPartitionPoint, IsPartitionedBy, IsSortedBy, IsStableBy, ties, is_eq, is_le, is_lt, nat_cmp, ordering_index, Ordering, bytes_eq, ◌||◌, Bor, list_any}
 use Rattle.modules.proofs.Lemmas.{cases_lt, nat_list_cmp_total, searchable_from_sorted, bytes_eq-neither, is_eq-between, is_le-index, is_lt-index, is_lt-is_le, is_lt-not_eq, not_le-not_eq, filter-middle, filter_agree, filter_passes, is_eq-slice_cmp, get_or-map, length-map}
-use Rattle.modules.proofs.Definitions.{IsCut, comes_first, lines_at, ListedRegion, is_core, has_core, lines_named}
+use Rattle.modules.proofs.Definitions.{IsCut, comes_first, lines_at, ListedRegion, lines_named}
 
 module _ {X : Type 0} (named : X → List ℕ) where
   abbrev has : List ℕ → X → Bool

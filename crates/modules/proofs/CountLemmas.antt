@@ -1,7 +1,7 @@
 -- Each line is counted once.
 use Rattle.modules.proofs.Words.{◌≡◌, ◌≢◌, ℕ, ◌+◌, Bool, true, false, ◌&&◌, cond, List, [], ◌∷◌, ◌++◌, length, get_or, map, Option, refl, sym, suc, ◌∙◌, arith, All, count_by, filter, fold, is_none, sum_by, list_any, option_map_or, option_to_list, bytes_eq, first_so, rules, common_steps, nat_tests}
 use Rattle.modules.proofs.Lemmas.{and_left, length-map, get_or-map, length-filter, sum_by-cons, list_any_none, count-and_false, count-or, count-or_apart, count_by-either, bytes_eq-one_name}
-use Rattle.modules.proofs.Definitions.{Accepted, accepted_of, after_module, names_of, none_yet, built_in_of, catalog_of, catalog_with, counts_of, entries_of, entry_for, ModuleEntry, AreDistinctNames, belongs, entry_of, is_built_in, is_kept, is_used, lies_in, symbols_that, fits, kernel_regions, region_fits, BoundNames, ListedModule, ListedRegion, ListedSymbol, PlacedModule, are_few, placed_line, lies_in_any}
+use Rattle.modules.proofs.Definitions.{Accepted, accepted_of, after_module, names_of, none_yet, built_in_of, catalog_of, catalog_with, counts_of, entries_of, entry_for, ModuleEntry, AreDistinctNames, belongs, entry_of, is_built_in, is_kept, lies_in, symbols_that, fits, kernel_regions, region_fits, BoundNames, ListedModule, ListedRegion, ListedSymbol, PlacedModule, are_few, placed_line, lies_in_any}
 use Rattle.modules.proofs.AdmissionLemmas.{total, total-after_module}
 use Rattle.modules.proofs.SoundnessLemmas.{accepted_good}
 

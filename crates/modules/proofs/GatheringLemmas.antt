@@ -1,7 +1,7 @@
 -- Where a symbol is kept, and one more run of symbol lines.
-use Rattle.modules.proofs.Words.{◌≡◌, ℕ, ◌+◌, ◌<◌, ◌≤◌, Bool, false, cond, List, ◌++◌, length, get_or, map, not, Some, None, Ok, Err, Option, Result, refl, sym, ap, ◌∙◌, ⊎_elim, arith, filter, count_by, OnOk, Bor, Vec, position_from, option_copied, option_map_or, AllocError, bytes_eq, common_steps, nat_tests, [], ◌∷◌, list_any, true, bytes_decides}
-use Rattle.modules.proofs.Lemmas.{cases_eq, map-append, append-nil, filter-append, length-filter_both, sum_by-append, cases_Bool, list_any_at, list_any_none, sum_by-cons, slice_get-get_or, or-false, count_either, cases_order, false_from_ne_true, and_left, position_from-zero, get_or-map, length-map, position-Some, is_some-position_from}
-use Rattle.modules.proofs.Definitions.{Accepted, names_of, SymbolEntry, Gathers, HasRoom, Keeps, KeepsRun, lies_for, owner_for, AreDistinctNames, belongs, is_built_in, is_kept, symbols_that, entry_of, ListedSymbol, PlacedModule, lines_of_run, line_of, Gathered, Owner, Run, BelongsOnlyAt}
+use Rattle.modules.proofs.Words.{◌≡◌, ℕ, ◌<◌, Bool, false, List, ◌++◌, length, get_or, map, Some, None, Option, refl, sym, ap, ◌∙◌, ⊎_elim, arith, filter, Bor, Vec, position_from, option_copied, option_map_or, bytes_eq, common_steps, nat_tests, [], ◌∷◌, true, bytes_decides}
+use Rattle.modules.proofs.Lemmas.{cases_eq, map-append, append-nil, filter-append, list_any_at, slice_get-get_or, cases_order, false_from_ne_true, and_left, position_from-zero, get_or-map, length-map, position-Some, is_some-position_from}
+use Rattle.modules.proofs.Definitions.{Accepted, names_of, SymbolEntry, Gathers, HasRoom, Keeps, KeepsRun, lies_for, owner_for, AreDistinctNames, belongs, is_built_in, symbols_that, entry_of, ListedSymbol, PlacedModule, lines_of_run, line_of, Gathered, Owner, Run, BelongsOnlyAt}
 use Rattle.modules.specs.declared.gathering.Owner.TheVariants as owner
 
 pub not_built_in : (built_in : List (ℕ × ℕ)) (s : ListedSymbol) (name : List ℕ) → s.owner ≡ Some name → is_built_in built_in s ≡ false

@@ -1,5 +1,5 @@
 -- The modules that are made of the accepted ones.
-use Rattle.modules.proofs.Words.{nat_tests, common_steps, ◌≡◌, ℕ, zero, suc, ◌+◌, ◌-◌, ◌<◌, List, [], ◌∷◌, ◌++◌, length, get_or, map, drop, not, Option, sym, ap, ◌∙◌, ⊎_elim, arith, length-append, count_by, sum_by, Vec, flat_map}
+use Rattle.modules.proofs.Words.{nat_tests, common_steps, ◌≡◌, ℕ, zero, suc, ◌+◌, ◌-◌, ◌<◌, List, [], ◌∷◌, ◌++◌, length, get_or, map, drop, Option, sym, ap, ◌∙◌, ⊎_elim, arith, length-append, count_by, sum_by, Vec, flat_map}
 use Rattle.modules.proofs.Lemmas.{cases_lt, count_by-either, get_or-map, get_or_append_left, get_or_push, length-flat_map, length-map, same_lists, slice_get_cases}
 use Rattle.modules.proofs.Definitions.{Accepted, AreDistinctNames, names_of, AreModules, EachMade, module_with, built_in_with, catalog_with, entry_for, kept_counts, CatalogEntries, ModuleEntry, SymbolEntry, Gathers, is_kept, ListedSymbol, PlacedModule, BuildCounts, Gathered}
 use Rattle.modules.proofs.CountLemmas.{kept_in_lists}

@@ -1,5 +1,5 @@
 -- A stable sort by address leaves the nearest mark.
-use Rattle.modules.proofs.Words.{◌≡◌, ℕ, Bool, true, false, ◌&&◌, nat_eq, List, get_or, Some, refl, ap, sym, ◌∙◌, arith, All, filter, find, IsPermutation, IsStableByKey, ties, is_lt, nat_cmp, rules, nat_tests, common_steps}
+use Rattle.modules.proofs.Words.{◌≡◌, ℕ, Bool, ◌&&◌, nat_eq, List, get_or, Some, sym, ◌∙◌, arith, All, filter, find, IsPermutation, IsStableByKey, ties, is_lt, nat_cmp, rules, nat_tests, common_steps}
 use Rattle.modules.proofs.Lemmas.{eq-eqb, eqb-false, ne_eqb, All-contains, filter_agree, Contains-permutation, IsPermutation-sym, get_or_default, get_or_from_slice_get, slice_get_within, find-first, find_place, find-filter, find-agree}
 use Rattle.modules.proofs.Definitions.{Item, AreRegions, GoesOn, IsFirstMark, IsNearestMark, Owns, Mark}
 

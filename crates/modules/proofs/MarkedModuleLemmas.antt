@@ -1,5 +1,5 @@
 -- Regions by the numbers of their modules.
-use Rattle.modules.proofs.Words.{◌≡◌, ℕ, ◌<◌, ◌≤◌, suc, true, false, cond, nat_eq, List, [], ◌∷◌, length, get_or, map, refl, ⊎_elim, arith, All, Contains, filter, AllPairs, common_steps, nat_tests}
+use Rattle.modules.proofs.Words.{◌≡◌, ℕ, ◌<◌, ◌≤◌, true, false, cond, nat_eq, List, [], ◌∷◌, map, refl, arith, All, Contains, filter, AllPairs, common_steps, nat_tests}
 use Rattle.modules.proofs.Lemmas.{cases_lt, or_cases, or_left, or_right, eqb-true, eq-eqb, All-head, All-tail, All-cons, All-filter, All-map, All-nil, AllPairs-cons, Contains-cons_cases, Contains-head, Contains-rest}
 use Rattle.modules.proofs.Definitions.{Item, ListedSymbol, holds, Follows, HoldsFor, AreRegions, Mark, ranges_of, numbered_module, StandsFor, HasItsRegions}
 use Rattle.modules.proofs.SpacedLemmas.{lies, inside, pairs_first, pairs_rest, within, Range}

@@ -251,7 +251,7 @@ module _ (names : List (List ℕ)) (lines : List ListedSymbol) where
   is_named_outside kernel l name own passes = ⊎_elim (λ built_in. absurd (let other : is_built_in kernel l ≡ false = not_built_in kernel l name own in cc)) (λ its. its) (or_cases (is_built_in kernel l) (is_outside kernel l) passes)
 
   -- a found post of a module is outside
-  found_outside : (kernel : List (ℕ × ℕ)) (p : ListedSymbol → Bool) (l : ListedSymbol) (name : List ℕ) → find p (posts kernel lines) ≡ Some l → l.owner ≡ Some name → lies_in_any kernel l.addr ≡ false
+  pub found_outside : (kernel : List (ℕ × ℕ)) (p : ListedSymbol → Bool) (l : ListedSymbol) (name : List ℕ) → find p (posts kernel lines) ≡ Some l → l.owner ≡ Some name → lies_in_any kernel l.addr ≡ false
   found_outside kernel p l name at own =
       let passes : (is_built_in kernel l || is_outside kernel l) ≡ true = find-has p (posts kernel lines) l at (λ t. (is_built_in kernel t || is_outside kernel t) ≡ true) (all_passing (λ t. is_built_in kernel t || is_outside kernel t) (λ t. (is_built_in kernel t || is_outside kernel t) ≡ true) lines (λ k d lt yes. yes)) in
       outside_not_inside kernel l (is_named_outside kernel l name own passes)

@@ -1,5 +1,5 @@
 -- Each module has 1 to 7 regions.
-use Rattle.modules.proofs.Words.{◌≡◌, ℕ, ◌+◌, ◌^◌, ◌<◌, ◌≤◌, true, false, ◌||◌, nat_le, cond, List, [], ◌∷◌, length, get_or, map, refl, sym, ap, ◌∙◌, ⊎_elim, arith, All, bytes_decides, list_any, bytes_eq, nat_tests}
+use Rattle.modules.proofs.Words.{◌≡◌, ℕ, ◌+◌, ◌^◌, ◌<◌, ◌≤◌, true, false, nat_le, cond, List, [], length, get_or, refl, sym, ap, ◌∙◌, ⊎_elim, arith, All, bytes_decides, bytes_eq, nat_tests}
 use Rattle.modules.proofs.Lemmas.{leb-true, length-map, All-nil, All-cons, All-map, All-filter, AllPass-from_list_all, some_passes}
 use Rattle.modules.proofs.Definitions.{region_line_region, fits, is_region, region_fits, module_line_region, ListedModule, ListedRegion, Core, is_core, IsPlaced, PlacedModule, are_few, has_core, lines_named, placed_line, placed_alone, placed_by}
 use Rattle.modules.proofs.ByNameLemmas.{any_mapped}

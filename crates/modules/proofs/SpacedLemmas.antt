@@ -1,5 +1,5 @@
 -- Regions by rising address, with addresses between any two, are determined by what they hold.
-use Rattle.modules.proofs.Words.{◌≡◌, ℕ, ◌<◌, ◌≤◌, suc, Bool, true, List, [], ◌∷◌, map, Option, Some, refl, ap, sym, ◌∙◌, ⊎_elim, arith, All, AllPairs, list_any, common_steps, nat_tests, ◌-◌, ◌^◌, false, option_map_or, bytes_eq, bytes_decides}
+use Rattle.modules.proofs.Words.{◌≡◌, ℕ, ◌<◌, ◌≤◌, suc, Bool, true, List, [], ◌∷◌, map, Option, Some, refl, ap, sym, ◌∙◌, arith, All, AllPairs, list_any, common_steps, nat_tests, ◌-◌, ◌^◌, false, option_map_or, bytes_eq, bytes_decides}
 use Rattle.modules.proofs.Lemmas.{cases_lt, or_cases, or_left, or_right, All-head, All-tail}
 use Rattle.modules.proofs.Definitions.{Accepted, kernel_regions, BoundNames, ListedSymbol, posts, PlacedModule, holds, HasItsRegions, IsFromSymbols, belongs, is_kept_line}
 

@@ -1,5 +1,5 @@
 -- What a further piece of a region changes, and what one step of the sweep over marks adds.
-use Rattle.modules.proofs.Words.{◌≡◌, ℕ, ◌+◌, ◌-◌, ◌^◌, ◌<◌, ◌≤◌, true, List, length, get_or, ap, sym, subst, ◌∙◌, inl, inr, ⊎_elim, arith, ◌≢◌, ◌⊎◌, ◌↔◌, IsNonDecreasingBy, common_steps, nat_tests, [], ◌∷◌, ◌++◌, Some, refl, All, AllPairs, rules}
+use Rattle.modules.proofs.Words.{◌≡◌, ℕ, ◌+◌, ◌-◌, ◌^◌, ◌<◌, ◌≤◌, true, List, length, get_or, ap, sym, subst, ◌∙◌, inl, inr, ⊎_elim, arith, ◌≢◌, ◌⊎◌, ◌↔◌, IsNonDecreasingBy, common_steps, nat_tests, [], ◌∷◌, ◌++◌, Some, refl, All, rules}
 use Rattle.modules.proofs.Lemmas.{cases_lt, get_or_default, All-pop, All-push, AllPairs-across, AllPairs-left, Contains-get_or, Contains-head, Contains-push, Contains-append_left, Contains-push_cases, all_pairs_push}
 use Rattle.modules.proofs.Definitions.{Item, HoldsFor, GoesOn, IsFirstMark, IsNearestMark, IsNextMark, Owns, is_in_page, reach, Mark, AreLaid, Follows}
 

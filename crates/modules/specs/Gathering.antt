@@ -1,5 +1,5 @@
 -- Symbols that are put where they are kept.
-use Rattle.std.specs.Prelude.{◌≡◌, ◌≢◌, ℕ, ◌<◌, false, Bool, List, [], ◌++◌, length}
+use Rattle.std.specs.Prelude.{◌≡◌, ◌≢◌, ℕ, ◌<◌, false, Bool, List, ◌++◌, length}
 use Rattle.std.specs.Prelude.{filter, slice_index_or, slice_get, Option, Some, None}
 use Rattle.std.specs.Vec.{vec_len}
 use Rattle.std.specs.Global.{Vec}
@@ -65,13 +65,6 @@ kept_of a r = filter (λ s. lies_for a (owner_for a (option_copied r.module)) s.
 -- the lines of a run are gone through
 abbrev pub KeepsRun : Accepted → Run → Gathered → Gathered → Type 0
 KeepsRun a r g h = Keeps (owner_for a (option_copied r.module)) (kept_of a r) g h
-
--- an empty list for each of so many modules
-pub record IsEmptyFor (modules : ℕ) (g : Gathered) : Type 0 where
-  pub built_in : g.built_in.items ≡ []
-  pub lists : length g.modules.items ≡ modules
-  pub each : (j : ℕ) (d : Vec SymbolEntry) → j < modules
-      → (slice_index_or g.modules.items j d).items ≡ []
 
 -- what the lines leave in each list
 pub record Gathers (a : Accepted) (symbols : List ListedSymbol) (g : Gathered) : Type 0 where

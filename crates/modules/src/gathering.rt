@@ -18,7 +18,7 @@ ghost use Rattle.std.specs.Option.{option_copied};
 ghost use Rattle.modules.specs.Accepted.{names_of};
 ghost use Rattle.modules.specs.Kept.{AreDistinctNames};
 ghost use Rattle.modules.specs.Gathering.{owner_for, lies_for, HasRoom, Keeps};
-ghost use Rattle.modules.specs.Gathering.{KeepsRun, IsEmptyFor, Gathers};
+ghost use Rattle.modules.specs.Gathering.{KeepsRun, Gathers};
 ghost use Rattle.modules.specs.Runs.{lines_of_all};
 
 use crate::placed_modules::PlacedModules;
@@ -60,15 +60,6 @@ pub(crate) fn empty_lists<T: Drop>(alloc: Global, count: usize) -> Result<Vec<Ve
 }
 
 impl<'a> Gathered<'a> {
-    fn new(alloc: Global, modules: usize) -> Result<Gathered<'a>, AllocError>
-        ensures { IfOk result (IsEmptyFor modules) }
-    {
-        Ok(Gathered {
-            built_in: Vec::new(alloc),
-            modules: empty_lists(alloc, modules)?,
-        })
-    }
-
     /// Puts symbols after the others of their owner.
     fn put(&mut self, owner: Owner, symbols: Vec<Symbol<'a>>) -> Result<(), AllocError>
         requires room { HasRoom self.old owner }
@@ -157,7 +148,10 @@ fn gather_runs<'a>(
     ensures { IfOk result
         (Gathers placed.now (lines_of_all (runs.entry.items ++ last.entry ∷ []))) }
 {
-    let mut gathered = Gathered::new(alloc, placed.len())?;
+    let mut gathered = Gathered {
+        built_in: Vec::new(alloc),
+        modules: empty_lists(alloc, placed.len())?,
+    };
     for run in runs {
         gathered.keep_run(placed, run)?;
     }

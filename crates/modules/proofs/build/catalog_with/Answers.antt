@@ -1,5 +1,5 @@
-use Rattle.modules.proofs.Words.{◌≡◌, ◌+◌, ◌<◌, List, Option, sym, ap, subst, ◌∙◌, length, map, sum_by, arith, All, ◌++◌, option_to_list, flat_map, common_steps, nat_tests, length-append}
-use Rattle.modules.proofs.Definitions.{Accepted, names_in, names_of, AreModules, built_in_with, IsSoundCatalog, entry_for, is_kept, ModuleEntry, PlacedModule}
+use Rattle.modules.proofs.Words.{◌≡◌, ◌+◌, ◌<◌, List, Option, sym, ap, subst, ◌∙◌, length, map, sum_by, arith, All, ◌++◌, option_to_list, flat_map, common_steps, length-append}
+use Rattle.modules.proofs.Definitions.{Accepted, names_in, names_of, built_in_with, IsSoundCatalog, entry_for, is_kept, ModuleEntry, PlacedModule}
 use Rattle.modules.proofs.SoundnessLemmas.{count_of_regions, module_names, valid_kernel, IsSound-catalog_with}
 use Rattle.modules.proofs.Lemmas.{count_by-le-length}
 use Rattle.modules.proofs.MakingLemmas.{catalog_from, kept_from, made_of, modules_are}

@@ -1,4 +1,4 @@
-use Rattle.modules.proofs.Words.{◌≡◌, ◌+◌, ◌++◌, length, into_iter_items}
+use Rattle.modules.proofs.Words.{◌≡◌, ◌++◌, into_iter_items}
 use Rattle.modules.proofs.Definitions.{Gathers, lines_of_all}
 use Rattle.modules.proofs.gathering.gather_runs.Given as goal
 

@@ -1,4 +1,4 @@
-use Rattle.modules.proofs.Words.{List, ◌∷◌, [], ◌++◌, ap, subst, arith, common_steps}
+use Rattle.modules.proofs.Words.{List, subst, arith, common_steps}
 use Rattle.modules.proofs.Lemmas.{take_all, take_more}
 use Rattle.modules.proofs.Definitions.{AreNamed, lines_of_all, Run}
 use Rattle.modules.proofs.LineMarkLemmas.{named_more}
