@@ -7,7 +7,7 @@ pub use Rattle.modules.specs.Catalogs.{IsNoneAbsent, IsSoundCatalog, built_in_of
 pub use Rattle.modules.specs.Entries.{CatalogEntries, ModuleEntry, SymbolEntry}
 pub use Rattle.modules.specs.Found.{Found, IsFound, ReachesUpTo, found_in, symbol_at, symbol_found_at, symbols_from}
 pub use Rattle.modules.specs.FromSymbols.{HasItsRegions, IsFromSymbols, is_kept_line, owner_names, with_name}
-pub use Rattle.modules.specs.Gathering.{BelongsOnlyAt, Gathers, HasRoom, Keeps, KeepsRun, lies_for, owner_for}
+pub use Rattle.modules.specs.Gathering.{Gathers, HasRoom, Keeps, KeepsRun, lies_for, owner_for}
 pub use Rattle.modules.specs.ByName.{IsCut, IsSortedByName, comes_first}
 pub use Rattle.modules.specs.Grouped.{lines_at}
 pub use Rattle.modules.specs.Index.{IsBorder, IsFirstBorder, IsFirstOf, IsIndex, IsOrdered, IsRising, IsSplit, IsSplitBy, comes_before, index_entries_of, symbol_of_entry}

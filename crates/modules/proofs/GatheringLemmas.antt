@@ -1,7 +1,7 @@
 -- Where a symbol is kept, and one more run of symbol lines.
-use Rattle.modules.proofs.Words.{◌≡◌, ℕ, ◌<◌, Bool, false, List, ◌++◌, length, get_or, map, Some, None, Option, refl, sym, ap, ◌∙◌, ⊎_elim, arith, filter, Bor, Vec, position_from, option_copied, option_map_or, bytes_eq, common_steps, nat_tests, [], ◌∷◌, true, bytes_decides}
+use Rattle.modules.proofs.Words.{◌≡◌, ◌≢◌, ℕ, ◌<◌, Bool, false, List, ◌++◌, length, get_or, map, Some, None, Option, refl, sym, ap, ◌∙◌, ⊎_elim, arith, filter, Bor, Vec, position_from, option_copied, option_map_or, bytes_eq, common_steps, nat_tests, [], ◌∷◌, true, bytes_decides}
 use Rattle.modules.proofs.Lemmas.{cases_eq, map-append, append-nil, filter-append, list_any_at, slice_get-get_or, cases_order, false_from_ne_true, and_left, position_from-zero, get_or-map, length-map, position-Some, is_some-position_from}
-use Rattle.modules.proofs.Definitions.{Accepted, names_of, SymbolEntry, Gathers, HasRoom, Keeps, KeepsRun, lies_for, owner_for, AreDistinctNames, belongs, is_built_in, symbols_that, entry_of, ListedSymbol, PlacedModule, lines_of_run, line_of, Gathered, Owner, Run, BelongsOnlyAt}
+use Rattle.modules.proofs.Definitions.{Accepted, names_of, SymbolEntry, Gathers, HasRoom, Keeps, KeepsRun, lies_for, owner_for, AreDistinctNames, belongs, is_built_in, symbols_that, entry_of, ListedSymbol, PlacedModule, lines_of_run, line_of, Gathered, Owner, Run}
 use Rattle.modules.specs.declared.gathering.Owner.TheVariants as owner
 
 pub not_built_in : (built_in : List (ℕ × ℕ)) (s : ListedSymbol) (name : List ℕ) → s.owner ≡ Some name → is_built_in built_in s ≡ false
@@ -21,7 +21,7 @@ place_within lines name k at =
     grind (arith, common_steps, nat_tests, position-Some, position_from-zero, length-map, name_at)
 
 -- names are distinct, so that a symbol belongs to the module of its name or to none
-pub only_home : (a : Accepted) (s : ListedSymbol) (name : List ℕ) (k : ℕ) → AreDistinctNames (names_of a.modules) → s.owner ≡ Some name → position_from (bytes_eq name) 0 (names_of a.modules) ≡ Some k → BelongsOnlyAt a s k
+pub only_home : (a : Accepted) (s : ListedSymbol) (name : List ℕ) (k : ℕ) → AreDistinctNames (names_of a.modules) → s.owner ≡ Some name → position_from (bytes_eq name) 0 (names_of a.modules) ≡ Some k → (j : ℕ) (m : PlacedModule) → j < length a.modules → j ≢ k → belongs (get_or a.modules j m) s ≡ false
 only_home a s name k distinct owner at j m lt other =
     let found = position-Some (bytes_eq name) (names_of a.modules) k [] (position_from-zero (bytes_eq name) (names_of a.modules) ∙ at) in
     grind (arith, common_steps, nat_tests, position-Some, position_from-zero, bytes_decides, length-map, cases_order, false_from_ne_true, name_at, and_left)

@@ -17,12 +17,6 @@ use Rattle.modules.specs.declared.gathering.Owner.{Owner}
 use Rattle.modules.specs.declared.gathering.Owner.TheVariants as owner
 use Rattle.modules.specs.declared.symbol_lines.Run.{Run}
 
--- the symbol belongs to no accepted module other than that at this place
-abbrev pub BelongsOnlyAt : Accepted → ListedSymbol → ℕ → Type 0
-BelongsOnlyAt a s place =
-    (j : ℕ) (m : PlacedModule) → j < length a.modules → j ≢ place
-    → belongs (slice_index_or a.modules j m) s ≡ false
-
 -- whose symbols the lines of a module of this name are
 abbrev pub owner_for : Accepted → Option (List ℕ) → Owner
 owner_for a None = owner.BuiltIn

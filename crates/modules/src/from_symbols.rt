@@ -10,19 +10,14 @@
 //! modules: ext4, nfs                                  no line of bpf is kept
 //! ```
 
-ghost use Rattle.std.specs.Prelude.{◌≡◌, ◌≢◌, ◌<◌, ◌≤◌, ◌-◌, ◌^◌, [], ℕ, List, Option};
-ghost use Rattle.std.specs.Prelude.{All, IfOk, length};
+ghost use Rattle.std.specs.Prelude.{◌≡◌, ◌<◌, ◌≤◌, ◌-◌, ◌^◌, [], All, IfOk, length, Option};
 ghost use Rattle.std.specs.List.{flat_map};
 ghost use Rattle.modules.specs.Accepted.{accepted_with};
 ghost use Rattle.modules.specs.FromSymbols.{IsFromSymbols};
-ghost use Rattle.modules.specs.LineMarks.{AreLeft, AreNamed, HaveFirstLines, is_kept_mark};
-ghost use Rattle.modules.specs.LineMarks.{kept_numbers, marks_of, modules_numbered, number_in};
+ghost use Rattle.modules.specs.LineMarks.{AreLeft, is_kept_mark, kept_numbers, modules_numbered};
 ghost use Rattle.modules.specs.Lines.{kernel_regions};
-ghost use Rattle.modules.specs.Listed.{BoundNames, ListedSymbol};
-ghost use Rattle.modules.specs.MarkedModules.{StandsFor};
-ghost use Rattle.modules.specs.Marks.{AreLaid, AreRegions};
-ghost use Rattle.modules.specs.Owners.{posts};
-ghost use Rattle.order_laws.specs.declared.items.Item.{Item};
+ghost use Rattle.modules.specs.Listed.{BoundNames};
+ghost use Rattle.modules.specs.Marks.{AreLaid};
 
 use crate::gathering::empty_lists;
 use crate::line_marks::marks_of;

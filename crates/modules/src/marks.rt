@@ -11,17 +11,12 @@
 //! ```
 
 ghost use Rattle.std.specs.Prelude.{◌≡◌, ◌≢◌, ◌≤◌, ◌<◌, ◌+◌, ◌-◌, ◌^◌, ◌⊎◌, ◌↔◌, ℕ, All, IfOk};
-ghost use Rattle.std.specs.Prelude.{true, List, OnOk};
+ghost use Rattle.std.specs.Prelude.{true, OnOk};
 ghost use Rattle.std.specs.List.Sorted.{IsNonDecreasingBy};
 ghost use Rattle.order_laws.specs.Orders.{half_open};
 ghost use Rattle.order_laws.specs.Tables.{look};
-ghost use Rattle.modules.specs.FromSymbols.{HasItsRegions};
-ghost use Rattle.modules.specs.Listed.{ListedSymbol};
-ghost use Rattle.modules.specs.MarkedModules.{numbered_module, StandsFor};
 ghost use Rattle.modules.specs.Marks.{AreLaid, AreRegions, HoldsFor};
 ghost use Rattle.modules.specs.Owners.{is_in_page, reach};
-ghost use Rattle.modules.specs.declared.marks.Mark.{Mark};
-ghost use Rattle.order_laws.specs.declared.items.Item.{Item};
 
 use crate::buckets::split_of;
 use order_laws::Item;
