@@ -1,13 +1,7 @@
 -- blanks that a line of a file of addresses ends in
 pub mod BlankEndLemmas
--- what the first place of a byte says of a text that is cut there
-pub mod CutLemmas
--- words that blanks and tabs part
-pub mod WordRunLemmas
--- an address of sixteen digits has no blank
-pub mod SymbolAddressLemmas
--- symbols with mapping symbols among them or without
-pub mod SymbolListingLemmas
+-- lines of a listing of symbols
+pub mod SymbolLineLemmas
 -- lines that are taken, or skipped for a cause, one after the other
 pub mod SkippingLemmas
 -- what is read of a listing of modules
@@ -20,7 +14,5 @@ pub mod TabLemmas
 pub mod LookLemmas
 -- where a note on a listing does not apply
 pub mod ListingNoteLemmas
--- modules that a catalog has by name
+-- modules that a catalog has by name, and why it lacks a listed one
 pub mod OverlapLemmas
--- a listed module that a catalog lacks was kept out
-pub mod OverlapLawLemmas

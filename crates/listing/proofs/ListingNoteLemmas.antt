@@ -1,19 +1,18 @@
 -- Where a note on a listing does not apply.
-use Rattle.std.proofs.Common.{◌≡◌, ◌<◌, ℕ, zero, suc, ◌+◌, Bool, true, false, true≢false, not, ◌&&◌, ◌||◌, cond, nat_lt, List, [], ◌∷◌, length, get_or, take, drop, Option, Some, None, refl, sym, ap, ◌∙◌, ⊎_elim, filter, arith}
+use Rattle.std.proofs.Common.{◌≡◌, ◌<◌, ℕ, zero, suc, ◌+◌, Bool, true, false, true≢false, not, ◌&&◌, ◌||◌, cond, nat_lt, List, [], ◌∷◌, length, take, Option, Some, None, refl, sym, ap, ◌∙◌, ⊎_elim, filter, arith}
 use Rattle.std.specs.Borrow.{Bor}
 use Rattle.std.specs.Prelude.{find, is_none, is_some, nat_eq, slice_get, unwrap_or}
 use Rattle.std.specs.List.{list_any}
 use Rattle.std.specs.Option.{option_and_then, option_copied, option_map}
 use Rattle.std.specs.Str.{bytes_eq}
-use Rattle.std.proofs.lemmas.Bool.{lt-ltb, ne_eqb, or_cases, or_left, or_parts, or_right}
-use Rattle.std.proofs.lemmas.List.{take_all}
-use Rattle.listing.specs.Looks.{is_kernel_symbol, is_of_kernel}
+use Rattle.std.proofs.Math.Bool.{and-false}
+use Rattle.std.proofs.lemmas.Bool.{or_cases, or_left, or_parts, or_right}
+use Rattle.listing.specs.Looks.{is_kernel_symbol}
 use Rattle.modules.specs.Entries.{CatalogEntries, ModuleEntry}
 use Rattle.modules.specs.Lines.{bounds_for, built_in_region, first_address, usual_bounds_of}
 use Rattle.modules.specs.Listed.{BoundNames, ListedSymbol}
-use Rattle.listing.specs.declared.listing_notes.ListingNote.{ListingNote}
 use Rattle.listing.specs.SymbolListing.{is_mapping, symbols_with}
-use Rattle.listing.specs.ListingNotes.{HasBounds, has_symbols, lacks_symbol, lacks_symbols}
+use Rattle.listing.specs.ListingNotes.{HasBounds, has_symbols, lacks_symbols}
 
 -- ---- the bounds of the kernel
 
@@ -28,14 +27,6 @@ both_named : (start end : Option ℕ) → is_some {T = ℕ × ℕ} (option_and_t
 both_named None end some = absurd (cc)
 both_named (Some s) None some = absurd (cc)
 both_named (Some s) (Some e) some = (refl, refl)
-
-pub not_lacked : (name : List ℕ) (symbols : List ListedSymbol) → list_any (is_kernel_symbol name) symbols ≡ true → lacks_symbol name symbols ≡ false
-not_lacked name symbols named =
-    ap (λ b. list_any is_of_kernel symbols && not b) named ∙ none (list_any is_of_kernel symbols)
-  where
-    none : (b : Bool) → (b && false) ≡ false
-    none true = refl
-    none false = refl
 
 -- what is listed without mapping symbols is listed
 any_passing : (p q : ListedSymbol → Bool) (symbols : List ListedSymbol) → list_any p (filter q symbols) ≡ true → list_any p symbols ≡ true
@@ -95,54 +86,15 @@ none_more passes (m ∷ modules) (suc place) low here before =
     let parts = or_parts (passes (Some m)) (list_any (λ x. passes (Some x)) (take place modules)) before in
     let shift : suc place + 1 ≡ suc (place + 1) = omega arith in
     ap (λ n. list_any (λ x. passes (Some x)) (take n (m ∷ modules))) shift
-    ∙ ap (λ b. b || list_any (λ x. passes (Some x)) (take (place + 1) modules)) parts.0 ∙ none_more passes modules place (omega arith) here parts.1
+    ∙ (λ i. parts.0 i || none_more passes modules place (omega arith) here parts.1 i)
 
 -- one does that passes where no module would
 pub some_at : (passes : Option ModuleEntry → Bool) (modules : List ModuleEntry) (place : ℕ) → passes None ≡ false → passes (slice_get modules place) ≡ true
     → list_any (λ m. passes (Some m)) modules ≡ true
 some_at passes [] place none here = absurd (true≢false (sym here ∙ none))
 some_at passes (m ∷ modules) zero none here = ap (λ b. b || list_any (λ x. passes (Some x)) modules) here
-some_at passes (m ∷ modules) (suc place) none here = or_true (passes (Some m)) (some_at passes modules place none here)
-  where
-    or_true : (a : Bool) {b : Bool} → b ≡ true → (a || b) ≡ true
-    or_true true e = refl
-    or_true false e = e
-
--- where all of them are gone through
-pub none_at_all : (passes : Option ModuleEntry → Bool) (modules : List ModuleEntry) (count : ℕ) → count ≡ length modules
-    → list_any (λ m. passes (Some m)) (take count modules) ≡ false → list_any (λ m. passes (Some m)) modules ≡ false
-none_at_all passes modules count is none =
-    ap (λ ms. list_any (λ m. passes (Some m)) ms) (sym (take_all count modules (omega (arith, is)))) ∙ none
-
-positive : (n : ℕ) → nat_lt 0 n ≡ (not (nat_eq n 0) && true)
-positive zero = refl
-positive (suc n) = lt-ltb 0 (suc n) (omega arith) ∙ sym (ap (λ b. not b && true) (ne_eqb (suc n) 0 (λ e. absurd (omega (arith, e)))))
+some_at passes (m ∷ modules) (suc place) none here = or_right (passes (Some m)) (list_any (λ x. passes (Some x)) modules) (some_at passes modules place none here)
 
 pub one_has_some : (c : CatalogEntries) (place : ℕ) → has_symbols (slice_get c.modules place) ≡ true → false ≡ lacks_symbols c
 one_has_some c place here =
-    sym (ap (λ b. not (nat_eq (length c.modules) 0) && not b) (some_at has_symbols c.modules place refl here) ∙ none (not (nat_eq (length c.modules) 0)))
-  where
-    none : (b : Bool) → (b && false) ≡ false
-    none true = refl
-    none false = refl
-
-pub none_has_some : (c : CatalogEntries) (count : ℕ) → count ≡ length c.modules
-    → list_any (λ m. has_symbols (Some m)) (take count c.modules) ≡ false → nat_lt 0 count ≡ lacks_symbols c
-none_has_some c count is none =
-    ap (nat_lt 0) is ∙ positive (length c.modules) ∙ sym (ap (λ b. not (nat_eq (length c.modules) 0) && not b) (none_at_all has_symbols c.modules count is none))
-
--- ---- the first note that applies
-
-pub notes_from : (applies : ListingNote → Bool) (notes : List ListingNote) (i : ℕ) (d : ListingNote) → i < length notes → applies (get_or notes i d) ≡ false
-    → find applies (drop i notes) ≡ find applies (drop (i + 1) notes)
-notes_from applies [] i d low none = absurd (omega arith)
-notes_from applies (n ∷ notes) zero d low none = ap (λ b. cond b (Some n) (find applies notes)) none
-notes_from applies (n ∷ notes) (suc i) d low none =
-    let shift : suc i + 1 ≡ suc (i + 1) = omega arith in
-    notes_from applies notes i d (omega arith) none ∙ ap (λ k. find applies (drop k (n ∷ notes))) (sym shift)
-
-pub note_at : (applies : ListingNote → Bool) (notes : List ListingNote) (i : ℕ) (d : ListingNote) → i < length notes → applies (get_or notes i d) ≡ true
-    → find applies (drop i notes) ≡ Some (get_or notes i d)
-note_at applies [] i d low one = absurd (omega arith)
-note_at applies (n ∷ notes) zero d low one = ap (λ b. cond b (Some n) (find applies notes)) one
-note_at applies (n ∷ notes) (suc i) d low one = note_at applies notes i d (omega arith) one
+    sym (ap (λ b. not (nat_eq (length c.modules) 0) && not b) (some_at has_symbols c.modules place refl here) ∙ and-false (not (nat_eq (length c.modules) 0)))

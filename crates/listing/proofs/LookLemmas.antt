@@ -3,6 +3,7 @@ use Rattle.std.proofs.Common.{◌≡◌, ℕ, zero, suc, ◌+◌, Bool, true, fa
 use Rattle.std.specs.Prelude.{count_by}
 use Rattle.std.specs.List.{cons_option, list_any}
 use Rattle.std.specs.Result.{result_ok}
+use Rattle.std.proofs.Math.Bool.{or-false}
 use Rattle.std.proofs.lemmas.Bool.{lt-ltb}
 use Rattle.std.proofs.lemmas.List.Sums.{sum_by-cons}
 use Rattle.modules.specs.Listed.{ListedModule, ListedSymbol}
@@ -86,12 +87,8 @@ modules_hidden lines h l e w is_hidden is_listed is_empty is_wrapping =
     ≡ (nat_lt 0 (length (modules_in lines)) || (nat_lt 0 (skipped_modules module_cause.Empty lines) || nat_lt 0 (skipped_modules module_cause.Wraps lines))) =
     any_counted (λ l. is_shown_module (module_of_line l)) lines ∙ ap (nat_lt 0) (shown_counted lines)
     ∙ some_of_three (length (modules_in lines)) (skipped_modules module_cause.Empty lines) (skipped_modules module_cause.Wraps lines) in
-    ap (λ n. nat_lt 0 n && not (nat_lt 0 l || (nat_lt 0 e || nat_lt 0 w))) is_hidden
-    ∙ ap (λ n. nat_lt 0 (skipped_modules module_cause.Hidden lines) && not (nat_lt 0 n || (nat_lt 0 e || nat_lt 0 w))) is_listed
-    ∙ ap (λ n. nat_lt 0 (skipped_modules module_cause.Hidden lines) && not (nat_lt 0 (length (modules_in lines)) || (nat_lt 0 n || nat_lt 0 w))) is_empty
-    ∙ ap (λ n. nat_lt 0 (skipped_modules module_cause.Hidden lines) && not (nat_lt 0 (length (modules_in lines)) || (nat_lt 0 (skipped_modules module_cause.Empty lines) || nat_lt 0 n))) is_wrapping
-    ∙ ap (λ b. nat_lt 0 (skipped_modules module_cause.Hidden lines) && not b) (sym shown)
-    ∙ ap (λ b. b && not (list_any (λ l. is_shown_module (module_of_line l)) lines)) (sym hidden)
+    (λ i. nat_lt 0 (is_hidden i) && not (nat_lt 0 (is_listed i) || (nat_lt 0 (is_empty i) || nat_lt 0 (is_wrapping i))))
+    ∙ (λ i. sym hidden i && not (sym shown i))
 
 hidden_symbol : (r : Result ListedSymbol SkippedSymbol) → is_hidden_symbol r ≡ is_skipped_for symbol_place symbol_cause.Hidden r
 hidden_symbol (Ok s) = refl
@@ -108,18 +105,11 @@ some_taken : (lines : List (List ℕ)) → list_any (λ l. is_shown_symbol (symb
 some_taken [] = refl
 some_taken (line ∷ lines) = first_taken (symbol_of line) (list_any (λ l. is_shown_symbol (symbol_of l)) lines) (symbols_in lines) (some_taken lines)
 
-or_false : (b : Bool) → (b || false) ≡ b
-or_false true = refl
-or_false false = refl
-
 pub symbols_hidden : (lines : List (List ℕ)) (hidden listed : ℕ) → hidden ≡ skipped_for symbol_place symbol_of lines symbol_cause.Hidden
     → listed ≡ length (symbols_in lines) → (nat_lt 0 hidden && not (nat_lt 0 listed || false)) ≡ are_symbols_hidden lines
 symbols_hidden lines h l is_hidden is_listed =
     let hidden : list_any (λ l. is_hidden_symbol (symbol_of l)) lines ≡ nat_lt 0 (skipped_for symbol_place symbol_of lines symbol_cause.Hidden) =
     same_any (λ l. is_hidden_symbol (symbol_of l)) (λ l. is_skipped_for symbol_place symbol_cause.Hidden (symbol_of l)) (λ l. hidden_symbol (symbol_of l)) lines
     ∙ any_counted (λ l. is_skipped_for symbol_place symbol_cause.Hidden (symbol_of l)) lines in
-    ap (λ n. nat_lt 0 n && not (nat_lt 0 l || false)) is_hidden
-    ∙ ap (λ b. nat_lt 0 (skipped_for symbol_place symbol_of lines symbol_cause.Hidden) && not b) (or_false (nat_lt 0 l))
-    ∙ ap (λ n. nat_lt 0 (skipped_for symbol_place symbol_of lines symbol_cause.Hidden) && not (nat_lt 0 n)) is_listed
-    ∙ ap (λ b. nat_lt 0 (skipped_for symbol_place symbol_of lines symbol_cause.Hidden) && not b) (sym (some_taken lines))
-    ∙ ap (λ b. b && not (list_any (λ l. is_shown_symbol (symbol_of l)) lines)) (sym hidden)
+    (λ i. nat_lt 0 (is_hidden i) && not (or-false (nat_lt 0 l) i))
+    ∙ (λ i. sym hidden i && not ((ap (nat_lt 0) is_listed ∙ sym (some_taken lines)) i))

@@ -1,5 +1,5 @@
 -- What is read of a listing of modules.
-use Rattle.std.proofs.Common.{◌≡◌, ℕ, Bool, true, false, ◌==◌, nat_lt, cond, List, [], ◌∷◌, length, Ok, Err, Result, Some, None, Option, ◌+◌, ◌^◌, not, ◌&&◌, refl, sym, ap, ◌∙◌, arith}
+use Rattle.std.proofs.Common.{◌≡◌, ℕ, Bool, true, false, ◌==◌, nat_lt, cond, List, [], ◌∷◌, take, length, Ok, Err, Result, Some, None, Option, ◌+◌, ◌^◌, not, ◌&&◌, refl, sym, ap, ◌∙◌, arith}
 use Rattle.std.specs.Prelude.{All}
 use Rattle.std.specs.List.{cons_option}
 use Rattle.std.specs.Result.{result_ok}
@@ -38,3 +38,13 @@ all_fit_with (Err cause) ms fit all = all
 pub modules_fit : (lines : List (List ℕ)) → All (λ m. fits m ≡ true) (modules_in lines)
 modules_fit [] = λ k d lt. absurd (omega arith)
 modules_fit (line ∷ lines) = all_fit_with (module_of_line line) (modules_in lines) (module_fits line) (modules_fit lines)
+
+-- only the first six words are looked at
+pub six_words : (words : List (List ℕ)) → module_of_words (take 6 words) ≡ module_of_words words
+six_words [] = refl
+six_words (a ∷ []) = refl
+six_words (a ∷ b ∷ []) = refl
+six_words (a ∷ b ∷ c ∷ []) = refl
+six_words (a ∷ b ∷ c ∷ d ∷ []) = refl
+six_words (a ∷ b ∷ c ∷ d ∷ e ∷ []) = refl
+six_words (a ∷ b ∷ c ∷ d ∷ e ∷ f ∷ words) = refl

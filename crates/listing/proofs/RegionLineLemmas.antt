@@ -1,5 +1,5 @@
 -- What a line of a listing of regions is.
-use Rattle.std.proofs.Common.{cond, ◌≡◌, ℕ, ◌<◌, ◌≤◌, Bool, true, false, nat_lt, List, [], ◌∷◌, length, map, Option, Some, None, Result, Ok, Err, MatchResult, inl, inr, refl, sym, ap, ◌∙◌, subst, arith}
+use Rattle.std.proofs.Common.{cond, ◌≡◌, ℕ, ◌<◌, Bool, true, false, nat_lt, List, [], ◌∷◌, length, map, Option, Some, None, Result, Ok, Err, MatchResult, inl, inr, refl, sym, ap, ◌∙◌, subst, arith}
 use Rattle.std.specs.Prelude.{All, IfOk}
 use Rattle.std.specs.Global.{Vec}
 use Rattle.std.specs.List.{filter_map, cons_option}
@@ -28,14 +28,6 @@ region_short (a ∷ []) few = refl
 region_short (a ∷ b ∷ []) few = refl
 region_short (a ∷ b ∷ c ∷ []) few = refl
 region_short (a ∷ b ∷ c ∷ d ∷ words) few = absurd (omega arith)
-
-pub region_long : (words : Words) → 5 ≤ length words → region_of_words (map (λ w. w.now) words) ≡ None
-region_long [] many = absurd (omega arith)
-region_long (a ∷ []) many = absurd (omega arith)
-region_long (a ∷ b ∷ []) many = absurd (omega arith)
-region_long (a ∷ b ∷ c ∷ []) many = absurd (omega arith)
-region_long (a ∷ b ∷ c ∷ d ∷ []) many = absurd (omega arith)
-region_long (a ∷ b ∷ c ∷ d ∷ e ∷ words) many = refl
 
 pub regions_too_long : (words : List (List ℕ)) → 4 < length words → region_of_words words ≡ None
 regions_too_long [] many = refl

@@ -88,6 +88,7 @@ impl<C: Cause<N>, const N: usize> Counts<C, N> {
 
 /// Each line is taken, or is counted for one cause for which it is skipped, whatever is said of
 /// which line.
+#[tactic(auto, using(crate::proofs::SkippingLemmas::each_once))]
 pub fn each_line_is_counted_once<T, C: Cause<N>, const N: usize>()
     ensures { (said : List ℕ → Result T C) → (lines : List (List ℕ))
         → length (taken_by said lines) + sum (counts_by C.place_of C.causes said lines)

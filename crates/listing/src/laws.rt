@@ -19,6 +19,7 @@ use modules::{ModuleLine, SymbolLine};
 /// A text is a listing of regions exactly if each of its lines is in the grammar, and its
 /// regions are then those of its lines, in their order; otherwise the line that is named is the
 /// first one that is not.
+#[tactic(auto, using(crate::proofs::RegionLineLemmas::regions_by_lines))]
 pub fn regions_by_their_lines()
     ensures { (text : List ℕ)
         → MatchResult (regions_of_text text) (IsRegionListingBy (lines_of text))
@@ -26,6 +27,7 @@ pub fn regions_by_their_lines()
 {}
 
 /// What is read of a file of addresses is what its lines say, one after the other.
+#[tactic(auto, using(texts::proofs::UnderstoodLemmas::are_entries))]
 pub fn addresses_by_their_lines()
     ensures { (text : List ℕ)
         → MatchResult (addresses_of text) (AreSaidBy address_in_line (lines_of text))
@@ -44,6 +46,7 @@ pub fn each_listed_line_is_counted_once()
 }
 
 /// A listed module that a catalog lacks has a line that was kept out as one that overlaps.
+#[tactic(auto, using(crate::proofs::OverlapLemmas::left_out_overlaps))]
 pub fn left_out_modules_overlap()
     ensures { (names : Option BoundNames) → (modules : List ListedModule)
         → (regions : List ListedRegion) → (symbols : List ListedSymbol) → (m : ListedModule)

@@ -166,13 +166,9 @@ pub fn note_of_modules(
     requires { hidden ≡ are_modules_hidden (lines_of text.now) }
     ensures { result ≡ find (is_of_modules text.now kallsyms.now catalog.now) all_notes }
 {
-    let notes = ListingNote::all();
-    for note in notes {
-        if applies_to_modules(*note, text, kallsyms, hidden, catalog) {
-            return Some(*note);
-        }
-    }
-    None
+    ListingNote::all().iter().copied().find(|note| applies_to_modules(
+        *note, text, kallsyms, hidden, catalog,
+    ))
 }
 
 /// What is known of a listing of symbols once it is read.
@@ -232,13 +228,10 @@ pub fn note_of_kallsyms(
     ensures { result
         ≡ find (is_of_kallsyms names.now facts.is_alone text.now facts.kept) all_notes }
 {
-    let notes = ListingNote::all();
-    for note in notes {
-        if applies_to_kallsyms(*note, text, names, facts) {
-            return Some(*note);
-        }
-    }
-    None
+    ListingNote::all()
+        .iter()
+        .copied()
+        .find(|note| applies_to_kallsyms(*note, text, names, facts))
 }
 
 /// Whether symbols of the kernel itself are listed, and none at its first address; and whether they

@@ -67,6 +67,7 @@ fn hides_all(hidden: u64, listed: usize, empty: u64, wraps: u64) -> bool
 
 /// Whether a listing of symbols has well-formed lines and all are hidden, if `listed` lines are
 /// symbols and the others were skipped for these causes.
+#[tactic(auto, using(crate::proofs::LookLemmas::symbols_hidden))]
 pub fn are_symbols_hidden(listed: usize, skipped: &SymbolCounts) -> bool
     ensures { (lines : List (List ℕ)) → listed ≡ length (symbols_in lines)
         → skipped.now.by_place ≡ symbol_counts lines → result ≡ are_symbols_hidden lines }

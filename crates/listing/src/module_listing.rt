@@ -121,7 +121,7 @@ fn module_in_words<'a>(words: &[&'a [u8]]) -> Option<ModuleLine<'a>>
 }
 
 /// The module that a line is, or the first cause for which it is skipped.
-#[tactic(auto, using(crate::proofs::WordRunLemmas::six_words))]
+#[tactic(auto, using(crate::proofs::ModuleLineLemmas::six_words))]
 pub(crate) fn module_in<'a>(line: &'a [u8]) -> Result<ModuleLine<'a>, SkippedModule>
     ensures { result ≡ module_of_line line.now }
 {

@@ -15,6 +15,7 @@ use texts::cut_line;
 
 /// Whether a symbol names a module that is listed and left out. The symbols are gone through only
 /// if a module is left out.
+#[tactic(auto, using(crate::proofs::OverlapLemmas::none_named))]
 pub(crate) fn do_modules_overlap(text: &[u8], kallsyms: &[u8], catalog: &Catalog) -> bool
     ensures { result ≡ do_modules_overlap (modules_in (lines_of text.now))
         (symbols_in (lines_of kallsyms.now)) catalog.now }
@@ -89,6 +90,7 @@ fn is_listed_name(text: &[u8], name: &[u8]) -> bool
 
 /// Whether a module of the catalog has the name. One that is called `-` is not found by its name,
 /// which is the kernel's own.
+#[tactic(auto, using(crate::proofs::OverlapLemmas::has_number))]
 fn has_module(catalog: &Catalog, name: &[u8]) -> bool
     ensures { result ≡ has_module catalog.now name.now }
 {

@@ -1,8 +1,7 @@
-use Rattle.std.proofs.Common.{◌≡◌, ◌+◌, ap, arith, suc, sym, take, ◌∙◌, Some}
-use Rattle.std.specs.List.{list_any}
+use Rattle.std.proofs.Common.{◌≡◌, ◌+◌, ap, arith, suc, sym, ◌∙◌}
 use Rattle.modules.specs.Catalogs.{module_of}
 use Rattle.listing.specs.ListingNotes.{has_symbols}
-use Rattle.listing.proofs.ListingNoteLemmas.{none_has_some, none_more, one_has_some}
+use Rattle.listing.proofs.ListingNoteLemmas.{none_more, one_has_some}
 use Rattle.listing.proofs.listing_notes.lacks_symbols.Goals as goal
 
 pub returns-then-has_symbols : goal.returns-then-has_symbols
@@ -17,9 +16,3 @@ loop-place-preserved c =
     none_more has_symbols c.args.catalog.now.modules c.loop-place.place (omega (arith, c.loop-place-test.true, c.len-count.ensures))
     (ap (λ n. has_symbols (module_of c.args.catalog.now n)) next ∙ sym (ap has_symbols c.module.ensures) ∙ sym c.has_symbols.ensures ∙ c.if-has_symbols.false)
     c.loop-place.invariant
-
-pub returns : goal.returns
-returns c =
-    let all : c.len-count.result ≡ c.loop-place.place = omega (arith, c.loop-place-test.false, c.loop-place.auto.place-end) in
-    none_has_some c.args.catalog.now c.len-count.result c.len-count.ensures
-    (ap (λ n. list_any (λ m. has_symbols (Some m)) (take n c.args.catalog.now.modules)) all ∙ c.loop-place.invariant)

@@ -2,7 +2,7 @@ use Rattle.std.proofs.Common.{ap, ◌∙◌, ◌+◌, ℕ, List, Some, take, sym
 use Rattle.std.specs.Option.{option_map}
 use Rattle.std.specs.Borrow.{Bor}
 use Rattle.std.proofs.lemmas.List.{take_rest}
-use Rattle.listing.proofs.CutLemmas.{cut_here, cut_nowhere}
+use Rattle.listing.proofs.SymbolLineLemmas.{cut_here, cut_nowhere}
 use Rattle.listing.proofs.symbol_listing.cut.Goals as goal
 
 pub returns-in_err-end : goal.returns-in_err-end

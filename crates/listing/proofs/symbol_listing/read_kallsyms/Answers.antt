@@ -1,11 +1,8 @@
 use Rattle.std.proofs.Common.{◌∙◌, [], ◌++◌, ◌∷◌, ap, refl, sym, subst, arith, length-append}
 use Rattle.listing.specs.SymbolListing.{symbol_causes, symbol_place, symbol_of, symbols_with}
 use Rattle.listing.proofs.SkippingLemmas.{IsReadTo, counts_low, one_skipped, one_taken, taken_low}
-use Rattle.listing.proofs.SymbolListingLemmas.{none_with, with_joined}
+use Rattle.listing.proofs.SymbolLineLemmas.{with_joined}
 use Rattle.listing.proofs.symbol_listing.read_kallsyms.Goals as goal
-
-pub loop-rest-init : goal.loop-rest-init
-loop-rest-init c = ([], ([], refl, refl, c.new-skipped.ensures), c.new-lines.ensures ∙ none_with c.args.with_mapping, refl)
 
 pub overflow_add-listed : goal.overflow_add-listed
 overflow_add-listed c =

@@ -3,7 +3,7 @@ use Rattle.std.specs.Option.{option_and_then}
 use Rattle.std.proofs.lemmas.List.{take_rest}
 use Rattle.memchr.specs.Find.{IsFirstByte, is_byte}
 use Rattle.listing.specs.SymbolListing.{bracketed, cut_at, symbol_before, symbol_of_text}
-use Rattle.listing.proofs.CutLemmas.{cut_here, cut_nowhere}
+use Rattle.listing.proofs.SymbolLineLemmas.{cut_here, cut_nowhere}
 use Rattle.listing.proofs.symbol_listing.symbol_in_form.Goals as goal
 
 -- the parts of a line before and after its first tab

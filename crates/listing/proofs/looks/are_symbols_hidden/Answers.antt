@@ -1,9 +1,0 @@
-use Rattle.std.proofs.Common.{ℕ, List, ap, ◌∙◌}
-use Rattle.std.specs.Prelude.{slice_index}
-use Rattle.listing.proofs.LookLemmas.{symbols_hidden}
-use Rattle.listing.proofs.looks.are_symbols_hidden.Goals as goal
-
-pub returns : goal.returns
-returns c = λ lines is_listed is_counted.
-    c.hides_all.ensures
-    ∙ symbols_hidden lines c.count-hidden.result c.args.listed (c.count-hidden.ensures ∙ ap (λ (ns : List ℕ). slice_index ns 0) is_counted) is_listed
