@@ -27,7 +27,7 @@ error_of_outcome job written (Ok finished) = None
 error_of_outcome job written (Err fault) = error_behind job written fault
 
 -- The engine of a job came to this outcome over the readers of its files, and that was told, with
--- the status that it stands for.
+-- the status that it means.
 pub record IsDoneOver {R W E : Type 0} (remaining : R → Option (List ℕ))
     (contents : W → Option (List ℕ)) (errors : E → Option (List ℕ)) (job : Job)
     (opened done : OpenedJob R) (w w' : Output W) (e e' : Output E) (status : ℕ) : Type 0 where

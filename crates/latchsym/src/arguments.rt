@@ -193,7 +193,7 @@ fn subcommand_in<'a>(
     }
 }
 
-/// The addresses that are looked up, of which there has to be one or a file of them.
+/// The addresses that are looked up: there has to be one, or a file of them.
 fn lookup_in<'a>(alloc: Global, found: &ArgMatches<'a>) -> Result<Lookup<'a>, JobFault<'a>>
     ensures { Gives IsLookupIn (codes "lookup") (rows_in found.now) result }
 {

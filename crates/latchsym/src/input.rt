@@ -27,7 +27,7 @@ impl Read for Input {
     }
 }
 
-/// The files of the host, of which nothing is known.
+/// The files of the host, whose contents no clause knows.
 #[derive(Drop)]
 pub struct FileSystem<'a> {
     pub rt: &'a HostRuntime,
