@@ -2,7 +2,6 @@ pub mod ReaderLemmas
 pub mod RuleLemmas
 pub mod WriterLemmas
 pub mod WalkLemmas
-pub mod LookupLemmas
 pub mod MemoryLemmas
 pub mod EnlargingLemmas
 pub mod ReplacingLemmas

@@ -2,7 +2,7 @@ use Rattle.std.proofs.Common.{arith, sym, ◌∙◌, ap}
 use Rattle.word_layout.specs.Layouts.{capacity_of}
 use Rattle.latch_core.specs.Whole.{outcome_of}
 use Rattle.latch_table.specs.Seats.{writer_of}
-use Rattle.latch_table.proofs.LookupLemmas.{ready_now, table_now, view_now, not_again, finds}
+use Rattle.latch_table.proofs.WalkLemmas.{own_ready_now, own_table_now, view_now, not_again, finds}
 use Rattle.latch_table.proofs.writers.lookups.look_up.Goals as goal
 
 pub begin-first-requires-clause-some : goal.begin-first-requires-clause-some
@@ -10,12 +10,12 @@ begin-first-requires-clause-some g c = let e = ap (λ t. t.words) c.requires.tab
 
 pub attempt_from-requires-clause-ready : goal.attempt_from-requires-clause-ready
 attempt_from-requires-clause-ready g c =
-    ready_now (λ s. s.table_id) (λ s. s.me) g.O.TreeOrder.order (capacity_of c.args.l) c.args.k c.begin-first.result.0.words.now.table_id (writer_of c.args.seat.now.me.0)
+    own_ready_now (λ s. s.table_id) (λ s. s.me) g.O.TreeOrder.order (capacity_of c.args.l) c.args.k c.begin-first.result.0.words.now.table_id (writer_of c.args.seat.now.me.0)
     c.begin-first.result.1 c.begin-first.new.seat (c.begin-first.ensures.table ∙ c.requires.table ∙ sym c.begin-first.ensures.words) c.begin-first.ensures.value c.begin-first.ensures.view
 
 pub returns-clause-table : goal.returns-clause-table
 returns-clause-table g c =
-    table_now (λ s. s.table_id) (λ s. s.me) g.O.TreeOrder.order (capacity_of c.args.l) c.args.k c.begin-first.result.0.words.now.table_id (writer_of c.args.seat.now.me.0)
+    own_table_now (λ s. s.table_id) (λ s. s.me) g.O.TreeOrder.order (capacity_of c.args.l) c.args.k c.begin-first.result.0.words.now.table_id (writer_of c.args.seat.now.me.0)
     c.begin-first.result.1 c.begin-first.new.seat (c.begin-first.ensures.table ∙ c.requires.table ∙ sym c.begin-first.ensures.words) c.begin-first.ensures.value c.begin-first.ensures.view
     c.attempt_from.new.seat _ _ c.attempt_from.ensures ∙ c.begin-first.ensures.words ∙ sym c.requires.table
 
