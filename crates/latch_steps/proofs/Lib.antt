@@ -1,4 +1,3 @@
-mod LoadCaseLemmas
 mod StepLemmas
 mod SafeRunLemmas
 mod QuietRunLemmas

@@ -26,7 +26,7 @@ use Rattle.latch_steps.specs.Runs.{PendingLookup, Moment, Done, accepted, last_o
 use Rattle.latch_steps.specs.Steps.{machine, with_lookups, IsBegin, IsWrite, return_of, start_done, load_done, read_done, Step, Run}
 use Rattle.latch_steps.specs.Expands.{ends, event_of, most_of, Repeats}
 use Rattle.latch_steps.specs.Plain.{IsPlainEvent, IsPlain, ArePlain, IsLookAfter, IsLookReply, AreLooksAfter}
-use Rattle.latch_steps.proofs.LoadCaseLemmas.{IsGoing, each_insert, each_remove, none_loaded, by_load}
+use Rattle.latch_steps.proofs.LoadLemmas.{IsGoing, each_insert, each_remove, none_loaded, by_load}
 use Rattle.latch_steps.proofs.IdleLemmas.{read_reads}
 use Rattle.latch_steps.proofs.StepLemmas.{step_sound}
 

@@ -25,7 +25,7 @@ use Rattle.latch_steps.specs.Runs.{PendingLookup, Moment, Done, step_done, accep
 use Rattle.latch_steps.specs.Steps.{machine, counted_up, with_event, new_lookup, with_value, IsBegin, IsWrite, after_load, start_done, load_done, read_done, Step, Run}
 use Rattle.latch_steps.specs.Quiet.{is_step, is_load_of, up_to_next_step, replies_to, ReturnsWithin, ReturnsFromStart, AreUndisturbed, flips_between, IsPatientReply, IsQuiet}
 use Rattle.std.proofs.lemmas.List.{take-append-le}
-use Rattle.latch_steps.proofs.LoadCaseLemmas.{IsGoing, each_insert, each_remove, none_loaded, by_load, by_sound_load}
+use Rattle.latch_steps.proofs.LoadLemmas.{IsGoing, each_insert, each_remove, none_loaded, by_load, by_sound_load}
 use Rattle.latch_steps.proofs.IdleLemmas.{Differs, start_differs, read_reads}
 use Rattle.latch_steps.proofs.StepLemmas.{KeepsLatch, read_keeps, start_keeps, sequence_at, flips_counted}
 use Rattle.latch_steps.proofs.SafeRunLemmas.{IsWorld, step_leads, IsRight, IsLeft, all_left, left_next, moment_there, opening_world}

@@ -106,12 +106,9 @@ module _ {O K : Type 0} (o : Order K) (law : IsLawful o) (l : Layout) (start : �
       quiet o law (capacity_of l) (limit_of l) start opened.0 run (few_done o l start t run h few) h.steps
 
   -- the trees were red-black at each moment
-  pub near_trace : (old new : World O K) (a b : Recording K) (run : List (Done K)) (t : Trace O K) → layout_in old ≡ l → IsEmpty a → b.ran_out ≡ false → IsWhole o new b t
-      → IsReportedRun o (Keeps true) old new a b (opening (capacity_of l) start) run → IsNearTrace o l start t
-  near_trace old new a b run t lay empty sound whole h =
-      let told = trace_of o l start old new a b run t lay empty sound whole h in
-      let few = few_done o l start t run told whole.few in
-      (run, told, near o law (capacity_of l) (limit_of l) start opened.0 run few told.steps (subst (λ k. AreShallow (capacity_of k) run) lay h.shallow))
+  pub near_trace : (t : Trace O K) → length t.events.items < 2 ^ 64 → (run : List (Done K)) → IsTraceOf o l start t run
+      → AreShallow (capacity_of l) run → IsNearTrace o l start t
+  near_trace t few run told low = (run, told, near o law (capacity_of l) (limit_of l) start opened.0 run (few_done o l start t run told few) told.steps low)
 
 module _ {O K : Type 0} (o : Order K) where
   pub driven_none : (l : Layout) (start : ℕ) (d : Driver O K) → MayOpen l start → layout_in d.world ≡ l → RepresentsMoment o d.world (opening (capacity_of l) start) → IsEmpty d.recording

@@ -4,6 +4,7 @@ use Rattle.word_layout.specs.Layouts.{capacity_of}
 use Rattle.latch_steps.specs.Recordings.{Keeps}
 use Rattle.latch_steps.specs.Runs.{opening}
 use Rattle.latch_steps.specs.Expands.{Expand}
+use Rattle.latch_steps.specs.Near.{AreShallow}
 use Rattle.latch_steps.proofs.RecordingLemmas.{obeyed_none, obeyed_more, safe_trace, quiet_trace, near_trace, trace_of}
 use Rattle.latch_steps.proofs.runs.drive.Goals as goal
 
@@ -39,7 +40,8 @@ returns-clause-quiet g c =
     quiet_trace g.O.TreeOrder.order g.met.O.TreeOrder.lawful c.args.l c.args.start c.in_ok-world.ensures.may c.of.result c.of.ensures.few
 
 pub returns-clause-near : goal.returns-clause-near
+unfolding returns-clause-expands
 returns-clause-near g c =
-    let h = c.loop-command.invariant.obeyed in
-    near_trace g.O.TreeOrder.order g.met.O.TreeOrder.lawful c.args.l c.args.start c.in_ok-world.ensures.may c.in_ok-world.world c.loop-command.world c.in_ok-recording.recording c.loop-command.recording h.run c.of.result
-    c.in_ok-world.ensures.layout c.in_ok-recording.ensures c.loop-command.invariant.whole c.of.ensures h.reported
+    let (run, told, expands) = returns-clause-expands g c in
+    near_trace g.O.TreeOrder.order g.met.O.TreeOrder.lawful c.args.l c.args.start c.in_ok-world.ensures.may c.of.result c.of.ensures.few run told
+    (subst (λ k. AreShallow (capacity_of k) run) c.in_ok-world.ensures.layout c.loop-command.invariant.obeyed.reported.shallow)

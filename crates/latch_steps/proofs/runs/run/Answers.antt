@@ -1,8 +1,9 @@
-use Rattle.std.proofs.Common.{true, ◌∙◌, ◌++◌, ◌∷◌, [], refl, sym, ap, arith}
+use Rattle.std.proofs.Common.{true, ◌∙◌, ◌++◌, ◌∷◌, [], refl, sym, ap, subst, arith}
 use Rattle.std.proofs.lemmas.List.{take_all}
 use Rattle.facts.proofs.Lists.{take_push}
 use Rattle.word_layout.specs.Layouts.{capacity_of}
 use Rattle.latch_steps.specs.Recordings.{Keeps}
+use Rattle.latch_steps.specs.Near.{AreShallow}
 use Rattle.latch_steps.specs.Runs.{step_done, last_of, opening}
 use Rattle.latch_steps.proofs.RecordingLemmas.{safe_trace, quiet_trace, near_trace, trace_of}
 use Rattle.latch_steps.proofs.ReportLemmas.{none_reported, runs_reported}
@@ -32,13 +33,6 @@ loop-event-preserved g c =
       whole = c.in_ok-unless_ran_out.ensures.whole;
     }
 
-pub returns-clause-events : goal.returns-clause-events
-returns-clause-events g c =
-    let h = c.loop-event.invariant.done in
-    (trace_of g.O.TreeOrder.order c.args.l c.args.start c.in_ok-world.world c.loop-event.world c.in_ok-recording.recording c.loop-event.recording h.0 c.of.result
-    c.in_ok-world.ensures.layout c.in_ok-recording.ensures c.loop-event.invariant.whole c.of.ensures h.1).events
-    ∙ h.2 ∙ take_all c.loop-event.event-index c.args.events.now (omega arith)
-
 pub returns-clause-traces : goal.returns-clause-traces
 returns-clause-traces g c =
     let h = c.loop-event.invariant.done in (
@@ -46,6 +40,11 @@ returns-clause-traces g c =
       trace_of g.O.TreeOrder.order c.args.l c.args.start c.in_ok-world.world c.loop-event.world c.in_ok-recording.recording c.loop-event.recording h.0 c.of.result
           c.in_ok-world.ensures.layout c.in_ok-recording.ensures c.loop-event.invariant.whole c.of.ensures h.1,
     )
+
+pub returns-clause-events : goal.returns-clause-events
+unfolding returns-clause-traces
+returns-clause-events g c =
+    (returns-clause-traces g c).1.events ∙ c.loop-event.invariant.done.2 ∙ take_all c.loop-event.event-index c.args.events.now (omega arith)
 
 pub returns-clause-safe : goal.returns-clause-safe
 returns-clause-safe g c =
@@ -56,7 +55,8 @@ returns-clause-quiet g c =
     quiet_trace g.O.TreeOrder.order g.met.O.TreeOrder.lawful c.args.l c.args.start c.in_ok-world.ensures.may c.of.result c.of.ensures.few
 
 pub returns-clause-near : goal.returns-clause-near
+unfolding returns-clause-traces
 returns-clause-near g c =
-    let h = c.loop-event.invariant.done in
-    near_trace g.O.TreeOrder.order g.met.O.TreeOrder.lawful c.args.l c.args.start c.in_ok-world.ensures.may c.in_ok-world.world c.loop-event.world c.in_ok-recording.recording c.loop-event.recording h.0 c.of.result
-    c.in_ok-world.ensures.layout c.in_ok-recording.ensures c.loop-event.invariant.whole c.of.ensures h.1
+    let (run, told) = returns-clause-traces g c in
+    near_trace g.O.TreeOrder.order g.met.O.TreeOrder.lawful c.args.l c.args.start c.in_ok-world.ensures.may c.of.result c.of.ensures.few run told
+    (subst (λ k. AreShallow (capacity_of k) run) c.in_ok-world.ensures.layout c.loop-event.invariant.done.1.shallow)
