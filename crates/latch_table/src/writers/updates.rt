@@ -82,6 +82,7 @@ impl<O: TreeOrder> Writer<O> {
 
     /// Makes the steps that are left of the pending update, if there is one, and returns the new
     /// generation.
+    #[tactic(auto, using(crate::proofs::WriterLemmas::steps_down, crate::proofs::WriterLemmas::on_the_way, crate::proofs::WriterLemmas::finishes))]
     pub fn finish(&mut self) -> u64
         ensures { Finishes self.old self.new result }
     {

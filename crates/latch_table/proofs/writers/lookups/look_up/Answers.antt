@@ -1,12 +1,9 @@
-use Rattle.std.proofs.Common.{arith, sym, ◌∙◌, ap}
+use Rattle.std.proofs.Common.{sym, ◌∙◌, ap}
 use Rattle.word_layout.specs.Layouts.{capacity_of}
 use Rattle.latch_core.specs.Whole.{outcome_of}
 use Rattle.latch_table.specs.Seats.{writer_of}
 use Rattle.latch_table.proofs.WalkLemmas.{own_ready_now, own_table_now, view_now, not_again, finds}
 use Rattle.latch_table.proofs.writers.lookups.look_up.Goals as goal
-
-pub begin-first-requires-clause-some : goal.begin-first-requires-clause-some
-begin-first-requires-clause-some g c = let e = ap (λ t. t.words) c.requires.table in omega (arith, c.requires.sized, e)
 
 pub attempt_from-requires-clause-ready : goal.attempt_from-requires-clause-ready
 attempt_from-requires-clause-ready g c =

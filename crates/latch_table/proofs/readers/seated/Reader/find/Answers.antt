@@ -7,9 +7,6 @@ use Rattle.latch_table.proofs.readers.seated.Reader.find.Goals as goal
 pub loop-init : goal.loop-init
 loop-init g c = (refl, searches_none c.args.self.now.knowledge, refl)
 
-pub returns-in-Answered-clause-place : goal.returns-in-Answered-clause-place
-returns-in-Answered-clause-place g c = c.try_find.ensures.place ∙ c.loop.invariant.0
-
 pub returns-in-Answered-clause-found : goal.returns-in-Answered-clause-found
 returns-in-Answered-clause-found g c = searched g.O.TreeOrder.order c.args.k c.args.self.now.knowledge c.loop.self.knowledge c.try_find.new.self.knowledge _ _ c.loop.invariant.1 c.in-Answered.ensures.tried
 
