@@ -20,8 +20,7 @@ use Rattle.latch_steps.specs.Steps.{machine, machine_of, Run, counted_up, with_l
 use Rattle.latch_steps.specs.Worlds.{StaysAfter, RepresentsMoment, IsAtRest, layout_in, IsAfter, machine_in}
 use Rattle.latch_steps.specs.WorldSteps.{Does, GivesUp, IsWorldStep}
 use Rattle.latch_steps.specs.AtOnce.{IsSettled, Settles, IsFoundNow, IsNear, FindsNow, LooksUp, HasNoAnswer, table_in}
-use Rattle.latch_steps.proofs.StepLemmas.{step_sound}
-use Rattle.latch_steps.proofs.RunLemmas.{run_append, last_append}
+use Rattle.latch_steps.proofs.RunLemmas.{step_sound, run_append, last_append}
 use Rattle.std.specs.Prelude.{min}
 use Rattle.std.specs.FinMap.{get, insert, remove}
 use Rattle.std.proofs.lemmas.Bool.{cases_eq}

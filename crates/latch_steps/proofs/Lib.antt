@@ -1,4 +1,3 @@
-mod StepLemmas
 mod SafeRunLemmas
 mod QuietRunLemmas
 mod LoadLemmas

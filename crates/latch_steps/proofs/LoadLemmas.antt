@@ -1,6 +1,6 @@
--- One load of a lookup: by cases, whatever holds of a lookup whose attempt goes on, of one that has to
--- try again and of one that returns the look of its key, holds of what the load leads to; and what
--- the code makes of it.
+-- One load of a lookup: by cases, whatever holds of a lookup whose attempt goes on, of one that has
+-- to try again and of one that returns the look of its key, holds of what the load leads to; and
+-- what the code makes of it.
 use Rattle.std.proofs.Common.{◌≡◌, ℕ, ◌-◌, ◌≤◌, true, false, cond, List, [], ◌∷◌, ◌++◌, length, Some, None, refl, sym, ◌∙◌, ap, subst, Option}
 use Rattle.std.specs.Ordering.{nat_cmp, eq_by_cmp}
 use Rattle.std.specs.Cmp.{nat_cmp_total}

@@ -28,7 +28,7 @@ use Rattle.latch_steps.specs.Expands.{ends, event_of, most_of, Repeats}
 use Rattle.latch_steps.specs.Plain.{IsPlainEvent, IsPlain, ArePlain, IsLookAfter, IsLookReply, AreLooksAfter}
 use Rattle.latch_steps.proofs.LoadLemmas.{IsGoing, each_insert, each_remove, none_loaded, by_load}
 use Rattle.latch_steps.proofs.IdleLemmas.{read_reads}
-use Rattle.latch_steps.proofs.StepLemmas.{step_sound}
+use Rattle.latch_steps.proofs.RunLemmas.{step_sound}
 
 -- a pending lookup at its first attempt, since whose start the writer has had no pending update
 record IsAlone {K : Type 0} (o : Order K) (n : ℕ) (latch : Latch) (l : PendingLookup K) : Type 0 where

@@ -27,7 +27,7 @@ use Rattle.latch_steps.specs.Quiet.{is_step, is_load_of, up_to_next_step, replie
 use Rattle.std.proofs.lemmas.List.{take-append-le}
 use Rattle.latch_steps.proofs.LoadLemmas.{IsGoing, each_insert, each_remove, none_loaded, by_load, by_sound_load}
 use Rattle.latch_steps.proofs.IdleLemmas.{Differs, start_differs, read_reads}
-use Rattle.latch_steps.proofs.StepLemmas.{KeepsLatch, read_keeps, start_keeps, sequence_at, flips_counted}
+use Rattle.latch_steps.proofs.RunLemmas.{KeepsLatch, read_keeps, start_keeps, sequence_at, flips_counted}
 use Rattle.latch_steps.proofs.SafeRunLemmas.{IsWorld, step_leads, IsRight, IsLeft, all_left, left_next, moment_there, opening_world}
 use Rattle.latch_core.proofs.SoundLemmas.{gen_within, sequence_after}
 use Rattle.latch_core.proofs.WalkLemmas.{attempt_below, attempt_below_depth, few_deep_any}

@@ -13,7 +13,7 @@ use Rattle.latch_steps.specs.Runs.{Moment, Done, opening, last_of}
 use Rattle.latch_steps.specs.Steps.{machine_of, Run}
 use Rattle.latch_steps.specs.Traces.{IsTraceOf, kept, events_of, notes_of}
 use Rattle.latch_steps.specs.Worlds.{layout_in, RepresentsMoment}
-use Rattle.latch_steps.proofs.RunLemmas.{events_length, notes_append, expand_push, last_append, run_append, shallow_append}
+use Rattle.latch_steps.proofs.RunLemmas.{events_length, notes_append, expand_push, last_append, run_append, shallow_append, few_counted}
 use Rattle.facts.proofs.Lists.{take_push}
 use Rattle.latch_core.specs.Writers.{MayOpen}
 use Rattle.latch_steps.specs.declared.commands.Command.{Command}
@@ -28,7 +28,6 @@ use Rattle.latch_steps.proofs.QuietRunLemmas.{quiet, near}
 use Rattle.latch_steps.specs.declared.drivers.Driver.{Driver}
 use Rattle.latch_steps.specs.declared.traces.Notes.{Notes}
 use Rattle.latch_steps.specs.Drivers.{HasDriven, DrivesOn, LeavesNotes, notes_in}
-use Rattle.latch_steps.proofs.StepLemmas.{few_counted}
 use Rattle.latch_steps.proofs.PlainRunLemmas.{exact_where_plain}
 
 -- what is kept of two lists one after another

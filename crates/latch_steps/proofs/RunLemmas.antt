@@ -1,27 +1,218 @@
--- Runs one after another, and the events that a command repeats.
-use Rattle.std.proofs.Common.{◌≡◌, ℕ, ◌+◌, ◌-◌, ◌<◌, true, false, cond, List, [], ◌∷◌, ◌++◌, length, Option, Some, None, refl, sym, ◌∙◌, ap, subst, ⊎_elim, arith, append_assoc, append-nil}
-use Rattle.std.specs.Prelude.{is_some}
+-- What events do to the latch and to the count of events, runs one after another, and the events
+-- that a command repeats. Each accepted update is the last of the history, and each flip adds one to
+-- the sequence.
+use Rattle.std.proofs.Common.{◌≡◌, ℕ, suc, zero, ◌+◌, ◌-◌, ◌<◌, ◌≤◌, Bool, false, cond, List, [], ◌∷◌, ◌++◌, length, take, drop, Option, Some, None, refl, sym, ◌∙◌, ap, subst, inl, ⊎_elim, arith, append-nil, ◌^◌, true, append_assoc}
+use Rattle.std.specs.Prelude.{◌==◌, is_some, count_by, min}
 use Rattle.std.specs.FinMap.{get}
+use Rattle.std.proofs.lemmas.Bool.{eq-eqb, ne_eqb}
+use Rattle.std.proofs.lemmas.List.{drop-take, take-take}
+use Rattle.std.proofs.lemmas.List.Sums.{sum_by-append, sum_by-take-drop}
+use Rattle.word_layout.specs.declared.stores.Store.{Store}
+use Rattle.table_updates.specs.declared.updates.Update.{Update}
+use Rattle.order_laws.specs.declared.refusals.Refusal.{Refusal}
+use Rattle.latch_steps.specs.declared.events.Event.{Event}
+use Rattle.latch_steps.specs.declared.events.Event.TheVariants.{Begin, Write, Start, Read}
+use Rattle.latch_steps.specs.declared.replies.Reply.{Reply}
+use Rattle.latch_steps.specs.declared.replies.Reply.TheVariants.{Begun, Wrote}
+use Rattle.order_laws.specs.Orders.{Order, IsLawful}
+use Rattle.word_layout.specs.Words.{at}
+use Rattle.word_layout.specs.Stores.{words_after}
+use Rattle.table_updates.specs.Updates.{refusal_for}
+use Rattle.latch_core.specs.Latches.{PendingUpdate, Latch, IsWriterStep}
+use Rattle.latch_core.specs.Invariants.{IsSound}
+use Rattle.word_layout.proofs.HoldsLemmas.{flip_adds}
+use Rattle.latch_core.proofs.SoundLemmas.{hidden_same, sound_step, sound_begin}
+use Rattle.latch_steps.specs.Runs.{PendingLookup, Moment, Done, accepted, moment_at, opening, last_of}
+use Rattle.latch_steps.specs.Steps.{machine, IsBegin, IsWrite, AfterLoad, Goes, Retries, Returns, after_load, start_done, load_done, read_done, Step, Run, counted_up}
+use Rattle.latch_steps.specs.Quiet.{is_step, is_flip, flips_between}
 use Rattle.std.proofs.lemmas.List.Elements.{filter_map-append}
-use Rattle.order_laws.specs.Orders.{Order}
 use Rattle.word_layout.specs.Layouts.{capacity_of}
-use Rattle.latch_core.specs.Latches.{PendingUpdate, Latch}
 use Rattle.latch_core.specs.Writers.{IsShallow}
 use Rattle.latch_core.proofs.StoreOrderLemmas.{stays_now}
 use Rattle.latch_steps.specs.declared.commands.Command.{Command}
 use Rattle.latch_steps.specs.declared.commands.Command.TheVariants.{Read as ReadCommand}
-use Rattle.latch_steps.specs.declared.events.Event.{Event}
-use Rattle.latch_steps.specs.declared.events.Event.TheVariants.{Begin, Write, Start, Read}
-use Rattle.latch_steps.specs.declared.replies.Reply.{Reply}
 use Rattle.latch_steps.specs.declared.worlds.World.{World}
 use Rattle.latch_steps.specs.Expands.{event_of, most_of, writes_within, ends, Repeats, Expand}
 use Rattle.latch_steps.specs.Near.{AreShallow}
-use Rattle.latch_steps.specs.Runs.{Moment, Done, last_of}
-use Rattle.latch_steps.specs.Steps.{machine, read_done, Step, Run}
 use Rattle.latch_steps.specs.Traces.{events_of, note_of, notes_of}
 use Rattle.latch_steps.specs.Worlds.{RepresentsMoment, layout_in}
 use Rattle.latch_steps.specs.WorldSteps.{Does, MayDo, IsWorldStep, is_refused_for_memory}
-use Rattle.latch_steps.proofs.StepLemmas.{KeepsLatch, read_keeps}
+
+-- a reply that is no step of the writer, and a moment with the same latch, one event later
+abbrev pub KeepsLatch : {K : Type 0} → Moment K → Reply K × Moment K → Type 0
+KeepsLatch w done = (done.1.latch ≡ w.latch) × (is_step done.0 ≡ false) × (done.1.events ≡ counted_up w.events)
+
+module _ {K : Type 0} where
+  -- neither a load nor a start changes the latch, and neither is a step of the writer
+  load_keeps : (w : Moment K) (r : ℕ) (x : AfterLoad K) → KeepsLatch w (load_done w r x)
+  load_keeps w r (Goes l) = (refl, refl, refl)
+  load_keeps w r (Retries l) = (refl, refl, refl)
+  load_keeps w r (Returns x) = (refl, refl, refl)
+
+  pub read_keeps : (o : Order K) (n : ℕ) (w : Moment K) (r : ℕ) (found : Option (PendingLookup K))
+      → KeepsLatch w (read_done o n w r found)
+  read_keeps o n w r None = (refl, refl, refl)
+  read_keeps o n w r (Some l) = load_keeps w r (after_load o n w r l)
+
+  pub start_keeps : (w : Moment K) (r : ℕ) (k : K) (found : Option (PendingLookup K))
+      → KeepsLatch w (start_done w r k found)
+  start_keeps w r k (Some l) = (refl, refl, refl)
+  start_keeps w r k None = (refl, refl, refl)
+
+  no_flip : (reply : Reply K) → is_step reply ≡ false → is_flip reply ≡ false
+  no_flip (Wrote s) e = absurd (cc)
+  no_flip _ e = refl
+
+-- one event keeps the latch sound
+module _ {K : Type 0} (o : Order K) (n start : ℕ) (us : List Update) (w : Moment K) (ok : IsSound o n start us w.latch) where
+  kept : (w' : Moment K) → w'.latch ≡ w.latch → IsSound o n start (us ++ []) w'.latch
+  kept w' e = subst (λ vs. IsSound o n start vs w'.latch) (sym (append-nil us)) (subst (IsSound o n start us) (sym e) ok)
+
+  writes_sound : (pending : Option PendingUpdate) → w.latch.pending ≡ pending → (reply : Reply K) (w' : Moment K)
+      → IsWrite n w pending reply w' → IsSound o n start (us ++ []) w'.latch
+  writes_sound None e reply w' (er, ew) = kept w' (ap (λ v. v.latch) ew)
+  writes_sound (Some h) e reply w' (s, may, er, ew) =
+      subst (λ vs. IsSound o n start vs w'.latch) (sym (append-nil us))
+      (subst (IsSound o n start us) (sym (ap (λ (v : Moment K). v.latch) ew)) (sound_step o n start us w.latch h s ok e may))
+
+  begins_sound : IsLawful o → (limit : ℕ) (u : Update) (why : Option Refusal)
+      → refusal_for o n limit (is_some w.latch.pending) w.latch.newest_table (at w.latch.words 0) u ≡ why
+      → (reply : Reply K) (w' : Moment K) → IsBegin o n w u why reply w'
+      → IsSound o n start (us ++ accepted (Begin u) reply) w'.latch
+  begins_sound law limit u (Some why) e reply w' (er, ew) =
+      subst (λ r. IsSound o n start (us ++ accepted (Begin u) r) w'.latch) (sym er) (kept w' (ap (λ v. v.latch) ew))
+  begins_sound law limit u None e reply w' (left, some, bound, er, ew) =
+      let free : w.latch.pending ≡ None = at_rest w.latch.pending e in
+      let accepts : refusal_for o n limit false w.latch.newest_table (at w.latch.words 0) u ≡ None = subst (λ h. refusal_for o n limit (is_some h) w.latch.newest_table (at w.latch.words 0) u ≡ None) free e in
+      subst (λ r. IsSound o n start (us ++ accepted (Begin u) r) w'.latch) (sym er)
+      (subst (IsSound o n start (us ++ u ∷ [])) (sym (ap (λ (v : Moment K). v.latch) ew)) (sound_begin o law n limit start us w.latch u left ok free accepts))
+    where
+      at_rest : (h : Option PendingUpdate)
+          → refusal_for o n limit (is_some h) w.latch.newest_table (at w.latch.words 0) u ≡ None → h ≡ None
+      at_rest None e = refl
+      at_rest (Some h) e = absurd (cc)
+
+  pub step_sound : IsLawful o → (limit : ℕ) (e : Event K) (reply : Reply K) (w' : Moment K)
+      → Step (machine o n limit) w e reply w' → IsSound o n start (us ++ accepted e reply) w'.latch
+  step_sound law limit (Begin u) reply w' s = begins_sound law limit u _ refl reply w' s
+  step_sound law limit Write reply w' s = writes_sound w.latch.pending refl reply w' s
+  step_sound law limit (Start r k) reply w' s = kept w' (subst (KeepsLatch w) s (start_keeps w r k (get w.lookups r))).0
+  step_sound law limit (Read r) reply w' s = kept w' (subst (KeepsLatch w) s (read_keeps o n w r (get w.lookups r))).0
+
+-- one event adds its flips to the sequence
+abbrev pub Adds : {K : Type 0} → Moment K → Reply K → Moment K → Type 0
+Adds w reply w' = at w'.latch.words 0 ≡ at w.latch.words 0 + cond (is_flip reply) 1 0
+
+module _ {K : Type 0} (n : ℕ) (w : Moment K) (sized : 0 < length w.latch.words) where
+  same : (reply : Reply K) (w' : Moment K) → w'.latch ≡ w.latch → is_flip reply ≡ false
+      → Adds w reply w'
+  same reply w' el ef =
+      let e : at w'.latch.words 0 ≡ at w.latch.words 0 = ap (λ (l : Latch). at l.words 0) el in
+      subst (λ b. at w'.latch.words 0 ≡ at w.latch.words 0 + cond b 1 0) (sym ef) (let f : at w'.latch.words 0 ≡ at w.latch.words 0 + 0 = omega arith in f)
+
+  keeps_adds : (reply : Reply K) (w' : Moment K) → KeepsLatch w (reply, w') → Adds w reply w'
+  keeps_adds reply w' k = same reply w' k.0 (no_flip reply k.1)
+
+  stepped_adds : (h : PendingUpdate) (s : Store) → IsWriterStep n w.latch h s
+      → at (words_after w.latch.words s) 0 ≡ at w.latch.words 0 + cond (s.word == 0) 1 0
+  stepped_adds h s may =
+      ⊎_elim
+      (λ hid.
+      let e : at (words_after w.latch.words s) 0 ≡ at w.latch.words 0 = hidden_same n w.latch.words h.old_words s hid 0 (inl refl) in
+      rw (ne_eqb s.word 0 hid.not_sequence) (let f : at (words_after w.latch.words s) 0 ≡ at w.latch.words 0 + 0 = omega arith in f))
+      (⊎_elim
+      (λ flip. rw (eq-eqb s.word 0 flip.sequence) (flip_adds w.latch.words s sized flip.sequence flip.adds_one))
+      (λ flip. rw (eq-eqb s.word 0 flip.sequence) (flip_adds w.latch.words s sized flip.sequence flip.adds_one)))
+      may.kind
+
+  writes_adds : (pending : Option PendingUpdate) (reply : Reply K) (w' : Moment K) → IsWrite n w pending reply w'
+      → Adds w reply w'
+  writes_adds None reply w' (er, ew) = same reply w' (ap (λ v. v.latch) ew) (ap is_flip er)
+  writes_adds (Some h) reply w' (s, may, er, ew) =
+      subst (λ r. Adds w r w') (sym er) (subst (λ v. Adds w (Wrote s) v) (sym ew) (stepped_adds h s may))
+
+  begins_adds : (o : Order K) (u : Update) (why : Option Refusal) (reply : Reply K) (w' : Moment K)
+      → IsBegin o n w u why reply w' → Adds w reply w'
+  begins_adds o u (Some why) reply w' (er, ew) = same reply w' (ap (λ v. v.latch) ew) (ap is_flip er)
+  begins_adds o u None reply w' (left, some, bound, er, ew) =
+      subst (λ r. Adds w r w') (sym er) (subst (λ v. Adds w (Begun left) v) (sym ew) (let e : at w.latch.words 0 ≡ at w.latch.words 0 + 0 = omega arith in e))
+
+  step_adds : (o : Order K) (limit : ℕ) (e : Event K) (reply : Reply K) (w' : Moment K)
+      → Step (machine o n limit) w e reply w' → Adds w reply w'
+  step_adds o limit (Begin u) reply w' s = begins_adds o u _ reply w' s
+  step_adds o limit Write reply w' s = writes_adds _ reply w' s
+  step_adds o limit (Start r k) reply w' s = keeps_adds reply w' (subst (KeepsLatch w) s (start_keeps w r k (get w.lookups r)))
+  step_adds o limit (Read r) reply w' s = keeps_adds reply w' (subst (KeepsLatch w) s (read_keeps o n w r (get w.lookups r)))
+
+-- the sequence at a moment of a run counts the flips before it
+abbrev pub sequence_at : {K : Type 0} → Moment K → List (Done K) → ℕ → ℕ
+sequence_at w run i = at (moment_at w run i).latch.words 0
+
+abbrev flips : {K : Type 0} → Done K → Bool
+flips d = is_flip d.reply
+
+flips_upto : {K : Type 0} (o : Order K) → IsLawful o → (n limit start : ℕ) (us : List Update)
+    (w : Moment K) (run : List (Done K)) → IsSound o n start us w.latch → Run (machine o n limit) w run
+    → (i : ℕ) → i ≤ length run
+    → sequence_at w run i ≡ at w.latch.words 0 + count_by flips (take i run)
+flips_upto o law n limit start us w run ok steps zero within = omega arith
+flips_upto o law n limit start us w [] ok steps (suc i) within = absurd (omega arith)
+flips_upto o law n limit start us w (d ∷ run) ok steps (suc i) within =
+    let one : at d.after.latch.words 0 ≡ at w.latch.words 0 + cond (flips d) 1 0 = step_adds n w ok.sized o limit d.event d.reply d.after steps.0 in
+    let rest = flips_upto o law n limit start (us ++ accepted d.event d.reply) d.after run (step_sound o n start us w ok law limit d.event d.reply d.after steps.0) steps.1 i (omega arith) in
+    let count : count_by flips (take (suc i) (d ∷ run)) ≡ cond (flips d) 1 0 + count_by flips (take i run) =
+    sum_by-append (λ x. cond (flips x) 1 0) (d ∷ []) (take i run) ∙ (let f : 0 + cond (flips d) 1 0 ≡ cond (flips d) 1 0 = omega arith in ap (λ j. j + count_by flips (take i run)) f) in
+    omega arith
+
+count_between : {K : Type 0} (run : List (Done K)) (i m : ℕ)
+    → count_by flips (take (i + m) run) ≡ count_by flips (take i run) + count_by flips (take m (drop i run))
+count_between run i m =
+    let f = λ (d : Done _). cond (flips d) 1 0 in
+    let parts = sum_by-take-drop f (take (i + m) run) i in
+    let back = drop-take i m run in
+    let front : take i (take (i + m) run) ≡ take i run = take-take i (i + m) run (omega arith) in
+    sym parts ∙ (λ j. count_by flips (front j) + count_by flips (back j))
+
+-- between two moments of a run
+pub flips_counted : {K : Type 0} (o : Order K) → IsLawful o → (n limit start : ℕ) (us : List Update)
+    (w : Moment K) (run : List (Done K)) → IsSound o n start us w.latch → Run (machine o n limit) w run
+    → (i j : ℕ) → i ≤ j → j ≤ length run
+    → sequence_at w run j ≡ sequence_at w run i + flips_between run i j
+flips_counted o law n limit start us w run ok steps i j le within =
+    let at_i = flips_upto o law n limit start us w run ok steps i (omega arith) in
+    let at_j = flips_upto o law n limit start us w run ok steps j within in
+    let split : i + (j - i) ≡ j = omega arith in
+    let parts = subst (λ p. count_by flips (take p run) ≡ count_by flips (take i run) + flips_between run i j) split (count_between run i (j - i)) in
+    omega arith
+
+module _ {K : Type 0} (o : Order K) (n limit : ℕ) where
+  begin_counts : (w w' : Moment K) (u : Update) (why : Option Refusal) (reply : Reply K) → IsBegin o n w u why reply w' → w'.events ≡ counted_up w.events
+  begin_counts w w' u (Some why) reply (er, ew) = ap (λ v. v.events) ew
+  begin_counts w w' u None reply (left, some, most, er, ew) = ap (λ v. v.events) ew
+
+  write_counts : (w w' : Moment K) (pending : Option PendingUpdate) (reply : Reply K) → IsWrite n w pending reply w' → w'.events ≡ counted_up w.events
+  write_counts w w' None reply (er, ew) = ap (λ v. v.events) ew
+  write_counts w w' (Some h) reply (s, may, er, ew) = ap (λ v. v.events) ew
+
+  pub step_counts : (w w' : Moment K) (e : Event K) (reply : Reply K) → Step (machine o n limit) w e reply w' → w'.events ≡ counted_up w.events
+  step_counts w w' (Begin u) reply s = begin_counts w w' u (refusal_for o n limit (is_some w.latch.pending) w.latch.newest_table (at w.latch.words 0) u) reply s
+  step_counts w w' Write reply s = write_counts w w' w.latch.pending reply s
+  step_counts w w' (Start r k) reply s = (subst (KeepsLatch w) s (start_keeps w r k (get w.lookups r))).2
+  step_counts w w' (Read r) reply s = (subst (KeepsLatch w) s (read_keeps o n w r (get w.lookups r))).2
+
+  run_counts : (run : List (Done K)) (w : Moment K) → Run (machine o n limit) w run → (last_of w run).events < 2 ^ 64 - 1 → w.events + length run ≡ (last_of w run).events
+  run_counts [] w steps below = omega arith
+  run_counts (d ∷ run) w steps below =
+      let one : d.after.events ≡ min (w.events + 1) 18446744073709551615 = step_counts w d.after d.event d.reply steps.0 in
+      let rest = run_counts run d.after steps.1 below in
+      omega arith
+
+-- a run whose count is below the greatest has as many events
+pub few_counted : {K : Type 0} (o : Order K) (n limit start : ℕ) (run : List (Done K)) → Run (machine o n limit) (opening n start) run → (last_of (opening n start) run).events < 2 ^ 64 - 1 → length run < 2 ^ 64
+few_counted {K = K} o n limit start run steps below =
+    let w0 : Moment K = opening n start in
+    let exact = run_counts o n limit run w0 steps below in
+    omega arith
 
 module _ {K : Type 0} where
   pub last_append : (w : Moment K) (run next : List (Done K)) → last_of w (run ++ next) ≡ last_of (last_of w run) next
@@ -120,10 +311,6 @@ module _ {K : Type 0} where
 
 -- with a pending update the writer makes as many steps as it is asked for, and with none it makes
 -- none
-pub within_some : (h : Option PendingUpdate) (most : ℕ) → is_some h ≡ true → most ≡ writes_within h most
-within_some None most e = absurd (cc)
-within_some (Some h) most e = refl
-
-pub within_none : (h : Option PendingUpdate) (most : ℕ) → is_some h ≡ false → 0 ≡ writes_within h most
-within_none None most e = refl
-within_none (Some h) most e = absurd (cc)
+pub within_is : (h : Option PendingUpdate) (most : ℕ) → cond (is_some h) most 0 ≡ writes_within h most
+within_is None most = refl
+within_is (Some h) most = refl

@@ -21,7 +21,7 @@ use Rattle.latch_core.specs.Latches.{PendingUpdate}
 use Rattle.latch_steps.specs.Runs.{PendingLookup, Moment, accepted, Done, opening, history, moment_at}
 use Rattle.latch_steps.specs.Steps.{machine, counted_up, with_lookups, return_of, IsBegin, IsWrite, start_done, load_done, read_done, Step, Run}
 use Rattle.latch_core.specs.Invariants.{IsSound, AreTables}
-use Rattle.latch_steps.proofs.StepLemmas.{step_sound, step_counts}
+use Rattle.latch_steps.proofs.RunLemmas.{step_sound, step_counts}
 use Rattle.latch_steps.proofs.LoadLemmas.{IsGoing, each_insert, each_remove, none_loaded, by_sound_load}
 use Rattle.latch_core.proofs.SoundLemmas.{standing_step, gen_within, sound_opening}
 use Rattle.std.specs.List.{AllByRecursion}

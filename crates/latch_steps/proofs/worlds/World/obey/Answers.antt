@@ -1,6 +1,6 @@
-use Rattle.std.proofs.Common.{◌∙◌, false, true, refl, sym}
+use Rattle.std.proofs.Common.{cond, ◌∙◌, ap, false, true, refl, sym}
 use Rattle.latch_steps.proofs.ReportLemmas.{obeyed_writing}
-use Rattle.latch_steps.proofs.RunLemmas.{within_some, within_none}
+use Rattle.latch_steps.proofs.RunLemmas.{within_is}
 use Rattle.latch_steps.proofs.worlds.World.obey.Goals as goal
 use Rattle.latch_steps.proofs.worlds.World.obey.Goals.{then-is_writing, else-is_writing}
 
@@ -8,8 +8,8 @@ pub returns-after-is_writing-clause-obeyed : goal.returns-after-is_writing-claus
 returns-after-is_writing-clause-obeyed g c =
     obeyed_writing g.O.TreeOrder.order (g.R.Report.reports c.args.report.now) c.args.self.now c.write_on.new.self c.args.to.now c.write_on.new.to false c.if-is_writing.most c.args.command.now _ c.in-Write.is (refl, λ reply w. refl)
     (λ w s. elim c.if-is_writing.branch [
-      | then-is_writing b ↦ b.most-is ∙ within_some w.latch.pending c.in-Write.most (sym (c.is_writing.ensures w s) ∙ b.if-is_writing.true)
-      | else-is_writing b ↦ b.most-is ∙ within_none w.latch.pending c.in-Write.most (sym (c.is_writing.ensures w s) ∙ b.if-is_writing.false)
+      | then-is_writing b ↦ b.most-is ∙ ap (λ x. cond x c.in-Write.most 0) (sym b.if-is_writing.true ∙ c.is_writing.ensures w s) ∙ within_is w.latch.pending c.in-Write.most
+      | else-is_writing b ↦ b.most-is ∙ ap (λ x. cond x c.in-Write.most 0) (sym b.if-is_writing.false ∙ c.is_writing.ensures w s) ∙ within_is w.latch.pending c.in-Write.most
     ])
     c.write_on.ensures.written
 
