@@ -259,15 +259,6 @@ module _ {S K : Type 0} (o : Order K) (place : TableId) (readers : ℕ) (m : Me 
       known = subst (λ (w : WriterState). known' ≡ shown_updates w) (sym state_after) shown_now;
     }
 
-  -- with no pending update, the table is that of what was shown
-  pub all_shown : IsTied o m core here → here.latch.pending ≡ None → shown_updates here ≡ p.accepted
-  all_shown tied resting =
-      let counted : at p.picture 0 ≡ 2 * p.base + 2 * length p.accepted = subst (IsPendingOf o (2 * p.base) (at p.picture 0) p.accepted) resting tied.sound.in_hand in
-      take_all (generation_of (at p.picture 0) - p.base) p.accepted (omega arith)
-
-  pub table_rests : IsTied o m core here → here.latch.pending ≡ None → core.table ≡ replay o [] (shown_updates here)
-  table_rests tied resting = tied.sound.table_is ∙ ap (replay o []) (sym (all_shown tied resting))
-
 module _ {S K : Type 0} (o : Order K) (law : IsLawful o) (place : TableId) (readers : ℕ) (m : Me S Knowledge) (core : WriterView) where
   abbrev rests : WriterState
   rests = writer_state place readers m.0 core
