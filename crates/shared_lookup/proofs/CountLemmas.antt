@@ -8,7 +8,7 @@ use Rattle.std.proofs.lemmas.List.Recursion.{is_count_by}
 use Rattle.shared_lookup.specs.Counts.{Counts, CountsUpTo}
 use Rattle.modules.specs.Entries.{CatalogEntries}
 use Rattle.shared_lookup.specs.declared.changes.Change.{Change}
-use Rattle.shared_lookup.specs.Servings.{AreAsLong, AreOutcomesOf, ChangeOutcome, EachHasOutcome, entries}
+use Rattle.shared_lookup.specs.Servings.{AreAsLong, ChangeOutcome, EachHasOutcome, entries}
 
 module _ {X : Type 0} (holds : X → Type 0) where
   pub counts_append : (xs ys : List X) (n m : ℕ) → Counts holds xs n → Counts holds ys m → Counts holds (xs ++ ys) (n + m)
@@ -73,14 +73,11 @@ entries_same (a ∷ xs) (b ∷ ys) e (suc i) =
     length-append b.items (entries (take i ys)) ∙ (λ j. here j + rest j) ∙ sym (length-append a.items (entries (take i xs)))
 
 -- as many outcomes as changes
-outcomes_as_long : (c : CatalogEntries) (changes : List Change) (made : List ChangeOutcome) → AreOutcomesOf c changes made → length made ≡ length changes
-outcomes_as_long c changes made of = ⊎_elim (λ p. p.same) (λ q. q.0) of
-
 pub each_as_long : (c : CatalogEntries) (changes : List (Vec Change)) (outcomes : List (Vec ChangeOutcome)) → EachHasOutcome c changes outcomes → AreAsLong changes outcomes
 each_as_long c [] [] all = refl
 each_as_long c [] (o ∷ os) all = absurd (let s = all.same in omega arith)
 each_as_long c (x ∷ xs) [] all = absurd (let s = all.same in omega arith)
 each_as_long c (x ∷ xs) (o ∷ os) all =
-    let here : length o.items ≡ length x.items = outcomes_as_long c x.items o.items (all.each 0 x o refl refl) in
+    let here : length o.items ≡ length x.items = ⊎_elim (λ p. p.same) (λ q. q.0) (all.each 0 x o refl refl) in
     let rest = each_as_long c xs os (record { same = (let s = all.same in omega arith); each = λ i list made ex eo. all.each (suc i) list made ex eo }) in
     λ j. here j ∷ rest j

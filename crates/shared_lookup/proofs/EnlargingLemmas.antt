@@ -1,25 +1,16 @@
 -- A writer at rest that goes on with more nodes.
-use Rattle.std.proofs.Common.{◌≡◌, ℕ, ◌*◌, ◌≤◌, List, [], length, take, sym, ◌∙◌, ap, subst, arith}
+use Rattle.std.proofs.Common.{◌≡◌, ℕ, ◌*◌, List, sym, ◌∙◌, ap, subst, arith}
 use Rattle.order_laws.specs.Orders.{half_open}
-use Rattle.atomic_table.specs.Seated.{TableId}
 use Rattle.word_layout.specs.declared.layouts.Layout.{Layout}
 use Rattle.word_layout.specs.Layouts.{capacity_of, limit_of}
 use Rattle.table_updates.specs.declared.updates.Update.{Update}
-use Rattle.table_updates.specs.Updates.{replay}
 use Rattle.latch_core.specs.Invariants.{IsSound}
 use Rattle.latch_core.proofs.TestLemmas.{none_wider}
 use Rattle.latch_table.specs.Readers.{ReaderState}
 use Rattle.latch_table.specs.Writers.{WriterState, shown_updates}
 use Rattle.latch_table.specs.Enlarging.{Enlarges}
-use Rattle.shared_lookup.specs.Ledgers.{LedgerState, AreAccepted, HasNothingPending, ledger_of}
+use Rattle.shared_lookup.specs.Ledgers.{LedgerState, AreAccepted, HasNothingPending, IsLedger, ledger_of}
 use Rattle.shared_lookup.specs.Enlarging.{enlarged_ledger}
-use Rattle.shared_lookup.specs.Logs.{IsLedger}
-
--- a log stays accepted with more nodes and a greater limit
-pub accepted_wider : (w : LedgerState) (place : TableId) (l : Layout) → w.capacity ≤ capacity_of l → w.limit ≤ limit_of l
-    → ((j : ℕ) → length (replay half_open [] (take j w.log)) ≤ w.capacity) → AreAccepted w → AreAccepted (enlarged_ledger place l w)
-accepted_wider w place l more later few all j u e =
-    none_wider half_open w.capacity (capacity_of l) w.limit (limit_of l) _ _ u more later (few j) (all j u e)
 
 module _ (w : WriterState) (l : Layout) (w' : WriterState) (readers : List ReaderState) (e : Enlarges w l w' readers)
     (resting : HasNothingPending w) (sound : IsSound half_open w.capacity (2 * w.base) w.history w.latch) where
@@ -36,7 +27,7 @@ module _ (w : WriterState) (l : Layout) (w' : WriterState) (readers : List Reade
       record {
         rests = ap (λ (v : WriterState). v.latch.pending) e.state ∙ resting.rests;
         shown = all_shown;
-        accepted = subst AreAccepted (sym same_ledger) (accepted_wider (ledger_of w) w'.place l e.may.1.0 e.may.1.1 (λ j. (sound.tables j).1) resting.accepted);
+        accepted = subst AreAccepted (sym same_ledger) (λ j u is. none_wider half_open w.capacity (capacity_of l) w.limit (limit_of l) _ _ u e.may.1.0 e.may.1.1 (sound.tables j).1 (resting.accepted j u is));
       }
 
   -- so does what a ledger keeps of it

@@ -3,9 +3,11 @@ use Rattle.std.proofs.Common.{◌≡◌, ℕ, suc, ◌+◌, ◌<◌, ◌≤◌, 
 use Rattle.std.specs.Global.{Vec}
 use Rattle.std.specs.Option.{ForSome}
 use Rattle.std.specs.Prelude.{◌⊎◌, Ok, Err, IfOk, IfErr, IfSome, OnErr}
-use Rattle.std.proofs.lemmas.List.{take-append-le, take_all, take_more, take_more_set}
+use Rattle.std.proofs.lemmas.List.{take_all, take_more, take_more_set}
 use Rattle.std.proofs.lemmas.Option.{slice_get_within}
+use Rattle.facts.proofs.Lists.{take-append_whole}
 use Rattle.shared_lookup.proofs.PairedLemmas.{pair_taken}
+use Rattle.shared_lookup.proofs.ReaderLemmas.{same_some}
 use Rattle.latch_table.specs.Readers.{ReaderState}
 use mathlib.Core.List.{IsPrefix}
 use Rattle.atomic_table.specs.Seated.{TableId}
@@ -26,16 +28,13 @@ use Rattle.shared_lookup.proofs.FoundLemmas.{length-prefix, take-prefix}
 pub prefix_on : (xs ys zs : List Update) → IsPrefix xs ys → IsPrefix ys zs → IsPrefix xs zs
 prefix_on xs ys zs p q = (p.0 ++ q.0, sym (append_assoc xs p.0 q.0) ∙ ap (λ us. us ++ q.0) p.1 ∙ q.1)
 
-first_of_more : (xs ys zs : List Update) → zs ≡ xs ++ ys → take (length xs) zs ≡ xs
-first_of_more xs ys zs e = ap (take (length xs)) e ∙ take-append-le (length xs) xs ys (omega arith) ∙ take_all (length xs) xs (omega arith)
-
 -- the outcome of a change at a ledger is the one behind its log
 accepted_behind : (c : CatalogEntries) (ch : Change) (o l l' : LedgerState) (known : List Update) (g : ℕ) → l ≡ with_log l.log o → known ≡ l'.log → Changes c ch l l' g
     → IsOutcomeBehind c (with_log known o) (length l.log) ch (Ok g)
 accepted_behind c ch o l l' known g is whole (u, gives, (may, entry, count)) =
     let n = length l.log in
     let all : known ≡ l.log ++ u ∷ [] = whole ∙ ap (λ (x : LedgerState). x.log) entry in
-    let first : take n known ≡ l.log = first_of_more l.log (u ∷ []) known all in
+    let first : take n known ≡ l.log = ap (take n) all ∙ take-append_whole l.log (u ∷ []) in
     let long : length known ≡ n + 1 = ap length all ∙ length-append l.log (u ∷ []) in
     let every : take (suc n) known ≡ known = take_all (suc n) known (omega (arith, long)) in
     let before : with_first n (with_log known o) ≡ l = ap (λ us. with_log us o) first ∙ sym is in
@@ -105,12 +104,9 @@ follow_more c l log from n (b ∷ rest) (q ∷ more) ch r p few long (m, le, her
     (m, le, behind_later c l log m b q p here, follow_more c l log (count_after m q) n rest more ch r p (count_within c l m b q here) long on out)
 
 -- the ledger under the lock
-same_ledger : (a b : LedgerState) → ◌≡◌ {A = Option LedgerState} (Some a) (Some b) → a ≡ b
-same_ledger a b e = cc
-
 pub held_opened : (table : Option TableId) (opened held : Option LedgerState) (l m : LedgerState) → IsHeld table opened held → held ≡ Some l → m ≡ l → IsNamed table m.place × IsOpenedAs opened m
 held_opened table opened held l m (k, is, named, opens) here same =
-    let there : m ≡ k = same ∙ sym (same_ledger k l (sym is ∙ here)) in
+    let there : m ≡ k = same ∙ sym (same_some k l (sym is ∙ here)) in
     subst (λ (x : LedgerState). IsNamed table x.place × IsOpenedAs opened x) (sym there) (named, opens)
 
 -- and after a change
@@ -135,9 +131,6 @@ module _ (c : CatalogEntries) (changes : List Change) (outcomes : List ChangeOut
   abbrev ch : Change
   ch = get_or changes i d
 
-  changes_taken : take (i + 1) changes ≡ take i changes ++ ch ∷ []
-  changes_taken = take_more changes i d less
-
   outcomes_taken : take (i + 1) (set outcomes i r) ≡ take i outcomes ++ r ∷ []
   outcomes_taken = take_more_set outcomes i r (omega (arith, less, same))
 
@@ -151,7 +144,7 @@ module _ (c : CatalogEntries) (changes : List Change) (outcomes : List ChangeOut
   one_follows opened known known' before made o e =
       let longer = length-prefix known made.before made.begins in
       subst (FollowLog c (with_log known' o) 0 (take (i + 1) changes)) (sym outcomes_taken)
-      (subst (λ cs. FollowLog c (with_log known' o) 0 cs (take i outcomes ++ r ∷ [])) (sym changes_taken)
+      (subst (λ cs. FollowLog c (with_log known' o) 0 cs (take i outcomes ++ r ∷ [])) (sym (take_more changes i d less))
       (follow_more c (with_log known o) known' 0 (length made.before) (take i changes) (take i outcomes) ch r (prefix_on known made.before known' made.begins made.kept) (omega arith) longer (before o e) (made.outcome o e)))
 
 -- all changes of the list are made
@@ -175,13 +168,10 @@ pub follow_met : (c : CatalogEntries) (l : LedgerState) (changes : List Change) 
 follow_met c l changes outcomes None none p = inr none
 follow_met c l changes outcomes (Some r) (place, follow) p = inl (follow_later c (with_log r.knowledge.known l) l.log 0 changes outcomes p (follow l refl))
 
-same_table : (a b : TableId) → ◌≡◌ {A = Option TableId} (Some a) (Some b) → a ≡ b
-same_table a b e = cc
-
 pub beside_here : (place : TableId) (opened : Option LedgerState) (c : CatalogEntries) (changes : List Change) (outcomes : List ChangeOutcome) (back : Option ReaderState) → FollowKnown (Some place) opened c changes outcomes back
     → IfSome back (λ r. r.place ≡ place)
 beside_here place opened c changes outcomes None none = tt
-beside_here place opened c changes outcomes (Some r) (is, follow) = sym (same_table place r.place is)
+beside_here place opened c changes outcomes (Some r) (is, follow) = sym (same_some place r.place is)
 
 -- the ledger that comes out of the lock says how it was opened
 known_named : (table : Option TableId) (opened : Option LedgerState) (l o : LedgerState) (c : CatalogEntries) (changes : List Change) (outcomes : List ChangeOutcome) (back : Option ReaderState)
@@ -190,7 +180,7 @@ known_named table opened l o c changes outcomes None there as_opened is none = n
 known_named table opened l o c changes outcomes (Some r) there as_opened is (place, follow) = (
   sym there ∙ place,
   λ k e.
-      let same : with_log r.knowledge.known o ≡ with_log r.knowledge.known k = ap (with_log r.knowledge.known) (sym is ∙ same_ledger l k e) in
+      let same : with_log r.knowledge.known o ≡ with_log r.knowledge.known k = ap (with_log r.knowledge.known) (sym is ∙ same_some l k e) in
       subst (λ x. FollowLog c x 0 changes outcomes) same (follow o as_opened),
 )
 
@@ -202,10 +192,6 @@ made_named table opened l o c changes all there as_opened is made = record {
       let here = made.each writer list m ec em in
       record { outcomes_of = here.outcomes_of; follow = known_named table opened l o c list.items m.outcomes.items m.seat there as_opened is here.follow };
 }
-
--- the ledger that is named was opened as it is
-pub opened_itself : (opened : Option LedgerState) (l : LedgerState) → opened ≡ Some l → IsOpenedAs opened l
-opened_itself opened l is = λ o e. ap (with_log l.log) (same_ledger l o (sym is ∙ e))
 
 -- what is served is what was opened
 pub served_now : (c : CatalogEntries) (log now : List Update) (l o : LedgerState) → IsServedLedger c log o → l ≡ with_log l.log o → l.log ≡ now → IsServedLedger c now l

@@ -8,8 +8,6 @@ use Rattle.order_laws.specs.Orders.{half_open}
 use Rattle.order_laws.specs.Tables.{look}
 use Rattle.table_updates.specs.declared.updates.Update.{Update}
 use Rattle.table_updates.specs.Updates.{replay}
-use Rattle.latch_table.specs.declared.knowledge.ReaderKnowledge.{ReaderKnowledge}
-use Rattle.latch_table.specs.Readers.{Met}
 use Rattle.shared_lookup.specs.declared.served.Answer.{Answer}
 use Rattle.shared_lookup.specs.Servings.{AreFoundIn, IsFoundIn}
 
@@ -45,7 +43,3 @@ found_more log log' answers a p f count is =
       IsNonDecreasingBy-push (λ (x : Answer). x.generation) answers a f.1
           (λ d some. let g = before.0 (length answers - 1) d (omega (arith, some)) in let few = g.0 in omega (arith, few, count)),
     )
-
--- what a reader knew before it met the writer
-pub known_met : {P : Type 0} (e e' : ReaderKnowledge) (all : List Update) → P × Met e e' all → IsPrefix e.known all
-known_met e e' all (p, m) = subst (IsPrefix e.known) m.2 m.3.known

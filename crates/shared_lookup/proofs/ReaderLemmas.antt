@@ -12,21 +12,14 @@ use Rattle.shared_lookup.specs.Ledgers.{IsNamed}
 use Rattle.shared_lookup.specs.Readers.{IsNewReaderOf}
 use Rattle.shared_lookup.specs.Threads.{AreHeard}
 
-same_place : (place it : TableId) → ◌≡◌ {A = Option TableId} (Some place) (Some it) → place ≡ it
-same_place place it e = cc
-
--- the table that is named is the one that is named
-pub named_itself : (table : Option TableId) (place : TableId) → table ≡ Some place → IsNamed table place
-named_itself table place is = λ it e. same_place place it (sym is ∙ e)
-
-pub readers_named : (table : Option TableId) (place : TableId) (all : List ReaderState) → table ≡ Some place → All (IsNewReaderOf (Some place)) all → All (IsNewReaderOf table) all
-readers_named table place all is these = subst (λ (t : Option TableId). All (IsNewReaderOf t) all) (sym is) these
+pub same_some : {A : Type 0} (a b : A) → ◌≡◌ {A = Option A} (Some a) (Some b) → a ≡ b
+same_some a b e = cc
 
 -- the readers that a table is opened with
 pub readers_opened : (l : Layout) (place : TableId) (all : List ReaderState) → All (λ x. x ≡ new_reader place (first_knowledge (Start l 0))) all → All (IsNewReaderOf (Some place)) all
 readers_opened l place all new = λ k d less.
     let is = new k d less in (
-      (λ it e. ap (λ (r : ReaderState). r.place) is ∙ same_place place it e, ap (λ (r : ReaderState). r.knowledge.base) is),
+      (λ it e. ap (λ (r : ReaderState). r.place) is ∙ same_some place it e, ap (λ (r : ReaderState). r.knowledge.base) is),
       ap (λ (r : ReaderState). r.knowledge.seen) is,
       ap (λ (r : ReaderState). r.memory) is,
     )

@@ -33,12 +33,12 @@ one_yielded all done left rest x gone next =
     next_yielded all done left rest x gone next ∙ sym (append_assoc done (x ∷ []) rest)
 
 -- while a list of threads or of what they came back with is put together there is room for one more
-pub room_left : {A B C : Type 0} (lists : List A) (done rest : List B) (x : B) (all : Vec C) → length (done ++ x ∷ rest) ≡ length lists
-    → length all.items ≡ length (take (length done) lists) → length lists ≤ vec_capacity all → vec_len all < vec_capacity all
-room_left lists done rest x all whole same long =
-    let m = length-append done (x ∷ rest) in
+pub room_left : {A B C : Type 0} (lists : List A) (all done left rest : List B) (x : B) (made : Vec C) → all ≡ done ++ left → left ≡ x ∷ rest
+    → length all ≡ length lists → length made.items ≡ length (take (length done) lists) → length lists ≤ vec_capacity made → vec_len made < vec_capacity made
+room_left lists all done left rest x made gone next whole same long =
+    let m = ap length (next_yielded all done left rest x gone next) ∙ length-append done (x ∷ rest) in
     let t = length-take-le (length done) lists (omega (arith, whole, m)) in
-    let k = all.ok.0 in
+    let k = made.ok.0 in
     omega (arith, whole, m, t, same, long, k)
 
 -- one list with its answers more

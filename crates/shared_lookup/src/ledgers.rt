@@ -35,8 +35,7 @@ pub struct Ledger {
 }
 
 impl Model for Ledger {
-    ghost use Rattle.shared_lookup.specs.Ledgers.{LedgerState, ledger_of};
-    ghost use Rattle.shared_lookup.specs.Logs.{IsLedger};
+    ghost use Rattle.shared_lookup.specs.Ledgers.{IsLedger, LedgerState, ledger_of};
 
     ghost Value = { LedgerState };
 

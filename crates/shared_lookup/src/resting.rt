@@ -52,6 +52,7 @@ fn carry_out<G: Gate>(
 }
 
 /// Makes one whole update, tells the gate of each step, and returns the new generation.
+#[tactic(auto, using(crate::proofs::LedgerLemmas::rests_after))]
 pub(crate) fn apply<G: Gate>(
     writer: &mut Writer<HalfOpen>,
     g: &G,

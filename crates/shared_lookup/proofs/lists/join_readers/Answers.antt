@@ -1,4 +1,4 @@
-use Rattle.std.proofs.Common.{◌∙◌, ◌++◌, ◌∷◌, [], length, take, sym, subst, ap, arith}
+use Rattle.std.proofs.Common.{◌++◌, ◌∷◌, [], length, take, sym, subst, arith}
 use Rattle.std.specs.Vec.Iter.{into_iter_items}
 use Rattle.shared_lookup.specs.Threads.{AreHeard, AreReading}
 use Rattle.shared_lookup.proofs.ThreadLemmas.{heard_more, next_yielded, one_yielded, room_left}
@@ -26,9 +26,4 @@ loop-reader-preserved g c =
 pub push_reserved-requires : goal.push_reserved-requires
 push_reserved-requires g c =
     let i = c.loop-reader.invariant in
-    let done = c.loop-reader.yielded in
-    let rest = into_iter_items c.next.new.self in
-    let r = c.in-Some.reader in
-    let left = into_iter_items c.loop-reader.reader-iterator in
-    let all = next_yielded c.args.readers.items done left rest r i.gone c.in-Some.ensures.steps.0 in
-    room_left c.args.keys.now done rest r c.loop-reader.heard (ap length (sym all) ∙ c.requires.reading.same) i.heard.same i.long
+    room_left c.args.keys.now _ c.loop-reader.yielded _ _ _ c.loop-reader.heard i.gone c.in-Some.ensures.steps.0 c.requires.reading.same i.heard.same i.long

@@ -1,4 +1,4 @@
-use Rattle.std.proofs.Common.{◌∙◌, ◌++◌, ◌∷◌, [], length, take, sym, subst, ap, arith}
+use Rattle.std.proofs.Common.{◌++◌, ◌∷◌, [], length, take, sym, subst, arith}
 use Rattle.std.specs.Vec.Iter.{into_iter_items}
 use Rattle.shared_lookup.specs.Threads.{AreAllMade, AreChanging}
 use Rattle.shared_lookup.proofs.ThreadLemmas.{made_more, next_yielded, one_yielded, room_left}
@@ -24,9 +24,4 @@ loop-writer-preserved g c =
 pub push_reserved-requires : goal.push_reserved-requires
 push_reserved-requires g c =
     let i = c.loop-writer.invariant in
-    let done = c.loop-writer.yielded in
-    let rest = into_iter_items c.next.new.self in
-    let w = c.in-Some.writer in
-    let left = into_iter_items c.loop-writer.writer-iterator in
-    let all = next_yielded c.args.writers.items done left rest w i.gone c.in-Some.ensures.steps.0 in
-    room_left c.args.changes.now done rest w c.loop-writer.made (ap length (sym all) ∙ c.requires.changing.same) i.made.same i.long
+    room_left c.args.changes.now _ c.loop-writer.yielded _ _ _ c.loop-writer.made i.gone c.in-Some.ensures.steps.0 c.requires.changing.same i.made.same i.long

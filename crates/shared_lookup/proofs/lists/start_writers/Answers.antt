@@ -1,4 +1,4 @@
-use Rattle.std.proofs.Common.{◌≡◌, Some, ◌∙◌, ◌++◌, ◌∷◌, [], length, take, sym, subst, ap, arith}
+use Rattle.std.proofs.Common.{◌≡◌, Some, ◌++◌, ◌∷◌, [], length, take, sym, subst, arith}
 use Rattle.std.proofs.lemmas.List.Elements.{All-pop}
 use Rattle.latch_table.specs.Readers.{ReaderState}
 use Rattle.std.specs.Vec.Iter.{into_iter_items}
@@ -29,12 +29,7 @@ loop-list-preserved g c =
 pub push_reserved-requires : goal.push_reserved-requires
 push_reserved-requires g c =
     let i = c.loop-list.invariant in
-    let done = c.loop-list.yielded in
-    let rest = into_iter_items c.next.new.self in
-    let l = c.in-Some.list in
-    let left = into_iter_items c.loop-list.list-iterator in
-    let all = next_yielded c.args.lists.items done left rest l i.gone c.in-Some.ensures.steps.0 in
-    room_left c.args.changes.now done rest l c.loop-list.writers (ap length (sym all) ∙ c.requires.room.same) i.started.same i.long
+    room_left c.args.changes.now _ c.loop-list.yielded _ _ _ c.loop-list.writers i.gone c.in-Some.ensures.steps.0 c.requires.room.same i.started.same i.long
 
 pub start_writer-requires-clause-beside : goal.start_writer-requires-clause-beside
 start_writer-requires-clause-beside g c κs lives =

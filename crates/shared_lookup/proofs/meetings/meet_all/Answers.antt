@@ -68,26 +68,14 @@ loop-found-preserved c =
 pub push_reserved-requires : goal.push_reserved-requires
 push_reserved-requires c =
     let i = c.loop-found.invariant in
-    let done = c.loop-found.yielded in
-    let rest = into_iter_items c.next.new.self in
-    let f = c.in-Some.found in
-    let all : c.args.heard.items ≡ done ++ f ∷ rest = i.gone ∙ ap (λ (xs : List LookupResults). done ++ xs) c.in-Some.ensures.steps.0 in
-    room_left c.args.keys.now done rest f c.loop-found.answers (ap length (sym all) ∙ c.requires.heard.same) i.answered.same i.long
+    room_left c.args.keys.now _ c.loop-found.yielded _ _ _ c.loop-found.answers i.gone c.in-Some.ensures.steps.0 c.requires.heard.same i.answered.same i.long
 
 pub push_reserved-requires-in-loop-found : goal.push_reserved-requires-in-loop-found
 push_reserved-requires-in-loop-found c =
     let i = c.loop-found.invariant in
-    let done = c.loop-found.yielded in
-    let rest = into_iter_items c.next.new.self in
-    let f = c.in-Some.found in
-    let all : c.args.heard.items ≡ done ++ f ∷ rest = i.gone ∙ ap (λ (xs : List LookupResults). done ++ xs) c.in-Some.ensures.steps.0 in
-    room_left c.args.keys.now done rest f c.loop-found.ended (ap length (sym all) ∙ c.requires.heard.same) i.answered.told i.told
+    room_left c.args.keys.now _ c.loop-found.yielded _ _ _ c.loop-found.ended i.gone c.in-Some.ensures.steps.0 c.requires.heard.same i.answered.told i.told
 
 pub push_reserved-requires-in-loop-found-2 : goal.push_reserved-requires-in-loop-found-2
 push_reserved-requires-in-loop-found-2 c =
     let i = c.loop-found.invariant in
-    let done = c.loop-found.yielded in
-    let rest = into_iter_items c.next.new.self in
-    let f = c.in-Some.found in
-    let all : c.args.heard.items ≡ done ++ f ∷ rest = i.gone ∙ ap (λ (xs : List LookupResults). done ++ xs) c.in-Some.ensures.steps.0 in
-    room_left c.args.keys.now done rest f c.loop-found.readers (ap length (sym all) ∙ c.requires.heard.same) (i.looked.same ∙ i.answered.same) i.back
+    room_left c.args.keys.now _ c.loop-found.yielded _ _ _ c.loop-found.readers i.gone c.in-Some.ensures.steps.0 c.requires.heard.same (i.looked.same ∙ i.answered.same) i.back

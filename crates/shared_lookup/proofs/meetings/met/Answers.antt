@@ -2,11 +2,10 @@ use Rattle.std.proofs.Common.{Option, subst, sym}
 use mathlib.Core.List.{IsPrefix}
 use Rattle.latch_table.specs.Readers.{ReaderState}
 use Rattle.shared_lookup.specs.Readers.{known_by}
-use Rattle.shared_lookup.proofs.FoundLemmas.{known_met}
 use Rattle.shared_lookup.proofs.meetings.met.Goals as goal
 
 pub returns-in-Some-clause-known : goal.returns-in-Some-clause-known
 returns-in-Some-clause-known c =
     let log = c.args.ledger.log in
     subst (λ (seat : Option ReaderState). IsPrefix (known_by seat) log) (sym c.in-Some.is)
-    (known_met c.in-Some.reader.knowledge c.meet-ledger.result.1.knowledge log c.meet-ledger.ensures.reader)
+    (subst (IsPrefix c.in-Some.reader.knowledge.known) c.meet-ledger.ensures.reader.1.2 c.meet-ledger.ensures.reader.1.3.known)

@@ -1,4 +1,4 @@
-use Rattle.std.proofs.Common.{◌≡◌, ◌∙◌, ◌++◌, ◌∷◌, [], length, take, sym, subst, ap, arith, Some}
+use Rattle.std.proofs.Common.{◌≡◌, ◌∙◌, ◌++◌, ◌∷◌, [], length, take, sym, subst, arith, Some}
 use Rattle.std.specs.Prelude.{IfSome}
 use Rattle.std.specs.Vec.Iter.{into_iter_items}
 use mathlib.Core.List.{IsPrefix}
@@ -53,8 +53,4 @@ loop-made-preserved c =
 pub push_reserved-requires : goal.push_reserved-requires
 push_reserved-requires c =
     let i = c.loop-made.invariant in
-    let done = c.loop-made.yielded in
-    let rest = into_iter_items c.next.new.self in
-    let m = c.in-Some.made in
-    let all = next_yielded c.args.all.items done (into_iter_items c.loop-made.made-iterator) rest m i.gone c.in-Some.ensures.steps.0 in
-    room_left c.args.changes.now done rest m c.loop-made.outcomes (ap length (sym all) ∙ c.requires.made.same) i.outcomes.same i.long
+    room_left c.args.changes.now _ c.loop-made.yielded _ _ _ c.loop-made.outcomes i.gone c.in-Some.ensures.steps.0 c.requires.made.same i.outcomes.same i.long

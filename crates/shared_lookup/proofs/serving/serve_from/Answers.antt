@@ -1,24 +1,26 @@
-use Rattle.std.proofs.Common.{◌≡◌, ◌∙◌, List, Some, ap, sym, subst}
+use Rattle.std.proofs.Common.{◌≡◌, ◌∙◌, List, Option, Some, ap, sym, subst}
+use Rattle.std.specs.Prelude.{All}
 use Rattle.atomic_table.specs.Seated.{TableId}
 use Rattle.std.specs.Global.{Vec}
 use Rattle.table_updates.specs.declared.updates.Update.{Update}
 use Rattle.shared_lookup.specs.declared.changes.Change.{Change}
 use Rattle.shared_lookup.specs.declared.served.Answer.{Answer}
+use Rattle.shared_lookup.specs.Checks.{with_log}
 use Rattle.shared_lookup.specs.Ledgers.{LedgerState}
-use Rattle.shared_lookup.specs.Readers.{EachHasLooked}
+use Rattle.shared_lookup.specs.Readers.{EachHasLooked, IsNewReaderOf}
 use Rattle.shared_lookup.specs.Servings.{AreAsLong, ChangeOutcome, EachIsFoundIn, IsWrongCount}
 use Rattle.shared_lookup.specs.Followings.{EachFollowsLog}
 use Rattle.shared_lookup.specs.Threads.{AreAllMade, AreHeard}
-use Rattle.shared_lookup.proofs.FollowingLemmas.{made_named, opened_itself, served_now}
+use Rattle.shared_lookup.proofs.FollowingLemmas.{made_named, served_now}
 use Rattle.shared_lookup.proofs.CountLemmas.{each_as_long}
-use Rattle.shared_lookup.proofs.ReaderLemmas.{heard_named, named_itself, readers_named}
+use Rattle.shared_lookup.proofs.ReaderLemmas.{heard_named, same_some}
 use Rattle.shared_lookup.proofs.serving.serve_from.Goals as goal
 
 pub new-shared-requires-clause-table : goal.new-shared-requires-clause-table
-new-shared-requires-clause-table g c = named_itself g.K.NamesTable.table c.args.opened.0.place c.requires.named.0
+new-shared-requires-clause-table g c = λ it e. same_some c.args.opened.0.place it (sym c.requires.named.0 ∙ e)
 
 pub new-shared-requires-clause-opened : goal.new-shared-requires-clause-opened
-new-shared-requires-clause-opened g c = opened_itself g.K.NamesTable.opened c.args.opened.0 c.requires.named.1
+new-shared-requires-clause-opened g c = λ o e. ap (with_log c.args.opened.0.log) (same_some c.args.opened.0 o (sym c.requires.named.1 ∙ e))
 
 pub run_threads-requires-clause-beside : goal.run_threads-requires-clause-beside
 run_threads-requires-clause-beside g c κs lives = λ k d less. c.requires.named.0 ∙ ap (λ (t : TableId). Some t) (sym (c.requires.beside k d less))
@@ -34,7 +36,7 @@ settle_all-ledger-requires-clause-made g c =
     (subst (λ cs. AreAllMade g.K.NamesTable.table g.K.NamesTable.opened c.args.c.now cs back.returned.made.items) (c.deref-2.ensures.value ∙ sym c.deref-4.ensures.value) back.ensures.made)
 
 pub run_threads-requires-clause-seats : goal.run_threads-requires-clause-seats
-run_threads-requires-clause-seats g c κs lives = readers_named g.K.NamesTable.table c.args.opened.0.place c.args.opened.1.items c.requires.named.0 c.requires.seats
+run_threads-requires-clause-seats g c κs lives = subst (λ (t : Option TableId). All (IsNewReaderOf t) c.args.opened.1.items) (sym c.requires.named.0) c.requires.seats
 
 pub meet_all-ledger-requires-clause-heard : goal.meet_all-ledger-requires-clause-heard
 meet_all-ledger-requires-clause-heard g c =
