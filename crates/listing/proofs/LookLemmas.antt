@@ -29,10 +29,6 @@ any_counted p (x ∷ xs) =
     some_first (p x) (list_any p xs) (count_by p xs) (any_counted p xs)
     ∙ ap (nat_lt 0) (sym (sum_by-cons (λ y. cond (p y) 1 0) x xs))
 
-same_any : {X : Type 0} (p q : X → Bool) → ((x : X) → p x ≡ q x) → (xs : List X) → list_any p xs ≡ list_any q xs
-same_any p q same [] = refl
-same_any p q same (x ∷ xs) = ap (λ b. b || list_any p xs) (same x) ∙ ap (λ b. q x || b) (same_any p q same xs)
-
 some_of_three : (a b c : ℕ) → nat_lt 0 (a + b + c) ≡ (nat_lt 0 a || (nat_lt 0 b || nat_lt 0 c))
 some_of_three (suc a) b c =
     let some : nat_lt 0 (suc a) ≡ true = lt-ltb 0 (suc a) (omega arith) in
@@ -81,7 +77,7 @@ pub modules_hidden : (lines : List (List ℕ)) (hidden listed empty wraps : ℕ)
     → (nat_lt 0 hidden && not (nat_lt 0 listed || (nat_lt 0 empty || nat_lt 0 wraps))) ≡ are_modules_hidden lines
 modules_hidden lines h l e w is_hidden is_listed is_empty is_wrapping =
     let hidden : list_any (λ l. is_hidden_module (module_of_line l)) lines ≡ nat_lt 0 (skipped_modules module_cause.Hidden lines) =
-    same_any (λ l. is_hidden_module (module_of_line l)) (λ l. is_skipped_for module_place module_cause.Hidden (module_of_line l)) (λ l. hidden_module (module_of_line l)) lines
+    (λ i. list_any (λ l. hidden_module (module_of_line l) i) lines)
     ∙ any_counted (λ l. is_skipped_for module_place module_cause.Hidden (module_of_line l)) lines in
     let shown : list_any (λ l. is_shown_module (module_of_line l)) lines
     ≡ (nat_lt 0 (length (modules_in lines)) || (nat_lt 0 (skipped_modules module_cause.Empty lines) || nat_lt 0 (skipped_modules module_cause.Wraps lines))) =
@@ -109,7 +105,7 @@ pub symbols_hidden : (lines : List (List ℕ)) (hidden listed : ℕ) → hidden 
     → listed ≡ length (symbols_in lines) → (nat_lt 0 hidden && not (nat_lt 0 listed || false)) ≡ are_symbols_hidden lines
 symbols_hidden lines h l is_hidden is_listed =
     let hidden : list_any (λ l. is_hidden_symbol (symbol_of l)) lines ≡ nat_lt 0 (skipped_for symbol_place symbol_of lines symbol_cause.Hidden) =
-    same_any (λ l. is_hidden_symbol (symbol_of l)) (λ l. is_skipped_for symbol_place symbol_cause.Hidden (symbol_of l)) (λ l. hidden_symbol (symbol_of l)) lines
+    (λ i. list_any (λ l. hidden_symbol (symbol_of l) i) lines)
     ∙ any_counted (λ l. is_skipped_for symbol_place symbol_cause.Hidden (symbol_of l)) lines in
     (λ i. nat_lt 0 (is_hidden i) && not (or-false (nat_lt 0 l) i))
     ∙ (λ i. sym hidden i && not ((ap (nat_lt 0) is_listed ∙ sym (some_taken lines)) i))

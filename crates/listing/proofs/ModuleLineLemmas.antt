@@ -7,7 +7,7 @@ use Rattle.std.proofs.lemmas.List.Elements.{All-cons}
 use Rattle.texts.specs.Lines.{longest_line}
 use Rattle.modules.specs.Lines.{fits}
 use Rattle.modules.specs.Listed.{ListedModule}
-use Rattle.listing.specs.ModuleListing.{module_of_line, modules_in, placed_module, checked_module, module_of_words, runs_of}
+use Rattle.listing.specs.ModuleListing.{module_of_line, modules_in, checked_module, module_of_words, runs_of}
 use Rattle.listing.specs.declared.module_listing.SkippedModule.{SkippedModule}
 use Rattle.listing.specs.declared.module_listing.SkippedModule.TheVariants.{Long, Hidden, Empty, Wraps}
 
@@ -17,14 +17,11 @@ tests false true within x m e = absurd (cc)
 tests false false true x m e = (cc, refl)
 tests false false false x m e = absurd (cc)
 
-placed_fits : (x m : ListedModule) → placed_module x ≡ Ok m → fits m ≡ true
-placed_fits x m e =
-    let (same, passed) = tests (x.base == 0) (x.size == 0) (nat_lt (x.base + x.size) (2 ^ 64)) x m e in
-    ap fits (sym same) ∙ passed
-
 formed_fits : (o : Option ListedModule) (m : ListedModule) → checked_module o ≡ Ok m → fits m ≡ true
 formed_fits None m e = absurd (cc)
-formed_fits (Some x) m e = placed_fits x m e
+formed_fits (Some x) m e =
+    let (same, passed) = tests (x.base == 0) (x.size == 0) (nat_lt (x.base + x.size) (2 ^ 64)) x m e in
+    ap fits (sym same) ∙ passed
 
 pub module_fits : (line : List ℕ) (m : ListedModule) → module_of_line line ≡ Ok m → fits m ≡ true
 module_fits line m =

@@ -103,14 +103,10 @@ by_entries n lines (Ok entries) rs (all, is) e =
     subst (λ (xs : List ListedRegion). All (λ r. region_fits r ≡ true) xs) (sym is ∙ same) (all_fit lines)
 by_entries n lines (Err number) rs bad e = absurd (cc)
 
-pub regions_fit : (n : ℕ) (lines : List (List ℕ)) (rs : List ListedRegion) → entries_from region_by n lines ≡ Ok rs
-    → All (λ r. region_fits r ≡ true) rs
-regions_fit n lines rs e = by_entries n lines (entries_from region_by n lines) rs (are_entries region_by n lines) e
-
 pub regions_fit_given : (r : Result (Vec ListedRegion) LineFault) (n : ℕ) (lines : List (List ℕ))
     → GivesInGrammar (λ (v : Vec ListedRegion). v.items) r (entries_from region_by n lines)
     → IfOk r (λ v. All (λ x. region_fits x ≡ true) v.items)
-regions_fit_given (Ok v) n lines is = regions_fit n lines v.items is
+regions_fit_given (Ok v) n lines is = by_entries n lines (entries_from region_by n lines) v.items (are_entries region_by n lines) is
 regions_fit_given (Err fault) n lines is = tt
 
 -- ---- a listing, line by line

@@ -47,9 +47,6 @@ module _ {E : Type 0} (place : E → ℕ) (f g : E → ℕ) where
         ap (λ m. m ∷ map g xs) (not_raised x a at (λ here. absurd (omega (arith, is, here))))
         ∙ ap (λ ms. f x ∷ ms) (one_raised xs (a + 1) n j rest (omega (arith, is)))
 
-sum_one_more : (counts : List ℕ) (k : ℕ) → k < length counts → sum (one_more_at k counts) ≡ suc (sum counts)
-sum_one_more counts k low = omega (arith, sum_by-set (λ n. n) counts k (slice_index counts k + 1) 0 low)
-
 few_at : {E : Type 0} (f : E → ℕ) (m : ℕ) → ((cause : E) → f cause ≤ m) → (causes : List E) (k : ℕ) → slice_index (map f causes) k ≤ m
 few_at f m few [] k = omega arith
 few_at f m few (x ∷ xs) zero = few x
@@ -124,7 +121,7 @@ module _ {T E : Type 0} (place : E → ℕ) (causes : List E) (said : List ℕ �
     once at_place line lines (Err cause) is =
         let more = skipped_raises lines (line ∷ lines) cause (λ other. skipped_first line lines (Err cause) other is) in
         let low : place cause < length (counts lines) = omega (arith, slice_get_within causes (place cause) cause (at_place cause), length-map causes (skipped_for place said lines)) in
-        omega (arith, ap sum more, sum_one_more (counts lines) (place cause) low)
+        omega (arith, ap sum more, sum_by-set (λ n. n) (counts lines) (place cause) (slice_index (counts lines) (place cause) + 1) 0 low)
 
     -- each line is taken, or is skipped for one cause
     pub each_once : ((cause : E) → slice_get causes (place cause) ≡ Some cause) → (lines : List (List ℕ)) → length (taken_by said lines) + sum (counts lines) ≡ length lines

@@ -7,7 +7,7 @@ use Rattle.std.specs.Option.{option_map, option_and_then}
 use Rattle.std.specs.Prelude.{not}
 use Rattle.std.specs.Str.Parse.{digits_value}
 use Rattle.std.proofs.lemmas.Bool.{and_parts}
-use Rattle.std.proofs.lemmas.List.{get_or-take, length-take}
+use Rattle.std.proofs.lemmas.List.{get_or-take, length-take, take_rest}
 use Rattle.std.proofs.lemmas.List.Elements.{filter-append}
 use Rattle.std.proofs.lemmas.List.Sums.{AllPass-from_list_all}
 use Rattle.facts.proofs.Digits.{digit_not_blank}
@@ -15,7 +15,7 @@ use Rattle.facts.proofs.Options.{cond-Some_true}
 use Rattle.memchr.specs.Find.{Nowhere, Passes, is_byte}
 use Rattle.modules.specs.Listed.{ListedSymbol}
 use Rattle.texts.specs.Numbers.{numeral}
-use Rattle.texts.proofs.LineCutLemmas.{first_fails, later}
+use Rattle.texts.proofs.LineCutLemmas.{first_fails, later, line_here, line_nowhere, split_here, split_nowhere}
 use Rattle.listing.specs.SymbolListing.{address_in, cut_at, is_mapping, symbols_with}
 
 pub cut_here : (b : ℕ) (xs : List ℕ) (k : ℕ) → k < length xs → Passes (is_byte b) xs k → Nowhere (Passes (is_byte b) xs) 0 k → cut_at b xs ≡ Some (take k xs, drop (k + 1) xs)
@@ -32,6 +32,12 @@ cut_nowhere b [] none = refl
 cut_nowhere b (x ∷ xs) none =
     ap (λ t. cond t (Some ([], xs)) (option_map (λ p. (x ∷ p.0, p.1)) (cut_at b xs))) (first_fails (is_byte b) x xs (length (x ∷ xs)) (omega arith) none)
     ∙ ap (option_map (λ p. (x ∷ p.0, p.1))) (cut_nowhere b xs (later (is_byte b) x xs (length xs) none))
+
+-- of a text that is cut at a place
+pub ruleset cut_texts = (cut_here, cut_nowhere, take_rest)
+
+-- of lines that are cut off, or cut at each blank
+pub ruleset cut_lines = (line_here, line_nowhere, split_here, split_nowhere, take_rest)
 
 -- ---- an address of sixteen digits has no blank
 

@@ -1,7 +1,6 @@
 -- How an address is taken that a user gives.
 use Rattle.std.specs.Prelude.{ℕ, ◌-◌, nat_le, false, if◌then◌else◌, Option, Some, None}
-use Rattle.std.specs.Prelude.{option_and_then}
-use Rattle.std.specs.Prelude.{Bool, true}
+use Rattle.std.specs.Prelude.{option_and_then, Bool, true}
 use Rattle.listing.specs.declared.address_rules.AddressRule.{AddressRule}
 use Rattle.listing.specs.declared.address_rules.Callers.{Callers}
 use Rattle.listing.specs.declared.address_rules.Callers.TheVariants.{ByPlace, Every, Never}

@@ -5,9 +5,8 @@ use Rattle.std.specs.List.{list_any}
 use Rattle.std.specs.Option.{option_map_or}
 use Rattle.texts.specs.Lines.{lines_of}
 use Rattle.listing.specs.Looks.{are_modules_hidden, are_symbols_hidden, first_ends_in_cr, is_gzip}
-use Rattle.listing.specs.Looks.{is_utf_16}
-use Rattle.listing.specs.Looks.{is_kernel_symbol, is_module_line, is_of_kernel, is_symbol_line}
-use Rattle.listing.specs.Looks.{lacks_lines, looks_like_modules, looks_like_symbols}
+use Rattle.listing.specs.Looks.{is_utf_16, is_kernel_symbol, is_module_line, is_of_kernel}
+use Rattle.listing.specs.Looks.{is_symbol_line, lacks_lines, looks_like_modules, looks_like_symbols}
 use Rattle.listing.specs.ModuleListing.{modules_in}
 use Rattle.listing.specs.Overlaps.{do_modules_overlap}
 use Rattle.listing.specs.SymbolListing.{symbols_in}

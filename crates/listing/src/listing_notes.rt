@@ -104,6 +104,7 @@ impl ListingNotes {
 }
 
 /// Whether modules are listed and none of them has a symbol.
+#[tactic(auto, using(crate::proofs::ListingNoteLemmas::one_has_some))]
 fn lacks_symbols(catalog: &Catalog) -> bool
     ensures { result ≡ lacks_symbols catalog.now }
 {

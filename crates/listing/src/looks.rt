@@ -46,6 +46,7 @@ pub fn first_line_ends_in_cr(text: &[u8]) -> bool
 
 /// Whether a listing of modules has well-formed lines and all are hidden, if `listed` lines are
 /// modules and the others were skipped for these causes.
+#[tactic(auto, using(crate::proofs::LookLemmas::modules_hidden))]
 pub fn are_modules_hidden(listed: usize, skipped: &ModuleCounts) -> bool
     ensures { (lines : List (List ℕ)) → listed ≡ length (modules_in lines)
         → skipped.now.by_place ≡ module_counts lines → result ≡ are_modules_hidden lines }

@@ -97,6 +97,7 @@ fn tab_and_end(bytes: &[u8]) -> (Option<usize>, Option<usize>)
 }
 
 /// Cuts off the first line of the bytes. The place is that of the line's first tab, if it has one.
+#[tactic(auto, using(crate::proofs::SymbolLineLemmas::cut_lines))]
 #[inline(always)]
 pub fn cut_tabbed_line(bytes: &[u8]) -> (&[u8], Option<usize>, &[u8])
     requires { 0 < length bytes.now }
@@ -112,6 +113,7 @@ pub fn cut_tabbed_line(bytes: &[u8]) -> (&[u8], Option<usize>, &[u8])
 }
 
 /// What is before the first such byte, and what is after it.
+#[tactic(auto, using(crate::proofs::SymbolLineLemmas::cut_texts))]
 #[inline(always)]
 pub fn cut(text: &[u8], byte: u8) -> Option<(&[u8], &[u8])>
     ensures { option_map (λ p. (p.0.now, p.1.now)) result ≡ cut_at byte text.now }

@@ -1,14 +1,8 @@
 use Rattle.std.proofs.Common.{◌≡◌, ◌+◌, ap, arith, suc, sym, ◌∙◌}
 use Rattle.modules.specs.Catalogs.{module_of}
 use Rattle.listing.specs.ListingNotes.{has_symbols}
-use Rattle.listing.proofs.ListingNoteLemmas.{none_more, one_has_some}
+use Rattle.listing.proofs.ListingNoteLemmas.{none_more}
 use Rattle.listing.proofs.listing_notes.lacks_symbols.Goals as goal
-
-pub returns-then-has_symbols : goal.returns-then-has_symbols
-returns-then-has_symbols c =
-    let next : suc c.loop-place.place ≡ c.loop-place.place + 1 = omega arith in
-    one_has_some c.args.catalog.now c.loop-place.place
-    (ap (λ n. has_symbols (module_of c.args.catalog.now n)) next ∙ sym (ap has_symbols c.module.ensures) ∙ sym c.has_symbols.ensures ∙ c.if-has_symbols.true)
 
 pub loop-place-preserved : goal.loop-place-preserved
 loop-place-preserved c =
