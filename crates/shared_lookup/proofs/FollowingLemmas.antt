@@ -11,7 +11,6 @@ use Rattle.shared_lookup.proofs.ReaderLemmas.{same_some}
 use Rattle.latch_table.specs.Readers.{ReaderState}
 use mathlib.Core.List.{IsPrefix}
 use Rattle.atomic_table.specs.Seated.{TableId}
-use Rattle.order_laws.specs.declared.refusals.Refusal.{Refusal}
 use Rattle.table_updates.specs.declared.updates.Update.{Update}
 use Rattle.modules.specs.Entries.{CatalogEntries}
 use Rattle.shared_lookup.specs.declared.changes.Change.{Change}
@@ -29,9 +28,9 @@ pub prefix_on : (xs ys zs : List Update) → IsPrefix xs ys → IsPrefix ys zs �
 prefix_on xs ys zs p q = (p.0 ++ q.0, sym (append_assoc xs p.0 q.0) ∙ ap (λ us. us ++ q.0) p.1 ∙ q.1)
 
 -- the outcome of a change at a ledger is the one behind its log
-accepted_behind : (c : CatalogEntries) (ch : Change) (o l l' : LedgerState) (known : List Update) (g : ℕ) → l ≡ with_log l.log o → known ≡ l'.log → Changes c ch l l' g
-    → IsOutcomeBehind c (with_log known o) (length l.log) ch (Ok g)
-accepted_behind c ch o l l' known g is whole (u, gives, (may, entry, count)) =
+outcome_behind : (c : CatalogEntries) (ch : Change) (o l l' : LedgerState) (known : List Update) (r : ChangeOutcome) → l ≡ with_log l.log o → known ≡ l'.log
+    → IfOk r (λ g. Changes c ch l l' g) → IfErr r (RefusesChange c ch l) → OnErr r (l' ≡ l) → IsOutcomeBehind c (with_log known o) (length l.log) ch r
+outcome_behind c ch o l l' known (Ok g) is whole (u, gives, (may, entry, count)) refused same =
     let n = length l.log in
     let all : known ≡ l.log ++ u ∷ [] = whole ∙ ap (λ (x : LedgerState). x.log) entry in
     let first : take n known ≡ l.log = ap (take n) all ∙ take-append_whole l.log (u ∷ []) in
@@ -43,19 +42,12 @@ accepted_behind c ch o l l' known g is whole (u, gives, (may, entry, count)) =
       subst (λ a. Changes c ch a (with_first (suc n) (with_log known o)) g) (sym before)
           (subst (λ b. Changes c ch l b g) (sym after) (u, gives, (may, entry, count))),
     )
-
-refused_behind : (c : CatalogEntries) (ch : Change) (o l : LedgerState) (known : List Update) (e : Refusal) → l ≡ with_log l.log o → known ≡ l.log → RefusesChange c ch l e
-    → IsOutcomeBehind c (with_log known o) (length l.log) ch (Err e)
-refused_behind c ch o l known e is whole refused =
+outcome_behind c ch o l l' known (Err e) is whole changed refused same =
     let n = length l.log in
-    let first : take n known ≡ l.log = ap (take n) whole ∙ take_all n l.log (omega arith) in
+    let all : known ≡ l.log = whole ∙ ap (λ (x : LedgerState). x.log) same in
+    let first : take n known ≡ l.log = ap (take n) all ∙ take_all n l.log (omega arith) in
     let before : with_first n (with_log known o) ≡ l = ap (λ us. with_log us o) first ∙ sym is in
-    (let long = ap length whole in omega (arith, long), subst (λ a. RefusesChange c ch a e) (sym before) refused)
-
-outcome_behind : (c : CatalogEntries) (ch : Change) (o l l' : LedgerState) (known : List Update) (r : ChangeOutcome) → l ≡ with_log l.log o → known ≡ l'.log
-    → IfOk r (λ g. Changes c ch l l' g) → IfErr r (RefusesChange c ch l) → OnErr r (l' ≡ l) → IsOutcomeBehind c (with_log known o) (length l.log) ch r
-outcome_behind c ch o l l' known (Ok g) is whole changed refused same = accepted_behind c ch o l l' known g is whole changed
-outcome_behind c ch o l l' known (Err e) is whole changed refused same = refused_behind c ch o l known e is (whole ∙ ap (λ (x : LedgerState). x.log) same) refused
+    (let long = ap length all in omega (arith, long), subst (λ a. RefusesChange c ch a e) (sym before) refused)
 
 -- a change between two meetings
 pub made_beside : (c : CatalogEntries) (opened : Option LedgerState) (ch : Change) (k k' known : List Update) (l l' : LedgerState) (r : ChangeOutcome) → IsOpenedAs opened l

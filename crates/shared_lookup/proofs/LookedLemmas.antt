@@ -45,10 +45,6 @@ looked_once k memory e e' item g looked =
 abbrev retried : ℕ → ℕ → ℕ → List ℕ → List ℕ
 retried s t u more = (s ∷ t ∷ more) ++ u ∷ u ∷ []
 
-all_retried : (a b c : List ℕ) (s t u : ℕ) (more : List ℕ) → b ≡ a ++ s ∷ t ∷ [] → c ≡ (b ++ more) ++ u ∷ u ∷ [] → c ≡ a ++ retried s t u more
-all_retried a b c s t u more began seen =
-    seen ∙ ap (λ ss. (ss ++ more) ++ u ∷ u ∷ []) began ∙ ap (λ ss. ss ++ u ∷ u ∷ []) (append_assoc a (s ∷ t ∷ []) more) ∙ append_assoc a (s ∷ t ∷ more) (u ∷ u ∷ [])
-
 -- an answer after an attempt without one
 pub looked_again : (k : ℕ) (memory : Option (Item × ℕ)) (e m e' : ReaderKnowledge) (r : Option Item × ℕ) → Looked half_open k memory e m Retry → Searched half_open k m e' r
     → (loads : List ℕ) × (e'.seen ≡ e.seen ++ loads) × IsLookedUp memory r.0 r.1 loads
@@ -56,7 +52,9 @@ looked_again k memory e m e' r looked (more, u, seen, is, rest, tried, answers, 
     ⊎_elim
     (λ (x, is, recalled). absurd (cc))
     (λ (first, pre, recalled, (s, t, began, differ, others, tried_once, floored)).
-    (retried s t u more, all_retried e.seen m.seen e'.seen s t u more began seen, (u, is, inl (s ∷ t ∷ more, refl, (differ, retries)))))
+    let joined : e'.seen ≡ e.seen ++ retried s t u more = seen ∙ ap (λ ss. (ss ++ more) ++ u ∷ u ∷ []) began
+    ∙ ap (λ ss. ss ++ u ∷ u ∷ []) (append_assoc e.seen (s ∷ t ∷ []) more) ∙ append_assoc e.seen (s ∷ t ∷ more) (u ∷ u ∷ []) in
+    (retried s t u more, joined, (u, is, inl (s ∷ t ∷ more, refl, (differ, retries)))))
     looked
 
 -- without a load there is no answer
