@@ -1,0 +1,2 @@
+-- the first test of a list that holds
+pub mod TestLemmas

@@ -1,0 +1,12 @@
+use Rattle.std.proofs.Common.{◌∙◌, sym, ap}
+use Rattle.word_layout.specs.Layouts.{capacity_of}
+use Rattle.table_updates.specs.declared.updates.Update.TheVariants.{Batch}
+use Rattle.table_updates.specs.Updates.{failed_test}
+use Rattle.plain_updates.proofs.failed_test.Goals as goal
+
+pub returns-in-Batch : goal.returns-in-Batch
+returns-in-Batch g c =
+    let o = g.O.TreeOrder.order in
+    c.batch_test.ensures
+    ∙ (λ i. failed_test o (capacity_of c.args.l) c.args.table.now (Batch (c.as_slice.ensures i) (c.as_slice-in-Batch.ensures i)))
+    ∙ ap (λ u. failed_test o (capacity_of c.args.l) c.args.table.now u) (sym c.in-Batch.is)

@@ -1,0 +1,6 @@
+use Rattle.std.proofs.Common.{◌≡◌, drop}
+use Rattle.order_laws.specs.Tables.{meets}
+use Rattle.plain_updates.proofs.meets.Given as goal
+
+abbrev pub invariant-loop-x : goal.invariant-loop-x
+invariant-loop-x g l = meets g.O.TreeOrder.order l.item (drop l.x-index l.table) ≡ meets g.O.TreeOrder.order l.item l.table

@@ -1,0 +1,6 @@
+use Rattle.std.proofs.Common.{◌≡◌, drop}
+use Rattle.table_updates.specs.Updates.{some_overlap}
+use Rattle.plain_updates.proofs.some_overlap.Given as goal
+
+abbrev pub invariant-loop-place : goal.invariant-loop-place
+invariant-loop-place g l = some_overlap g.O.TreeOrder.order (drop l.place l.items) ≡ some_overlap g.O.TreeOrder.order l.items
