@@ -1,13 +1,7 @@
 -- Symbols that a search by address leaves out.
-use Rattle.std.proofs.Common.{◌≡◌, ◌∙◌, ℕ, zero, suc, ◌-◌, ◌<◌, ◌≤◌, Bool, true, false, ◌||◌, nat_le, nat_lt, List, [], ◌∷◌, length, get_or, take, drop, refl, sym, ap, arith}
-use Rattle.std.specs.Prelude.{◌&&◌, nat_eq}
-use Rattle.std.specs.List.{list_any}
+use Rattle.catalog_engines.proofs.Words.{◌≡◌, ◌∙◌, ℕ, zero, suc, ◌<◌, ◌≤◌, Bool, true, false, ◌||◌, nat_le, nat_lt, List, [], ◌∷◌, length, get_or, take, drop, refl, sym, ap, arith, ◌&&◌, nat_eq, list_any, bytes_eq, eqb-true, false_from_ne_true, leb-false, ltb-true, take_rest, SymbolEntry, lists_symbol}
+use Rattle.std.proofs.Common.{◌-◌}
 use Rattle.std.specs.List.Sorted.{IsPartitionPoint}
-use Rattle.std.specs.Str.{bytes_eq}
-use Rattle.std.proofs.lemmas.Bool.{eqb-true, false_from_ne_true, leb-false, ltb-true}
-use Rattle.std.proofs.lemmas.List.{take_rest}
-use Rattle.modules.specs.Entries.{SymbolEntry}
-use Rattle.catalog_engines.specs.LogAnswers.{lists_symbol}
 
 -- elements that fail a test before a place
 pub any_past : {X : Type 0} (p : X → Bool) (xs : List X) (n : ℕ) → ((k : ℕ) (d : X) → k < n → p (get_or xs k d) ≡ false) → list_any p xs ≡ list_any p (drop n xs)

@@ -1,9 +1,6 @@
 -- From what came of a log by the catalog of listings to what the engine returns.
-use Rattle.catalog_engines.proofs.Words.{◌≡◌, ℕ, List, [], Option, Some, Result, Ok, Err, refl, sym, subst, inl, inr, ⊎_elim, IfSome, Counted, Output, answered_by, AnnotatesBy, AnnotatesLog, IsTold, AreReadAs, Given, HasBadRegion, HasCrowdedRegions, IsCatalogOf, OpensCatalog, Failures, NoReaderFailed, Fault, Refused, BadLine, Read, TooLong, Write, ListingTexts, Annotate, Sources, is_narrow, lines_of}
-use Rattle.logs.specs.declared.annotation.Findings.{Findings}
-use Rattle.logs.specs.declared.annotation.LogFault.{LogFault}
+use Rattle.catalog_engines.proofs.Words.{◌≡◌, ℕ, List, [], Option, Some, Result, Ok, Err, refl, sym, subst, inl, inr, ⊎_elim, IfSome, Counted, Output, answered_by, AnnotatesBy, AnnotatesLog, IsTold, AreReadAs, Given, HasBadRegion, HasCrowdedRegions, IsCatalogOf, OpensCatalog, Failures, NoReaderFailed, Fault, Refused, BadLine, Read, TooLong, Write, ListingTexts, Annotate, Sources, is_narrow, lines_of, Findings, LogFault, IsEndTold, stopped}
 use Rattle.logs.specs.declared.annotation.LogFault.TheVariants as log_fault
-use Rattle.catalog_engines.specs.Annotations.{IsEndTold, stopped}
 use Rattle.order_laws.specs.declared.refusals.Refusal.TheVariants as refusal
 use Rattle.catalog_engines.proofs.GivenLemmas.{known_too}
 

@@ -1,20 +1,15 @@
 -- Blocks of a log that are read, with the listings behind each, and written.
-use Rattle.catalog_engines.proofs.Words.{◌≡◌, ◌∙◌, ◌+◌, ◌≤◌, ℕ, List, [], ◌∷◌, ◌++◌, Option, Some, None, Result, Ok, Err, refl, sym, ap, subst, inl, inr, arith, length, flat_map, flat_map-append, append-nil, append_assoc, IfSome, Output, Delivered, Sources, Annotate, Given, Fault, Read, Refused, TooLong, Bool, CatalogEntries, answered_by, is_narrow, lines_of, take}
-use Rattle.std.proofs.Common.{length-append}
-use Rattle.std.specs.Prelude.{◌⊎◌, ◌-◌, ◌^◌, IsErrAnd}
-use Rattle.command_io.proofs.FaultLemmas.{handed_on}
+use Rattle.catalog_engines.proofs.Words.{◌≡◌, ◌∙◌, ◌+◌, ◌≤◌, ℕ, List, [], ◌∷◌, ◌++◌, Option, Some, None, Result, Ok, Err, refl, sym, ap, subst, inl, inr, arith, length, flat_map, flat_map-append, append-nil, append_assoc, IfSome, Output, Delivered, Sources, Annotate, Given, Fault, Read, Refused, TooLong, Bool, CatalogEntries, answered_by, is_narrow, lines_of, take, length-append, ◌⊎◌, ◌^◌, IsErrAnd, handed_on, Findings, LogFault, AreAnswersOf, Block, Event, Failed, FollowsTurns, GivesCatalog, Happen, IsEnded, IsFaultOfListings, IsFollowed, IsNamed, IsStopped, IsTooLong, IsUnlisted, IsUnread, Listings, NamesBy, NamesLast, NamesSome, Turn, events_of, no_turn, one_more, read_in}
+use Rattle.std.specs.Prelude.{◌-◌}
 use Rattle.std.proofs.KnownBytes.{Appends-nil, Appends-trans}
 use Rattle.logs.specs.Annotation.{Ends, IsOpen, Passes, Puts, held_in}
 use Rattle.logs.specs.AnnotatedLogs.{first_held}
 use Rattle.logs.specs.Answering.{Answering}
-use Rattle.logs.specs.declared.annotation.Findings.{Findings}
-use Rattle.logs.specs.declared.annotation.LogFault.{LogFault}
 use Rattle.logs.specs.declared.annotation.LogFault.TheVariants as log_fault
 use Rattle.logs.specs.declared.annotator.Annotator.{Annotator}
 use Rattle.logs.specs.declared.log_names.LogNames.{LogNames}
 use Rattle.listing.specs.declared.address_rules.LogRule.{LogRule}
 use Rattle.order_laws.specs.declared.refusals.Refusal.TheVariants as refusal
-use Rattle.catalog_engines.specs.Following.{AreAnswersOf, Block, Event, Failed, FollowsTurns, GivesCatalog, Happen, IsEnded, IsFaultOfListings, IsFollowed, IsNamed, IsStopped, IsTooLong, IsUnlisted, IsUnread, Listings, NamesBy, NamesLast, NamesSome, Turn, events_of, no_turn, one_more, read_in}
 use Rattle.catalog_engines.specs.declared.annotations.Stop.{Stop}
 use Rattle.catalog_engines.specs.declared.annotations.Stop.TheVariants as stop
 

@@ -1,7 +1,6 @@
 -- From what was written about listings to what the engine returns.
-use Rattle.catalog_engines.proofs.Words.{◌≡◌, ℕ, List, Bool, true, false, cond, Option, Some, None, Result, Ok, Err, refl, sym, subst, IfSome, Output, Delivered, Delivers, WrotePart, has_failed, all_delivered, part_written, BoundNames, Given, HasBadRegion, HasCrowdedRegions, OpensCatalog, Failures, NoReaderFailed, Fault, Refused, BadLine, Write, AnswersGiven, AnswersListings, IsTextWritten}
-use Rattle.std.specs.Option.{is_none, option_map}
-use Rattle.std.specs.Prelude.{is_some, not}
+use Rattle.catalog_engines.proofs.Words.{◌≡◌, ℕ, List, Bool, true, false, cond, Option, Some, None, Result, Ok, Err, refl, sym, subst, IfSome, Output, Delivered, Delivers, WrotePart, has_failed, all_delivered, part_written, BoundNames, Given, HasBadRegion, HasCrowdedRegions, OpensCatalog, Failures, NoReaderFailed, Fault, Refused, BadLine, Write, AnswersGiven, AnswersListings, IsTextWritten, is_none, is_some, not}
+use Rattle.std.specs.Option.{option_map}
 use Rattle.order_laws.specs.declared.refusals.Refusal.TheVariants as refusal
 
 -- what is missing is missing as well where it is mapped

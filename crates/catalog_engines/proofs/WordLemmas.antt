@@ -1,6 +1,5 @@
 -- The texts of words, and the lines of notes.
-use Rattle.catalog_engines.proofs.Words.{◌≡◌, ℕ, ◌+◌, ◌<◌, List, [], ◌∷◌, ◌++◌, length, map, take, get_or, ◌∙◌, ap, Bor, map-append, take_more, Bool, BoundNames, Option, Output, Says, flat_map, line_where, note_line, piece_said, same_text}
-use Rattle.listing.specs.declared.listing_notes.ListingNote.{ListingNote}
+use Rattle.catalog_engines.proofs.Words.{◌≡◌, ℕ, ◌+◌, ◌<◌, List, [], ◌∷◌, ◌++◌, length, map, take, get_or, ◌∙◌, ap, Bor, map-append, take_more, Bool, BoundNames, Option, Output, Says, flat_map, line_where, note_line, piece_said, same_text, ListingNote}
 
 abbrev pub texts : List (Bor (List ℕ)) → List (List ℕ)
 texts words = map (λ w. w.now) words

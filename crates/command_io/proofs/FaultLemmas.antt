@@ -1,6 +1,5 @@
 -- A fault that a function hands on.
-use Rattle.std.proofs.Common.{◌≡◌, Result, Ok, Err, subst, sym}
-use Rattle.std.specs.Prelude.{IsErrAnd}
+use Rattle.command_io.proofs.Words.{◌≡◌, Result, Ok, Err, subst, sym, IsErrAnd}
 
 -- what holds of the fault on the way holds of what is returned
 pub handed_on : {A F : Type 0} (P : Result A F → Type 0) (result : Result A F) (fault : F) → IsErrAnd result (λ f. f ≡ fault) → P (Err fault) → P result

@@ -1,3 +1,5 @@
+-- the words of all proofs of this crate
+mod Words
 -- a fault that a function hands on
 pub mod FaultLemmas
 -- what holds of a catalog that was opened

@@ -1,5 +1,5 @@
 -- What holds of a catalog that was opened.
-use Rattle.std.proofs.Common.{◌≡◌, ◌∙◌, Bool, List, ℕ, Option, Some, None, Result, Ok, Err, IfOk, ap, false, refl, subst}
+use Rattle.command_io.proofs.Words.{◌≡◌, ◌∙◌, Bool, List, ℕ, Option, Some, None, Result, Ok, Err, IfOk, ap, false, refl, subst}
 use Rattle.texts.specs.Lines.{lines_of}
 use Rattle.modules.specs.Listed.{BoundNames, ListedRegion}
 use Rattle.listing.specs.Opening.{Given, IsOpened, Listed, has_regions, listings_of, listings_with, skipped_modules_of, with_lines}

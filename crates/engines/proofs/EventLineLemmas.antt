@@ -1,7 +1,5 @@
 -- A list of values from its parts.
-use Rattle.std.proofs.Common.{◌≡◌, ℕ, ◌-◌, ◌≤◌, List, [], ◌∷◌, ◌++◌, length, take, drop, get_or, flat_map, codes, ap, arith}
-use Rattle.std.proofs.lemmas.List.{take_rest}
-use Rattle.engines.specs.StepTexts.{json_list}
+use Rattle.engines.proofs.Words.{◌≡◌, ℕ, ◌-◌, ◌≤◌, List, [], ◌∷◌, ◌++◌, length, take, drop, get_or, flat_map, codes, ap, arith, take_rest, json_list}
 
 -- a list is its first item and those behind it
 pub list_told : {T : Type 0} (value : T → List ℕ) (xs : List T) (d : T) → 1 ≤ length xs

@@ -1,31 +1,14 @@
 -- The text of a trace whose commands are run one after another: of the functions of trace.
-use Rattle.std.proofs.Common.{◌≡◌, ℕ, List, [], ◌∷◌, ◌++◌, Option, Result, Ok, sym, ◌∙◌, ap, subst, flat_map, append_assoc, append-nil}
-use Rattle.std.proofs.lemmas.Grind.{flat_map-append}
-use Rattle.order_laws.specs.Orders.{Order}
-use Rattle.word_layout.specs.declared.layouts.Layout.{Layout}
-use Rattle.word_layout.specs.Layouts.{capacity_of, limit_of}
-use Rattle.word_layout.specs.Words.{at}
-use Rattle.latch_steps.specs.declared.commands.Command.{Command}
+use Rattle.engines.proofs.Words.{◌≡◌, ℕ, List, [], ◌∷◌, ◌++◌, Result, Ok, sym, ◌∙◌, ap, subst, flat_map, append_assoc, append-nil, flat_map-append, Order, Layout, capacity_of, limit_of, at, Command, Expand, last_of, opening, Run, machine, Header, Output, Says, entries_after, nothing_said, then, all_said, none_before, one_more, Contents, with_header, end_text, note_text, HeaderMayOpen, IsRunText, greatest_of, order_by}
+use Rattle.std.proofs.Common.{Option}
 use Rattle.latch_steps.specs.declared.drivers.Driver.{Driver}
 use Rattle.latch_steps.specs.declared.replies.Note.{Note}
 use Rattle.latch_steps.specs.declared.traces.Notes.{Notes}
 use Rattle.latch_steps.specs.Drivers.{DrivesOn, IsTakenFrom, LeavesNotes, notes_in}
-use Rattle.latch_steps.specs.Expands.{Expand}
 use Rattle.latch_steps.specs.Promises.{AreNotesOfCommands, IsExactWherePlain}
-use Rattle.latch_steps.specs.Runs.{last_of, opening}
 use Rattle.latch_steps.specs.Safe.{IsSafe}
-use Rattle.latch_steps.specs.Steps.{Run, machine}
 use Rattle.latch_steps.specs.Traces.{notes_of}
-use Rattle.run_files.specs.declared.header.Header.{Header}
-use Rattle.texts.specs.declared.output.Output.{Output}
-use Rattle.texts.specs.Output.{Says}
-use Rattle.texts.specs.Said.{entries_after}
-use Rattle.texts.proofs.OutputLemmas.{nothing_said, then}
-use Rattle.texts.proofs.SaidLemmas.{all_said, none_before, one_more}
-use Rattle.run_files.specs.Trace.{Contents, with_header}
 use Rattle.engines.specs.GatheredTraces.{GathersCommand, GathersLines, HasGathered}
-use Rattle.engines.specs.TraceTexts.{end_text, note_text}
-use Rattle.engines.specs.Traces.{HeaderMayOpen, IsRunText, greatest_of, order_by}
 
 module _ {O W : Type 0} (o : Order ℕ) (contents : W → Option (List ℕ)) where
   -- a command more

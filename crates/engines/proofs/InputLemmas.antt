@@ -1,16 +1,10 @@
 -- The same answer, where more is known of what was read: of the engines of lookups and of runs.
-use Rattle.std.proofs.Common.{◌≡◌, ℕ, zero, suc, [], ◌∷◌, Option, Some, None, Result, Ok, Err, ap, arith, inl, refl, subst, sym}
+use Rattle.engines.proofs.Words.{◌≡◌, ℕ, zero, suc, [], ◌∷◌, Some, None, Result, Ok, Err, ap, arith, inl, refl, subst, sym, Rose, Output, Fault, BadLine, Read, Write, AreReadAs, GivesListings, Given, Listed, listings_of, AnswersInputs, Failures, HoldsOf, NoReaderFailed, OnlyFailed, last_failures, Inputs, inputs_after, inputs_of, inputs_with, known_inputs}
+use Rattle.std.proofs.Common.{Option}
 use Rattle.std.specs.Prelude.{IfSome}
-use Rattle.texts.specs.Counted.{Rose}
-use Rattle.texts.specs.declared.output.Output.{Output}
 use Rattle.order_laws.specs.declared.refusals.Refusal.TheVariants as refusal
-use Rattle.command_io.specs.declared.fault.Fault.{Fault}
-use Rattle.command_io.specs.declared.fault.Fault.TheVariants.{Refused, BadLine, Read, Write}
-use Rattle.command_io.specs.OpenedCatalogs.{AreReadAs, GivesListings}
-use Rattle.listing.specs.Opening.{Given, Listed, listings_of}
+use Rattle.command_io.specs.declared.fault.Fault.TheVariants.{Refused}
 use Rattle.command_io.specs.declared.opened_catalogs.ListingTexts.{ListingTexts}
-use Rattle.command_io.specs.Readings.{AnswersInputs, Failures, HoldsOf, NoReaderFailed, OnlyFailed, last_failures}
-use Rattle.engines.specs.Inputs.{Inputs, inputs_after, inputs_of, inputs_with, known_inputs}
 
 no_rise : Rose 0 0 → ⊥
 no_rise rose = grind (arith, rose)

@@ -1,3 +1,5 @@
+-- the words of all proofs of this crate
+mod Words
 -- what updates that insert items leave in a table
 mod LoadLemmas
 -- a world for the table of a catalog, from its opening on

@@ -1,17 +1,8 @@
 -- What updates that insert items leave in a table: of WorldOpeningLemmas and of `load` of table.
-use Rattle.std.proofs.Common.{◌≡◌, ℕ, ◌<◌, List, [], ◌∷◌, ◌++◌, length, sym, ◌∙◌, ap, subst, inr, ⊎_elim, arith, append-nil, length-append}
-use Rattle.std.specs.Prelude.{Contains}
-use Rattle.std.proofs.lemmas.Grind.{flat_map-append}
-use Rattle.order_laws.specs.declared.items.Item.{Item}
-use Rattle.order_laws.specs.Orders.{Order, half_open, half_open_lawful}
-use Rattle.order_laws.specs.Tables.{IsTable, look}
+use Rattle.engines.proofs.Words.{◌≡◌, ℕ, ◌<◌, List, [], ◌∷◌, ◌++◌, length, sym, ◌∙◌, ap, subst, inr, ⊎_elim, arith, append-nil, length-append, Contains, flat_map-append, Item, Order, half_open, half_open_lawful, IsTable, look, Update, replay, erased, inserted, AreInsertsOf}
 use Rattle.order_laws.proofs.TableLemmas.{look_is, look_only, same_look}
 use Rattle.facts.proofs.Members.{Contains-none}
 use Rattle.table_updates.proofs.HistoryLemmas.{from_replay, length_replay, to_replay}
-use Rattle.table_updates.specs.declared.updates.Update.{Update}
-use Rattle.table_updates.specs.Updates.{replay}
-use Rattle.table_updates.specs.Updates.{erased, inserted}
-use Rattle.engines.specs.LoadedWorlds.{AreInsertsOf}
 
 -- a list of updates that erase nothing
 module _ {K : Type 0} (o : Order K) (us : List Update) (items : List Item) (h : AreInsertsOf us items) where

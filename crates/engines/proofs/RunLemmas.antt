@@ -1,24 +1,12 @@
 -- From the lines of a script, and from its text, to what its run returns: of `run_lines` and
 -- `run_with` of runs.
-use Rattle.std.proofs.Common.{◌≡◌, ◌<◌, ◌≤◌, ℕ, List, [], Option, Some, Result, Ok, Err, true, refl, sym, subst}
+use Rattle.engines.proofs.Words.{◌≡◌, ◌<◌, ◌≤◌, ℕ, List, [], Some, Result, Ok, Err, true, refl, sym, subst, Output, ScriptLine, script_of, CatalogEntries, Fault, Write, IsOpened, Listed, OpenedCatalog, Inputs, inputs, inputs_with, with_notes, HoldsOf, AnswersLines, AnswersRun, IsRunOf, IsServed, MayRun, TellsServed, status_of, IsAssigned, Assignments}
+use Rattle.std.proofs.Common.{Option}
 use Rattle.std.specs.Prelude.{IfSome}
-use Rattle.texts.specs.declared.output.Output.{Output}
 use Rattle.latch_table.specs.Limits.{most_readers}
-use Rattle.run_files.specs.declared.scripts.ScriptLine.{ScriptLine}
-use Rattle.run_files.specs.Scripts.{script_of}
-use Rattle.modules.specs.Entries.{CatalogEntries}
 use Rattle.order_laws.specs.declared.refusals.Refusal.TheVariants as refusal
-use Rattle.command_io.specs.declared.fault.Fault.{Fault}
-use Rattle.command_io.specs.declared.fault.Fault.TheVariants.{Refused, Write}
-use Rattle.listing.specs.Opening.{IsOpened, Listed}
-use Rattle.listing.specs.declared.opening.OpenedCatalog.{OpenedCatalog}
+use Rattle.command_io.specs.declared.fault.Fault.TheVariants.{Refused}
 use Rattle.modules.specs.Listed.{BoundNames}
-use Rattle.engines.specs.Inputs.{Inputs, inputs, inputs_with}
-use Rattle.command_io.specs.Faults.{with_notes}
-use Rattle.command_io.specs.Readings.{HoldsOf}
-use Rattle.engines.specs.Runs.{AnswersLines, AnswersRun, IsRunOf, IsServed, MayRun, TellsServed, status_of}
-use Rattle.engines.specs.Assignments.{IsAssigned}
-use Rattle.engines.specs.declared.assignments.Assignments.{Assignments}
 use Rattle.shared_lookup.specs.Followings.{FollowServed}
 use Rattle.shared_lookup.specs.Readers.{EachHasLooked}
 use Rattle.shared_lookup.specs.Servings.{EachHasOutcome, EachIsAnswered, EachIsFoundIn, IsWrongCount, MayServe}

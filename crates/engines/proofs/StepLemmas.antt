@@ -1,36 +1,12 @@
 -- What is done and written of a trace whose steps are told, one command after another: of the
 -- functions of steps.
-use Rattle.std.proofs.Common.{◌≡◌, ◌≢◌, ℕ, true, false, List, [], ◌∷◌, ◌++◌, Option, Result, Ok, Err, refl, sym, ◌∙◌, ap, subst, append_assoc, append-nil, inl, inr}
+use Rattle.engines.proofs.Words.{◌≡◌, ◌≢◌, ℕ, true, false, List, [], ◌∷◌, ◌++◌, Result, Ok, Err, refl, sym, ◌∙◌, ap, subst, append_assoc, append-nil, inl, inr, map-append, Order, capacity_of, limit_of, Command, World, Repeats, most_of, AreReported, ObeysFromAny, Done, Moment, last_of, opening, Run, machine, machine_of, RepresentsMoment, layout_in, Output, Delivers, Says, has_failed, entries_after, all_delivered, nothing_said, part_written, same_text, then, then_flushed, of_read, none_before, one_more, NumberedCommand, Header, IsTaken, IsUnderstood, LinesLeft, Contents, command_lines, trace_of, with_header, Fault, BadLine, Write, AreLinesTold, IsOpenedFor, StopsTelling, Tells, TellsLines, steps_text, AnswersStepsSaid, AreTold, IsBegunOf, IsBegunText, IsFrontText, IsStepsText, StopsAfter, IsLinesFault, commands_of, numbers_of, IsTextOf, order_by}
+use Rattle.std.proofs.Common.{Option}
 use Rattle.std.specs.Prelude.{IfErr, IfSome, OnOk}
-use Rattle.std.proofs.lemmas.List.{map-append}
 use Rattle.order_laws.specs.declared.refusals.Refusal.TheVariants as refusal
-use Rattle.order_laws.specs.Orders.{Order}
-use Rattle.word_layout.specs.Layouts.{capacity_of, limit_of}
-use Rattle.latch_steps.specs.declared.commands.Command.{Command}
-use Rattle.latch_steps.specs.declared.worlds.World.{World}
-use Rattle.latch_steps.specs.Expands.{Repeats, most_of}
-use Rattle.latch_steps.specs.Reports.{AreReported, ObeysFromAny}
-use Rattle.latch_steps.specs.Runs.{Done, Moment, last_of, opening}
-use Rattle.latch_steps.specs.Steps.{Run, machine, machine_of}
-use Rattle.latch_steps.specs.Worlds.{RepresentsMoment, layout_in}
 use Rattle.latch_steps.proofs.RunLemmas.{last_append, run_append}
-use Rattle.texts.specs.declared.output.Output.{Output}
-use Rattle.texts.specs.Output.{Delivers, Says, has_failed}
-use Rattle.texts.specs.Said.{entries_after}
-use Rattle.texts.proofs.OutputLemmas.{all_delivered, nothing_said, part_written, same_text, then, then_flushed}
-use Rattle.texts.proofs.ReadLemmas.{of_read}
-use Rattle.texts.proofs.SaidLemmas.{none_before, one_more}
-use Rattle.run_files.specs.declared.command_lines.NumberedCommand.{NumberedCommand}
-use Rattle.run_files.specs.declared.header.Header.{Header}
-use Rattle.run_files.specs.CommandLines.{IsTaken, IsUnderstood, LinesLeft}
-use Rattle.run_files.specs.Trace.{Contents, command_lines, trace_of, with_header}
-use Rattle.command_io.specs.declared.fault.Fault.{Fault}
-use Rattle.command_io.specs.declared.fault.Fault.TheVariants.{Refused, BadLine, Write}
-use Rattle.engines.specs.StepRuns.{AreLinesTold, IsOpenedFor, StopsTelling, Tells, TellsLines}
-use Rattle.engines.specs.StepTexts.{opening_text, steps_text}
-use Rattle.engines.specs.StepTraces.{AnswersStepsSaid, AreTold, IsBegunOf, IsBegunText, IsFrontText, IsStepsText, StopsAfter}
-use Rattle.engines.specs.TraceLines.{IsLinesFault, commands_of, numbers_of}
-use Rattle.engines.specs.Traces.{IsTextOf, order_by}
+use Rattle.command_io.specs.declared.fault.Fault.TheVariants.{Refused}
+use Rattle.engines.specs.StepTexts.{opening_text}
 
 -- the events of a run that were reported as lines
 reported_said : {W : Type 0} (o : Order ℕ) (contents : W → Option (List ℕ)) (n line : ℕ) (w : Moment ℕ) (run : List (Done ℕ)) (a b : Output W)

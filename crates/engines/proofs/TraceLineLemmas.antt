@@ -1,23 +1,11 @@
 -- Commands that are taken from lines, and what an engine answered that was given the bytes of a
 -- trace: of both engines of traces.
-use Rattle.std.proofs.Common.{◌≡◌, ℕ, List, [], Option, Some, None, Result, Ok, Err, ap, refl, subst}
+use Rattle.engines.proofs.Words.{◌≡◌, ℕ, List, [], Some, None, Result, Ok, Err, ap, refl, subst, Refusal, Command, NoneFailed, device_of, Output, Delivered, WrotePart, of_read, Header, NumberedCommand, IsTaken, IsUnderstood, LinesLeft, Contents, trace_of, with_header, Fault, BadLine, Write, IsNext, AnswersReadBy, AnswersSaidBy, HeaderMayNotOpen, IsNotOpened, IsTextOf, IsTraceWith}
+use Rattle.std.proofs.Common.{Option}
 use Rattle.std.specs.Prelude.{IfSome}
-use Rattle.order_laws.specs.declared.refusals.Refusal.{Refusal}
 use Rattle.order_laws.specs.declared.refusals.Refusal.TheVariants as refusal
-use Rattle.latch_steps.specs.declared.commands.Command.{Command}
 use Rattle.texts.specs.declared.counted.Counted.{Counted}
-use Rattle.texts.specs.Counted.{NoneFailed, device_of}
-use Rattle.texts.specs.declared.output.Output.{Output}
-use Rattle.texts.specs.Output.{Delivered, WrotePart}
-use Rattle.texts.proofs.ReadLemmas.{of_read}
-use Rattle.run_files.specs.declared.header.Header.{Header}
-use Rattle.run_files.specs.declared.command_lines.NumberedCommand.{NumberedCommand}
-use Rattle.run_files.specs.CommandLines.{IsTaken, IsUnderstood, LinesLeft}
-use Rattle.run_files.specs.Trace.{Contents, trace_of, with_header}
-use Rattle.command_io.specs.declared.fault.Fault.{Fault}
-use Rattle.command_io.specs.declared.fault.Fault.TheVariants.{Refused, BadLine, Write}
-use Rattle.engines.specs.TraceLines.{IsNext}
-use Rattle.engines.specs.Traces.{AnswersReadBy, AnswersSaidBy, HeaderMayNotOpen, IsNotOpened, IsTextOf, IsTraceWith}
+use Rattle.command_io.specs.declared.fault.Fault.TheVariants.{Refused}
 
 -- what was taken from lines, if its test is known
 pub taken : (old new : LinesLeft) (next : Option NumberedCommand) (c : NumberedCommand) → next ≡ Some c → IsNext old new next → IsTaken old c new

@@ -1,30 +1,10 @@
 -- A world for the table of a catalog, from its opening on: of `open_for` and `look_up` of table.
-use Rattle.std.proofs.Common.{◌≡◌, ℕ, ◌≤◌, false, List, [], length, Result, Ok, Err, refl, sym, ◌∙◌, ap, subst, ⊎_elim, arith}
+use Rattle.engines.proofs.Words.{◌≡◌, ℕ, ◌≤◌, false, List, [], length, Result, Ok, Err, refl, sym, ◌∙◌, ap, subst, ⊎_elim, arith, get, get-empty, HalfOpen, Item, Refusal, OutOfMemory, half_open, look, Layout, capacity_of, limit_of, Update, World, Moment, opening, IsAfter, RepresentsMoment, layout_in, FindsNow, IsFoundFromAny, IsNotBegun, table_in, IsSoundCatalog, regions_of, CatalogEntries, HasTable, HoldsBelow, AreInsertsOf, as_many, current_at_rest, none_begun, table_at_rest, NoLookup, found_at_end, none_at_end, same_readers}
 use Rattle.std.specs.Prelude.{IfOk, is_some}
 use Rattle.std.specs.Ordering.{nat_cmp}
-use Rattle.std.specs.FinMap.{get, get-empty}
-use Rattle.order_laws.specs.declared.half_open_ranges.HalfOpen.{HalfOpen}
-use Rattle.order_laws.specs.declared.items.Item.{Item}
-use Rattle.order_laws.specs.declared.refusals.Refusal.{Refusal}
-use Rattle.order_laws.specs.declared.refusals.Refusal.TheVariants.{OutOfMemory}
-use Rattle.order_laws.specs.Orders.{half_open}
-use Rattle.order_laws.specs.Tables.{look}
-use Rattle.word_layout.specs.declared.layouts.Layout.{Layout}
-use Rattle.word_layout.specs.Layouts.{capacity_of, limit_of}
 use Rattle.word_layout.specs.Limits.{greatest_wide_sequence}
-use Rattle.table_updates.specs.declared.updates.Update.{Update}
-use Rattle.latch_steps.specs.declared.worlds.World.{World}
 use Rattle.latch_steps.specs.declared.replies.Returned.{Returned}
-use Rattle.latch_steps.specs.Runs.{Moment, opening}
-use Rattle.latch_steps.specs.Worlds.{IsAfter, RepresentsMoment, layout_in}
-use Rattle.latch_steps.specs.AtOnce.{FindsNow, IsFoundFromAny, IsNotBegun, table_in}
-use Rattle.modules.specs.Catalogs.{IsSoundCatalog, regions_of}
-use Rattle.modules.specs.Entries.{CatalogEntries}
-use Rattle.engines.specs.LoadedWorlds.{HasTable, HoldsBelow, AreInsertsOf}
-use Rattle.modules.proofs.NumberedItemLemmas.{as_many}
 use Rattle.engines.proofs.LoadLemmas.{look_in_table}
-use Rattle.latch_core.proofs.SoundLemmas.{current_at_rest, none_begun, table_at_rest}
-use Rattle.latch_steps.proofs.IdleLemmas.{NoLookup, found_at_end, none_at_end, same_readers}
 use Rattle.latch_core.specs.Invariants.{IsSound as IsSoundLatch}
 
 no_updates : AreInsertsOf [] []

@@ -1,11 +1,7 @@
 -- What is returned where all that was said is written, or a beginning of it: of `write_lookup` and of
 -- `run_lines` of traces.
-use Rattle.std.proofs.Common.{◌≡◌, ℕ, List, Option, Result, Ok, Err, true, false, IfErr, OnErr, OnOk, subst, sym}
-use Rattle.texts.specs.declared.output.Output.{Output}
-use Rattle.texts.specs.Output.{Delivered, Delivers, WrotePart, has_failed}
-use Rattle.texts.proofs.OutputLemmas.{all_delivered, part_written}
-use Rattle.command_io.specs.declared.fault.Fault.{Fault}
-use Rattle.command_io.specs.declared.fault.Fault.TheVariants.{Write}
+use Rattle.engines.proofs.Words.{◌≡◌, ℕ, List, Result, Ok, Err, true, false, OnErr, subst, sym, Output, Delivered, Delivers, WrotePart, has_failed, all_delivered, part_written, Fault, Write}
+use Rattle.std.proofs.Common.{Option, IfErr, OnOk}
 
 module _ {W : Type 0} (contents : W → Option (List ℕ)) (w w' : Output W) (text : List ℕ) (delivers : Delivers contents w w' text) (Answers : Result (Unit {0}) Fault → Type 0)
     (whole : (u : Unit {0}) → Delivered contents w w' text → Answers (Ok u)) (part : WrotePart contents w w' text → Answers (Err Write)) where

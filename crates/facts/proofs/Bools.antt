@@ -1,7 +1,6 @@
 -- Facts about truth values alone.
-use Rattle.std.proofs.Common.{◌&&◌, ◌+◌, ◌||◌, ◌∙◌, ◌≡◌, ◌⊎◌, Bool, arith, cond, false, not, refl, sym, true, ℕ, ⊎_elim}
-use Rattle.std.proofs.Math.Bool.{or-true}
-use Rattle.std.proofs.lemmas.Bool.{or_left}
+use Rattle.facts.proofs.Words.{◌&&◌, ◌+◌, ◌||◌, ◌∙◌, ◌≡◌, Bool, arith, cond, false, not, refl, sym, true, ℕ, ⊎_elim, or-true, or_left}
+use Rattle.std.proofs.Common.{◌⊎◌}
 
 pub or_assoc : (a b c : Bool) → (a || (b || c)) ≡ ((a || b) || c)
 or_assoc a b c = elim a as (λ v. (v || (b || c)) ≡ ((v || b) || c)) [ true ↦ refl | false ↦ refl ]

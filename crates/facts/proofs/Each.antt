@@ -1,10 +1,6 @@
 -- Facts about what each element of a list has, as `AllByRecursion` says it.
-use Rattle.std.proofs.Common.{◌++◌, ◌<◌, ◌∷◌, ◌≡◌, ◌≢◌, ◌≤◌, Bool, List, Some, [], arith, cond, drop, eqb, false, get_or, length, subst, suc, true, zero, ℕ, ⊎_elim}
-use Rattle.std.specs.Prelude.{Contains, filter, insert, remove, slice_get}
-use Rattle.std.specs.List.{AllByRecursion, list_any}
-use Rattle.std.specs.List.Sorted.{IsNonDecreasingBy}
-use Rattle.std.proofs.lemmas.Bool.{eqb-true, ne_eqb, or_cases}
-use Rattle.std.proofs.lemmas.List.Elements.{All-contains, All-from_recursion}
+use Rattle.facts.proofs.Words.{◌++◌, ◌<◌, ◌∷◌, ◌≡◌, ◌≢◌, ◌≤◌, Bool, List, Some, [], arith, cond, drop, eqb, false, get_or, length, subst, suc, true, zero, ℕ, ⊎_elim, Contains, filter, slice_get, AllByRecursion, list_any, IsNonDecreasingBy, eqb-true, ne_eqb, or_cases, All-contains, All-from_recursion}
+use Rattle.std.specs.Prelude.{insert, remove}
 use Rattle.facts.proofs.Members.{Contains-rest}
 
 pub all_left : {X : Type 0} (P : X → Type 0) (xs ys : List X) → AllByRecursion P (xs ++ ys)

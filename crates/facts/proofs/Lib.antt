@@ -1,3 +1,5 @@
+-- the words of all proofs of this crate
+mod Words
 -- facts about the types of std alone, by subject
 pub mod Bools
 pub mod Numbers

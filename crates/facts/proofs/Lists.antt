@@ -1,14 +1,9 @@
 -- Facts about lists and the places in them alone.
-use Rattle.std.proofs.Common.{◌++◌, ◌+◌, ◌-◌, ◌<◌, ◌∙◌, ◌∷◌, ◌≡◌, ◌≤◌, List, Some, [], ap, append-nil, append_assoc, arith, drop, false, get_or, inl, inr, length, map, refl, suc, sym, take, true, zero, ℕ, ⊎_elim}
-use Rattle.std.specs.Prelude.{◌⊎◌, insert, is_some, nat_lt, remove, slice_get, slice_index_or, slice_set}
+use Rattle.facts.proofs.Words.{◌++◌, ◌+◌, ◌-◌, ◌<◌, ◌∙◌, ◌∷◌, ◌≡◌, ◌≤◌, List, Some, [], ap, append_assoc, arith, drop, false, get_or, inl, inr, length, map, refl, suc, sym, take, true, zero, ℕ, ⊎_elim, is_some, slice_get, slice_index_or, slice_set, onto_first, swap_remove, lt-ltb, get_or-drop, get_or_append_left, take-set, take-take, take_more, Option, None, filter_map, cons_option, filter_map-append}
+use Rattle.std.proofs.Common.{append-nil}
+use Rattle.std.specs.Prelude.{◌⊎◌, insert, nat_lt, remove}
 use Rattle.std.specs.Global.{Vec}
-use Rattle.std.specs.List.{onto_first, swap_remove}
-use Rattle.std.proofs.lemmas.Bool.{lt-ltb}
-use Rattle.std.proofs.lemmas.List.{get_or-drop, get_or_append_left, take-set, take-take, take_more}
 use mathlib.Core.List.{IsPrefix}
-use Rattle.std.proofs.Common.{Option, None}
-use Rattle.std.specs.List.{filter_map, cons_option}
-use Rattle.std.proofs.lemmas.List.Elements.{filter_map-append}
 
 -- ---- joined lists
 

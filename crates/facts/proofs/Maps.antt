@@ -1,16 +1,9 @@
 -- Facts about maps by number alone: what an insert or a removal leaves at a key.
-use Rattle.std.proofs.Common.{◌&&◌, ◌∙◌, ◌∷◌, ◌≡◌, ◌≢◌, ◌⊎◌, Bool, List, None, Option, Some, [], ap, arith, cond, false, inl, inr, refl, sym, true, ℕ, ⊎_elim}
-use Rattle.std.specs.Prelude.{Contains}
+use Rattle.facts.proofs.Words.{◌&&◌, ◌∙◌, ◌∷◌, ◌≡◌, ◌≢◌, Bool, List, None, Option, Some, [], ap, arith, cond, false, inl, inr, refl, sym, true, ℕ, ⊎_elim, Contains, list_all, eq_by_cmp, is_eq, match_ordering, nat_cmp, Ordering, Equal, Greater, Less, cases_eq, nat_tests, nat_cmp_total}
+use Rattle.std.proofs.Common.{◌⊎◌}
 use Rattle.std.specs.BTreeMap.{BTreeMap, IsOrdered, Updates, get as tree_get, insert_entry, is_at}
 use Rattle.std.specs.FinMap.{FinMap, get, get-insert, get-remove, insert, remove}
-use Rattle.std.specs.List.{list_all}
 use Rattle.std.specs.Map.{lookup}
-use Rattle.std.specs.Ordering.{eq_by_cmp, is_eq, match_ordering, nat_cmp}
-use Rattle.std.specs.declared.cmp.Ordering.{Ordering}
-use Rattle.std.specs.declared.cmp.Ordering.TheVariants.{Equal, Greater, Less}
-use Rattle.std.proofs.lemmas.Bool.{cases_eq}
-use Rattle.std.proofs.lemmas.Bool.Decides.{nat_tests}
-use Rattle.std.proofs.lemmas.Cmp.{nat_cmp_total}
 use Rattle.std.proofs.lemmas.Map.Lookups.{exact_unsigned}
 use Rattle.std.proofs.lemmas.Map.Views.{btree_map_get_iff}
 

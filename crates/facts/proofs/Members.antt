@@ -1,9 +1,6 @@
 -- Facts about the members of a list alone.
-use Rattle.std.proofs.Common.{◌++◌, ◌∷◌, ◌≡◌, ◌≢◌, List, Some, [], ap, arith, drop, inl, inr, map, subst, suc, sym, take, zero, ℕ, ⊎_elim}
-use Rattle.std.specs.Prelude.{◌⊎◌, Contains, insert, remove, slice_get}
-use Rattle.std.proofs.lemmas.List.{take-append-drop}
-use Rattle.std.proofs.lemmas.List.Elements.{Contains-append_cases, Contains-append_left, Contains-append_right}
-use Rattle.std.proofs.lemmas.Option.{get_or_from_slice_get, slice_get_within}
+use Rattle.facts.proofs.Words.{◌++◌, ◌∷◌, ◌≡◌, ◌≢◌, List, Some, [], ap, arith, drop, inl, inr, map, subst, suc, sym, take, zero, ℕ, ⊎_elim, Contains, slice_get, take-append-drop, Contains-append_cases, Contains-append_left, Contains-append_right, get_or_from_slice_get, slice_get_within}
+use Rattle.std.specs.Prelude.{◌⊎◌, insert, remove}
 use Rattle.facts.proofs.Lists.{parted_at}
 
 pub Contains-none : {X : Type 0} (x : X) → Contains [] x → ⊥

@@ -1,11 +1,8 @@
 -- Facts about numbers and tests on them alone.
-use Rattle.std.proofs.Common.{◌&&◌, ◌+◌, ◌<◌, ◌||◌, ◌∙◌, ◌≡◌, ◌≤◌, ◌⊎◌, arith, false, if◌then◌else◌, inl, inr, min, nat_eq, nat_le, nat_lt, not, subst, suc, sym, true, ℕ, ⊎_elim}
-use Rattle.std.specs.Prelude.{◌==◌, max}
-use Rattle.std.specs.Ordering.{is_lt, nat_cmp, ordering_then}
+use Rattle.facts.proofs.Words.{◌&&◌, ◌+◌, ◌<◌, ◌||◌, ◌∙◌, ◌≡◌, ◌≤◌, arith, false, if◌then◌else◌, inl, inr, min, nat_le, not, subst, suc, sym, true, ℕ, ⊎_elim, max, is_lt, nat_cmp, ordering_then, min-eq_left, min-eq_right, min-le_left, min-le_right, cases_Bool, cases_eq, cases_lt, eq-eqb, eqb-true, le-ltb, ltb-false, ne_eqb, leb_tells, nat_tests}
+use Rattle.std.proofs.Common.{◌⊎◌, nat_eq, nat_lt}
+use Rattle.std.specs.Prelude.{◌==◌}
 use Rattle.std.proofs.Math.Dec.{leb}
-use Rattle.std.proofs.Math.Nat.{min-eq_left, min-eq_right, min-le_left, min-le_right}
-use Rattle.std.proofs.lemmas.Bool.{cases_Bool, cases_eq, cases_lt, eq-eqb, eqb-true, le-ltb, ltb-false, ne_eqb}
-use Rattle.std.proofs.lemmas.Bool.Decides.{leb_tells, nat_tests}
 
 pub eqb-flip : (a b : ℕ) → (a == b) ≡ (b == a)
 eqb-flip a b =

@@ -1,11 +1,8 @@
 -- Facts about options and results alone.
-use Rattle.std.proofs.Common.{◌∙◌, ◌≡◌, ◌≢◌, Bool, Err, IfOk, List, None, Ok, Option, Result, Some, ap, cond, false, refl, subst, sym, true, ℕ}
-use Rattle.std.specs.Prelude.{IfNone, IfSome, IsSome, OnErr, is_some, nat_eq, option_map}
+use Rattle.facts.proofs.Words.{◌∙◌, ◌≡◌, ◌≢◌, Bool, Err, IfOk, List, None, Ok, Option, Some, ap, cond, false, refl, subst, sym, true, ℕ, IfNone, IfSome, IsSome, OnErr, is_some, bytes_decides, pointwise, same_text, option_copied, option_eq, option_map_or, bytes_eq, false_from_ne_true}
+use Rattle.std.proofs.Common.{Result}
+use Rattle.std.specs.Prelude.{nat_eq, option_map}
 use Rattle.std.specs.Borrow.{Bor}
-use Rattle.std.specs.Cmp.Lexicographic.{bytes_decides, pointwise, same_text}
-use Rattle.std.specs.Option.{option_copied, option_eq, option_map_or}
-use Rattle.std.specs.Str.{bytes_eq}
-use Rattle.std.proofs.lemmas.Bool.{false_from_ne_true}
 
 pub None-from_is_none : {X : Type 0} (x : Option X) → is_some x ≡ false → x ≡ None
 None-from_is_none None e = refl

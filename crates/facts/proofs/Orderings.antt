@@ -1,13 +1,6 @@
 -- Facts about the outcomes of a comparison alone.
-use Rattle.std.proofs.Common.{◌&&◌, ◌<◌, ◌∙◌, ◌∷◌, ◌≡◌, ◌≢◌, ◌≤◌, List, [], ap, arith, false, inl, inr, not, refl, true, ℕ}
+use Rattle.facts.proofs.Words.{◌&&◌, ◌<◌, ◌∙◌, ◌∷◌, ◌≡◌, ◌≢◌, ◌≤◌, List, [], ap, arith, false, inl, inr, not, refl, true, ℕ, slice_cmp, is_eq, is_le, is_lt, nat_cmp, ordering_index, ordering_reverse, bytes_eq, Ordering, Equal, Greater, Less, nat_tests, nat_list_cmp_total}
 use Rattle.std.specs.Prelude.{◌⊎◌}
-use Rattle.std.specs.Cmp.Lexicographic.{slice_cmp}
-use Rattle.std.specs.Ordering.{is_eq, is_le, is_lt, nat_cmp, ordering_index, ordering_reverse}
-use Rattle.std.specs.Str.{bytes_eq}
-use Rattle.std.specs.declared.cmp.Ordering.{Ordering}
-use Rattle.std.specs.declared.cmp.Ordering.TheVariants.{Equal, Greater, Less}
-use Rattle.std.proofs.lemmas.Bool.Decides.{nat_tests}
-use Rattle.std.proofs.lemmas.Cmp.{nat_list_cmp_total}
 use Rattle.std.proofs.lemmas.Map.Text.{is_eq-slice_cmp}
 
 pub not_equal : (r : Ordering) → r ≢ Equal → is_eq r ≡ false

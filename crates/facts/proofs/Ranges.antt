@@ -1,6 +1,5 @@
 -- Facts about lists of numbers that follow one another alone.
-use Rattle.std.proofs.Common.{◌++◌, ◌+◌, ◌∙◌, ◌∷◌, ◌≡◌, [], add-zero, ap, arith, refl, suc, zero, ℕ}
-use Rattle.std.specs.List.{range_with_len}
+use Rattle.facts.proofs.Words.{◌++◌, ◌+◌, ◌∙◌, ◌∷◌, ◌≡◌, [], add-zero, ap, arith, refl, suc, zero, ℕ, range_with_len}
 
 -- so many numbers, and then more
 pub range-append : (a k m : ℕ)

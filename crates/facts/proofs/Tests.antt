@@ -1,24 +1,14 @@
 -- Facts about a test of the elements of a list alone: which pass, how many, and the first.
-use Rattle.std.proofs.Common.{◌&&◌, ◌++◌, ◌+◌, ◌-◌, ◌<◌, ◌||◌, ◌∙◌, ◌∷◌, ◌≡◌, ◌≤◌, ◌⊎◌, Bool, Err, List, None, Ok, Option, Some, [], add-zero, ap, arith, cond, drop, false, get_or, inl, inr, length, length-append, map, not, refl, subst, suc, sym, take, true, zero, ℕ, ⊎_elim}
-use Rattle.std.specs.Prelude.{◌==◌, All, Result, count_by, filter, find, is_ok, is_some, nat_eq}
-use Rattle.std.specs.Cmp.Lexicographic.{bytes_decides}
-use Rattle.std.specs.List.{AllByRecursion, list_all, list_any, position_from}
-use Rattle.std.specs.List.Sorted.{IsBinarySearchResult, IsNonDecreasing}
+use Rattle.facts.proofs.Words.{◌&&◌, ◌++◌, ◌+◌, ◌-◌, ◌<◌, ◌||◌, ◌∙◌, ◌∷◌, ◌≡◌, ◌≤◌, Bool, Err, List, None, Ok, Option, Some, [], add-zero, ap, arith, cond, drop, false, get_or, inl, inr, length, length-append, map, not, refl, subst, suc, sym, take, true, zero, ℕ, ⊎_elim, All, count_by, filter, find, is_ok, is_some, bytes_decides, AllByRecursion, list_all, list_any, position_from, IsBinarySearchResult, IsNonDecreasing, nat_cmp, bytes_eq, cases_Bool, cases_lt, eq-eqb, false_from_ne_true, ne_eqb, or_parts, get_or_default_zero, get_or-map, get_or_append_left, length-map, All-cons, All-head, All-nil, All-tail, Contains, slice_get, get_or_from_slice_get, slice_get-get_or, slice_get_within}
+use Rattle.std.proofs.Common.{◌⊎◌}
+use Rattle.std.specs.Prelude.{◌==◌, Result, nat_eq}
 use Rattle.std.specs.Option.{option_map}
-use Rattle.std.specs.Ordering.{nat_cmp}
-use Rattle.std.specs.Str.{bytes_eq}
 use Rattle.std.proofs.Math.Seq.{drop-nil, take-nil}
-use Rattle.std.proofs.lemmas.Bool.{cases_Bool, cases_lt, eq-eqb, false_from_ne_true, ne_eqb, or_parts}
-use Rattle.std.proofs.lemmas.Grind.{get_or_default_zero}
-use Rattle.std.proofs.lemmas.List.{get_or-map, get_or_append_left, length-map}
-use Rattle.std.proofs.lemmas.List.Elements.{All-cons, All-head, All-nil, All-tail}
 use Rattle.std.proofs.lemmas.List.Folds.{list_any_at, list_any_none}
 use Rattle.std.proofs.lemmas.List.Sorted.{searched}
 use Rattle.std.proofs.lemmas.List.Sums.{sum_by-cons}
 use Rattle.facts.proofs.Bools.{and-false_if, count_either}
 use Rattle.facts.proofs.Options.{cond-is_some}
-use Rattle.std.specs.Prelude.{Contains, slice_get}
-use Rattle.std.proofs.lemmas.Option.{get_or_from_slice_get, slice_get-get_or, slice_get_within}
 use Rattle.facts.proofs.Bools.{left_of_or}
 use Rattle.facts.proofs.Members.{Contains-head, Contains-rest}
 

@@ -1,18 +1,10 @@
 -- Which catalog stands at a moment, by the place up to which the catalogs were shown at or before it.
-use Rattle.std.proofs.Common.{◌≡◌, ℕ, suc, zero, ◌-◌, ◌<◌, ◌≤◌, nat_le, Bool, true, false, cond}
-use Rattle.std.proofs.Common.{List, [], ◌∷◌, ◌++◌, get_or, Option, Some, None}
-use Rattle.std.proofs.Common.{IfSome, refl, sym, subst, ◌∙◌, arith}
-use Rattle.std.proofs.Common.{⊎_elim}
+use Rattle.follower.proofs.Words.{◌≡◌, ℕ, suc, zero, ◌-◌, ◌<◌, ◌≤◌, nat_le, Bool, true, false, cond, List, [], ◌∷◌, ◌++◌, get_or, Option, Some, None, IfSome, refl, sym, subst, ◌∙◌, arith, ⊎_elim, DatedCatalog, Moment, CatalogEntries, AreInOrder, EachStands, ForgetsOldest, at_number, number_of, standing_at, start_by, IsSplitBy}
 use Rattle.std.proofs.lemmas.Bool.{cases_lt, le-leb, lt-leb}
 use Rattle.std.proofs.lemmas.Option.{IfSome_then}
 use Rattle.std.proofs.lemmas.List.Elements.{All-append, All-cons, All-nil}
-use Rattle.follower.specs.declared.catalogs.DatedCatalog.{DatedCatalog}
-use Rattle.follower.specs.declared.catalogs.Moment.{Moment}
 use Rattle.follower.specs.declared.catalogs.Moment.TheVariants.{Generation, Stamp}
-use Rattle.modules.specs.Entries.{CatalogEntries}
 use Rattle.std.specs.List.Sorted.{IsNonDecreasingBy}
-use Rattle.follower.specs.Catalogs.{AreInOrder, EachStands, ForgetsOldest, at_number, number_of, standing_at, start_by}
-use Rattle.modules.specs.Index.{IsSplitBy}
 
 abbrev IsSplit : List DatedCatalog → Moment → ℕ → Type 0
 IsSplit dated moment place = IsSplitBy (start_by moment) dated (number_of moment) place

@@ -1,8 +1,6 @@
 -- What a table shows at each generation.
-use Rattle.std.proofs.Common.{◌≡◌, ℕ, suc, ◌+◌, ◌-◌, ◌*◌, ◌≤◌, List, [], ◌∷◌, ◌++◌, length, take}
-use Rattle.std.proofs.Common.{Option, Some, None, sym, ap, subst, ◌∙◌, arith}
+use Rattle.follower.proofs.Words.{◌≡◌, ℕ, suc, ◌+◌, ◌-◌, ◌*◌, ◌≤◌, List, [], ◌∷◌, ◌++◌, length, take, Option, Some, None, sym, ap, subst, ◌∙◌, arith, Contains-permutation, IsPermutation-sym, IsSoundCatalog, CatalogEntries, IsIndexOf, DatedCatalog, Moment, DropsOldest, EachStands, Forgets, BeginsToShow, IsBegun, IsFollowed, IsShownAt, generation_of, table_at}
 use Rattle.std.proofs.lemmas.List.{length-append, take-append-le, take_all}
-use Rattle.std.proofs.lemmas.List.Sorted.{Contains-permutation, IsPermutation-sym}
 use Rattle.order_laws.specs.declared.items.Item.{Item}
 use Rattle.order_laws.specs.Orders.{half_open}
 use Rattle.order_laws.specs.Tables.{IsLook, look}
@@ -10,10 +8,7 @@ use Rattle.order_laws.proofs.HalfOpenLemmas.{begins, ends, equal_inside}
 use Rattle.order_laws.proofs.TableLemmas.{look_is, same_look}
 use Rattle.table_updates.specs.declared.updates.Update.{Update}
 use Rattle.table_updates.specs.Updates.{replay}
-use Rattle.modules.specs.Catalogs.{IsSoundCatalog}
-use Rattle.modules.specs.Entries.{CatalogEntries}
 use Rattle.modules.specs.Items.{item_of_address, items_of}
-use Rattle.modules.specs.RegionIndexes.{IsIndexOf}
 use Rattle.modules.proofs.ApartItemLemmas.{none_found, some_found}
 use Rattle.latch_core.specs.Invariants.{IsPendingOf, IsSound}
 use Rattle.latch_core.specs.Replacements.{replacement}
@@ -21,10 +16,6 @@ use Rattle.latch_core.specs.Sequences.{generation_of as sequence_generation}
 use Rattle.word_layout.specs.Words.{at}
 use Rattle.latch_table.specs.Replacing.{BeginsReplacing}
 use Rattle.latch_table.specs.Writers.{Finishes, WriterState, state_with_update}
-use Rattle.follower.specs.declared.catalogs.DatedCatalog.{DatedCatalog}
-use Rattle.follower.specs.declared.catalogs.Moment.{Moment}
-use Rattle.follower.specs.Catalogs.{DropsOldest, EachStands, Forgets}
-use Rattle.follower.specs.Following.{BeginsToShow, IsBegun, IsFollowed, IsShownAt, generation_of, table_at}
 use Rattle.follower.proofs.CatalogLemmas.{newest_too, right_too, still_stands}
 
 -- the items of a catalog in another order have at each address what the catalog has

@@ -1,42 +1,13 @@
 -- An update that begins: what was tested; an update whose items are placed in free nodes, and whose
 -- links lead both copies: the stores that are planned for it carry it out.
-use Rattle.std.proofs.Common.{◌≡◌, ℕ, ◌+◌, ◌*◌, ◌<◌, ◌≤◌, List, [], ◌∷◌, ◌++◌, length, None, ap, subst, arith, length-append, ◌≢◌, take, refl, sym, ◌∙◌, inl, inr}
-use Rattle.std.specs.Prelude.{All, insert, Contains, map}
-use Rattle.std.proofs.lemmas.Bool.{ltb-false, or_parts}
-use Rattle.std.proofs.lemmas.List.Elements.{All-append, All-cons, All-from_recursion, Contains-append_right}
+use Rattle.latch_core.proofs.Words.{◌≡◌, ℕ, ◌+◌, ◌<◌, ◌≤◌, List, [], ◌∷◌, ◌++◌, length, None, ap, subst, arith, length-append, ◌≢◌, take, refl, sym, ◌∙◌, inl, inr, All, insert, Contains, ltb-false, or_parts, All-append, All-cons, All-from_recursion, Contains-append_right, Item, Order, place_for, place_of, Store, words_for, Nodes, listed, at, a_word, b_word, tag_word, Holds, IsUnreached, AreLinkStores, words_after_all, IsItemWord, Picture, IsPictured, links_in_range, same_item, Update, Batch, Insert, Erase, after, size_of, some_missing, some_twice, with_items, Latch, flip_to, update_stores, AreAllNodes, WriterView, IsMemoryAtRest, HasBegun, AreInStep, why_refused, has_pending, AllByRecursion, length-map, take-append-le, take_all, all_append, all_weaker, one_item, item_place, length_after, untouched, tree_untouched, IsBalanced, Inserts, Erases, LeadsWithItem, LeadsByLinks, item_stores, mirror_stores, mirror_store, second_picture, AreDistinct, stable_copy_of, PlacedItems, stores_of_placed, AreInPlace, RelinksBoth, ErasesWords, InsertsItems}
+use Rattle.std.proofs.Common.{◌*◌}
+use Rattle.std.specs.Prelude.{map}
 use Rattle.std.proofs.Math.Nat.{mul-le-mul_right}
-use Rattle.order_laws.specs.declared.items.Item.{Item}
-use Rattle.order_laws.specs.Orders.{Order}
-use Rattle.order_laws.specs.Tables.{place_for, place_of}
-use Rattle.word_layout.specs.declared.stores.Store.{Store}
-use Rattle.word_layout.specs.Words.{words_for, Nodes, listed, at, a_word, b_word, tag_word, Holds, IsUnreached}
-use Rattle.word_layout.specs.Stores.{AreLinkStores, words_after_all, IsItemWord}
-use Rattle.rb_words.specs.Pictures.{Picture, IsPictured}
-use Rattle.word_layout.proofs.LinkLemmas.{links_in_range, same_item}
-use Rattle.table_updates.specs.declared.updates.Update.{Update}
-use Rattle.table_updates.specs.declared.updates.Update.TheVariants.{Batch, Insert, Erase}
-use Rattle.table_updates.specs.Updates.{after, size_of, some_missing, some_twice, with_items}
-use Rattle.latch_core.specs.Latches.{Latch}
-use Rattle.latch_core.specs.Plans.{flip_to, update_stores}
-use Rattle.latch_core.specs.FreeNodes.{AreAllNodes}
-use Rattle.latch_core.specs.WriterViews.{WriterView}
-use Rattle.latch_core.specs.Writers.{IsMemoryAtRest, HasBegun, AreInStep, why_refused, has_pending}
 use Rattle.latch_core.proofs.TestLemmas.{NoneHolds, all_tests, none_holds}
 use Rattle.latch_core.proofs.StoreOrderLemmas.{Leading, AreFreeStores, items_unused}
 use Rattle.latch_core.proofs.ChangeLemmas.{last_is_free, node_taken, node_freed, both_then, both_insert, both_erase, few_words, free_node}
 use Rattle.latch_core.proofs.WriterLemmas.{begun_pictures, rest_now, unlisted}
-use Rattle.std.specs.List.{AllByRecursion}
-use Rattle.std.proofs.lemmas.List.{length-map, take-append-le, take_all}
-use Rattle.facts.proofs.Each.{all_append, all_weaker}
-use Rattle.word_layout.proofs.WordLemmas.{one_item, item_place}
-use Rattle.word_layout.proofs.StoreLemmas.{length_after, untouched}
-use Rattle.word_layout.proofs.HoldsLemmas.{tree_untouched}
-use Rattle.rb_trees.specs.Trees.{IsBalanced}
-use Rattle.rb_words.specs.Plans.{Inserts, Erases, LeadsWithItem, LeadsByLinks, item_stores}
-use Rattle.rb_words.specs.Mirrors.{mirror_stores, mirror_store, second_picture}
-use Rattle.rb_words.specs.Rows.{AreDistinct}
-use Rattle.latch_core.specs.Sequences.{stable_copy_of}
-use Rattle.latch_core.specs.Changes.{PlacedItems, stores_of_placed, AreInPlace, RelinksBoth, ErasesWords, InsertsItems}
 use Rattle.latch_core.proofs.SoundLemmas.{after_insert, after_erase}
 use Rattle.rb_words.proofs.PlanLemmas.{item_put}
 

@@ -1,39 +1,12 @@
 -- The nodes of a memory, and several changes of both copies, one after another.
-use Rattle.std.proofs.Common.{◌≡◌, ◌≢◌, ℕ, ◌+◌, ◌-◌, ◌<◌, ◌≤◌, true, false, List, [], ◌∷◌, ◌++◌, length, take, drop, get_or, refl, sym, ◌∙◌, ap, subst, inl, inr, arith, append_assoc, Some, length-append}
-use Rattle.std.specs.Prelude.{not, ◌==◌, map, Contains, insert, nat_eq, remove, slice_get}
-use Rattle.std.specs.List.{AllByRecursion, list_any, swap_remove, IsDistinct}
-use Rattle.std.proofs.lemmas.List.Elements.{All-contains_itself, recursion_from_All, All-nil, All-push, All-weaker, All-head, Contains-append_left}
-use Rattle.std.proofs.lemmas.Bool.{not-false, or_parts, eq-eqb}
-use Rattle.std.proofs.lemmas.List.{map-append, take_more, append-nil, drop_more}
-use Rattle.std.proofs.lemmas.List.Sorted.{IsPermutation-trans, IsPermutation-append_left, IsPermutation-append_comm, IsPermutation-swap_remove, IsPermutation-insert, IsPermutation-remove, IsPermutation-append_right, All-permutation, length_permutation}
-use Rattle.order_laws.specs.declared.items.Item.{Item}
-use Rattle.order_laws.specs.Orders.{Order, IsLawful}
-use Rattle.order_laws.specs.Tables.{without, without_all, with_item, has, place_for, place_of}
-use Rattle.order_laws.proofs.PlaceLemmas.{without_none}
-use Rattle.facts.proofs.Each.{all_append, all_left, all_right, all_weaker, all_at}
-use Rattle.facts.proofs.Lists.{take-swap_remove, pushed_before}
-use Rattle.facts.proofs.Tests.{all_fail, list_any-above}
-use Rattle.order_laws.proofs.WithoutLemmas.{all_has_without, length_without_one, without_more}
-use Rattle.word_layout.proofs.LinkLemmas.{same_item}
-use Rattle.word_layout.specs.declared.stores.Store.{Store}
-use Rattle.word_layout.specs.Words.{item_at, listed}
-use Rattle.word_layout.specs.Stores.{words_after_all, AreLinkStores, IsLinkWord, IsItemWord}
-use Rattle.word_layout.proofs.WordLemmas.{link_no_item}
-use Rattle.word_layout.proofs.StoreLemmas.{after_append, untouched}
-use Rattle.rb_words.specs.Pictures.{Picture, IsPictured}
-use Rattle.rb_words.specs.Plans.{Inserts, Erases, LeadsWithItem, LeadsByLinks, item_stores}
-use Rattle.rb_words.specs.Mirrors.{mirror_stores, mirror_store, second_picture}
-use Rattle.rb_words.specs.Rows.{AreDistinct}
+use Rattle.latch_core.proofs.Words.{◌≡◌, ◌≢◌, ℕ, ◌+◌, ◌<◌, ◌≤◌, true, false, List, [], ◌∷◌, ◌++◌, length, take, drop, get_or, refl, sym, ◌∙◌, ap, subst, inl, inr, arith, append_assoc, Some, length-append, not, ◌==◌, Contains, insert, nat_eq, remove, slice_get, AllByRecursion, list_any, swap_remove, All-contains_itself, recursion_from_All, All-nil, All-push, All-weaker, All-head, Contains-append_left, not-false, or_parts, map-append, take_more, drop_more, IsPermutation-trans, IsPermutation-append_left, IsPermutation-append_comm, IsPermutation-swap_remove, IsPermutation-insert, IsPermutation-remove, IsPermutation-append_right, All-permutation, length_permutation, Item, Order, IsLawful, without, without_all, with_item, has, place_for, place_of, without_none, all_append, all_left, all_right, all_weaker, all_at, take-swap_remove, pushed_before, all_fail, list_any-above, all_has_without, length_without_one, without_more, same_item, Store, item_at, listed, words_after_all, AreLinkStores, IsLinkWord, IsItemWord, link_no_item, after_append, untouched, Picture, IsPictured, Inserts, Erases, LeadsWithItem, LeadsByLinks, item_stores, mirror_stores, mirror_store, second_picture, AreDistinct, some_missing, some_twice, some_invalid, some_overlap, some_meet, with_items, AreAllNodes, PlacedItems, stores_of_placed, AreInPlace, RelinksCopy, RelinksBoth, ErasesWords, InsertsItems, AreApart, AreOff, all_valid, all_apart, all_off, still_off, IsPermutation, nat_tests, slice_get_within, slice_get-get_or, IsDistinct-IsPermutation, IsDistinct-push, IsDistinct-head}
+use Rattle.std.proofs.Common.{◌-◌}
+use Rattle.std.specs.Prelude.{map}
+use Rattle.std.specs.List.{IsDistinct}
+use Rattle.std.proofs.lemmas.Bool.{eq-eqb}
+use Rattle.std.proofs.lemmas.List.{append-nil}
 use Rattle.rb_words.proofs.MirrorLemmas.{inserts_mirrored, with_item_mirrored, erases_mirrored, by_links_mirrored}
-use Rattle.table_updates.specs.Updates.{some_missing, some_twice, some_invalid, some_overlap, some_meet, with_items}
-use Rattle.latch_core.specs.FreeNodes.{AreAllNodes}
-use Rattle.latch_core.specs.Changes.{PlacedItems, stores_of_placed, AreInPlace, RelinksCopy, RelinksBoth, ErasesWords, InsertsItems}
-use Rattle.table_updates.proofs.BatchLemmas.{AreApart, AreOff, all_valid, all_apart, all_off, still_off}
-use Rattle.std.specs.List.Sorted.{IsPermutation}
 use Rattle.std.specs.Cmp.{nat_eq_equiv}
-use Rattle.std.proofs.lemmas.Bool.Decides.{nat_tests}
-use Rattle.std.proofs.lemmas.Option.{slice_get_within, slice_get-get_or}
-use Rattle.std.proofs.lemmas.Map.Keys.{IsDistinct-IsPermutation, IsDistinct-push, IsDistinct-head}
 
 pub no_nodes : AreAllNodes 0 []
 unfolding IsDistinct

@@ -1,26 +1,9 @@
 -- Entries of a batch that stand against each other are neighbours in a sorted list.
-use Rattle.std.proofs.Common.{◌≡◌, ◌≢◌, ℕ, suc, zero, ◌+◌, ◌-◌, ◌<◌, ◌≤◌, true, false, List, [], ◌∷◌, length, drop, get_or, refl, sym, ◌∙◌, ap, subst, arith}
-use Rattle.std.specs.Prelude.{Bool, not, ◌||◌, ◌==◌, nat_lt}
-use Rattle.std.specs.List.{AllByRecursion, IsDistinct, list_any}
-use Rattle.std.specs.List.Sorted.{IsPermutation, IsNonDecreasingBy}
-use Rattle.std.proofs.lemmas.Bool.{ne_eqb, or_parts}
-use Rattle.std.proofs.lemmas.List.Sorted.{IsPermutation-sym, IsNonDecreasingBy-drop, list_any-IsPermutation}
-use Rattle.std.proofs.lemmas.Map.Keys.{IsDistinct-IsPermutation}
-use Rattle.std.proofs.lemmas.List.{drop_more}
-use Rattle.order_laws.specs.declared.items.Item.{Item}
-use Rattle.order_laws.specs.Orders.{Order, IsLawful, IsInLine}
-use Rattle.order_laws.specs.Tables.{has, meets}
-use Rattle.order_laws.specs.declared.refusals.Refusal.TheVariants.{BadItem, Overlap, NoSuchItem, Full}
+use Rattle.latch_core.proofs.Words.{◌≡◌, ◌≢◌, ℕ, suc, zero, ◌+◌, ◌<◌, ◌≤◌, true, false, List, [], ◌∷◌, length, drop, get_or, refl, sym, ◌∙◌, ap, subst, arith, Bool, not, ◌||◌, ◌==◌, nat_lt, AllByRecursion, list_any, IsPermutation, IsNonDecreasingBy, ne_eqb, or_parts, IsPermutation-sym, IsNonDecreasingBy-drop, list_any-IsPermutation, IsDistinct-IsPermutation, drop_more, Item, Order, IsLawful, IsInLine, has, meets, BadItem, Overlap, NoSuchItem, Full, same_by_false, all_drop, all_not_below, all_weaker, rest_in_order, all_fail, list_any-all_fail, eqb-flip, no_meeting, Batch, first_that_holds, failed_test, some_invalid, some_twice, some_overlap, some_meet, all_apart}
+use Rattle.std.proofs.Common.{◌-◌}
+use Rattle.std.specs.List.{IsDistinct}
 use Rattle.order_laws.proofs.LeftOutLemmas.{without_moved}
-use Rattle.facts.proofs.Bools.{same_by_false}
-use Rattle.facts.proofs.Each.{all_drop, all_not_below, all_weaker, rest_in_order}
-use Rattle.facts.proofs.Tests.{all_fail, list_any-all_fail}
-use Rattle.facts.proofs.Numbers.{eqb-flip}
-use Rattle.order_laws.proofs.MeetLemmas.{no_meeting}
 use Rattle.order_laws.proofs.InLineLemmas.{precedes, beyond}
-use Rattle.table_updates.specs.declared.updates.Update.TheVariants.{Batch}
-use Rattle.table_updates.specs.Updates.{first_that_holds, failed_test, some_invalid, some_twice, some_overlap, some_meet}
-use Rattle.table_updates.proofs.BatchLemmas.{all_apart}
 
 -- some entry clashes with one after it
 abbrev clash : {X : Type 0} → (X → X → Bool) → List X → Bool

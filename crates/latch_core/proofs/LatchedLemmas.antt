@@ -1,21 +1,10 @@
 -- What a reader has loaded stands through each step of the writer, and leads to words that are
 -- kept.
-use Rattle.std.proofs.Common.{◌≡◌, ℕ, suc, ◌+◌, ◌*◌, ◌<◌, ◌≤◌, List, [], ◌∷◌, ◌++◌, length, Some, refl, sym, ◌∙◌, ap, subst, inl, inr, ⊎_elim, arith}
-use Rattle.order_laws.specs.Orders.{Order, IsLawful}
-use Rattle.order_laws.specs.Tables.{look}
-use Rattle.word_layout.proofs.LinkLemmas.{reaches_on}
-use Rattle.word_layout.specs.declared.stores.Store.{Store}
-use Rattle.word_layout.specs.Words.{at, InUse}
-use Rattle.word_layout.specs.Stores.{words_after}
-use Rattle.latch_core.specs.Sequences.{generation_of, stable_copy_of}
-use Rattle.latch_core.specs.Attempts.{Reading, Load, Ends, Outcome, Answer, attempt, rest_after, IsAttempt, Stand}
-use Rattle.table_updates.specs.Updates.{replay}
-use Rattle.table_updates.specs.declared.updates.Update.{Update}
-use Rattle.latch_core.specs.Latches.{PendingUpdate, Latch, IsHidden, IsWriterStep}
+use Rattle.latch_core.proofs.Words.{◌≡◌, ℕ, suc, ◌+◌, ◌<◌, ◌≤◌, List, [], ◌∷◌, ◌++◌, length, Some, refl, sym, ◌∙◌, ap, subst, inl, inr, ⊎_elim, arith, Order, IsLawful, look, reaches_on, Store, at, InUse, words_after, generation_of, stable_copy_of, Reading, Load, Ends, Outcome, Answer, attempt, rest_after, IsAttempt, Stand, replay, Update, PendingUpdate, Latch, IsHidden, IsWriterStep, loads_of, IsKept, StandAll, IsSteady, IsLatched}
+use Rattle.std.proofs.Common.{◌*◌}
 use Rattle.latch_core.proofs.ReadingLemmas.{AllLoads}
 use Rattle.latch_core.proofs.SoundLemmas.{hidden_same, attempt_uses, sequence_after}
 use Rattle.latch_core.proofs.WalkLemmas.{attempt_answers, attempt_loads}
-use Rattle.latch_core.specs.Latched.{loads_of, IsKept, StandAll, IsSteady, IsLatched}
 
 -- a store that is hidden from readers leaves what is kept
 kept_hidden : (n : ℕ) (m began : List ℕ) (s : Store) → IsHidden n m began s.word → (w : ℕ) → IsKept n m w → IsKept n (words_after m s) w

@@ -1,22 +1,14 @@
 -- One load leads an attempt on: a reader's core, and an attempt whose loads are steps of somebody who
 -- learns by them; and one in words that stand still.
-use Rattle.std.proofs.Common.{◌≡◌, ◌≢◌, ℕ, ◌+◌, ◌-◌, ◌*◌, ◌<◌, ◌≤◌, List, [], ◌∷◌, ◌++◌, Some, refl, sym, ◌∙◌, ap, subst, arith, append_assoc, append-nil, length-append, suc, zero, true, false, length}
+use Rattle.latch_core.proofs.Words.{◌≡◌, ◌≢◌, ℕ, ◌+◌, ◌<◌, ◌≤◌, List, [], ◌∷◌, ◌++◌, Some, refl, sym, ◌∙◌, ap, subst, arith, append_assoc, length-append, suc, zero, true, false, length, Less, Equal, Greater, left_word, at, stable_copy_of, Item, Order, Reading, Load, Ends, Outcome, WalkEnd, outcome, last_load, after_item, visit, walk, attempt, attempt_after, rest_after, Stand, Again, AtItem, AtEmptyLink, IsReady, HasLoaded, HasTried, outcome_in, loads_in, ◌==◌, nat_lt, lt-ltb, ne_eqb, First, Root, WordA, WordB, Tag}
+use Rattle.std.proofs.Common.{◌-◌, ◌*◌, append-nil}
 use Rattle.std.specs.declared.cmp.Ordering.{Ordering}
-use Rattle.std.specs.declared.cmp.Ordering.TheVariants.{Less, Equal, Greater}
-use Rattle.word_layout.specs.Words.{left_word, at}
-use Rattle.latch_core.specs.Sequences.{stable_copy_of}
-use Rattle.order_laws.specs.declared.items.Item.{Item}
-use Rattle.order_laws.specs.Orders.{Order}
-use Rattle.latch_core.specs.Attempts.{Reading, Load, Ends, Outcome, WalkEnd, outcome, last_load, after_item, visit, walk, attempt, attempt_after, rest_after, Stand, Again, AtItem, AtEmptyLink}
-use Rattle.latch_core.specs.Loading.{Leads, IsReady, HasLoaded, HasTried}
+use Rattle.latch_core.specs.Loading.{Leads}
 use Rattle.latch_core.proofs.ReadingLemmas.{rest_push, stand_push, ends_as, within_below}
-use Rattle.latch_core.specs.Whole.{outcome_in, loads_in}
-use Rattle.std.specs.Prelude.{◌==◌, nat_lt}
-use Rattle.std.proofs.lemmas.Bool.{lt-ltb, ne_eqb}
 use Rattle.latch_core.specs.declared.readers.ReaderCore.{ReaderCore}
 use Rattle.latch_core.specs.declared.progress.Progress.{Progress}
 use Rattle.latch_core.specs.declared.progress.Awaited.{Awaited}
-use Rattle.latch_core.specs.declared.progress.Awaited.TheVariants.{First, Root, WordA, WordB, Tag, Left as Go_left, Right as Go_right, Found as At_item, Missing as At_none, Stuck as At_stuck}
+use Rattle.latch_core.specs.declared.progress.Awaited.TheVariants.{Left as Go_left, Right as Go_right, Found as At_item, Missing as At_none, Stuck as At_stuck}
 use Rattle.latch_core.specs.Cores.{rest_of_attempt, rest_of_core, HasTaken}
 use Rattle.latch_core.proofs.WalkLemmas.{attempt_within}
 

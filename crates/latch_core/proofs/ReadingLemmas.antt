@@ -1,8 +1,5 @@
 -- Readings in one memory.
-use Rattle.std.proofs.Common.{◌≡◌, ℕ, suc, zero, ◌<◌, ◌≤◌, List, [], ◌∷◌, ◌++◌, length, Some, refl, sym, ◌∙◌, ap, subst, arith, length-append}
-use Rattle.word_layout.specs.Words.{at}
-use Rattle.latch_core.specs.Attempts.{Outcome, Reading, Load, Ends, rest_after, Stand}
-use Rattle.latch_core.specs.Whole.{outcome_in, loads_in}
+use Rattle.latch_core.proofs.Words.{◌≡◌, ℕ, suc, zero, ◌<◌, ◌≤◌, List, [], ◌∷◌, ◌++◌, length, Some, refl, sym, ◌∙◌, ap, subst, arith, length-append, at, Outcome, Reading, Load, Ends, rest_after, Stand, outcome_in, loads_in}
 
 -- each word that it loads there is such a word
 abbrev pub AllLoads : List ℕ → (ℕ → Type 0) → Reading → Type 0

@@ -1,29 +1,13 @@
 -- What a difference finds of a table and a list of items; and a table whose items were replaced by a
 -- list that rises is that list.
-use Rattle.std.proofs.Common.{◌≡◌, ℕ, zero, suc, ◌+◌, ◌<◌, ◌≤◌, true, false, cond, List, [], ◌∷◌, ◌++◌, length, take, drop, map, get_or, append-nil, None, Some, refl, sym, ◌∙◌, ap, subst, inl, inr, ⊎_elim, arith, append_assoc}
-use Rattle.std.specs.Prelude.{Bool, not, ◌&&◌, ◌||◌, ◌==◌, ◌⊎◌, slice_get, Contains, filter}
-use Rattle.std.specs.List.{list_all, list_any}
-use Rattle.std.proofs.lemmas.Bool.{and_parts, and_from, cases_lt, eq-eqb, eqb-true, or_parts, false_from_ne_true, true_from_ne_false}
-use Rattle.std.proofs.lemmas.Bool.Decides.{nat_tests}
-use Rattle.std.proofs.lemmas.List.{drop_all, drop_more, take-append-drop}
-use Rattle.std.proofs.lemmas.List.Elements.{All-contains, All-contains_itself, All-filter, All-from_recursion, All-weaker, filter_passes}
+use Rattle.latch_core.proofs.Words.{◌≡◌, ℕ, zero, suc, ◌+◌, ◌<◌, ◌≤◌, true, false, cond, List, [], ◌∷◌, ◌++◌, length, take, drop, get_or, None, Some, refl, sym, ◌∙◌, ap, subst, inl, inr, ⊎_elim, arith, append_assoc, Bool, not, ◌&&◌, ◌||◌, ◌==◌, ◌⊎◌, slice_get, Contains, filter, list_all, list_any, and_parts, and_from, cases_lt, eqb-true, or_parts, false_from_ne_true, true_from_ne_false, nat_tests, drop_all, drop_more, take-append-drop, All-contains, All-contains_itself, All-filter, All-from_recursion, All-weaker, filter_passes, slice_get-get_or, Item, Order, Precedes, IsLawful, IsTable, without_all, false_by_contrary, all_at, all_from, all_weaker, pushed_before, Update, Batch, after, refusal_for, is_same, not_among, replacement, is_rising, update_found, Tells, Difference}
+use Rattle.std.proofs.Common.{map, append-nil}
+use Rattle.std.proofs.lemmas.Bool.{eq-eqb}
 use Rattle.std.proofs.lemmas.List.Folds.{Any-from_list_any, list_any_at}
 use Rattle.std.proofs.lemmas.List.Sums.{AllPass-from_list_all, list_all-from_AllPass}
-use Rattle.std.proofs.lemmas.Option.{slice_get-get_or}
-use Rattle.order_laws.specs.declared.items.Item.{Item}
-use Rattle.order_laws.specs.Orders.{Order, Precedes, IsLawful}
-use Rattle.order_laws.specs.Tables.{IsTable, without_all}
 use Rattle.order_laws.proofs.SetLemmas.{same_items}
-use Rattle.facts.proofs.Bools.{false_by_contrary}
-use Rattle.facts.proofs.Each.{all_at, all_from, all_weaker}
-use Rattle.facts.proofs.Lists.{pushed_before}
 use Rattle.facts.proofs.Members.{Contains-cons_cases, Contains-head, Contains-none, Contains-rest, Contains-map, Contains-slice_get}
-use Rattle.table_updates.specs.declared.updates.Update.{Update}
-use Rattle.table_updates.specs.declared.updates.Update.TheVariants.{Batch}
-use Rattle.table_updates.specs.Updates.{after, refusal_for}
 use Rattle.table_updates.proofs.HistoryLemmas.{from_items, to_items}
-use Rattle.latch_core.specs.Replacements.{is_same, not_among, replacement, is_rising, update_found, Tells}
-use Rattle.latch_core.specs.declared.replacements.Difference.{Difference}
 use Rattle.latch_core.proofs.SoundLemmas.{accepted_table}
 
 -- ---- tests of lists, and their members

@@ -1,30 +1,9 @@
 -- What the writer's steps keep: the stable copy always holds the table that the sequence names, and
 -- a latch with no pending update the newest.
-use Rattle.std.proofs.Common.{◌≡◌, ◌≢◌, ℕ, ◌+◌, ◌-◌, ◌*◌, ◌%◌, ◌<◌, ◌≤◌, true, false, cond, List, [], ◌∷◌, ◌++◌, length, take, Some, None, refl, sym, ◌∙◌, ap, subst, inl, inr, ⊎_elim, arith, length-append, length-set, Option, get_or-set_other}
-use Rattle.std.specs.Prelude.{◌==◌, ◌⊎◌, not}
-use Rattle.std.proofs.lemmas.Bool.{eq-eqb, ne_eqb, eqb-true, cases_lt, eqb-false, ltb-false, not-false, or_parts}
-use Rattle.std.proofs.lemmas.List.{take-append-le, take_all, get_or-replicate}
-use Rattle.word_layout.specs.declared.stores.Store.{Store}
-use Rattle.table_updates.specs.declared.updates.Update.{Update}
-use Rattle.order_laws.specs.declared.items.Item.{Item}
-use Rattle.order_laws.specs.Orders.{Order, IsLawful}
-use Rattle.order_laws.specs.Tables.{IsTable, meets, with_item, without, without_all}
-use Rattle.table_updates.specs.Updates.{after, refusal_for, replay, some_overlap, some_meet}
-use Rattle.latch_core.specs.Histories.{table_at, current_table}
-use Rattle.word_layout.specs.Words.{words_per_node, at, root_word, none, HoldsTable, by_root, InUse}
-use Rattle.latch_core.specs.Sequences.{generation_of, stable_copy_of}
-use Rattle.latch_core.specs.Latches.{PendingUpdate, Latch, IsWriterStep, flips_after, latch_after_step, latch_with_update, opening_latch, IsHidden}
-use Rattle.word_layout.specs.Stores.{words_after}
-use Rattle.latch_core.specs.Invariants.{IsPendingUpdate, IsPendingOf, IsSound, IsStanding, AreTables}
-use Rattle.word_layout.proofs.HoldsLemmas.{holds_on, flip_same, flip_adds}
-use Rattle.table_updates.specs.declared.updates.Update.TheVariants.{Insert, Erase, Batch}
-use Rattle.latch_core.specs.Attempts.{attempt}
-use Rattle.order_laws.proofs.PlaceLemmas.{without_none, without_one}
-use Rattle.order_laws.proofs.TableLemmas.{with_item_table, without_table, length_with_item, length_without}
-use Rattle.order_laws.proofs.WithoutLemmas.{length_without_all, without_all_table}
-use Rattle.order_laws.proofs.MeetLemmas.{not_meeting}
+use Rattle.latch_core.proofs.Words.{◌≡◌, ◌≢◌, ℕ, ◌+◌, ◌%◌, ◌<◌, ◌≤◌, true, false, cond, List, [], ◌∷◌, ◌++◌, length, take, Some, None, refl, sym, ◌∙◌, ap, subst, inl, inr, ⊎_elim, arith, length-append, length-set, Option, get_or-set_other, ◌==◌, ◌⊎◌, not, ne_eqb, eqb-true, cases_lt, eqb-false, ltb-false, not-false, or_parts, take-append-le, take_all, get_or-replicate, Store, Update, Item, Order, IsLawful, IsTable, meets, with_item, without, without_all, after, refusal_for, replay, some_overlap, some_meet, table_at, current_table, words_per_node, at, root_word, none, HoldsTable, by_root, InUse, generation_of, stable_copy_of, PendingUpdate, Latch, IsWriterStep, flips_after, latch_after_step, latch_with_update, opening_latch, IsHidden, words_after, IsPendingUpdate, IsPendingOf, IsSound, IsStanding, AreTables, holds_on, flip_same, flip_adds, Insert, Erase, Batch, attempt, without_none, without_one, with_item_table, without_table, length_with_item, length_without, length_without_all, without_all_table, not_meeting, all_valid, all_apart, all_off, with_items_table, length_with_items}
+use Rattle.std.proofs.Common.{◌-◌, ◌*◌}
+use Rattle.std.proofs.lemmas.Bool.{eq-eqb}
 use Rattle.latch_core.proofs.TestLemmas.{NoneHolds, all_tests, none_holds}
-use Rattle.table_updates.proofs.BatchLemmas.{all_valid, all_apart, all_off, with_items_table, length_with_items}
 use Rattle.latch_core.proofs.ReadingLemmas.{AllLoads, stand_on}
 use Rattle.latch_core.proofs.WalkLemmas.{walk_uses}
 

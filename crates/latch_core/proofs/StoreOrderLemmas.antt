@@ -1,27 +1,9 @@
 -- Stores that lead each copy from the old table to the new make an update, through which the stable
 -- copy stays a red-black tree.
-use Rattle.std.proofs.Common.{◌≡◌, ◌≢◌, ℕ, suc, ◌+◌, ◌-◌, ◌%◌, ◌<◌, ◌≤◌, false, cond, List, [], ◌∷◌, ◌++◌, length, Some, None, refl, sym, ◌∙◌, ap, subst, inl, inr, arith, length-append, length-set, get_or-set_other, ◌*◌}
-use Rattle.std.specs.Prelude.{◌⊎◌, ◌==◌}
-use Rattle.std.specs.List.{AllByRecursion}
-use Rattle.std.proofs.lemmas.Bool.{ne_eqb}
-use Rattle.order_laws.specs.declared.items.Item.{Item}
-use Rattle.facts.proofs.Each.{all_weaker, all_append}
-use Rattle.word_layout.proofs.LinkLemmas.{links_elsewhere, links_not_zero, zero_kept, not_in_use}
-use Rattle.word_layout.specs.declared.stores.Store.{Store}
-use Rattle.word_layout.specs.Words.{at, words_for, root_word, left_word, right_word, Nodes, Holds, Reaches, by_root, by_left, by_right, InUse, IsUnreached, words_per_node, none}
-use Rattle.word_layout.specs.Stores.{IsItemWord, words_after, words_after_all, AreLinkStores}
-use Rattle.word_layout.proofs.WordLemmas.{IsCopyWord, in_copy, one_item, link_no_item, link_no_other, link_place, item_place, item_not_zero, item_not_root, item_not_left, item_not_right, copy_not_zero, unused_item}
-use Rattle.word_layout.proofs.StoreLemmas.{Agree, length_after, after_append, untouched, agree_after}
-use Rattle.word_layout.proofs.HoldsLemmas.{holds_untouched, tree_agree, flip_adds, tree_untouched}
-use Rattle.rb_trees.specs.Trees.{IsBalanced}
-use Rattle.latch_core.specs.Sequences.{stable_copy_of}
-use Rattle.latch_core.specs.Latches.{PendingUpdate, BothHold, IsHidden, IsFirstFlip, IsSecondFlip, flips_after, opening_latch}
-use Rattle.latch_core.specs.Plans.{IsPlan, flip_to, update_stores}
+use Rattle.latch_core.proofs.Words.{◌≡◌, ◌≢◌, ℕ, suc, ◌+◌, ◌%◌, ◌<◌, ◌≤◌, false, cond, List, [], ◌∷◌, ◌++◌, length, Some, None, refl, sym, ◌∙◌, ap, subst, inl, inr, arith, length-append, length-set, get_or-set_other, ◌⊎◌, ◌==◌, AllByRecursion, ne_eqb, Item, all_weaker, all_append, links_elsewhere, links_not_zero, zero_kept, not_in_use, Store, at, words_for, root_word, left_word, right_word, Nodes, Holds, Reaches, by_root, by_left, by_right, InUse, IsUnreached, words_per_node, none, IsItemWord, words_after, words_after_all, AreLinkStores, IsCopyWord, in_copy, one_item, link_no_item, link_no_other, link_place, item_place, item_not_zero, item_not_root, item_not_left, item_not_right, copy_not_zero, unused_item, Agree, length_after, after_append, untouched, agree_after, holds_untouched, tree_agree, flip_adds, tree_untouched, IsBalanced, stable_copy_of, PendingUpdate, BothHold, IsHidden, IsFirstFlip, IsSecondFlip, flips_after, opening_latch, IsPlan, flip_to, update_stores, get_or-replicate, balanced_none, IsShallow, StaysShallow}
+use Rattle.std.proofs.Common.{◌-◌, ◌*◌}
 use Rattle.latch_core.proofs.SoundLemmas.{flips_of_store}
-use Rattle.std.proofs.lemmas.List.{get_or-replicate}
 use Rattle.word_layout.proofs.HeldLemmas.{leads_once}
-use Rattle.rb_trees.proofs.DepthLemmas.{balanced_none}
-use Rattle.latch_core.specs.Writers.{IsShallow, StaysShallow}
 
 -- each step's kind, the last step's duty apart, and how many flips there are in the end
 abbrev Kinds : ℕ → List Item → List Item → List ℕ → ℕ → List ℕ → List Store → ℕ → Type 0

@@ -1,15 +1,6 @@
 -- The first test of a list that holds.
-use Rattle.std.proofs.Common.{◌≡◌, ◌≢◌, ℕ, ◌+◌, ◌≤◌, true, false, cond, List, [], ◌∷◌, ◌++◌, length, Some, None, refl}
-use Rattle.std.specs.Prelude.{Bool, nat_lt}
-use Rattle.std.specs.List.{AllByRecursion}
+use Rattle.latch_core.proofs.Words.{◌≡◌, ◌≢◌, ℕ, ◌+◌, ◌≤◌, true, false, cond, List, [], ◌∷◌, ◌++◌, length, Some, None, refl, Bool, nat_lt, AllByRecursion, UpdateInHand, SequenceSpent, OutOfMemory, Order, Item, Update, Insert, Erase, Batch, Test, first_that_holds, tests_of, refusal_for, eqb-false_wider, ltb-false_wider}
 use Rattle.order_laws.specs.declared.refusals.Refusal.{Refusal}
-use Rattle.order_laws.specs.declared.refusals.Refusal.TheVariants.{UpdateInHand, SequenceSpent, OutOfMemory}
-use Rattle.order_laws.specs.Orders.{Order}
-use Rattle.order_laws.specs.declared.items.Item.{Item}
-use Rattle.table_updates.specs.declared.updates.Update.{Update}
-use Rattle.table_updates.specs.declared.updates.Update.TheVariants.{Insert, Erase, Batch}
-use Rattle.table_updates.specs.Updates.{Test, first_that_holds, tests_of, refusal_for}
-use Rattle.facts.proofs.Numbers.{eqb-false_wider, ltb-false_wider}
 
 -- a list of which no test holds, and one whose first test holds
 pub none_holds : (tests : List Test) → first_that_holds tests ≡ None → AllByRecursion (λ (t : Test). t.0 ≡ false) tests

@@ -1,22 +1,11 @@
 -- Attempts in one memory: they look the key up in the table that the stable copy holds, and an answer
 -- is given only where word 0 gives the first number again.
-use Rattle.std.proofs.Common.{◌≡◌, ℕ, suc, zero, ◌+◌, ◌*◌, ◌^◌, ◌<◌, ◌≤◌, true, false, cond, List, length, Option, Some, None, refl, sym, ◌∙◌, ap, subst, inl, inr, arith, [], ◌∷◌, ◌++◌}
-use Rattle.std.specs.Prelude.{◌⊎◌, ◌==◌, nat_lt}
-use Rattle.std.specs.declared.cmp.Ordering.TheVariants.{Less, Equal, Greater}
-use Rattle.std.proofs.lemmas.Bool.{lt-ltb, ltb-true, eq-eqb, eqb-true}
-use Rattle.order_laws.specs.declared.items.Item.{Item}
-use Rattle.order_laws.specs.Orders.{Order, IsLawful}
-use Rattle.order_laws.specs.Tables.{IsTable, look}
-use Rattle.word_layout.specs.Words.{at, root_word, left_word, right_word, item_at, Nodes, none, fork, items, Leads, Holds, Reaches, by_left, by_right, InUse, listed}
-use Rattle.latch_core.specs.Sequences.{generation_of, stable_copy_of}
-use Rattle.latch_core.specs.Attempts.{Outcome, Answer, Reading, Load, Ends, WalkEnd, AtItem, AtEmptyLink, Stuck, outcome, last_load, after_item, visit, walk, attempt, rest_after, Stand, IsAttempt, Again}
-use Rattle.word_layout.proofs.HoldsLemmas.{size, size_items, size_listed}
-use Rattle.rb_trees.specs.Trees.{IsBalanced, depth}
-use Rattle.rb_trees.proofs.DepthLemmas.{balanced_depth}
-use Rattle.order_laws.proofs.TableLemmas.{parted, look_less, look_greater, look_equal}
-use Rattle.latch_core.specs.Whole.{outcome_in, loads_in}
+use Rattle.latch_core.proofs.Words.{◌≡◌, ℕ, suc, zero, ◌+◌, ◌^◌, ◌<◌, ◌≤◌, true, false, cond, List, length, Option, Some, None, refl, sym, ◌∙◌, ap, subst, inl, inr, arith, [], ◌∷◌, ◌++◌, ◌⊎◌, ◌==◌, nat_lt, Less, Equal, Greater, lt-ltb, ltb-true, eqb-true, Item, Order, IsLawful, IsTable, look, at, root_word, left_word, right_word, item_at, Nodes, none, fork, items, Holds, Reaches, by_left, by_right, InUse, listed, generation_of, stable_copy_of, Outcome, Answer, Reading, Load, Ends, WalkEnd, AtItem, AtEmptyLink, outcome, last_load, after_item, visit, walk, attempt, rest_after, Stand, IsAttempt, Again, size, size_items, size_listed, IsBalanced, depth, balanced_depth, parted, look_less, look_greater, look_equal, outcome_in, loads_in, IsStanding}
+use Rattle.std.proofs.Common.{◌*◌}
+use Rattle.std.proofs.lemmas.Bool.{eq-eqb}
+use Rattle.word_layout.specs.Words.{Leads}
+use Rattle.latch_core.specs.Attempts.{Stuck}
 use Rattle.latch_core.proofs.ReadingLemmas.{AllLoads, Within, ends_as, loads_so_far, loads_below, within_length, stand_push}
-use Rattle.latch_core.specs.Invariants.{IsStanding}
 
 -- how a walk ended, by what was looked up
 abbrev pub found_of : Option Item → WalkEnd

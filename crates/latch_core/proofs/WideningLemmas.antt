@@ -1,25 +1,8 @@
 -- A latch that has more nodes is pictured and sound as it was.
-use Rattle.std.proofs.Common.{◌≡◌, ℕ, ◌≤◌, List, [], ◌∷◌, None, sym, ◌∙◌, ap, subst, arith, length-append}
-use Rattle.std.specs.Prelude.{◌-◌, ◌*◌, ◌||◌, nat_lt, replicate}
-use Rattle.std.proofs.lemmas.Bool.{ltb-false, or_parts}
-use Rattle.order_laws.specs.Orders.{Order}
-use Rattle.order_laws.specs.declared.refusals.Refusal.TheVariants.{BadCapacity, UpdateInHand}
-use Rattle.facts.proofs.Lists.{nil-from_length}
-use Rattle.word_layout.specs.declared.layouts.Layout.{Layout}
-use Rattle.word_layout.specs.Layouts.{capacity_of, limit_of}
-use Rattle.word_layout.specs.Words.{words_per_node, at, Holds, HoldsTable}
+use Rattle.latch_core.proofs.Words.{◌≡◌, ℕ, ◌≤◌, List, [], ◌∷◌, None, sym, ◌∙◌, ap, subst, arith, length-append, ◌||◌, nat_lt, replicate, ltb-false, or_parts, Order, BadCapacity, UpdateInHand, nil-from_length, Layout, capacity_of, limit_of, words_per_node, at, Holds, HoldsTable, Update, generation_of, stable_copy_of, replay, table_at, Latch, IsPendingOf, IsSound, IsLatched, WriterView, IsShallow, StaysShallow, RepresentsLatch, has_pending, why_not_widened, widened_writer, widened_latch, RepresentsWidened}
+use Rattle.std.specs.Prelude.{◌-◌, ◌*◌}
 use Rattle.word_layout.specs.Wider.{wider_words}
 use Rattle.word_layout.proofs.WiderLemmas.{at_wider, length_wider, holds_wider, table_wider}
-use Rattle.table_updates.specs.declared.updates.Update.{Update}
-use Rattle.latch_core.specs.Sequences.{generation_of, stable_copy_of}
-use Rattle.table_updates.specs.Updates.{replay}
-use Rattle.latch_core.specs.Histories.{table_at}
-use Rattle.latch_core.specs.Latches.{Latch}
-use Rattle.latch_core.specs.Invariants.{IsPendingOf, IsSound}
-use Rattle.latch_core.specs.Latched.{IsLatched}
-use Rattle.latch_core.specs.WriterViews.{WriterView}
-use Rattle.latch_core.specs.Writers.{IsShallow, StaysShallow, RepresentsLatch, has_pending}
-use Rattle.latch_core.specs.Widening.{why_not_widened, widened_writer, widened_latch, RepresentsWidened}
 use Rattle.latch_core.proofs.TestLemmas.{none_holds}
 use Rattle.latch_core.proofs.WriterLemmas.{rest_now}
 

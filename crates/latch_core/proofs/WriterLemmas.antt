@@ -1,28 +1,10 @@
 -- One step of a plan, and what the writer's core pictures, from one call to the next.
-use Rattle.std.proofs.Common.{◌≡◌, ℕ, suc, ◌+◌, ◌*◌, ◌%◌, ◌<◌, true, false, cond, List, [], ◌∷◌, length, drop, Some, None, refl, sym, ◌∙◌, ap, subst, ⊎_elim, arith, get_or-set_other, get_or-set_same, ◌-◌}
-use Rattle.std.specs.Prelude.{◌==◌, MatchOption, is_some, nat_lt, slice_get, Contains, slice_set}
-use Rattle.std.proofs.lemmas.Bool.Decides.{nat_tests}
-use Rattle.std.proofs.lemmas.Bool.{lt-ltb, cases_eq, eq-eqb, ne_eqb}
-use Rattle.order_laws.specs.Orders.{Order}
-use Rattle.facts.proofs.Lists.{first_and_rest, nil-from_length}
-use Rattle.std.proofs.lemmas.List.{get_or-replicate, length-replicate}
-use Rattle.word_layout.specs.declared.layouts.Layout.{Layout}
-use Rattle.word_layout.specs.Layouts.{capacity_of}
-use Rattle.word_layout.specs.declared.stores.Store.{Store}
-use Rattle.word_layout.specs.Words.{words_per_node, at, words_for, Nodes, Holds, IsUnreached, listed}
-use Rattle.word_layout.specs.Stores.{words_after, words_after_all}
-use Rattle.word_layout.proofs.StoreLemmas.{length_after}
+use Rattle.latch_core.proofs.Words.{◌≡◌, ℕ, suc, ◌+◌, ◌%◌, ◌<◌, true, false, cond, List, [], ◌∷◌, length, drop, Some, None, refl, sym, ◌∙◌, ap, subst, ⊎_elim, arith, get_or-set_other, get_or-set_same, ◌==◌, MatchOption, is_some, nat_lt, slice_get, Contains, slice_set, nat_tests, lt-ltb, cases_eq, ne_eqb, Order, first_and_rest, nil-from_length, get_or-replicate, length-replicate, Layout, capacity_of, Store, words_per_node, at, words_for, Nodes, Holds, IsUnreached, listed, words_after, words_after_all, length_after, Update, stable_copy_of, refusal_for, after, PendingUpdate, Latch, IsWriterStep, latch_after_step, latch_with_update, opening_latch, IsPlan, update_stores, WriterView, IsMemoryAtRest, StaysShallow, RepresentsLatch, next_store, why_refused, sequence_after, writer_after_step, opening_writer, has_pending, balanced_none}
+use Rattle.std.proofs.Common.{◌*◌, ◌-◌}
+use Rattle.std.proofs.lemmas.Bool.{eq-eqb}
 use Rattle.word_layout.proofs.ReachLemmas.{reached_listed}
-use Rattle.table_updates.specs.declared.updates.Update.{Update}
-use Rattle.latch_core.specs.Sequences.{stable_copy_of}
-use Rattle.table_updates.specs.Updates.{refusal_for, after}
-use Rattle.latch_core.specs.Latches.{PendingUpdate, Latch, IsWriterStep, latch_after_step, latch_with_update, opening_latch}
-use Rattle.latch_core.specs.Plans.{IsPlan, update_stores}
-use Rattle.latch_core.specs.WriterViews.{WriterView}
-use Rattle.latch_core.specs.Writers.{IsMemoryAtRest, StaysShallow, RepresentsLatch, next_store, why_refused, sequence_after, writer_after_step, opening_writer, has_pending}
 use Rattle.latch_core.proofs.StoreOrderLemmas.{Leading, update_plan, update_zero, update_one, update_sequence, update_shallow, opening_shallow}
 use Rattle.latch_core.proofs.TestLemmas.{all_tests, none_holds}
-use Rattle.rb_trees.proofs.DepthLemmas.{balanced_none}
 
 -- a plan's first store is a step that the writer may make, after which the rest is the plan
 pub plan_step : (n : ℕ) (l : Latch) (h : PendingUpdate) (s : Store) (xs : List Store) → IsPlan n l xs → l.pending ≡ Some h → slice_get xs 0 ≡ Some s → IsPlan n (latch_after_step l h s) (drop 1 xs)

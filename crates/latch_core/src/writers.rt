@@ -149,7 +149,7 @@ impl<O: TreeOrder> WriterCore<O> {
     /// [`Refusal::Full`], by [`Refusal::SequenceSpent`] and last by [`Refusal::OutOfMemory`]; a
     /// refusal changes nothing.
     #[tactic(auto, using(crate::proofs::WriterLemmas::refuses_pictured))]
-    pub fn begin_from(&mut self, u: &Update) -> Result<u64, Refusal>
+    pub fn begin(&mut self, u: &Update) -> Result<u64, Refusal>
         ensures accepted { IfOk result (λ left. why_refused O.order self.old u.now ≡ None) }
         ensures begun { IfOk result (λ left. (left ≡ length self.new.stores_left)
             × HasBegun O.order self.old u.now self.new) }

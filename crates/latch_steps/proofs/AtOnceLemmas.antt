@@ -1,45 +1,13 @@
 -- Writes up to the end of an update, and a lookup from its start to its return, with no step of the
 -- writer between.
-use Rattle.std.proofs.Common.{◌≡◌, ℕ, List, [], ◌∷◌, ◌++◌, refl, sym, ◌∙◌, ap, subst, ⊎_elim, append_assoc, append-nil, ◌≢◌, zero, suc, ◌+◌, ◌-◌, ◌*◌, ◌≤◌, length, Option, Some, None, arith}
-use Rattle.std.specs.List.{AllByRecursion}
-use Rattle.order_laws.specs.Orders.{Order, IsLawful}
-use Rattle.word_layout.specs.Layouts.{capacity_of, limit_of}
-use Rattle.word_layout.specs.declared.stores.Store.{Store}
-use Rattle.table_updates.specs.declared.updates.Update.{Update}
-use Rattle.latch_core.specs.Invariants.{IsSound}
-use Rattle.latch_core.proofs.SoundLemmas.{rest_is_current}
-use Rattle.latch_steps.specs.declared.events.Event.{Event}
-use Rattle.latch_steps.specs.declared.events.Event.TheVariants.{Begin, Write, Start, Read}
-use Rattle.latch_steps.specs.declared.replies.Reply.{Reply}
-use Rattle.latch_steps.specs.declared.replies.Reply.TheVariants.{Wrote, Refused, Started, Loaded, Returned as ReturnedReply}
-use Rattle.order_laws.specs.declared.refusals.Refusal.TheVariants.{OutOfMemory}
+use Rattle.latch_steps.proofs.Words.{◌≡◌, ℕ, List, [], ◌∷◌, ◌++◌, refl, sym, ◌∙◌, ap, subst, ⊎_elim, append_assoc, append-nil, ◌≢◌, zero, suc, ◌+◌, ◌-◌, ◌*◌, ◌≤◌, length, Option, Some, None, arith, AllByRecursion, Order, IsLawful, capacity_of, limit_of, Store, Update, IsSound, rest_is_current, Event, Begin, Write, Start, Read, Reply, Wrote, Refused, Started, Loaded, OutOfMemory, World, Moment, Done, step_done, last_of, accepted, history, PendingLookup, machine, machine_of, Run, counted_up, with_lookups, new_lookup, with_value, after_value, load_left, start_done, load_done, read_done, StaysAfter, RepresentsMoment, IsAtRest, layout_in, IsAfter, machine_in, Does, GivesUp, IsWorldStep, min, get, insert, remove, cases_eq, Item, look, get-insert_other, get-insert_same, get-remove_other, get-remove_same, at, words_for, generation_of, current_table, Answer, Reading, Load, Ends, attempt, rest_after, RepresentsLatch, IsShallow, rest_push, attempt_ran, attempt_count, attempt_depth_count, few_deep_any, shallow_tree, stays_now, depth, IsPendingLookup, lookup_at}
+use Rattle.latch_steps.specs.declared.replies.Reply.TheVariants.{Returned as ReturnedReply}
 use Rattle.facts.proofs.Each.{all_push}
-use Rattle.latch_steps.specs.declared.worlds.World.{World}
-use Rattle.latch_steps.specs.Runs.{Moment, Done, step_done, last_of, accepted, history, PendingLookup}
-use Rattle.latch_steps.specs.Steps.{machine, machine_of, Run, counted_up, with_lookups, new_lookup, with_value, after_value, load_left, start_done, load_done, read_done}
-use Rattle.latch_steps.specs.Worlds.{StaysAfter, RepresentsMoment, IsAtRest, layout_in, IsAfter, machine_in}
-use Rattle.latch_steps.specs.WorldSteps.{Does, GivesUp, IsWorldStep}
 use Rattle.latch_steps.specs.AtOnce.{IsSettled, Settles, IsFoundNow, IsNear, FindsNow, LooksUp, HasNoAnswer, table_in}
 use Rattle.latch_steps.proofs.RunLemmas.{step_sound, run_append, last_append}
-use Rattle.std.specs.Prelude.{min}
-use Rattle.std.specs.FinMap.{get, insert, remove}
-use Rattle.std.proofs.lemmas.Bool.{cases_eq}
-use Rattle.order_laws.specs.declared.items.Item.{Item}
-use Rattle.order_laws.specs.Tables.{look}
-use Rattle.facts.proofs.Maps.{get-insert_other, get-insert_same, get-remove_other, get-remove_same}
-use Rattle.word_layout.specs.Words.{at, words_for}
 use Rattle.word_layout.proofs.StoreLemmas.{length_after}
-use Rattle.latch_core.specs.Sequences.{generation_of}
-use Rattle.latch_core.specs.Histories.{current_table}
-use Rattle.latch_core.specs.Attempts.{Answer, Reading, Load, Ends, attempt, rest_after}
 use Rattle.latch_core.specs.Whole.{outcome_in, loads_in}
-use Rattle.latch_core.specs.Writers.{RepresentsLatch, IsShallow}
-use Rattle.latch_core.proofs.ReadingLemmas.{rest_push}
-use Rattle.latch_core.proofs.WalkLemmas.{attempt_ran, attempt_count, attempt_depth_count, few_deep_any}
-use Rattle.latch_core.proofs.StoreOrderLemmas.{shallow_tree, stays_now}
-use Rattle.rb_trees.specs.Trees.{depth}
 use Rattle.latch_steps.specs.declared.replies.Returned.{Returned}
-use Rattle.latch_steps.specs.Lookups.{IsPendingLookup, lookup_at}
 use Rattle.latch_steps.proofs.WorldLemmas.{shown_none}
 
 -- a run keeps the latch sound

@@ -1,20 +1,7 @@
 -- What the events of a lookup do to an idle moment.
-use Rattle.std.proofs.Common.{◌≡◌, ◌≢◌, ℕ, List, [], ◌∷◌, ◌++◌, Option, Some, None, refl, sym, ◌∙◌, ap, subst, ⊎_elim}
-use Rattle.std.specs.List.{AllByRecursion}
-use Rattle.std.specs.FinMap.{get}
-use Rattle.std.proofs.lemmas.Bool.{cases_eq}
-use Rattle.order_laws.specs.Orders.{Order}
-use Rattle.facts.proofs.Maps.{get-insert_other, get-remove_other, get-remove_same}
-use Rattle.latch_core.specs.Latches.{PendingUpdate}
-use Rattle.latch_steps.specs.declared.events.Event.TheVariants.{Write, Start, Read}
-use Rattle.latch_steps.specs.declared.replies.Reply.{Reply}
-use Rattle.latch_steps.specs.declared.replies.Reply.TheVariants.{Started, Returned as ReturnedReply}
+use Rattle.latch_steps.proofs.Words.{◌≡◌, ◌≢◌, ℕ, List, [], ◌∷◌, ◌++◌, Option, Some, None, refl, sym, ◌∙◌, ap, subst, ⊎_elim, AllByRecursion, get, cases_eq, Order, get-insert_other, get-remove_other, get-remove_same, PendingUpdate, Write, Start, Read, Reply, Started, Lookup, World, PendingLookup, Moment, Done, step_done, last_of, machine, AfterLoad, Goes, Retries, Returns, Run, Step, IsWrite, after_load, load_done, read_done, start_done, new_lookup, counted_up, RepresentsMoment}
+use Rattle.latch_steps.specs.declared.replies.Reply.TheVariants.{Returned as ReturnedReply}
 use Rattle.latch_steps.specs.declared.replies.Returned.{Returned}
-use Rattle.latch_steps.specs.declared.lookups.Lookup.{Lookup}
-use Rattle.latch_steps.specs.declared.worlds.World.{World}
-use Rattle.latch_steps.specs.Runs.{PendingLookup, Moment, Done, step_done, last_of}
-use Rattle.latch_steps.specs.Steps.{machine, AfterLoad, Goes, Retries, Returns, Run, Step, IsWrite, after_load, load_done, read_done, start_done, new_lookup, counted_up}
-use Rattle.latch_steps.specs.Worlds.{RepresentsMoment}
 use Rattle.latch_steps.specs.Lookups.{IsPendingLookup as IsHeld}
 
 -- no lookup is pending

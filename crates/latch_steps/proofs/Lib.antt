@@ -1,3 +1,5 @@
+-- the words of all proofs of this crate
+mod Words
 mod SafeRunLemmas
 mod QuietRunLemmas
 mod LoadLemmas

@@ -1,31 +1,13 @@
 -- One load of a lookup: by cases, whatever holds of a lookup whose attempt goes on, of one that has
 -- to try again and of one that returns the look of its key, holds of what the load leads to; and
 -- what the code makes of it.
-use Rattle.std.proofs.Common.{◌≡◌, ℕ, ◌-◌, ◌≤◌, true, false, cond, List, [], ◌∷◌, ◌++◌, length, Some, None, refl, sym, ◌∙◌, ap, subst, Option}
-use Rattle.std.specs.Ordering.{nat_cmp, eq_by_cmp}
+use Rattle.latch_steps.proofs.Words.{◌≡◌, ℕ, ◌-◌, ◌≤◌, true, false, cond, List, [], ◌∷◌, ◌++◌, length, Some, None, refl, sym, ◌∙◌, ap, subst, Option, nat_cmp, eq_by_cmp, FinMap, get, insert, remove, get-insert, get-remove, Item, Order, IsLawful, IsTable, look, at, Nodes, Holds, Update, generation_of, stable_copy_of, current_table, Answer, Again, Reading, Load, Ends, attempt, rest_after, Stand, IsStanding, IsSound, rest_push, stand_push, attempt_answers, standing_push, answer_first, PendingLookup, Moment, AfterLoad, Goes, Retries, Returns, with_value, next_attempt, return_of, after_value, load_left, after_load, counted_up, Lookup, IsLookupOf, LoadsTo, LoadsNextFrom, word_asked, NextLoad}
 use Rattle.std.specs.Cmp.{nat_cmp_total}
-use Rattle.std.specs.FinMap.{FinMap, get, insert, remove, get-insert, get-remove}
-use Rattle.order_laws.specs.declared.items.Item.{Item}
-use Rattle.order_laws.specs.Orders.{Order, IsLawful}
-use Rattle.order_laws.specs.Tables.{IsTable, look}
-use Rattle.word_layout.specs.Words.{at, Nodes, Holds}
-use Rattle.table_updates.specs.declared.updates.Update.{Update}
-use Rattle.latch_core.specs.Sequences.{generation_of, stable_copy_of}
-use Rattle.latch_core.specs.Histories.{current_table}
-use Rattle.latch_core.specs.Attempts.{Answer, Again, Reading, Load, Ends, attempt, rest_after, Stand}
-use Rattle.latch_core.specs.Invariants.{IsStanding, IsSound}
-use Rattle.latch_core.proofs.ReadingLemmas.{rest_push, stand_push}
-use Rattle.latch_core.proofs.WalkLemmas.{attempt_answers, standing_push, answer_first}
-use Rattle.latch_steps.specs.Runs.{PendingLookup, Moment}
-use Rattle.latch_steps.specs.Steps.{AfterLoad, Goes, Retries, Returns, with_value, next_attempt, return_of, after_value, load_left, after_load, counted_up}
 use Rattle.latch_core.specs.declared.readers.ReaderCore.{ReaderCore}
 use Rattle.latch_core.specs.declared.readers.Taken.TheVariants.{Going, Retrying, Returned}
 use Rattle.latch_core.specs.Cores.{capacity_of_core, key_of_core, rest_of_core, HasTaken, HandsBack, IsWanted}
 use Rattle.latch_core.proofs.LoadingLemmas.{core_loads}
-use Rattle.latch_steps.specs.declared.lookups.Lookup.{Lookup}
 use Rattle.latch_steps.specs.declared.lookups.LoadOutcome.TheVariants.{Going as GoingLoad, Retrying as RetryingLoad, Returned as ReturnedLoad}
-use Rattle.latch_steps.specs.Lookups.{IsLookupOf, LoadsTo, LoadsNextFrom, word_asked}
-use Rattle.latch_steps.specs.declared.replies.NextLoad.{NextLoad}
 
 -- what holds of each pending lookup holds of each after a change at one reader
 module _ {K : Type 0} (Holds_of : PendingLookup K → Type 0) (ls : FinMap nat_cmp (PendingLookup K)) (r : ℕ) where

@@ -1,30 +1,6 @@
 -- Runs in which updates and lookups come one after another.
-use Rattle.std.proofs.Common.{◌≡◌, ◌≢◌, ℕ, ◌+◌, ◌-◌, ◌*◌, ◌%◌, ◌<◌, ◌≤◌, Bool, true, false, cond, List, [], ◌∷◌, ◌++◌, length, Option, Some, None, refl, sym, ◌∙◌, ap, subst, ⊎_elim, arith, length-append}
-use Rattle.std.specs.Prelude.{is_some}
-use Rattle.std.specs.Ordering.{nat_cmp}
-use Rattle.std.specs.FinMap.{get, insert, remove, get-empty}
-use Rattle.std.proofs.lemmas.Bool.{cases_eq}
-use Rattle.order_laws.specs.Orders.{Order, IsLawful}
-use Rattle.order_laws.specs.Tables.{look}
-use Rattle.order_laws.specs.declared.refusals.Refusal.{Refusal}
-use Rattle.word_layout.specs.Words.{at}
-use Rattle.table_updates.specs.declared.updates.Update.{Update}
-use Rattle.latch_core.specs.Sequences.{generation_of, stable_copy_of}
-use Rattle.table_updates.specs.Updates.{replay}
-use Rattle.latch_core.specs.Histories.{current_table}
-use Rattle.latch_core.specs.Invariants.{IsSound, IsPendingOf}
-use Rattle.latch_core.specs.Latches.{PendingUpdate, Latch}
-use Rattle.latch_core.specs.Attempts.{attempt, Stand}
-use Rattle.latch_core.proofs.SoundLemmas.{sound_opening, current_at_rest}
-use Rattle.latch_core.proofs.WalkLemmas.{attempt_loads}
-use Rattle.latch_steps.specs.declared.commands.Command.{Command}
+use Rattle.latch_steps.proofs.Words.{◌≡◌, ◌≢◌, ℕ, ◌+◌, ◌-◌, ◌*◌, ◌%◌, ◌<◌, ◌≤◌, Bool, true, false, cond, List, [], ◌∷◌, ◌++◌, length, Option, Some, None, refl, sym, ◌∙◌, ap, subst, ⊎_elim, arith, length-append, is_some, nat_cmp, get, insert, remove, get-empty, cases_eq, Order, IsLawful, look, Refusal, at, Update, generation_of, stable_copy_of, replay, current_table, IsSound, IsPendingOf, PendingUpdate, Latch, attempt, Stand, sound_opening, current_at_rest, attempt_loads, Command, Event, Begin, Write, Start, Read, Reply, PendingLookup, Moment, Done, accepted, last_of, opening, machine, with_lookups, IsBegin, IsWrite, return_of, start_done, load_done, read_done, Step, Run, ends, event_of, most_of, Repeats}
 use Rattle.latch_steps.specs.declared.commands.Command.TheVariants.{Begin as BeginCommand, Write as WriteCommand, WriteFlip, WriteEnd, Start as StartCommand, Read as ReadCommand}
-use Rattle.latch_steps.specs.declared.events.Event.{Event}
-use Rattle.latch_steps.specs.declared.events.Event.TheVariants.{Begin, Write, Start, Read}
-use Rattle.latch_steps.specs.declared.replies.Reply.{Reply}
-use Rattle.latch_steps.specs.Runs.{PendingLookup, Moment, Done, accepted, last_of, opening}
-use Rattle.latch_steps.specs.Steps.{machine, with_lookups, IsBegin, IsWrite, return_of, start_done, load_done, read_done, Step, Run}
-use Rattle.latch_steps.specs.Expands.{ends, event_of, most_of, Repeats}
 use Rattle.latch_steps.specs.Plain.{IsPlainEvent, IsPlain, ArePlain, IsLookAfter, IsLookReply, AreLooksAfter}
 use Rattle.latch_steps.proofs.LoadLemmas.{IsGoing, each_insert, each_remove, none_loaded, by_load}
 use Rattle.latch_steps.proofs.IdleLemmas.{read_reads}

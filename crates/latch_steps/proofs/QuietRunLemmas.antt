@@ -1,43 +1,11 @@
 -- A lookup that the writer leaves alone returns at its first attempt, and each other attempt needs
 -- a flip.
-use Rattle.std.proofs.Common.{◌≡◌, ◌≢◌, ℕ, ◌+◌, ◌-◌, ◌*◌, ◌^◌, ◌<◌, ◌≤◌, true, false, cond, List, [], ◌∷◌, ◌++◌, length, take, Option, Some, None, refl, sym, ◌∙◌, ap, subst, arith, length-append, append_assoc, ⊎_elim}
-use Rattle.std.specs.Prelude.{◌==◌}
-use Rattle.std.specs.FinMap.{get, FinMap, get-empty}
-use Rattle.std.proofs.lemmas.Bool.{eqb-true, eqb-false}
-use Rattle.order_laws.specs.declared.items.Item.{Item}
-use Rattle.table_updates.specs.declared.updates.Update.{Update}
-use Rattle.order_laws.specs.declared.refusals.Refusal.{Refusal}
-use Rattle.order_laws.specs.declared.refusals.Refusal.TheVariants.{ReaderBusy}
-use Rattle.latch_steps.specs.declared.events.Event.{Event}
-use Rattle.latch_steps.specs.declared.events.Event.TheVariants.{Begin, Write, Start, Read}
-use Rattle.latch_steps.specs.declared.replies.Reply.{Reply}
-use Rattle.latch_steps.specs.declared.replies.Reply.TheVariants.{Started, Loaded, Returned as ReturnedReply, Refused}
-use Rattle.order_laws.specs.Orders.{Order, IsLawful}
-use Rattle.order_laws.specs.Tables.{IsTable}
-use Rattle.facts.proofs.Maps.{get-insert_same}
-use Rattle.table_updates.specs.Updates.{replay}
-use Rattle.latch_core.specs.Histories.{current_table}
-use Rattle.word_layout.specs.Words.{at, Nodes, Holds}
-use Rattle.latch_core.specs.Sequences.{generation_of, stable_copy_of}
-use Rattle.latch_core.specs.Attempts.{Reading, Load, attempt, rest_after, Stand}
-use Rattle.latch_core.specs.Latches.{PendingUpdate, Latch}
-use Rattle.latch_steps.specs.Runs.{PendingLookup, Moment, Done, step_done, accepted, history, opening}
-use Rattle.latch_steps.specs.Steps.{machine, counted_up, with_event, new_lookup, with_value, IsBegin, IsWrite, after_load, start_done, load_done, read_done, Step, Run}
-use Rattle.latch_steps.specs.Quiet.{is_step, is_load_of, up_to_next_step, replies_to, ReturnsWithin, ReturnsFromStart, AreUndisturbed, flips_between, IsPatientReply, IsQuiet}
-use Rattle.std.proofs.lemmas.List.{take-append-le}
+use Rattle.latch_steps.proofs.Words.{◌≡◌, ◌≢◌, ℕ, ◌+◌, ◌-◌, ◌*◌, ◌^◌, ◌<◌, ◌≤◌, true, false, cond, List, [], ◌∷◌, ◌++◌, length, take, Option, Some, None, refl, sym, ◌∙◌, ap, subst, arith, length-append, append_assoc, ⊎_elim, ◌==◌, get, FinMap, get-empty, eqb-true, eqb-false, Item, Update, Refusal, ReaderBusy, Event, Begin, Write, Start, Read, Reply, Started, Loaded, Refused, Order, IsLawful, IsTable, get-insert_same, replay, current_table, at, Nodes, Holds, generation_of, stable_copy_of, Reading, Load, attempt, rest_after, Stand, PendingUpdate, Latch, PendingLookup, Moment, Done, step_done, accepted, history, opening, machine, counted_up, with_event, new_lookup, with_value, IsBegin, IsWrite, after_load, start_done, load_done, read_done, Step, Run, is_step, is_load_of, up_to_next_step, replies_to, ReturnsWithin, ReturnsFromStart, AreUndisturbed, flips_between, IsPatientReply, IsQuiet, take-append-le, gen_within, sequence_after, attempt_below, attempt_below_depth, few_deep_any, shallow_tree, depth, AreShallow, IsDepth, AreNear, AllByRecursion, nat_cmp, words_after, IsStanding}
+use Rattle.latch_steps.specs.declared.replies.Reply.TheVariants.{Returned as ReturnedReply}
 use Rattle.latch_steps.proofs.LoadLemmas.{IsGoing, each_insert, each_remove, none_loaded, by_load, by_sound_load}
 use Rattle.latch_steps.proofs.IdleLemmas.{Differs, start_differs, read_reads}
 use Rattle.latch_steps.proofs.RunLemmas.{KeepsLatch, read_keeps, start_keeps, sequence_at, flips_counted}
 use Rattle.latch_steps.proofs.SafeRunLemmas.{IsWorld, step_leads, IsRight, IsLeft, all_left, left_next, moment_there, opening_world}
-use Rattle.latch_core.proofs.SoundLemmas.{gen_within, sequence_after}
-use Rattle.latch_core.proofs.WalkLemmas.{attempt_below, attempt_below_depth, few_deep_any}
-use Rattle.latch_core.proofs.StoreOrderLemmas.{shallow_tree}
-use Rattle.rb_trees.specs.Trees.{depth}
-use Rattle.latch_steps.specs.Near.{AreShallow, IsDepth, AreNear}
-use Rattle.std.specs.List.{AllByRecursion}
-use Rattle.std.specs.Ordering.{nat_cmp}
-use Rattle.word_layout.specs.Stores.{words_after}
-use Rattle.latch_core.specs.Invariants.{IsStanding}
 
 -- a lookup whose values all stand in this memory
 record IsCalm {K : Type 0} (o : Order K) (n : ℕ) (m : List ℕ) (w : Moment K) (r : ℕ) : Type 0 where

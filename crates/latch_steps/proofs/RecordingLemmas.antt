@@ -1,26 +1,10 @@
 -- What is kept of the events of a run that is recorded, what is promised of its trace, and a driver
 -- that goes on by a command.
-use Rattle.std.proofs.Common.{◌≡◌, ℕ, ◌+◌, ◌^◌, ◌<◌, Bool, true, false, List, [], ◌∷◌, ◌++◌, length, refl, sym, ◌∙◌, ap, subst, arith, append_assoc, append-nil, take, get_or}
-use Rattle.order_laws.specs.Orders.{Order, IsLawful}
+use Rattle.latch_steps.proofs.Words.{◌≡◌, ℕ, ◌+◌, ◌^◌, ◌<◌, Bool, true, false, List, [], ◌∷◌, ◌++◌, length, refl, sym, ◌∙◌, ap, subst, arith, append_assoc, append-nil, take, get_or, Order, IsLawful, capacity_of, limit_of, World, IsEmpty, IsWhole, Keeps, AreWhole, AreReported, IsReportedRun, ObeysFromAny, Moment, Done, opening, last_of, machine_of, Run, IsTraceOf, kept, events_of, notes_of, layout_in, RepresentsMoment, take_push, MayOpen, Command, Event, Outcome, AreShallow, Expand}
 use Rattle.word_layout.specs.declared.layouts.Layout.{Layout}
-use Rattle.word_layout.specs.Layouts.{capacity_of, limit_of}
 use Rattle.latch_steps.specs.declared.traces.Recording.{Recording}
 use Rattle.latch_steps.specs.declared.traces.Trace.{Trace}
-use Rattle.latch_steps.specs.declared.worlds.World.{World}
-use Rattle.latch_steps.specs.Recordings.{IsEmpty, IsWhole, Keeps, AreWhole}
-use Rattle.latch_steps.specs.Reports.{AreReported, IsReportedRun, ObeysFromAny}
-use Rattle.latch_steps.specs.Runs.{Moment, Done, opening, last_of}
-use Rattle.latch_steps.specs.Steps.{machine_of, Run}
-use Rattle.latch_steps.specs.Traces.{IsTraceOf, kept, events_of, notes_of}
-use Rattle.latch_steps.specs.Worlds.{layout_in, RepresentsMoment}
 use Rattle.latch_steps.proofs.RunLemmas.{events_length, notes_append, expand_push, last_append, run_append, shallow_append, few_counted}
-use Rattle.facts.proofs.Lists.{take_push}
-use Rattle.latch_core.specs.Writers.{MayOpen}
-use Rattle.latch_steps.specs.declared.commands.Command.{Command}
-use Rattle.latch_steps.specs.declared.events.Event.{Event}
-use Rattle.latch_steps.specs.declared.reports.Outcome.{Outcome}
-use Rattle.latch_steps.specs.Near.{AreShallow}
-use Rattle.latch_steps.specs.Expands.{Expand}
 use Rattle.latch_steps.specs.Promises.{IsSafeTrace, IsQuietTrace, IsNearTrace}
 use Rattle.latch_steps.proofs.ReportLemmas.{none_reported, runs_reported}
 use Rattle.latch_steps.proofs.SafeRunLemmas.{safe}

@@ -1,37 +1,9 @@
 -- Reports of the events of a run, and the commands that a world obeys so, with loads of a lookup
 -- that is held apart.
-use Rattle.std.proofs.Common.{◌≡◌, ℕ, ◌+◌, ◌<◌, Bool, true, false, cond, List, [], ◌∷◌, ◌++◌, length, Option, Some, None, Result, Ok, Err, refl, sym, ◌∙◌, ap, subst, arith, length-append, ◌≢◌}
-use Rattle.std.specs.Prelude.{is_some, OnOk}
-use Rattle.std.specs.FinMap.{get, insert, remove}
-use Rattle.order_laws.specs.declared.refusals.Refusal.{Refusal}
-use Rattle.order_laws.specs.Orders.{Order}
-use Rattle.word_layout.specs.Layouts.{capacity_of, limit_of}
-use Rattle.latch_core.specs.Latches.{PendingUpdate, Latch}
-use Rattle.latch_core.specs.Writers.{IsShallow, RepresentsLatch}
-use Rattle.latch_steps.specs.declared.commands.Command.{Command}
-use Rattle.latch_steps.specs.declared.events.Event.{Event}
-use Rattle.latch_steps.specs.declared.events.Event.TheVariants.{Write, Read}
-use Rattle.latch_steps.specs.declared.replies.NextLoad.{NextLoad}
-use Rattle.latch_steps.specs.declared.replies.Reply.{Reply}
-use Rattle.latch_steps.specs.declared.reports.Outcome.{Outcome}
-use Rattle.latch_steps.specs.declared.worlds.World.{World}
-use Rattle.latch_steps.specs.Expands.{Repeats, ends, event_of, most_of, reads_within}
-use Rattle.latch_steps.specs.Near.{AreShallow}
-use Rattle.latch_steps.specs.Reports.{AreReported, IsLoadBy, IsReportedRun, IsWriting, Obeys, ObeysFromAny, ObeysOnce, ReportsEvent, outcome_of, ChangesOneLookup, LoadsFrom, LoadsOn}
-use Rattle.latch_steps.specs.Lookups.{lookup_at, IsPendingLookup, IsLookupOf, LoadsTo, LoadsNextFrom, next_load}
-use Rattle.latch_steps.specs.Runs.{Done, Moment, last_of, step_done, PendingLookup}
-use Rattle.latch_steps.specs.Steps.{AfterLoad, IsWrite, Run, machine_of, machine, counted_up, with_lookups, after_load, load_done, read_done}
-use Rattle.latch_steps.specs.Worlds.{HasEvents, HasSequence, RepresentsMoment, layout_in}
-use Rattle.latch_steps.specs.WorldSteps.{IsWorldStep, is_refused_for_memory}
+use Rattle.latch_steps.proofs.Words.{◌≡◌, ℕ, ◌+◌, ◌<◌, Bool, true, false, cond, List, [], ◌∷◌, ◌++◌, length, Option, Some, None, Result, Ok, Err, refl, sym, ◌∙◌, ap, subst, arith, length-append, ◌≢◌, is_some, OnOk, get, insert, remove, Refusal, Order, capacity_of, limit_of, PendingUpdate, Latch, IsShallow, RepresentsLatch, Command, Event, Write, Read, NextLoad, Reply, Outcome, World, Repeats, ends, event_of, most_of, reads_within, AreShallow, AreReported, IsLoadBy, IsReportedRun, IsWriting, Obeys, ObeysFromAny, ObeysOnce, ReportsEvent, outcome_of, ChangesOneLookup, LoadsFrom, LoadsOn, lookup_at, IsPendingLookup, IsLookupOf, LoadsTo, LoadsNextFrom, next_load, Done, Moment, last_of, step_done, PendingLookup, AfterLoad, IsWrite, Run, machine_of, machine, counted_up, with_lookups, after_load, load_done, read_done, HasEvents, HasSequence, RepresentsMoment, layout_in, IsWorldStep, is_refused_for_memory, nat_cmp, option_map, BTreeMap, is_at, get-insert_other, get-insert_same, get-remove_other, get-remove_same, at, Lookup}
 use Rattle.latch_steps.proofs.WorldLemmas.{shown_none, shown, in_hand_at}
 use Rattle.latch_steps.proofs.RunLemmas.{IsUnended, does, last_append, repeats_ended, repeats_full, run_append, shallow_append, shows_shallow, unended_push, reads_shallow}
-use Rattle.std.specs.Ordering.{nat_cmp}
-use Rattle.std.specs.Option.{option_map}
-use Rattle.std.specs.BTreeMap.{BTreeMap, is_at}
-use Rattle.facts.proofs.Maps.{get-insert_other, get-insert_same, get-remove_other, get-remove_same}
-use Rattle.word_layout.specs.Words.{at}
 use Rattle.latch_steps.specs.declared.commands.Command.TheVariants.{Read as ReadCommand}
-use Rattle.latch_steps.specs.declared.lookups.Lookup.{Lookup}
 use Rattle.latch_steps.specs.declared.lookups.LoadOutcome.TheVariants.{Returned as ReturnedLoad}
 use Rattle.latch_steps.specs.declared.lookups.LookupProgress.{LookupProgress}
 use Rattle.latch_steps.specs.declared.replies.Returned.{Returned}

@@ -1,42 +1,11 @@
 -- What events do to the latch and to the count of events, runs one after another, and the events
 -- that a command repeats. Each accepted update is the last of the history, and each flip adds one to
 -- the sequence.
-use Rattle.std.proofs.Common.{◌≡◌, ℕ, suc, zero, ◌+◌, ◌-◌, ◌<◌, ◌≤◌, Bool, false, cond, List, [], ◌∷◌, ◌++◌, length, take, drop, Option, Some, None, refl, sym, ◌∙◌, ap, subst, inl, ⊎_elim, arith, append-nil, ◌^◌, true, append_assoc}
-use Rattle.std.specs.Prelude.{◌==◌, is_some, count_by, min}
-use Rattle.std.specs.FinMap.{get}
-use Rattle.std.proofs.lemmas.Bool.{eq-eqb, ne_eqb}
-use Rattle.std.proofs.lemmas.List.{drop-take, take-take}
+use Rattle.latch_steps.proofs.Words.{◌≡◌, ℕ, suc, zero, ◌+◌, ◌-◌, ◌<◌, ◌≤◌, Bool, false, cond, List, [], ◌∷◌, ◌++◌, length, take, drop, Option, Some, None, refl, sym, ◌∙◌, ap, subst, inl, ⊎_elim, arith, append-nil, ◌^◌, true, append_assoc, ◌==◌, is_some, count_by, min, get, eq-eqb, ne_eqb, drop-take, take-take, Store, Update, Refusal, Event, Begin, Write, Start, Read, Reply, Begun, Wrote, Order, IsLawful, at, words_after, refusal_for, PendingUpdate, Latch, IsWriterStep, IsSound, hidden_same, sound_step, sound_begin, PendingLookup, Moment, Done, accepted, moment_at, opening, last_of, machine, IsBegin, IsWrite, AfterLoad, Goes, Retries, Returns, after_load, start_done, load_done, read_done, Step, Run, counted_up, is_step, is_flip, flips_between, capacity_of, IsShallow, stays_now, Command, World, event_of, most_of, writes_within, ends, Repeats, Expand, AreShallow, events_of, note_of, notes_of, RepresentsMoment, layout_in, Does, MayDo, IsWorldStep, is_refused_for_memory}
 use Rattle.std.proofs.lemmas.List.Sums.{sum_by-append, sum_by-take-drop}
-use Rattle.word_layout.specs.declared.stores.Store.{Store}
-use Rattle.table_updates.specs.declared.updates.Update.{Update}
-use Rattle.order_laws.specs.declared.refusals.Refusal.{Refusal}
-use Rattle.latch_steps.specs.declared.events.Event.{Event}
-use Rattle.latch_steps.specs.declared.events.Event.TheVariants.{Begin, Write, Start, Read}
-use Rattle.latch_steps.specs.declared.replies.Reply.{Reply}
-use Rattle.latch_steps.specs.declared.replies.Reply.TheVariants.{Begun, Wrote}
-use Rattle.order_laws.specs.Orders.{Order, IsLawful}
-use Rattle.word_layout.specs.Words.{at}
-use Rattle.word_layout.specs.Stores.{words_after}
-use Rattle.table_updates.specs.Updates.{refusal_for}
-use Rattle.latch_core.specs.Latches.{PendingUpdate, Latch, IsWriterStep}
-use Rattle.latch_core.specs.Invariants.{IsSound}
 use Rattle.word_layout.proofs.HoldsLemmas.{flip_adds}
-use Rattle.latch_core.proofs.SoundLemmas.{hidden_same, sound_step, sound_begin}
-use Rattle.latch_steps.specs.Runs.{PendingLookup, Moment, Done, accepted, moment_at, opening, last_of}
-use Rattle.latch_steps.specs.Steps.{machine, IsBegin, IsWrite, AfterLoad, Goes, Retries, Returns, after_load, start_done, load_done, read_done, Step, Run, counted_up}
-use Rattle.latch_steps.specs.Quiet.{is_step, is_flip, flips_between}
 use Rattle.std.proofs.lemmas.List.Elements.{filter_map-append}
-use Rattle.word_layout.specs.Layouts.{capacity_of}
-use Rattle.latch_core.specs.Writers.{IsShallow}
-use Rattle.latch_core.proofs.StoreOrderLemmas.{stays_now}
-use Rattle.latch_steps.specs.declared.commands.Command.{Command}
 use Rattle.latch_steps.specs.declared.commands.Command.TheVariants.{Read as ReadCommand}
-use Rattle.latch_steps.specs.declared.worlds.World.{World}
-use Rattle.latch_steps.specs.Expands.{event_of, most_of, writes_within, ends, Repeats, Expand}
-use Rattle.latch_steps.specs.Near.{AreShallow}
-use Rattle.latch_steps.specs.Traces.{events_of, note_of, notes_of}
-use Rattle.latch_steps.specs.Worlds.{RepresentsMoment, layout_in}
-use Rattle.latch_steps.specs.WorldSteps.{Does, MayDo, IsWorldStep, is_refused_for_memory}
 
 -- a reply that is no step of the writer, and a moment with the same latch, one event later
 abbrev pub KeepsLatch : {K : Type 0} → Moment K → Reply K × Moment K → Type 0

@@ -1,33 +1,11 @@
 -- Every lookup that returns is right, and its item is in the table of its generation, so it answers
 -- for each key in it while that generation is current.
-use Rattle.std.proofs.Common.{◌≡◌, ℕ, suc, ◌+◌, ◌<◌, ◌≤◌, List, ◌++◌, Option, Some, None, refl, sym, ◌∙◌, ap, subst, arith, append-nil, ◌-◌, ◌^◌, [], ◌∷◌, length, take, append_assoc}
-use Rattle.std.specs.Prelude.{Contains}
-use Rattle.std.specs.Ordering.{nat_cmp}
-use Rattle.std.specs.FinMap.{FinMap, get, insert, remove, get-empty}
-use Rattle.table_updates.specs.declared.updates.Update.{Update}
-use Rattle.order_laws.specs.declared.refusals.Refusal.{Refusal}
-use Rattle.latch_steps.specs.declared.events.Event.{Event}
-use Rattle.latch_steps.specs.declared.events.Event.TheVariants.{Begin, Write, Start, Read}
+use Rattle.latch_steps.proofs.Words.{◌≡◌, ℕ, suc, ◌+◌, ◌<◌, ◌≤◌, List, ◌++◌, Option, Some, None, refl, sym, ◌∙◌, ap, subst, arith, append-nil, ◌-◌, ◌^◌, [], ◌∷◌, length, take, append_assoc, Contains, nat_cmp, FinMap, get, insert, remove, get-empty, Update, Refusal, Event, Begin, Write, Start, Read, Reply, Order, IsLawful, look, IsLook, replay, current_table, table_at, at, generation_of, stable_copy_of, PendingUpdate, PendingLookup, Moment, accepted, Done, opening, history, moment_at, machine, counted_up, with_lookups, return_of, IsBegin, IsWrite, start_done, load_done, read_done, Step, Run, IsSound, AreTables, standing_step, gen_within, sound_opening, AllByRecursion, take-append-le, Item}
 use Rattle.latch_steps.specs.declared.replies.Returned.{Returned}
-use Rattle.latch_steps.specs.declared.replies.Reply.{Reply}
 use Rattle.latch_steps.specs.declared.replies.Reply.TheVariants.{Returned as ReturnedReply}
-use Rattle.order_laws.specs.Orders.{Order, IsLawful}
-use Rattle.order_laws.specs.Tables.{look, IsLook}
-use Rattle.table_updates.specs.Updates.{replay}
-use Rattle.latch_core.specs.Histories.{current_table, table_at}
-use Rattle.word_layout.specs.Words.{at}
-use Rattle.latch_core.specs.Sequences.{generation_of, stable_copy_of}
-use Rattle.latch_core.specs.Latches.{PendingUpdate}
-use Rattle.latch_steps.specs.Runs.{PendingLookup, Moment, accepted, Done, opening, history, moment_at}
-use Rattle.latch_steps.specs.Steps.{machine, counted_up, with_lookups, return_of, IsBegin, IsWrite, start_done, load_done, read_done, Step, Run}
-use Rattle.latch_core.specs.Invariants.{IsSound, AreTables}
 use Rattle.latch_steps.proofs.RunLemmas.{step_sound, step_counts}
 use Rattle.latch_steps.proofs.LoadLemmas.{IsGoing, each_insert, each_remove, none_loaded, by_sound_load}
-use Rattle.latch_core.proofs.SoundLemmas.{standing_step, gen_within, sound_opening}
-use Rattle.std.specs.List.{AllByRecursion}
-use Rattle.std.proofs.lemmas.List.{take-append-le}
 use Rattle.latch_steps.specs.Safe.{IsSafeReply, IsSafe, IsCurrent}
-use Rattle.order_laws.specs.declared.items.Item.{Item}
 use Rattle.order_laws.proofs.TableLemmas.{look_is, look_only}
 use Rattle.latch_steps.specs.Memory.{AnswersFromMemory, IsRememberedReply, IsRemembered}
 

@@ -1,40 +1,12 @@
 -- What the methods of a world do to the moments that it shows.
-use Rattle.std.proofs.Common.{◌≡◌, ◌≢◌, ℕ, Bool, true, false, cond, Option, Some, None, refl, sym, ◌∙◌, ap, subst, ⊎_elim, arith, ◌<◌, ◌≤◌, List, [], ◌∷◌, length, inl, inr, Vec, Global}
-use Rattle.std.specs.Ordering.{nat_cmp}
-use Rattle.std.specs.Option.{option_flatten}
-use Rattle.std.specs.BTreeMap.{BTreeMap, get as tree_get, is_at}
-use Rattle.std.specs.FinMap.{FinMap, get, insert, remove, empty, get-empty}
-use Rattle.std.proofs.lemmas.Bool.{cases_eq, lt-ltb}
+use Rattle.latch_steps.proofs.Words.{◌≡◌, ◌≢◌, ℕ, Bool, true, false, cond, Option, Some, None, refl, sym, ◌∙◌, ap, subst, ⊎_elim, arith, ◌<◌, ◌≤◌, List, [], ◌∷◌, length, inl, inr, Vec, Global, nat_cmp, option_flatten, BTreeMap, is_at, FinMap, get, insert, remove, empty, get-empty, cases_eq, lt-ltb, Order, get-insert_other, get-insert_same, get-remove_other, get-remove_same, Lookup, PendingLookup, Moment, IsPendingLookup, IsLookupOf, lookup_at, LoadsTo, ArePendingLookups, RepresentsMoment, IsAtRest, ◌⊎◌, is_some, nat_lt, Refusal, OutOfMemory, ReaderBusy, ReaderIdle, Store, capacity_of, limit_of, at, words_after, Update, WriterView, refusal_for, most_steps, PendingUpdate, Latch, IsWriterStep, latch_after_step, latch_with_update, RepresentsLatch, HasBegun, has_pending, why_refused, writer_after_step, Begin, Write, Start, Read, Reply, Begun, Wrote, Idle, Started, Refused, World, AfterLoad, counted_up, with_event, new_lookup, with_latch, with_lookups, IsBegin, IsWrite, after_load, start_done, load_done, read_done, writes_left, Does, MayDo}
+use Rattle.std.specs.BTreeMap.{get as tree_get}
 use Rattle.std.proofs.lemmas.Bool.Decides.{nat_tests}
-use Rattle.order_laws.specs.Orders.{Order}
-use Rattle.facts.proofs.Maps.{get-insert_other, get-insert_same, get-remove_other, get-remove_same}
-use Rattle.latch_steps.specs.declared.lookups.Lookup.{Lookup}
-use Rattle.latch_steps.specs.Runs.{PendingLookup, Moment}
-use Rattle.latch_steps.specs.Lookups.{IsPendingLookup, IsLookupOf, lookup_at, LoadsTo}
-use Rattle.latch_steps.specs.Worlds.{ArePendingLookups, RepresentsMoment, IsAtRest}
-use Rattle.std.specs.Prelude.{◌⊎◌, is_some, nat_lt}
-use Rattle.order_laws.specs.declared.refusals.Refusal.{Refusal}
-use Rattle.order_laws.specs.declared.refusals.Refusal.TheVariants.{OutOfMemory, ReaderBusy, ReaderIdle}
-use Rattle.word_layout.specs.declared.stores.Store.{Store}
-use Rattle.word_layout.specs.Layouts.{capacity_of, limit_of}
-use Rattle.word_layout.specs.Words.{at}
-use Rattle.word_layout.specs.Stores.{words_after}
-use Rattle.table_updates.specs.declared.updates.Update.{Update}
-use Rattle.latch_core.specs.WriterViews.{WriterView}
-use Rattle.table_updates.specs.Updates.{refusal_for, most_steps}
 use Rattle.latch_core.proofs.TestLemmas.{never_for_memory}
-use Rattle.latch_core.specs.Latches.{PendingUpdate, Latch, IsWriterStep, latch_after_step, latch_with_update}
 use Rattle.latch_core.specs.Plans.{IsPlan}
-use Rattle.latch_core.specs.Writers.{RepresentsLatch, HasBegun, has_pending, why_refused, writer_after_step}
-use Rattle.latch_steps.specs.declared.events.Event.TheVariants.{Begin, Write, Start, Read}
 use Rattle.latch_steps.specs.declared.replies.Returned.{Returned}
-use Rattle.latch_steps.specs.declared.replies.Reply.{Reply}
-use Rattle.latch_steps.specs.declared.replies.Reply.TheVariants.{Begun, Wrote, Idle, Started, Returned as ReturnedReply, Refused}
+use Rattle.latch_steps.specs.declared.replies.Reply.TheVariants.{Returned as ReturnedReply}
 use Rattle.latch_steps.specs.declared.lookups.LoadOutcome.TheVariants.{Returned as ReturnedLoad}
-use Rattle.latch_steps.specs.declared.worlds.World.{World}
-use Rattle.latch_steps.specs.Steps.{AfterLoad, counted_up, with_event, new_lookup, with_latch, with_lookups, IsBegin, IsWrite, after_load, start_done, load_done, read_done}
-use Rattle.latch_steps.specs.Expands.{writes_left}
-use Rattle.latch_steps.specs.WorldSteps.{Does, MayDo}
 
 -- the code's map and that of a moment, changed at one reader alone
 module _ {O K : Type 0} (o : Order K) (n : ℕ) where

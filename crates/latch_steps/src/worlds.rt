@@ -101,7 +101,7 @@ impl<O: TreeOrder> World<O> {
         ensures layout { layout_in self.new ≡ layout_in self.old }
         ensures steps { MayDo O.order self.old (Begin update.now) result self.new }
     {
-        match self.writer.begin_from(update) {
+        match self.writer.begin(update) {
             Ok(left) => {
                 self.events = self.events.saturating_add(1);
                 Reply::Begun(left)

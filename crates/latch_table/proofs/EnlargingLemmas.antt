@@ -1,26 +1,8 @@
 -- The table in the words of a wider layout.
-use Rattle.std.proofs.Common.{◌≡◌, ℕ, ◌-◌, ◌*◌, ◌≤◌, List, [], length, take, All, None, refl, sym, ◌∙◌, ap, subst}
-use Rattle.atomic_table.specs.Table.{Me, opening}
-use Rattle.atomic_table.specs.Seated.{TableId}
-use Rattle.order_laws.specs.Orders.{Order}
-use Rattle.word_layout.specs.declared.layouts.Layout.{Layout}
-use Rattle.word_layout.specs.Layouts.{capacity_of}
-use Rattle.word_layout.specs.Words.{at}
-use Rattle.word_layout.specs.Wider.{wider_words}
+use Rattle.latch_table.proofs.Words.{◌≡◌, ℕ, ◌-◌, ◌*◌, ◌≤◌, List, [], length, take, All, None, refl, sym, ◌∙◌, ap, subst, Me, opening, TableId, Order, Layout, capacity_of, at, wider_words, generation_of, IsSound, WriterView, RepresentsLatch, Knowledge, WriterKnowledge, writer_of, writer_knowledge, moved_writer, blank_reader, KnowledgeHolds, ReaderState, new_reader, WriterState, writer_state, pending_of, shown_updates, IsTied, Enlarges, enlarged_state, reader_beside}
 use Rattle.word_layout.proofs.WiderLemmas.{at_wider}
-use Rattle.latch_core.specs.Sequences.{generation_of}
-use Rattle.latch_core.specs.Invariants.{IsSound}
-use Rattle.latch_core.specs.WriterViews.{WriterView}
-use Rattle.latch_core.specs.Writers.{RepresentsLatch}
 use Rattle.latch_core.specs.Widening.{why_not_widened, widened_writer, widened_latch, RepresentsWidened}
 use Rattle.latch_core.proofs.WideningLemmas.{may_widen, widened_sound, latched_wider}
-use Rattle.latch_table.specs.declared.knowledge.Knowledge.{Knowledge}
-use Rattle.latch_table.specs.declared.knowledge.WriterKnowledge.{WriterKnowledge}
-use Rattle.latch_table.specs.Seats.{writer_of, writer_knowledge, moved_writer, blank_reader}
-use Rattle.latch_table.specs.Rule.{KnowledgeHolds}
-use Rattle.latch_table.specs.Readers.{ReaderState, new_reader}
-use Rattle.latch_table.specs.Writers.{WriterState, writer_state, pending_of, shown_updates, IsTied}
-use Rattle.latch_table.specs.Enlarging.{Enlarges, enlarged_state, reader_beside}
 use Rattle.latch_table.proofs.RuleLemmas.{opens}
 use Rattle.latch_table.proofs.WriterLemmas.{latched_now}
 

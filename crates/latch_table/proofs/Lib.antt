@@ -1,3 +1,5 @@
+-- the words of all proofs of this crate
+mod Words
 pub mod ReaderLemmas
 pub mod RuleLemmas
 pub mod WriterLemmas

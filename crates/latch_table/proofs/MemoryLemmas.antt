@@ -1,25 +1,6 @@
 -- What a reader remembers is the answer again while no update is shown.
-use Rattle.std.proofs.Common.{◌≡◌, ℕ, ◌+◌, List, [], ◌∷◌, ◌++◌, length, Option, Some, None, refl, sym, ⊎_elim, ◌∙◌, ap, subst, arith, append-nil, length-append}
-use mathlib.Core.List.{IsPrefix}
-use Rattle.std.specs.Prelude.{Contains}
-use Rattle.atomic_table.specs.Table.{Me}
-use Rattle.order_laws.specs.declared.items.Item.{Item}
-use Rattle.order_laws.specs.Orders.{Order, IsLawful}
-use Rattle.order_laws.specs.Tables.{IsLook}
+use Rattle.latch_table.proofs.Words.{◌≡◌, ℕ, ◌+◌, List, [], ◌∷◌, ◌++◌, length, Option, Some, None, refl, sym, ⊎_elim, ◌∙◌, ap, subst, arith, append-nil, length-append, IsPrefix, Contains, Me, Item, Order, IsLawful, IsLook, IsPrefix-along, IsPrefix-whole, Update, generation_of, replay, ReaderKnowledge, Knowledge, Try, Answered, Retry, reader_of, with_sequence, LoadsSequence, KnowsMore, Answers, Tried, Remembers, MemoryHolds, IsRecalled, Recalled, Looked, memory_after, LearnsSequence}
 use Rattle.order_laws.proofs.TableLemmas.{look_is, look_only}
-use Rattle.facts.proofs.Lists.{IsPrefix-along, IsPrefix-whole}
-use Rattle.table_updates.specs.declared.updates.Update.{Update}
-use Rattle.latch_core.specs.Sequences.{generation_of}
-use Rattle.table_updates.specs.Updates.{replay}
-use Rattle.latch_table.specs.declared.knowledge.ReaderKnowledge.{ReaderKnowledge}
-use Rattle.latch_table.specs.declared.knowledge.Knowledge.{Knowledge}
-use Rattle.latch_table.specs.declared.readers.Try.{Try}
-use Rattle.latch_table.specs.declared.readers.Try.TheVariants.{Answered, Retry}
-use Rattle.latch_table.specs.Seats.{reader_of, with_sequence}
-use Rattle.latch_table.specs.Rule.{LoadsSequence}
-use Rattle.latch_table.specs.Readers.{KnowsMore, Answers, Tried}
-use Rattle.latch_table.specs.Memory.{Remembers, MemoryHolds, IsRecalled, Recalled, Looked, memory_after}
-use Rattle.latch_table.specs.Walks.{LearnsSequence}
 
 -- a prefix that is as long is the whole list
 whole_prefix : {X : Type 0} (xs ys : List X) → IsPrefix xs ys → length xs ≡ length ys → xs ≡ ys

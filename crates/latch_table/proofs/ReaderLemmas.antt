@@ -1,28 +1,6 @@
 -- What a reader knows stays true under each step of the writer, and each of its own loads adds to
 -- it.
-use Rattle.std.proofs.Common.{◌≡◌, ℕ, suc, ◌+◌, ◌*◌, ◌<◌, ◌≤◌, List, [], ◌∷◌, ◌++◌, length, Some, refl, sym, ◌∙◌, ap, subst, inl, ⊎_elim, arith, le_refl}
-use mathlib.Core.List.{IsPrefix}
-use Rattle.order_laws.specs.Orders.{Order, IsLawful}
-use Rattle.order_laws.specs.Tables.{look}
-use Rattle.facts.proofs.Lists.{IsPrefix-along, IsPrefix-whole}
-use Rattle.word_layout.specs.declared.stores.Store.{Store}
-use Rattle.word_layout.specs.Words.{at}
-use Rattle.word_layout.specs.Stores.{words_after}
-use Rattle.table_updates.specs.declared.updates.Update.{Update}
-use Rattle.latch_core.specs.Sequences.{generation_of}
-use Rattle.table_updates.specs.Updates.{replay}
-use Rattle.latch_core.specs.Attempts.{Reading, Load, Ends, Answer, attempt, rest_after, IsAttempt}
-use Rattle.latch_core.specs.Latches.{PendingUpdate, Latch, IsWriterStep}
-use Rattle.latch_core.proofs.SoundLemmas.{sequence_after}
-use Rattle.latch_table.specs.declared.knowledge.ReaderKnowledge.{ReaderKnowledge}
-use Rattle.latch_core.specs.Latched.{loads_of, IsKept, StandAll, IsSteady, IsLatched}
-use Rattle.latch_table.specs.Seats.{blank_reader, with_sequence, with_word, last_or, joined_knowledge, reader_of}
-use Rattle.latch_table.specs.Rule.{Rises, EndsRight, ReaderKnows, LoadsSequence, as_reader}
-use Rattle.latch_core.proofs.LatchedLemmas.{steady_step, steady_load, steady_first, stand_end, latched_answers}
-use Rattle.atomic_table.specs.Table.{Me}
-use Rattle.latch_table.specs.declared.knowledge.WriterKnowledge.{WriterKnowledge}
-use Rattle.latch_table.specs.declared.knowledge.Knowledge.{Knowledge}
-use Rattle.latch_table.specs.Readers.{Met}
+use Rattle.latch_table.proofs.Words.{◌≡◌, ℕ, suc, ◌+◌, ◌*◌, ◌<◌, ◌≤◌, List, [], ◌∷◌, ◌++◌, length, Some, refl, sym, ◌∙◌, ap, subst, inl, ⊎_elim, arith, le_refl, IsPrefix, Order, IsLawful, look, IsPrefix-along, IsPrefix-whole, Store, at, words_after, Update, generation_of, replay, Reading, Load, Ends, Answer, attempt, rest_after, IsAttempt, PendingUpdate, Latch, IsWriterStep, sequence_after, ReaderKnowledge, loads_of, IsKept, StandAll, IsSteady, IsLatched, blank_reader, with_sequence, with_word, last_or, joined_knowledge, reader_of, Rises, EndsRight, ReaderKnows, LoadsSequence, as_reader, steady_step, steady_load, steady_first, stand_end, latched_answers, Me, WriterKnowledge, Knowledge, Met}
 
 pub rises_more : (low : ℕ) (xs : List ℕ) (top top' : ℕ) → top ≤ top' → Rises low xs top → Rises low xs top'
 rises_more low [] top top' more r = let r' : low ≤ top = r in omega arith

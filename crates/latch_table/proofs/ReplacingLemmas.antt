@@ -1,28 +1,7 @@
 -- The items of a table replaced by others: the tree that the writer's seat reads, and the update.
-use Rattle.std.proofs.Common.{◌≡◌, ℕ, suc, ◌+◌, ◌-◌, ◌*◌, ◌<◌, ◌≤◌, true, false, List, [], ◌∷◌, ◌++◌, length, None, refl, sym, ◌∙◌, ap, subst, append-nil, length-append, take, arith}
-use Rattle.std.proofs.lemmas.List.{take_all}
-use Rattle.std.specs.Prelude.{is_some}
-use Rattle.atomic_table.specs.Table.{Me}
-use Rattle.atomic_table.specs.Seated.{TableId}
-use Rattle.order_laws.specs.declared.items.Item.{Item}
-use Rattle.order_laws.specs.Orders.{Order, IsLawful}
-use Rattle.order_laws.specs.Tables.{IsTable}
-use Rattle.word_layout.specs.Words.{at, item_at, root_word, left_word, right_word, Nodes, none, fork, listed, items, Leads}
-use Rattle.word_layout.proofs.HoldsLemmas.{size_items, size_listed}
-use Rattle.table_updates.specs.declared.updates.Update.{Update}
-use Rattle.table_updates.specs.Updates.{after, refusal_for, replay}
-use Rattle.latch_core.specs.declared.replacements.Difference.{Difference}
-use Rattle.latch_core.specs.Replacements.{replacement, is_rising, update_found, Tells}
-use Rattle.latch_core.specs.WriterViews.{WriterView}
-use Rattle.latch_core.specs.Writers.{IsMemoryAtRest}
-use Rattle.word_layout.specs.Stores.{words_after_all}
+use Rattle.latch_table.proofs.Words.{◌≡◌, ℕ, suc, ◌+◌, ◌-◌, ◌*◌, ◌<◌, ◌≤◌, true, false, List, [], ◌∷◌, ◌++◌, length, None, refl, sym, ◌∙◌, ap, subst, append-nil, length-append, take, arith, take_all, is_some, Me, TableId, Item, Order, IsLawful, IsTable, at, item_at, root_word, left_word, right_word, Nodes, none, fork, listed, items, size_items, size_listed, Update, after, refusal_for, replay, Difference, replacement, is_rising, update_found, Tells, WriterView, IsMemoryAtRest, words_after_all, table_at_rest, Knowledge, WriterKnowledge, writer_of, writer_knowledge, WriterState, writer_state, writer_refusal, pending_of, IsTied, LeadsToFew, TellsTree, IsReplacement}
+use Rattle.word_layout.specs.Words.{Leads}
 use Rattle.latch_core.proofs.ReplacementLemmas.{tells_both, replaced_table, table_rises}
-use Rattle.latch_core.proofs.SoundLemmas.{table_at_rest}
-use Rattle.latch_table.specs.declared.knowledge.Knowledge.{Knowledge}
-use Rattle.latch_table.specs.declared.knowledge.WriterKnowledge.{WriterKnowledge}
-use Rattle.latch_table.specs.Seats.{writer_of, writer_knowledge}
-use Rattle.latch_table.specs.Writers.{WriterState, writer_state, writer_refusal, pending_of, IsTied}
-use Rattle.latch_table.specs.Replacing.{LeadsToFew, TellsTree, IsReplacement}
 
 -- ---- the tree that is read
 

@@ -1,25 +1,9 @@
 -- Each step keeps the rule.
-use Rattle.std.proofs.Common.{◌≡◌, ◌≢◌, ℕ, zero, suc, ◌<◌, List, [], ◌∷◌, ◌++◌, length, set, sym, refl, ap, ◌∙◌, subst, ⊎_elim, Option, Some, None}
+use Rattle.latch_table.proofs.Words.{◌≡◌, ◌≢◌, ℕ, zero, suc, ◌<◌, List, [], ◌∷◌, ◌++◌, length, set, sym, refl, ap, ◌∙◌, subst, ⊎_elim, Option, Some, None, IsPrefix, get_elem?, State, Me, step, keeps, stepped, opening, Allows, Splits, Joins, Order, IsLawful, Item, Store, at, words_after, Update, PendingUpdate, IsWriterStep, ReaderKnowledge, WriterKnowledge, Knowledge, IsKept, StandAll, IsLatched, reader_of, writer_of, writer_knowledge, new_reader_knowledge, joined_knowledge, no_knowledge, writer_alone, reader_alone, blank_reader, with_sequence, with_word, with_loads, with_update, with_store, shown_after, ReaderKnows, WriterKnows, WriterPart, ReaderPart, SeatKnows, KnowledgeHolds, LoadsSequence, as_writer, sequence_loaded, word_loaded, lookup_begun, writer_loaded, word_copied, update_taken, word_stored}
 use mathlib.Core.Option as maybe
-use mathlib.Core.List.{IsPrefix}
 use mathlib.Core.Option.{some-injective, some-ne-none}
-use lib.ListN.{get_elem?}
 use lib.Seq.{set-get_or}
-use Rattle.atomic_table.specs.Table.{State, Me, step, keeps, stepped, opening, Allows, Splits, Joins}
 use Rattle.atomic_table.proofs.Lists.{at_set, at_snoc, set_else}
-use Rattle.order_laws.specs.Orders.{Order, IsLawful}
-use Rattle.order_laws.specs.declared.items.Item.{Item}
-use Rattle.word_layout.specs.declared.stores.Store.{Store}
-use Rattle.word_layout.specs.Words.{at}
-use Rattle.word_layout.specs.Stores.{words_after}
-use Rattle.table_updates.specs.declared.updates.Update.{Update}
-use Rattle.latch_core.specs.Latches.{PendingUpdate, IsWriterStep}
-use Rattle.latch_table.specs.declared.knowledge.ReaderKnowledge.{ReaderKnowledge}
-use Rattle.latch_table.specs.declared.knowledge.WriterKnowledge.{WriterKnowledge}
-use Rattle.latch_table.specs.declared.knowledge.Knowledge.{Knowledge}
-use Rattle.latch_core.specs.Latched.{IsKept, StandAll, IsLatched}
-use Rattle.latch_table.specs.Seats.{reader_of, writer_of, writer_knowledge, new_reader_knowledge, joined_knowledge, no_knowledge, writer_alone, reader_alone, blank_reader, with_sequence, with_word, with_loads, with_update, with_store, shown_after}
-use Rattle.latch_table.specs.Rule.{ReaderKnows, WriterKnows, WriterPart, ReaderPart, SeatKnows, KnowledgeHolds, LoadsSequence, as_writer, sequence_loaded, word_loaded, lookup_begun, writer_loaded, word_copied, update_taken, word_stored}
 use Rattle.latch_table.proofs.ReaderLemmas.{reader_step, reader_sequence, looks, reader_word, reader_new}
 
 -- what the seats know, after one of them has a new view

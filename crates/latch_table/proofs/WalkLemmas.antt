@@ -1,35 +1,9 @@
 -- One attempt: a walk, whose loads are those of a reader's seat or of the writer's.
-use Rattle.std.proofs.Common.{◌≡◌, ◌≢◌, ℕ, List, [], ◌∷◌, ◌++◌, Option, Some, None, true, false, cond, refl, sym, ◌∙◌, ap, subst, append_assoc, append-nil}
-use Rattle.std.specs.Prelude.{◌==◌}
-use Rattle.std.proofs.lemmas.Bool.{eqb-true}
-use mathlib.Core.List.{IsPrefix}
-use Rattle.atomic_table.specs.Table.{Me}
-use Rattle.atomic_table.specs.Seated.{TableId}
-use Rattle.order_laws.specs.declared.items.Item.{Item}
-use Rattle.order_laws.specs.Orders.{Order, IsLawful}
-use Rattle.order_laws.specs.Tables.{look}
-use Rattle.facts.proofs.Lists.{IsPrefix-along, IsPrefix-whole}
-use Rattle.table_updates.specs.declared.updates.Update.{Update}
-use Rattle.latch_core.specs.Sequences.{generation_of}
-use Rattle.table_updates.specs.Updates.{replay}
-use Rattle.latch_core.specs.Attempts.{Reading, Load, Ends, Outcome, Answer, Again, WalkEnd, AtItem, AtEmptyLink, Stuck, outcome, last_load, attempt, attempt_after, rest_after, IsAttempt, Stand}
+use Rattle.latch_table.proofs.Words.{◌≡◌, ◌≢◌, ℕ, List, [], ◌∷◌, ◌++◌, Option, Some, None, true, false, cond, refl, sym, ◌∙◌, ap, subst, append_assoc, append-nil, ◌==◌, eqb-true, IsPrefix, Me, TableId, Item, Order, IsLawful, look, IsPrefix-along, IsPrefix-whole, Update, generation_of, replay, Reading, Load, Ends, Outcome, Answer, Again, WalkEnd, AtItem, AtEmptyLink, Stuck, outcome, last_load, attempt, attempt_after, rest_after, IsAttempt, Stand, loads_of, IsKept, StandAll, IsLatched, wanted_kept, loads_push, ReaderKnowledge, Knowledge, Try, Answered, Retry, reader_knowledge, reader_of, with_sequence, with_word, writer_of, writer_knowledge, with_loads, LoadsSequence, as_writer, AreRetries, KnowsMore, Attempted, Tried, Searched, Searches, MayLoad, IsReading, LearnsWord, LearnsSequence, IsWriting, WriterLearns, at, WriterKnowledge, FindsIn}
 use Rattle.latch_core.proofs.ReadingLemmas.{rest_push, stand_push}
 use Rattle.latch_core.proofs.WalkLemmas.{attempt_length, attempt_answers, attempt_loads}
 use Rattle.latch_core.specs.Loading.{Leads, IsReady, HasTried}
 use Rattle.latch_core.proofs.LoadingLemmas.{leads_along}
-use Rattle.latch_core.specs.Latched.{loads_of, IsKept, StandAll, IsLatched}
-use Rattle.latch_core.proofs.LatchedLemmas.{wanted_kept, loads_push}
-use Rattle.latch_table.specs.declared.knowledge.ReaderKnowledge.{ReaderKnowledge}
-use Rattle.latch_table.specs.declared.knowledge.Knowledge.{Knowledge}
-use Rattle.latch_table.specs.declared.readers.Try.{Try}
-use Rattle.latch_table.specs.declared.readers.Try.TheVariants.{Answered, Retry}
-use Rattle.latch_table.specs.Seats.{reader_knowledge, reader_of, with_sequence, with_word, writer_of, writer_knowledge, with_loads}
-use Rattle.latch_table.specs.Rule.{LoadsSequence, as_writer}
-use Rattle.latch_table.specs.Readers.{AreRetries, KnowsMore, Attempted, Tried, Searched, Searches}
-use Rattle.latch_table.specs.Walks.{MayLoad, IsReading, LearnsWord, LearnsSequence, IsWriting, WriterLearns}
-use Rattle.word_layout.specs.Words.{at}
-use Rattle.latch_table.specs.declared.knowledge.WriterKnowledge.{WriterKnowledge}
-use Rattle.latch_table.specs.Lookups.{FindsIn}
 
 -- a walk that ended so, whose loads were those of a reader who learnt nothing else
 pub record HasWalked {K : Type 0} (o : Order K) (k : K) (first : ℕ) (before e : ReaderKnowledge) (found : WalkEnd) : Type 0 where

@@ -1,43 +1,10 @@
 -- The writer's core, its seat and the pending update, from one call to the next.
 use mathlib.Core.Option as maybe
-use Rattle.std.proofs.Common.{◌≡◌, ◌≢◌, ℕ, suc, ◌+◌, ◌-◌, ◌*◌, ◌%◌, ◌<◌, ◌≤◌, true, false, cond, List, [], ◌∷◌, ◌++◌, length, take, drop, Option, Some, None, refl, sym, ◌∙◌, ap, subst, inl, inr, ⊎_elim, arith, length-append, length-set}
-use Rattle.std.specs.Prelude.{◌⊎◌, ◌==◌, ◌&&◌, MatchOption, nat_lt}
-use Rattle.std.proofs.lemmas.Bool.{eq-eqb, ne_eqb}
-use Rattle.std.proofs.lemmas.List.{take-append-le, take-append-drop, take_all, length-take-le, length-replicate}
-use mathlib.Core.List.{IsPrefix}
-use Rattle.atomic_table.specs.Table.{Me, step, Allows, opening}
-use Rattle.atomic_table.specs.Seated.{TableId}
-use Rattle.order_laws.specs.Orders.{Order, IsLawful}
-use Rattle.order_laws.specs.Tables.{look}
-use Rattle.order_laws.specs.declared.items.Item.{Item}
-use Rattle.facts.proofs.Lists.{first_and_rest, IsPrefix-whole}
-use Rattle.word_layout.specs.declared.stores.Store.{Store}
-use Rattle.word_layout.specs.Words.{at, words_for, HoldsTable, words_per_node}
-use Rattle.word_layout.specs.Stores.{words_after}
-use Rattle.word_layout.proofs.StoreLemmas.{length_after}
+use Rattle.latch_table.proofs.Words.{◌≡◌, ◌≢◌, ℕ, suc, ◌+◌, ◌-◌, ◌*◌, ◌%◌, ◌<◌, ◌≤◌, true, false, cond, List, [], ◌∷◌, ◌++◌, length, take, drop, Option, Some, None, refl, sym, ◌∙◌, ap, subst, inl, inr, ⊎_elim, arith, length-append, length-set, ◌⊎◌, ◌==◌, ◌&&◌, MatchOption, nat_lt, eq-eqb, ne_eqb, take-append-le, take-append-drop, take_all, length-take-le, length-replicate, IsPrefix, Me, step, Allows, opening, TableId, Order, IsLawful, look, Item, first_and_rest, IsPrefix-whole, Store, at, words_for, HoldsTable, words_per_node, words_after, length_after, Update, generation_of, stable_copy_of, refusal_for, replay, PendingUpdate, Latch, IsWriterStep, flips_after, latch_after_step, opening_latch, IsPendingUpdate, IsPendingOf, IsSound, WriterView, RepresentsLatch, next_store, why_refused, has_pending, writer_after_step, HasBegun, opening_writer, flip_adds, hidden_same, flips_of_flip, flips_of_store, sound_step, sound_begin, sound_opening, WriterKnowledge, Knowledge, Answer, attempt, IsAttempt, loads_of, IsLatched, FindsIn, writer_of, writer_knowledge, with_store, with_loads, with_update, shown_after, blank_writer, KnowledgeHolds, as_writer, word_stored, WriterState, shown_updates, steps_left_of, kind_of_store, Steps, Finds, Begins, pending_of, writer_state, IsTied, state_with_update, state_after_step, OnTheWay, Finishes, Layout, capacity_of}
 use Rattle.latch_core.proofs.WriterLemmas.{rests_before, next_may, did_pictures, refuses_pictured}
-use Rattle.table_updates.specs.declared.updates.Update.{Update}
-use Rattle.latch_core.specs.Sequences.{generation_of, stable_copy_of}
-use Rattle.table_updates.specs.Updates.{refusal_for, replay}
-use Rattle.latch_core.specs.Latches.{PendingUpdate, Latch, IsWriterStep, flips_after, latch_after_step, opening_latch}
-use Rattle.latch_core.specs.Invariants.{IsPendingUpdate, IsPendingOf, IsSound}
-use Rattle.latch_core.specs.WriterViews.{WriterView}
-use Rattle.latch_core.specs.Writers.{RepresentsLatch, next_store, why_refused, has_pending, writer_after_step, HasBegun, opening_writer}
-use Rattle.word_layout.proofs.HoldsLemmas.{flip_adds}
-use Rattle.latch_core.proofs.SoundLemmas.{hidden_same, flips_of_flip, flips_of_store, sound_step, sound_begin, sound_opening}
-use Rattle.latch_table.specs.declared.knowledge.WriterKnowledge.{WriterKnowledge}
-use Rattle.latch_table.specs.declared.knowledge.Knowledge.{Knowledge}
-use Rattle.latch_core.specs.Attempts.{Answer, attempt, IsAttempt}
-use Rattle.latch_core.specs.Latched.{loads_of, IsLatched}
-use Rattle.latch_table.specs.Lookups.{FindsIn}
-use Rattle.latch_table.specs.Seats.{writer_of, writer_knowledge, with_store, with_loads, with_update, shown_after, blank_writer}
-use Rattle.latch_table.specs.Rule.{KnowledgeHolds, as_writer, word_stored}
 use Rattle.latch_table.proofs.RuleLemmas.{allows_store, opens}
 use Rattle.latch_table.specs.declared.writers.Did.{Did}
 use Rattle.latch_table.specs.declared.writers.Did.TheVariants.{Flip, Store as ToStore}
-use Rattle.latch_table.specs.Writers.{WriterState, shown_updates, steps_left_of, kind_of_store, Steps, Finds, Begins, pending_of, writer_state, IsTied, state_with_update, state_after_step, OnTheWay, Finishes}
-use Rattle.word_layout.specs.declared.layouts.Layout.{Layout}
-use Rattle.word_layout.specs.Layouts.{capacity_of}
 
 -- what a step does to the sequence, and at which of its numbers
 abbrev StepKind : ℕ → ℕ → ℕ → ℕ → Type 0

@@ -1,3 +1,5 @@
+-- the words of all proofs of this crate
+mod Words
 pub mod WorkLemmas
 pub mod RecordingLemmas
 pub mod MomentLemmas

@@ -1,19 +1,8 @@
 -- A reader whose view is kept in numbers: each load, and a whole attempt.
-use Rattle.std.proofs.Common.{◌≡◌, ℕ, ◌<◌, ◌≤◌, true, false, cond, Bool, List, [], ◌∷◌, ◌++◌, length, get_or, set, refl, sym, ◌∙◌, ap, subst, arith, get_or-set_other, get_or-set_same, length-set}
-use Rattle.std.specs.Prelude.{◌==◌, ◌&&◌, max}
-use Rattle.std.proofs.lemmas.Bool.{eqb-true, eqb-false}
-use Rattle.order_laws.specs.Orders.{Order}
-use Rattle.word_layout.specs.declared.stores.Store.{Store}
-use Rattle.word_layout.specs.Words.{at}
-use Rattle.latch_core.specs.Attempts.{Reading, Load, Ends, Outcome, attempt_after, attempt, outcome, rest_after}
+use Rattle.latch_weak.proofs.Words.{◌≡◌, ℕ, ◌<◌, ◌≤◌, true, false, cond, Bool, List, [], ◌∷◌, ◌++◌, length, get_or, set, refl, sym, ◌∙◌, ap, subst, arith, get_or-set_other, get_or-set_same, length-set, ◌==◌, ◌&&◌, max, eqb-true, eqb-false, Order, Store, at, Reading, Load, Ends, Outcome, attempt_after, attempt, outcome, rest_after, words_at, Barriers, last_store, ordered_before, View, Glance, MayLoad, raised, after_load, after_first, before_load, value_at, AreLoads, values_seen, view_left}
 use Rattle.latch_core.specs.Loading.{Leads, IsReady, HasTried}
 use Rattle.latch_core.proofs.LoadingLemmas.{leads_along}
-use Rattle.latch_weak.specs.Works.{words_at}
-use Rattle.latch_weak.specs.declared.barriers.Barriers.{Barriers}
 use Rattle.latch_weak.specs.declared.attempts.ReaderView.{ReaderView}
-use Rattle.latch_weak.specs.Barriers.{last_store, ordered_before}
-use Rattle.latch_weak.specs.Views.{View, Glance, MayLoad, raised, after_load, after_first, before_load}
-use Rattle.latch_weak.specs.Loads.{value_at, AreLoads, values_seen, view_left}
 use Rattle.latch_weak.specs.Readers.{Choice, next_load, AreChosen, loads_after, last_of, view_of, IsReaderOf, Looks, StandsBefore, LooksFirst, LooksNext, HasAttempted}
 use Rattle.latch_weak.proofs.BarrierLemmas.{last_at_most, ordered_at_most}
 

@@ -1,16 +1,8 @@
 -- What a writer has made, after one more deed.
-use Rattle.std.proofs.Common.{◌≡◌, ℕ, ◌≤◌, List, [], ◌∷◌, ◌++◌, length, Some, None, refl, sym, ◌∙◌, ap, subst, append_assoc, append-nil}
-use Rattle.std.specs.Prelude.{Result, Ok, Err, IfErr, IsErrAnd, drop, slice_get}
+use Rattle.latch_weak.proofs.Words.{◌≡◌, ℕ, ◌≤◌, List, [], ◌∷◌, ◌++◌, length, Some, None, refl, sym, ◌∙◌, ap, subst, append_assoc, append-nil, Result, Ok, Err, IfErr, IsErrAnd, slice_get, Order, Store, Update, most_steps, PendingUpdate, Latch, IsWriterStep, latch_after_step, latch_with_update, next_store, why_refused, writer_after_step, RefusesAsRepresented, MayBeNext, StoresNext, HasBegun, latch_refusal, Deed, Begins, Stores, Works, stores_of, updates_of, WorksTo, HasMade, writer_after_all, CarriesOut, CarriesOutAll}
+use Rattle.std.specs.Prelude.{drop}
 use Rattle.order_laws.specs.declared.refusals.Refusal.{Refusal}
-use Rattle.order_laws.specs.Orders.{Order}
-use Rattle.word_layout.specs.declared.stores.Store.{Store}
-use Rattle.table_updates.specs.declared.updates.Update.{Update}
-use Rattle.table_updates.specs.Updates.{most_steps}
-use Rattle.latch_core.specs.Latches.{PendingUpdate, Latch, IsWriterStep, latch_after_step, latch_with_update}
-use Rattle.latch_core.specs.Writers.{next_store, why_refused, writer_after_step, RefusesAsRepresented, MayBeNext, StoresNext, HasBegun, latch_refusal}
 use Rattle.latch_core.specs.WriterViews.{WriterView}
-use Rattle.latch_weak.specs.Works.{Deed, Begins, Stores, Works, stores_of, updates_of}
-use Rattle.latch_weak.specs.Recordings.{WorksTo, HasMade, writer_after_all, CarriesOut, CarriesOutAll}
 
 -- deeds that lead somewhere are lawful
 pub works_of : {K : Type 0} (o : Order K) (n limit : ℕ) (l l' : Latch) (deeds : List Deed) → WorksTo o n limit l deeds l' → Works o n limit l deeds

@@ -51,7 +51,7 @@ fn carry_out<O: TreeOrder>(
         stores.new.items writer.new) }
     ensures refused { IfErr result (IsRefusedBy O.order writer.old update.now) }
 {
-    writer.begin_from(update)?;
+    writer.begin(update)?;
     while let Some(store) = writer.step() {
         stores.push(store)?;
     }

@@ -1,5 +1,5 @@
 -- A loop that seeks the first element of a list at which a test holds. Assumes nothing.
-use Rattle.std.proofs.Common.{◌≡◌, ◌∙◌, ℕ, ◌+◌, ◌<◌, Bool, true, false, List, [], ◌∷◌, find, take, length, get_or, zero, suc, Option, Some, None, if◌then◌else◌, ap, arith, refl}
+use Rattle.latchsym_ffi.proofs.Words.{◌≡◌, ◌∙◌, ℕ, ◌+◌, ◌<◌, Bool, true, false, List, [], ◌∷◌, find, take, length, get_or, zero, suc, Option, Some, None, if◌then◌else◌, ap, arith, refl}
 
 pick : {X : Type 0} (b b' : Bool) (x : X) (rest : Option X) → b ≡ b' → (if b then Some x else rest) ≡ (if b' then Some x else rest)
 pick b b' x rest e = ap (λ t. if t then Some x else rest) e

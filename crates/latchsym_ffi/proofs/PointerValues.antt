@@ -1,7 +1,7 @@
 -- The machine values of a ContentPointer. Assumes `Logic`.
 use Rattle.latchsym_ffi.proofs.Walking.{Al, Goal, Good, IsSome, Item, Laws, List, Logic, None, Option, Ptr, RattleType, RawPtr, Seq, Slot, Some, Step, T, Ura, Val, Valss, WT, [], and_tt, block_ptr, box_owns, dict, dnil, drop, feq_i, feq_l, fjoin, fpack, fpick, fsplit, fst∗, ghosts, handle_tells, has_ty, impl, in_a_block, layout, lone, move, never, nothing, null_ptr, of_list, plain, ptr_val, refl, rewrite, sem, shape, step, subst, tnil, to, true, vnull, vptr, vstruct, within, ‵, ℕ, ◌$◌, ◌&&◌, ◌++◌, ◌∷◌, ◌≡◌}
 use mir.Raw.{raw as bare}
-use Rattle.latchsym_ffi.specs.Owning.{owns_content}
+use Rattle.latchsym_ffi.proofs.Words.{owns_content}
 use Rattle.std_heap.specs.contracts.Global as Heap
 use Rattle.std_heap.proofs.Global.TheLaws as heap
 use Rattle.latchsym_ffi.proofs.LooseValues.{both}

@@ -1,7 +1,6 @@
 -- Two rounds over the slots of a pool. Assumes nothing.
-use Rattle.std.proofs.Common.{◌≡◌, ◌≤◌, ◌+◌, ℕ, All, List, [], ◌∷◌, ap, arith, refl, subst, ◌∙◌}
+use Rattle.latchsym_ffi.proofs.Words.{◌≡◌, ◌≤◌, ◌+◌, ℕ, All, List, [], ◌∷◌, ap, arith, refl, subst, ◌∙◌, sum}
 use Rattle.std.proofs.lemmas.List.Sums.{sum_by-append}
-use Rattle.std.specs.Prelude.{sum}
 use Rattle.latchsym_ffi.specs.Pools.{HaveRisen, IsClaimed}
 
 sum_more : (n : ℕ) (ns : List ℕ) → sum (n ∷ ns) ≡ n + sum ns

@@ -1,9 +1,8 @@
 -- A pointer may go to another thread where the content may. Assumes nothing.
-use Rattle.latchsym_ffi.proofs.Words.{Option, Some, None, Global, lies, owns_content, Content}
+use Rattle.latchsym_ffi.proofs.Words.{Option, Some, None, Global, lies, owns_content, Content, IsSend}
 use mir.Raw.{raw}
 use base.Shift.{Keyless}
 use denote.Memory.{lone}
-use denote.Param.Send.{IsSend}
 use denote.RawPtr.{Ptr}
 use Rattle.std.proofs.Crossing as heap
 use Rattle.latchsym_ffi.specs.contracts.contents.Content.{the_row}

@@ -1,5 +1,5 @@
 -- The words that the proofs of this crate use, of whatever crate.
-pub use Rattle.std.proofs.Common.{All, Bool, Bor, List, None, Option, Some, [], ap, append-nil, arith, drop, false, get_or, inl, inr, length, length-append, map, min, nat_le, refl, rules, set, slice_get, slice_index_or, slice_set, subst, suc, sym, take, zero, ℕ, ⊎_elim, ◌++◌, ◌+◌, ◌-◌, ◌<◌, ◌^◌, ◌∙◌, ◌∷◌, ◌≡◌, ◌≤◌}
+pub use Rattle.std.proofs.Common.{All, Bool, Bor, List, None, Option, Some, [], ap, append-nil, arith, drop, false, get_or, inl, inr, length, length-append, map, min, nat_le, refl, rules, set, slice_get, slice_index_or, slice_set, subst, suc, sym, take, zero, ℕ, ⊎_elim, ◌++◌, ◌+◌, ◌-◌, ◌<◌, ◌^◌, ◌∙◌, ◌∷◌, ◌≡◌, ◌≤◌, true, find, if◌then◌else◌}
 pub use Rattle.std.proofs.lemmas.Bool.{cases_lt}
 pub use Rattle.std.proofs.lemmas.Grind.{flat_map-append}
 pub use Rattle.std.proofs.lemmas.List.{get_or-map, get_or-set_same, get_or_default, length-map, length-set, map-append, take_all, take_more, take_more_set}
@@ -13,41 +13,19 @@ pub use Rattle.std.specs.List.{AllWithin, flat_map, range_with_len}
 pub use Rattle.std.specs.List.Sorted.{IsNonDecreasingBy, IsPermutation, IsSortedBy}
 pub use Rattle.std.specs.Option.{option_copied, option_map, option_map_or}
 pub use Rattle.std.specs.Ordering.{is_lt, nat_cmp, ordering_then}
-pub use Rattle.std.specs.Prelude.{Contains, IfOk, IfSome, MatchOption, SomeIff, unwrap_or}
+pub use Rattle.std.specs.Prelude.{Contains, IfOk, IfSome, MatchOption, SomeIff, unwrap_or, sum}
 pub use Rattle.std.specs.Vec.Iter.{into_iter_items}
-pub use Rattle.std_alloc.proofs.SendSync.{lies}
+pub use denote.Param.Send.{IsSend, AllSend, owning_send, struct_send, sendable}
 pub use Rattle.facts.proofs.Lists.{slice_get_some}
 pub use Rattle.facts.proofs.Numbers.{is_lt-then}
 pub use Rattle.facts.proofs.Ranges.{range-append_from_zero}
 pub use Rattle.facts.proofs.Tests.{All-map_same}
-pub use Rattle.order_laws.proofs.HalfOpenLemmas.{found_holds}
-pub use Rattle.order_laws.specs.Orders.{half_open}
-pub use Rattle.order_laws.specs.declared.items.Item.{Item}
-pub use Rattle.order_laws.specs.declared.refusals.Refusal.TheVariants.{OutOfMemory}
-pub use Rattle.table_updates.specs.Updates.{replay}
-pub use Rattle.texts.specs.Lines.{lines_of}
 pub use Rattle.latch_table.proofs.MemoryLemmas.{looked_answers}
 pub use Rattle.latch_table.specs.Enlarging.{reader_beside}
 pub use Rattle.latch_table.specs.Readers.{ReaderState}
 pub use Rattle.latch_table.specs.Replacing.{RefusesReplacing}
-pub use Rattle.latch_table.specs.Writers.{new_writer}
+pub use Rattle.latch_table.specs.Writers.{new_writer, WriterState}
 pub use Rattle.latch_table.specs.declared.readers.Try.TheVariants.{Answered}
-pub use Rattle.modules.proofs.IndexLemmas.{IsSplitBy-from_partition, above_at, comes_before_weak, entry_at, last_below, length-entries_of, none_below, rising}
-pub use Rattle.modules.proofs.ItemLemmas.{all_regions, one_number_more, region_of}
-pub use Rattle.modules.proofs.NearestLemmas.{found, found_is}
-pub use Rattle.modules.proofs.RegionIndexLemmas.{last_ends_below, last_found, nothing_below}
-pub use Rattle.modules.proofs.WithinLemmas.{before_within, none_within, reach_within, some_within}
-pub use Rattle.modules.specs.Around.{address_above, symbol_below}
-pub use Rattle.modules.specs.Catalogs.{module_of, regions_of}
-pub use Rattle.modules.specs.Entries.{CatalogEntries, ModuleEntry, SymbolEntry}
-pub use Rattle.modules.specs.Found.{symbol_found_at, symbols_from}
-pub use Rattle.modules.specs.Index.{IsSplit, IsSplitBy, comes_before, index_entries_of}
-pub use Rattle.modules.specs.Items.{item_of_address, items_at, items_below, items_of}
-pub use Rattle.modules.specs.Loads.{item_of}
-pub use Rattle.modules.specs.RegionIndexes.{IsIndexOf, IsItemSplit}
-pub use Rattle.modules.specs.declared.symbols.IndexEntry.{IndexEntry}
-pub use Rattle.listing.specs.Opening.{Given, IsOpened, Listed, Say, lines_beside, listed_in, listings_of, skipped_modules_of}
-pub use Rattle.listing.specs.SymbolListing.{symbol_counts}
 pub use Rattle.latchsym_ffi.specs.Answers.{has_number}
 pub use Rattle.latchsym_ffi.specs.Batches.{told_at, told_of}
 pub use Rattle.latchsym_ffi.specs.Enlarging.{RefusesNodes}
@@ -70,3 +48,26 @@ pub use Rattle.latchsym_ffi.specs.declared.handles.Handle.{Handle}
 pub use Rattle.latchsym_ffi.specs.declared.view_rows.ViewRegion.{ViewRegion}
 pub use Rattle.latchsym_ffi.specs.declared.view_rows.ViewSymbol.{ViewSymbol}
 pub use Rattle.latchsym_ffi.specs.declared.views.SeenRow.{SeenRow}
+pub use Rattle.listing.specs.Opening.{Given, IsOpened, Listed, Say, lines_beside, listed_in, listings_of, skipped_modules_of}
+pub use Rattle.listing.specs.SymbolListing.{symbol_counts}
+pub use Rattle.modules.proofs.IndexLemmas.{IsSplitBy-from_partition, above_at, comes_before_weak, entry_at, last_below, length-entries_of, none_below, rising}
+pub use Rattle.modules.proofs.ItemLemmas.{all_regions, one_number_more, region_of}
+pub use Rattle.modules.proofs.NearestLemmas.{found, found_is}
+pub use Rattle.modules.proofs.RegionIndexLemmas.{last_ends_below, last_found, nothing_below}
+pub use Rattle.modules.proofs.WithinLemmas.{before_within, none_within, reach_within, some_within}
+pub use Rattle.modules.specs.Around.{address_above, symbol_below}
+pub use Rattle.modules.specs.Catalogs.{module_of, regions_of}
+pub use Rattle.modules.specs.Entries.{CatalogEntries, ModuleEntry, SymbolEntry}
+pub use Rattle.modules.specs.Found.{symbol_found_at, symbols_from}
+pub use Rattle.modules.specs.Index.{IsSplit, IsSplitBy, comes_before, index_entries_of}
+pub use Rattle.modules.specs.Items.{item_of_address, items_at, items_below, items_of}
+pub use Rattle.modules.specs.Loads.{item_of}
+pub use Rattle.modules.specs.RegionIndexes.{IsIndexOf, IsItemSplit}
+pub use Rattle.modules.specs.declared.symbols.IndexEntry.{IndexEntry}
+pub use Rattle.order_laws.proofs.HalfOpenLemmas.{found_holds}
+pub use Rattle.order_laws.specs.Orders.{half_open}
+pub use Rattle.order_laws.specs.declared.items.Item.{Item}
+pub use Rattle.order_laws.specs.declared.refusals.Refusal.TheVariants.{OutOfMemory}
+pub use Rattle.std_alloc.proofs.SendSync.{lies, quiet}
+pub use Rattle.table_updates.specs.Updates.{replay}
+pub use Rattle.texts.specs.Lines.{lines_of}

@@ -1,11 +1,8 @@
 -- Blanks that a line of a file of addresses ends in.
-use Rattle.std.proofs.Common.{◌≡◌, ◌∙◌, ℕ, ◌+◌, ◌<◌, true, false, cond, List, [], ◌∷◌, ◌++◌, length, get_or, take, sym, ap}
+use Rattle.listing.proofs.Words.{◌≡◌, ◌∙◌, ℕ, ◌+◌, ◌<◌, false, cond, List, [], ◌∷◌, ◌++◌, length, get_or, take, sym, ap, list_all, and-false, and-true, take_more, is_blank_end, without_blank_end}
+use Rattle.std.proofs.Common.{true}
 use Rattle.std.specs.Prelude.{◌&&◌}
-use Rattle.std.specs.List.{list_all}
-use Rattle.std.proofs.Math.Bool.{and-false, and-true}
-use Rattle.std.proofs.lemmas.List.{take_more}
 use Rattle.std.proofs.lemmas.List.Folds.{list_all-append}
-use Rattle.listing.specs.Addresses.{is_blank_end, without_blank_end}
 
 all_more : (text : List ℕ) (b : ℕ) → is_blank_end b ≡ true → list_all is_blank_end (text ++ b ∷ []) ≡ list_all is_blank_end text
 all_more text b is = list_all-append is_blank_end text (b ∷ []) ∙ rw is (and-true (list_all is_blank_end text))

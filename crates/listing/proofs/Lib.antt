@@ -1,3 +1,5 @@
+-- the words of all proofs of this crate
+mod Words
 -- blanks that a line of a file of addresses ends in
 pub mod BlankEndLemmas
 -- lines of a listing of symbols

@@ -1,18 +1,7 @@
 -- Where a note on a listing does not apply.
-use Rattle.std.proofs.Common.{◌≡◌, ◌<◌, ℕ, zero, suc, ◌+◌, Bool, true, false, true≢false, not, ◌&&◌, ◌||◌, cond, nat_lt, List, [], ◌∷◌, length, take, Option, Some, None, refl, sym, ap, ◌∙◌, ⊎_elim, filter, arith}
+use Rattle.listing.proofs.Words.{◌≡◌, ◌<◌, ℕ, zero, suc, ◌+◌, Bool, false, true≢false, cond, nat_lt, List, [], ◌∷◌, length, take, Some, None, refl, sym, ap, ◌∙◌, ⊎_elim, filter, arith, find, is_none, is_some, nat_eq, slice_get, unwrap_or, list_any, option_and_then, option_copied, option_map, bytes_eq, and-false, or_cases, or_left, or_parts, or_right, is_kernel_symbol, CatalogEntries, ModuleEntry, bounds_for, built_in_region, first_address, usual_bounds_of, BoundNames, ListedSymbol, is_mapping, symbols_with, HasBounds, has_symbols, lacks_symbols}
+use Rattle.std.proofs.Common.{true, not, ◌&&◌, ◌||◌, Option}
 use Rattle.std.specs.Borrow.{Bor}
-use Rattle.std.specs.Prelude.{find, is_none, is_some, nat_eq, slice_get, unwrap_or}
-use Rattle.std.specs.List.{list_any}
-use Rattle.std.specs.Option.{option_and_then, option_copied, option_map}
-use Rattle.std.specs.Str.{bytes_eq}
-use Rattle.std.proofs.Math.Bool.{and-false}
-use Rattle.std.proofs.lemmas.Bool.{or_cases, or_left, or_parts, or_right}
-use Rattle.listing.specs.Looks.{is_kernel_symbol}
-use Rattle.modules.specs.Entries.{CatalogEntries, ModuleEntry}
-use Rattle.modules.specs.Lines.{bounds_for, built_in_region, first_address, usual_bounds_of}
-use Rattle.modules.specs.Listed.{BoundNames, ListedSymbol}
-use Rattle.listing.specs.SymbolListing.{is_mapping, symbols_with}
-use Rattle.listing.specs.ListingNotes.{HasBounds, has_symbols, lacks_symbols}
 
 -- ---- the bounds of the kernel
 

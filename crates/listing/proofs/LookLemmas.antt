@@ -1,17 +1,6 @@
 -- What the counts of a listing say of how it looks.
-use Rattle.std.proofs.Common.{◌≡◌, ℕ, zero, suc, ◌+◌, Bool, true, false, not, ◌&&◌, ◌||◌, cond, nat_lt, List, [], ◌∷◌, length, Ok, Err, Result, refl, sym, ap, ◌∙◌, arith}
-use Rattle.std.specs.Prelude.{count_by}
-use Rattle.std.specs.List.{cons_option, list_any}
-use Rattle.std.specs.Result.{result_ok}
-use Rattle.std.proofs.Math.Bool.{or-false}
-use Rattle.std.proofs.lemmas.Bool.{lt-ltb}
-use Rattle.std.proofs.lemmas.List.Sums.{sum_by-cons}
-use Rattle.modules.specs.Listed.{ListedModule, ListedSymbol}
-use Rattle.listing.specs.Looks.{are_modules_hidden, are_symbols_hidden, is_hidden_module, is_hidden_symbol, is_shown_module, is_shown_symbol}
-use Rattle.listing.specs.ModuleListing.{module_of_line, module_place, modules_in}
-use Rattle.listing.specs.Skipping.{is_skipped_for, skipped_for}
-use Rattle.listing.specs.SymbolListing.{symbol_of, symbol_place, symbols_in}
-use Rattle.listing.specs.declared.module_listing.SkippedModule.{SkippedModule}
+use Rattle.listing.proofs.Words.{◌≡◌, ℕ, zero, suc, ◌+◌, Bool, false, cond, nat_lt, List, [], ◌∷◌, length, Ok, Err, Result, refl, sym, ap, ◌∙◌, arith, count_by, cons_option, list_any, result_ok, or-false, lt-ltb, sum_by-cons, ListedModule, ListedSymbol, are_modules_hidden, are_symbols_hidden, is_hidden_module, is_hidden_symbol, is_shown_module, is_shown_symbol, module_of_line, module_place, modules_in, is_skipped_for, skipped_for, symbol_of, symbol_place, symbols_in, SkippedModule}
+use Rattle.std.proofs.Common.{true, not, ◌&&◌, ◌||◌}
 use Rattle.listing.specs.declared.module_listing.SkippedModule.TheVariants as module_cause
 use Rattle.listing.specs.declared.symbol_listing.SkippedSymbol.{SkippedSymbol}
 use Rattle.listing.specs.declared.symbol_listing.SkippedSymbol.TheVariants as symbol_cause

@@ -1,14 +1,6 @@
 -- What is read of a listing of modules.
-use Rattle.std.proofs.Common.{◌≡◌, ℕ, Bool, true, false, ◌==◌, nat_lt, cond, List, [], ◌∷◌, take, length, Ok, Err, Result, Some, None, Option, ◌+◌, ◌^◌, not, ◌&&◌, refl, sym, ap, ◌∙◌, arith}
-use Rattle.std.specs.Prelude.{All}
-use Rattle.std.specs.List.{cons_option}
-use Rattle.std.specs.Result.{result_ok}
-use Rattle.std.proofs.lemmas.List.Elements.{All-cons}
-use Rattle.texts.specs.Lines.{longest_line}
-use Rattle.modules.specs.Lines.{fits}
-use Rattle.modules.specs.Listed.{ListedModule}
-use Rattle.listing.specs.ModuleListing.{module_of_line, modules_in, checked_module, module_of_words, runs_of}
-use Rattle.listing.specs.declared.module_listing.SkippedModule.{SkippedModule}
+use Rattle.listing.proofs.Words.{◌≡◌, ℕ, Bool, false, ◌==◌, nat_lt, cond, List, [], ◌∷◌, take, length, Ok, Err, Result, Some, None, ◌+◌, ◌^◌, refl, sym, ap, ◌∙◌, arith, All, cons_option, result_ok, All-cons, longest_line, fits, ListedModule, module_of_line, modules_in, checked_module, module_of_words, runs_of, SkippedModule}
+use Rattle.std.proofs.Common.{true, Option, not, ◌&&◌}
 use Rattle.listing.specs.declared.module_listing.SkippedModule.TheVariants.{Long, Hidden, Empty, Wraps}
 
 tests : (zero empty within : Bool) (x m : ListedModule) → cond zero (Err Hidden) (cond empty (Err Empty) (cond within (Ok x) (Err Wraps))) ≡ Ok m → (x ≡ m) × ((not zero && not empty && within) ≡ true)

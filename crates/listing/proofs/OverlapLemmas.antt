@@ -1,21 +1,12 @@
 -- Modules that a catalog has by name, and why it lacks a listed one.
-use Rattle.std.proofs.Common.{◌≡◌, ◌∙◌, ℕ, ◌+◌, Bool, true, false, cond, List, [], ◌∷◌, Some, None, refl, sym, ap, zero, suc, ◌<◌, ◌⊎◌, inl, inr, true≢false, ◌++◌, length, Option, subst, arith}
-use Rattle.std.specs.Prelude.{◌&&◌, ◌||◌, codes, is_some, Option, fold, map, not, slice_index_or}
-use Rattle.std.specs.List.{list_any, position_from}
-use Rattle.std.specs.Option.{option_map, option_map_or}
-use Rattle.std.specs.Str.{bytes_eq}
-use Rattle.std.proofs.Math.Bool.{and-false, or-false}
-use Rattle.std.proofs.lemmas.Bool.{or_parts, or_left, or_right}
+use Rattle.listing.proofs.Words.{◌≡◌, ◌∙◌, ℕ, ◌+◌, Bool, false, cond, List, [], ◌∷◌, Some, None, refl, sym, ap, zero, suc, ◌<◌, ◌⊎◌, inl, inr, true≢false, ◌++◌, length, subst, arith, codes, is_some, fold, slice_index_or, list_any, position_from, option_map, option_map_or, bytes_eq, and-false, or-false, or_parts, or_left, or_right, ListedModule, ListedSymbol, BoundNames, ListedRegion, module_number_of, catalog_of, counts_of, entry_for, CatalogEntries, ModuleEntry, do_modules_overlap, has_module, has_name, is_left_out, is_listed_name, kernel_regions}
+use Rattle.std.proofs.Common.{true, Option}
+use Rattle.std.specs.Prelude.{◌&&◌, ◌||◌, Option, map, not}
 use Rattle.std.proofs.lemmas.Slice.Eq.{bytes_eq-Decides}
 use Rattle.facts.proofs.Tests.{is_some-position_from}
-use Rattle.modules.specs.Listed.{ListedModule, ListedSymbol, BoundNames, ListedRegion}
-use Rattle.modules.specs.Catalogs.{module_number_of, catalog_of, counts_of, entry_for}
-use Rattle.modules.specs.Entries.{CatalogEntries, ModuleEntry}
 use Rattle.modules.specs.Names.{names_in}
-use Rattle.listing.specs.Overlaps.{do_modules_overlap, has_module, has_name, is_left_out, is_listed_name}
 use Rattle.facts.proofs.Bools.{or_assoc}
 use Rattle.modules.specs.Accepted.{Accepted, accepted_of, after_module, names_of, none_yet, taken_regions}
-use Rattle.modules.specs.Lines.{kernel_regions}
 use Rattle.modules.specs.Placed.{PlacedModule, has_core, lines_named, placed_alone, placed_by, placed_line}
 use Rattle.modules.specs.Regions.{are_beside, lie_apart}
 use Rattle.modules.proofs.AdmissionLemmas.{after_accepted, after_double, after_overlap}

@@ -1,24 +1,15 @@
 -- What a line of a listing of regions is.
-use Rattle.std.proofs.Common.{cond, ◌≡◌, ℕ, ◌<◌, Bool, true, false, nat_lt, List, [], ◌∷◌, length, map, Option, Some, None, Result, Ok, Err, MatchResult, inl, inr, refl, sym, ap, ◌∙◌, subst, arith}
-use Rattle.std.specs.Prelude.{All, IfOk}
-use Rattle.std.specs.Global.{Vec}
-use Rattle.std.specs.List.{filter_map, cons_option}
-use Rattle.std.specs.Option.{option_map_or}
-use Rattle.std.proofs.lemmas.List.Elements.{All-cons}
-use Rattle.modules.specs.Lines.{region_fits}
-use Rattle.modules.specs.Listed.{ListedRegion}
+use Rattle.listing.proofs.Words.{cond, ◌≡◌, ℕ, ◌<◌, Bool, false, nat_lt, List, [], ◌∷◌, length, Some, None, Result, Ok, Err, MatchResult, inl, inr, refl, sym, ap, ◌∙◌, subst, arith, All, IfOk, Vec, filter_map, cons_option, option_map_or, All-cons, region_fits, ListedRegion, words_of, number_of, Words}
+use Rattle.std.proofs.Common.{true, map, Option}
 use Rattle.modules.specs.declared.lines.Part.{Part}
 use Rattle.texts.specs.declared.faults.LineFault.{LineFault}
 use Rattle.texts.specs.declared.said.LineMeaning.{LineMeaning}
 use Rattle.texts.specs.declared.said.LineMeaning.TheVariants.{Nothing, One, Bad}
-use Rattle.texts.specs.Lines.{words_of}
-use Rattle.texts.specs.Numbers.{number_of}
 use Rattle.listing.specs.RegionListing.{is_regions_header, part_of, regions_of_lines, region_by, region_of_parts, region_of_words}
 use Rattle.texts.specs.Said.{entries_from, GivesInGrammar, is_passed_over, is_too_long}
 use Rattle.texts.specs.Understood.{entry_by, AreSaidBy, IsFirstBadFrom}
 use Rattle.listing.specs.RegionListing.{IsFirstBadRegion, IsRegionListingBy}
 use Rattle.texts.proofs.UnderstoodLemmas.{are_entries}
-use Rattle.texts.proofs.LineCutLemmas.{Words}
 
 -- ---- words of another number
 

@@ -1,15 +1,8 @@
 -- Lines that are taken, or skipped for a cause, one after the other.
-use Rattle.std.proofs.Common.{◌≡◌, ℕ, zero, suc, ◌==◌, ◌+◌, ◌<◌, ◌≤◌, Bool, true, false, cond, List, [], ◌∷◌, ◌++◌, length, map, Option, None, Some, Result, Ok, Err, refl, sym, ap, ◌∙◌, arith, length-append}
-use Rattle.std.specs.Prelude.{slice_get, slice_index, sum}
-use Rattle.std.specs.List.{cons_option, onto_first, range_with_len}
-use Rattle.std.specs.Result.{result_ok}
-use Rattle.std.proofs.lemmas.Bool.{eq-eqb, ne_eqb}
-use Rattle.std.proofs.lemmas.List.{length-map}
+use Rattle.listing.proofs.Words.{◌≡◌, ℕ, zero, suc, ◌==◌, ◌+◌, ◌<◌, ◌≤◌, Bool, false, cond, List, [], ◌∷◌, ◌++◌, length, None, Some, Result, Ok, Err, refl, sym, ap, ◌∙◌, arith, length-append, slice_get, slice_index, sum, cons_option, onto_first, range_with_len, result_ok, eq-eqb, ne_eqb, length-map, count_by-le-length, sum_by-append, sum_by-cons, sum_by-set, lines_of, counts_by, is_skipped_for, one_more_at, skipped_for, taken_by}
+use Rattle.std.proofs.Common.{true, map, Option}
 use Rattle.std.proofs.lemmas.Option.{slice_get_within}
-use Rattle.std.proofs.lemmas.List.Sums.{count_by-le-length, sum_by-append, sum_by-cons, sum_by-set}
 use Rattle.facts.proofs.Lists.{length-onto_first, moved_over, none_given_more, one_given_more}
-use Rattle.texts.specs.Lines.{lines_of}
-use Rattle.listing.specs.Skipping.{counts_by, is_skipped_for, one_more_at, skipped_for, taken_by}
 
 -- ---- counts of which one is one more
 

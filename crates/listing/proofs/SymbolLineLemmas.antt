@@ -1,22 +1,12 @@
 -- Lines of a listing of symbols: what is before a byte and after it, their addresses, and mapping
 -- symbols among them.
-use Rattle.std.proofs.Common.{cond, ◌≡◌, ℕ, zero, suc, ◌+◌, ◌^◌, ◌<◌, Bool, true, false, ◌&&◌, ◌==◌, nat_lt, nat_le, List, [], ◌∷◌, ◌++◌, length, get_or, take, drop, Some, None, refl, ap, subst, ◌∙◌, arith}
+use Rattle.listing.proofs.Words.{cond, ◌≡◌, ℕ, zero, suc, ◌+◌, ◌^◌, ◌<◌, Bool, false, ◌==◌, nat_lt, nat_le, List, [], ◌∷◌, ◌++◌, length, get_or, take, drop, Some, None, refl, ap, subst, ◌∙◌, arith, list_all, option_map, option_and_then, and_parts, get_or-take, length-take, take_rest, filter-append, AllPass-from_list_all, Nowhere, Passes, is_byte, ListedSymbol, numeral, first_fails, later, line_here, line_nowhere, split_here, split_nowhere, address_in, cut_at, is_mapping, symbols_with}
+use Rattle.std.proofs.Common.{true, ◌&&◌}
 use Rattle.std.specs.Char.{is_digit}
-use Rattle.std.specs.List.{list_all}
-use Rattle.std.specs.Option.{option_map, option_and_then}
 use Rattle.std.specs.Prelude.{not}
 use Rattle.std.specs.Str.Parse.{digits_value}
-use Rattle.std.proofs.lemmas.Bool.{and_parts}
-use Rattle.std.proofs.lemmas.List.{get_or-take, length-take, take_rest}
-use Rattle.std.proofs.lemmas.List.Elements.{filter-append}
-use Rattle.std.proofs.lemmas.List.Sums.{AllPass-from_list_all}
 use Rattle.facts.proofs.Digits.{digit_not_blank}
 use Rattle.facts.proofs.Options.{cond-Some_true}
-use Rattle.memchr.specs.Find.{Nowhere, Passes, is_byte}
-use Rattle.modules.specs.Listed.{ListedSymbol}
-use Rattle.texts.specs.Numbers.{numeral}
-use Rattle.texts.proofs.LineCutLemmas.{first_fails, later, line_here, line_nowhere, split_here, split_nowhere}
-use Rattle.listing.specs.SymbolListing.{address_in, cut_at, is_mapping, symbols_with}
 
 pub cut_here : (b : ℕ) (xs : List ℕ) (k : ℕ) → k < length xs → Passes (is_byte b) xs k → Nowhere (Passes (is_byte b) xs) 0 k → cut_at b xs ≡ Some (take k xs, drop (k + 1) xs)
 cut_here b [] k h passes none = absurd (omega arith)

@@ -1,8 +1,5 @@
 -- Where the first line of a text ends, after its first tab.
-use Rattle.std.proofs.Common.{◌≡◌, ℕ, ◌+◌, ◌-◌, ◌==◌, List, length, get_or, take, drop, sym, ap, ◌∙◌, ⊎_elim, arith, length-drop}
-use Rattle.std.proofs.lemmas.Bool.{cases_order, eqb-true, or_left}
-use Rattle.std.proofs.lemmas.List.{get_or-drop, take_rest}
-use Rattle.memchr.specs.Find.{NoneBefore, Nowhere, Passes, is_byte, is_byte2}
+use Rattle.listing.proofs.Words.{◌≡◌, ℕ, ◌+◌, ◌-◌, ◌==◌, List, length, get_or, take, drop, sym, ap, ◌∙◌, ⊎_elim, arith, length-drop, cases_order, eqb-true, or_left, get_or-drop, take_rest, NoneBefore, Nowhere, Passes, is_byte, is_byte2}
 
 -- what stands after a place
 abbrev pub behind : ℕ → List ℕ → List ℕ

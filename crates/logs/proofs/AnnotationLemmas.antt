@@ -1,20 +1,11 @@
 -- Blocks that are read and written one after the other.
-use Rattle.std.proofs.Common.{◌≡◌, ◌∙◌, ℕ, ◌+◌, ◌<◌, ◌≤◌, inl, inr, List, [], ◌∷◌, ◌++◌, length, length-append, arith, refl, sym, ap, subst, Option, Ok, Err, take, append_assoc, append-nil}
-use Rattle.std.specs.Prelude.{◌-◌, ◌^◌}
-use Rattle.std.specs.Io.KnownBytes.{Appends, Consumes, IsAtEnd, Keeps}
+use Rattle.logs.proofs.Words.{◌≡◌, ◌∙◌, ℕ, ◌+◌, ◌<◌, ◌≤◌, inl, inr, List, [], ◌∷◌, ◌++◌, length, length-append, arith, refl, sym, ap, subst, Ok, Err, take, append_assoc, append-nil, ◌^◌, Appends, Consumes, IsAtEnd, Keeps, NoneFailed, Rose, device_of, failures_of, Output, WrotePart, contents_of, has_failed, Answering, lines, annotated, annotated_lines, first_held, held_over, Annotates, Begins, Ends, IsCutOff, IsOpen, IsUpToDate, KeepsNothingBack, Passes, Puts, held_in, put_of, LogFault, Annotator}
+use Rattle.std.proofs.Common.{Option}
+use Rattle.std.specs.Prelude.{◌-◌}
 use Rattle.std.proofs.KnownBytes.{Appends-nil, Appends-trans, Consumes-kept, Consumes-nil, Consumes-trans}
 use Rattle.texts.specs.declared.counted.Counted.{Counted}
-use Rattle.texts.specs.Counted.{NoneFailed, Rose, device_of, failures_of}
-use Rattle.texts.specs.declared.output.Output.{Output}
-use Rattle.texts.specs.Output.{WrotePart, contents_of, has_failed}
-use Rattle.logs.specs.Answering.{Answering}
-use Rattle.logs.specs.Lines.{lines}
-use Rattle.logs.specs.AnnotatedLogs.{annotated, annotated_lines, first_held, held_over}
-use Rattle.logs.specs.Annotation.{Annotates, Begins, Ends, IsCutOff, IsOpen, IsUpToDate, KeepsNothingBack, Passes, Puts, held_in, put_of}
 use Rattle.logs.specs.declared.annotation.Findings.{Findings}
-use Rattle.logs.specs.declared.annotation.LogFault.{LogFault}
 use Rattle.logs.specs.declared.annotation.LogFault.TheVariants as fault
-use Rattle.logs.specs.declared.annotator.Annotator.{Annotator}
 use Rattle.logs.specs.declared.log_names.LogNames.{LogNames}
 use Rattle.logs.proofs.LineLemmas.{held_then, lines_then, put_begins, then_passes}
 

@@ -1,3 +1,5 @@
+-- the words of all proofs of this crate
+mod Words
 -- lines that are cut off
 pub mod LineLemmas
 -- blocks that are read and written one after the other

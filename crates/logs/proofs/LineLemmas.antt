@@ -1,16 +1,8 @@
 -- The lines that bytes are, and what is put for them.
-use Rattle.std.proofs.Common.{◌≡◌, ◌∙◌, ℕ, ◌+◌, ◌<◌, ◌≤◌, Bool, true, false, cond, ◌||◌, ◌==◌, List, [], ◌∷◌, ◌++◌, length, take, get_or, length-append, refl, sym, ap, append_assoc, append-nil, arith, true≢false}
-use Rattle.std.specs.List.{onto_first}
-use Rattle.std.proofs.lemmas.Bool.{eqb-true, false_from_ne_true, lt-ltb, ltb-true}
+use Rattle.logs.proofs.Words.{◌≡◌, ◌∙◌, ℕ, ◌+◌, ◌<◌, ◌≤◌, Bool, true, false, cond, ◌||◌, ◌==◌, List, [], ◌∷◌, ◌++◌, length, take, get_or, length-append, refl, sym, ap, append_assoc, append-nil, arith, true≢false, onto_first, eqb-true, false_from_ne_true, lt-ltb, ltb-true, take_more, Nowhere, is_byte, Answering, AreWhole, IsLine, has_end, is_long, lines, annotated_lines, held_over, Adds, Ended, Ends, IsOpen, Passes, held_in, kept_of, put_of, Annotator, Held}
 use Rattle.logs.proofs.TextLemmas.{at_default, none_up_to, or_left, or_right}
-use Rattle.std.proofs.lemmas.List.{take_more}
-use Rattle.memchr.specs.Find.{Nowhere, Passes as HasByte, is_byte}
-use Rattle.logs.specs.Answering.{Answering}
-use Rattle.logs.specs.Lines.{AreWhole, IsLine, has_end, is_long, lines}
-use Rattle.logs.specs.AnnotatedLogs.{annotated_line, annotated_lines, held_behind, held_over}
-use Rattle.logs.specs.Annotation.{Adds, Ended, Ends, IsOpen, Passes, held_in, kept_of, put_of}
-use Rattle.logs.specs.declared.annotator.Annotator.{Annotator}
-use Rattle.logs.specs.declared.held.Held.{Held}
+use Rattle.memchr.specs.Find.{Passes as HasByte}
+use Rattle.logs.specs.AnnotatedLogs.{annotated_line, held_behind}
 
 no_end_behind : (xs ys : List ℕ) → has_end xs ≡ false → has_end ys ≡ false → has_end (xs ++ ys) ≡ false
 no_end_behind [] ys p q = q

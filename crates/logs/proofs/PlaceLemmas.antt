@@ -1,9 +1,6 @@
 -- Bytes that are gone through from the last one to the first, and the things that begin a line.
-use Rattle.std.proofs.Common.{◌≡◌, ◌∙◌, ℕ, zero, suc, ◌+◌, ◌-◌, ◌<◌, ◌≤◌, true, false, cond, not, ◌&&◌, ◌==◌, List, [], ◌∷◌, length, take, drop, get_or, refl, sym, ap, arith}
-use Rattle.std.proofs.lemmas.Bool.{eqb-true, false_from_ne_true}
-use Rattle.std.proofs.lemmas.List.{reverse-append, take_more}
-use Rattle.logs.specs.Words.{run_of}
-use Rattle.logs.specs.Places.{ends_prefix, is_lead, is_of, last_of, lead_item, prefix_up_to}
+use Rattle.logs.proofs.Words.{◌≡◌, ◌∙◌, ℕ, zero, suc, ◌+◌, ◌<◌, ◌≤◌, true, false, cond, not, ◌&&◌, ◌==◌, List, [], ◌∷◌, length, take, get_or, refl, sym, ap, arith, eqb-true, false_from_ne_true, reverse-append, take_more, run_of, ends_prefix, is_lead, is_of, last_of, lead_item, prefix_up_to}
+use Rattle.std.proofs.Common.{◌-◌, drop}
 use Rattle.logs.specs.declared.places.Kind.{Kind}
 
 -- one byte more at the end

@@ -1,10 +1,6 @@
 -- What a failed write leaves.
-use Rattle.std.proofs.Common.{◌≡◌, ◌∙◌, ◌++◌, List, [], ℕ, Option, Result, Ok, Err, ap, subst, sym}
-use Rattle.std.specs.Prelude.{IfErr, IfOk, IsErrAnd, OnErr}
-use Rattle.texts.specs.declared.output.Output.{Output}
-use Rattle.texts.specs.Output.{Delivered, WrotePart, error_in}
-use Rattle.logs.specs.Annotation.{Adds, IsWriteFault, Puts}
-use Rattle.logs.specs.declared.annotation.LogFault.{LogFault}
+use Rattle.logs.proofs.Words.{◌≡◌, ◌∙◌, ◌++◌, List, [], ℕ, Result, Ok, Err, ap, subst, sym, IfErr, IfOk, IsErrAnd, OnErr, Output, Delivered, WrotePart, error_in, Adds, IsWriteFault, Puts, LogFault}
+use Rattle.std.proofs.Common.{Option}
 use Rattle.logs.specs.declared.annotation.LogFault.TheVariants as fault
 
 -- a text that was added to nothing

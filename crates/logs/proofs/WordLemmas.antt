@@ -1,18 +1,10 @@
 -- Words that are no addresses, and the bytes that are leapt over.
-use Rattle.std.proofs.Common.{◌≡◌, ◌∙◌, ◌⊎◌, inl, inr, ℕ, zero, suc, ◌+◌, ◌-◌, ◌<◌, ◌≤◌, Bool, true, false, cond, not, ◌&&◌, ◌||◌, ◌==◌, List, [], ◌∷◌, length, take, get_or, refl, sym, ap, subst, arith, true≢false}
-use Rattle.std.specs.Prelude.{None, Option, Some, drop, nat_eq, nat_le, nat_lt, reverse}
-use Rattle.std.proofs.Common.{length-drop}
+use Rattle.logs.proofs.Words.{◌≡◌, ◌∙◌, ◌⊎◌, inl, inr, ℕ, zero, suc, ◌+◌, ◌<◌, ◌≤◌, Bool, true, false, cond, not, ◌&&◌, ◌||◌, ◌==◌, List, [], ◌∷◌, length, take, get_or, refl, sym, ap, subst, arith, true≢false, Some, nat_eq, nat_le, nat_lt, reverse, length-drop, list_all, list_any, eqb-true, false_from_ne_true, leb-false, leb-true, lt-ltb, ltb-true, or_cases, drop_more, get_or-drop, length-take, fewest, is_address_byte, is_begun, taken_among, taken_at, address_at, address_of_word, digits_between, begins_joint, has_prefix, is_word_byte, run_of, words_behind, words_from, Held, Taken}
+use Rattle.std.proofs.Common.{◌-◌}
+use Rattle.std.specs.Prelude.{None, Option, drop}
 use Rattle.std.specs.Char.{digit_value, is_digit}
-use Rattle.std.specs.List.{list_all, list_any}
-use Rattle.std.proofs.lemmas.Bool.{eqb-true, false_from_ne_true, leb-false, leb-true, lt-ltb, ltb-true, or_cases}
-use Rattle.std.proofs.lemmas.List.{drop_more, get_or-drop, length-take}
 use Rattle.std.specs.Option.{option_map_or}
 use Rattle.texts.specs.Numbers.{numeral}
-use Rattle.logs.specs.Progress.{fewest, is_address_byte, is_begun}
-use Rattle.logs.specs.TakenWords.{taken_among, taken_at}
-use Rattle.logs.specs.Words.{address_at, address_of_word, digits_between, begins_joint, has_prefix, is_word_byte, run_of, words_behind, words_from}
-use Rattle.logs.specs.declared.held.Held.{Held}
-use Rattle.logs.specs.declared.taken.Taken.{Taken}
 use Rattle.logs.specs.declared.words.Word.{Word}
 
 -- ---- words that are too short, or have another byte

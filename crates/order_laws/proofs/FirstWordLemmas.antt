@@ -1,15 +1,5 @@
 -- The first words of items: which of them have one, and how they lie in a table.
-use Rattle.std.proofs.Common.{◌≡◌, ℕ, false, List, []}
-use Rattle.std.proofs.Common.{◌∷◌, ◌++◌, refl, sym, ap, subst, ⊎_elim}
-use Rattle.std.proofs.Common.{arith}
-use Rattle.std.specs.Prelude.{◌==◌, ◌||◌, Contains}
-use Rattle.std.specs.List.{AllByRecursion}
-use Rattle.std.proofs.lemmas.Bool.{ne_eqb}
-use Rattle.order_laws.specs.declared.items.Item.{Item}
-use Rattle.order_laws.specs.Orders.{Order, Precedes, IsLawful}
-use Rattle.order_laws.specs.Tables.{IsTable, has}
-use Rattle.facts.proofs.Each.{all_at, all_right}
-use Rattle.facts.proofs.Members.{Contains-cons_cases}
+use Rattle.order_laws.proofs.Words.{◌≡◌, ℕ, false, List, [], ◌∷◌, ◌++◌, refl, sym, ap, subst, ⊎_elim, arith, ◌==◌, ◌||◌, Contains, AllByRecursion, ne_eqb, Item, Order, Precedes, IsLawful, IsTable, has, all_at, all_right, Contains-cons_cases}
 
 -- no item has a first word
 abbrev pub Lacks : ℕ → List Item → Type 0

@@ -1,12 +1,8 @@
 -- What the order of half open ranges says of a key.
-use Rattle.std.proofs.Common.{◌<◌, ◌≡◌, ◌≤◌, List, None, Option, Some, arith, subst, sym, ℕ}
-use Rattle.std.specs.Prelude.{IfSome}
-use Rattle.std.specs.declared.cmp.Ordering.TheVariants.{Equal}
+use Rattle.order_laws.proofs.Words.{◌<◌, ◌≡◌, ◌≤◌, List, None, Option, arith, subst, sym, ℕ, IfSome, Equal, half_open, IsLook, look, Item}
+use Rattle.std.proofs.Common.{Some}
 use Rattle.std.proofs.lemmas.Bool.Decides.{nat_tests}
 use Rattle.order_laws.proofs.TableLemmas.{look_is}
-use Rattle.order_laws.specs.Orders.{half_open}
-use Rattle.order_laws.specs.Tables.{IsLook, look}
-use Rattle.order_laws.specs.declared.items.Item.{Item}
 
 pub equal_inside : (k : ℕ) (i : Item) → i.a ≤ k → k < i.b → half_open.comp k i ≡ Equal
 equal_inside k i le lt = grind (arith, nat_tests)

@@ -1,9 +1,5 @@
 -- Items of an order in line: what comes first, and what lies beyond a neighbour.
-use Rattle.std.proofs.Common.{◌≡◌, ◌≤◌, true, false, List, [], ◌∷◌, refl, ◌∙◌, ap, arith}
-use Rattle.std.specs.Prelude.{not}
-use Rattle.std.specs.List.{AllByRecursion}
-use Rattle.order_laws.specs.declared.items.Item.{Item}
-use Rattle.order_laws.specs.Orders.{Order, Precedes, IsLawful, IsInLine}
+use Rattle.order_laws.proofs.Words.{◌≡◌, ◌≤◌, true, false, List, [], ◌∷◌, refl, ◌∙◌, ap, arith, not, AllByRecursion, Item, Order, Precedes, IsLawful, IsInLine}
 
 module _ {K : Type 0} (o : Order K) (law : IsLawful o) (line : IsInLine o) where
   pub precedes : (x y : Item) → o.valid x ≡ true → o.valid y ≡ true → o.apart x y ≡ true → x.a ≤ y.a → Precedes o x y

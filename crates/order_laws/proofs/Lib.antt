@@ -1,3 +1,5 @@
+-- the words of all proofs of this crate
+mod Words
 -- laws of orders and tables
 pub mod TableLemmas
 pub mod PlaceLemmas

@@ -1,17 +1,9 @@
 -- What it says of a table that an item meets none of its items.
-use Rattle.std.proofs.Common.{◌∙◌, ◌∷◌, ◌≡◌, List, [], ap, false, get_or, refl, true}
-use Rattle.std.specs.Prelude.{◌||◌, Contains, not}
-use Rattle.std.specs.List.{AllByRecursion}
+use Rattle.order_laws.proofs.Words.{◌∙◌, ◌∷◌, ◌≡◌, List, [], ap, false, get_or, refl, true, ◌||◌, Contains, not, AllByRecursion, Order, half_open, meets, Item, ℕ, cond, ◌++◌, sym, ◌==◌, ◌&&◌, list_any, without_all}
 use Rattle.std.proofs.lemmas.List.Elements.{Contains-get_or}
 use Rattle.std.proofs.lemmas.List.Folds.{list_any_none}
-use Rattle.order_laws.specs.Orders.{Order, half_open}
-use Rattle.order_laws.specs.Tables.{meets}
-use Rattle.order_laws.specs.declared.items.Item.{Item}
-use Rattle.std.proofs.Common.{ℕ, cond, Bool, ◌++◌, sym}
-use Rattle.std.specs.Prelude.{◌==◌, ◌&&◌}
-use Rattle.std.specs.List.{list_any}
+use Rattle.std.proofs.Common.{Bool}
 use Rattle.std.proofs.Math.Bool.{or-true}
-use Rattle.order_laws.specs.Tables.{without_all}
 use Rattle.facts.proofs.Bools.{or_assoc, or_swap}
 
 -- an item that meets none is apart from each

@@ -1,11 +1,6 @@
 -- Where items stand in a table.
-use Rattle.std.proofs.Common.{◌≡◌, ◌≢◌, ℕ, suc, ◌<◌, ◌≤◌, true, false, cond, List, [], ◌∷◌, length, refl, sym, ◌∙◌, ap, subst, arith}
-use Rattle.std.specs.Prelude.{not, ◌||◌, ◌==◌, Some, insert, remove, slice_get}
-use Rattle.std.specs.List.{AllByRecursion}
-use Rattle.std.proofs.lemmas.Bool.{eqb-true, ne_eqb}
-use Rattle.order_laws.specs.declared.items.Item.{Item}
-use Rattle.order_laws.specs.Orders.{Order, Precedes, IsLawful}
-use Rattle.order_laws.specs.Tables.{IsTable, with_item, without, without_all, place_for, place_of, has}
+use Rattle.order_laws.proofs.Words.{◌≡◌, ◌≢◌, ℕ, suc, ◌<◌, ◌≤◌, true, false, cond, List, [], ◌∷◌, length, refl, sym, ◌∙◌, ap, subst, arith, not, ◌||◌, ◌==◌, insert, remove, slice_get, AllByRecursion, eqb-true, ne_eqb, Item, Order, Precedes, IsLawful, IsTable, with_item, without, without_all, place_for, place_of, has}
+use Rattle.std.specs.Prelude.{Some}
 use Rattle.facts.proofs.Numbers.{eqb-flip}
 
 -- a table with one item more has it at its place

@@ -1,12 +1,5 @@
 -- Tables as sets of items.
-use Rattle.std.proofs.Common.{◌≡◌, ◌≢◌, ℕ, true, false, cond, List, [], ◌∷◌, refl, sym, ◌∙◌, ap, subst, inl, inr, ⊎_elim}
-use Rattle.std.specs.Prelude.{◌⊎◌, ◌↔◌, Contains, not, ◌==◌}
-use Rattle.std.proofs.lemmas.Bool.{eq-eqb, eqb-true}
-use Rattle.order_laws.specs.declared.items.Item.{Item}
-use Rattle.order_laws.specs.Orders.{Order, Precedes, IsLawful}
-use Rattle.order_laws.specs.Tables.{IsTable, with_item, without}
-use Rattle.facts.proofs.Each.{all_at}
-use Rattle.facts.proofs.Members.{Contains-cons_cases, Contains-head, Contains-none, Contains-one, Contains-rest}
+use Rattle.order_laws.proofs.Words.{◌≡◌, ◌≢◌, ℕ, true, false, cond, List, [], ◌∷◌, refl, sym, ◌∙◌, ap, subst, inl, inr, ⊎_elim, ◌⊎◌, ◌↔◌, Contains, not, ◌==◌, eq-eqb, eqb-true, Item, Order, Precedes, IsLawful, IsTable, with_item, without, all_at, Contains-cons_cases, Contains-head, Contains-none, Contains-one, Contains-rest}
 
 -- the items of a table with one item more
 module _ {K : Type 0} (o : Order K) (i x : Item) where

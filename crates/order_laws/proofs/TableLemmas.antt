@@ -1,14 +1,7 @@
 -- What follows from an order's laws for tables.
-use Rattle.std.proofs.Common.{◌≡◌, ◌≢◌, ℕ, suc, ◌+◌, ◌≤◌, true, false, cond, List, [], ◌∷◌, ◌++◌, length, Option, Some, None, refl, sym, ◌∙◌, ap, subst, ⊎_elim, arith}
-use Rattle.std.specs.Prelude.{not, ◌==◌, Contains}
-use Rattle.std.specs.List.{AllByRecursion}
+use Rattle.order_laws.proofs.Words.{◌≡◌, ◌≢◌, ℕ, suc, ◌+◌, ◌≤◌, true, false, cond, List, [], ◌∷◌, ◌++◌, length, Option, None, refl, sym, ◌∙◌, ap, subst, ⊎_elim, arith, not, ◌==◌, Contains, AllByRecursion, Less, Equal, Greater, Item, Order, Precedes, IsLawful, IsTable, look, IsLook, with_item, without, all_at, all_filtered, all_left, all_right, all_weaker, Contains-cons_cases, Contains-rest}
+use Rattle.std.proofs.Common.{Some}
 use Rattle.std.specs.Ordering.{is_eq}
-use Rattle.std.specs.declared.cmp.Ordering.TheVariants.{Less, Equal, Greater}
-use Rattle.order_laws.specs.declared.items.Item.{Item}
-use Rattle.order_laws.specs.Orders.{Order, Precedes, IsLawful}
-use Rattle.order_laws.specs.Tables.{IsTable, look, IsLook, with_item, without}
-use Rattle.facts.proofs.Each.{all_at, all_filtered, all_left, all_right, all_weaker}
-use Rattle.facts.proofs.Members.{Contains-cons_cases, Contains-rest}
 use Rattle.facts.proofs.Orderings.{cases_ordering, greater_not_equal, is_equal, less_not_equal, not_equal}
 
 -- where a table is split at an item

@@ -1,14 +1,8 @@
 -- What is in a table without some first words.
-use Rattle.std.proofs.Common.{◌++◌, ◌+◌, ◌∙◌, ◌∷◌, ◌≡◌, ◌≢◌, ◌≤◌, List, [], ap, arith, cond, false, length, refl, sym, true, ℕ, ⊎_elim}
-use Rattle.std.specs.Prelude.{◌==◌, ◌||◌, Bool, filter, not}
-use Rattle.std.specs.List.{AllByRecursion, list_any}
-use Rattle.std.proofs.lemmas.Bool.{cases_eq, eq-eqb, eqb-true, ne_eqb, or_parts}
-use Rattle.facts.proofs.Each.{all_filtered}
+use Rattle.order_laws.proofs.Words.{◌++◌, ◌+◌, ◌∙◌, ◌∷◌, ◌≡◌, ◌≢◌, ◌≤◌, List, [], ap, arith, cond, false, length, refl, sym, true, ℕ, ⊎_elim, ◌==◌, ◌||◌, filter, not, AllByRecursion, list_any, cases_eq, eq-eqb, eqb-true, ne_eqb, or_parts, all_filtered, Order, Precedes, IsTable, has, without, without_all, Item}
+use Rattle.std.specs.Prelude.{Bool}
 use Rattle.order_laws.proofs.TableLemmas.{length_without}
 use Rattle.facts.proofs.Tests.{length-filter_le}
-use Rattle.order_laws.specs.Orders.{Order, Precedes}
-use Rattle.order_laws.specs.Tables.{IsTable, has, without, without_all}
-use Rattle.order_laws.specs.declared.items.Item.{Item}
 
 -- a part of a table is one, and no longer
 pub filtered_table : {K : Type 0} (o : Order K) (test : Item → Bool) (xs : List Item) → IsTable o xs

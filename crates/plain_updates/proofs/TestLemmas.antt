@@ -1,16 +1,11 @@
 -- The first test of a list that holds, and the table after an update of one item.
-use Rattle.std.proofs.Common.{◌≡◌, ℕ, ◌+◌, ◌<◌, true, false, cond, List, [], ◌∷◌, ◌++◌, length, Some, None, refl, sym, ◌∙◌, ap}
-use Rattle.std.specs.Prelude.{Bool, ◌||◌, nat_lt, Option}
+use Rattle.plain_updates.proofs.Words.{◌≡◌, ℕ, ◌+◌, ◌<◌, true, false, cond, List, [], ◌∷◌, ◌++◌, length, Some, None, refl, sym, ◌∙◌, ap, Bool, ◌||◌, nat_lt, Option, Item, with_item, without, without_all, Insert, Erase, Batch, Test, after, first_that_holds, tests_of, refusal_for, some_invalid, some_missing, some_twice, some_overlap, some_meet}
 use Rattle.std.proofs.lemmas.Bool.{lt-ltb, ltb-true}
 use Rattle.order_laws.specs.declared.refusals.Refusal.{Refusal}
 use Rattle.order_laws.specs.declared.refusals.Refusal.TheVariants.{Overlap, NoSuchItem, Full, SequenceSpent}
 use Rattle.order_laws.specs.Orders.{Order}
-use Rattle.order_laws.specs.declared.items.Item.{Item}
-use Rattle.order_laws.specs.Tables.{with_item, without, without_all}
 use Rattle.order_laws.proofs.PlaceLemmas.{without_none, without_one}
 use Rattle.table_updates.specs.declared.updates.Update.{Update}
-use Rattle.table_updates.specs.declared.updates.Update.TheVariants.{Insert, Erase, Batch}
-use Rattle.table_updates.specs.Updates.{Test, after, first_that_holds, tests_of, refusal_for, some_invalid, some_missing, some_twice, some_overlap, some_meet}
 
 pub next_test : (t : Test) (rest : List Test) → t.0 ≡ false → first_that_holds (t ∷ rest) ≡ first_that_holds rest
 next_test t rest e = ap (λ b. cond b (Some t.1) (first_that_holds rest)) e

@@ -1,25 +1,6 @@
 -- Blank nodes: one is planted, one comes back, one more is put into the slab.
-use Rattle.std.proofs.Common.{◌≡◌, ℕ, suc, ◌+◌, ◌-◌, ◌^◌, ◌<◌, ◌≤◌, Bool, true, false}
-use Rattle.std.proofs.Common.{List, [], ◌∷◌, length, if◌then◌else◌, Some, None}
-use Rattle.std.proofs.Common.{inl, inr, refl, sym, ap, subst, ◌∙◌, arith}
-use Rattle.std.specs.Prelude.{◌==◌}
-use Rattle.std.proofs.lemmas.Bool.{cases_eq}
+use Rattle.rb_cursor.proofs.Words.{◌≡◌, ℕ, suc, ◌+◌, ◌-◌, ◌^◌, ◌<◌, ◌≤◌, Bool, true, false, List, [], ◌∷◌, length, if◌then◌else◌, Some, None, inl, inr, refl, sym, ap, subst, ◌∙◌, arith, ◌==◌, cases_eq, Slab, get, slab_len, with_value, Updates, Updates-with_value, Record, ColouredTree, tip, branch, Node, Inside, Zipper, weight, HasOneSubtree, only_subtree, Keyed, nil, keyed, Level, link_of, link_to, plain, plain_path, size, at_key, uses, path_uses, list_uses, node_with, node_of, IsLinked, IsChain, with_last_link, IsPlace}
 use Rattle.facts.proofs.Numbers.{if_suc}
-use Rattle.slab.specs.Slab.{Slab, get, slab_len, with_value, Updates}
-use Rattle.slab.proofs.SlabLemmas.{Updates-with_value}
-use Rattle.rb_trees.specs.declared.Record.{Record}
-use Rattle.rb_trees.specs.Trees.{ColouredTree, tip, branch}
-use Rattle.rb_cursor.specs.declared.nodes.Node.{Node}
-use Rattle.rb_cursor.specs.declared.cursors.Cursor.TheInside.{Inside}
-use Rattle.rb_cursor.specs.Zippers.{Zipper}
-use Rattle.rb_cursor.specs.Opening.{weight}
-use Rattle.rb_cursor.specs.Tops.{HasOneSubtree, only_subtree}
-use Rattle.rb_cursor.specs.Keyed.{Keyed, nil, keyed, Level, link_of, link_to, plain}
-use Rattle.rb_cursor.specs.Keyed.{plain_path, size, at_key, uses, path_uses, list_uses}
-use Rattle.rb_cursor.specs.Keyed.{node_with, node_of, IsLinked}
-use Rattle.rb_cursor.specs.Keyed.{IsChain}
-use Rattle.rb_cursor.specs.Writes.{with_last_link}
-use Rattle.rb_cursor.specs.Places.{IsPlace}
 use Rattle.rb_cursor.proofs.KeyedLemmas.{at_same, at_apart, at_most, linked_kept, path_kept}
 use Rattle.rb_cursor.proofs.KeyedLemmas.{chain_kept, linked_beside, path_beside, chain_beside}
 use Rattle.rb_cursor.proofs.KeyedLemmas.{linked_vacant, path_vacant, chain_vacant}

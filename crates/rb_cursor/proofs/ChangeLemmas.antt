@@ -1,28 +1,5 @@
 -- Going up from the tree in hand, and writes of the node in hand.
-use Rattle.std.proofs.Common.{◌≡◌, ℕ, suc, ◌-◌, ◌<◌, ◌≤◌, Bool}
-use Rattle.std.proofs.Common.{List, [], ◌∷◌, length, if◌then◌else◌, Some, None}
-use Rattle.std.proofs.Common.{inl, inr, refl, sym, ap, subst, ◌∙◌, arith}
-use Rattle.std.proofs.lemmas.Bool.{cases_eq, le-ltb, lt-ltb}
-use Rattle.slab.specs.Slab.{Slab, get, with_value}
-use Rattle.slab.proofs.SlabLemmas.{Updates-with_value}
-use Rattle.rb_trees.specs.declared.Record.{Record}
-use Rattle.rb_trees.specs.Trees.{ColouredTree, branch}
-use Rattle.rb_cursor.specs.declared.nodes.Node.{Node}
-use Rattle.rb_cursor.specs.declared.nodes.Step.{Step}
-use Rattle.rb_trees.specs.declared.Side.{Side}
-use Rattle.rb_trees.specs.declared.Side.TheVariants.{Left, Right}
-use Rattle.rb_cursor.specs.declared.cursors.Cursor.TheInside.{Inside}
-use Rattle.rb_trees.specs.Paths.{Above}
-use Rattle.rb_cursor.specs.Zippers.{Zipper}
-use Rattle.rb_trees.specs.Sides.{sided}
-use Rattle.rb_trees.specs.Paths.{joined, plugged}
-use Rattle.rb_cursor.specs.Closing.{closed_zipper, closed_to}
-use Rattle.rb_cursor.specs.Opening.{IsNearest}
-use Rattle.rb_cursor.specs.Keyed.{Keyed, nil, keyed, Level, link_of, plain, plain_level}
-use Rattle.rb_cursor.specs.Keyed.{plain_path}
-use Rattle.rb_cursor.specs.Keyed.{node_with, node_of, sided_node, record_of}
-use Rattle.rb_cursor.specs.Writes.{step_at}
-use Rattle.rb_cursor.specs.Places.{IsPlace}
+use Rattle.rb_cursor.proofs.Words.{◌≡◌, ℕ, suc, ◌-◌, ◌<◌, ◌≤◌, Bool, List, [], ◌∷◌, length, if◌then◌else◌, Some, None, inl, inr, refl, sym, ap, subst, ◌∙◌, arith, cases_eq, le-ltb, lt-ltb, Slab, get, with_value, Updates-with_value, Record, ColouredTree, branch, Node, Step, Side, Left, Right, Inside, Above, Zipper, sided, joined, plugged, closed_zipper, closed_to, IsNearest, Keyed, nil, keyed, Level, link_of, plain, plain_level, plain_path, node_with, node_of, sided_node, record_of, step_at, IsPlace}
 use Rattle.rb_cursor.proofs.KeyedLemmas.{at_same}
 use Rattle.rb_cursor.proofs.KeyedLemmas.{linked_beside, path_beside, chain_beside}
 use Rattle.rb_cursor.proofs.KeyedLemmas.{steps_length}

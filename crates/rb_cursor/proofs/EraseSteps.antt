@@ -1,22 +1,5 @@
 -- The way up of an erase, as the calls of a cursor show it.
-use Rattle.std.proofs.Common.{◌≡◌, ℕ, suc, ◌+◌, ◌≤◌, ◌<◌, Bool, true, false, List, [], ◌∷◌, ◌++◌, refl, sym, ◌∙◌, ap, subst, arith, length, length-append, append_assoc, append-nil}
-use Rattle.word_layout.specs.declared.stores.Store.{Store}
-use Rattle.rb_trees.specs.declared.Record.{Record}
-use Rattle.rb_trees.specs.Trees.{ColouredTree, shape}
-use Rattle.rb_trees.specs.Sides.{sided}
-use Rattle.rb_trees.specs.Turns.{link, relink, moved}
-use Rattle.rb_trees.specs.Erased.{filled, fill_links}
-use Rattle.rb_trees.specs.Paths.{Above, plugged}
-use Rattle.rb_trees.specs.Replaced.{Lost}
-use Rattle.rb_trees.proofs.SideLemmas.{link_sided}
-use Rattle.rb_trees.proofs.TurnLemmas.{moved_one, not_moved, relink_moved}
-use Rattle.rb_trees.proofs.FillLemmas.{Filling, filling, filled_sided, fill_links_sided}
-use Rattle.rb_trees.proofs.GrowLemmas.{at_side, kept_up, kept_still, lost_kept, kept_lost, lost_filled}
-use Rattle.rb_cursor.specs.declared.nodes.Nearest.{Nearest}
-use Rattle.rb_cursor.specs.Zippers.{Zipper, holding}
-use Rattle.rb_cursor.specs.Opening.{IsNearest}
-use Rattle.rb_cursor.specs.Closing.{risen, closed_to}
-use Rattle.rb_cursor.specs.Changes.{most_on_climb, Climbs}
+use Rattle.rb_cursor.proofs.Words.{◌≡◌, ℕ, suc, ◌+◌, ◌≤◌, ◌<◌, Bool, true, false, List, [], ◌∷◌, ◌++◌, refl, sym, ◌∙◌, ap, subst, arith, length, length-append, append_assoc, append-nil, Store, Record, ColouredTree, shape, sided, link, relink, moved, filled, fill_links, Above, plugged, Lost, link_sided, moved_one, not_moved, relink_moved, Filling, filling, filled_sided, fill_links_sided, at_side, kept_up, kept_still, lost_kept, kept_lost, lost_filled, Nearest, Zipper, holding, IsNearest, risen, closed_to, most_on_climb, Climbs}
 use Rattle.rb_cursor.proofs.StepLemmas.{zipper, above_of, risen_there, closed_past}
 
 -- a part of a path above which some nodes stand has a first node, where there are more

@@ -1,26 +1,6 @@
 -- What the fields of a cursor hold, and what the calls that go down and up make of it.
-use Rattle.std.proofs.Common.{◌≡◌, ℕ, suc, ◌+◌, ◌-◌, ◌<◌, ◌≤◌, Bool}
-use Rattle.std.proofs.Common.{List, [], ◌∷◌, length, Option, Some, None, is_some}
-use Rattle.std.proofs.Common.{count_by, set, refl, sym, ap, subst, ◌∙◌, arith}
-use Rattle.std.proofs.lemmas.List.{get_or-set_same, set-get_or}
-use Rattle.slab.specs.Slab.{Slab, get, slab_len, ContainsKey, with_value}
-use Rattle.rb_trees.specs.declared.Record.{Record}
-use Rattle.rb_trees.specs.Trees.{ColouredTree, tip}
-use Rattle.rb_cursor.specs.declared.nodes.Node.{Node}
-use Rattle.rb_cursor.specs.declared.nodes.Step.{Step}
-use Rattle.rb_trees.specs.declared.Side.{Side}
-use Rattle.rb_cursor.specs.declared.cursors.Cursor.TheInside.{Inside}
-use Rattle.rb_trees.specs.Paths.{Above}
-use Rattle.rb_cursor.specs.Zippers.{Zipper}
-use Rattle.rb_trees.specs.Sides.{sided}
-use Rattle.rb_cursor.specs.Sides.{child_at}
-use Rattle.rb_cursor.specs.Opening.{weight, OpensSide}
-use Rattle.rb_cursor.specs.Keyed.{Keyed, nil, keyed, Level, link_of, link_to, plain, plain_level}
-use Rattle.rb_cursor.specs.Keyed.{plain_path}
-use Rattle.rb_cursor.specs.Keyed.{sided_node, record_of, IsLinked, IsPath}
-use Rattle.rb_cursor.specs.Keyed.{tree_from}
-use Rattle.rb_cursor.specs.Writes.{no_step, step_at}
-use Rattle.rb_cursor.specs.Places.{IsPlace, AreSteps, IsCursor, path_from, shown}
+use Rattle.rb_cursor.proofs.Words.{◌≡◌, ℕ, suc, ◌+◌, ◌-◌, ◌<◌, ◌≤◌, Bool, List, [], ◌∷◌, length, Option, Some, None, is_some, count_by, set, refl, sym, ap, subst, ◌∙◌, arith, get_or-set_same, set-get_or, Slab, get, slab_len, ContainsKey, with_value, Record, ColouredTree, tip, Node, Step, Side, Inside, Above, Zipper, sided, child_at, weight, OpensSide, Keyed, nil, keyed, Level, link_of, link_to, plain, plain_level, plain_path, sided_node, record_of, IsLinked, IsPath, tree_from, no_step, step_at, IsPlace, AreSteps, IsCursor, path_from}
+use Rattle.rb_cursor.specs.Places.{shown}
 use Rattle.rb_cursor.proofs.SideLemmas.{joined_keyed, seen, parted, linked-joined, read-sided}
 use Rattle.rb_cursor.proofs.SideLemmas.{plain-joined, link-joined, uses-joined, size-joined}
 use Rattle.rb_cursor.proofs.SideLemmas.{weight-sided, child-sided}

@@ -1,32 +1,11 @@
 -- The way up of an insert, as the calls of a cursor show it.
-use Rattle.std.proofs.Common.{◌≡◌, ℕ, suc, ◌+◌, ◌≤◌, Bool, true, false, List, [], ◌∷◌, ◌++◌, refl, sym, ◌∙◌, ap, subst, arith, length, length-append, append_assoc}
-use Rattle.word_layout.specs.declared.stores.Store.{Store}
-use Rattle.order_laws.specs.Orders.{Order, IsLawful}
+use Rattle.rb_cursor.proofs.Words.{◌≡◌, ℕ, suc, ◌+◌, ◌≤◌, Bool, true, false, List, [], ◌∷◌, ◌++◌, refl, sym, ◌∙◌, ap, subst, arith, length, length-append, append_assoc, Store, Order, IsLawful, Record, Left, Right, ColouredTree, tip, branch, is_red, blackened, shape, rows, HasNoClash, IsRedBlack, depth, sided, set_link, link, relink, relink_root, moved, Lead, items_of_records, Above, plugged, way_by, Replaced, Nothing, Sound, plugged_by, short_by, red_sided, link_sided, rows_blackened, moved_one, not_moved, relink_moved, root_moved, replaced_lead, Grown, at_side, grown_leaf, grown_red, mended_calm, grown_black, grown_kept, kept_still, grown_good, kept_good, Nearest, Zipper, altered, IsNearest, risen, PutsIn}
 use Rattle.order_laws.specs.Tables.{IsTable}
-use Rattle.rb_trees.specs.declared.Record.{Record}
-use Rattle.rb_trees.specs.declared.Side.TheVariants.{Left, Right}
-use Rattle.rb_trees.specs.Trees.{ColouredTree, tip, branch, is_red, blackened, shape, rows, HasNoClash, IsRedBlack, depth}
-use Rattle.rb_trees.specs.Sides.{sided, set_link}
-use Rattle.rb_trees.specs.Turns.{link, relink, relink_root, moved}
 use Rattle.rb_trees.specs.Inserted.{mended, mend_links, clash}
-use Rattle.rb_trees.specs.Linked.{Lead}
-use Rattle.rb_trees.specs.Found.{items_of_records}
-use Rattle.rb_trees.specs.Paths.{Above, plugged, way_by}
-use Rattle.rb_trees.specs.Replaced.{Replaced, Nothing, Sound}
-use Rattle.rb_trees.proofs.PathLemmas.{plugged_by, short_by}
 use Rattle.rb_trees.proofs.PlaceRows.{rows_grown}
-use Rattle.rb_trees.proofs.SideLemmas.{red_sided, link_sided}
-use Rattle.rb_trees.proofs.TurnLemmas.{rows_blackened, moved_one, not_moved, relink_moved, root_moved}
 use Rattle.rb_trees.proofs.ColourLemmas.{calm_of_near}
 use Rattle.rb_trees.proofs.RelinkLemmas.{shape_blackened}
 use Rattle.rb_trees.proofs.MendLemmas.{Mending, mending, mended_sided, mend_links_sided}
-use Rattle.rb_trees.proofs.ReplaceLemmas.{replaced_lead}
-use Rattle.rb_trees.proofs.GrowLemmas.{Grown, at_side, grown_leaf, grown_red, mended_calm, grown_black, grown_kept, kept_still, grown_good, kept_good}
-use Rattle.rb_cursor.specs.declared.nodes.Nearest.{Nearest}
-use Rattle.rb_cursor.specs.Zippers.{Zipper, altered}
-use Rattle.rb_cursor.specs.Opening.{IsNearest}
-use Rattle.rb_cursor.specs.Closing.{risen}
-use Rattle.rb_cursor.specs.Changes.{PutsIn}
 use Rattle.rb_cursor.proofs.StepLemmas.{zipper, above_of, risen_there}
 
 -- the tree with the new leaf

@@ -1,26 +1,8 @@
 -- Trees, paths and chains at keys: what a write of other nodes leaves as it is, and what is read
 -- back.
-use Rattle.std.proofs.Common.{◌≡◌, ◌≢◌, ℕ, zero, suc, ◌<◌, ◌≤◌, Bool, List}
-use Rattle.std.proofs.Common.{[], ◌∷◌, length, Option, Some, None, is_some}
-use Rattle.std.proofs.Common.{get_or, set, cond, refl, ap, ◌∙◌, arith}
+use Rattle.rb_cursor.proofs.Words.{◌≡◌, ◌≢◌, ℕ, zero, suc, ◌<◌, ◌≤◌, Bool, List, [], ◌∷◌, length, Option, Some, None, is_some, get_or, set, cond, refl, ap, ◌∙◌, arith, get_or-set_other, Slab, get, ContainsKey, slab_len, with_value, ContainsKey-within, Record, ColouredTree, branch, Node, Step, Side, Left, Right, Above, Keyed, nil, keyed, Level, link_of, plain, plain_level, plain_path, size, path_size, at_key, uses, path_uses, list_uses, sided_node, IsLinked, IsPath, IsChain, tree_below, tree_from, no_step, AreSteps, above_with, node_or, above_at, path_from}
 use Rattle.std.proofs.lemmas.Bool.Decides.{nat_tests}
-use Rattle.std.proofs.lemmas.List.{get_or-set_other}
 use Rattle.std.proofs.lemmas.List.Sums.{sum_by-set}
-use Rattle.slab.specs.Slab.{Slab, get, ContainsKey, slab_len, with_value}
-use Rattle.slab.proofs.SlabLemmas.{ContainsKey-within}
-use Rattle.rb_trees.specs.declared.Record.{Record}
-use Rattle.rb_trees.specs.Trees.{ColouredTree, branch}
-use Rattle.rb_cursor.specs.declared.nodes.Node.{Node}
-use Rattle.rb_cursor.specs.declared.nodes.Step.{Step}
-use Rattle.rb_trees.specs.declared.Side.{Side}
-use Rattle.rb_trees.specs.declared.Side.TheVariants.{Left, Right}
-use Rattle.rb_trees.specs.Paths.{Above}
-use Rattle.rb_cursor.specs.Keyed.{Keyed, nil, keyed, Level, link_of, plain, plain_level}
-use Rattle.rb_cursor.specs.Keyed.{plain_path, size, path_size, at_key, uses, path_uses, list_uses}
-use Rattle.rb_cursor.specs.Keyed.{sided_node, IsLinked, IsPath, IsChain, tree_below}
-use Rattle.rb_cursor.specs.Keyed.{tree_from}
-use Rattle.rb_cursor.specs.Writes.{no_step}
-use Rattle.rb_cursor.specs.Places.{AreSteps, above_with, node_or, above_at, path_from}
 
 pub at_same : (k : ℕ) → at_key k k ≡ 1
 at_same k = grind (arith, nat_tests)

@@ -1,3 +1,5 @@
+-- the words of all proofs of this crate
+mod Words
 pub mod KeyedLemmas
 pub mod SideLemmas
 pub mod HeldLemmas

@@ -1,15 +1,6 @@
 -- Reading a tree of records.
-use Rattle.std.proofs.Common.{◌≡◌, ℕ, suc, ◌<◌, ◌≤◌, Some, refl, sym, ap}
-use Rattle.std.proofs.Common.{◌∙◌, arith}
-use Rattle.slab.specs.Slab.{Slab, get}
-use Rattle.rb_trees.specs.Trees.{ColouredTree, tip, branch}
-use Rattle.rb_cursor.specs.Zippers.{Zipper}
-use Rattle.rb_cursor.specs.Opening.{weight}
+use Rattle.rb_cursor.proofs.Words.{◌≡◌, ℕ, suc, ◌<◌, ◌≤◌, Some, refl, sym, ap, ◌∙◌, arith, Slab, get, ColouredTree, tip, branch, Zipper, weight, Node, Inside, Keyed, nil, keyed, link_of, plain, size, node_of, record_of, IsLinked, tree_from}
 use Rattle.rb_cursor.specs.Links.{IsLink, read}
-use Rattle.rb_cursor.specs.declared.nodes.Node.{Node}
-use Rattle.rb_cursor.specs.declared.cursors.Cursor.TheInside.{Inside}
-use Rattle.rb_cursor.specs.Keyed.{Keyed, nil, keyed, link_of, plain, size, node_of, record_of}
-use Rattle.rb_cursor.specs.Keyed.{IsLinked, tree_from}
 use Rattle.rb_cursor.proofs.KeyedLemmas.{tree_is}
 use Rattle.rb_cursor.proofs.HeldLemmas.{IsInside, show, held}
 

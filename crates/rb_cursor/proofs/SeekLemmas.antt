@@ -1,26 +1,7 @@
 -- Going down by fields alone: what a seek has come to leads to the same place as where it began.
-use Rattle.std.proofs.Common.{◌≡◌, ℕ, suc, ◌+◌, ◌<◌, ◌≤◌, Bool, true, false, List, [], ◌∷◌, length, if◌then◌else◌, Some, refl, sym, ap, subst, ◌∙◌, arith, length-set}
-use Rattle.slab.specs.Slab.{Slab, get}
-use Rattle.rb_trees.specs.declared.Record.{Record}
+use Rattle.rb_cursor.proofs.Words.{◌≡◌, ℕ, suc, ◌+◌, ◌<◌, ◌≤◌, Bool, true, false, List, [], ◌∷◌, length, if◌then◌else◌, Some, refl, sym, ap, subst, ◌∙◌, arith, length-set, Slab, get, Record, Ordering, Less, Equal, Greater, ColouredTree, tip, branch, shape, depth, Node, Step, Side, Left, Right, Inside, Above, past_left, past_right, way_by, place_at, place_from, way_at, way_from, plugged, sided, Zipper, weight, record_of, child_at, side_by, meets_on_the_way, Order, Greater-from_tests, Less-from_is_lt}
 use Rattle.std.specs.Ordering.{is_eq, is_lt}
-use Rattle.std.specs.declared.cmp.Ordering.{Ordering}
-use Rattle.std.specs.declared.cmp.Ordering.TheVariants.{Less, Equal, Greater}
-use Rattle.rb_trees.specs.Trees.{ColouredTree, tip, branch, shape, depth}
-use Rattle.rb_cursor.specs.declared.nodes.Node.{Node}
-use Rattle.rb_cursor.specs.declared.nodes.Step.{Step}
-use Rattle.rb_trees.specs.declared.Side.{Side}
-use Rattle.rb_trees.specs.declared.Side.TheVariants.{Left, Right}
-use Rattle.rb_cursor.specs.declared.cursors.Cursor.TheInside.{Inside}
-use Rattle.rb_trees.specs.Paths.{Above, past_left, past_right, way_by, place_at, place_from, way_at, way_from, plugged}
-use Rattle.rb_trees.specs.Sides.{sided}
-use Rattle.rb_cursor.specs.Zippers.{Zipper}
-use Rattle.rb_cursor.specs.Opening.{weight}
-use Rattle.rb_cursor.specs.Keyed.{record_of}
-use Rattle.rb_cursor.specs.Sides.{child_at, side_by}
 use Rattle.order_laws.specs.declared.items.Item.{Item}
-use Rattle.rb_trees.specs.Found.{meets_on_the_way}
-use Rattle.order_laws.specs.Orders.{Order}
-use Rattle.facts.proofs.Orderings.{Greater-from_tests, Less-from_is_lt}
 use Rattle.rb_cursor.proofs.ChangeLemmas.{rewrites}
 use Rattle.rb_cursor.proofs.HeldLemmas.{same_value, written_back, IsInside, show, with_step, depth_is, opened, none_there}
 

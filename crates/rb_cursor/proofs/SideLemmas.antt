@@ -1,17 +1,5 @@
 -- A tree at keys seen from a side: the subtree there, and the one on the other side.
-use Rattle.std.proofs.Common.{◌≡◌, ℕ, suc, ◌+◌, Bool, Some, refl, ap, arith}
-use Rattle.slab.specs.Slab.{Slab, get}
-use Rattle.rb_trees.specs.declared.Record.{Record}
-use Rattle.rb_trees.specs.declared.Side.{Side}
-use Rattle.rb_trees.specs.declared.Side.TheVariants.{Left, Right}
-use Rattle.rb_trees.specs.Trees.{ColouredTree, tip}
-use Rattle.rb_trees.specs.Sides.{opposite, sided}
-use Rattle.rb_cursor.specs.declared.nodes.Node.{Node}
-use Rattle.rb_trees.specs.Turns.{turned}
-use Rattle.rb_cursor.specs.Sides.{child_at, with_link}
-use Rattle.rb_cursor.specs.Opening.{weight}
-use Rattle.rb_cursor.specs.Keyed.{Keyed, nil, keyed, link_of, plain, size, at_key, uses}
-use Rattle.rb_cursor.specs.Keyed.{sided_node, record_of, IsLinked}
+use Rattle.rb_cursor.proofs.Words.{◌≡◌, ℕ, suc, ◌+◌, Bool, Some, refl, ap, arith, Slab, get, Record, Side, Left, Right, ColouredTree, tip, opposite, sided, Node, turned, child_at, with_link, weight, Keyed, nil, keyed, link_of, plain, size, at_key, uses, sided_node, record_of, IsLinked}
 
 -- a node with a subtree on this side and another on the other side
 abbrev pub joined_keyed : Side → Bool → Keyed → ℕ → Record → Keyed → Keyed

@@ -1,13 +1,5 @@
 -- Steps up, as the calls of a cursor show them.
-use Rattle.std.proofs.Common.{◌≡◌, ℕ, suc, true, false, cond, List, [], ◌∷◌, ◌++◌, refl, sym, ◌∙◌, ap, length, length-append, arith}
-use Rattle.std.specs.Prelude.{nat_lt}
-use Rattle.std.proofs.lemmas.Bool.{le-ltb, lt-ltb}
-use Rattle.rb_trees.specs.Trees.{ColouredTree}
-use Rattle.rb_trees.specs.Paths.{Above, joined, plugged}
-use Rattle.rb_cursor.specs.declared.nodes.Nearest.{Nearest}
-use Rattle.rb_cursor.specs.Zippers.{Zipper}
-use Rattle.rb_cursor.specs.Opening.{IsNearest}
-use Rattle.rb_cursor.specs.Closing.{closed_to, all_closed, risen_from, risen}
+use Rattle.rb_cursor.proofs.Words.{◌≡◌, ℕ, suc, true, false, cond, List, [], ◌∷◌, ◌++◌, refl, sym, ◌∙◌, ap, length, length-append, arith, nat_lt, le-ltb, lt-ltb, ColouredTree, Above, joined, plugged, Nearest, Zipper, IsNearest, closed_to, all_closed, risen_from, risen}
 
 -- the nearest node above, as the path has it
 abbrev pub above_of : {path : List Above} (up : Nearest) → IsNearest path up → Above

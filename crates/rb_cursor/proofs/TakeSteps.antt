@@ -1,32 +1,8 @@
 -- How a node is taken out, as the calls of a cursor show it.
-use Rattle.std.specs.Prelude.{not}
-use Rattle.std.specs.declared.cmp.Ordering.{Ordering}
-use Rattle.std.specs.declared.cmp.Ordering.TheVariants.{Less, Equal, Greater}
-use Rattle.std.proofs.Common.{◌≡◌, ℕ, suc, ◌+◌, ◌≤◌, ◌<◌, Bool, true, false, List, [], ◌∷◌, ◌++◌, refl, sym, ◌∙◌, ap, subst, arith, length, length-append, append-nil, Some, None}
-use Rattle.word_layout.specs.declared.stores.Store.{Store}
-use Rattle.rb_trees.specs.declared.Record.{Record}
-use Rattle.rb_trees.specs.declared.Side.TheVariants.{Left, Right}
-use Rattle.rb_trees.specs.Trees.{ColouredTree, tip, branch, is_red, shape, rows, depth, IsRedBlack}
-use Rattle.rb_trees.specs.Sides.{set_link}
-use Rattle.rb_trees.specs.Turns.{link, relink_root, moved}
-use Rattle.rb_trees.specs.Erased.{lowered, filled, fill_links, record_found_at, found}
-use Rattle.rb_trees.specs.Linked.{Lead}
-use Rattle.rb_trees.specs.Paths.{Above, plugged, first_place, first_way, place_from, place_at, way_at}
-use Rattle.rb_trees.specs.Replaced.{Lost, Nothing}
-use Rattle.rb_trees.proofs.PathLemmas.{short_first, short_to, plugged_to}
-use Rattle.rb_trees.proofs.FillLemmas.{filling}
-use Rattle.rb_trees.proofs.ReplaceLemmas.{around, replaced_lead}
-use Rattle.rb_trees.proofs.GrowLemmas.{lost_good}
+use Rattle.rb_cursor.proofs.Words.{not, Ordering, Less, Equal, Greater, ◌≡◌, ℕ, suc, ◌+◌, ◌≤◌, ◌<◌, Bool, true, false, List, [], ◌∷◌, ◌++◌, refl, sym, ◌∙◌, ap, subst, arith, length, length-append, append-nil, Some, None, Store, Record, Left, Right, ColouredTree, tip, branch, is_red, shape, rows, depth, IsRedBlack, set_link, link, relink_root, moved, lowered, filled, fill_links, record_found_at, found, Lead, Above, plugged, first_place, first_way, place_from, place_at, way_at, Lost, Nothing, short_first, short_to, plugged_to, filling, around, replaced_lead, lost_good, Zipper, closed_zipper, record_of, IsForked, OpensSide, is_fork, row_of, with_row, HasOneSubtree, only_subtree, most_on_climb, Climbs, TakesFirst, TakesTop}
 use Rattle.rb_trees.proofs.TopLemmas.{first_way_on, first_lost, first_rows, lone_lost, next_kept, next_filled}
 use Rattle.rb_cursor.specs.declared.nodes.Top.{Top}
 use Rattle.rb_cursor.specs.declared.readings.Fork.{Fork}
-use Rattle.rb_cursor.specs.Zippers.{Zipper}
-use Rattle.rb_cursor.specs.Closing.{closed_zipper}
-use Rattle.rb_cursor.specs.Keyed.{record_of}
-use Rattle.rb_cursor.specs.Readings.{IsForked}
-use Rattle.rb_cursor.specs.Opening.{OpensSide}
-use Rattle.rb_cursor.specs.Tops.{is_fork, row_of, with_row, HasOneSubtree, only_subtree}
-use Rattle.rb_cursor.specs.Changes.{most_on_climb, Climbs, TakesFirst, TakesTop}
 use Rattle.rb_cursor.proofs.StepLemmas.{zipper}
 
 pub row_link : (t : ColouredTree) (x : Record) → row_of t ≡ Some x → x.node + 1 ≡ link (shape t)

@@ -1,26 +1,6 @@
 -- Changes that put another node at the top of the tree in hand: the link of the nearest node above
 -- follows.
-use Rattle.std.proofs.Common.{◌≡◌, ◌≢◌, ℕ, suc, ◌+◌, ◌^◌, ◌<◌, ◌≤◌, Bool}
-use Rattle.std.proofs.Common.{List, [], ◌∷◌, length, Some}
-use Rattle.std.proofs.Common.{refl, sym, ap, subst, ◌∙◌, arith}
-use Rattle.slab.specs.Slab.{Slab, get, slab_len, with_value}
-use Rattle.slab.proofs.SlabLemmas.{Updates-with_value}
-use Rattle.rb_trees.specs.declared.Record.{Record}
-use Rattle.rb_trees.specs.Trees.{ColouredTree, tip}
-use Rattle.rb_cursor.specs.declared.nodes.Node.{Node}
-use Rattle.rb_cursor.specs.declared.nodes.Step.{Step}
-use Rattle.rb_trees.specs.declared.Side.{Side}
-use Rattle.rb_cursor.specs.declared.cursors.Cursor.TheInside.{Inside}
-use Rattle.rb_cursor.specs.Zippers.{Zipper}
-use Rattle.rb_cursor.specs.Keyed.{Keyed, nil, Level, link_of}
-use Rattle.rb_cursor.specs.Keyed.{size, path_size, at_key, uses, path_uses, list_uses}
-use Rattle.rb_cursor.specs.Keyed.{sided_node, plain, plain_path, IsLinked, IsPath, IsChain}
-use Rattle.rb_trees.specs.Sides.{opposite}
-use Rattle.rb_trees.specs.Turns.{turned}
-use Rattle.rb_cursor.specs.Sides.{child_at, with_link}
-use Rattle.rb_cursor.specs.Writes.{with_node_link, with_step_link, step_at, LastLeadsOn}
-use Rattle.rb_cursor.specs.Writes.{with_last_link}
-use Rattle.rb_cursor.specs.Places.{IsPlace, AreSteps}
+use Rattle.rb_cursor.proofs.Words.{◌≡◌, ◌≢◌, ℕ, suc, ◌+◌, ◌^◌, ◌<◌, ◌≤◌, Bool, List, [], ◌∷◌, length, Some, refl, sym, ap, subst, ◌∙◌, arith, Slab, get, slab_len, with_value, Updates-with_value, Record, ColouredTree, tip, Node, Step, Side, Inside, Zipper, Keyed, nil, Level, link_of, size, path_size, at_key, uses, path_uses, list_uses, sided_node, plain, plain_path, IsLinked, IsPath, IsChain, opposite, turned, child_at, with_link, with_node_link, with_step_link, step_at, LastLeadsOn, with_last_link, IsPlace, AreSteps}
 use Rattle.rb_cursor.proofs.KeyedLemmas.{at_same, linked_kept}
 use Rattle.rb_cursor.proofs.KeyedLemmas.{chain_kept, linked_beside, path_beside, chain_beside}
 use Rattle.rb_cursor.proofs.KeyedLemmas.{same_len}

@@ -1,11 +1,6 @@
 -- Colours and black heights, by the sides of a node.
-use Rattle.std.proofs.Common.{◌≡◌, ℕ, zero, suc, true, false, Bool, refl}
-use Rattle.rb_trees.specs.declared.Record.{Record}
-use Rattle.rb_trees.specs.declared.Side.{Side}
-use Rattle.rb_trees.specs.declared.Side.TheVariants.{Left, Right}
-use Rattle.rb_trees.specs.Trees.{ColouredTree, tip, branch, is_red, blackened, HasBlackHeight, HasNoClash, IsRedBlack}
-use Rattle.rb_trees.specs.Sides.{sided}
-use Rattle.rb_trees.specs.Replaced.{Sound}
+use Rattle.rb_trees.proofs.Words.{◌≡◌, ℕ, zero, suc, true, false, refl, Record, Side, Left, Right, ColouredTree, tip, branch, is_red, blackened, HasBlackHeight, HasNoClash, IsRedBlack, sided, Sound}
+use Rattle.std.proofs.Common.{Bool}
 
 -- no red node has a red child, but the top may have one
 abbrev pub IsNear : ColouredTree → Type 0

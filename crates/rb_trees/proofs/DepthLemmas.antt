@@ -1,10 +1,9 @@
 -- How deep a red-black tree is.
-use Rattle.std.proofs.Common.{◌≡◌, ℕ, zero, suc, ◌+◌, ◌*◌, ◌≤◌, ◌^◌, true, false, Bool, refl, sym, subst, arith, length}
+use Rattle.rb_trees.proofs.Words.{◌≡◌, ℕ, zero, suc, ◌+◌, ◌*◌, ◌≤◌, ◌^◌, true, false, refl, sym, subst, arith, length, Nodes, none, listed, ColouredTree, tip, branch, is_red, shape, HasBlackHeight, HasNoClash, IsBalanced, depth}
+use Rattle.std.proofs.Common.{Bool}
 use Rattle.std.proofs.lemmas.Nat.{pow-add}
 use Rattle.std.proofs.Math.Nat.{pow-suc, pow-le-pow_right, mul-le-mul}
-use Rattle.word_layout.specs.Words.{Nodes, none, listed}
 use Rattle.word_layout.proofs.HoldsLemmas.{size, size_listed}
-use Rattle.rb_trees.specs.Trees.{ColouredTree, tip, branch, is_red, shape, HasBlackHeight, HasNoClash, IsBalanced, depth}
 
 -- at most two nodes for each black one, and one more under a red top
 abbrev extra : Bool → ℕ

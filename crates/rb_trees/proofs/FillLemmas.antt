@@ -1,20 +1,9 @@
 -- A filled node: its records, its colours and black height, where its stores lead, and how many.
-use Rattle.std.proofs.Common.{◌≡◌, ℕ, zero, suc, ◌<◌, ◌≤◌, true, false, cond, Bool, List, [], ◌∷◌, ◌++◌, length, length-append, refl, sym, ◌∙◌, ap, subst, inl, inr, arith, append_assoc}
-use Rattle.std.specs.Prelude.{not}
-use Rattle.word_layout.specs.declared.stores.Store.{Store}
-use Rattle.word_layout.specs.Words.{fork}
-use Rattle.rb_trees.specs.declared.Record.{Record}
-use Rattle.rb_trees.specs.declared.Side.{Side}
-use Rattle.rb_trees.specs.declared.Side.TheVariants.{Left, Right}
-use Rattle.rb_trees.specs.Trees.{ColouredTree, tip, branch, is_red, blackened, shape, rows}
-use Rattle.rb_trees.specs.Sides.{opposite, on, sided}
-use Rattle.rb_trees.specs.Turns.{link, relink, turned, turn_links, turn_links_over}
-use Rattle.rb_trees.specs.Erased.{Remainder, whole, lowered, filled_over_black, fill_links_over_black, filled_over, filled, fill_links_over, fill_links}
-use Rattle.rb_trees.specs.Linked.{Among, IsSeparate}
+use Rattle.rb_trees.proofs.Words.{◌≡◌, ℕ, zero, suc, ◌<◌, ◌≤◌, true, false, cond, List, [], ◌∷◌, ◌++◌, length, length-append, refl, sym, ◌∙◌, ap, subst, inl, inr, arith, append_assoc, not, Store, fork, Record, Side, Left, Right, ColouredTree, tip, branch, is_red, blackened, shape, rows, opposite, on, sided, link, relink, turned, turn_links, turn_links_over, Remainder, whole, lowered, filled_over_black, fill_links_over_black, filled_over, filled, fill_links_over, fill_links, Among, IsSeparate, Relinks, Sound, Fits}
+use Rattle.std.proofs.Common.{Bool}
 use Rattle.rb_trees.proofs.SideLemmas.{red_sided, link_sided}
 use Rattle.rb_trees.proofs.TurnLemmas.{rows_blackened, rows_sided, rows_turned, turned_sided, turned_back, turn_two, moved_one, relink_moved}
 use Rattle.rb_trees.proofs.ColourLemmas.{over, near_of_calm, black_blackened, sound_blackened, sound_black, sound_red, sound_over}
-use Rattle.rb_trees.specs.Replaced.{Relinks, Sound, Fits}
 use Rattle.rb_trees.proofs.RelinkLemmas.{same, then, in_sided, in_far, turn_relinks, shape_blackened}
 
 -- what is filled of a node with these trees

@@ -1,16 +1,6 @@
 -- The steps up of an insert and of an erase.
-use Rattle.std.proofs.Common.{◌≡◌, ℕ, zero, suc, true, false, Bool, List, [], ◌∷◌, ◌++◌, refl, sym, ◌∙◌, ap, subst, inl, append-nil}
-use Rattle.word_layout.specs.declared.stores.Store.{Store}
-use Rattle.rb_trees.specs.declared.Record.{Record}
-use Rattle.rb_trees.specs.declared.Side.{Side}
-use Rattle.rb_trees.specs.declared.Side.TheVariants.{Left, Right}
-use Rattle.rb_trees.specs.Trees.{ColouredTree, tip, branch, is_red, blackened, shape, rows, HasBlackHeight, HasNoClash, IsRedBlack}
-use Rattle.rb_trees.specs.Sides.{sided, set_link}
-use Rattle.rb_trees.specs.Turns.{link, relink}
-use Rattle.rb_trees.specs.Inserted.{clash, mended, mend_links}
-use Rattle.rb_trees.specs.Erased.{filled, fill_links, filled_over}
-use Rattle.rb_trees.specs.Paths.{Above, joined, plugged}
-use Rattle.rb_trees.specs.Replaced.{Relinks, Replaced, Sound, Fits, Nothing, In, Lost}
+use Rattle.rb_trees.proofs.Words.{◌≡◌, ℕ, zero, suc, true, false, List, [], ◌∷◌, ◌++◌, refl, sym, ◌∙◌, ap, subst, inl, append-nil, Store, Record, Side, Left, Right, ColouredTree, tip, branch, is_red, blackened, shape, rows, HasBlackHeight, HasNoClash, IsRedBlack, sided, set_link, link, relink, clash, mended, mend_links, filled, fill_links, filled_over, Above, joined, plugged, Relinks, Replaced, Sound, Fits, Nothing, In, Lost}
+use Rattle.std.proofs.Common.{Bool}
 use Rattle.rb_trees.proofs.SideLemmas.{red_sided, link_sided}
 use Rattle.rb_trees.proofs.ColourLemmas.{IsNear, near_of_calm, blackened_good, over, halves, sound_over}
 use Rattle.rb_trees.proofs.RelinkLemmas.{planted}

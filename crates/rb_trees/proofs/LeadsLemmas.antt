@@ -1,23 +1,6 @@
 -- From the links inside a tree to what a copy holds.
-use Rattle.std.proofs.Common.{◌≡◌, ℕ, ◌<◌, ◌≤◌, true, false, cond, List, [], ◌∷◌, ◌++◌, length, map, refl, sym, ◌∙◌, ap, subst, inl, inr, ⊎_elim, arith}
-use Rattle.std.specs.Prelude.{◌==◌, Contains, slice_set}
-use Rattle.std.specs.List.{AllByRecursion}
-use Rattle.std.proofs.lemmas.Bool.{eqb-true}
-use Rattle.std.proofs.lemmas.List.{map-append}
-use Rattle.std.proofs.lemmas.List.Elements.{Contains-append_left, Contains-append_right}
-use Rattle.facts.proofs.Each.{all_append, all_left, all_right}
-use Rattle.facts.proofs.Members.{Contains-rest}
-use Rattle.word_layout.specs.declared.stores.Store.{Store}
-use Rattle.word_layout.specs.Words.{Nodes, none, fork, at, root_word, left_word, right_word, item_at, items, listed, words_for, Leads}
-use Rattle.word_layout.specs.Stores.{words_after_all, IsLinkWord, AreLinkStores}
-use Rattle.word_layout.proofs.StoreLemmas.{at_stored, at_other, untouched, after_append, length_after}
-use Rattle.rb_trees.specs.declared.Record.{Record}
-use Rattle.rb_trees.specs.Trees.{ColouredTree, tip, branch, shape, rows}
-use Rattle.rb_trees.specs.Turns.{link, relink_root}
-use Rattle.rb_trees.specs.Linked.{Inner, Among, LeadLinks}
-use Rattle.rb_trees.specs.Found.{items_of_records}
-use Rattle.word_layout.proofs.OwnedLinkLemmas.{IsLinkOf, root_no_link, owns_no_root, owns_links, owns_values}
-use Rattle.rb_trees.specs.Replaced.{Relinks}
+use Rattle.rb_trees.proofs.Words.{◌≡◌, ℕ, ◌<◌, ◌≤◌, true, false, cond, List, [], ◌∷◌, ◌++◌, length, map, refl, sym, ◌∙◌, ap, subst, inl, inr, ⊎_elim, arith, ◌==◌, Contains, slice_set, AllByRecursion, eqb-true, map-append, Contains-append_left, Contains-append_right, all_append, all_left, all_right, Contains-rest, Store, Nodes, none, fork, at, root_word, left_word, right_word, item_at, items, listed, words_for, Leads, words_after_all, IsLinkWord, AreLinkStores, at_stored, at_other, untouched, after_append, length_after, Record, ColouredTree, tip, branch, shape, rows, link, relink_root, Among, LeadLinks, items_of_records, IsLinkOf, root_no_link, owns_no_root, owns_links, owns_values, Relinks}
+use Rattle.rb_trees.specs.Linked.{Inner}
 use Rattle.rb_trees.proofs.RelinkLemmas.{link_fits}
 
 pub leads_link : (m : List ℕ) (n c w : ℕ) (t : Nodes) → Leads m n c w t → w ≡ link t

@@ -1,14 +1,7 @@
 -- The nodes of a shape are those of its rows.
-use Rattle.std.proofs.Common.{◌∙◌, ◌∷◌, ◌≡◌, ap, arith, length, sym, true, ℕ, ⊎_elim}
-use Rattle.std.specs.Prelude.{◌==◌, ◌||◌, ◌↔◌, Contains}
-use Rattle.std.proofs.lemmas.Bool.{eq-eqb, eqb-true, or_cases, or_left, or_right}
-use Rattle.std.proofs.lemmas.List.{length-map}
-use Rattle.std.proofs.lemmas.List.Elements.{Contains-append_cases, Contains-append_left, Contains-append_right}
-use Rattle.facts.proofs.Members.{Contains-cons_cases, Contains-rest}
+use Rattle.rb_trees.proofs.Words.{◌∙◌, ◌∷◌, ◌≡◌, ap, arith, length, sym, true, ℕ, ⊎_elim, ◌==◌, ◌||◌, ◌↔◌, Contains, eqb-true, or_cases, or_left, or_right, length-map, Contains-append_cases, Contains-append_left, Contains-append_right, Contains-cons_cases, Contains-rest, has_node, items_of_records, ColouredTree, branch, rows, shape, tip, listed}
+use Rattle.std.proofs.lemmas.Bool.{eq-eqb}
 use Rattle.rb_trees.proofs.LeadsLemmas.{listed_rows}
-use Rattle.rb_trees.specs.Found.{has_node, items_of_records}
-use Rattle.rb_trees.specs.Trees.{ColouredTree, branch, rows, shape, tip}
-use Rattle.word_layout.specs.Words.{listed}
 
 pub as_many_rows : (t : ColouredTree) → length (listed (shape t)) ≡ length (items_of_records (rows t))
 as_many_rows t = ap length (listed_rows t) ∙ length-map (rows t) (λ r. r.node)

@@ -1,15 +1,7 @@
 -- The search for an item that is not apart.
-use Rattle.std.proofs.Common.{◌≡◌, ℕ, true, false, cond, Bool, List, ◌∷◌, ◌++◌, refl, sym, ◌∙◌, ap}
-use Rattle.std.specs.Prelude.{◌==◌, ◌||◌, ◌&&◌, not}
-use Rattle.std.specs.List.{list_any}
-use Rattle.std.proofs.Math.Bool.{or-false}
-use Rattle.order_laws.specs.declared.items.Item.{Item}
-use Rattle.order_laws.specs.Orders.{Order, Precedes, IsLawful, IsInLine}
-use Rattle.order_laws.specs.Tables.{IsTable, meets, without_all}
-use Rattle.facts.proofs.Each.{all_weaker}
+use Rattle.rb_trees.proofs.Words.{◌≡◌, ℕ, true, false, cond, List, ◌∷◌, ◌++◌, refl, sym, ◌∙◌, ap, ◌==◌, ◌||◌, ◌&&◌, not, list_any, or-false, Item, Order, Precedes, IsLawful, IsInLine, IsTable, meets, without_all, all_weaker, ColouredTree, tip, branch, rows, items_of_records, meets_on_the_way, meets_anywhere}
+use Rattle.std.proofs.Common.{Bool}
 use Rattle.order_laws.proofs.MeetLemmas.{meets_split, meets_none, apart_head, any_head, meeting_head}
-use Rattle.rb_trees.specs.Trees.{ColouredTree, tip, branch, rows}
-use Rattle.rb_trees.specs.Found.{items_of_records, meets_on_the_way, meets_anywhere}
 use Rattle.rb_trees.proofs.PlaceRows.{parts, items_append}
 
 module _ {K : Type 0} (o : Order K) (i : Item) (but : List ℕ) where

@@ -1,21 +1,11 @@
 -- A mended node: its records, its colours and black height, where its stores lead, and how many.
-use Rattle.std.proofs.Common.{◌≡◌, ℕ, suc, ◌<◌, ◌≤◌, true, false, cond, List, [], ◌++◌, length, length-append, refl, sym, ◌∙◌, ap, subst, arith}
+use Rattle.rb_trees.proofs.Words.{◌≡◌, ℕ, suc, ◌<◌, ◌≤◌, true, false, cond, List, [], ◌++◌, length, length-append, refl, sym, ◌∙◌, ap, subst, arith, Store, Record, Side, Left, Right, ColouredTree, tip, branch, is_red, blackened, shape, rows, HasBlackHeight, opposite, sided, link, relink, turned, turn_links, clash, recoloured, mended_over, mended, mend_links_over, mend_links, Among, IsSeparate, Relinks, Sound}
 use Rattle.facts.proofs.Bools.{false_by_contrary}
-use Rattle.word_layout.specs.declared.stores.Store.{Store}
-use Rattle.rb_trees.specs.declared.Record.{Record}
-use Rattle.rb_trees.specs.declared.Side.{Side}
-use Rattle.rb_trees.specs.declared.Side.TheVariants.{Left, Right}
 use Rattle.rb_trees.specs.declared.Clash.{Clash}
 use Rattle.rb_trees.specs.declared.Clash.TheVariants.{Nowhere, Outer, Inner}
-use Rattle.rb_trees.specs.Trees.{ColouredTree, tip, branch, is_red, blackened, shape, rows, HasBlackHeight}
-use Rattle.rb_trees.specs.Sides.{opposite, sided}
-use Rattle.rb_trees.specs.Turns.{link, relink, turned, turn_links}
-use Rattle.rb_trees.specs.Inserted.{clash, recoloured, mended_over, mended, mend_links_over, mend_links}
-use Rattle.rb_trees.specs.Linked.{Among, IsSeparate}
 use Rattle.rb_trees.proofs.SideLemmas.{red_sided, link_sided, among_near, separate_near}
 use Rattle.rb_trees.proofs.TurnLemmas.{rows_blackened, rows_sided, rows_turned, turned_sided, turned_back, turn_two, moved_one, relink_moved}
 use Rattle.rb_trees.proofs.ColourLemmas.{IsNear, near_of_calm, black_blackened, sound_blackened, sound_black, sound_red}
-use Rattle.rb_trees.specs.Replaced.{Relinks, Sound}
 use Rattle.rb_trees.proofs.RelinkLemmas.{same, then, in_sided, turn_relinks, shape_recoloured}
 
 -- what is mended of a black node with these trees

@@ -1,13 +1,7 @@
 -- The ways down lead to places of the tree that they began in, and are no longer than it is deep.
-use Rattle.std.proofs.Common.{◌≡◌, suc, ◌+◌, ◌≤◌, true, false, cond, Bool, List, ◌∷◌, refl, arith, length}
-use Rattle.std.specs.Prelude.{max}
-use Rattle.std.specs.declared.cmp.Ordering.{Ordering}
-use Rattle.std.specs.declared.cmp.Ordering.TheVariants.{Less, Equal, Greater}
-use Rattle.order_laws.specs.declared.items.Item.{Item}
+use Rattle.rb_trees.proofs.Words.{◌≡◌, suc, ◌+◌, ◌≤◌, true, false, cond, List, ◌∷◌, refl, arith, length, max, Ordering, Less, Equal, Greater, Item, Record, ColouredTree, tip, branch, shape, depth, Above, plugged, past_left, past_right, place_from, way_from, way_by, way_at, place_at, first_way, first_place}
+use Rattle.std.proofs.Common.{Bool}
 use Rattle.facts.proofs.Numbers.{suc-max_left, suc-max_right}
-use Rattle.rb_trees.specs.declared.Record.{Record}
-use Rattle.rb_trees.specs.Trees.{ColouredTree, tip, branch, shape, depth}
-use Rattle.rb_trees.specs.Paths.{Above, plugged, past_left, past_right, place_from, way_from, way_by, way_at, place_at, first_way, first_place}
 
 pub plugged_by : (less : Item → Item → Bool) (x : Item) (t : ColouredTree) (path : List Above)
     → plugged (way_by less x t path) tip ≡ plugged path t

@@ -1,19 +1,7 @@
 -- What an insert puts at its place, and what an erase takes out.
-use Rattle.std.proofs.Common.{◌≡◌, ℕ, suc, true, false, cond, Bool, List, [], ◌∷◌, ◌++◌, Some, refl, sym, ◌∙◌, ap, subst}
-use Rattle.std.specs.Prelude.{◌==◌, insert, remove, slice_get}
-use Rattle.std.specs.List.{AllByRecursion}
+use Rattle.rb_trees.proofs.Words.{◌≡◌, ℕ, suc, true, false, cond, List, [], ◌∷◌, ◌++◌, Some, refl, sym, ◌∙◌, ap, subst, ◌==◌, insert, remove, slice_get, AllByRecursion, map-append, Item, Order, Precedes, IsLawful, IsTable, place_for, place_of, Parted, parted, Lacks, differs_before, all_weaker, Record, ColouredTree, tip, branch, rows, Above, plugged, past_left, past_right, way_by, items_of_records}
+use Rattle.std.proofs.Common.{Bool}
 use Rattle.std.proofs.lemmas.Bool.{eq-eqb}
-use Rattle.std.proofs.lemmas.List.{map-append}
-use Rattle.order_laws.specs.declared.items.Item.{Item}
-use Rattle.order_laws.specs.Orders.{Order, Precedes, IsLawful}
-use Rattle.order_laws.specs.Tables.{IsTable, place_for, place_of}
-use Rattle.order_laws.proofs.TableLemmas.{Parted, parted}
-use Rattle.order_laws.proofs.FirstWordLemmas.{Lacks, differs_before}
-use Rattle.facts.proofs.Each.{all_weaker}
-use Rattle.rb_trees.specs.declared.Record.{Record}
-use Rattle.rb_trees.specs.Trees.{ColouredTree, tip, branch, rows}
-use Rattle.rb_trees.specs.Paths.{Above, plugged, past_left, past_right, way_by}
-use Rattle.rb_trees.specs.Found.{items_of_records}
 
 pub items_append : (xs ys : List Record) → items_of_records (xs ++ ys) ≡ items_of_records xs ++ items_of_records ys
 items_append xs ys = map-append (λ r. r.item) xs ys

@@ -1,20 +1,7 @@
 -- What stores of links make of the links of a tree, one small change after another.
-use Rattle.std.proofs.Common.{◌≡◌, ◌≢◌, ℕ, suc, ◌<◌, ◌≤◌, true, false, cond, Bool, List, [], ◌∷◌, ◌++◌, length, refl, sym, ◌∙◌, subst, inl, inr, ⊎_elim, arith, length-set, ap}
-use Rattle.std.specs.Prelude.{◌⊎◌, ◌==◌, slice_set}
-use Rattle.std.proofs.lemmas.Bool.{eqb-true}
-use Rattle.word_layout.specs.declared.stores.Store.{Store}
-use Rattle.word_layout.specs.Words.{Nodes, none, fork, at, words_for, left_word, right_word}
-use Rattle.word_layout.specs.Stores.{words_after_all}
-use Rattle.word_layout.proofs.StoreLemmas.{at_stored, at_other, after_append, length_after}
-use Rattle.word_layout.proofs.OwnedLinkLemmas.{Owns, owns_append, owns_weaker, link_kept}
-use Rattle.rb_trees.specs.declared.Record.{Record}
-use Rattle.rb_trees.specs.declared.Side.{Side}
-use Rattle.rb_trees.specs.declared.Side.TheVariants.{Left, Right}
-use Rattle.rb_trees.specs.Trees.{ColouredTree, tip, branch, blackened, shape}
-use Rattle.rb_trees.specs.Sides.{opposite, sided, link_word, set_link}
-use Rattle.rb_trees.specs.Turns.{link, relink, turned, turn_links}
-use Rattle.rb_trees.specs.Linked.{Inner, Among, IsSeparate}
-use Rattle.rb_trees.specs.Replaced.{Relinks}
+use Rattle.rb_trees.proofs.Words.{◌≡◌, ◌≢◌, ℕ, suc, ◌<◌, ◌≤◌, true, false, cond, List, [], ◌∷◌, ◌++◌, length, refl, sym, ◌∙◌, subst, inl, inr, ⊎_elim, arith, length-set, ap, ◌⊎◌, ◌==◌, slice_set, eqb-true, Store, Nodes, none, fork, at, words_for, left_word, right_word, words_after_all, at_stored, at_other, after_append, length_after, Owns, owns_append, owns_weaker, link_kept, Record, Side, Left, Right, ColouredTree, tip, branch, blackened, shape, opposite, sided, link_word, set_link, link, relink, turned, turn_links, Among, IsSeparate, Relinks}
+use Rattle.std.proofs.Common.{Bool}
+use Rattle.rb_trees.specs.Linked.{Inner}
 use Rattle.rb_trees.proofs.SideLemmas.{forked, link_forked, inner_on, on_inner, apart_on, on_apart, among_on, on_among, other_side, other_node, word_in, is_link}
 
 pub inner_kept : (n c : ℕ) (P : ℕ → Type 0) (m : List ℕ) (ss : List Store) → Owns n c P ss → (t : Nodes) → ((i : ℕ) → Among t i → P i → ⊥) → Inner m c t → Inner (words_after_all m ss) c t

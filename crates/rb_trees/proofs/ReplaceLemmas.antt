@@ -1,20 +1,9 @@
 -- A tree that stands in the place of another below some nodes of a path: what the stores so far make
 -- of the links there, and what follows for the tree above.
-use Rattle.std.proofs.Common.{◌≡◌, ℕ, ◌<◌, ◌≤◌, Bool, List, [], ◌∷◌, ◌++◌, refl, sym, ◌∙◌, ap, subst, inl, inr, ⊎_elim, append_assoc}
-use Rattle.std.specs.Prelude.{◌⊎◌}
-use Rattle.word_layout.specs.declared.stores.Store.{Store}
-use Rattle.word_layout.specs.Words.{Nodes}
-use Rattle.rb_trees.specs.declared.Record.{Record}
-use Rattle.rb_trees.specs.declared.Side.{Side}
-use Rattle.rb_trees.specs.declared.Side.TheVariants.{Left, Right}
-use Rattle.rb_trees.specs.Trees.{ColouredTree, shape, rows}
-use Rattle.rb_trees.specs.Sides.{sided}
-use Rattle.rb_trees.specs.Turns.{link, relink, relink_root}
-use Rattle.rb_trees.specs.Linked.{Among, IsSeparate, With, HasRoom, Lead}
-use Rattle.rb_trees.specs.Paths.{Above, joined, plugged}
+use Rattle.rb_trees.proofs.Words.{◌≡◌, ℕ, ◌<◌, ◌≤◌, List, [], ◌∷◌, ◌++◌, refl, sym, ◌∙◌, ap, subst, inl, inr, ⊎_elim, append_assoc, ◌⊎◌, Store, Nodes, Record, Side, Left, Right, ColouredTree, shape, rows, sided, link, relink, relink_root, Among, IsSeparate, With, HasRoom, Lead, Above, joined, plugged, Relinks, Own, Replaced}
+use Rattle.std.proofs.Common.{Bool}
 use Rattle.rb_trees.proofs.SideLemmas.{forked, among_near, separate_near, apart_on, on_among}
 use Rattle.rb_trees.proofs.TurnLemmas.{rows_sided}
-use Rattle.rb_trees.specs.Replaced.{Relinks, Own, Replaced}
 use Rattle.rb_trees.proofs.RelinkLemmas.{then, step}
 use Rattle.rb_trees.proofs.LeadsLemmas.{lead_links}
 

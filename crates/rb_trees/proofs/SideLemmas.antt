@@ -1,17 +1,9 @@
 -- What is said of a node of a tree, by its sides.
-use Rattle.std.proofs.Common.{◌≡◌, ◌≢◌, ℕ, suc, ◌<◌, ◌≤◌, List, refl, sym, inl, inr, ⊎_elim}
-use Rattle.std.specs.Prelude.{Bool, ◌⊎◌}
+use Rattle.rb_trees.proofs.Words.{◌≡◌, ◌≢◌, ℕ, suc, ◌<◌, ◌≤◌, List, refl, sym, inl, inr, ⊎_elim, ◌⊎◌, IsLinkOf, Nodes, fork, at, words_for, Record, Side, Left, Right, ColouredTree, is_red, shape, opposite, sided, link_word, link, Among, IsSeparate}
+use Rattle.std.specs.Prelude.{Bool}
 use Rattle.word_layout.proofs.WordLemmas.{left_not_left, left_not_right, right_not_right}
 use Rattle.word_layout.proofs.LinkLemmas.{left_in, right_in}
-use Rattle.word_layout.proofs.OwnedLinkLemmas.{IsLinkOf}
-use Rattle.word_layout.specs.Words.{Nodes, fork, at, words_for}
-use Rattle.rb_trees.specs.declared.Record.{Record}
-use Rattle.rb_trees.specs.declared.Side.{Side}
-use Rattle.rb_trees.specs.declared.Side.TheVariants.{Left, Right}
-use Rattle.rb_trees.specs.Trees.{ColouredTree, is_red, shape}
-use Rattle.rb_trees.specs.Sides.{opposite, sided, link_word}
-use Rattle.rb_trees.specs.Turns.{link}
-use Rattle.rb_trees.specs.Linked.{Inner, Among, IsSeparate}
+use Rattle.rb_trees.specs.Linked.{Inner}
 
 -- a node with this tree on a side, and that one on the other
 abbrev pub forked : Side → Nodes → ℕ → Nodes → Nodes

@@ -1,28 +1,9 @@
 -- A search for a first word comes to the record of that first word, by first words or by the order
 -- of the item.
-use Rattle.std.proofs.Common.{◌≡◌, ◌≢◌, ℕ, ◌<◌, ◌≤◌, true, false, cond, Bool, List, []}
-use Rattle.std.proofs.Common.{◌∷◌, ◌++◌, Option, Some, None, refl, sym, ◌∙◌, ap, subst, ⊎_elim}
-use Rattle.std.proofs.Common.{arith}
-use Rattle.std.specs.Prelude.{◌==◌, ◌||◌, not, nat_lt, is_some, Contains}
-use Rattle.std.specs.List.{AllByRecursion}
-use Rattle.std.proofs.lemmas.Bool.{eq-eqb, eqb-true, ne_eqb, ltb-true, ltb-false}
-use Rattle.std.proofs.lemmas.List.Elements.{Contains-append_cases, Contains-append_left}
-use Rattle.std.proofs.lemmas.List.Elements.{Contains-append_right}
-use Rattle.std.specs.declared.cmp.Ordering.{Ordering}
-use Rattle.std.specs.declared.cmp.Ordering.TheVariants.{Less, Equal, Greater}
-use Rattle.std.proofs.Math.Bool.{or-true}
-use Rattle.order_laws.specs.declared.items.Item.{Item}
-use Rattle.order_laws.specs.Orders.{Order, Precedes, IsLawful, IsInLine}
-use Rattle.order_laws.specs.Tables.{IsTable, has}
-use Rattle.order_laws.proofs.TableLemmas.{parted}
-use Rattle.facts.proofs.Each.{all_at, all_weaker}
-use Rattle.facts.proofs.Members.{Contains-cons_cases, Contains-rest}
+use Rattle.rb_trees.proofs.Words.{◌≡◌, ◌≢◌, ℕ, ◌<◌, ◌≤◌, true, false, cond, List, [], ◌∷◌, ◌++◌, Option, Some, None, refl, sym, ◌∙◌, ap, subst, ⊎_elim, arith, ◌==◌, ◌||◌, not, nat_lt, is_some, Contains, AllByRecursion, eqb-true, ne_eqb, ltb-true, ltb-false, Contains-append_cases, Contains-append_left, Contains-append_right, Ordering, Less, Equal, Greater, or-true, Item, Order, Precedes, IsLawful, IsInLine, IsTable, has, parted, all_at, all_weaker, Contains-cons_cases, Contains-rest, Lacks, has_front, has_back, across, all_before, differs, differs_before, Record, ColouredTree, tip, branch, rows, first_word_at, item_lies, record_found_at, found, items_of_records, first_item_of, item_with_word}
+use Rattle.std.proofs.Common.{Bool}
+use Rattle.std.proofs.lemmas.Bool.{eq-eqb}
 use Rattle.order_laws.proofs.WithoutLemmas.{has_either}
-use Rattle.order_laws.proofs.FirstWordLemmas.{Lacks, has_front, has_back, across, all_before, differs, differs_before}
-use Rattle.rb_trees.specs.declared.Record.{Record}
-use Rattle.rb_trees.specs.Trees.{ColouredTree, tip, branch, rows}
-use Rattle.rb_trees.specs.Erased.{first_word_at, item_lies, record_found_at, found}
-use Rattle.rb_trees.specs.Found.{items_of_records, first_item_of, item_with_word}
 use Rattle.rb_trees.proofs.PlaceRows.{items_append, parts}
 
 -- what a comparison says of both sides, and of the side that it leads to

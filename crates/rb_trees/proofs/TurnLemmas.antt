@@ -1,12 +1,6 @@
 -- A turn keeps the records in order, and stores two links at most.
-use Rattle.std.proofs.Common.{◌≡◌, ℕ, ◌≤◌, true, false, cond, Bool, [], ◌∷◌, ◌++◌, length, refl, sym, ◌∙◌, ap, append_assoc, arith, eq-eqb}
-use Rattle.std.specs.Prelude.{◌==◌}
-use Rattle.rb_trees.specs.declared.Record.{Record}
-use Rattle.rb_trees.specs.declared.Side.{Side}
-use Rattle.rb_trees.specs.declared.Side.TheVariants.{Left, Right}
-use Rattle.rb_trees.specs.Trees.{ColouredTree, tip, branch, blackened, rows}
-use Rattle.rb_trees.specs.Sides.{opposite, sided, set_link}
-use Rattle.rb_trees.specs.Turns.{relink, set_root, relink_root, moved, turned, turn_links}
+use Rattle.rb_trees.proofs.Words.{◌≡◌, ℕ, ◌≤◌, true, false, cond, [], ◌∷◌, ◌++◌, length, refl, sym, ◌∙◌, ap, append_assoc, arith, ◌==◌, Record, Side, Left, Right, ColouredTree, tip, branch, blackened, rows, opposite, sided, set_link, relink, set_root, relink_root, moved, turned, turn_links}
+use Rattle.std.proofs.Common.{Bool, eq-eqb}
 
 pub rows_blackened : (t : ColouredTree) → rows (blackened t) ≡ rows t
 rows_blackened tip = refl

@@ -1,25 +1,7 @@
 -- What is planned for copy 0 leads copy 1 as well, mirrored: for each memory there is one whose
 -- copy 0 is as its copy 1.
-use Rattle.std.proofs.Common.{◌≡◌, ◌≢◌, ℕ, suc, zero, ◌<◌, ◌≤◌, false, List, [], ◌∷◌}
-use Rattle.std.proofs.Common.{◌++◌, length, refl, sym, ◌∙◌, ap, subst, inl, inr, ⊎_elim, arith}
-use Rattle.std.proofs.Common.{length-set}
-use Rattle.std.specs.Prelude.{slice_set, ◌==◌}
-use Rattle.std.specs.List.{AllByRecursion}
-use Rattle.std.proofs.lemmas.Bool.{ne_eqb, cases_eq}
-use Rattle.order_laws.specs.declared.items.Item.{Item}
-use Rattle.order_laws.specs.Orders.{Order}
+use Rattle.rb_words.proofs.Words.{◌≡◌, ◌≢◌, ℕ, suc, zero, ◌<◌, ◌≤◌, false, List, [], ◌∷◌, ◌++◌, length, refl, sym, ◌∙◌, ap, subst, inl, inr, ⊎_elim, arith, length-set, slice_set, ◌==◌, AllByRecursion, ne_eqb, cases_eq, Item, Order, Store, Nodes, none, fork, words_for, at, item_at, items, Leads, Holds, root_word, left_word, right_word, a_word, b_word, tag_word, words_after, words_after_all, IsLinkWord, IsItemWord, AreLinkStores, of_item, at_stored, at_other, same_store, after_append, Picture, IsPictured, AreLinks, item_stores, Inserts, LeadsWithItem, Erases, LeadsByLinks, mirror_word, mirror_store, mirror_stores, second_picture}
 use Rattle.facts.proofs.Numbers.{below_suc}
-use Rattle.word_layout.specs.declared.stores.Store.{Store}
-use Rattle.word_layout.specs.Words.{Nodes, none, fork, words_for, at, item_at, items, Leads, Holds}
-use Rattle.word_layout.specs.Words.{root_word, left_word, right_word, a_word, b_word, tag_word}
-use Rattle.word_layout.specs.Stores.{words_after, words_after_all, IsLinkWord, IsItemWord}
-use Rattle.word_layout.specs.Stores.{AreLinkStores}
-use Rattle.word_layout.proofs.WordLemmas.{of_item}
-use Rattle.word_layout.proofs.StoreLemmas.{at_stored, at_other, same_store, after_append}
-use Rattle.rb_words.specs.Pictures.{Picture, IsPictured}
-use Rattle.rb_words.specs.Plans.{AreLinks, item_stores, Inserts, LeadsWithItem, Erases}
-use Rattle.rb_words.specs.Plans.{LeadsByLinks}
-use Rattle.rb_words.specs.Mirrors.{mirror_word, mirror_store, mirror_stores, second_picture}
 
 -- copy 1 of the second memory is as copy 0 of the first, and the nodes have the same items
 record Mirrors (n : ℕ) (m m' : List ℕ) : Type 0 where

@@ -1,33 +1,12 @@
 -- What planned changes make of the picture, and that the plan's stores lead a copy there.
-use Rattle.std.proofs.Common.{◌≡◌, ◌≢◌, ℕ, suc, ◌+◌, ◌*◌, ◌^◌, ◌<◌, ◌≤◌, true, false, List}
-use Rattle.std.proofs.Common.{[], ◌∷◌, ◌++◌, length, map, Some, refl, sym, ◌∙◌, ap}
-use Rattle.std.proofs.Common.{subst, inl, inr, ⊎_elim, arith, length-set}
-use Rattle.std.specs.Prelude.{Contains, insert, remove, slice_get}
-use Rattle.std.specs.Prelude.{slice_set}
+use Rattle.rb_words.proofs.Words.{◌≡◌, ◌≢◌, ℕ, suc, ◌+◌, ◌*◌, ◌^◌, ◌<◌, ◌≤◌, true, false, List, [], ◌∷◌, ◌++◌, length, map, Some, refl, sym, ◌∙◌, ap, subst, inl, inr, ⊎_elim, arith, length-set, Contains, insert, remove, slice_get, slice_set, AllByRecursion, cases_lt, Item, Order, IsLawful, IsInLine, IsTable, with_item, without, place_for, place_of, has, meets, with_place, without_place, without_none, all_differ, all_get, all_insert, all_left, all_remove, all_right, length-insert, length-remove_at, map-insert, map-remove, Contains-insert, Contains-insert_cases, Contains-remove, as_many_rows, Store, Nodes, none, fork, words_for, a_word, b_word, tag_word, item_at, listed, Reaches, InUse, words_after_all, AreLinkStores, unused_item, length_after, after_append, at_stored, at_other, items_of_records, meets_on_the_way, met_meets, AreDistinct, Picture, IsPicture, IsPictured, Inserts, LeadsWithItem, Erases, LeadsByLinks, item_stores, picture_of, LosesWord}
 use Rattle.std.specs.Option.{option_map}
-use Rattle.std.specs.List.{AllByRecursion}
 use Rattle.std.proofs.Math.Nat.{pow-le-pow_right, mul-le-mul}
 use Rattle.std.proofs.lemmas.Option.{slice_get-map}
-use Rattle.std.proofs.lemmas.Bool.{cases_lt}
-use Rattle.order_laws.specs.declared.items.Item.{Item}
-use Rattle.order_laws.specs.Orders.{Order, IsLawful, IsInLine}
-use Rattle.order_laws.specs.Tables.{IsTable, with_item, without, place_for, place_of, has, meets}
 use Rattle.order_laws.proofs.TableLemmas.{with_item_table, without_table}
-use Rattle.order_laws.proofs.PlaceLemmas.{with_place, without_place}
-use Rattle.order_laws.proofs.PlaceLemmas.{without_none}
-use Rattle.facts.proofs.Each.{all_differ, all_get, all_insert, all_left, all_remove, all_right}
-use Rattle.facts.proofs.Lists.{length-insert, length-remove_at, map-insert, map-remove}
-use Rattle.facts.proofs.Members.{Contains-insert, Contains-insert_cases, Contains-remove}
 use Rattle.order_laws.proofs.MeetLemmas.{not_meeting}
-use Rattle.rb_trees.proofs.ListedRows.{as_many_rows}
 use Rattle.word_layout.proofs.LinkLemmas.{item_kept}
 use Rattle.word_layout.specs.Limits.{most_nodes}
-use Rattle.word_layout.specs.declared.stores.Store.{Store}
-use Rattle.word_layout.specs.Words.{Nodes, none, fork, words_for, a_word, b_word}
-use Rattle.word_layout.specs.Words.{tag_word, item_at, listed, Reaches, InUse}
-use Rattle.word_layout.specs.Stores.{words_after_all, AreLinkStores}
-use Rattle.word_layout.proofs.WordLemmas.{unused_item}
-use Rattle.word_layout.proofs.StoreLemmas.{length_after, after_append, at_stored, at_other}
 use Rattle.word_layout.proofs.HoldsLemmas.{tree_untouched}
 use Rattle.word_layout.proofs.ReachLemmas.{reached_listed}
 use Rattle.rb_trees.specs.declared.Record.{Record}
@@ -35,17 +14,10 @@ use Rattle.rb_trees.specs.Trees.{ColouredTree, shape, rows, depth, IsRedBlack}
 use Rattle.rb_trees.specs.Linked.{Among, IsSeparate, LeadLinks, Lead}
 use Rattle.rb_trees.specs.Replaced.{Nothing}
 use Rattle.rb_cursor.specs.Changes.{PutsIn}
-use Rattle.rb_trees.specs.Found.{items_of_records, meets_on_the_way}
-use Rattle.rb_trees.proofs.MeetRows.{met_meets}
 use Rattle.rb_trees.proofs.DepthLemmas.{balanced_depth}
 use Rattle.rb_trees.proofs.PlaceRows.{taken_out}
 use Rattle.rb_trees.proofs.LeadsLemmas.{listed_rows, all_among}
 use Rattle.rb_trees.proofs.LeadsLemmas.{among_listed, Stored, stored_items, items_stored}
-use Rattle.rb_words.specs.Rows.{AreDistinct}
-use Rattle.rb_words.specs.Pictures.{Picture, IsPicture, IsPictured}
-use Rattle.rb_words.specs.Plans.{Inserts, LeadsWithItem, Erases, LeadsByLinks}
-use Rattle.rb_words.specs.Plans.{item_stores}
-use Rattle.rb_words.specs.TreePictures.{picture_of, LosesWord}
 use Rattle.rb_words.proofs.ListLemmas.{distinct_insert, distinct_remove, distinct_fit, member_remove}
 
 -- distinct nodes, by the tree

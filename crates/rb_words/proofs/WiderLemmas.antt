@@ -1,8 +1,7 @@
 -- A picture stays one in a memory of more nodes.
-use Rattle.std.proofs.Common.{ℕ, ◌≤◌, List}
+use Rattle.rb_words.proofs.Words.{ℕ, ◌≤◌, List, Picture, IsPictured}
 use Rattle.word_layout.specs.Wider.{wider_words}
 use Rattle.word_layout.proofs.WiderLemmas.{length_wider, holds_wider}
-use Rattle.rb_words.specs.Pictures.{Picture, IsPictured}
 
 pub pictured_wider : (p : Picture) (n : ℕ) (m : List ℕ) → p.capacity ≤ n → IsPictured m p →
     IsPictured (wider_words p.capacity n m) (record p { capacity = n })

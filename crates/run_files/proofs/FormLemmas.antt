@@ -1,12 +1,6 @@
 -- Words of another number than that of a form are not of this form.
-use Rattle.std.proofs.Common.{◌≡◌, ℕ, ◌<◌, ◌≤◌, Bool, ◌&&◌, List, [], ◌∷◌, length, map, None, Option, refl, ap, arith, Bor, slice_index_or}
-use Rattle.std.specs.Str.{bytes_eq}
-use Rattle.std.specs.Prelude.{codes}
+use Rattle.run_files.proofs.Words.{◌≡◌, ℕ, ◌<◌, ◌≤◌, Bool, ◌&&◌, List, [], ◌∷◌, length, map, None, Option, refl, ap, arith, Bor, slice_index_or, bytes_eq, codes, Words, header_of_words, header_with, number_of, command_of, command_with, erase_of, insert_of, read_of, start_of, write_of}
 use Rattle.facts.proofs.Options.{cond-None}
-use Rattle.texts.proofs.LineCutLemmas.{Words}
-use Rattle.run_files.specs.Header.{header_of_words, header_with}
-use Rattle.texts.specs.Numbers.{number_of}
-use Rattle.run_files.specs.Commands.{command_of, command_with, erase_of, insert_of, read_of, start_of, write_of}
 
 pub insert_short : (words : Words) → length words < 3 → insert_of (map (λ w. w.now) words) ≡ None
 insert_short [] few = refl

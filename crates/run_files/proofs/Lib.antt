@@ -1,3 +1,5 @@
+-- the words of all proofs of this crate
+mod Words
 -- how many words a form has
 pub mod FormLemmas
 -- what a line of a script is

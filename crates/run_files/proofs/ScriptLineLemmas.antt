@@ -1,23 +1,14 @@
 -- What a line of a script is.
-use Rattle.std.proofs.Common.{cond, ◌≡◌, ℕ, ◌<◌, ◌≤◌, Bool, true, false, nat_lt, List, [], ◌∷◌, length, map, Option, Some, None, Result, Ok, Err, MatchResult, refl, sym, ap, ◌∙◌, subst, arith}
-use Rattle.std.specs.Prelude.{All, IfOk, codes}
+use Rattle.run_files.proofs.Words.{cond, ◌≡◌, ℕ, ◌<◌, ◌≤◌, Bool, true, false, nat_lt, List, [], ◌∷◌, length, map, Option, Some, None, Result, Ok, Err, MatchResult, refl, sym, ap, ◌∙◌, subst, arith, All, IfOk, codes, option_and_then, option_map_or, bytes_eq, words_of, between, number_of, entries_from, GivesInGrammar, is_passed_over, is_too_long, change_by, change_named, has_actor, lies_between, look_with, most_writers, script_line_by, script_line_of, are_entries, Words}
 use Rattle.std.specs.Global.{Vec}
 use Rattle.std.specs.List.{filter_map, cons_option}
-use Rattle.std.specs.Option.{option_and_then, option_map_or}
-use Rattle.std.specs.Str.{bytes_eq}
 use Rattle.std.proofs.lemmas.List.Elements.{All-cons}
 use Rattle.texts.specs.declared.faults.LineFault.{LineFault}
 use Rattle.texts.specs.declared.said.LineMeaning.{LineMeaning}
 use Rattle.texts.specs.declared.said.LineMeaning.TheVariants.{Nothing, One, Bad}
 use Rattle.run_files.specs.declared.scripts.ScriptLine.{ScriptLine}
 use Rattle.run_files.specs.declared.scripts.ScriptLine.TheVariants.{Load, Unload, Init, Look}
-use Rattle.texts.specs.Lines.{words_of}
-use Rattle.texts.specs.Numbers.{between, number_of}
-use Rattle.texts.specs.Said.{entries_from, GivesInGrammar, is_passed_over, is_too_long}
-use Rattle.run_files.specs.Scripts.{change_by, change_named, has_actor, lies_between, look_with, most_writers, script_line_by, script_line_of}
 use Rattle.texts.specs.Understood.{entry_by, AreSaidBy, IsFirstBadFrom}
-use Rattle.texts.proofs.UnderstoodLemmas.{are_entries}
-use Rattle.texts.proofs.LineCutLemmas.{Words}
 
 -- ---- words of another number
 

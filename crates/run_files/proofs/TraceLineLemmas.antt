@@ -1,14 +1,8 @@
 -- What the lines of a trace say of it.
-use Rattle.std.proofs.Common.{◌≡◌, ℕ, List, [], ◌∷◌, ◌++◌, Option, Some, None, Result, Ok, Err, MatchResult, refl, inl, inr}
-use Rattle.latch_steps.specs.declared.commands.Command.{Command}
-use Rattle.texts.proofs.SaidLemmas.{one_more}
-use Rattle.texts.proofs.UnderstoodLemmas.{AreEntries, are_entries}
-use Rattle.texts.specs.Said.{entries_after, entries_from}
+use Rattle.run_files.proofs.Words.{◌≡◌, ℕ, List, [], ◌∷◌, ◌++◌, Option, Some, None, Result, Ok, Err, MatchResult, refl, inl, inr, Command, one_more, AreEntries, are_entries, entries_after, entries_from, command_by, header_of}
 use Rattle.run_files.specs.declared.header.Header.{Header}
 use Rattle.run_files.specs.declared.command_lines.NumberedCommand.{NumberedCommand}
 use Rattle.run_files.specs.CommandLines.{GivesCommand, LinesLeft}
-use Rattle.run_files.specs.Commands.{command_by}
-use Rattle.run_files.specs.Header.{header_of}
 use Rattle.run_files.specs.Trace.{contents_with, trace_of_lines, with_header}
 use Rattle.run_files.specs.Understood.{IsFirstBad, IsTraceBy}
 

@@ -1,21 +1,7 @@
 -- The count of wrong answers, by its test.
-use Rattle.std.proofs.Common.{◌≡◌, ℕ, suc, Bool, true, false, List, [], ◌∷◌, length, take, subst, sym, Option, Some, None, refl, ap, inl, inr, ⊎_elim, arith, cond}
-use Rattle.std.specs.Borrow.{Bor}
-use Rattle.std.specs.Global.{Vec}
-use Rattle.std.proofs.lemmas.List.Sums.{sum_by-cons}
-use Rattle.std.specs.Prelude.{All, count_by, nat_lt, not, ◌||◌, IfOk, Ok, Err, Result}
+use Rattle.shared_lookup.proofs.Words.{◌≡◌, ℕ, suc, Bool, true, false, List, [], ◌∷◌, length, take, subst, sym, Option, Some, None, refl, ap, inl, inr, ⊎_elim, arith, cond, Bor, Vec, sum_by-cons, All, count_by, nat_lt, not, ◌||◌, IfOk, Ok, Err, Result, Item, half_open, look, Update, replay, Refusal, Answer, answers_at, is_same_item, is_wrong_answer, Counts, EachIsFoundIn, IsFoundIn, IsWrongAnswer, entries}
 use Rattle.std.proofs.lemmas.Bool.Decides.{nat_tests}
-use Rattle.order_laws.specs.declared.items.Item.{Item}
-use Rattle.order_laws.specs.Orders.{half_open}
-use Rattle.order_laws.specs.Tables.{look}
-use Rattle.table_updates.specs.declared.updates.Update.{Update}
-use Rattle.table_updates.specs.Updates.{replay}
 use Rattle.std.specs.Result.{result_unwrap_or}
-use Rattle.order_laws.specs.declared.refusals.Refusal.{Refusal}
-use Rattle.shared_lookup.specs.declared.served.Answer.{Answer}
-use Rattle.shared_lookup.specs.Checks.{answers_at, is_same_item, is_wrong_answer}
-use Rattle.shared_lookup.specs.Counts.{Counts}
-use Rattle.shared_lookup.specs.Servings.{EachIsFoundIn, IsFoundIn, IsWrongAnswer, entries}
 use Rattle.shared_lookup.proofs.CountLemmas.{counts_append, counts_of}
 
 same_items : (x y : Option Item) → is_same_item x y ≡ true → x ≡ y

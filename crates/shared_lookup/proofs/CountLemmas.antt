@@ -1,14 +1,8 @@
 -- Counts of lists that are put together.
-use Rattle.std.proofs.Common.{◌≡◌, ℕ, suc, zero, ◌+◌, ◌-◌, ◌^◌, ◌<◌, Bool, true, false, List, [], ◌∷◌, ◌++◌, length, map, take, drop, get_or, min, refl, sym, ◌∙◌, ap, subst, cond, inl, inr, ⊎_elim, arith, length-append}
-use Rattle.std.specs.Prelude.{count_by}
-use Rattle.std.specs.Global.{Vec}
+use Rattle.shared_lookup.proofs.Words.{◌≡◌, ℕ, suc, zero, ◌+◌, ◌-◌, ◌^◌, ◌<◌, Bool, true, false, List, [], ◌∷◌, ◌++◌, length, map, take, drop, get_or, min, refl, sym, ◌∙◌, ap, subst, cond, inl, inr, ⊎_elim, arith, length-append, count_by, Vec, take_more, Counts, CountsUpTo, CatalogEntries, Change, AreAsLong, ChangeOutcome, EachHasOutcome, entries}
 use Rattle.std.proofs.lemmas.Grind.{flat_map-append}
-use Rattle.std.proofs.lemmas.List.{take_more, append-nil}
+use Rattle.std.proofs.lemmas.List.{append-nil}
 use Rattle.std.proofs.lemmas.List.Recursion.{is_count_by}
-use Rattle.shared_lookup.specs.Counts.{Counts, CountsUpTo}
-use Rattle.modules.specs.Entries.{CatalogEntries}
-use Rattle.shared_lookup.specs.declared.changes.Change.{Change}
-use Rattle.shared_lookup.specs.Servings.{AreAsLong, ChangeOutcome, EachHasOutcome, entries}
 
 module _ {X : Type 0} (holds : X → Type 0) where
   pub counts_append : (xs ys : List X) (n m : ℕ) → Counts holds xs n → Counts holds ys m → Counts holds (xs ++ ys) (n + m)

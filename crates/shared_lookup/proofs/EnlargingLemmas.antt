@@ -1,15 +1,8 @@
 -- A writer at rest that goes on with more nodes.
-use Rattle.std.proofs.Common.{◌≡◌, ℕ, ◌*◌, List, sym, ◌∙◌, ap, subst, arith}
-use Rattle.order_laws.specs.Orders.{half_open}
-use Rattle.word_layout.specs.declared.layouts.Layout.{Layout}
+use Rattle.shared_lookup.proofs.Words.{◌≡◌, ℕ, ◌*◌, List, sym, ◌∙◌, ap, subst, arith, half_open, Layout, Update, IsSound, ReaderState, WriterState, shown_updates, LedgerState, AreAccepted, HasNothingPending, IsLedger, ledger_of}
 use Rattle.word_layout.specs.Layouts.{capacity_of, limit_of}
-use Rattle.table_updates.specs.declared.updates.Update.{Update}
-use Rattle.latch_core.specs.Invariants.{IsSound}
 use Rattle.latch_core.proofs.TestLemmas.{none_wider}
-use Rattle.latch_table.specs.Readers.{ReaderState}
-use Rattle.latch_table.specs.Writers.{WriterState, shown_updates}
 use Rattle.latch_table.specs.Enlarging.{Enlarges}
-use Rattle.shared_lookup.specs.Ledgers.{LedgerState, AreAccepted, HasNothingPending, IsLedger, ledger_of}
 use Rattle.shared_lookup.specs.Enlarging.{enlarged_ledger}
 
 module _ (w : WriterState) (l : Layout) (w' : WriterState) (readers : List ReaderState) (e : Enlarges w l w' readers)

@@ -1,27 +1,9 @@
 -- Outcomes of changes in the order of a log, and of a longer one.
-use Rattle.std.proofs.Common.{◌≡◌, ℕ, suc, ◌+◌, ◌<◌, ◌≤◌, List, [], ◌∷◌, ◌++◌, length, take, set, get_or, inl, inr, Option, Some, None, refl, sym, ◌∙◌, ap, subst, arith, append_assoc, length-append}
-use Rattle.std.specs.Global.{Vec}
-use Rattle.std.specs.Option.{ForSome}
-use Rattle.std.specs.Prelude.{◌⊎◌, Ok, Err, IfOk, IfErr, IfSome, OnErr}
-use Rattle.std.proofs.lemmas.List.{take_all, take_more, take_more_set}
-use Rattle.std.proofs.lemmas.Option.{slice_get_within}
-use Rattle.facts.proofs.Lists.{take-append_whole}
+use Rattle.shared_lookup.proofs.Words.{◌≡◌, ℕ, suc, ◌+◌, ◌<◌, List, [], ◌∷◌, ◌++◌, length, take, set, get_or, inl, inr, Option, Some, None, refl, sym, ◌∙◌, ap, subst, arith, append_assoc, length-append, Vec, ForSome, ◌⊎◌, Ok, Err, IfOk, IfErr, IfSome, OnErr, take_all, take_more, take_more_set, slice_get_within, take-append_whole, ReaderState, IsPrefix, TableId, Update, CatalogEntries, Change, ChangeResults, AreAllMade, known_by, with_log, IsNamed, LedgerState, with_entry, with_first, AreNotMade, ChangeOutcome, HasOutcomes, AreMade, count_after, FollowKnown, FollowLog, IsHeld, IsMadeBeside, IsOpenedAs, IsOutcomeBehind, IsServedLedger}
+use Rattle.std.proofs.Common.{◌≤◌}
 use Rattle.shared_lookup.proofs.PairedLemmas.{pair_taken}
 use Rattle.shared_lookup.proofs.ReaderLemmas.{same_some}
-use Rattle.latch_table.specs.Readers.{ReaderState}
-use mathlib.Core.List.{IsPrefix}
-use Rattle.atomic_table.specs.Seated.{TableId}
-use Rattle.table_updates.specs.declared.updates.Update.{Update}
-use Rattle.modules.specs.Entries.{CatalogEntries}
-use Rattle.shared_lookup.specs.declared.changes.Change.{Change}
 use Rattle.shared_lookup.specs.Changes.{Changes, IsOutcomeOf, RefusesChange}
-use Rattle.shared_lookup.specs.declared.threads.ChangeResults.{ChangeResults}
-use Rattle.shared_lookup.specs.Threads.{AreAllMade}
-use Rattle.shared_lookup.specs.Readers.{known_by}
-use Rattle.shared_lookup.specs.Checks.{with_log}
-use Rattle.shared_lookup.specs.Ledgers.{IsNamed, LedgerState, with_entry, with_first}
-use Rattle.shared_lookup.specs.Servings.{AreNotMade, ChangeOutcome, HasOutcomes}
-use Rattle.shared_lookup.specs.Followings.{AreMade, count_after, FollowKnown, FollowLog, IsHeld, IsMadeBeside, IsOpenedAs, IsOutcomeBehind, IsServedLedger}
 use Rattle.shared_lookup.proofs.FoundLemmas.{length-prefix, take-prefix}
 
 pub prefix_on : (xs ys zs : List Update) → IsPrefix xs ys → IsPrefix ys zs → IsPrefix xs zs

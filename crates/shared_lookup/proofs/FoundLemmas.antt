@@ -1,15 +1,6 @@
 -- Answers that are found in what a reader knows, and in what is known later.
-use Rattle.std.proofs.Common.{◌≡◌, ℕ, ◌-◌, ◌≤◌, List, [], ◌∷◌, ◌++◌, length, take, get_or, sym, ◌∙◌, ap, subst, arith, length-append}
-use Rattle.std.proofs.lemmas.List.{take-append-le, take_all}
-use Rattle.std.proofs.lemmas.List.Elements.{All-nil, All-push}
-use Rattle.std.proofs.lemmas.List.Sorted.{IsNonDecreasingBy-push, IsNonDecreasingBy-short}
-use mathlib.Core.List.{IsPrefix}
-use Rattle.order_laws.specs.Orders.{half_open}
-use Rattle.order_laws.specs.Tables.{look}
-use Rattle.table_updates.specs.declared.updates.Update.{Update}
-use Rattle.table_updates.specs.Updates.{replay}
-use Rattle.shared_lookup.specs.declared.served.Answer.{Answer}
-use Rattle.shared_lookup.specs.Servings.{AreFoundIn, IsFoundIn}
+use Rattle.shared_lookup.proofs.Words.{◌≡◌, ℕ, ◌-◌, List, [], ◌∷◌, ◌++◌, length, take, get_or, sym, ◌∙◌, ap, subst, arith, length-append, take-append-le, take_all, All-nil, All-push, IsNonDecreasingBy-push, IsNonDecreasingBy-short, IsPrefix, half_open, look, Update, replay, Answer, AreFoundIn, IsFoundIn}
+use Rattle.std.proofs.Common.{◌≤◌}
 
 pub length-prefix : (log log' : List Update) → IsPrefix log log' → length log ≤ length log'
 length-prefix log log' p = let e = ap length p.1 in let n = length-append log p.0 in omega (arith, e, n)

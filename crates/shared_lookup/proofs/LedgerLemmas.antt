@@ -1,17 +1,7 @@
 -- A writer at rest, before an update and after it.
-use Rattle.std.proofs.Common.{◌≡◌, ℕ, ◌+◌, ◌*◌, List, [], ◌∷◌, ◌++◌, length, take, Option, None, sym, ◌∙◌, ap, subst, ⊎_elim, arith}
-use Rattle.std.specs.Prelude.{IfOk, OnErr, is_some, Result, Ok, Err}
-use Rattle.std.proofs.lemmas.List.{take-append-le, take_all}
-use Rattle.order_laws.specs.declared.refusals.Refusal.{Refusal}
-use Rattle.order_laws.specs.Orders.{half_open}
-use Rattle.facts.proofs.Lists.{slice_get-push_cases}
+use Rattle.shared_lookup.proofs.Words.{◌≡◌, ℕ, ◌+◌, ◌*◌, List, [], ◌∷◌, ◌++◌, length, take, Option, None, sym, ◌∙◌, ap, subst, ⊎_elim, arith, IfOk, OnErr, is_some, Result, Ok, Err, take-append-le, take_all, Refusal, half_open, slice_get-push_cases, Update, refusal_for, IsSound, IsPendingOf, WriterState, writer_refusal, LedgerState, AreAccepted, CarriesOut, HasNothingPending, ledger_of, ledger_sequence, refusal_at, with_entry}
 use Rattle.word_layout.specs.Words.{at}
-use Rattle.table_updates.specs.declared.updates.Update.{Update}
-use Rattle.table_updates.specs.Updates.{refusal_for}
 use Rattle.latch_core.specs.Latches.{PendingUpdate}
-use Rattle.latch_core.specs.Invariants.{IsSound, IsPendingOf}
-use Rattle.latch_table.specs.Writers.{WriterState, writer_refusal}
-use Rattle.shared_lookup.specs.Ledgers.{LedgerState, AreAccepted, CarriesOut, HasNothingPending, ledger_of, ledger_sequence, refusal_at, with_entry}
 
 -- a log stays accepted with an update that nothing stands against
 pub accepted_entry : (l : LedgerState) (u : Update) → AreAccepted l → refusal_at l u ≡ None → AreAccepted (with_entry u l)

@@ -1,14 +1,7 @@
 -- What a reader loaded for its answers.
-use Rattle.std.proofs.Common.{◌≡◌, ℕ, List, [], ◌∷◌, ◌++◌, Option, Some, None, refl, sym, ◌∙◌, ap, subst, inl, inr, ⊎_elim, append_assoc, append-nil}
-use Rattle.order_laws.specs.declared.items.Item.{Item}
-use Rattle.order_laws.specs.Orders.{half_open}
-use Rattle.table_updates.specs.declared.updates.Update.{Update}
+use Rattle.shared_lookup.proofs.Words.{◌≡◌, ℕ, List, [], ◌∷◌, ◌++◌, Option, Some, None, refl, sym, ◌∙◌, ap, subst, inl, inr, ⊎_elim, append_assoc, Item, half_open, Update, Answered, Retry, memory_after, Looked, ReaderState, Searched, Answer, AreLookedUp, HasLooked, HasMet, IsLookedUp, seen_by}
+use Rattle.std.proofs.Common.{append-nil}
 use Rattle.latch_table.specs.declared.knowledge.ReaderKnowledge.{ReaderKnowledge}
-use Rattle.latch_table.specs.declared.readers.Try.TheVariants.{Answered, Retry}
-use Rattle.latch_table.specs.Memory.{memory_after, Looked}
-use Rattle.latch_table.specs.Readers.{ReaderState, Searched}
-use Rattle.shared_lookup.specs.declared.served.Answer.{Answer}
-use Rattle.shared_lookup.specs.Readers.{AreLookedUp, HasLooked, HasMet, IsLookedUp, seen_by}
 
 -- what was found last of these answers, or before them
 abbrev pub found_last : Option (Item × ℕ) → List Answer → Option (Item × ℕ)

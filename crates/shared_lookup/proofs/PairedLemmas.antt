@@ -1,9 +1,5 @@
 -- Two lists whose entries belong together, one pair more at a time.
-use Rattle.std.proofs.Common.{◌≡◌, ℕ, ◌+◌, ◌<◌, List, [], ◌∷◌, ◌++◌, length, take, get_or, sym, ◌∙◌, ap, subst, arith, length-append}
-use Rattle.std.proofs.lemmas.List.{take_more, length-take-le}
-use Rattle.std.proofs.lemmas.Option.{get_or_from_slice_get}
-use Rattle.facts.proofs.Lists.{slice_get-between, slice_get_some}
-use Rattle.facts.proofs.Pairs.{both_pushed}
+use Rattle.shared_lookup.proofs.Words.{◌≡◌, ℕ, ◌+◌, ◌<◌, List, [], ◌∷◌, ◌++◌, length, take, get_or, sym, ◌∙◌, ap, subst, arith, length-append, take_more, length-take-le, get_or_from_slice_get, slice_get-between, slice_get_some, both_pushed}
 use Rattle.shared_lookup.specs.Paired.{ArePaired}
 
 pub pair_more : {X Y : Type 0} (P : ℕ → X → Y → Type 0) (xs : List X) (ys : List Y) (x : X) (y : Y) → ArePaired P xs ys → P (length xs) x y

@@ -1,16 +1,7 @@
 -- Readers and ledgers of the table that is named.
-use Rattle.std.proofs.Common.{◌≡◌, ℕ, List, Option, Some, sym, ◌∙◌, ap, subst}
-use Rattle.std.specs.Global.{Vec}
-use Rattle.std.specs.Prelude.{All}
-use Rattle.atomic_table.specs.Seated.{TableId}
-use Rattle.word_layout.specs.declared.layouts.Layout.{Layout}
+use Rattle.shared_lookup.proofs.Words.{◌≡◌, ℕ, List, Option, Some, sym, ◌∙◌, ap, subst, Vec, All, TableId, Layout, ReaderState, new_reader, LookupResults, IsNamed, IsNewReaderOf, AreHeard}
 use Rattle.latch_table.specs.declared.knowledge.Origin.TheVariants.{Start}
-use Rattle.latch_table.specs.Readers.{ReaderState, new_reader}
 use Rattle.latch_table.specs.Seats.{first_knowledge}
-use Rattle.shared_lookup.specs.declared.threads.LookupResults.{LookupResults}
-use Rattle.shared_lookup.specs.Ledgers.{IsNamed}
-use Rattle.shared_lookup.specs.Readers.{IsNewReaderOf}
-use Rattle.shared_lookup.specs.Threads.{AreHeard}
 
 pub same_some : {A : Type 0} (a b : A) → ◌≡◌ {A = Option A} (Some a) (Some b) → a ≡ b
 same_some a b e = cc

@@ -1,24 +1,9 @@
 -- Lists of threads, one thread more at a time.
-use Rattle.std.proofs.Common.{◌≡◌, ℕ, ◌+◌, ◌<◌, Bool, List, [], ◌∷◌, ◌++◌, length, take, Option, Some, None, sym, ◌∙◌, ap, subst, ⊎_elim, arith, append_assoc, length-append}
-use Rattle.std.specs.Global.{Vec}
-use Rattle.std.specs.Prelude.{◌≤◌, IfSome, vec_capacity, vec_len}
-use Rattle.std.proofs.lemmas.List.{length-take-le}
-use Rattle.atomic_table.specs.Seated.{TableId}
-use Rattle.latch_table.specs.Readers.{ReaderState}
-use Rattle.facts.proofs.Lists.{slice_get-push_cases}
-use Rattle.shared_lookup.specs.declared.served.Answer.{Answer}
-use Rattle.shared_lookup.specs.declared.threads.LookupResults.{LookupResults}
+use Rattle.shared_lookup.proofs.Words.{◌≡◌, ℕ, ◌+◌, ◌<◌, Bool, List, [], ◌∷◌, ◌++◌, length, take, Option, Some, None, sym, ◌∙◌, ap, subst, ⊎_elim, arith, append_assoc, length-append, Vec, IfSome, vec_capacity, vec_len, length-take-le, TableId, ReaderState, slice_get-push_cases, Answer, LookupResults, CatalogEntries, Change, ChangeResults, AreMade, LedgerState, AreAnswered, EachIsAnswered, IsHeard, IsReaderOf, AreAllMade, AreChanging, AreHeard, AreReading, HaveRoom}
+use Rattle.std.specs.Prelude.{◌≤◌}
 use Rattle.shared_lookup.specs.declared.threads.ReaderThread.{ReaderThread}
-use Rattle.modules.specs.Entries.{CatalogEntries}
-use Rattle.shared_lookup.specs.declared.changes.Change.{Change}
 use Rattle.shared_lookup.specs.declared.threads.Changing.{Changing}
 use Rattle.shared_lookup.specs.declared.threads.WriterThread.{WriterThread}
-use Rattle.shared_lookup.specs.declared.threads.ChangeResults.{ChangeResults}
-use Rattle.shared_lookup.specs.Followings.{AreMade}
-use Rattle.shared_lookup.specs.Ledgers.{LedgerState}
-use Rattle.shared_lookup.specs.Servings.{AreAnswered, EachIsAnswered}
-use Rattle.shared_lookup.specs.Readers.{IsHeard, IsReaderOf}
-use Rattle.shared_lookup.specs.Threads.{AreAllMade, AreChanging, AreHeard, AreReading, HaveRoom}
 use Rattle.shared_lookup.proofs.PairedLemmas.{count, here, partner, so_far, taken}
 
 -- what a loop has yielded, the next, and what is left are all that it goes over

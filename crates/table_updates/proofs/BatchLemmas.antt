@@ -1,16 +1,9 @@
 -- Several items at once: what the tests of a batch say, and the table after it.
-use Rattle.std.proofs.Common.{◌≡◌, ◌+◌, true, false, List, [], ◌∷◌, length, ◌∙◌, arith}
-use Rattle.std.specs.Prelude.{not}
+use Rattle.table_updates.proofs.Words.{◌≡◌, ◌+◌, true, false, List, [], ◌∷◌, length, ◌∙◌, arith, not, not-false, or_parts, Item, Order, IsLawful, IsTable, with_item, meets, not_meeting, with_items, some_invalid, some_overlap, some_meet}
 use Rattle.std.specs.List.{AllByRecursion}
-use Rattle.std.proofs.lemmas.Bool.{not-false, or_parts}
-use Rattle.order_laws.specs.declared.items.Item.{Item}
-use Rattle.order_laws.specs.Orders.{Order, IsLawful}
-use Rattle.order_laws.specs.Tables.{IsTable, with_item, meets}
 use Rattle.order_laws.proofs.TableLemmas.{with_item_table, length_with_item, all_with_item}
 use Rattle.facts.proofs.Each.{all_weaker}
 use Rattle.facts.proofs.Tests.{all_fail}
-use Rattle.order_laws.proofs.MeetLemmas.{not_meeting}
-use Rattle.table_updates.specs.Updates.{with_items, some_invalid, some_overlap, some_meet}
 
 -- items that are all valid, apart from each other, and apart from those of a table
 abbrev pub AreApart : {K : Type 0} → Order K → List Item → Type 0

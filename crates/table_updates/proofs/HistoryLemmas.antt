@@ -1,23 +1,15 @@
 -- What histories of updates, and updates that insert alone, leave in a table.
-use Rattle.std.proofs.Common.{◌++◌, ◌+◌, ◌<◌, ◌∙◌, ◌∷◌, ◌≡◌, ◌≤◌, Bool, List, None, [], ap, arith, false, flat_map, get_or, inl, inr, length, length-append, refl, subst, sym, true, ℕ, ⊎_elim}
-use Rattle.std.specs.Prelude.{◌==◌, ◌||◌, ◌⊎◌, Contains, nat_lt, not}
-use Rattle.std.proofs.lemmas.Bool.{lt-ltb}
+use Rattle.table_updates.proofs.Words.{◌++◌, ◌+◌, ◌<◌, ◌∙◌, ◌∷◌, ◌≡◌, ◌≤◌, Bool, List, None, [], ap, arith, false, flat_map, get_or, inl, inr, length, length-append, refl, subst, sym, true, ℕ, ⊎_elim, ◌==◌, ◌||◌, ◌⊎◌, Contains, nat_lt, not, lt-ltb, replay, after, erased, first_that_holds, inserted, refusal_for, some_invalid, some_meet, with_items, none_meets, Order, half_open, meets, with_item, without_all, Item}
 use Rattle.std.proofs.lemmas.Bool.Decides.{nat_tests}
 use Rattle.std.proofs.lemmas.List.Elements.{Contains-append_cases, Contains-append_left, Contains-append_right, Contains-get_or}
 use Rattle.std.proofs.lemmas.List.Folds.{list_any_none}
 use Rattle.table_updates.proofs.BatchLemmas.{length_with_items}
-use Rattle.table_updates.specs.Updates.{replay}
-use Rattle.table_updates.specs.Updates.{after, erased, first_that_holds, inserted, refusal_for, some_invalid, some_meet, with_items}
 use Rattle.table_updates.specs.declared.updates.Update.{Update}
 use Rattle.table_updates.specs.declared.updates.Update.TheVariants.{Insert}
 use Rattle.facts.proofs.Lists.{append_nil_left, append_nil_right}
-use Rattle.order_laws.proofs.MeetLemmas.{none_meets}
 use Rattle.facts.proofs.Members.{Contains-cons_cases, Contains-none, Contains-rest}
 use Rattle.order_laws.proofs.PlaceLemmas.{without_none}
 use Rattle.order_laws.proofs.SetLemmas.{in_with_item}
-use Rattle.order_laws.specs.Orders.{Order, half_open}
-use Rattle.order_laws.specs.Tables.{meets, with_item, without_all}
-use Rattle.order_laws.specs.declared.items.Item.{Item}
 use Rattle.order_laws.specs.declared.refusals.Refusal.TheVariants.{BadItem, Full, NoSuchItem, Overlap, SequenceSpent, UpdateInHand}
 
 pub replay_append : {K : Type 0} (o : Order K) (table : List Item) (us vs : List Update)

@@ -1,2 +1,4 @@
+-- the words of all proofs of this crate
+mod Words
 pub mod BatchLemmas
 pub mod HistoryLemmas

@@ -1,7 +1,5 @@
 -- A table of digits.
-use Rattle.std.proofs.Common.{◌≡◌, ℕ, zero, suc, ◌+◌, ◌<◌, Bool, true, List, [], ◌∷◌, length, get_or, ap, ◌∙◌, arith, ◌&&◌, ◌==◌}
-use Rattle.std.proofs.lemmas.Bool.{and_parts, eqb-true}
-use Rattle.std.specs.Char.{digit_value}
+use Rattle.texts.proofs.Words.{◌≡◌, ℕ, zero, suc, ◌+◌, ◌<◌, Bool, true, List, [], ◌∷◌, length, get_or, ap, ◌∙◌, arith, ◌&&◌, ◌==◌, and_parts, eqb-true, digit_value}
 
 -- the table holds the digits that the bytes from n on are
 abbrev pub holds_digits : ℕ → List ℕ → Bool

@@ -1,9 +1,6 @@
 -- What a device holds after a text was delivered.
-use Rattle.std.proofs.Common.{◌≡◌, ℕ, List, [], ◌∷◌, Option, Some, None, Bool, true, false, refl, ap, ◌∙◌, subst, append-nil, length, nat_eq, if◌then◌else◌, arith}
-use Rattle.std.specs.Io.KnownBytes.{Appends, append_known}
-use Rattle.texts.specs.Device.{is_settled}
-use Rattle.texts.specs.declared.output.Output.{Output}
-use Rattle.texts.specs.Output.{Delivered, IsOpenedOver, contents_of, is_flushed, kept_back, writer_of}
+use Rattle.texts.proofs.Words.{◌≡◌, ℕ, List, [], ◌∷◌, Option, Some, None, Bool, true, false, refl, ap, ◌∙◌, subst, append-nil, length, if◌then◌else◌, arith, Appends, append_known, is_settled, Output, Delivered, IsOpenedOver, contents_of, is_flushed, kept_back, writer_of}
+use Rattle.std.proofs.Common.{nat_eq}
 
 -- the device took all that was delivered since the output was opened over it
 module _ {W : Type 0} (contents : W → Option (List ℕ)) where

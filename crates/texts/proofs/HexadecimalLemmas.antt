@@ -1,8 +1,7 @@
 -- Digits are written from the last to the first.
-use Rattle.std.proofs.Common.{◌≡◌, ℕ, zero, suc, ◌+◌, ◌-◌, ◌*◌, ◌/◌, ◌%◌, ◌^◌, ◌<◌, ◌≤◌, true, false, cond, List, [], ◌∷◌, length, drop, set, refl, sym, ap, subst, ◌∙◌, arith, ◌==◌}
+use Rattle.texts.proofs.Words.{◌≡◌, ℕ, zero, suc, ◌+◌, ◌-◌, ◌*◌, ◌/◌, ◌%◌, ◌^◌, ◌<◌, ◌≤◌, true, false, cond, List, [], ◌∷◌, length, drop, set, refl, sym, ap, subst, ◌∙◌, arith, ◌==◌, drop-set, length-set, digits_onto, digit_glyph}
 use Rattle.std.proofs.Math.Nat.{pow-suc, div-lt_iff_lt-mul}
-use Rattle.std.proofs.lemmas.List.{drop-set, length-set}
-use Rattle.std.specs.Fmt.{digits, digits_onto, digit_glyph}
+use Rattle.std.specs.Fmt.{digits}
 
 pub more : (k left : ℕ) (acc : List ℕ) → 16 ≤ left → digits_onto (suc k) 16 false left acc ≡ digits_onto k 16 false (left / 16) (digit_glyph false (left % 16) ∷ acc)
 more k left acc h = let e : (left / 16 == 0) ≡ false = grind arith in ap (λ b. cond b (digit_glyph false (left % 16) ∷ acc) (digits_onto k 16 false (left / 16) (digit_glyph false (left % 16) ∷ acc))) e

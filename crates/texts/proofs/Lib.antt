@@ -1,3 +1,5 @@
+-- the words of all proofs of this crate
+mod Words
 -- the digits of an address
 pub mod HexadecimalLemmas
 -- texts that are said one after the other

@@ -1,10 +1,6 @@
 -- What the first place of a byte says of lines and of words.
-use Rattle.std.proofs.Common.{Bor, cond, ◌≡◌, ℕ, zero, suc, ◌+◌, ◌<◌, Bool, true, false, List, [], ◌∷◌, length, take, drop, refl, ap, ◌∙◌, arith, ◌==◌}
-use Rattle.std.specs.List.{slice_split, onto_first}
+use Rattle.texts.proofs.Words.{Bor, cond, ◌≡◌, ℕ, zero, suc, ◌+◌, ◌<◌, Bool, true, false, List, [], ◌∷◌, length, take, drop, refl, ap, ◌∙◌, arith, ◌==◌, slice_split, onto_first, false_from_ne_true, Nowhere, Passes, is_byte, lines_of, words_of}
 use Rattle.std.proofs.lemmas.List.Splits.{slice_split-cons_yes, slice_split-cons_no}
-use Rattle.std.proofs.lemmas.Bool.{false_from_ne_true}
-use Rattle.memchr.specs.Find.{Nowhere, Passes, is_byte}
-use Rattle.texts.specs.Lines.{lines_of, words_of}
 
 -- words as they stand in memory
 abbrev pub Words : Type 0

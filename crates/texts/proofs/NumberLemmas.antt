@@ -1,12 +1,6 @@
 -- What the digits that are left say of a numeral.
-use Rattle.std.proofs.Common.{◌++◌, ◌&&◌, length-append, ◌≡◌, ℕ, suc, ◌+◌, ◌*◌, ◌^◌, ◌<◌, ◌≤◌, true, List, ◌∷◌, length, Some, None, Bool, get_or, drop, drop-cons, sym, ap, ◌∙◌, arith}
+use Rattle.texts.proofs.Words.{◌++◌, ◌&&◌, length-append, ◌≡◌, ℕ, suc, ◌+◌, ◌*◌, ◌^◌, ◌<◌, ◌≤◌, true, List, ◌∷◌, length, Some, None, Bool, get_or, drop, drop-cons, sym, ap, ◌∙◌, arith, common_steps, list_all, is_digit, digit_value, digits_value, digits_value_after, digits_value_after-ge, half_fits, two_halves, numeral}
 use Rattle.std.proofs.lemmas.List.Folds.{list_all-append}
-use Rattle.std.proofs.lemmas.Grind.{common_steps}
-use Rattle.std.specs.List.{list_all}
-use Rattle.std.specs.Char.{is_digit, digit_value}
-use Rattle.std.specs.Str.Parse.{digits_value, digits_value_after}
-use Rattle.facts.proofs.Digits.{digits_value_after-ge, half_fits, two_halves}
-use Rattle.texts.specs.Numbers.{numeral}
 
 pub too_great : (radix most : ℕ) (digits : List ℕ) → 2 ^ 64 ≤ digits_value radix digits → numeral radix most digits ≡ None
 too_great radix most digits h = grind (arith, common_steps, h)

@@ -1,15 +1,6 @@
 -- Texts that are said one after the other.
-use Rattle.std.proofs.Common.{◌≡◌, ◌∙◌, ℕ, List, [], ◌∷◌, ◌++◌, Option, Bool, true, false, refl, sym, ap, subst, append_assoc, append-nil, take, drop, length, ◌+◌, ◌-◌, ◌<◌, ◌≤◌, ◌⊎◌, flat_map, get_or, None, Some, take-append-drop, le_of_eq, arith}
-use Rattle.std.proofs.lemmas.Grind.{flat_map-append}
-use Rattle.std.proofs.Math.Seq.{take-append-add, take-append_seam}
-use Rattle.std.proofs.lemmas.List.{take_all, take_more, take-take}
-use Rattle.std.specs.List.{zip}
+use Rattle.texts.proofs.Words.{◌≡◌, ◌∙◌, ℕ, List, [], ◌∷◌, ◌++◌, Option, Bool, true, false, refl, sym, ap, subst, append_assoc, append-nil, take, drop, length, ◌+◌, ◌-◌, ◌<◌, ◌≤◌, ◌⊎◌, flat_map, get_or, None, Some, take-append-drop, le_of_eq, arith, flat_map-append, take-append-add, take-append_seam, take_all, take_more, take-take, zip, Appends, Keeps, append_known, Appends-nil, Appends-trans, Keeps-refl, append_known-grown, append_known-moved, append_known-passed, error_kept, writer_in, Output, Awaits, Says, Delivered, Delivers, WroteAll, WrotePart, contents_of, error_in, has_failed, kept_back, writer_of}
 use Rattle.facts.proofs.Pairs.{flat_map-zip_more, zip-past}
-use Rattle.std.specs.Io.KnownBytes.{Appends, Keeps, append_known}
-use Rattle.std.proofs.KnownBytes.{Appends-nil, Appends-trans, Keeps-refl, append_known-grown, append_known-moved, append_known-passed}
-use Rattle.texts.specs.Device.{error_kept, writer_in}
-use Rattle.texts.specs.declared.output.Output.{Output}
-use Rattle.texts.specs.Output.{Awaits, Says, Delivered, Delivers, WroteAll, WrotePart, contents_of, error_in, has_failed, kept_back, writer_of}
 
 -- where nothing failed, what the writer took was said
 pub taken_is_said : {W : Type 0} {contents : W → Option (List ℕ)} {old new : Output W} {text : List ℕ} → has_failed old ≡ false → (has_failed new ≡ false → error_in new ≡ error_in old)

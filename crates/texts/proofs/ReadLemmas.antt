@@ -1,8 +1,6 @@
 -- What is said of the bytes of a text, where these are all that its reader had.
-use Rattle.std.proofs.Common.{◌≡◌, ℕ, List, Option, Some, None, Result, Ok, Err, IfSome, subst}
-use Rattle.texts.specs.declared.faults.LineFault.{LineFault}
+use Rattle.texts.proofs.Words.{◌≡◌, ℕ, List, Option, Some, None, Result, Ok, Err, IfSome, subst, LineFault, Gives, GivesInGrammar}
 use Rattle.texts.specs.declared.faults.LineFault.TheVariants as line
-use Rattle.texts.specs.Said.{Gives, GivesInGrammar}
 
 -- what holds of the bytes that were read holds of those that the reader had
 pub of_read : (left : Option (List ℕ)) (bytes : List ℕ) (P : List ℕ → Type 0) → IfSome left (λ l. bytes ≡ l) → P bytes → IfSome left P

@@ -1,8 +1,6 @@
 -- Entries that lines say one after another.
-use Rattle.std.proofs.Common.{◌≡◌, ℕ, List, [], ◌∷◌, ◌++◌, Result, Ok, Err, refl, sym, ◌∙◌, ap, append_assoc, append-nil}
-use Rattle.texts.specs.declared.faults.LineFault.{LineFault}
+use Rattle.texts.proofs.Words.{◌≡◌, ℕ, List, [], ◌∷◌, ◌++◌, Result, Ok, Err, refl, sym, ◌∙◌, ap, append_assoc, append-nil, LineFault, FaultsInGrammar, entries_after}
 use Rattle.texts.specs.declared.faults.LineFault.TheVariants as line
-use Rattle.texts.specs.Said.{FaultsInGrammar, entries_after}
 
 module _ {T : Type 0} where
   pub none_before : (said : Result (List T) ℕ) → entries_after [] said ≡ said

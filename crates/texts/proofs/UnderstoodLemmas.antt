@@ -1,9 +1,7 @@
 -- What the entries of lines say of each of them.
-use Rattle.std.proofs.Common.{◌≡◌, ◌≢◌, ℕ, zero, suc, ◌+◌, ◌<◌, List, [], ◌∷◌, ◌++◌, get_or, Option, Some, None, Result, Ok, Err, MatchResult, refl, sym, ap, ◌∙◌, subst, arith, All}
-use Rattle.std.specs.List.{filter_map, cons_option}
+use Rattle.texts.proofs.Words.{◌≡◌, ◌≢◌, ℕ, zero, suc, ◌+◌, ◌<◌, List, [], ◌∷◌, ◌++◌, get_or, Option, Some, None, Result, Ok, Err, MatchResult, refl, sym, ap, ◌∙◌, subst, arith, All, filter_map, cons_option, entries_after, entries_from, said_by}
 use Rattle.texts.specs.declared.said.LineMeaning.{LineMeaning}
 use Rattle.texts.specs.declared.said.LineMeaning.TheVariants.{Nothing, One, Bad}
-use Rattle.texts.specs.Said.{entries_after, entries_from, said_by}
 use Rattle.texts.proofs.SaidLemmas.{none_before}
 use Rattle.texts.specs.Understood.{entry_by, AreSaidBy, IsFirstBadFrom}
 

@@ -1,10 +1,6 @@
 -- Eight digits that are all `f`.
-use Rattle.std.proofs.Common.{◌≡◌, ◌∙◌, ℕ, true, List, [], ◌∷◌, length, refl, sym, ap, arith}
+use Rattle.texts.proofs.Words.{◌≡◌, ◌∙◌, ℕ, true, List, [], ◌∷◌, length, refl, sym, ap, arith, is_digit, list_all, starts_with, digits_value, and_parts, eqb-true}
 use Rattle.std.specs.Prelude.{codes, nat_eq}
-use Rattle.std.specs.Char.{is_digit}
-use Rattle.std.specs.List.{list_all, starts_with}
-use Rattle.std.specs.Str.Parse.{digits_value}
-use Rattle.std.proofs.lemmas.Bool.{and_parts, eqb-true}
 
 -- a text that begins with another of its length is that one
 pub starts_whole : (text other : List ℕ) → starts_with nat_eq text other ≡ true → length text ≡ length other → text ≡ other

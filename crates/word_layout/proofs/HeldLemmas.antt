@@ -1,7 +1,5 @@
 -- A walk over all of a tree: a link leads to one tree alone, of as many nodes as the walk visits.
-use Rattle.std.proofs.Common.{◌≡◌, ◌≢◌, ℕ, suc, ◌+◌, ◌-◌, ◌<◌, List, [], ◌∷◌, ◌++◌, length, refl, sym, ◌∙◌, ap, subst, append_assoc, length-append, arith}
-use Rattle.order_laws.specs.declared.items.Item.{Item}
-use Rattle.word_layout.specs.Words.{at, root_word, left_word, right_word, Nodes, none, fork, listed, Leads, HoldsTable}
+use Rattle.word_layout.proofs.Words.{◌≡◌, ◌≢◌, ℕ, suc, ◌+◌, ◌-◌, ◌<◌, List, [], ◌∷◌, ◌++◌, length, refl, sym, ◌∙◌, ap, subst, append_assoc, length-append, arith, Item, at, root_word, left_word, right_word, Nodes, none, fork, listed, Leads, HoldsTable}
 use Rattle.word_layout.proofs.HoldsLemmas.{size_items, size_listed}
 
 module _ (m : List ℕ) (n c : ℕ) where

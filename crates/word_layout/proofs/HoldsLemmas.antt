@@ -1,15 +1,7 @@
 -- When two memories hold the same table in one copy.
-use Rattle.std.proofs.Common.{◌≡◌, ℕ, suc, ◌+◌, ◌<◌, List, ◌∷◌, ◌++◌, length, refl, sym, ◌∙◌, subst, inl, inr, arith, length-append}
-use Rattle.std.specs.List.{AllByRecursion}
-use Rattle.order_laws.specs.declared.items.Item.{Item}
-use Rattle.word_layout.specs.declared.stores.Store.{Store}
-use Rattle.word_layout.specs.Words.{at, root_word, a_word, b_word, tag_word, left_word, right_word, item_at, Nodes, none, fork, listed, items, Leads, Holds, HoldsTable, Reaches, by_root, by_left, by_right, InUse}
-use Rattle.word_layout.specs.Stores.{words_after_all}
+use Rattle.word_layout.proofs.Words.{◌≡◌, ℕ, suc, ◌+◌, ◌<◌, List, ◌∷◌, ◌++◌, length, refl, sym, ◌∙◌, subst, inl, inr, arith, length-append, AllByRecursion, Item, Store, at, root_word, a_word, b_word, tag_word, left_word, right_word, item_at, Nodes, none, fork, listed, items, Leads, Holds, HoldsTable, Reaches, by_root, by_left, by_right, InUse, words_after_all, ◌≢◌, ap, get_or-set_other, get_or-set_same, slice_set, words_after}
 use Rattle.word_layout.proofs.WordLemmas.{IsCopyWord, in_copy}
 use Rattle.word_layout.proofs.StoreLemmas.{Agree, untouched}
-use Rattle.std.proofs.Common.{◌≢◌, ap, get_or-set_other, get_or-set_same}
-use Rattle.std.specs.Prelude.{slice_set}
-use Rattle.word_layout.specs.Stores.{words_after}
 use Rattle.word_layout.proofs.WordLemmas.{used_not_zero}
 
 -- how many nodes a tree has

@@ -1,3 +1,5 @@
+-- the words of all proofs of this crate
+mod Words
 pub mod WordLemmas
 pub mod StoreLemmas
 pub mod HoldsLemmas

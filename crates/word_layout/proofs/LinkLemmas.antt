@@ -1,16 +1,7 @@
 -- Where link words lie, and what stores of links leave as it was.
-use Rattle.std.proofs.Common.{◌+◌, ◌<◌, ◌∙◌, ◌≡◌, ◌≢◌, ◌≤◌, List, arith, inl, inr, refl, ℕ}
-use Rattle.std.specs.Prelude.{All}
-use Rattle.std.specs.List.{AllByRecursion}
-use Rattle.std.proofs.lemmas.List.Elements.{All-from_recursion}
-use Rattle.facts.proofs.Each.{all_weaker}
+use Rattle.word_layout.proofs.Words.{◌+◌, ◌<◌, ◌∙◌, ◌≡◌, ◌≢◌, ◌≤◌, List, arith, inl, inr, refl, ℕ, All, AllByRecursion, All-from_recursion, all_weaker, AreLinkStores, IsItemWord, IsLinkWord, words_after_all, InUse, Reaches, a_word, at, b_word, by_left, by_right, by_root, item_at, left_word, right_word, root_word, tag_word, words_for, Store, ◌-◌, ◌++◌, length, length-drop, get_or, drop, subst, all_get_or}
 use Rattle.word_layout.proofs.StoreLemmas.{Agree, untouched}
 use Rattle.word_layout.proofs.WordLemmas.{IsCopyWord, in_copy, link_no_item, link_no_other, link_place}
-use Rattle.word_layout.specs.Stores.{AreLinkStores, IsItemWord, IsLinkWord, words_after_all}
-use Rattle.word_layout.specs.Words.{InUse, Reaches, a_word, at, b_word, by_left, by_right, by_root, item_at, left_word, right_word, root_word, tag_word, words_for}
-use Rattle.word_layout.specs.declared.stores.Store.{Store}
-use Rattle.std.proofs.Common.{◌-◌, ◌++◌, length, length-drop, get_or, drop, subst}
-use Rattle.facts.proofs.Each.{all_get_or}
 use Rattle.facts.proofs.Lists.{get_or-drop_append}
 use Rattle.word_layout.specs.Limits.{most_nodes}
 

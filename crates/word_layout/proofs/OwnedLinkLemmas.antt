@@ -1,10 +1,5 @@
 -- Stores of links of certain nodes alone: what they leave.
-use Rattle.std.proofs.Common.{◌≡◌, ◌≢◌, ℕ, ◌<◌, ◌≤◌, List, [], ◌∷◌, ◌++◌, subst, inr, ⊎_elim, arith}
-use Rattle.std.specs.Prelude.{◌⊎◌}
-use Rattle.std.specs.List.{AllByRecursion}
-use Rattle.word_layout.specs.declared.stores.Store.{Store}
-use Rattle.word_layout.specs.Words.{at, left_word, right_word, root_word}
-use Rattle.word_layout.specs.Stores.{words_after_all, AreLinkStores}
+use Rattle.word_layout.proofs.Words.{◌≡◌, ◌≢◌, ℕ, ◌<◌, ◌≤◌, List, [], ◌∷◌, ◌++◌, subst, inr, ⊎_elim, arith, ◌⊎◌, AllByRecursion, Store, at, left_word, right_word, root_word, words_after_all, AreLinkStores}
 use Rattle.word_layout.proofs.StoreLemmas.{untouched}
 
 abbrev pub IsLinkOf : ℕ → ℕ → ℕ → Type 0

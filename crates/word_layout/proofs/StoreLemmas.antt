@@ -1,16 +1,6 @@
 -- What lists of stores change and what they leave.
-use Rattle.std.proofs.Common.{◌≡◌, ◌≢◌, ℕ, ◌<◌, List, [], ◌∷◌, ◌++◌, length, refl, sym, ◌∙◌, ap, subst, ⊎_elim, arith, length-set, get_or-set_other, get_or-set_same}
-use Rattle.std.specs.Prelude.{slice_set}
-use Rattle.std.specs.List.{AllByRecursion}
-use Rattle.std.proofs.lemmas.Bool.{cases_eq, cases_lt}
-use Rattle.std.proofs.lemmas.List.{set_past}
-use Rattle.word_layout.specs.declared.stores.Store.{Store}
-use Rattle.word_layout.specs.Words.{at}
-use Rattle.word_layout.specs.Stores.{words_after, words_after_all}
-use Rattle.std.proofs.Common.{suc, ◌+◌, ◌-◌, ◌≤◌, take, append_assoc}
-use Rattle.std.specs.Prelude.{replicate}
+use Rattle.word_layout.proofs.Words.{◌≡◌, ◌≢◌, ℕ, ◌<◌, List, [], ◌∷◌, ◌++◌, length, refl, sym, ◌∙◌, ap, subst, ⊎_elim, arith, length-set, get_or-set_other, get_or-set_same, slice_set, AllByRecursion, cases_eq, cases_lt, set_past, Store, at, words_after, words_after_all, suc, ◌+◌, ◌-◌, ◌≤◌, take, append_assoc, replicate, length-take-le, take_more}
 use Rattle.std.proofs.Math.Seq.{set-append_seam}
-use Rattle.std.proofs.lemmas.List.{length-take-le, take_more}
 
 -- two memories agree on the words of a kind
 abbrev pub Agree : (ℕ → Type 0) → List ℕ → List ℕ → Type 0

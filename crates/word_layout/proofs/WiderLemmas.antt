@@ -1,11 +1,6 @@
 -- A memory with more nodes holds what it held.
-use Rattle.std.proofs.Common.{◌≡◌, ℕ, ◌-◌, ◌*◌, ◌<◌, ◌≤◌, List, ◌∷◌, ◌++◌, length, refl, sym, ◌∙◌, subst, ⊎_elim, arith, length-append}
-use Rattle.std.specs.Prelude.{replicate}
-use Rattle.std.proofs.lemmas.Bool.{cases_lt}
+use Rattle.word_layout.proofs.Words.{◌≡◌, ℕ, ◌-◌, ◌*◌, ◌<◌, ◌≤◌, List, ◌∷◌, ◌++◌, length, refl, sym, ◌∙◌, subst, ⊎_elim, arith, length-append, replicate, cases_lt, get_or_append_left, get_or-append_right, get_or-replicate, length-replicate, Item, words_per_node, at, words_for, root_word, a_word, b_word, tag_word, left_word, right_word, item_at, Nodes, none, fork, items, Leads, Holds, HoldsTable}
 use Rattle.std.proofs.Math.ListN.{get_or-eq_default}
-use Rattle.std.proofs.lemmas.List.{get_or_append_left, get_or-append_right, get_or-replicate, length-replicate}
-use Rattle.order_laws.specs.declared.items.Item.{Item}
-use Rattle.word_layout.specs.Words.{words_per_node, at, words_for, root_word, a_word, b_word, tag_word, left_word, right_word, item_at, Nodes, none, fork, items, Leads, Holds, HoldsTable}
 use Rattle.word_layout.specs.Wider.{wider_words}
 
 pub length_wider : (n n' : ℕ) (m : List ℕ) → n ≤ n' → length m ≡ words_for n → length (wider_words n n' m) ≡ words_for n'

@@ -1,8 +1,5 @@
 -- Where words lie: words of different fields, nodes and copies differ.
-use Rattle.std.proofs.Common.{◌≡◌, ◌≢◌, ℕ, ◌+◌, ◌*◌, ◌<◌, ◌≤◌, List, subst, inl, inr, ⊎_elim, arith}
-use Rattle.std.specs.Prelude.{◌⊎◌}
-use Rattle.word_layout.specs.Words.{words_per_node, words_for, root_word, left_word, right_word, IsWordOf, InUse, Reaches}
-use Rattle.word_layout.specs.Stores.{IsItemWord, IsLinkWord}
+use Rattle.word_layout.proofs.Words.{◌≡◌, ◌≢◌, ℕ, ◌+◌, ◌*◌, ◌<◌, ◌≤◌, List, subst, inl, inr, ⊎_elim, arith, ◌⊎◌, words_per_node, words_for, root_word, left_word, right_word, IsWordOf, InUse, Reaches, IsItemWord, IsLinkWord}
 
 -- a word that readers of this copy could load
 abbrev pub IsCopyWord : ℕ → ℕ → Type 0

@@ -19,7 +19,7 @@ use std::marker::Brand;
 use table_updates::Update;
 
 impl<O: TreeOrder> Writer<O> {
-    /// Begins an update. Refused as [`WriterCore::begin_from`](latch_core::WriterCore::begin_from)
+    /// Begins an update. Refused as [`WriterCore::begin`](latch_core::WriterCore::begin)
     /// refuses; a refusal changes nothing.
     #[inline(always)]
     pub fn begin(&mut self, u: Update) -> Result<InHand<'_, O>, Refusal>
@@ -29,7 +29,7 @@ impl<O: TreeOrder> Writer<O> {
         ensures begun { IfOk result (λ h. Begins O.order self.old u h.writer.now) }
         ensures refused { IfErr result (Refuses O.order self.old u) }
     {
-        self.core.begin_from(&u)?;
+        self.core.begin(&u)?;
         take_update::<O, Brand>(&self.table.shared, &mut self.seat, &u);
         load_ahead::<O>(&self.table.shared, &mut self.seat, self.core.stores_left());
         Ok(InHand { writer: self })

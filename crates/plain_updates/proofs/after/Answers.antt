@@ -1,7 +1,4 @@
-use Rattle.std.proofs.Common.{◌≡◌, List, sym, ◌∙◌, ap, subst}
-use Rattle.std.specs.Prelude.{IfOk}
-use Rattle.order_laws.specs.declared.items.Item.{Item}
-use Rattle.table_updates.specs.Updates.{after}
+use Rattle.plain_updates.proofs.Words.{◌≡◌, List, sym, ◌∙◌, ap, subst, IfOk, Item, after}
 use Rattle.plain_updates.proofs.TestLemmas.{after_insert, after_erase}
 use Rattle.plain_updates.proofs.after.Goals as goal
 

@@ -1,5 +1,4 @@
-use Rattle.std.proofs.Common.{◌<◌, ◌+◌, ◌∙◌, sym, subst, length, arith}
-use Rattle.word_layout.specs.Layouts.{capacity_of}
+use Rattle.plain_updates.proofs.Words.{◌<◌, ◌+◌, ◌∙◌, sym, subst, length, arith, capacity_of}
 use Rattle.plain_updates.proofs.TestLemmas.{batch_missing, batch_overlaps, batch_full, batch_passes}
 use Rattle.plain_updates.proofs.batch_test.Goals as goal
 

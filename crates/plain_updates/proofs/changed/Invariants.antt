@@ -1,6 +1,4 @@
-use Rattle.std.proofs.Common.{◌≡◌, drop}
-use Rattle.order_laws.specs.Tables.{without_all}
-use Rattle.table_updates.specs.Updates.{with_items}
+use Rattle.plain_updates.proofs.Words.{◌≡◌, drop, without_all, with_items}
 use Rattle.plain_updates.proofs.changed.Given as goal
 
 abbrev pub invariant-loop-item : goal.invariant-loop-item

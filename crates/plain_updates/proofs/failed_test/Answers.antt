@@ -1,7 +1,4 @@
-use Rattle.std.proofs.Common.{◌∙◌, sym, ap}
-use Rattle.word_layout.specs.Layouts.{capacity_of}
-use Rattle.table_updates.specs.declared.updates.Update.TheVariants.{Batch}
-use Rattle.table_updates.specs.Updates.{failed_test}
+use Rattle.plain_updates.proofs.Words.{◌∙◌, sym, ap, capacity_of, Batch, failed_test}
 use Rattle.plain_updates.proofs.failed_test.Goals as goal
 
 pub returns-in-Batch : goal.returns-in-Batch

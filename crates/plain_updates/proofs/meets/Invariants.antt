@@ -1,5 +1,4 @@
-use Rattle.std.proofs.Common.{◌≡◌, drop}
-use Rattle.order_laws.specs.Tables.{meets}
+use Rattle.plain_updates.proofs.Words.{◌≡◌, drop, meets}
 use Rattle.plain_updates.proofs.meets.Given as goal
 
 abbrev pub invariant-loop-x : goal.invariant-loop-x

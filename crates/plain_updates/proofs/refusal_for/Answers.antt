@@ -1,5 +1,4 @@
-use Rattle.std.proofs.Common.{◌∙◌, sym}
-use Rattle.word_layout.specs.Layouts.{capacity_of, limit_of}
+use Rattle.plain_updates.proofs.Words.{◌∙◌, sym, capacity_of, limit_of}
 use Rattle.plain_updates.proofs.TestLemmas.{why_tested, why_spent, why_none}
 use Rattle.plain_updates.proofs.refusal_for.Goals as goal
 

@@ -1,5 +1,4 @@
-use Rattle.std.proofs.Common.{◌≡◌, drop}
-use Rattle.table_updates.specs.Updates.{some_overlap}
+use Rattle.plain_updates.proofs.Words.{◌≡◌, drop, some_overlap}
 use Rattle.plain_updates.proofs.some_overlap.Given as goal
 
 abbrev pub invariant-loop-place : goal.invariant-loop-place

@@ -1,6 +1,4 @@
-use Rattle.std.proofs.Common.{arith}
-use Rattle.std.proofs.lemmas.List.{take_all}
-use Rattle.catalog_engines.proofs.Words.{[], List, ℕ, ap, map, unwrap_or, same_text, word_text, words_text, Kept, found_by}
+use Rattle.catalog_engines.proofs.Words.{[], List, ℕ, ap, map, unwrap_or, same_text, word_text, words_text, Kept, found_by, arith, take_all}
 use Rattle.catalog_engines.proofs.SoughtLemmas.{word_said}
 use Rattle.catalog_engines.proofs.address_texts.put_words.Goals as goal
 

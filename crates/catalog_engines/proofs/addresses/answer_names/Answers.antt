@@ -1,5 +1,4 @@
-use Rattle.catalog_engines.proofs.Words.{[], map, subst, sym, unwrap_or, option_copied, IsAddressed, words_text, AnswersGiven, IsSought, found_by, kept_symbols, catalog_opened, IsCatalogOf, texts_in, symbols_in, lines_of, then_flushed}
-use Rattle.command_io.proofs.FaultLemmas.{handed_on}
+use Rattle.catalog_engines.proofs.Words.{[], map, subst, sym, unwrap_or, option_copied, IsAddressed, words_text, AnswersGiven, IsSought, found_by, kept_symbols, catalog_opened, IsCatalogOf, texts_in, symbols_in, lines_of, then_flushed, handed_on}
 use Rattle.catalog_engines.proofs.GivenLemmas.{not_opened, said_or_not}
 use Rattle.catalog_engines.proofs.SoughtLemmas.{text_by_map}
 use Rattle.catalog_engines.proofs.addresses.answer_names.Goals as goal

@@ -1,5 +1,4 @@
-use Rattle.catalog_engines.proofs.Words.{subst}
-use Rattle.catalog_engines.specs.Annotations.{IsEndTold}
+use Rattle.catalog_engines.proofs.Words.{subst, IsEndTold}
 use Rattle.catalog_engines.proofs.annotations.annotate_by.Goals as goal
 
 pub returns : goal.returns

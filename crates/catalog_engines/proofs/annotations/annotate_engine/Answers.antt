@@ -1,5 +1,4 @@
-use Rattle.catalog_engines.proofs.Words.{texts_in, known_given, listing_failures, AnnotatesLog}
-use Rattle.command_io.proofs.FaultLemmas.{handed_on}
+use Rattle.catalog_engines.proofs.Words.{texts_in, known_given, listing_failures, AnnotatesLog, handed_on}
 use Rattle.catalog_engines.proofs.AnnotationLemmas.{not_read, readers_known}
 use Rattle.catalog_engines.proofs.annotations.annotate_engine.Goals as goal
 

@@ -1,6 +1,5 @@
-use Rattle.catalog_engines.proofs.Words.{[], ◌∙◌, ap, Err, Some, inl, refl, subst, sym, is_narrow, lines_of, catalog_opened, IsCatalogOf, OpensCatalog, texts_in, Refused, AnnotatesBy, AnnotatesLog, answered_by}
+use Rattle.catalog_engines.proofs.Words.{[], ◌∙◌, ap, Err, Some, inl, refl, subst, sym, is_narrow, lines_of, catalog_opened, IsCatalogOf, OpensCatalog, texts_in, Refused, AnnotatesBy, AnnotatesLog, answered_by, handed_on}
 use Rattle.order_laws.specs.declared.refusals.Refusal.TheVariants as refusal
-use Rattle.command_io.proofs.FaultLemmas.{handed_on}
 use Rattle.catalog_engines.proofs.AnnotationLemmas.{log_annotated, not_opened}
 use Rattle.catalog_engines.proofs.annotations.annotate_over.Goals as goal
 

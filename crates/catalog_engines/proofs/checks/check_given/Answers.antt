@@ -1,6 +1,4 @@
-use Rattle.catalog_engines.proofs.Words.{◌≡◌, ◌∙◌, ℕ, List, Option, ap, false, subst, sym, option_copied, lines_of, texts_in, bounds_are, bounds_for, BoundNames, HoldsOf, IsOpened, Tallies, are_modules_hidden, are_symbols_hidden, holds_at, listings_of, same_texts, symbols_of, tallies_of, tallies_said, IsChecked, IsReport, opened_report, report, report_by, AnswersGiven}
-use Rattle.std.specs.Option.{option_map_or}
-use Rattle.command_io.proofs.FaultLemmas.{handed_on}
+use Rattle.catalog_engines.proofs.Words.{◌≡◌, ◌∙◌, ℕ, List, Option, ap, false, subst, sym, option_copied, lines_of, texts_in, bounds_are, bounds_for, BoundNames, HoldsOf, IsOpened, Tallies, are_modules_hidden, are_symbols_hidden, holds_at, listings_of, same_texts, symbols_of, tallies_of, tallies_said, IsChecked, IsReport, opened_report, report, report_by, AnswersGiven, option_map_or, handed_on}
 use Rattle.catalog_engines.proofs.GivenLemmas.{not_opened, said_or_not}
 use Rattle.catalog_engines.proofs.checks.check_given.Goals as goal
 

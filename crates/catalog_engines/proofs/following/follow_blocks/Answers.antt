@@ -1,5 +1,4 @@
-use Rattle.catalog_engines.proofs.Words.{[], ◌∷◌, texts_in, arith, refl, subst, take}
-use Rattle.catalog_engines.specs.Following.{Block, Happen}
+use Rattle.catalog_engines.proofs.Words.{[], ◌∷◌, texts_in, arith, refl, subst, take, Block, Happen}
 use Rattle.catalog_engines.proofs.FollowingLemmas.{at_end, begun, cut_off, not_ended, too_long, turned, unkept, unlisted, unread}
 use Rattle.catalog_engines.proofs.following.follow_blocks.Goals as goal
 

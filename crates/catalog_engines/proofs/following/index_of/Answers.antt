@@ -1,6 +1,4 @@
-use Rattle.catalog_engines.proofs.Words.{Err, subst, sym, texts_in, catalog_opened, IsCatalogOf, OpensCatalog}
-use Rattle.catalog_engines.specs.Following.{GivesCatalog}
-use Rattle.command_io.proofs.FaultLemmas.{handed_on}
+use Rattle.catalog_engines.proofs.Words.{Err, subst, sym, texts_in, catalog_opened, IsCatalogOf, OpensCatalog, GivesCatalog, handed_on}
 use Rattle.catalog_engines.proofs.following.index_of.Goals as goal
 
 pub returns-in_err-opened : goal.returns-in_err-opened

@@ -1,6 +1,4 @@
-use Rattle.std.proofs.Common.{nat_le, rules}
-use Rattle.std.proofs.lemmas.List.Sorted.{IsPartitionPoint-from_clause, IsPartitionedBy-leb}
-use Rattle.modules.specs.Entries.{SymbolEntry}
+use Rattle.catalog_engines.proofs.Words.{nat_le, rules, IsPartitionPoint-from_clause, IsPartitionedBy-leb, SymbolEntry}
 use Rattle.catalog_engines.proofs.AliasLemmas.{listed_not_above}
 use Rattle.catalog_engines.proofs.log_aliases.not_above.Goals as goal
 

@@ -1,6 +1,4 @@
-use Rattle.std.proofs.Common.{nat_lt, rules}
-use Rattle.std.proofs.lemmas.List.Sorted.{IsPartitionPoint-from_clause, IsPartitionedBy-ltb}
-use Rattle.modules.specs.Entries.{SymbolEntry}
+use Rattle.catalog_engines.proofs.Words.{nat_lt, rules, IsPartitionPoint-from_clause, IsPartitionedBy-ltb, SymbolEntry}
 use Rattle.catalog_engines.proofs.AliasLemmas.{listed_not_below}
 use Rattle.catalog_engines.proofs.log_aliases.not_below.Goals as goal
 

@@ -1,6 +1,6 @@
-use Rattle.std.proofs.Common.{◌++◌, ◌∙◌, ap, codes}
+use Rattle.catalog_engines.proofs.Words.{◌++◌, ◌∙◌, ap, then}
+use Rattle.std.proofs.Common.{codes}
 use Rattle.listing.specs.Answers.{text_of}
-use Rattle.texts.proofs.OutputLemmas.{then}
 use Rattle.catalog_engines.proofs.log_answers.written.Goals as goal
 
 pub returns : goal.returns

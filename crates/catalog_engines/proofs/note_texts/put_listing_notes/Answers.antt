@@ -1,5 +1,4 @@
-use Rattle.catalog_engines.proofs.Words.{ap, sym, same_text, then, line_if_noted}
-use Rattle.catalog_engines.specs.NoteTexts.{lines_by}
+use Rattle.catalog_engines.proofs.Words.{ap, sym, same_text, then, line_if_noted, lines_by}
 use Rattle.catalog_engines.proofs.note_texts.put_listing_notes.Goals as goal
 
 pub returns-in-Some : goal.returns-in-Some

@@ -1,9 +1,6 @@
-use Rattle.catalog_engines.proofs.Words.{◌++◌, ◌∙◌, ℕ, BoundNames, List, ap, cond, sym, same_text, then, message_of, usual_bounds}
-use Rattle.std.specs.Option.{option_map_or}
+use Rattle.catalog_engines.proofs.Words.{◌++◌, ◌∙◌, ℕ, BoundNames, List, ap, cond, sym, same_text, then, message_of, usual_bounds, option_map_or, ListingNote, other_boot_line, unnamed_line}
 use Rattle.std.specs.Prelude.{codes}
-use Rattle.listing.specs.declared.listing_notes.ListingNote.{ListingNote}
 use Rattle.logs.specs.LogNames.{is_of_another_boot}
-use Rattle.catalog_engines.specs.NoteTexts.{other_boot_line, unnamed_line}
 use Rattle.catalog_engines.proofs.note_texts.put_log_message.Goals as goal
 
 pub returns-in-Some : goal.returns-in-Some

@@ -1,5 +1,4 @@
-use Rattle.catalog_engines.proofs.Words.{ap, same_text, then}
-use Rattle.catalog_engines.specs.NoteTexts.{note_head}
+use Rattle.catalog_engines.proofs.Words.{ap, same_text, then, note_head}
 use Rattle.catalog_engines.proofs.note_texts.put_log_note.Goals as goal
 
 pub returns : goal.returns

@@ -1,5 +1,4 @@
-use Rattle.catalog_engines.proofs.Words.{◌∙◌, ap, same_text, given_or}
-use Rattle.catalog_engines.specs.NoteTexts.{lines_by, noted_bounds}
+use Rattle.catalog_engines.proofs.Words.{◌∙◌, ap, same_text, given_or, lines_by, noted_bounds}
 use Rattle.catalog_engines.proofs.note_texts.put_notes_of.Goals as goal
 
 pub returns : goal.returns

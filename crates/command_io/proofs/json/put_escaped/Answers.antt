@@ -1,6 +1,4 @@
-use Rattle.std.proofs.Common.{rules, get_or, arith}
-use Rattle.texts.proofs.OutputLemmas.{piece_said}
-use Rattle.command_io.specs.Json.{escaped}
+use Rattle.command_io.proofs.Words.{rules, get_or, arith, piece_said, escaped}
 use Rattle.command_io.proofs.json.put_escaped.Goals as goal
 
 pub loop-byte-preserved : goal.loop-byte-preserved

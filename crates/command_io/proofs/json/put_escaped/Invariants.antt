@@ -1,6 +1,5 @@
-use Rattle.std.proofs.Common.{flat_map, take}
-use Rattle.texts.specs.Output.{Says}
-use Rattle.command_io.specs.Json.{escaped}
+use Rattle.command_io.proofs.Words.{take, Says, escaped}
+use Rattle.std.proofs.Common.{flat_map}
 use Rattle.command_io.proofs.json.put_escaped.Given as goal
 
 -- the bytes so far were written

@@ -1,12 +1,11 @@
-use Rattle.std.proofs.Common.{◌≡◌, ◌∙◌, ℕ, zero, suc, ◌+◌, ◌≤◌, ◌<◌, List, ◌++◌, length, take, drop, refl, sym, ap, ⊎_elim, arith, length-drop, eq-eqb, ne_eqb, append_assoc, ◌-◌, flat_map}
-use Rattle.std.specs.Prelude.{IsUtf8}
+use Rattle.command_io.proofs.Words.{◌≡◌, ◌∙◌, ℕ, zero, suc, ◌+◌, ◌≤◌, ◌<◌, List, ◌++◌, length, take, drop, refl, sym, ap, ⊎_elim, arith, length-drop, eq-eqb, ne_eqb, append_assoc, ◌-◌, IsUtf8, escaped, text_within, same_text, then}
+use Rattle.std.proofs.Common.{flat_map}
 use Rattle.std.specs.Str.Lossy.{replacement_bytes, utf8_valid_len}
 use Rattle.std.proofs.lemmas.Grind.{flat_map-append}
 use Rattle.std.proofs.lemmas.Bool.Decides.{eqb_tells}
 use Rattle.std.proofs.lemmas.Str.{utf8_valid_len-IsUtf8, utf8_valid_len_le}
-use Rattle.command_io.specs.Json.{escaped, text_of, text_within}
+use Rattle.command_io.specs.Json.{text_of}
 use Rattle.std.proofs.lemmas.List.{drop-drop, take_rest}
-use Rattle.texts.proofs.OutputLemmas.{same_text, then}
 use Rattle.command_io.proofs.json.put_text.Goals as goal
 
 whole : (most : ℕ) (bytes : List ℕ) → utf8_valid_len bytes ≡ length bytes → text_within most bytes ≡ bytes

@@ -1,7 +1,6 @@
-use Rattle.std.proofs.Common.{ℕ, ◌++◌, ◌≡◌, List, length}
+use Rattle.command_io.proofs.Words.{ℕ, ◌++◌, ◌≡◌, List, length, Says, escaped}
 use Rattle.std.specs.Prelude.{flat_map}
-use Rattle.texts.specs.Output.{Says}
-use Rattle.command_io.specs.Json.{escaped, text_of}
+use Rattle.command_io.specs.Json.{text_of}
 use Rattle.command_io.proofs.json.put_text.Given as goal
 
 -- what is written so far, and then the text of the rest, are the text

@@ -1,4 +1,4 @@
-use Rattle.texts.proofs.OutputLemmas.{then}
+use Rattle.command_io.proofs.Words.{then}
 use Rattle.command_io.proofs.json_texts.put_address_member.Goals as goal
 
 pub returns : goal.returns

@@ -1,4 +1,4 @@
-use Rattle.texts.proofs.OutputLemmas.{then}
+use Rattle.command_io.proofs.Words.{then}
 use Rattle.command_io.specs.JsonTexts.{json_line}
 use Rattle.command_io.proofs.json_texts.put_json_line.Goals as goal
 

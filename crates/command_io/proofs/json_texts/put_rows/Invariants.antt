@@ -1,6 +1,5 @@
-use Rattle.std.proofs.Common.{flat_map, take}
-use Rattle.texts.specs.Output.{Says}
-use Rattle.command_io.specs.JsonTexts.{row_member}
+use Rattle.command_io.proofs.Words.{take, Says, row_member}
+use Rattle.std.proofs.Common.{flat_map}
 use Rattle.command_io.proofs.json_texts.put_rows.Given as goal
 
 -- the rows so far were written

@@ -1,6 +1,5 @@
-use Rattle.std.proofs.Common.{◌∷◌, ◌++◌, [], IfOk, sym, subst, take}
-use Rattle.std.proofs.lemmas.List.{take_more}
-use Rattle.engines.specs.Assignments.{IsAssigned}
+use Rattle.engines.proofs.Words.{◌∷◌, ◌++◌, [], sym, subst, take, take_more, IsAssigned}
+use Rattle.std.proofs.Common.{IfOk}
 use Rattle.engines.proofs.assignments.assign.Goals as goal
 
 pub loop-line-preserved : goal.loop-line-preserved

@@ -1,5 +1,4 @@
-use Rattle.std.proofs.Common.{take}
-use Rattle.engines.specs.Assignments.{IsAssigned}
+use Rattle.engines.proofs.Words.{take, IsAssigned}
 use Rattle.engines.proofs.assignments.assign.Given as goal
 
 -- the lines so far are assigned

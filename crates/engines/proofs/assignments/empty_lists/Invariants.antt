@@ -1,5 +1,4 @@
-use Rattle.std.proofs.Common.{[]}
-use Rattle.engines.specs.Assignments.{AreListed}
+use Rattle.engines.proofs.Words.{[], AreListed}
 use Rattle.engines.proofs.assignments.empty_lists.Given as goal
 
 abbrev pub invariant-loop : goal.invariant-loop

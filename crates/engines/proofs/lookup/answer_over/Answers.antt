@@ -1,11 +1,5 @@
-use Rattle.std.proofs.Common.{◌≡◌, Option, Some, None, Ok, IfSome, List, [], ℕ, ap, option_map, refl, subst}
-use Rattle.engines.specs.LookupTexts.{Query}
-use Rattle.listing.specs.Opening.{listed_in}
-use Rattle.command_io.proofs.FaultLemmas.{handed_on}
-use Rattle.command_io.specs.OpenedCatalogs.{texts_in}
-use Rattle.command_io.specs.Readings.{failures_in, known_text, last_failures}
-use Rattle.engines.specs.Inputs.{inputs, inputs_of}
-use Rattle.engines.specs.Lookups.{AnswersLookup, IsLookupOf, addresses_known, all_addresses}
+use Rattle.engines.proofs.Words.{◌≡◌, Some, None, Ok, List, [], ℕ, ap, option_map, refl, subst, Query, listed_in, handed_on, texts_in, failures_in, known_text, last_failures, inputs, inputs_of, AnswersLookup, IsLookupOf, addresses_known, all_addresses}
+use Rattle.std.proofs.Common.{Option, IfSome}
 use Rattle.engines.proofs.InputLemmas.{listed_known, not_listed, still_answered}
 use Rattle.engines.proofs.lookup.answer_over.Goals as goal
 

@@ -1,20 +1,11 @@
-use Rattle.std.proofs.Common.{◌≡◌, ◌∙◌, ℕ, List, [], Option, Some, Result, Ok, Err, ap, is_some, subst, sym}
+use Rattle.engines.proofs.Words.{◌≡◌, ◌∙◌, ℕ, List, [], Some, Result, Ok, Err, ap, subst, sym, Output, Delivered, WrotePart, IsOpened, listed_in, Tallies, tallies_of, tallies_with, OpenedCatalog, noted, Inputs, inputs, Query, lookup_lines, AnswersLookup, WritesLookup, bounds_beside, bounds_of_lookup, Fault, Write}
+use Rattle.std.proofs.Common.{Option, is_some}
 use Rattle.std.specs.Option.{option_copied}
 use Rattle.modules.specs.Lines.{usual_bounds}
-use Rattle.texts.specs.declared.output.Output.{Output}
-use Rattle.texts.specs.Output.{Delivered, WrotePart}
-use Rattle.listing.specs.Opening.{IsOpened, listed_in}
 use Rattle.listing.proofs.ListingNoteLemmas.{copied_some}
-use Rattle.listing.specs.Tallies.{Tallies, tallies_of, tallies_with}
-use Rattle.listing.specs.declared.opening.OpenedCatalog.{OpenedCatalog}
 use Rattle.order_laws.specs.declared.refusals.Refusal.TheVariants as refusal
 use Rattle.command_io.proofs.OpenedLemmas.{tallies_said}
-use Rattle.command_io.specs.Faults.{noted}
-use Rattle.engines.specs.Inputs.{Inputs, inputs}
-use Rattle.engines.specs.LookupTexts.{Query, lookup_lines}
-use Rattle.engines.specs.Lookups.{AnswersLookup, WritesLookup, bounds_beside, bounds_of_lookup}
-use Rattle.command_io.specs.declared.fault.Fault.{Fault}
-use Rattle.command_io.specs.declared.fault.Fault.TheVariants.{Refused, Write}
+use Rattle.command_io.specs.declared.fault.Fault.TheVariants.{Refused}
 use Rattle.engines.proofs.lookup.answer_with.Goals as goal
 
 -- what was written over these listings is the text of the inputs

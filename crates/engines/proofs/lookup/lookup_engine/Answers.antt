@@ -1,9 +1,4 @@
-use Rattle.texts.specs.Counted.{failures_of}
-use Rattle.command_io.proofs.FaultLemmas.{handed_on}
-use Rattle.command_io.specs.OpenedCatalogs.{known_given, listing_failures, texts_in}
-use Rattle.command_io.specs.Readings.{failures_in, known_text}
-use Rattle.engines.specs.Inputs.{failures_behind, inputs_of, known_inputs}
-use Rattle.engines.specs.Lookups.{AnswersLookup, IsLookupOf, addresses_known}
+use Rattle.engines.proofs.Words.{failures_of, handed_on, known_given, listing_failures, texts_in, failures_in, known_text, failures_behind, inputs_of, known_inputs, AnswersLookup, IsLookupOf, addresses_known}
 use Rattle.engines.proofs.InputLemmas.{answered_behind, given_known, not_read}
 use Rattle.engines.proofs.lookup.lookup_engine.Goals as goal
 

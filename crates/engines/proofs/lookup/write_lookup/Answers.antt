@@ -1,9 +1,4 @@
-use Rattle.std.proofs.Common.{◌++◌, ◌∙◌, ap, flat_map, map}
-use Rattle.engines.specs.CatalogTables.{answer_at}
-use Rattle.listing.specs.Tallies.{Tallies, tallies_of}
-use Rattle.texts.proofs.OutputLemmas.{same_text}
-use Rattle.engines.specs.LookupTexts.{Query, counts_by, line_by, lookup_lines}
-use Rattle.engines.specs.Lookups.{WritesLookup}
+use Rattle.engines.proofs.Words.{◌++◌, ◌∙◌, ap, flat_map, map, answer_at, Tallies, tallies_of, same_text, Query, counts_by, line_by, lookup_lines, WritesLookup}
 use Rattle.engines.proofs.WrittenLemmas.{said_written}
 use Rattle.engines.proofs.lookup.write_lookup.Goals as goal
 

@@ -1,6 +1,4 @@
-use Rattle.std.proofs.Common.{flat_map, take}
-use Rattle.texts.specs.Output.{Says}
-use Rattle.engines.specs.LookupTexts.{line_by}
+use Rattle.engines.proofs.Words.{flat_map, take, Says, line_by}
 use Rattle.engines.proofs.lookup_texts.put_answers.Given as goal
 
 -- the lines of the answers so far were written

@@ -1,5 +1,4 @@
-use Rattle.std.proofs.Common.{◌≡◌, take}
-use Rattle.engines.specs.RunTexts.{count_of_answers}
+use Rattle.engines.proofs.Words.{◌≡◌, take, count_of_answers}
 use Rattle.engines.proofs.run_texts.checked_in.Given as goal
 
 abbrev pub invariant-loop-list : goal.invariant-loop-list

@@ -1,7 +1,6 @@
-use Rattle.std.proofs.Common.{◌+◌, ap, decimal}
+use Rattle.engines.proofs.Words.{◌+◌, ap, decimal, same_text, then}
 use Rattle.listing.specs.Answers.{text_of}
 use Rattle.engines.specs.RunTexts.{answered_text}
-use Rattle.texts.proofs.OutputLemmas.{same_text, then}
 use Rattle.engines.proofs.run_texts.put_answered.Goals as goal
 
 pub returns : goal.returns

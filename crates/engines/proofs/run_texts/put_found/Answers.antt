@@ -1,7 +1,5 @@
-use Rattle.std.proofs.Common.{ap, arith}
-use Rattle.texts.proofs.OutputLemmas.{piece_said, same_text}
-use Rattle.engines.specs.RunTexts.{answered_text, answers_text}
-use Rattle.std.proofs.Common.{flat_map}
+use Rattle.engines.proofs.Words.{ap, arith, piece_said, same_text, answers_text, flat_map}
+use Rattle.engines.specs.RunTexts.{answered_text}
 use Rattle.engines.proofs.run_texts.put_found.Goals as goal
 
 pub loop-list-preserved : goal.loop-list-preserved

@@ -1,6 +1,4 @@
-use Rattle.std.proofs.Common.{flat_map, take}
-use Rattle.texts.specs.Output.{Says}
-use Rattle.engines.specs.RunTexts.{answers_text}
+use Rattle.engines.proofs.Words.{flat_map, take, Says, answers_text}
 use Rattle.engines.proofs.run_texts.put_found.Given as goal
 
 -- the lines of the answers so far were written

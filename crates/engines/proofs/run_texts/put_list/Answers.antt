@@ -1,6 +1,5 @@
-use Rattle.std.proofs.Common.{rules, arith}
+use Rattle.engines.proofs.Words.{rules, arith, piece_said}
 use Rattle.engines.specs.RunTexts.{answered_text}
-use Rattle.texts.proofs.OutputLemmas.{piece_said}
 use Rattle.engines.proofs.run_texts.put_list.Goals as goal
 
 pub loop-answer-preserved : goal.loop-answer-preserved

@@ -1,5 +1,4 @@
-use Rattle.std.proofs.Common.{flat_map, take}
-use Rattle.texts.specs.Output.{Says}
+use Rattle.engines.proofs.Words.{flat_map, take, Says}
 use Rattle.engines.specs.RunTexts.{answered_text}
 use Rattle.engines.proofs.run_texts.put_list.Given as goal
 

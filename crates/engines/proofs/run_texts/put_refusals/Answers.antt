@@ -1,10 +1,6 @@
-use Rattle.std.proofs.Common.{arith, inr, ap, ◌+◌, length}
-use Rattle.std.specs.List.{range_with_len, zip}
+use Rattle.engines.proofs.Words.{arith, inr, ap, ◌+◌, length, range_with_len, zip, below_min, past_min, pair_said, pairs_said, same_text, numbered_text, writer_text}
 use Rattle.std.proofs.lemmas.List.FromFn.{length-range_with_len}
-use Rattle.facts.proofs.Numbers.{below_min, past_min}
 use Rattle.facts.proofs.Pairs.{numbered-zip, zip-past, zip-within}
-use Rattle.texts.proofs.OutputLemmas.{pair_said, pairs_said, same_text}
-use Rattle.engines.specs.RunTexts.{numbered_text, writer_text}
 use Rattle.engines.proofs.run_texts.put_refusals.Goals as goal
 
 pub loop-place-preserved : goal.loop-place-preserved

@@ -1,7 +1,4 @@
-use Rattle.std.proofs.Common.{flat_map, length, take}
-use Rattle.std.specs.List.{range_with_len, zip}
-use Rattle.texts.specs.Output.{Says}
-use Rattle.engines.specs.RunTexts.{numbered_text}
+use Rattle.engines.proofs.Words.{flat_map, length, take, range_with_len, zip, Says, numbered_text}
 use Rattle.engines.proofs.run_texts.put_refusals.Given as goal
 
 -- the lines of the writers so far were written

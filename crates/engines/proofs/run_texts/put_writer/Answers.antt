@@ -1,7 +1,4 @@
-use Rattle.std.proofs.Common.{ap, Ok, get_or, length}
-use Rattle.facts.proofs.Numbers.{below_min, past_min}
-use Rattle.texts.proofs.OutputLemmas.{pair_said, pairs_said, same_text}
-use Rattle.engines.specs.RunTexts.{change_text}
+use Rattle.engines.proofs.Words.{ap, Ok, get_or, length, below_min, past_min, pair_said, pairs_said, same_text, change_text}
 use Rattle.engines.proofs.run_texts.put_writer.Goals as goal
 
 pub loop-place-preserved : goal.loop-place-preserved

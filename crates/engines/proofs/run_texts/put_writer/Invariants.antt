@@ -1,7 +1,4 @@
-use Rattle.std.proofs.Common.{flat_map, take}
-use Rattle.std.specs.List.{zip}
-use Rattle.texts.specs.Output.{Says}
-use Rattle.engines.specs.RunTexts.{change_text}
+use Rattle.engines.proofs.Words.{flat_map, take, zip, Says, change_text}
 use Rattle.engines.proofs.run_texts.put_writer.Given as goal
 
 -- the lines of the changes so far were written

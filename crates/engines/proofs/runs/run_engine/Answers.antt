@@ -1,10 +1,4 @@
-use Rattle.texts.specs.Counted.{failures_of}
-use Rattle.command_io.proofs.FaultLemmas.{handed_on}
-use Rattle.command_io.specs.OpenedCatalogs.{known_given, listing_failures, texts_in}
-use Rattle.command_io.specs.Readings.{failures_in}
-use Rattle.texts.specs.Counted.{device_of}
-use Rattle.engines.specs.Inputs.{failures_behind, inputs_of, known_inputs}
-use Rattle.engines.specs.Runs.{AnswersRun, IsRunOf, script_known}
+use Rattle.engines.proofs.Words.{failures_of, handed_on, known_given, listing_failures, texts_in, failures_in, device_of, failures_behind, inputs_of, known_inputs, AnswersRun, IsRunOf, script_known}
 use Rattle.engines.proofs.InputLemmas.{answered_behind, given_known, not_read}
 use Rattle.engines.proofs.runs.run_engine.Goals as goal
 

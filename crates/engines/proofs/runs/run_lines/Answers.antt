@@ -1,6 +1,4 @@
-use Rattle.std.proofs.Common.{subst}
-use Rattle.engines.specs.Assignments.{IsAssigned}
-use Rattle.engines.specs.Runs.{TellsServed}
+use Rattle.engines.proofs.Words.{subst, IsAssigned, TellsServed}
 use Rattle.engines.proofs.RunLemmas.{served_answered}
 use Rattle.engines.proofs.runs.run_lines.Goals as goal
 

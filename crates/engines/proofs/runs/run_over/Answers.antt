@@ -1,12 +1,5 @@
-use Rattle.std.proofs.Common.{◌≡◌, Option, Some, None, IfSome, List, [], ℕ, Result, option_map, refl, subst, sym, ap}
-use Rattle.command_io.proofs.FaultLemmas.{handed_on}
-use Rattle.listing.specs.Opening.{listed_in}
-use Rattle.command_io.specs.OpenedCatalogs.{texts_in}
-use Rattle.command_io.specs.Readings.{last_failures}
-use Rattle.run_files.specs.Scripts.{script_of}
-use Rattle.texts.specs.Counted.{device_of, failures_of}
-use Rattle.engines.specs.Inputs.{inputs_of, inputs_with}
-use Rattle.engines.specs.Runs.{AnswersRun, IsRunOf, script_known}
+use Rattle.engines.proofs.Words.{◌≡◌, Some, None, List, [], ℕ, Result, option_map, refl, subst, sym, ap, handed_on, listed_in, texts_in, last_failures, script_of, device_of, failures_of, inputs_of, inputs_with, AnswersRun, IsRunOf, script_known}
+use Rattle.std.proofs.Common.{Option, IfSome}
 use Rattle.engines.proofs.InputLemmas.{listed_known, not_listed, still_answered}
 use Rattle.engines.proofs.runs.run_over.Goals as goal
 

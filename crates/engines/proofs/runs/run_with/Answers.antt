@@ -1,8 +1,4 @@
-use Rattle.std.proofs.Common.{[], Some, subst, sym}
-use Rattle.run_files.specs.Scripts.{script_of}
-use Rattle.listing.specs.Opening.{listed_in}
-use Rattle.engines.specs.Inputs.{inputs_with}
-use Rattle.engines.specs.Runs.{AnswersRun}
+use Rattle.engines.proofs.Words.{[], Some, subst, sym, script_of, listed_in, inputs_with, AnswersRun}
 use Rattle.engines.proofs.RunLemmas.{script_answered}
 use Rattle.engines.proofs.runs.run_with.Goals as goal
 

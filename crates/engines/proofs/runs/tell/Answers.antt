@@ -1,6 +1,4 @@
-use Rattle.std.proofs.Common.{rules, ◌≡◌, ◌∙◌, false, sym}
-use Rattle.std.specs.List.{list_any}
-use Rattle.texts.proofs.OutputLemmas.{all_delivered, part_written}
+use Rattle.engines.proofs.Words.{rules, ◌≡◌, ◌∙◌, false, sym, list_any, all_delivered, part_written}
 use Rattle.engines.proofs.runs.tell.Goals as goal
 
 pub returns : goal.returns

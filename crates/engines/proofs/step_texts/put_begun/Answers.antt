@@ -1,6 +1,4 @@
-use Rattle.std.proofs.Common.{ap, sym}
-use Rattle.texts.proofs.OutputLemmas.{same_text, then}
-use Rattle.engines.specs.StepTexts.{begun_members}
+use Rattle.engines.proofs.Words.{ap, sym, same_text, then, begun_members}
 use Rattle.engines.proofs.step_texts.put_begun.Goals as goal
 
 pub returns-in-Refused : goal.returns-in-Refused

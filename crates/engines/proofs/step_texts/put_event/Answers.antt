@@ -1,4 +1,4 @@
-use Rattle.texts.proofs.OutputLemmas.{then}
+use Rattle.engines.proofs.Words.{then}
 use Rattle.engines.specs.StepTexts.{event_text}
 use Rattle.engines.proofs.step_texts.put_event.Goals as goal
 

@@ -1,6 +1,4 @@
-use Rattle.std.proofs.Common.{◌++◌, ap, arith, codes, flat_map}
-use Rattle.std.proofs.lemmas.List.{take_all}
-use Rattle.texts.proofs.OutputLemmas.{same_text}
+use Rattle.engines.proofs.Words.{◌++◌, ap, arith, codes, flat_map, take_all, same_text}
 use Rattle.engines.proofs.step_texts.put_further.Goals as goal
 
 pub returns : goal.returns

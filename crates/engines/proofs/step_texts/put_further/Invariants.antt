@@ -1,5 +1,4 @@
-use Rattle.std.proofs.Common.{◌++◌, codes, flat_map, take}
-use Rattle.texts.specs.Output.{Says}
+use Rattle.engines.proofs.Words.{◌++◌, codes, flat_map, take, Says}
 use Rattle.engines.proofs.step_texts.put_further.Given as goal
 
 -- those so far were written

@@ -1,5 +1,4 @@
-use Rattle.std.proofs.Common.{ap}
-use Rattle.texts.proofs.OutputLemmas.{same_text, then}
+use Rattle.engines.proofs.Words.{ap, same_text, then}
 use Rattle.engines.proofs.EventLineLemmas.{list_told}
 use Rattle.engines.proofs.step_texts.put_list.Goals as goal
 

@@ -1,6 +1,4 @@
-use Rattle.std.proofs.Common.{ap, codes}
-use Rattle.texts.proofs.OutputLemmas.{same_text, then}
-use Rattle.command_io.specs.JsonTexts.{json_count}
+use Rattle.engines.proofs.Words.{ap, codes, same_text, then, json_count}
 use Rattle.engines.specs.StepTexts.{plain_load_members}
 use Rattle.engines.proofs.step_texts.put_plain_load.Goals as goal
 

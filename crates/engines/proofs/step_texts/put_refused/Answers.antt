@@ -1,6 +1,4 @@
-use Rattle.std.proofs.Common.{◌∙◌, ap, codes}
-use Rattle.texts.proofs.OutputLemmas.{same_text}
-use Rattle.command_io.specs.JsonTexts.{json_count}
+use Rattle.engines.proofs.Words.{◌∙◌, ap, codes, same_text, json_count}
 use Rattle.engines.specs.StepTexts.{refused_member}
 use Rattle.engines.proofs.step_texts.put_refused.Goals as goal
 

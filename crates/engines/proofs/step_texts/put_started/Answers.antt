@@ -1,6 +1,4 @@
-use Rattle.std.proofs.Common.{ap, sym}
-use Rattle.texts.proofs.OutputLemmas.{same_text, then}
-use Rattle.engines.specs.StepTexts.{started_members}
+use Rattle.engines.proofs.Words.{ap, sym, same_text, then, started_members}
 use Rattle.engines.proofs.step_texts.put_started.Goals as goal
 
 pub returns-in-Refused : goal.returns-in-Refused

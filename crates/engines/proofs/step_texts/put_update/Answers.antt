@@ -1,5 +1,4 @@
-use Rattle.std.proofs.Common.{ap, sym}
-use Rattle.texts.proofs.OutputLemmas.{same_text}
+use Rattle.engines.proofs.Words.{ap, sym, same_text}
 use Rattle.engines.specs.StepTexts.{update_members}
 use Rattle.engines.proofs.step_texts.put_update.Goals as goal
 

@@ -1,9 +1,5 @@
-use Rattle.std.proofs.Common.{◌≡◌, subst, sym}
+use Rattle.engines.proofs.Words.{◌≡◌, subst, sym, device_of, command_lines, trace_of, IsBegunOf, IsBegunText, IsCutText, IsStepsText, StopsAfter, IsTextOf}
 use Rattle.std.specs.Prelude.{IfSome}
-use Rattle.texts.specs.Counted.{device_of}
-use Rattle.run_files.specs.Trace.{command_lines, trace_of}
-use Rattle.engines.specs.StepTraces.{IsBegunOf, IsBegunText, IsCutText, IsStepsText, StopsAfter}
-use Rattle.engines.specs.Traces.{IsTextOf}
 use Rattle.engines.proofs.StepLemmas.{begun_read}
 use Rattle.engines.proofs.TraceLineLemmas.{answers_read}
 use Rattle.engines.proofs.steps.steps_engine.Goals as goal

@@ -1,7 +1,4 @@
-use Rattle.std.proofs.Common.{refl, subst}
-use Rattle.std.proofs.lemmas.Result.{err_from_is_err_and}
-use Rattle.latch_steps.specs.Reports.{ObeysFromAny}
-use Rattle.engines.specs.StepRuns.{Tells}
+use Rattle.engines.proofs.Words.{refl, subst, err_from_is_err_and, ObeysFromAny, Tells}
 use Rattle.engines.proofs.StepLemmas.{lines_begun, lines_more, next_stops, obey_stops}
 use Rattle.engines.proofs.TraceLineLemmas.{none_taken, taken}
 use Rattle.engines.proofs.steps.tell_lines.Goals as goal

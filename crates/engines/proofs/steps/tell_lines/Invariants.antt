@@ -1,4 +1,4 @@
-use Rattle.engines.specs.StepRuns.{AreLinesTold}
+use Rattle.engines.proofs.Words.{AreLinesTold}
 use Rattle.engines.proofs.steps.tell_lines.Given as goal
 
 -- the commands that were taken from the lines were told

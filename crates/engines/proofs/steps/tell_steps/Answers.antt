@@ -1,7 +1,4 @@
-use Rattle.std.proofs.lemmas.Result.{err_from_is_err_and}
-use Rattle.std.proofs.Common.{inl, refl}
-use Rattle.engines.specs.StepTraces.{IsBegunOf, IsCutText, IsStepsText, StopsAfter}
-use Rattle.run_files.specs.Trace.{with_header}
+use Rattle.engines.proofs.Words.{err_from_is_err_and, inl, refl, IsBegunOf, IsCutText, IsStepsText, StopsAfter, with_header}
 use Rattle.engines.proofs.StepLemmas.{steps_answered, steps_failed}
 use Rattle.engines.proofs.TraceLineLemmas.{not_opened}
 use Rattle.engines.proofs.steps.tell_steps.Goals as goal

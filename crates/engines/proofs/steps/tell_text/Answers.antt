@@ -1,6 +1,4 @@
-use Rattle.std.proofs.Common.{subst, sym}
-use Rattle.run_files.specs.Trace.{command_lines, with_header}
-use Rattle.engines.specs.StepTraces.{AnswersStepsSaid}
+use Rattle.engines.proofs.Words.{subst, sym, command_lines, with_header, AnswersStepsSaid}
 use Rattle.engines.proofs.steps.tell_text.Goals as goal
 
 pub returns-then-header : goal.returns-then-header

@@ -1,8 +1,4 @@
-use Rattle.std.proofs.Common.{◌∙◌, rules, ap, subst}
-use Rattle.word_layout.specs.Layouts.{capacity_of, limit_of}
-use Rattle.latch_steps.specs.Runs.{opening}
-use Rattle.latch_steps.specs.Worlds.{RepresentsMoment}
-use Rattle.engines.specs.Traces.{HeaderMayOpen}
+use Rattle.engines.proofs.Words.{◌∙◌, rules, ap, subst, capacity_of, limit_of, opening, RepresentsMoment, HeaderMayOpen}
 use Rattle.engines.proofs.steps.world_for.Goals as goal
 
 pub returns-clause-opened : goal.returns-clause-opened

@@ -1,7 +1,4 @@
-use Rattle.std.proofs.Common.{arith, rules, subst, sym}
-use Rattle.std.proofs.lemmas.Grind.{common_steps}
-use Rattle.modules.specs.Items.{items_of}
-use Rattle.engines.specs.LoadedWorlds.{IsRefusedFor}
+use Rattle.engines.proofs.Words.{arith, rules, subst, sym, common_steps, items_of, IsRefusedFor}
 use Rattle.engines.proofs.table.answers_of.Goals as goal
 
 pub returns-in_err-answer-clause-refusal : goal.returns-in_err-answer-clause-refusal

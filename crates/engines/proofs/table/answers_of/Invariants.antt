@@ -1,7 +1,4 @@
-use Rattle.std.proofs.Common.{◌≡◌, map, take}
-use Rattle.modules.specs.Items.{items_of}
-use Rattle.engines.specs.CatalogTables.{answer_at}
-use Rattle.engines.specs.LoadedWorlds.{HasTable}
+use Rattle.engines.proofs.Words.{◌≡◌, map, take, items_of, answer_at, HasTable}
 use Rattle.engines.proofs.table.answers_of.Given as goal
 
 abbrev pub invariant-loop-addr : goal.invariant-loop-addr

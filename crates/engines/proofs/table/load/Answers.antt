@@ -1,33 +1,12 @@
-use Rattle.std.proofs.Common.{◌≡◌, ℕ, ◌+◌, ◌≤◌, true, false, List, [], ◌∷◌, ◌++◌, length, None, sym, ◌∙◌, ap, subst, ⊎_elim, arith}
-use Rattle.std.specs.Prelude.{Contains, is_some}
-use Rattle.std.specs.FinMap.{get}
-use Rattle.order_laws.specs.declared.half_open_ranges.HalfOpen.{HalfOpen}
-use Rattle.order_laws.specs.declared.items.Item.{Item}
-use Rattle.order_laws.specs.declared.refusals.Refusal.{Refusal}
-use Rattle.order_laws.specs.declared.refusals.Refusal.TheVariants.{OutOfMemory}
-use Rattle.order_laws.specs.Orders.{half_open}
-use Rattle.word_layout.specs.Layouts.{capacity_of, limit_of}
-use Rattle.word_layout.specs.Words.{at}
-use Rattle.table_updates.specs.declared.updates.Update.{Update}
-use Rattle.table_updates.specs.Updates.{replay, erased, inserted, refusal_for}
+use Rattle.engines.proofs.Words.{◌≡◌, ℕ, ◌+◌, ◌≤◌, true, false, List, [], ◌∷◌, ◌++◌, length, None, sym, ◌∙◌, ap, subst, ⊎_elim, arith, Contains, get, HalfOpen, Item, Refusal, OutOfMemory, half_open, capacity_of, limit_of, at, Update, replay, erased, inserted, refusal_for, World, Moment, accepted, last_of, IsBegin, IsAfter, RepresentsMoment, layout_in, IsSettled, Settles, CatalogEntries, items_at, items_below, items_of, HoldsBelow, AreInsertsOf, has_addresses, is_apart_from, none_overlap, some_left, sequence_at_rest, NoLookup, same_readers, writes_keep}
+use Rattle.std.specs.Prelude.{is_some}
 use Rattle.latch_steps.specs.declared.events.Event.TheVariants.{Begin}
 use Rattle.latch_steps.specs.declared.replies.Reply.{Reply}
 use Rattle.latch_steps.specs.declared.replies.Reply.TheVariants.{Begun, Refused}
-use Rattle.latch_steps.specs.declared.worlds.World.{World}
-use Rattle.latch_steps.specs.Runs.{Moment, accepted, last_of}
-use Rattle.latch_steps.specs.Steps.{IsBegin}
-use Rattle.latch_steps.specs.Worlds.{IsAfter, RepresentsMoment, layout_in}
 use Rattle.latch_steps.specs.WorldSteps.{Does, MayDo}
-use Rattle.latch_steps.specs.AtOnce.{IsSettled, Settles}
-use Rattle.modules.specs.Entries.{CatalogEntries}
-use Rattle.modules.specs.Items.{items_at, items_below, items_of}
 use Rattle.modules.proofs.ItemLemmas.{one_number_more}
-use Rattle.engines.specs.LoadedWorlds.{HoldsBelow, AreInsertsOf}
-use Rattle.modules.proofs.NumberedItemLemmas.{has_addresses, is_apart_from, none_overlap, some_left}
 use Rattle.modules.proofs.LoadedItemLemmas.{LoadsItems, erases_none, inserts_accepted, inserts_these, is_given, loads_items, none_held}
 use Rattle.engines.proofs.LoadLemmas.{in_table, one_update_more, table_length}
-use Rattle.latch_core.proofs.SoundLemmas.{sequence_at_rest}
-use Rattle.latch_steps.proofs.IdleLemmas.{NoLookup, same_readers, writes_keep}
 use Rattle.modules.specs.Loads.{load_of}
 use Rattle.engines.proofs.table.load.Goals as goal
 

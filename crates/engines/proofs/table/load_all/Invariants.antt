@@ -1,4 +1,4 @@
-use Rattle.engines.specs.LoadedWorlds.{HoldsBelow}
+use Rattle.engines.proofs.Words.{HoldsBelow}
 use Rattle.engines.proofs.table.load_all.Given as goal
 
 abbrev pub invariant-loop-number : goal.invariant-loop-number

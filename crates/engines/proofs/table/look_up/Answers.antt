@@ -1,8 +1,5 @@
-use Rattle.std.proofs.Common.{◌∙◌, ap, rules}
-use Rattle.order_laws.specs.declared.items.Item.{Item}
-use Rattle.order_laws.specs.Orders.{half_open}
-use Rattle.order_laws.specs.Tables.{look}
-use Rattle.std.specs.Prelude.{Option, option_and_then}
+use Rattle.engines.proofs.Words.{◌∙◌, ap, rules, Item, half_open, look, option_and_then}
+use Rattle.std.specs.Prelude.{Option}
 use Rattle.engines.specs.declared.table.AddressAnswer.{AddressAnswer}
 use Rattle.engines.proofs.WorldOpeningLemmas.{only_for_memory, right_item, still_holds}
 use Rattle.engines.proofs.table.look_up.Goals as goal

@@ -1,6 +1,4 @@
-use Rattle.std.proofs.Common.{◌≤◌, arith, length}
-use Rattle.modules.specs.Catalogs.{regions_of}
-use Rattle.word_layout.specs.Layouts.{capacity_of}
+use Rattle.engines.proofs.Words.{◌≤◌, arith, length, regions_of, capacity_of}
 use Rattle.engines.proofs.WorldOpeningLemmas.{opened}
 use Rattle.engines.proofs.table.open_for.Goals as goal
 

@@ -1,5 +1,4 @@
-use Rattle.std.proofs.Common.{rules, [], refl}
-use Rattle.engines.specs.Traces.{HeaderMayOpen}
+use Rattle.engines.proofs.Words.{rules, [], refl, HeaderMayOpen}
 use Rattle.engines.proofs.trace.driver_for.Goals as goal
 
 pub returns-clause-opened : goal.returns-clause-opened

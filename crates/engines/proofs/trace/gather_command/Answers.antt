@@ -1,6 +1,4 @@
-use Rattle.std.proofs.Common.{ap, flat_map}
-use Rattle.texts.proofs.OutputLemmas.{same_text}
-use Rattle.engines.specs.TraceTexts.{note_text}
+use Rattle.engines.proofs.Words.{ap, flat_map, same_text, note_text}
 use Rattle.engines.proofs.GatheredLemmas.{command_gathered}
 use Rattle.engines.proofs.trace.gather_command.Goals as goal
 

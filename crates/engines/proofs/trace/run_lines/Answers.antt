@@ -1,9 +1,4 @@
-use Rattle.std.proofs.Common.{◌≡◌, ◌++◌, ◌∙◌, ap, refl}
-use Rattle.texts.proofs.OutputLemmas.{same_text, then, then_flushed}
-use Rattle.texts.specs.Output.{Delivered, Delivers, WrotePart}
-use Rattle.run_files.specs.Trace.{with_header}
-use Rattle.engines.specs.TraceTexts.{end_text}
-use Rattle.engines.specs.Traces.{AnswersSaid, IsTraceRun, Stays}
+use Rattle.engines.proofs.Words.{◌≡◌, ◌++◌, ◌∙◌, ap, refl, same_text, then, then_flushed, Delivered, Delivers, WrotePart, with_header, end_text, AnswersSaid, IsTraceRun, Stays}
 use Rattle.engines.proofs.GatheredLemmas.{answered}
 use Rattle.engines.proofs.TraceLineLemmas.{not_opened}
 use Rattle.engines.proofs.WrittenLemmas.{said_written}

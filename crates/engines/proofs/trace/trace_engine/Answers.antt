@@ -1,6 +1,5 @@
-use Rattle.std.proofs.Common.{◌≡◌, IfSome, subst, sym}
-use Rattle.texts.specs.Counted.{device_of}
-use Rattle.engines.specs.Traces.{IsTraceRun, Stays}
+use Rattle.engines.proofs.Words.{◌≡◌, subst, sym, device_of, IsTraceRun, Stays}
+use Rattle.std.proofs.Common.{IfSome}
 use Rattle.engines.proofs.TraceLineLemmas.{answers_read}
 use Rattle.engines.proofs.trace.trace_engine.Goals as goal
 

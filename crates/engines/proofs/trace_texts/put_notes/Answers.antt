@@ -1,6 +1,4 @@
-use Rattle.std.proofs.Common.{rules, arith}
-use Rattle.engines.specs.TraceTexts.{note_text}
-use Rattle.texts.proofs.OutputLemmas.{piece_said}
+use Rattle.engines.proofs.Words.{rules, arith, note_text, piece_said}
 use Rattle.engines.proofs.trace_texts.put_notes.Goals as goal
 
 pub loop-note-preserved : goal.loop-note-preserved

@@ -1,6 +1,4 @@
-use Rattle.std.proofs.Common.{flat_map, take}
-use Rattle.texts.specs.Output.{Says}
-use Rattle.engines.specs.TraceTexts.{note_text}
+use Rattle.engines.proofs.Words.{flat_map, take, Says, note_text}
 use Rattle.engines.proofs.trace_texts.put_notes.Given as goal
 
 -- the lines of the notes before this one were written

@@ -1,5 +1,4 @@
-use Rattle.std.proofs.Common.{ap, decimal}
-use Rattle.texts.proofs.OutputLemmas.{same_text, then}
+use Rattle.engines.proofs.Words.{ap, decimal, same_text, then}
 use Rattle.engines.proofs.trace_texts.put_returned.Goals as goal
 
 pub returns : goal.returns

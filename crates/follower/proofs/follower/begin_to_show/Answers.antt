@@ -1,8 +1,4 @@
-use Rattle.std.proofs.Common.{rules, ℕ, ◌∙◌, ◌<◌, ◌++◌, ◌∷◌, [], All, ap, sym, subst}
-use Rattle.modules.specs.Entries.{CatalogEntries}
-use Rattle.modules.specs.RegionIndexes.{IsIndexOf}
-use Rattle.follower.specs.declared.catalogs.DatedCatalog.{DatedCatalog}
-use Rattle.follower.specs.Following.{IsBegun}
+use Rattle.follower.proofs.Words.{rules, ℕ, ◌∙◌, ◌<◌, ◌++◌, ◌∷◌, [], All, ap, sym, subst, CatalogEntries, IsIndexOf, DatedCatalog, IsBegun}
 use Rattle.follower.proofs.follower.begin_to_show.Goals as goal
 
 pub keep_reserved-requires-clause-later : goal.keep_reserved-requires-clause-later

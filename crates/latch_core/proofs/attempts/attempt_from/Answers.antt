@@ -1,9 +1,4 @@
-use Rattle.std.proofs.Common.{Some, None, arith, sym, ◌∙◌, ap}
-use Rattle.word_layout.specs.Layouts.{capacity_of}
-use Rattle.latch_core.specs.Sequences.{generation_of}
-use Rattle.latch_core.specs.Attempts.{outcome}
-use Rattle.latch_core.specs.Whole.{outcome_of}
-use Rattle.latch_core.specs.Loading.{found_by}
+use Rattle.latch_core.proofs.Words.{Some, None, arith, sym, ◌∙◌, ap, capacity_of, generation_of, outcome, outcome_of, found_by}
 use Rattle.latch_core.proofs.LoadingLemmas.{again, again_none, tries, few}
 use Rattle.latch_core.proofs.WalkLemmas.{answers}
 use Rattle.latch_core.proofs.attempts.attempt_from.Goals as goal

@@ -1,4 +1,4 @@
-use Rattle.word_layout.specs.Layouts.{capacity_of}
+use Rattle.latch_core.proofs.Words.{capacity_of}
 use Rattle.latch_core.proofs.LoadingLemmas.{comes_to}
 use Rattle.latch_core.proofs.attempts.attempt_in.Goals as goal
 

@@ -1,10 +1,5 @@
-use Rattle.std.proofs.Common.{◌≡◌, ◌≢◌, ◌≤◌, ◌<◌, ℕ, ◌+◌, ◌-◌, ◌*◌, IsTrue, false, arith, inr, refl, sym, ◌∙◌, ap, subst}
-use Rattle.std.specs.declared.cmp.Ordering.TheVariants.{Less, Equal, Greater}
-use Rattle.word_layout.specs.Layouts.{capacity_of}
-use Rattle.word_layout.specs.Words.{root_word, a_word, b_word, tag_word, left_word}
-use Rattle.latch_core.specs.Sequences.{stable_copy_of}
-use Rattle.latch_core.specs.Attempts.{Load, after_item, after_a, after_b, visit, walk, last_load, attempt_after, AtItem}
-use Rattle.latch_core.specs.Loading.{HasLoaded}
+use Rattle.latch_core.proofs.Words.{◌≡◌, ◌≢◌, ◌≤◌, ◌<◌, ℕ, ◌+◌, IsTrue, false, arith, inr, refl, sym, ◌∙◌, ap, subst, Less, Equal, Greater, capacity_of, root_word, a_word, b_word, tag_word, left_word, stable_copy_of, Load, after_item, after_a, after_b, visit, walk, last_load, attempt_after, AtItem, HasLoaded}
+use Rattle.std.proofs.Common.{◌-◌, ◌*◌}
 use Rattle.latch_core.proofs.LoadingLemmas.{item_of, starts, may_load, loads_on, goes_aside, walk_starts, enters, turns, leaves}
 use Rattle.latch_core.proofs.attempts.walk.Given.{Over}
 use Rattle.latch_core.proofs.attempts.walk.Goals as goal

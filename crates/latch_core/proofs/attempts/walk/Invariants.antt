@@ -1,7 +1,5 @@
-use Rattle.std.proofs.Common.{◌≡◌, ◌+◌, ◌-◌, ◌*◌}
-use Rattle.word_layout.specs.Layouts.{capacity_of}
-use Rattle.word_layout.specs.Words.{left_word}
-use Rattle.latch_core.specs.Sequences.{stable_copy_of}
+use Rattle.latch_core.proofs.Words.{◌≡◌, ◌+◌, capacity_of, left_word, stable_copy_of}
+use Rattle.std.proofs.Common.{◌-◌, ◌*◌}
 use Rattle.latch_core.proofs.LoadingLemmas.{IsOn}
 use Rattle.latch_core.proofs.attempts.walk.Given as goal
 

@@ -1,4 +1,4 @@
-use Rattle.std.proofs.Common.{get_or, refl, arith}
+use Rattle.latch_core.proofs.Words.{get_or, refl, arith}
 use Rattle.latch_core.proofs.ChangeLemmas.{erasing_none, erasing_step}
 use Rattle.latch_core.proofs.changes.plan_erases.Goals as goal
 

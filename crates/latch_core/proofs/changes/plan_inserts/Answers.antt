@@ -1,9 +1,5 @@
-use Rattle.std.proofs.Common.{◌<◌, ◌-◌, ◌++◌, length, get_or, refl, sym, ◌∙◌, ap, subst, arith, length-append}
-use Rattle.std.proofs.lemmas.List.{drop_more}
-use Rattle.order_laws.specs.declared.items.Item.{Item}
-use Rattle.order_laws.proofs.MeetLemmas.{no_meeting}
-use Rattle.rb_words.specs.Plans.{item_stores}
-use Rattle.table_updates.proofs.BatchLemmas.{AreOff}
+use Rattle.latch_core.proofs.Words.{◌<◌, ◌++◌, length, get_or, refl, sym, ◌∙◌, ap, subst, arith, length-append, drop_more, Item, no_meeting, item_stores, AreOff}
+use Rattle.std.proofs.Common.{◌-◌}
 use Rattle.latch_core.proofs.ChangeLemmas.{next_node, inserting_none, inserting_step}
 use Rattle.latch_core.proofs.changes.plan_inserts.Goals as goal
 

@@ -1,5 +1,5 @@
-use Rattle.std.proofs.Common.{◌≡◌, ◌≤◌, ◌+◌, ◌*◌, length, vec_len, vec_capacity}
-use Rattle.rb_words.specs.declared.shapes.TheConstants.{STORES}
+use Rattle.latch_core.proofs.Words.{◌≡◌, ◌≤◌, ◌+◌, length, STORES}
+use Rattle.std.proofs.Common.{◌*◌, vec_len, vec_capacity}
 use Rattle.latch_core.proofs.ChangeLemmas.{Inserting}
 use Rattle.latch_core.proofs.changes.plan_inserts.Given as goal
 

@@ -1,6 +1,4 @@
-use Rattle.std.proofs.Common.{rules}
-use Rattle.std.proofs.lemmas.List.Sorted.{IsNonDecreasingBy-from_sort_by_key}
-use Rattle.order_laws.specs.declared.items.Item.{Item}
+use Rattle.latch_core.proofs.Words.{rules, IsNonDecreasingBy-from_sort_by_key, Item}
 use Rattle.latch_core.proofs.clashes.by_first_word.Goals as goal
 
 pub returns-clause-sorted : goal.returns-clause-sorted

@@ -1,5 +1,4 @@
-use Rattle.std.proofs.Common.{◌≡◌, drop}
-use Rattle.table_updates.specs.Updates.{some_twice}
+use Rattle.latch_core.proofs.Words.{◌≡◌, drop, some_twice}
 use Rattle.latch_core.proofs.clashes.has_equal_entries.Given as goal
 
 abbrev pub invariant-loop-place : goal.invariant-loop-place

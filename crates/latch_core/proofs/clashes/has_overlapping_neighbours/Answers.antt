@@ -1,6 +1,5 @@
-use Rattle.std.proofs.Common.{◌-◌, sym, ◌∙◌, arith}
-use Rattle.order_laws.specs.declared.items.Item.{Item}
-use Rattle.table_updates.proofs.BatchLemmas.{all_valid}
+use Rattle.latch_core.proofs.Words.{sym, ◌∙◌, arith, Item, all_valid}
+use Rattle.std.proofs.Common.{◌-◌}
 use Rattle.latch_core.proofs.ClashLemmas.{overlap_on, none_left}
 use Rattle.latch_core.proofs.clashes.has_overlapping_neighbours.Goals as goal
 

@@ -1,4 +1,4 @@
-use Rattle.std.proofs.lemmas.List.Sorted.{IsNonDecreasingBy-from_sort}
+use Rattle.latch_core.proofs.Words.{IsNonDecreasingBy-from_sort}
 use Rattle.latch_core.proofs.clashes.in_order.Goals as goal
 
 pub returns-clause-sorted : goal.returns-clause-sorted

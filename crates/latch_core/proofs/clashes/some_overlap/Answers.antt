@@ -1,7 +1,4 @@
-use Rattle.std.proofs.Common.{◌∙◌, sym, ap}
-use Rattle.std.specs.Prelude.{not}
-use Rattle.std.proofs.lemmas.List.Sorted.{list_any-IsPermutation}
-use Rattle.table_updates.specs.Updates.{some_invalid, some_overlap}
+use Rattle.latch_core.proofs.Words.{◌∙◌, sym, ap, not, list_any-IsPermutation, some_invalid, some_overlap}
 use Rattle.latch_core.proofs.ClashLemmas.{overlap_moved}
 use Rattle.latch_core.proofs.clashes.some_overlap.Goals as goal
 

@@ -1,5 +1,4 @@
-use Rattle.std.proofs.Common.{◌+◌, ◌++◌, sym, subst, arith}
-use Rattle.latch_core.specs.FreeNodes.{AreAllNodes}
+use Rattle.latch_core.proofs.Words.{◌+◌, ◌++◌, sym, subst, arith, AreAllNodes}
 use Rattle.latch_core.proofs.ChangeLemmas.{one_free_more}
 use Rattle.latch_core.proofs.nodes.add_nodes.Goals as goal
 

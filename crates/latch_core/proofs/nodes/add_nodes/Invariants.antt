@@ -1,6 +1,5 @@
-use Rattle.std.proofs.Common.{ℕ, ◌≤◌, ◌++◌, List}
+use Rattle.latch_core.proofs.Words.{ℕ, ◌≤◌, ◌++◌, List, AreAllNodes}
 use Rattle.std.specs.Prelude.{vec_len, vec_capacity}
-use Rattle.latch_core.specs.FreeNodes.{AreAllNodes}
 use Rattle.latch_core.proofs.nodes.add_nodes.Given as goal
 
 abbrev pub invariant-loop-node : goal.invariant-loop-node

@@ -1,5 +1,5 @@
-use Rattle.std.proofs.Common.{◌++◌, [], append-nil, sym, subst}
-use Rattle.latch_core.specs.FreeNodes.{AreAllNodes}
+use Rattle.latch_core.proofs.Words.{◌++◌, [], sym, subst, AreAllNodes}
+use Rattle.std.proofs.Common.{append-nil}
 use Rattle.latch_core.proofs.ChangeLemmas.{no_nodes}
 use Rattle.latch_core.proofs.nodes.all_nodes.Goals as goal
 

@@ -1,6 +1,5 @@
-use Rattle.std.proofs.Common.{◌+◌, ◌-◌, get_or, drop, sym, ◌∙◌, arith}
-use Rattle.order_laws.specs.declared.items.Item.{Item}
-use Rattle.latch_core.specs.Replacements.{is_rising}
+use Rattle.latch_core.proofs.Words.{◌+◌, get_or, drop, sym, ◌∙◌, arith, Item, is_rising}
+use Rattle.std.proofs.Common.{◌-◌}
 use Rattle.latch_core.proofs.ReplacementLemmas.{rising_on, rising_short}
 use Rattle.latch_core.proofs.ClashLemmas.{one_place_on}
 use Rattle.latch_core.proofs.replacements.rises.Goals as goal

@@ -1,5 +1,5 @@
-use Rattle.std.proofs.Common.{◌≡◌, ◌≤◌, ◌-◌, drop}
-use Rattle.latch_core.specs.Replacements.{is_rising}
+use Rattle.latch_core.proofs.Words.{◌≡◌, ◌≤◌, drop, is_rising}
+use Rattle.std.proofs.Common.{◌-◌}
 use Rattle.latch_core.proofs.replacements.rises.Given as goal
 
 abbrev pub invariant-loop-place : goal.invariant-loop-place

@@ -1,10 +1,4 @@
-use Rattle.std.proofs.Common.{true, subst, arith}
-use Rattle.std.proofs.lemmas.List.{take_all}
-use Rattle.word_layout.specs.Layouts.{capacity_of}
-use Rattle.latch_steps.specs.Recordings.{Keeps}
-use Rattle.latch_steps.specs.Runs.{opening}
-use Rattle.latch_steps.specs.Expands.{Expand}
-use Rattle.latch_steps.specs.Near.{AreShallow}
+use Rattle.latch_steps.proofs.Words.{true, subst, arith, take_all, capacity_of, Keeps, opening, Expand, AreShallow}
 use Rattle.latch_steps.proofs.RecordingLemmas.{obeyed_none, obeyed_more, safe_trace, quiet_trace, near_trace, trace_of}
 use Rattle.latch_steps.proofs.runs.drive.Goals as goal
 

@@ -1,7 +1,4 @@
-use Rattle.std.proofs.Common.{◌≡◌, false, true, take}
-use Rattle.word_layout.specs.Layouts.{capacity_of}
-use Rattle.latch_steps.specs.Recordings.{Keeps}
-use Rattle.latch_steps.specs.Runs.{opening}
+use Rattle.latch_steps.proofs.Words.{◌≡◌, false, true, take, capacity_of, Keeps, opening}
 use Rattle.latch_steps.proofs.RecordingLemmas.{Obeyed}
 use Rattle.latch_steps.proofs.runs.drive.Given as goal
 

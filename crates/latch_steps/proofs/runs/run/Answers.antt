@@ -1,10 +1,4 @@
-use Rattle.std.proofs.Common.{true, ◌∙◌, ◌++◌, ◌∷◌, [], refl, sym, ap, subst, arith}
-use Rattle.std.proofs.lemmas.List.{take_all}
-use Rattle.facts.proofs.Lists.{take_push}
-use Rattle.word_layout.specs.Layouts.{capacity_of}
-use Rattle.latch_steps.specs.Recordings.{Keeps}
-use Rattle.latch_steps.specs.Near.{AreShallow}
-use Rattle.latch_steps.specs.Runs.{step_done, last_of, opening}
+use Rattle.latch_steps.proofs.Words.{true, ◌∙◌, ◌++◌, ◌∷◌, [], refl, sym, ap, subst, arith, take_all, take_push, capacity_of, Keeps, AreShallow, step_done, last_of, opening}
 use Rattle.latch_steps.proofs.RecordingLemmas.{safe_trace, quiet_trace, near_trace, trace_of}
 use Rattle.latch_steps.proofs.ReportLemmas.{none_reported, runs_reported}
 use Rattle.latch_steps.proofs.RunLemmas.{events_append}

@@ -1,9 +1,4 @@
-use Rattle.std.proofs.Common.{false, true, ◌≡◌, List, take}
-use Rattle.word_layout.specs.Layouts.{capacity_of}
-use Rattle.latch_steps.specs.Runs.{Done, opening}
-use Rattle.latch_steps.specs.Traces.{events_of}
-use Rattle.latch_steps.specs.Recordings.{Keeps}
-use Rattle.latch_steps.specs.Reports.{IsReportedRun}
+use Rattle.latch_steps.proofs.Words.{false, true, ◌≡◌, List, take, capacity_of, Done, opening, events_of, Keeps, IsReportedRun}
 use Rattle.latch_steps.proofs.runs.run.Given as goal
 
 -- the events before this one were done and recorded

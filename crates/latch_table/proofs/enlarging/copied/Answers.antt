@@ -1,9 +1,4 @@
-use Rattle.std.proofs.Common.{rules, ◌≡◌, ℕ, List, ap, subst, ◌∙◌, arith}
-use Rattle.std.specs.Prelude.{slice_set}
-use Rattle.word_layout.specs.Layouts.{capacity_of}
-use Rattle.word_layout.specs.Words.{at, words_for}
-use Rattle.latch_table.specs.Seats.{writer_of}
-use Rattle.word_layout.proofs.StoreLemmas.{copy_next}
+use Rattle.latch_table.proofs.Words.{rules, ◌≡◌, ℕ, List, ap, subst, ◌∙◌, arith, slice_set, capacity_of, at, words_for, writer_of, copy_next}
 use Rattle.latch_table.proofs.RuleLemmas.{allows_copy}
 use Rattle.latch_table.proofs.enlarging.copied.Goals as goal
 

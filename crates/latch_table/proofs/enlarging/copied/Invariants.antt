@@ -1,8 +1,4 @@
-use Rattle.std.proofs.Common.{◌≡◌, ◌-◌, ◌++◌, take}
-use Rattle.std.specs.Prelude.{replicate}
-use Rattle.word_layout.specs.Layouts.{capacity_of}
-use Rattle.word_layout.specs.Words.{words_for}
-use Rattle.latch_table.specs.Seats.{writer_of}
+use Rattle.latch_table.proofs.Words.{◌≡◌, ◌-◌, ◌++◌, take, replicate, capacity_of, words_for, writer_of}
 use Rattle.latch_table.proofs.enlarging.copied.Given as goal
 
 abbrev pub invariant-loop-word : goal.invariant-loop-word

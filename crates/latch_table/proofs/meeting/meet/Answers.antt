@@ -1,7 +1,4 @@
-use Rattle.std.proofs.Common.{rules, ◌≡◌, ap, sym, subst, ◌∙◌}
-use Rattle.latch_table.specs.Readers.{Met, ReaderState, reader_at}
-use Rattle.latch_table.specs.Seats.{reader_of, writer_of}
-use Rattle.latch_table.specs.Writers.{shown_updates}
+use Rattle.latch_table.proofs.Words.{rules, ◌≡◌, ap, sym, subst, ◌∙◌, Met, ReaderState, reader_at, reader_of, writer_of, shown_updates}
 use Rattle.latch_table.proofs.ReaderLemmas.{met}
 use Rattle.latch_table.proofs.RuleLemmas.{allows_sequence, joins_meeting, splits_meeting}
 use Rattle.latch_table.proofs.MemoryLemmas.{remembers_more}

@@ -1,4 +1,4 @@
-use Rattle.std.proofs.Common.{rules, ap, ◌∙◌}
+use Rattle.latch_table.proofs.Words.{rules, ap, ◌∙◌}
 use Rattle.latch_table.proofs.RuleLemmas.{splits_another}
 use Rattle.latch_table.proofs.opening.build.Goals as goal
 

@@ -1,5 +1,4 @@
-use Rattle.std.proofs.Common.{rules, [], ◌∙◌}
-use Rattle.word_layout.specs.Layouts.{capacity_of}
+use Rattle.latch_table.proofs.Words.{rules, [], ◌∙◌, capacity_of}
 use Rattle.latch_table.proofs.WriterLemmas.{opens_first, tied_opening}
 use Rattle.latch_table.proofs.opening.open.Goals as goal
 

@@ -1,15 +1,14 @@
-use Rattle.std.proofs.Common.{sym, ap, ◌∙◌, subst, ◌++◌, ◌∷◌, [], append_assoc, append-nil}
-use Rattle.latch_weak.specs.Recordings.{CarriesOut, HasMade}
+use Rattle.latch_weak.proofs.Words.{sym, ap, ◌∙◌, subst, ◌++◌, ◌∷◌, [], append_assoc, append-nil, CarriesOut, HasMade}
 use Rattle.latch_weak.proofs.RecordingLemmas.{made_begun, made_stored, carrying_begun, carrying_stored, carried}
 use Rattle.latch_weak.proofs.recording.carry_out.Goals as goal
 
 pub loop-store-init : goal.loop-store-init
 loop-store-init g c = (
   λ n limit start us made.
-      made_begun g.O.TreeOrder.order n limit start us _ _ c.begin_from.new.self made c.args.update.now
-      c.in_ok-begin_from.ensures.accepted c.begin_from.ensures.pictured
-      c.in_ok-begin_from.ensures.begun.1 c.begin_from.ensures.same.0 c.begin_from.ensures.same.1,
-  ([], carrying_begun g.O.TreeOrder.order _ c.args.update.now c.begin_from.new.self c.in_ok-begin_from.ensures.begun.1, sym (append-nil _)),
+      made_begun g.O.TreeOrder.order n limit start us _ _ c.begin.new.self made c.args.update.now
+      c.in_ok-begin.ensures.accepted c.begin.ensures.pictured
+      c.in_ok-begin.ensures.begun.1 c.begin.ensures.same.0 c.begin.ensures.same.1,
+  ([], carrying_begun g.O.TreeOrder.order _ c.args.update.now c.begin.new.self c.in_ok-begin.ensures.begun.1, sym (append-nil _)),
 )
 
 pub loop-store-preserved : goal.loop-store-preserved

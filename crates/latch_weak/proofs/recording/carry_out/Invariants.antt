@@ -1,6 +1,4 @@
-use Rattle.std.proofs.Common.{◌≡◌, List, [], ◌∷◌, ◌++◌, length}
-use Rattle.word_layout.specs.declared.stores.Store.{Store}
-use Rattle.latch_weak.specs.Recordings.{Continues}
+use Rattle.latch_weak.proofs.Words.{◌≡◌, List, [], ◌∷◌, ◌++◌, length, Store, Continues}
 use Rattle.latch_weak.proofs.RecordingLemmas.{IsCarryingOut}
 use Rattle.latch_weak.proofs.recording.carry_out.Given as goal
 

@@ -1,10 +1,6 @@
-use Rattle.std.proofs.Common.{◌≡◌, sym, ◌∙◌, ap, subst, take, drop, suc, inr, refl, [], ◌∷◌, ◌++◌, ◌+◌}
-use Rattle.std.proofs.lemmas.List.{take_all, take_more}
-use Rattle.word_layout.specs.Layouts.{capacity_of, limit_of}
-use Rattle.latch_core.specs.Latches.{opening_latch}
-use Rattle.latch_core.specs.Writers.{opening_writer}
+use Rattle.latch_weak.proofs.Words.{◌≡◌, sym, ◌∙◌, ap, subst, take, suc, inr, refl, [], ◌∷◌, ◌++◌, ◌+◌, take_all, take_more, capacity_of, limit_of, opening_latch, opening_writer, CarriesOutAll, HasMade, RefusesRecording}
+use Rattle.std.proofs.Common.{drop}
 use Rattle.std.proofs.Math.Seq.{split_at}
-use Rattle.latch_weak.specs.Recordings.{CarriesOutAll, HasMade, RefusesRecording}
 use Rattle.latch_weak.proofs.RecordingLemmas.{carried_more, works_of, passed_on}
 use Rattle.latch_weak.proofs.recording.record.Goals as goal
 

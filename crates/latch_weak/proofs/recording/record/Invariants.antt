@@ -1,7 +1,4 @@
-use Rattle.std.proofs.Common.{take}
-use Rattle.word_layout.specs.Layouts.{capacity_of, limit_of}
-use Rattle.latch_core.specs.Writers.{opening_writer}
-use Rattle.latch_weak.specs.Recordings.{CarriesOutAll, HasMade}
+use Rattle.latch_weak.proofs.Words.{take, capacity_of, limit_of, opening_writer, CarriesOutAll, HasMade}
 use Rattle.latch_weak.proofs.recording.record.Given as goal
 
 abbrev pub invariant-loop-update : goal.invariant-loop-update

@@ -1,5 +1,4 @@
-use Rattle.latchsym.proofs.Words.{◌∙◌, ap, codes, map, found_of, rows_of, Gives, IsAddressIn}
-use Rattle.command_io.proofs.FaultLemmas.{handed_on}
+use Rattle.latchsym.proofs.Words.{◌∙◌, ap, codes, map, found_of, rows_of, Gives, IsAddressIn, handed_on}
 use Rattle.latchsym.proofs.arguments.address_in.Goals as goal
 
 pub returns-in_err-higher : goal.returns-in_err-higher

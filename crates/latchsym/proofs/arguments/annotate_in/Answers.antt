@@ -1,5 +1,4 @@
-use Rattle.latchsym.proofs.Words.{codes, found_of, rows_of, Gives, IsAnnotateIn}
-use Rattle.command_io.proofs.FaultLemmas.{handed_on}
+use Rattle.latchsym.proofs.Words.{codes, found_of, rows_of, Gives, IsAnnotateIn, handed_on}
 use Rattle.latchsym.proofs.arguments.annotate_in.Goals as goal
 
 pub returns-in_err-offset : goal.returns-in_err-offset

@@ -1,5 +1,4 @@
-use Rattle.latchsym.proofs.Words.{◌≡◌, ◌∙◌, ◌&&◌, ap, sym, refl, nat_eq, List, [], ◌∷◌, length, map, Option, Some, None, option_map, true, false, codes, arith, rules, tests, is_none, is_some, Bor, false≢true, nat_tests, common_steps, Text, found_of, rows_of, Gives, IsLookupIn}
-use Rattle.command_io.proofs.FaultLemmas.{handed_on}
+use Rattle.latchsym.proofs.Words.{◌≡◌, ◌∙◌, ◌&&◌, ap, sym, refl, nat_eq, List, [], ◌∷◌, length, map, Option, Some, None, option_map, true, false, codes, arith, rules, tests, is_none, is_some, Bor, false≢true, nat_tests, common_steps, Text, found_of, rows_of, Gives, IsLookupIn, handed_on}
 use Rattle.latchsym.proofs.arguments.lookup_in.Goals as goal
 
 -- no word is an address, and there is no file of them

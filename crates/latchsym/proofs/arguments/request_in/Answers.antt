@@ -1,5 +1,4 @@
-use Rattle.latchsym.proofs.Words.{found_of, rows_of, Gives, IsRequestIn}
-use Rattle.command_io.proofs.FaultLemmas.{handed_on}
+use Rattle.latchsym.proofs.Words.{found_of, rows_of, Gives, IsRequestIn, handed_on}
 use Rattle.latchsym.proofs.arguments.request_in.Goals as goal
 
 pub returns-in_err-kernel : goal.returns-in_err-kernel

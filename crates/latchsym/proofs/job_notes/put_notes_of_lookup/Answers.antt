@@ -1,6 +1,4 @@
-use Rattle.latchsym.proofs.Words.{◌∙◌, ap, sym, unwrap_or, same_text, given_or, BoundNames, Option, List, ℕ}
-use Rattle.catalog_engines.specs.NoteTexts.{lines_by}
-use Rattle.latchsym.specs.JobNotes.{bounds_of_lookup}
+use Rattle.latchsym.proofs.Words.{◌∙◌, ap, sym, unwrap_or, same_text, given_or, BoundNames, Option, List, ℕ, lines_by, bounds_of_lookup}
 use Rattle.latchsym.proofs.job_notes.put_notes_of_lookup.Goals as goal
 
 pub returns-in-Some : goal.returns-in-Some

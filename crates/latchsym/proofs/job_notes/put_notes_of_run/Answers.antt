@@ -1,5 +1,4 @@
-use Rattle.latchsym.proofs.Words.{[], ◌∙◌, ap, sym, unwrap_or, option_map_or, same_text, given_or, usual_bounds, Bor, Option, List, ℕ, BoundNames}
-use Rattle.latchsym.specs.JobNotes.{run_lines}
+use Rattle.latchsym.proofs.Words.{[], ◌∙◌, ap, sym, unwrap_or, option_map_or, same_text, given_or, usual_bounds, Bor, Option, List, ℕ, BoundNames, run_lines}
 use Rattle.latchsym.proofs.job_notes.put_notes_of_run.Goals as goal
 
 pub returns : goal.returns

@@ -1,5 +1,4 @@
-use Rattle.latchsym.proofs.Words.{ap, same_text, then, line_if_noted}
-use Rattle.latchsym.specs.JobNotes.{run_line}
+use Rattle.latchsym.proofs.Words.{ap, same_text, then, line_if_noted, run_line}
 use Rattle.latchsym.proofs.job_notes.put_run_notes.Goals as goal
 
 pub returns : goal.returns

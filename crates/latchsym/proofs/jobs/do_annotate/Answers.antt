@@ -1,5 +1,4 @@
-use Rattle.latchsym.proofs.Words.{Bool, Some, ap, subst, sym, ◌∙◌, with_notes}
-use Rattle.latchsym.specs.Outcomes.{HoldsOfInput, IsLogBy}
+use Rattle.latchsym.proofs.Words.{Bool, Some, ap, subst, sym, ◌∙◌, with_notes, HoldsOfInput, IsLogBy}
 use Rattle.latchsym.proofs.jobs.do_annotate.Goals as goal
 
 pub returns-then-job : goal.returns-then-job

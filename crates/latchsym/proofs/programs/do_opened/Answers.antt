@@ -1,5 +1,4 @@
-use Rattle.latchsym.proofs.Words.{subst}
-use Rattle.latchsym.specs.Reports.{IsConcluded}
+use Rattle.latchsym.proofs.Words.{subst, IsConcluded}
 use Rattle.latchsym.proofs.programs.do_opened.Goals as goal
 
 pub returns : goal.returns

@@ -1,5 +1,4 @@
-use Rattle.latchsym.proofs.Words.{ap, sym, same_text, option_copied}
-use Rattle.latchsym.specs.Reports.{message_text}
+use Rattle.latchsym.proofs.Words.{ap, sym, same_text, option_copied, message_text}
 use Rattle.latchsym.proofs.reports.put_message.Goals as goal
 
 pub returns-in-Write : goal.returns-in-Write

@@ -1,5 +1,4 @@
-use Rattle.std.proofs.Common.{◌≡◌, None, find, take}
-use Rattle.latchsym_ffi.specs.Answers.{has_number}
+use Rattle.latchsym_ffi.proofs.Words.{◌≡◌, None, find, take, has_number}
 use Rattle.latchsym_ffi.proofs.answers.first_with.Given as goal
 
 -- none of the answers gone through has the number

@@ -1,5 +1,4 @@
-use Rattle.std.proofs.Common.{List, [], ℕ, ap, slice_set, ◌∙◌, slice_index_or}
-use Rattle.latchsym_ffi.specs.declared.view_rows.ViewSymbol.{ViewSymbol}
+use Rattle.latchsym_ffi.proofs.Words.{List, [], ℕ, ap, slice_set, ◌∙◌, slice_index_or, ViewSymbol}
 use Rattle.latchsym_ffi.proofs.MapLemmas.{map_more}
 use Rattle.latchsym_ffi.proofs.flattening.list_addresses.Goals as goal
 

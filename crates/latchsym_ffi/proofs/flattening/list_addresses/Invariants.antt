@@ -1,4 +1,4 @@
-use Rattle.std.proofs.Common.{◌≡◌, ◌++◌, drop, map, take}
+use Rattle.latchsym_ffi.proofs.Words.{◌≡◌, ◌++◌, drop, map, take}
 use Rattle.latchsym_ffi.proofs.flattening.list_addresses.Given as goal
 
 abbrev pub invariant-loop-place : goal.invariant-loop-place

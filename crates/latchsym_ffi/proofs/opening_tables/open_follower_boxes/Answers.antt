@@ -1,7 +1,5 @@
-use Rattle.latchsym_ffi.proofs.Words.{◌≡◌, [], ◌∙◌, ap, first_reader}
-use Rattle.latch_table.specs.Writers.{WriterState, new_writer}
+use Rattle.latchsym_ffi.proofs.Words.{◌≡◌, [], ◌∙◌, ap, first_reader, WriterState, new_writer, Follower}
 use Rattle.follower.specs.Following.{Followed}
-use Rattle.latchsym_ffi.specs.declared.contents.Content.TheVariants.{Follower}
 use Rattle.latchsym_ffi.proofs.opening_tables.open_follower_boxes.Goals as goal
 
 pub returns-clause-opened : goal.returns-clause-opened

@@ -1,4 +1,4 @@
-use Rattle.std.proofs.Common.{arith}
+use Rattle.latchsym_ffi.proofs.Words.{arith}
 use Rattle.latchsym_ffi.proofs.ViewLemmas.{no_region_below, region_found, region_passed}
 use Rattle.latchsym_ffi.proofs.views.region_at.Goals as goal
 

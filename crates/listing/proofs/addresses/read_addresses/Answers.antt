@@ -1,7 +1,5 @@
-use Rattle.std.proofs.Common.{◌≡◌, ℕ, IfSome, subst, sym}
-use Rattle.std.specs.Global.{Vec}
+use Rattle.listing.proofs.Words.{◌≡◌, ℕ, IfSome, subst, sym, Vec, addresses_of}
 use Rattle.texts.specs.Counted.{device_of}
-use Rattle.listing.specs.Addresses.{addresses_of}
 use Rattle.texts.proofs.ReadLemmas.{gives_read}
 use Rattle.listing.proofs.addresses.read_addresses.Goals as goal
 

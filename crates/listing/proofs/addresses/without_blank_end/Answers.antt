@@ -1,5 +1,4 @@
-use Rattle.std.proofs.Common.{◌≡◌, ◌∙◌, ◌+◌, ◌-◌, ap, arith, sym, take}
-use Rattle.listing.specs.Addresses.{without_blank_end}
+use Rattle.listing.proofs.Words.{◌≡◌, ◌∙◌, ◌+◌, ◌-◌, ap, arith, sym, take, without_blank_end}
 use Rattle.listing.proofs.BlankEndLemmas.{blank_more, mark_more}
 use Rattle.listing.proofs.addresses.without_blank_end.Goals as goal
 use Rattle.listing.proofs.addresses.without_blank_end.Goals.{then-loop-end-test+else-is_blank_end, else-loop-end-test}

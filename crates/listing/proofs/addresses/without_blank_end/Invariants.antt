@@ -1,5 +1,4 @@
-use Rattle.std.proofs.Common.{◌≡◌, ◌≤◌, length, take}
-use Rattle.listing.specs.Addresses.{without_blank_end}
+use Rattle.listing.proofs.Words.{◌≡◌, ◌≤◌, length, take, without_blank_end}
 use Rattle.listing.proofs.addresses.without_blank_end.Given as goal
 
 -- behind the place are blanks alone

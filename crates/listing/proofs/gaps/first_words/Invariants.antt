@@ -1,6 +1,6 @@
-use Rattle.std.proofs.Common.{◌≡◌, ◌++◌, map, length}
+use Rattle.listing.proofs.Words.{◌≡◌, ◌++◌, length, runs_of}
+use Rattle.std.proofs.Common.{map}
 use Rattle.arrayvec.specs.ArrayVec.{array_vec_len}
-use Rattle.listing.specs.ModuleListing.{runs_of}
 use Rattle.listing.proofs.gaps.first_words.Given as goal
 
 -- the words so far, and those that are left

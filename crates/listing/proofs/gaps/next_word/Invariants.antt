@@ -1,5 +1,4 @@
-use Rattle.std.proofs.Common.{◌≡◌, length}
-use Rattle.listing.specs.ModuleListing.{runs_of}
+use Rattle.listing.proofs.Words.{◌≡◌, length, runs_of}
 use Rattle.listing.proofs.gaps.next_word.Given as goal
 
 -- what was cut off so far has no word

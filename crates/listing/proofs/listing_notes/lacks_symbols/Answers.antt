@@ -1,6 +1,4 @@
-use Rattle.std.proofs.Common.{◌≡◌, ◌+◌, ap, arith, suc, sym, ◌∙◌}
-use Rattle.modules.specs.Catalogs.{module_of}
-use Rattle.listing.specs.ListingNotes.{has_symbols}
+use Rattle.listing.proofs.Words.{◌≡◌, ◌+◌, ap, arith, suc, sym, ◌∙◌, module_of, has_symbols}
 use Rattle.listing.proofs.ListingNoteLemmas.{none_more}
 use Rattle.listing.proofs.listing_notes.lacks_symbols.Goals as goal
 

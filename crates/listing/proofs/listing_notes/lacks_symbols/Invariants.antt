@@ -1,6 +1,4 @@
-use Rattle.std.proofs.Common.{◌≡◌, Some, false, take}
-use Rattle.std.specs.List.{list_any}
-use Rattle.listing.specs.ListingNotes.{has_symbols}
+use Rattle.listing.proofs.Words.{◌≡◌, Some, false, take, list_any, has_symbols}
 use Rattle.listing.proofs.listing_notes.lacks_symbols.Given as goal
 
 -- the modules gone through have no symbols

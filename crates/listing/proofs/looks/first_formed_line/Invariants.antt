@@ -1,7 +1,5 @@
-use Rattle.std.proofs.Common.{◌≡◌, ◌||◌, length}
-use Rattle.std.specs.Prelude.{find}
-use Rattle.texts.specs.Lines.{lines_of}
-use Rattle.listing.specs.Looks.{is_module_line, is_symbol_line}
+use Rattle.listing.proofs.Words.{◌≡◌, length, find, lines_of, is_module_line, is_symbol_line}
+use Rattle.std.proofs.Common.{◌||◌}
 use Rattle.listing.proofs.looks.first_formed_line.Given as goal
 
 -- no line before the rest is well formed

@@ -1,7 +1,5 @@
-use Rattle.std.proofs.Common.{◌≡◌, ◌&&◌, ◌||◌, length, not}
-use Rattle.std.specs.List.{list_any}
-use Rattle.texts.specs.Lines.{lines_of}
-use Rattle.listing.specs.Looks.{begins_wide, is_narrow, is_symbol_line}
+use Rattle.listing.proofs.Words.{◌≡◌, length, list_any, lines_of, begins_wide, is_narrow, is_symbol_line}
+use Rattle.std.proofs.Common.{◌&&◌, ◌||◌, not}
 use Rattle.listing.proofs.looks.is_narrow.Given as goal
 
 -- what was seen, and what the rest has

@@ -1,8 +1,5 @@
-use Rattle.std.proofs.Common.{◌≡◌, ◌||◌, length}
-use Rattle.std.specs.List.{list_any}
-use Rattle.texts.specs.Lines.{lines_of}
-use Rattle.listing.specs.Looks.{is_kernel_symbol, is_of_kernel}
-use Rattle.listing.specs.SymbolListing.{symbols_in}
+use Rattle.listing.proofs.Words.{◌≡◌, length, list_any, lines_of, is_kernel_symbol, is_of_kernel, symbols_in}
+use Rattle.std.proofs.Common.{◌||◌}
 use Rattle.listing.proofs.looks.kernel_symbols.Given as goal
 
 -- what was seen, and what the rest has

@@ -1,7 +1,4 @@
-use Rattle.std.proofs.Common.{◌≡◌, length}
-use Rattle.std.specs.List.{list_any}
-use Rattle.texts.specs.Lines.{lines_of}
-use Rattle.listing.specs.Looks.{is_module_line}
+use Rattle.listing.proofs.Words.{◌≡◌, length, list_any, lines_of, is_module_line}
 use Rattle.listing.proofs.looks.lacks_module_lines.Given as goal
 
 -- no line before the rest is well formed

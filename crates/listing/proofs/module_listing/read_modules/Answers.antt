@@ -1,8 +1,5 @@
-use Rattle.std.proofs.Common.{◌≡◌, List, refl, sym, subst, arith}
-use Rattle.std.specs.Prelude.{All, true}
-use Rattle.modules.specs.Lines.{fits}
-use Rattle.modules.specs.Listed.{ListedModule}
-use Rattle.listing.specs.ModuleListing.{module_causes, module_place, module_of_line}
+use Rattle.listing.proofs.Words.{◌≡◌, List, refl, sym, subst, arith, All, fits, ListedModule, module_causes, module_place, module_of_line}
+use Rattle.std.specs.Prelude.{true}
 use Rattle.listing.proofs.SkippingLemmas.{IsReadTo, counts_low, one_skipped, one_taken}
 use Rattle.listing.proofs.ModuleLineLemmas.{modules_fit}
 use Rattle.listing.proofs.module_listing.read_modules.Goals as goal

@@ -1,5 +1,4 @@
-use Rattle.std.proofs.Common.{length}
-use Rattle.listing.specs.ModuleListing.{module_causes, module_place, module_of_line}
+use Rattle.listing.proofs.Words.{length, module_causes, module_place, module_of_line}
 use Rattle.listing.proofs.SkippingLemmas.{IsReadTo}
 use Rattle.listing.proofs.module_listing.read_modules.Given as goal
 

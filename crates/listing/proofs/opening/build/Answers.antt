@@ -1,12 +1,4 @@
-use Rattle.std.proofs.Common.{◌∙◌, Some, ap, false, length, subst, sym}
-use Rattle.std.specs.Prelude.{find}
-use Rattle.std.specs.Option.{option_and_then, option_copied, option_map, option_map_or}
-use Rattle.texts.specs.Lines.{lines_of}
-use Rattle.listing.specs.ListingNotes.{all_notes, is_of_modules}
-use Rattle.listing.specs.ModuleListing.{module_counts}
-use Rattle.listing.specs.Looks.{are_modules_hidden}
-use Rattle.listing.specs.Opening.{AreBy, AreByModules, listed_in}
-use Rattle.modules.specs.Catalogs.{catalog_of, counts_of}
+use Rattle.listing.proofs.Words.{◌∙◌, Some, ap, false, length, subst, sym, find, option_and_then, option_copied, option_map, option_map_or, lines_of, all_notes, is_of_modules, module_counts, are_modules_hidden, AreBy, AreByModules, listed_in, catalog_of, counts_of}
 use Rattle.listing.proofs.opening.build.Goals as goal
 
 pub returns-clause-built : goal.returns-clause-built

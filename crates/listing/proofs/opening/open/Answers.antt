@@ -1,15 +1,7 @@
-use Rattle.std.proofs.Common.{◌≡◌, ◌∙◌, Bool, Option, ap, subst, sym}
-use Rattle.std.specs.Prelude.{find, is_some}
-use Rattle.std.specs.Option.{option_copied}
-use Rattle.texts.specs.Lines.{lines_of}
-use Rattle.listing.specs.ListingNotes.{all_notes, is_of_kallsyms}
-use Rattle.listing.specs.Opening.{AreBy, listed_in, notes_of, symbols_of}
-use Rattle.listing.specs.SymbolListing.{symbols_in}
+use Rattle.listing.proofs.Words.{◌≡◌, ◌∙◌, Bool, ap, subst, sym, find, is_some, option_copied, lines_of, all_notes, is_of_kallsyms, AreBy, listed_in, notes_of, symbols_of, symbols_in, build_of_listed, bounds_for, built_in_region, usual_bounds_of, BoundNames}
+use Rattle.std.proofs.Common.{Option}
 use Rattle.listing.specs.declared.listing_notes.ListingNote.{ListingNote}
 use Rattle.listing.specs.declared.listing_notes.ListingNotes.{ListingNotes}
-use Rattle.modules.specs.Catalogs.{build_of_listed}
-use Rattle.modules.specs.Lines.{bounds_for, built_in_region, usual_bounds_of}
-use Rattle.modules.specs.Listed.{BoundNames}
 use Rattle.listing.proofs.ListingNoteLemmas.{bounds_are, copied_none, kernel_named}
 use Rattle.listing.proofs.opening.open.Goals as goal
 

@@ -1,7 +1,4 @@
-use Rattle.std.proofs.Common.{◌≡◌, length}
-use Rattle.texts.specs.Lines.{lines_of}
-use Rattle.listing.specs.ModuleListing.{modules_in}
-use Rattle.listing.specs.Overlaps.{is_listed_name}
+use Rattle.listing.proofs.Words.{◌≡◌, length, lines_of, modules_in, is_listed_name}
 use Rattle.listing.proofs.overlaps.is_listed_name.Given as goal
 
 -- no module before the rest has it

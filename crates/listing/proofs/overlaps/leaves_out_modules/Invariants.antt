@@ -1,8 +1,4 @@
-use Rattle.std.proofs.Common.{◌≡◌, length}
-use Rattle.std.specs.List.{list_any}
-use Rattle.texts.specs.Lines.{lines_of}
-use Rattle.listing.specs.ModuleListing.{modules_in}
-use Rattle.listing.specs.Overlaps.{is_left_out}
+use Rattle.listing.proofs.Words.{◌≡◌, length, list_any, lines_of, modules_in, is_left_out}
 use Rattle.listing.proofs.overlaps.leaves_out_modules.Given as goal
 
 -- no module before the rest is left out

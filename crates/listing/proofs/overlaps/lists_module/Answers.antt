@@ -1,6 +1,4 @@
-use Rattle.std.proofs.Common.{◌≡◌, ◌+◌, ap, arith, suc, sym, ◌∙◌, refl}
-use Rattle.modules.specs.Catalogs.{module_of}
-use Rattle.listing.specs.Overlaps.{has_name}
+use Rattle.listing.proofs.Words.{◌≡◌, ◌+◌, ap, arith, suc, sym, ◌∙◌, refl, module_of, has_name}
 use Rattle.listing.proofs.ListingNoteLemmas.{none_more, some_at}
 use Rattle.listing.proofs.overlaps.lists_module.Goals as goal
 

@@ -1,6 +1,4 @@
-use Rattle.std.proofs.Common.{◌≡◌, Some, false, take}
-use Rattle.std.specs.List.{list_any}
-use Rattle.listing.specs.Overlaps.{has_name}
+use Rattle.listing.proofs.Words.{◌≡◌, Some, false, take, list_any, has_name}
 use Rattle.listing.proofs.overlaps.lists_module.Given as goal
 
 -- none of the modules gone through has it

@@ -1,9 +1,4 @@
-use Rattle.std.proofs.Common.{◌≡◌, length}
-use Rattle.std.specs.List.{list_any}
-use Rattle.texts.specs.Lines.{lines_of}
-use Rattle.listing.specs.ModuleListing.{modules_in}
-use Rattle.listing.specs.Overlaps.{names_left_out}
-use Rattle.listing.specs.SymbolListing.{symbols_in}
+use Rattle.listing.proofs.Words.{◌≡◌, length, list_any, lines_of, modules_in, names_left_out, symbols_in}
 use Rattle.listing.proofs.overlaps.name_left_out.Given as goal
 
 -- no symbol before the rest names one

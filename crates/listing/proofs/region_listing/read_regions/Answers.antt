@@ -1,4 +1,4 @@
-use Rattle.texts.specs.Lines.{lines_of}
+use Rattle.listing.proofs.Words.{lines_of}
 use Rattle.listing.proofs.RegionLineLemmas.{regions_fit_given}
 use Rattle.listing.proofs.region_listing.read_regions.Goals as goal
 

@@ -1,5 +1,5 @@
-use Rattle.std.proofs.Common.{◌≤◌, arith, length, map, rules, sym, tests}
-use Rattle.std.proofs.lemmas.List.{length-map}
+use Rattle.listing.proofs.Words.{◌≤◌, arith, length, rules, sym, tests, length-map}
+use Rattle.std.proofs.Common.{map}
 use Rattle.listing.proofs.RegionLineLemmas.{region_short, regions_too_long}
 use Rattle.listing.proofs.region_listing.region_in_words.Goals.{in_default-via-then-words-lt4, in_default-via-else-words-lt4+else-words-lt5}
 use Rattle.listing.proofs.region_listing.region_in_words.Goals as goal

@@ -1,6 +1,4 @@
-use Rattle.std.proofs.Common.{◌≡◌, ℕ, ◌<◌, List, Some, length, get_or, take, sym, ap, ◌∙◌, arith}
-use Rattle.std.proofs.lemmas.List.{take_rest}
-use Rattle.texts.specs.Numbers.{numeral}
+use Rattle.listing.proofs.Words.{◌≡◌, ℕ, ◌<◌, List, Some, length, get_or, take, sym, ap, ◌∙◌, arith, take_rest, numeral}
 use Rattle.listing.proofs.SymbolLineLemmas.{usual_address}
 use Rattle.listing.proofs.symbol_listing.cut_address.Goals as goal
 

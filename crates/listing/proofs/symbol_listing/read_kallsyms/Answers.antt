@@ -1,5 +1,4 @@
-use Rattle.std.proofs.Common.{◌∙◌, [], ◌++◌, ◌∷◌, ap, refl, sym, subst, arith, length-append}
-use Rattle.listing.specs.SymbolListing.{symbol_causes, symbol_place, symbol_of, symbols_with}
+use Rattle.listing.proofs.Words.{◌∙◌, [], ◌++◌, ◌∷◌, ap, refl, sym, subst, arith, length-append, symbol_causes, symbol_place, symbol_of, symbols_with}
 use Rattle.listing.proofs.SkippingLemmas.{IsReadTo, counts_low, one_skipped, one_taken, taken_low}
 use Rattle.listing.proofs.SymbolLineLemmas.{with_joined}
 use Rattle.listing.proofs.symbol_listing.read_kallsyms.Goals as goal

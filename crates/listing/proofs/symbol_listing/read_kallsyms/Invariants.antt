@@ -1,6 +1,4 @@
-use Rattle.std.proofs.Common.{◌≡◌, List, length}
-use Rattle.modules.specs.Listed.{ListedSymbol}
-use Rattle.listing.specs.SymbolListing.{symbol_causes, symbol_place, symbol_of, symbols_with}
+use Rattle.listing.proofs.Words.{◌≡◌, List, length, ListedSymbol, symbol_causes, symbol_place, symbol_of, symbols_with}
 use Rattle.listing.proofs.SkippingLemmas.{IsReadTo}
 use Rattle.listing.proofs.symbol_listing.read_kallsyms.Given as goal
 

@@ -1,8 +1,5 @@
-use Rattle.std.proofs.Common.{◌≡◌, ◌+◌, ℕ, List, Some, Option, take, drop, sym, ap, subst, ◌∙◌}
-use Rattle.std.specs.Option.{option_and_then}
-use Rattle.std.proofs.lemmas.List.{take_rest}
-use Rattle.memchr.specs.Find.{IsFirstByte, is_byte}
-use Rattle.listing.specs.SymbolListing.{bracketed, cut_at, symbol_before, symbol_of_text}
+use Rattle.listing.proofs.Words.{◌≡◌, ◌+◌, ℕ, List, Some, take, drop, sym, ap, subst, ◌∙◌, option_and_then, take_rest, IsFirstByte, is_byte, bracketed, cut_at, symbol_before, symbol_of_text}
+use Rattle.std.proofs.Common.{Option}
 use Rattle.listing.proofs.SymbolLineLemmas.{cut_here, cut_nowhere}
 use Rattle.listing.proofs.symbol_listing.symbol_in_form.Goals as goal
 

@@ -1,6 +1,5 @@
-use Rattle.std.proofs.Common.{flat_map, take}
+use Rattle.listing.proofs.Words.{flat_map, take, row_text}
 use Rattle.texts.specs.Output.{Says}
-use Rattle.listing.specs.Tallies.{row_text}
 use Rattle.listing.proofs.tallies.put_rows.Given as goal
 
 -- the rows so far were written

@@ -1,10 +1,6 @@
-use Rattle.std.proofs.Common.{[], ℕ, take, subst, arith, refl}
-use Rattle.std.specs.Io.KnownBytes.{Consumes}
-use Rattle.std.proofs.lemmas.List.{length-take}
-use Rattle.texts.specs.Counted.{device_of}
+use Rattle.logs.proofs.Words.{[], ℕ, take, subst, arith, refl, Consumes, length-take, device_of, Annotates, Ends, Passes}
 use Rattle.logs.proofs.AnnotationLemmas.{begun, cut_off, ended, not_more, not_put, not_read, one_more, stopped, too_long}
 use Rattle.logs.proofs.PutLemmas.{told}
-use Rattle.logs.specs.Annotation.{Annotates, Ends, Passes}
 use Rattle.logs.proofs.LineLemmas.{passes_nothing}
 use Rattle.logs.specs.declared.annotation.LogFault.TheVariants as fault
 use Rattle.logs.proofs.annotation.annotate.Goals as goal

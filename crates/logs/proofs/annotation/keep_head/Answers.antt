@@ -1,5 +1,5 @@
-use Rattle.std.proofs.Common.{◌∙◌, ◌++◌, ◌-◌, ℕ, List, ap, take}
-use Rattle.std.proofs.lemmas.List.{take_min}
+use Rattle.logs.proofs.Words.{◌∙◌, ◌++◌, ℕ, List, ap, take, take_min}
+use Rattle.std.proofs.Common.{◌-◌}
 use Rattle.logs.proofs.AnnotationLemmas.{head_more}
 use Rattle.logs.proofs.annotation.keep_head.Goals as goal
 

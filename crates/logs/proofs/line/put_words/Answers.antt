@@ -1,11 +1,4 @@
-use Rattle.std.proofs.Common.{◌∙◌, ◌++◌, ◌∷◌, ◌||◌, [], ℕ, List, Bool, ap, subst, sym}
-use Rattle.std.proofs.Math.Bool.{or-false}
-use Rattle.std.proofs.lemmas.List.{take_rest}
-use Rattle.std.specs.List.{list_any}
-use Rattle.logs.specs.AnnotatedLogs.{counted, woven}
-use Rattle.logs.specs.Progress.{SameAddresses}
-use Rattle.logs.specs.Words.{words_behind}
-use Rattle.logs.specs.declared.taken.Taken.{Taken}
+use Rattle.logs.proofs.Words.{◌∙◌, ◌++◌, ◌∷◌, ◌||◌, [], ℕ, List, Bool, ap, subst, sym, or-false, take_rest, list_any, counted, woven, SameAddresses, words_behind, Taken}
 use Rattle.logs.proofs.line.put_words.Goals as goal
 
 pub loop-word-preserved : goal.loop-word-preserved

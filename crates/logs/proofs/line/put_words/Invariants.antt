@@ -1,9 +1,5 @@
-use Rattle.std.proofs.Common.{◌≡◌, ◌≤◌, ◌-◌, ◌++◌, length}
-use Rattle.std.specs.List.{list_any}
-use Rattle.logs.specs.AnnotatedLogs.{counted, woven}
-use Rattle.logs.specs.Progress.{framed, owed, tallied}
-use Rattle.logs.specs.TakenWords.{taken_in}
-use Rattle.logs.specs.Words.{words_behind}
+use Rattle.logs.proofs.Words.{◌≡◌, ◌≤◌, ◌++◌, length, list_any, counted, woven, framed, owed, tallied, taken_in, words_behind}
+use Rattle.std.proofs.Common.{◌-◌}
 use Rattle.logs.proofs.line.put_words.Given as goal
 
 -- what is put, and what is still owed, is the line with what is inserted

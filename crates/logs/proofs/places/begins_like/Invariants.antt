@@ -1,5 +1,4 @@
-use Rattle.std.proofs.Common.{◌≡◌, length}
-use Rattle.logs.specs.Places.{begins_like}
+use Rattle.logs.proofs.Words.{◌≡◌, length, begins_like}
 use Rattle.logs.proofs.places.begins_like.Given as goal
 
 abbrev pub invariant-loop-signs : goal.invariant-loop-signs

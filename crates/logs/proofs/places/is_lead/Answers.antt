@@ -1,6 +1,4 @@
-use Rattle.std.proofs.Common.{◌∙◌, ap, arith, sym}
-use Rattle.std.proofs.lemmas.List.{take_rest}
-use Rattle.logs.specs.Places.{is_lead}
+use Rattle.logs.proofs.Words.{◌∙◌, ap, arith, sym, take_rest, is_lead}
 use Rattle.logs.proofs.PlaceLemmas.{lead_step}
 use Rattle.logs.proofs.places.is_lead.Goals as goal
 

@@ -1,5 +1,4 @@
-use Rattle.std.proofs.Common.{◌≡◌, length}
-use Rattle.logs.specs.Places.{is_lead}
+use Rattle.logs.proofs.Words.{◌≡◌, length, is_lead}
 use Rattle.logs.proofs.places.is_lead.Given as goal
 
 abbrev pub invariant-loop-rest : goal.invariant-loop-rest

@@ -1,6 +1,4 @@
-use Rattle.std.proofs.Common.{◌∙◌, ap, arith, sym, take}
-use Rattle.std.proofs.lemmas.List.{take_rest}
-use Rattle.logs.specs.Places.{ends_prefix}
+use Rattle.logs.proofs.Words.{◌∙◌, ap, arith, sym, take, take_rest, ends_prefix}
 use Rattle.logs.proofs.PlaceLemmas.{prefix_here}
 use Rattle.logs.proofs.places.prefix_end.Goals as goal
 

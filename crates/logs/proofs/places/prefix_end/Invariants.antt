@@ -1,5 +1,4 @@
-use Rattle.std.proofs.Common.{◌≡◌, ◌≤◌, length}
-use Rattle.logs.specs.Places.{prefix_up_to}
+use Rattle.logs.proofs.Words.{◌≡◌, ◌≤◌, length, prefix_up_to}
 use Rattle.logs.proofs.places.prefix_end.Given as goal
 
 abbrev pub invariant-loop-end : goal.invariant-loop-end

@@ -1,4 +1,4 @@
-use Rattle.std.proofs.Common.{sym}
+use Rattle.logs.proofs.Words.{sym}
 use Rattle.logs.proofs.TextLemmas.{no_user, nowhere}
 use Rattle.logs.proofs.taken.begins_user.Goals as goal
 

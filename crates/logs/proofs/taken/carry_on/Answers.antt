@@ -1,6 +1,4 @@
-use Rattle.std.proofs.Common.{◌∙◌, ◌||◌, ap, sym}
-use Rattle.std.proofs.Math.Bool.{or-false}
-use Rattle.logs.specs.TakenWords.{is_user_line, next_first}
+use Rattle.logs.proofs.Words.{◌∙◌, ◌||◌, ap, sym, or-false, is_user_line, next_first}
 use Rattle.logs.proofs.TextLemmas.{no_place, no_user, nowhere}
 use Rattle.logs.proofs.taken.carry_on.Goals as goal
 

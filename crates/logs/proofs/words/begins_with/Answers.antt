@@ -1,7 +1,5 @@
-use Rattle.std.proofs.Common.{◌∙◌, ◌&&◌, ap, drop, length, sym}
-use Rattle.std.specs.Prelude.{nat_eq}
-use Rattle.std.specs.List.{starts_with}
-use Rattle.std.proofs.lemmas.List.{take_rest}
+use Rattle.logs.proofs.Words.{◌∙◌, ◌&&◌, ap, length, sym, nat_eq, starts_with, take_rest}
+use Rattle.std.proofs.Common.{drop}
 use Rattle.logs.proofs.TextLemmas.{starts_with_both}
 use Rattle.logs.proofs.words.begins_with.Goals as goal
 

@@ -1,6 +1,5 @@
-use Rattle.std.proofs.Common.{◌≡◌, ◌≤◌, ◌<◌, ◌-◌, true}
-use Rattle.std.specs.Prelude.{slice_index_or}
-use Rattle.logs.specs.Progress.{is_address_byte}
+use Rattle.logs.proofs.Words.{◌≡◌, ◌≤◌, ◌<◌, true, slice_index_or, is_address_byte}
+use Rattle.std.proofs.Common.{◌-◌}
 use Rattle.logs.proofs.words.last_other.Given as goal
 
 abbrev pub invariant-loop-place : goal.invariant-loop-place

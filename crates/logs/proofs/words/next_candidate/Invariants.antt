@@ -1,6 +1,5 @@
-use Rattle.std.proofs.Common.{◌≤◌, ◌-◌, drop, length}
-use Rattle.logs.specs.Progress.{SameAddresses, is_begun}
-use Rattle.logs.specs.Words.{words_behind, words_from}
+use Rattle.logs.proofs.Words.{◌≤◌, length, SameAddresses, is_begun, words_behind, words_from}
+use Rattle.std.proofs.Common.{◌-◌, drop}
 use Rattle.logs.proofs.words.next_candidate.Given as goal
 
 abbrev pub invariant-loop-start : goal.invariant-loop-start

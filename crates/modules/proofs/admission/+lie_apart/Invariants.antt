@@ -1,4 +1,4 @@
-use Rattle.std.proofs.Common.{length}
+use Rattle.modules.proofs.Words.{length}
 use Rattle.modules.proofs.admission.+lie_apart.Given as goal
 
 abbrev pub decreases-lie_apart : goal.decreases-lie_apart

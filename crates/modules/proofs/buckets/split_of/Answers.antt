@@ -1,5 +1,4 @@
-use Rattle.std.proofs.Common.{nat_le, rules}
-use Rattle.std.proofs.lemmas.List.Sorted.{IsPartitionPoint-from_clause, IsPartitionedBy-leb}
+use Rattle.modules.proofs.Words.{nat_le, rules, IsPartitionPoint-from_clause, IsPartitionedBy-leb}
 use Rattle.modules.proofs.IndexLemmas.{IsSplitBy-from_partition}
 use Rattle.modules.proofs.buckets.split_of.Goals as goal
 

@@ -1,5 +1,5 @@
-use Rattle.modules.proofs.Words.{◌≡◌, ℕ, suc, [], ◌∷◌, ◌++◌, length, sym, subst, ◌∙◌, arith, length-append, append_assoc, into_iter_items, common_steps, nat_tests}
-use Rattle.std.proofs.lemmas.List.{append-nil, nil_from_length}
+use Rattle.modules.proofs.Words.{◌≡◌, ℕ, suc, [], ◌∷◌, ◌++◌, length, sym, subst, ◌∙◌, arith, length-append, append_assoc, into_iter_items, common_steps, nat_tests, nil_from_length}
+use Rattle.std.proofs.lemmas.List.{append-nil}
 use Rattle.modules.proofs.Definitions.{IsPlaced}
 use Rattle.modules.proofs.MakingLemmas.{EachMade-push, drop_next}
 use Rattle.modules.proofs.build.modules_from.Goals as goal

@@ -1,5 +1,4 @@
-use Rattle.modules.proofs.Words.{rules, is_le, is_lt}
-use Rattle.std.proofs.lemmas.List.Sorted.{IsPartitionPoint-from_clause}
+use Rattle.modules.proofs.Words.{rules, is_le, is_lt, IsPartitionPoint-from_clause}
 use Rattle.modules.proofs.ByNameLemmas.{IsCut-from_partition, between, cuts_in_order, lesser_first, order_to, up_to_first}
 use Rattle.modules.proofs.by_name.all_named.Goals as goal
 

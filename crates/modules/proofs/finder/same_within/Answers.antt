@@ -1,4 +1,4 @@
-use Rattle.std.proofs.Common.{◌≡◌, ℕ, Some, ap, sym, ◌∙◌, arith}
+use Rattle.modules.proofs.Words.{◌≡◌, ℕ, Some, ap, sym, ◌∙◌, arith}
 use Rattle.modules.proofs.Definitions.{SymbolEntry, Found, symbol_at}
 use Rattle.modules.proofs.AgainLemmas.{symbol_again}
 use Rattle.modules.proofs.NearestLemmas.{found}

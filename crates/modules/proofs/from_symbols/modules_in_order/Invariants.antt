@@ -1,5 +1,4 @@
-use Rattle.std.proofs.Common.{◌≡◌, ◌+◌, take, length}
-use Rattle.modules.specs.LineMarks.{AreLeft, kept_numbers, modules_numbered}
+use Rattle.modules.proofs.Words.{◌≡◌, ◌+◌, take, length, AreLeft, kept_numbers, modules_numbered}
 use Rattle.modules.proofs.from_symbols.modules_in_order.Given as goal
 
 abbrev pub invariant-loop-mark : goal.invariant-loop-mark

@@ -1,5 +1,4 @@
-use Rattle.std.proofs.Common.{[], take}
-use Rattle.modules.specs.LineMarks.{AreLeft}
+use Rattle.modules.proofs.Words.{[], take, AreLeft}
 use Rattle.modules.proofs.from_symbols.regions_by_number.Given as goal
 
 abbrev pub invariant-loop-item : goal.invariant-loop-item

@@ -1,5 +1,5 @@
-use Rattle.modules.proofs.Words.{append_assoc, arith, common_steps}
-use Rattle.std.proofs.lemmas.List.{append-nil, nil_from_length}
+use Rattle.modules.proofs.Words.{append_assoc, arith, common_steps, nil_from_length}
+use Rattle.std.proofs.lemmas.List.{append-nil}
 use Rattle.modules.proofs.GatheringLemmas.{Gathers-run}
 use Rattle.modules.proofs.RunLemmas.{lines_of_all-last}
 use Rattle.modules.proofs.gathering.gather_runs.Goals as goal

@@ -1,4 +1,4 @@
-use Rattle.std.proofs.Common.{rules}
+use Rattle.modules.proofs.Words.{rules}
 use Rattle.std.proofs.lemmas.Fn.{filter_same}
 use Rattle.modules.proofs.Definitions.{SymbolEntry, lies_for}
 use Rattle.modules.proofs.gathering.without_strays.Goals as goal

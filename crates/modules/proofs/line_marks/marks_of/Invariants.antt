@@ -1,4 +1,4 @@
-use Rattle.std.proofs.Common.{◌≡◌, take}
+use Rattle.modules.proofs.Words.{◌≡◌, take}
 use Rattle.modules.proofs.Definitions.{marks_of, lines_of_all}
 use Rattle.modules.proofs.line_marks.marks_of.Given as goal
 

@@ -1,5 +1,4 @@
-use Rattle.std.proofs.Common.{◌≡◌, ◌++◌, take}
-use Rattle.modules.specs.LineMarks.{symbol_marks}
+use Rattle.modules.proofs.Words.{◌≡◌, ◌++◌, take, symbol_marks}
 use Rattle.modules.proofs.line_marks.push_marks.Given as goal
 
 abbrev pub invariant-loop-symbol : goal.invariant-loop-symbol

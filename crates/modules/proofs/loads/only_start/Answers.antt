@@ -1,5 +1,4 @@
-use Rattle.modules.proofs.Words.{ℕ, List, take, sym, ◌∙◌, arith, length-append, common_steps}
-use Rattle.std.proofs.lemmas.List.{get_or_default}
+use Rattle.modules.proofs.Words.{ℕ, List, take, sym, ◌∙◌, arith, length-append, common_steps, get_or_default}
 use Rattle.modules.proofs.Definitions.{starts_of, Core}
 use Rattle.modules.proofs.LoadLemmas.{other_more, wanted_more}
 use Rattle.modules.proofs.loads.only_start.Goals as goal

@@ -1,5 +1,4 @@
-use Rattle.std.proofs.Common.{◌≡◌, ◌≤◌, [], ◌∷◌, length, take}
-use Rattle.modules.specs.Starts.{starts_of}
+use Rattle.modules.proofs.Words.{◌≡◌, ◌≤◌, [], ◌∷◌, length, take, starts_of}
 use Rattle.modules.proofs.loads.only_start.Given as goal
 
 abbrev pub invariant-loop-place : goal.invariant-loop-place

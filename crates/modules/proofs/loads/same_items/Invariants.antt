@@ -1,5 +1,4 @@
-use Rattle.std.proofs.Common.{◌≡◌, drop}
-use Rattle.modules.specs.Loads.{same_items}
+use Rattle.modules.proofs.Words.{◌≡◌, drop, same_items}
 use Rattle.modules.proofs.loads.same_items.Given as goal
 
 abbrev pub invariant-loop-place : goal.invariant-loop-place

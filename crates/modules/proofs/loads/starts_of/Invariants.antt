@@ -1,5 +1,4 @@
-use Rattle.std.proofs.Common.{◌≡◌, take}
-use Rattle.modules.specs.Starts.{starts_of}
+use Rattle.modules.proofs.Words.{◌≡◌, take, starts_of}
 use Rattle.modules.proofs.loads.starts_of.Given as goal
 
 abbrev pub invariant-loop-place : goal.invariant-loop-place

@@ -1,6 +1,4 @@
-use Rattle.modules.proofs.Words.{◌≡◌, ◌≤◌, List, [], ◌∷◌, ◌++◌, subst, sym, ap, ◌∙◌, refl, Contains}
-use Rattle.std.proofs.lemmas.List.Elements.{All-contains, Contains-push}
-use Rattle.order_laws.specs.declared.items.Item.{Item}
+use Rattle.modules.proofs.Words.{◌≡◌, ◌≤◌, List, [], ◌∷◌, ◌++◌, subst, sym, ap, ◌∙◌, refl, Contains, All-contains, Contains-push, Item}
 use Rattle.modules.proofs.SweepLemmas.{laid_put, laid_merged, last_valid, holds_merged}
 use Rattle.modules.proofs.marks.put.Goals as goal
 use Rattle.modules.proofs.marks.put.Goals.{then-last-piece+else-last-piece-2, else-last-piece}

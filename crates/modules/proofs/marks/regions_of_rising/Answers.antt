@@ -1,5 +1,4 @@
-use Rattle.std.proofs.Common.{◌≡◌, ◌-◌, ◌^◌, ◌<◌, ◌≤◌, length, get_or, arith, rules}
-use Rattle.std.proofs.lemmas.List.{get_or_default}
+use Rattle.modules.proofs.Words.{◌≡◌, ◌-◌, ◌^◌, ◌<◌, ◌≤◌, length, get_or, arith, rules, get_or_default}
 use Rattle.modules.specs.declared.marks.Mark.{Mark}
 use Rattle.modules.proofs.SweepLemmas.{exact_with, exact_none, from_first, from_next, from_same, is_above, reached_before, reached_last}
 use Rattle.modules.proofs.marks.regions_of_rising.Goals as goal

@@ -1,4 +1,4 @@
-use Rattle.std.proofs.Common.{◌≡◌}
+use Rattle.modules.proofs.Words.{◌≡◌}
 use Rattle.modules.specs.Items.{items_below}
 use Rattle.modules.proofs.region_index.items_of.Given as goal
 

@@ -1,5 +1,4 @@
-use Rattle.std.proofs.Common.{◌≡◌, ◌++◌, map, take}
-use Rattle.modules.specs.Loads.{item_of}
+use Rattle.modules.proofs.Words.{◌≡◌, ◌++◌, map, take, item_of}
 use Rattle.modules.proofs.region_index.push_regions.Given as goal
 
 abbrev pub invariant-loop-region : goal.invariant-loop-region

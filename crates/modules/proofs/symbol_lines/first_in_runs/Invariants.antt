@@ -1,4 +1,4 @@
-use Rattle.std.proofs.Common.{◌≡◌, take, None}
+use Rattle.modules.proofs.Words.{◌≡◌, take, None}
 use Rattle.modules.proofs.Definitions.{first_address, lines_of_all}
 use Rattle.modules.proofs.symbol_lines.first_in_runs.Given as goal
 

@@ -1,5 +1,4 @@
-use Rattle.std.proofs.Common.{◌≡◌}
-use Rattle.modules.specs.SymbolNames.{names_below}
+use Rattle.modules.proofs.Words.{◌≡◌, names_below}
 use Rattle.modules.proofs.symbol_names.listed_names.Given as goal
 
 abbrev pub invariant-loop-number : goal.invariant-loop-number

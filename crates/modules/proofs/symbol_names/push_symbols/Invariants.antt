@@ -1,5 +1,4 @@
-use Rattle.std.proofs.Common.{◌≡◌, ◌++◌, take}
-use Rattle.modules.specs.SymbolNames.{names_of_symbols}
+use Rattle.modules.proofs.Words.{◌≡◌, ◌++◌, take, names_of_symbols}
 use Rattle.modules.proofs.symbol_names.push_symbols.Given as goal
 
 abbrev pub invariant-loop-place : goal.invariant-loop-place

@@ -1,4 +1,4 @@
-use Rattle.std.proofs.Common.{◌<◌, length, rules}
+use Rattle.modules.proofs.Words.{◌<◌, length, rules}
 use Rattle.modules.proofs.Lemmas.{YieldsList-from_slice, serves_from_places, YieldsList-at}
 use Rattle.modules.proofs.OrderedLemmas.{entry_within}
 use Rattle.modules.proofs.symbols.in_order_of.Goals as goal

@@ -1,6 +1,5 @@
-use Rattle.modules.proofs.Words.{◌≡◌, nat_le, rules, sym, subst, IsAllAdjacentAnswer}
+use Rattle.modules.proofs.Words.{◌≡◌, nat_le, rules, sym, subst, IsAllAdjacentAnswer, SymbolEntry}
 use Rattle.modules.proofs.Lemmas.{IsNonDecreasingBy-from_all_adjacent, always_returns_same, leb-true}
-use Rattle.modules.specs.Entries.{SymbolEntry}
 use Rattle.modules.proofs.symbols.is_rising.Goals as goal
 
 pub returns : goal.returns

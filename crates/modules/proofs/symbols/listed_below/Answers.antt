@@ -1,6 +1,4 @@
-use Rattle.std.proofs.Common.{nat_lt, rules}
-use Rattle.std.proofs.lemmas.List.Sorted.{IsPartitionPoint-from_clause, IsPartitionedBy-ltb}
-use Rattle.modules.specs.Entries.{SymbolEntry}
+use Rattle.modules.proofs.Words.{nat_lt, rules, IsPartitionPoint-from_clause, IsPartitionedBy-ltb, SymbolEntry}
 use Rattle.modules.proofs.RisingLemmas.{IsFirstOf-from_partition}
 use Rattle.modules.proofs.symbols.listed_below.Goals as goal
 

@@ -1,5 +1,4 @@
-use Rattle.std.proofs.Common.{◌≡◌, drop}
-use Rattle.order_laws.specs.Tables.{look}
+use Rattle.order_laws.proofs.Words.{◌≡◌, drop, look}
 use Rattle.order_laws.proofs.laws.look_through.Given as goal
 
 abbrev pub invariant-loop-item : goal.invariant-loop-item

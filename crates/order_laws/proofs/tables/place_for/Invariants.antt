@@ -1,5 +1,4 @@
-use Rattle.std.proofs.Common.{◌≡◌, ◌+◌, drop}
-use Rattle.order_laws.specs.Tables.{place_for}
+use Rattle.order_laws.proofs.Words.{◌≡◌, ◌+◌, drop, place_for}
 use Rattle.order_laws.proofs.tables.place_for.Given as goal
 
 abbrev pub invariant-loop-place : goal.invariant-loop-place

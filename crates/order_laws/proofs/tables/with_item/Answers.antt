@@ -1,5 +1,4 @@
-use Rattle.std.proofs.Common.{◌∙◌, sym, ap, arith}
-use Rattle.std.specs.Prelude.{insert}
+use Rattle.order_laws.proofs.Words.{◌∙◌, sym, ap, arith, insert}
 use Rattle.order_laws.proofs.PlaceLemmas.{with_place, place_for_fits}
 use Rattle.order_laws.proofs.tables.with_item.Goals as goal
 

@@ -1,8 +1,5 @@
 -- Each goal of the loop is one of the facts of EraseSteps at the values of the step.
-use Rattle.std.proofs.Common.{◌≡◌, ◌<◌, refl, sym, ◌∙◌, ap, subst, arith, length, length-append}
-use Rattle.word_layout.specs.Copies.{copy_number}
-use Rattle.rb_cursor.specs.Closing.{closed_to}
-use Rattle.rb_cursor.specs.Changes.{most_on_climb}
+use Rattle.rb_cursor.proofs.Words.{◌≡◌, ◌<◌, refl, sym, ◌∙◌, ap, subst, arith, length, length-append, copy_number, closed_to, most_on_climb}
 use Rattle.rb_cursor.proofs.StepLemmas.{shorter, closed_room}
 use Rattle.rb_cursor.proofs.EraseSteps.{EraseEnds, erase_begins, erase_filled, fill_fits, relink_fits, there_is, erase_stays, erase_arrived}
 use Rattle.rb_cursor.proofs.erases.climb.Goals as goal

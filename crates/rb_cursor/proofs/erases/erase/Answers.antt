@@ -1,13 +1,6 @@
 -- The way up from the node's place is the whole erase: the facts of TakeSteps at the values of the
 -- calls.
-use Rattle.std.proofs.Common.{◌≡◌, ◌++◌, refl, sym, ◌∙◌, ap, subst, arith, length, length-append, append_assoc}
-use Rattle.word_layout.specs.Copies.{copy_number}
-use Rattle.rb_trees.specs.Trees.{shape, depth, IsRedBlack}
-use Rattle.rb_trees.specs.Turns.{link, relink_root}
-use Rattle.rb_trees.specs.Paths.{plugged, place_at}
-use Rattle.rb_trees.proofs.PathLemmas.{plugged_to}
-use Rattle.rb_trees.proofs.TurnLemmas.{root_moved}
-use Rattle.rb_cursor.specs.Tops.{row_of}
+use Rattle.rb_cursor.proofs.Words.{◌≡◌, ◌++◌, refl, sym, ◌∙◌, ap, subst, arith, length, length-append, append_assoc, copy_number, shape, depth, IsRedBlack, link, relink_root, plugged, place_at, plugged_to, root_moved, row_of}
 use Rattle.rb_cursor.proofs.StepLemmas.{all_back}
 use Rattle.rb_cursor.proofs.TakeSteps.{ErasedWhole, found_there, place_few, place_fewer, erased_whole}
 use Rattle.rb_cursor.proofs.erases.erase.Given.{Over}

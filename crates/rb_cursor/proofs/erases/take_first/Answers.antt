@@ -1,8 +1,5 @@
 -- The way up from the first node's place: the facts of TakeSteps at the values of the calls.
-use Rattle.std.proofs.Common.{◌≡◌, sym, ◌∙◌, ap}
-use Rattle.word_layout.specs.Copies.{copy_number}
-use Rattle.rb_cursor.specs.Tops.{row_of}
-use Rattle.rb_cursor.specs.Changes.{TakesFirst}
+use Rattle.rb_cursor.proofs.Words.{◌≡◌, sym, ◌∙◌, ap, copy_number, row_of, TakesFirst}
 use Rattle.rb_cursor.proofs.TakeSteps.{first_some, first_thin, first_few, first_taken}
 use Rattle.rb_cursor.proofs.erases.take_first.Goals as goal
 

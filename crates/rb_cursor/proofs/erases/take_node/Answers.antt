@@ -1,15 +1,6 @@
 -- The next record in the place, and the stores of its links: the facts of TakeSteps at the values of
 -- the calls.
-use Rattle.std.proofs.Common.{◌≡◌, ℕ, false, List, [], ◌∷◌, ◌++◌, sym, ◌∙◌, ap, subst, append-nil, append_assoc}
-use Rattle.word_layout.specs.Copies.{copy_number}
-use Rattle.word_layout.specs.declared.stores.Store.{Store}
-use Rattle.rb_trees.specs.declared.Side.TheVariants.{Left, Right}
-use Rattle.rb_trees.specs.Trees.{ColouredTree, branch, shape}
-use Rattle.rb_trees.specs.Sides.{set_link}
-use Rattle.rb_trees.specs.Turns.{link}
-use Rattle.rb_trees.specs.Erased.{filled, fill_links}
-use Rattle.rb_cursor.specs.Readings.{IsForked}
-use Rattle.rb_cursor.specs.Changes.{TakesTop}
+use Rattle.rb_cursor.proofs.Words.{◌≡◌, ℕ, false, List, [], ◌∷◌, ◌++◌, sym, ◌∙◌, ap, subst, append-nil, append_assoc, copy_number, Store, Left, Right, ColouredTree, branch, shape, set_link, link, filled, fill_links, IsForked, TakesTop}
 use Rattle.rb_cursor.proofs.StepLemmas.{zipper}
 use Rattle.rb_cursor.proofs.TakeSteps.{same_fork, lone_taken, next_placed, next_taken, next_filled_up}
 use Rattle.rb_cursor.proofs.erases.take_node.Goals as goal

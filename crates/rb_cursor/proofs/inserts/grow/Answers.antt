@@ -1,13 +1,5 @@
 -- Each goal of the loop is one of the facts of InsertSteps at the values of the step.
-use Rattle.std.proofs.Common.{◌≡◌, ℕ, ◌-◌, [], ◌∷◌, ◌++◌, refl, sym, ◌∙◌, ap, subst, arith, length, length-append, append_assoc, vec_capacity}
-use Rattle.word_layout.specs.Copies.{copy_number}
-use Rattle.word_layout.specs.declared.stores.Store.{Store}
-use Rattle.rb_trees.specs.declared.Side.TheVariants.{Left}
-use Rattle.rb_trees.specs.Sides.{set_link}
-use Rattle.rb_trees.specs.Trees.{tip, rows, shape, blackened, IsRedBlack}
-use Rattle.rb_trees.specs.Turns.{link, relink_root}
-use Rattle.rb_trees.specs.Linked.{Lead}
-use Rattle.rb_trees.specs.Paths.{plugged}
+use Rattle.rb_cursor.proofs.Words.{◌≡◌, ℕ, ◌-◌, [], ◌∷◌, ◌++◌, refl, sym, ◌∙◌, ap, subst, arith, length, length-append, append_assoc, vec_capacity, copy_number, Store, Left, set_link, tip, rows, shape, blackened, IsRedBlack, link, relink_root, Lead, plugged}
 use Rattle.rb_cursor.proofs.StepLemmas.{shorter}
 use Rattle.rb_cursor.proofs.InsertSteps.{InsertEnds, insert_begins, insert_at_red, insert_at_black, mend_fits, relink_fits, there_is, insert_settled_black, insert_settled_below, insert_topmost}
 use Rattle.rb_cursor.proofs.InsertSteps.{ends_rows, ends_lead, ends_few}

@@ -1,5 +1,4 @@
-use Rattle.std.proofs.Common.{◌≡◌, ◌≤◌, length, vec_capacity}
-use Rattle.word_layout.specs.Copies.{copy_number}
+use Rattle.rb_cursor.proofs.Words.{◌≡◌, ◌≤◌, length, vec_capacity, copy_number}
 use Rattle.rb_cursor.proofs.InsertSteps.{InsertRises}
 use Rattle.rb_cursor.proofs.inserts.grow.Given as goal
 

@@ -1,9 +1,5 @@
 -- The way up from the place of the item: the facts of InsertSteps there.
-use Rattle.std.proofs.Common.{◌≡◌, refl, sym, ◌∙◌, ap, subst, arith}
-use Rattle.word_layout.specs.Copies.{copy_number}
-use Rattle.rb_trees.specs.Trees.{shape, IsRedBlack}
-use Rattle.rb_trees.specs.Turns.{link}
-use Rattle.rb_cursor.specs.Changes.{AddsLinks}
+use Rattle.rb_cursor.proofs.Words.{◌≡◌, refl, sym, ◌∙◌, ap, subst, arith, copy_number, shape, IsRedBlack, link, AddsLinks}
 use Rattle.rb_cursor.proofs.InsertSteps.{insert_whole, insert_few, insert_puts}
 use Rattle.rb_cursor.proofs.StepLemmas.{all_back}
 use Rattle.rb_cursor.proofs.inserts.insert_apart.Goals as goal

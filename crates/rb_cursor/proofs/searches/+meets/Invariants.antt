@@ -1,6 +1,4 @@
-use Rattle.std.proofs.Common.{◌≡◌, ◌≤◌}
-use Rattle.rb_trees.specs.Found.{meets_on_the_way}
-use Rattle.rb_cursor.specs.Opening.{weight}
+use Rattle.rb_cursor.proofs.Words.{◌≡◌, ◌≤◌, meets_on_the_way, weight}
 use Rattle.rb_cursor.proofs.searches.+meets.Given as goal
 
 abbrev pub decreases-meets : goal.decreases-meets

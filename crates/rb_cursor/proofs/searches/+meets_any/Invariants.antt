@@ -1,4 +1,4 @@
-use Rattle.rb_cursor.specs.Opening.{weight}
+use Rattle.rb_cursor.proofs.Words.{weight}
 use Rattle.rb_cursor.proofs.searches.+meets_any.Given as goal
 
 abbrev pub decreases-meets_any : goal.decreases-meets_any

@@ -1,4 +1,4 @@
-use Rattle.rb_cursor.specs.Opening.{weight}
+use Rattle.rb_cursor.proofs.Words.{weight}
 use Rattle.rb_cursor.proofs.searches.+reaches.Given as goal
 
 abbrev pub decreases-reaches : goal.decreases-reaches

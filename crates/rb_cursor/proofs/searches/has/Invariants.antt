@@ -1,6 +1,4 @@
-use Rattle.std.proofs.Common.{◌≡◌}
-use Rattle.rb_trees.specs.Erased.{first_word_at, found}
-use Rattle.rb_cursor.specs.Opening.{weight}
+use Rattle.rb_cursor.proofs.Words.{◌≡◌, first_word_at, found, weight}
 use Rattle.rb_cursor.proofs.searches.has.Given as goal
 
 abbrev pub invariant-loop-fork : goal.invariant-loop-fork

@@ -1,4 +1,4 @@
-use Rattle.std.proofs.Common.{◌∙◌}
+use Rattle.rb_cursor.proofs.Words.{◌∙◌}
 use Rattle.facts.proofs.Tests.{list_any-binary_search}
 use Rattle.rb_cursor.proofs.searches.is_left_out.Goals as goal
 

@@ -1,5 +1,4 @@
-use Rattle.std.proofs.Common.{◌≡◌, ◌+◌, ◌++◌, take, vec_len, vec_capacity}
-use Rattle.rb_words.specs.Mirrors.{mirror_stores}
+use Rattle.rb_words.proofs.Words.{◌≡◌, ◌+◌, ◌++◌, take, vec_len, vec_capacity, mirror_stores}
 use Rattle.rb_words.proofs.mirrors.mirrored.Given as goal
 
 abbrev pub invariant-loop-link : goal.invariant-loop-link

@@ -1,7 +1,4 @@
-use Rattle.std.proofs.Common.{◌∙◌, refl, sym, ap}
-use Rattle.std.specs.Prelude.{is_some}
-use Rattle.rb_trees.specs.Found.{item_with_word}
-use Rattle.rb_trees.proofs.SoughtRows.{word_found, item_found, any_is, found_by_word, found_by_any, any_has}
+use Rattle.rb_words.proofs.Words.{◌∙◌, refl, sym, ap, is_some, item_with_word, word_found, item_found, any_is, found_by_word, found_by_any, any_has}
 use Rattle.rb_words.proofs.shapes.without_word.Goals as goal
 
 pub returns-in_err-row-clause-found : goal.returns-in_err-row-clause-found

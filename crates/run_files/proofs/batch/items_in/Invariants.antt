@@ -1,5 +1,4 @@
-use Rattle.std.proofs.Common.{◌≡◌, ◌++◌, length}
-use Rattle.run_files.specs.Batch.{items_of_numbers}
+use Rattle.run_files.proofs.Words.{◌≡◌, ◌++◌, length, items_of_numbers}
 use Rattle.run_files.proofs.batch.items_in.Given as goal
 
 -- the items so far, and those of the numbers that are left

@@ -1,7 +1,4 @@
-use Rattle.std.proofs.Common.{◌≡◌, ◌++◌, length}
-use Rattle.std.specs.Option.{option_map}
-use Rattle.run_files.specs.Batch.{numbers_of}
-use Rattle.texts.specs.Lines.{words_of}
+use Rattle.run_files.proofs.Words.{◌≡◌, ◌++◌, length, option_map, numbers_of, words_of}
 use Rattle.run_files.proofs.batch.numbers_in.Given as goal
 
 -- the numbers so far, and those that the words that are left may be

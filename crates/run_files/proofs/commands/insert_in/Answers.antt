@@ -1,4 +1,4 @@
-use Rattle.std.proofs.Common.{rules, sym, tests}
+use Rattle.run_files.proofs.Words.{rules, sym, tests}
 use Rattle.run_files.proofs.FormLemmas.{insert_long, insert_short}
 use Rattle.run_files.proofs.commands.insert_in.Goals.{in_default-via-then-arguments-lt3, in_default-via-else-arguments-lt3+else-arguments-lt4}
 use Rattle.run_files.proofs.commands.insert_in.Goals as goal

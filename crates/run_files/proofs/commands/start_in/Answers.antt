@@ -1,4 +1,4 @@
-use Rattle.std.proofs.Common.{rules, sym, tests}
+use Rattle.run_files.proofs.Words.{rules, sym, tests}
 use Rattle.run_files.proofs.FormLemmas.{start_long, start_short}
 use Rattle.run_files.proofs.commands.start_in.Goals.{in_default-via-then-arguments-lt2, in_default-via-else-arguments-lt2+else-arguments-lt3}
 use Rattle.run_files.proofs.commands.start_in.Goals as goal

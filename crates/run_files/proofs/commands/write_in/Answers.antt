@@ -1,4 +1,4 @@
-use Rattle.std.proofs.Common.{rules, sym, tests}
+use Rattle.run_files.proofs.Words.{rules, sym, tests}
 use Rattle.run_files.proofs.FormLemmas.{write_long, write_short}
 use Rattle.run_files.proofs.commands.write_in.Goals.{in_default-via-then-arguments-lt1, in_default-via-else-arguments-lt1+else-arguments-lt2}
 use Rattle.run_files.proofs.commands.write_in.Goals as goal

@@ -1,4 +1,4 @@
-use Rattle.std.proofs.Common.{[], ◌∙◌}
+use Rattle.run_files.proofs.Words.{[], ◌∙◌}
 use Rattle.run_files.proofs.FormLemmas.{header_five}
 use Rattle.run_files.proofs.header.header_in_words.Goals as goal
 

@@ -1,6 +1,4 @@
-use Rattle.texts.specs.Lines.{lines_of}
-use Rattle.run_files.specs.Scripts.{script_line_by}
-use Rattle.texts.proofs.UnderstoodLemmas.{are_entries}
+use Rattle.run_files.proofs.Words.{lines_of, script_line_by, are_entries}
 use Rattle.run_files.proofs.laws.script_by_its_lines.Goals as goal
 
 pub returns : goal.returns

@@ -1,4 +1,4 @@
-use Rattle.std.proofs.Common.{rules, sym, tests}
+use Rattle.run_files.proofs.Words.{rules, sym, tests}
 use Rattle.run_files.proofs.ScriptLineLemmas.{line_long, line_short}
 use Rattle.run_files.proofs.scripts.line_in_words.Goals.{in_default-via-then-words-lt3, in_default-via-else-words-lt3+else-words-lt4}
 use Rattle.run_files.proofs.scripts.line_in_words.Goals as goal

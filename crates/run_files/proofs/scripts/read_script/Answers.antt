@@ -1,4 +1,4 @@
-use Rattle.texts.specs.Lines.{lines_of}
+use Rattle.run_files.proofs.Words.{lines_of}
 use Rattle.run_files.proofs.ScriptLineLemmas.{actors_are_given}
 use Rattle.run_files.proofs.scripts.read_script.Goals as goal
 

@@ -1,7 +1,4 @@
-use Rattle.std.proofs.Common.{◌≡◌, subst}
-use Rattle.std.specs.Prelude.{IfOk, count_by}
-use Rattle.shared_lookup.specs.Checks.{is_wrong_answer}
-use Rattle.shared_lookup.specs.Servings.{entries}
+use Rattle.shared_lookup.proofs.Words.{◌≡◌, subst, IfOk, count_by, is_wrong_answer, entries}
 use Rattle.shared_lookup.proofs.checks.replayed.Goals as goal
 
 pub returns : goal.returns

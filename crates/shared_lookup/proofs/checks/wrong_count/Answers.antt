@@ -1,8 +1,4 @@
-use Rattle.std.proofs.Common.{◌≡◌, length, arith, subst, sym}
-use Rattle.std.specs.Prelude.{zip}
-use Rattle.std.specs.List.{range_with_len}
-use Rattle.shared_lookup.specs.Counts.{Counts, CountsUpTo}
-use Rattle.shared_lookup.specs.Servings.{IsWrongAnswer, IsWrongChange, IsWrongEntry, entries}
+use Rattle.shared_lookup.proofs.Words.{◌≡◌, length, arith, subst, sym, zip, range_with_len, Counts, CountsUpTo, IsWrongAnswer, IsWrongChange, IsWrongEntry, entries}
 use Rattle.shared_lookup.proofs.CheckLemmas.{counted_or_none}
 use Rattle.shared_lookup.proofs.checks.wrong_count.Goals as goal
 

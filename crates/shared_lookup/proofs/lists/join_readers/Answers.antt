@@ -1,6 +1,4 @@
-use Rattle.std.proofs.Common.{◌++◌, ◌∷◌, [], length, take, sym, subst, arith}
-use Rattle.std.specs.Vec.Iter.{into_iter_items}
-use Rattle.shared_lookup.specs.Threads.{AreHeard, AreReading}
+use Rattle.shared_lookup.proofs.Words.{◌++◌, ◌∷◌, [], length, take, sym, subst, arith, into_iter_items, AreHeard, AreReading}
 use Rattle.shared_lookup.proofs.ThreadLemmas.{heard_more, next_yielded, one_yielded, room_left}
 use Rattle.shared_lookup.proofs.lists.join_readers.Goals as goal
 

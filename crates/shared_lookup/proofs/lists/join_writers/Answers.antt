@@ -1,6 +1,4 @@
-use Rattle.std.proofs.Common.{◌++◌, ◌∷◌, [], length, take, sym, subst, arith}
-use Rattle.std.specs.Vec.Iter.{into_iter_items}
-use Rattle.shared_lookup.specs.Threads.{AreAllMade, AreChanging}
+use Rattle.shared_lookup.proofs.Words.{◌++◌, ◌∷◌, [], length, take, sym, subst, arith, into_iter_items, AreAllMade, AreChanging}
 use Rattle.shared_lookup.proofs.ThreadLemmas.{made_more, next_yielded, one_yielded, room_left}
 use Rattle.shared_lookup.proofs.lists.join_writers.Goals as goal
 

@@ -1,8 +1,4 @@
-use Rattle.std.proofs.Common.{◌≡◌, ◌∙◌, ◌+◌, length, take, Some, sym, subst, arith}
-use Rattle.std.proofs.lemmas.List.{length-take-le}
-use Rattle.std.proofs.lemmas.List.Elements.{All-pop}
-use Rattle.shared_lookup.specs.Readers.{IsNewReaderOf}
-use Rattle.shared_lookup.specs.Threads.{AreReading}
+use Rattle.shared_lookup.proofs.Words.{◌≡◌, ◌∙◌, ◌+◌, length, take, Some, sym, subst, arith, length-take-le, All-pop, IsNewReaderOf, AreReading}
 use Rattle.shared_lookup.proofs.PairedLemmas.{pair_taken}
 use Rattle.shared_lookup.proofs.lists.start_readers.Goals as goal
 

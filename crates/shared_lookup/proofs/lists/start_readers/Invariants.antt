@@ -1,7 +1,5 @@
-use Rattle.std.proofs.Common.{◌≡◌, ◌≤◌, ◌+◌, length, take}
-use Rattle.std.specs.Prelude.{All, vec_capacity, vec_len}
-use Rattle.shared_lookup.specs.Readers.{IsNewReaderOf}
-use Rattle.shared_lookup.specs.Threads.{AreReading}
+use Rattle.shared_lookup.proofs.Words.{◌≡◌, ◌+◌, length, take, All, vec_capacity, vec_len, IsNewReaderOf, AreReading}
+use Rattle.std.proofs.Common.{◌≤◌}
 use Rattle.shared_lookup.proofs.lists.start_readers.Given as goal
 
 abbrev pub invariant-loop-list : goal.invariant-loop-list

@@ -1,8 +1,4 @@
-use Rattle.std.proofs.Common.{◌≡◌, Some, ◌++◌, ◌∷◌, [], length, take, sym, subst, arith}
-use Rattle.std.proofs.lemmas.List.Elements.{All-pop}
-use Rattle.latch_table.specs.Readers.{ReaderState}
-use Rattle.std.specs.Vec.Iter.{into_iter_items}
-use Rattle.shared_lookup.specs.Threads.{AreChanging, HaveRoom}
+use Rattle.shared_lookup.proofs.Words.{◌≡◌, Some, ◌++◌, ◌∷◌, [], length, take, sym, subst, arith, All-pop, ReaderState, into_iter_items, AreChanging, HaveRoom}
 use Rattle.shared_lookup.proofs.ThreadLemmas.{changing_more, next_yielded, one_yielded, room_left}
 use Rattle.shared_lookup.proofs.lists.start_writers.Goals as goal
 

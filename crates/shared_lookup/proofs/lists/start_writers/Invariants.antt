@@ -1,7 +1,5 @@
-use Rattle.std.proofs.Common.{◌≡◌, ◌≤◌, ◌++◌, length, take, Some}
-use Rattle.std.specs.Prelude.{All, vec_capacity}
-use Rattle.std.specs.Vec.Iter.{into_iter_items}
-use Rattle.shared_lookup.specs.Threads.{AreChanging}
+use Rattle.shared_lookup.proofs.Words.{◌≡◌, ◌++◌, length, take, Some, All, vec_capacity, into_iter_items, AreChanging}
+use Rattle.std.proofs.Common.{◌≤◌}
 use Rattle.shared_lookup.proofs.lists.start_writers.Given as goal
 
 abbrev pub invariant-loop-list : goal.invariant-loop-list

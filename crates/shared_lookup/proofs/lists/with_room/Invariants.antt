@@ -1,5 +1,4 @@
-use Rattle.std.proofs.Common.{take}
-use Rattle.shared_lookup.specs.Threads.{HaveRoom}
+use Rattle.shared_lookup.proofs.Words.{take, HaveRoom}
 use Rattle.shared_lookup.proofs.lists.with_room.Given as goal
 
 abbrev pub invariant-loop-list : goal.invariant-loop-list

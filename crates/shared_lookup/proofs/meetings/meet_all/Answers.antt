@@ -1,16 +1,4 @@
-use Rattle.std.proofs.Common.{◌≡◌, ◌∙◌, ◌++◌, ◌∷◌, [], Bool, List, length, take, Option, sym, subst, ap, append_assoc, arith, refl, Some}
-use Rattle.std.specs.Global.{Vec}
-use Rattle.std.specs.Prelude.{IfSome}
-use Rattle.std.specs.Vec.Iter.{into_iter_items}
-use Rattle.std.proofs.lemmas.List.Elements.{All-push}
-use mathlib.Core.List.{IsPrefix}
-use Rattle.shared_lookup.specs.declared.served.Answer.{Answer}
-use Rattle.shared_lookup.specs.declared.threads.LookupResults.{LookupResults}
-use Rattle.shared_lookup.specs.Ledgers.{LedgerState}
-use Rattle.shared_lookup.specs.Readers.{EachHasLooked, HasMet, known_by}
-use Rattle.shared_lookup.specs.Servings.{AreFoundIn, EachIsAnswered, EachIsFoundIn}
-use Rattle.shared_lookup.specs.Threads.{AreHeard}
-use Rattle.latch_table.specs.Readers.{ReaderState}
+use Rattle.shared_lookup.proofs.Words.{◌≡◌, ◌∙◌, ◌++◌, ◌∷◌, [], Bool, List, length, take, Option, sym, subst, ap, append_assoc, arith, refl, Some, Vec, IfSome, into_iter_items, All-push, IsPrefix, Answer, LookupResults, LedgerState, EachHasLooked, HasMet, known_by, AreFoundIn, EachIsAnswered, EachIsFoundIn, AreHeard, ReaderState}
 use Rattle.shared_lookup.proofs.FoundLemmas.{all_found_later}
 use Rattle.shared_lookup.proofs.LookedLemmas.{looked_met}
 use Rattle.shared_lookup.proofs.PairedLemmas.{pair_more}

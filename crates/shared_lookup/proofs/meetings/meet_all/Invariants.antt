@@ -1,8 +1,5 @@
-use Rattle.std.proofs.Common.{◌≡◌, ◌≤◌, ◌++◌, length, take}
-use Rattle.std.specs.Prelude.{vec_capacity}
-use Rattle.std.specs.Vec.Iter.{into_iter_items}
-use Rattle.shared_lookup.specs.Readers.{EachHasLooked}
-use Rattle.shared_lookup.specs.Servings.{EachIsAnswered, EachIsFoundIn}
+use Rattle.shared_lookup.proofs.Words.{◌≡◌, ◌++◌, length, take, vec_capacity, into_iter_items, EachHasLooked, EachIsAnswered, EachIsFoundIn}
+use Rattle.std.proofs.Common.{◌≤◌}
 use Rattle.shared_lookup.proofs.meetings.meet_all.Given as goal
 
 abbrev pub invariant-loop-found : goal.invariant-loop-found

@@ -1,7 +1,4 @@
-use Rattle.std.proofs.Common.{Option, subst, sym}
-use mathlib.Core.List.{IsPrefix}
-use Rattle.latch_table.specs.Readers.{ReaderState}
-use Rattle.shared_lookup.specs.Readers.{known_by}
+use Rattle.shared_lookup.proofs.Words.{Option, subst, sym, IsPrefix, ReaderState, known_by}
 use Rattle.shared_lookup.proofs.meetings.met.Goals as goal
 
 pub returns-in-Some-clause-known : goal.returns-in-Some-clause-known

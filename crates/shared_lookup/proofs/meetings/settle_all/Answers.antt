@@ -1,12 +1,4 @@
-use Rattle.std.proofs.Common.{◌≡◌, ◌∙◌, ◌++◌, ◌∷◌, [], length, take, sym, subst, arith, Some}
-use Rattle.std.specs.Prelude.{IfSome}
-use Rattle.std.specs.Vec.Iter.{into_iter_items}
-use mathlib.Core.List.{IsPrefix}
-use Rattle.shared_lookup.specs.Followings.{EachFollowsLog}
-use Rattle.shared_lookup.specs.Ledgers.{LedgerState}
-use Rattle.shared_lookup.specs.Readers.{known_by}
-use Rattle.shared_lookup.specs.Servings.{EachHasOutcome}
-use Rattle.shared_lookup.specs.Threads.{AreAllMade}
+use Rattle.shared_lookup.proofs.Words.{◌≡◌, ◌∙◌, ◌++◌, ◌∷◌, [], length, take, sym, subst, arith, Some, IfSome, into_iter_items, IsPrefix, EachFollowsLog, LedgerState, known_by, EachHasOutcome, AreAllMade}
 use Rattle.shared_lookup.proofs.FollowingLemmas.{beside_here, follow_met}
 use Rattle.shared_lookup.proofs.PairedLemmas.{here, so_far}
 use Rattle.shared_lookup.proofs.ThreadLemmas.{next_yielded, one_yielded, room_left}

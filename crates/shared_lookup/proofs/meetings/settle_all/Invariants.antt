@@ -1,8 +1,5 @@
-use Rattle.std.proofs.Common.{◌≡◌, ◌≤◌, ◌++◌, length, take}
-use Rattle.std.specs.Prelude.{vec_capacity}
-use Rattle.std.specs.Vec.Iter.{into_iter_items}
-use Rattle.shared_lookup.specs.Followings.{EachFollowsLog}
-use Rattle.shared_lookup.specs.Servings.{EachHasOutcome}
+use Rattle.shared_lookup.proofs.Words.{◌≡◌, ◌++◌, length, take, vec_capacity, into_iter_items, EachFollowsLog, EachHasOutcome}
+use Rattle.std.proofs.Common.{◌≤◌}
 use Rattle.shared_lookup.proofs.meetings.settle_all.Given as goal
 
 abbrev pub invariant-loop-made : goal.invariant-loop-made

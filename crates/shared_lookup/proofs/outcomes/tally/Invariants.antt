@@ -1,5 +1,4 @@
-use Rattle.std.proofs.Common.{◌≡◌, length, take}
-use Rattle.shared_lookup.specs.Checks.{IsTalliedBy}
+use Rattle.shared_lookup.proofs.Words.{◌≡◌, length, take, IsTalliedBy}
 use Rattle.shared_lookup.proofs.outcomes.tally.Given as goal
 
 abbrev pub invariant-loop-outcome : goal.invariant-loop-outcome

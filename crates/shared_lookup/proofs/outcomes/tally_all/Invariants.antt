@@ -1,6 +1,4 @@
-use Rattle.std.proofs.Common.{◌≡◌, length, take}
-use Rattle.shared_lookup.specs.Checks.{AreTallied}
-use Rattle.shared_lookup.specs.Servings.{entries}
+use Rattle.shared_lookup.proofs.Words.{◌≡◌, length, take, AreTallied, entries}
 use Rattle.shared_lookup.proofs.outcomes.tally_all.Given as goal
 
 abbrev pub invariant-loop-list : goal.invariant-loop-list

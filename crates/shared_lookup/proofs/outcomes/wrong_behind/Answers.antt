@@ -1,9 +1,4 @@
-use Rattle.std.proofs.Common.{◌≡◌, ◌∙◌, ◌+◌, get_or, min, sym, subst, arith}
-use Rattle.std.specs.Prelude.{count_by}
-use Rattle.std.specs.List.{range_with_len}
-use Rattle.facts.proofs.Ranges.{range-push}
-use Rattle.shared_lookup.specs.Counts.{CountsUpTo}
-use Rattle.shared_lookup.specs.Servings.{IsWrongEntry, entries, has_generation}
+use Rattle.shared_lookup.proofs.Words.{◌≡◌, ◌∙◌, ◌+◌, get_or, min, sym, subst, arith, count_by, range_with_len, range-push, CountsUpTo, IsWrongEntry, entries, has_generation}
 use Rattle.shared_lookup.proofs.CountLemmas.{up_to_yes, up_to_no}
 use Rattle.shared_lookup.proofs.outcomes.wrong_behind.Goals.{then-time-ne1, else-time-ne1}
 use Rattle.shared_lookup.proofs.outcomes.wrong_behind.Goals as goal

@@ -1,6 +1,4 @@
-use Rattle.std.specs.List.{range_with_len}
-use Rattle.shared_lookup.specs.Counts.{CountsUpTo}
-use Rattle.shared_lookup.specs.Servings.{IsWrongEntry, entries}
+use Rattle.shared_lookup.proofs.Words.{range_with_len, CountsUpTo, IsWrongEntry, entries}
 use Rattle.shared_lookup.proofs.outcomes.wrong_behind.Given as goal
 
 abbrev pub invariant-loop-time : goal.invariant-loop-time

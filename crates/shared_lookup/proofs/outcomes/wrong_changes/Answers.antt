@@ -1,9 +1,4 @@
-use Rattle.std.proofs.Common.{◌∙◌, ap, length, take, sym, subst, arith}
-use Rattle.std.specs.Prelude.{zip}
-use Rattle.facts.proofs.Pairs.{zip-append}
-use Rattle.facts.proofs.Lists.{length-map_same, length-map_same_at}
-use Rattle.shared_lookup.specs.Counts.{CountsUpTo}
-use Rattle.shared_lookup.specs.Servings.{IsWrongChange, entries}
+use Rattle.shared_lookup.proofs.Words.{◌∙◌, ap, length, take, sym, subst, arith, zip, zip-append, length-map_same, length-map_same_at, CountsUpTo, IsWrongChange, entries}
 use Rattle.shared_lookup.proofs.CountLemmas.{entries_more, entries_same, up_to_append}
 use Rattle.shared_lookup.proofs.outcomes.wrong_changes.Goals as goal
 

@@ -1,9 +1,4 @@
-use Rattle.std.proofs.Common.{◌≡◌, ◌∙◌, length, take, drop, sym, subst, arith, length-append, length-drop}
-use Rattle.std.specs.List.{range_with_len}
-use Rattle.std.proofs.lemmas.List.{length-take-le}
-use Rattle.facts.proofs.Ranges.{range-append_from_zero}
-use Rattle.shared_lookup.specs.Counts.{CountsUpTo}
-use Rattle.shared_lookup.specs.Servings.{IsWrongEntry, entries}
+use Rattle.shared_lookup.proofs.Words.{◌≡◌, ◌∙◌, length, take, drop, sym, subst, arith, length-append, length-drop, range_with_len, length-take-le, range-append_from_zero, CountsUpTo, IsWrongEntry, entries}
 use Rattle.shared_lookup.proofs.CountLemmas.{up_to_append}
 use Rattle.shared_lookup.proofs.outcomes.wrong_entries.Goals as goal
 

@@ -1,7 +1,5 @@
-use Rattle.std.proofs.Common.{◌≡◌, ◌-◌, ◌≤◌, length}
-use Rattle.std.specs.List.{range_with_len}
-use Rattle.shared_lookup.specs.Counts.{CountsUpTo}
-use Rattle.shared_lookup.specs.Servings.{IsWrongEntry, entries}
+use Rattle.shared_lookup.proofs.Words.{◌≡◌, ◌-◌, length, range_with_len, CountsUpTo, IsWrongEntry, entries}
+use Rattle.std.proofs.Common.{◌≤◌}
 use Rattle.shared_lookup.proofs.outcomes.wrong_entries.Given as goal
 
 abbrev pub invariant-loop-from : goal.invariant-loop-from

@@ -1,10 +1,6 @@
-use Rattle.std.proofs.Common.{◌≤◌, length, take, sym, subst, arith, ◌∙◌}
-use Rattle.std.specs.Prelude.{zip}
+use Rattle.shared_lookup.proofs.Words.{length, take, sym, subst, arith, ◌∙◌, zip, take_all, take-zip_more, CountsUpTo, IsWrongChange}
+use Rattle.std.proofs.Common.{◌≤◌}
 use Rattle.std.proofs.lemmas.Slice.Zip.{length-zip}
-use Rattle.std.proofs.lemmas.List.{take_all}
-use Rattle.facts.proofs.Pairs.{take-zip_more}
-use Rattle.shared_lookup.specs.Counts.{CountsUpTo}
-use Rattle.shared_lookup.specs.Servings.{IsWrongChange}
 use Rattle.shared_lookup.proofs.CountLemmas.{up_to_yes, up_to_no}
 use Rattle.shared_lookup.proofs.outcomes.wrong_in_list.Goals.{then-is_wrong, else-is_wrong}
 use Rattle.shared_lookup.proofs.outcomes.wrong_in_list.Goals as goal

@@ -1,7 +1,4 @@
-use Rattle.std.proofs.Common.{take}
-use Rattle.std.specs.Prelude.{zip}
-use Rattle.shared_lookup.specs.Counts.{CountsUpTo}
-use Rattle.shared_lookup.specs.Servings.{IsWrongChange}
+use Rattle.shared_lookup.proofs.Words.{take, zip, CountsUpTo, IsWrongChange}
 use Rattle.shared_lookup.proofs.outcomes.wrong_in_list.Given as goal
 
 abbrev pub invariant-loop-place : goal.invariant-loop-place

@@ -1,9 +1,5 @@
-use Rattle.std.proofs.Common.{rules, subst}
-use Rattle.std.specs.Borrow.{Bor}
+use Rattle.shared_lookup.proofs.Words.{rules, subst, Bor, IsNonDecreasingBy-from_sort_by_key, IsPermutation-map, answers_at, Answer}
 use Rattle.std.specs.List.Sorted.{IsPermutation}
-use Rattle.std.proofs.lemmas.List.Sorted.{IsNonDecreasingBy-from_sort_by_key, IsPermutation-map}
-use Rattle.shared_lookup.specs.Checks.{answers_at}
-use Rattle.shared_lookup.specs.declared.served.Answer.{Answer}
 use Rattle.shared_lookup.proofs.replays.by_generation.Goals as goal
 
 pub returns-clause-permutation : goal.returns-clause-permutation

@@ -1,6 +1,4 @@
-use Rattle.std.proofs.Common.{◌≡◌, take}
-use Rattle.shared_lookup.specs.Checks.{answers_at}
-use Rattle.shared_lookup.specs.Servings.{entries}
+use Rattle.shared_lookup.proofs.Words.{◌≡◌, take, answers_at, entries}
 use Rattle.shared_lookup.proofs.replays.flattened.Given as goal
 
 abbrev pub invariant-loop-list : goal.invariant-loop-list

@@ -1,5 +1,4 @@
-use Rattle.std.proofs.Common.{◌≡◌, ◌++◌, take}
-use Rattle.shared_lookup.specs.Checks.{answers_at}
+use Rattle.shared_lookup.proofs.Words.{◌≡◌, ◌++◌, take, answers_at}
 use Rattle.shared_lookup.proofs.replays.refer_to.Given as goal
 
 abbrev pub invariant-loop-answer : goal.invariant-loop-answer

@@ -1,6 +1,4 @@
-use Rattle.std.proofs.Common.{◌≡◌, ◌+◌, take}
-use Rattle.shared_lookup.specs.Checks.{with_log}
-use Rattle.shared_lookup.specs.Ledgers.{HasNothingPending, ledger_of}
+use Rattle.shared_lookup.proofs.Words.{◌≡◌, ◌+◌, take, with_log, HasNothingPending, ledger_of}
 use Rattle.shared_lookup.proofs.replays.replay_up_to.Given as goal
 
 abbrev pub invariant-loop-update : goal.invariant-loop-update

@@ -1,9 +1,4 @@
-use Rattle.std.proofs.Common.{◌∙◌, sym, ap, arith, take}
-use Rattle.std.specs.Borrow.{Bor}
-use Rattle.std.proofs.lemmas.List.Sums.{count_by_more_no, count_by_more_yes}
-use Rattle.shared_lookup.specs.Checks.{is_wrong_answer, no_reference, with_log}
-use Rattle.shared_lookup.specs.Ledgers.{LedgerState}
-use Rattle.shared_lookup.specs.declared.served.Answer.{Answer}
+use Rattle.shared_lookup.proofs.Words.{◌∙◌, sym, ap, arith, take, Bor, count_by_more_no, count_by_more_yes, is_wrong_answer, no_reference, with_log, LedgerState, Answer}
 use Rattle.shared_lookup.proofs.replays.wrong_in_order.Goals.{then-here, else-here}
 use Rattle.shared_lookup.proofs.replays.wrong_in_order.Goals as goal
 

@@ -1,7 +1,5 @@
-use Rattle.std.proofs.Common.{◌≡◌, ◌≤◌, ◌<◌, length, take, get_or}
-use Rattle.std.specs.Prelude.{count_by}
-use Rattle.shared_lookup.specs.Checks.{is_wrong_answer, no_reference, with_log}
-use Rattle.shared_lookup.specs.Ledgers.{HasNothingPending, ledger_of}
+use Rattle.shared_lookup.proofs.Words.{◌≡◌, ◌<◌, length, take, get_or, count_by, is_wrong_answer, no_reference, with_log, HasNothingPending, ledger_of}
+use Rattle.std.proofs.Common.{◌≤◌}
 use Rattle.shared_lookup.proofs.replays.wrong_in_order.Given as goal
 
 abbrev pub invariant-loop-answer : goal.invariant-loop-answer

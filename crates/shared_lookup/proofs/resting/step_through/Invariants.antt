@@ -1,5 +1,4 @@
-use Rattle.std.proofs.Common.{◌≡◌}
-use Rattle.latch_table.specs.Writers.{OnTheWay, steps_left_of}
+use Rattle.shared_lookup.proofs.Words.{◌≡◌, OnTheWay, steps_left_of}
 use Rattle.shared_lookup.proofs.resting.step_through.Given as goal
 
 abbrev pub invariant-loop-did : goal.invariant-loop-did

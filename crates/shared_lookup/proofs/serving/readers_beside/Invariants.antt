@@ -1,5 +1,4 @@
-use Rattle.std.proofs.Common.{◌≡◌}
-use Rattle.std.specs.Prelude.{All}
+use Rattle.shared_lookup.proofs.Words.{◌≡◌, All}
 use Rattle.shared_lookup.proofs.serving.readers_beside.Given as goal
 
 abbrev pub invariant-loop : goal.invariant-loop

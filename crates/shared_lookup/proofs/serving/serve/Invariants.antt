@@ -1,4 +1,4 @@
-use Rattle.std.proofs.Common.{Some}
+use Rattle.shared_lookup.proofs.Words.{Some}
 use Rattle.shared_lookup.proofs.serving.serve.Given as goal
 
 abbrev pub ghosts-serve_from : goal.ghosts-serve_from

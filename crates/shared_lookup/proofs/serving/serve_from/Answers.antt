@@ -1,16 +1,4 @@
-use Rattle.std.proofs.Common.{◌≡◌, ◌∙◌, List, Option, Some, ap, sym, subst}
-use Rattle.std.specs.Prelude.{All}
-use Rattle.atomic_table.specs.Seated.{TableId}
-use Rattle.std.specs.Global.{Vec}
-use Rattle.table_updates.specs.declared.updates.Update.{Update}
-use Rattle.shared_lookup.specs.declared.changes.Change.{Change}
-use Rattle.shared_lookup.specs.declared.served.Answer.{Answer}
-use Rattle.shared_lookup.specs.Checks.{with_log}
-use Rattle.shared_lookup.specs.Ledgers.{LedgerState}
-use Rattle.shared_lookup.specs.Readers.{EachHasLooked, IsNewReaderOf}
-use Rattle.shared_lookup.specs.Servings.{AreAsLong, ChangeOutcome, EachIsFoundIn, IsWrongCount}
-use Rattle.shared_lookup.specs.Followings.{EachFollowsLog}
-use Rattle.shared_lookup.specs.Threads.{AreAllMade, AreHeard}
+use Rattle.shared_lookup.proofs.Words.{◌≡◌, ◌∙◌, List, Option, Some, ap, sym, subst, All, TableId, Vec, Update, Change, Answer, with_log, LedgerState, EachHasLooked, IsNewReaderOf, AreAsLong, ChangeOutcome, EachIsFoundIn, IsWrongCount, EachFollowsLog, AreAllMade, AreHeard}
 use Rattle.shared_lookup.proofs.FollowingLemmas.{made_named, served_now}
 use Rattle.shared_lookup.proofs.CountLemmas.{each_as_long}
 use Rattle.shared_lookup.proofs.ReaderLemmas.{heard_named, same_some}

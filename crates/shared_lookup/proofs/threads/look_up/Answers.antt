@@ -1,13 +1,5 @@
-use Rattle.std.proofs.Common.{◌≡◌, ◌∙◌, ◌++◌, ◌∷◌, [], ℕ, List, length, Some, None, refl, ap, sym, subst, ⊎_elim, arith, length-append, get_or}
-use Rattle.std.specs.Prelude.{slice_get}
-use Rattle.std.proofs.lemmas.Option.{get_or_from_slice_get}
-use Rattle.facts.proofs.Lists.{slice_get-push_cases}
-use Rattle.latch_table.specs.declared.readers.Try.TheVariants.{Answered}
-use Rattle.latch_table.specs.Memory.{memory_after}
-use Rattle.shared_lookup.specs.declared.served.Answer.{Answer}
-use Rattle.shared_lookup.specs.Servings.{AreFoundIn, IsAnswerTo}
+use Rattle.shared_lookup.proofs.Words.{◌≡◌, ◌∙◌, ◌++◌, ◌∷◌, [], ℕ, List, length, Some, None, refl, ap, sym, subst, ⊎_elim, arith, length-append, get_or, slice_get, get_or_from_slice_get, slice_get-push_cases, Answered, memory_after, Answer, AreFoundIn, IsAnswerTo, AreLookedUp, IsLookedUp}
 use Rattle.shared_lookup.proofs.FoundLemmas.{found_more}
-use Rattle.shared_lookup.specs.Readers.{AreLookedUp, IsLookedUp}
 use Rattle.shared_lookup.proofs.LookedLemmas.{found_last, last_more, looked_more}
 use Rattle.shared_lookup.proofs.threads.look_up.Goals as goal
 

@@ -1,8 +1,4 @@
-use Rattle.std.proofs.Common.{◌≡◌, length, Some, None}
-use Rattle.std.specs.Prelude.{slice_get}
-use Rattle.shared_lookup.specs.declared.served.Answer.{Answer}
-use Rattle.shared_lookup.specs.Readers.{AreLookedUp, IsReaderOf}
-use Rattle.shared_lookup.specs.Servings.{AreFoundIn, IsAnswerTo}
+use Rattle.shared_lookup.proofs.Words.{◌≡◌, length, Some, None, slice_get, Answer, AreLookedUp, IsReaderOf, AreFoundIn, IsAnswerTo}
 use Rattle.shared_lookup.proofs.LookedLemmas.{found_last}
 use Rattle.shared_lookup.proofs.threads.look_up.Given as goal
 

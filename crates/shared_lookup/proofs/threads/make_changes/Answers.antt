@@ -1,4 +1,4 @@
-use Rattle.std.proofs.Common.{◌∙◌, Some, ap, refl, sym, length-set}
+use Rattle.shared_lookup.proofs.Words.{◌∙◌, Some, ap, refl, sym, length-set}
 use Rattle.shared_lookup.proofs.FollowingLemmas.{all_made, none_made, one_follows, one_made}
 use Rattle.shared_lookup.proofs.threads.make_changes.Goals as goal
 

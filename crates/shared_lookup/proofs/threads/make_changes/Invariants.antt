@@ -1,8 +1,4 @@
-use Rattle.std.proofs.Common.{◌≡◌, length, take, Some}
-use Rattle.std.specs.Option.{ForSome}
-use Rattle.shared_lookup.specs.Checks.{with_log}
-use Rattle.shared_lookup.specs.Followings.{FollowLog}
-use Rattle.shared_lookup.specs.Servings.{HasOutcomes}
+use Rattle.shared_lookup.proofs.Words.{◌≡◌, length, take, Some, ForSome, with_log, FollowLog, HasOutcomes}
 use Rattle.shared_lookup.proofs.threads.make_changes.Given as goal
 
 abbrev pub invariant-loop-place : goal.invariant-loop-place

@@ -1,5 +1,4 @@
-use Rattle.std.proofs.Common.{rules, ◌<◌, ◌-◌, drop_of_length-le, false, ap, ◌∙◌, arith}
-use Rattle.std.specs.Fmt.{digits_onto}
+use Rattle.texts.proofs.Words.{rules, ◌<◌, ◌-◌, drop_of_length-le, false, ap, ◌∙◌, arith, digits_onto}
 use Rattle.texts.proofs.HexadecimalLemmas.{all_of, smaller_next, told_more, told_last, small_at_one}
 use Rattle.texts.proofs.exact.write_digits.Goals.{then-loop-start-test+else-left-ge16, else-loop-start-test}
 use Rattle.texts.proofs.exact.write_digits.Goals as goal

@@ -1,5 +1,5 @@
-use Rattle.std.proofs.Common.{◌≡◌, ◌≤◌, ◌<◌, ◌+◌, ◌-◌, ◌^◌, drop, false}
-use Rattle.std.specs.Fmt.{digits, digits_onto}
+use Rattle.texts.proofs.Words.{◌≡◌, ◌≤◌, ◌<◌, ◌+◌, ◌-◌, ◌^◌, drop, false, digits_onto}
+use Rattle.std.specs.Fmt.{digits}
 use Rattle.texts.proofs.exact.write_digits.Given as goal
 
 -- the digits of what is left go before those that are written

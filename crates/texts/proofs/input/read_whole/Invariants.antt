@@ -1,5 +1,4 @@
-use Rattle.std.proofs.Common.{◌-◌, ◌^◌, ◌≡◌, vec_len}
-use Rattle.std.specs.Io.KnownBytes.{Consumes}
+use Rattle.texts.proofs.Words.{◌-◌, ◌^◌, ◌≡◌, vec_len, Consumes}
 use Rattle.texts.specs.Counted.{device_of, failures_of}
 use Rattle.texts.proofs.input.read_whole.Given as goal
 

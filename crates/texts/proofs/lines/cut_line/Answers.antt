@@ -1,6 +1,4 @@
-use Rattle.std.proofs.Common.{◌∷◌, ap, ◌∙◌, ◌+◌, take, sym}
-use Rattle.std.proofs.lemmas.List.{take_rest}
-use Rattle.texts.specs.Lines.{lines_of}
+use Rattle.texts.proofs.Words.{◌∷◌, ap, ◌∙◌, ◌+◌, take, sym, take_rest, lines_of}
 use Rattle.texts.proofs.LineCutLemmas.{line_here, line_nowhere}
 use Rattle.texts.proofs.lines.cut_line.Goals as goal
 

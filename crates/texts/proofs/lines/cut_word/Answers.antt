@@ -1,7 +1,4 @@
-use Rattle.std.proofs.Common.{◌∷◌, ap, ◌∙◌, ◌+◌, take, sym}
-use Rattle.std.proofs.lemmas.List.{take_rest}
-use Rattle.memchr.specs.Find.{is_byte}
-use Rattle.texts.specs.Lines.{words_of}
+use Rattle.texts.proofs.Words.{◌∷◌, ap, ◌∙◌, ◌+◌, take, sym, take_rest, is_byte, words_of}
 use Rattle.texts.proofs.LineCutLemmas.{split_here, split_nowhere}
 use Rattle.texts.proofs.lines.cut_word.Goals as goal
 

@@ -1,6 +1,4 @@
-use Rattle.std.proofs.Common.{ap, arith, length, length-append, map}
-use Rattle.texts.specs.Lines.{words_of}
-use Rattle.std.proofs.lemmas.List.{length-map}
+use Rattle.texts.proofs.Words.{ap, arith, length, length-append, map, words_of, length-map}
 use Rattle.texts.proofs.LineCutLemmas.{some_word}
 use Rattle.texts.proofs.lines.words_in.Goals as goal
 

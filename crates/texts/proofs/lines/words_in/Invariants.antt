@@ -1,6 +1,5 @@
-use Rattle.std.proofs.Common.{◌≡◌, ◌++◌, map, length}
+use Rattle.texts.proofs.Words.{◌≡◌, ◌++◌, map, length, words_of}
 use Rattle.arrayvec.specs.ArrayVec.{array_vec_len}
-use Rattle.texts.specs.Lines.{words_of}
 use Rattle.texts.proofs.lines.words_in.Given as goal
 
 -- the words so far, and those that are left

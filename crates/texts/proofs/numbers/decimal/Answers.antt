@@ -1,6 +1,4 @@
-use Rattle.std.proofs.Common.{rules, ◌≤◌, ◌+◌, ◌*◌, ◌^◌, ap, sym, ◌∙◌, Some, arith, get_or}
-use Rattle.std.specs.Char.{digit_value, is_digit}
-use Rattle.facts.proofs.Digits.{digits_value_after-end, list_all-end}
+use Rattle.texts.proofs.Words.{rules, ◌≤◌, ◌+◌, ◌*◌, ◌^◌, ap, sym, ◌∙◌, Some, arith, get_or, digit_value, is_digit, digits_value_after-end, list_all-end}
 use Rattle.texts.proofs.NumberLemmas.{overflows, is_value}
 use Rattle.texts.proofs.numbers.decimal.Goals as goal
 

@@ -1,5 +1,4 @@
-use Rattle.std.proofs.Common.{◌≡◌, ◌+◌, ap, ◌∙◌, arith, refl}
-use Rattle.std.specs.Char.{digit_value}
+use Rattle.texts.proofs.Words.{◌≡◌, ◌+◌, ap, ◌∙◌, arith, refl, digit_value}
 use Rattle.texts.specs.declared.numbers.TheConstants.{DIGITS}
 use Rattle.texts.proofs.DigitLemmas.{digit_at}
 use Rattle.texts.proofs.numbers.digit_of.Goals as goal

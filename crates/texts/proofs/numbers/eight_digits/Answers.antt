@@ -1,8 +1,4 @@
-use Rattle.std.proofs.Common.{◌+◌, ◌∙◌, arith, drop}
-use Rattle.std.specs.Char.{is_digit}
-use Rattle.std.specs.List.{list_all}
-use Rattle.std.proofs.lemmas.Grind.{common_steps}
-use Rattle.facts.proofs.Digits.{digit_room, more_bits, room_for_digit}
+use Rattle.texts.proofs.Words.{◌+◌, ◌∙◌, arith, drop, is_digit, list_all, common_steps, digit_room, more_bits, room_for_digit}
 use Rattle.texts.proofs.numbers.eight_digits.Goals as goal
 
 pub overflow_mul-value : goal.overflow_mul-value

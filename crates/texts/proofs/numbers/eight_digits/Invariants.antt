@@ -1,7 +1,4 @@
-use Rattle.std.proofs.Common.{◌≡◌, ◌+◌, ◌*◌, ◌≤◌, ◌^◌, ◌&&◌, nat_lt, drop, length}
-use Rattle.std.specs.List.{list_all}
-use Rattle.std.specs.Char.{is_digit}
-use Rattle.std.specs.Str.Parse.{digits_value, digits_value_after}
+use Rattle.texts.proofs.Words.{◌≡◌, ◌+◌, ◌*◌, ◌≤◌, ◌^◌, ◌&&◌, nat_lt, drop, length, list_all, is_digit, digits_value, digits_value_after}
 use Rattle.texts.proofs.numbers.eight_digits.Given as goal
 
 -- the value so far, the digits that are left, and whether all are digits

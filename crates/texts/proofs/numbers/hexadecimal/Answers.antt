@@ -1,7 +1,4 @@
-use Rattle.std.proofs.Common.{Some, ap, sym, ◌∙◌, arith, rules}
-use Rattle.std.specs.Char.{is_digit}
-use Rattle.std.proofs.lemmas.Grind.{common_steps}
-use Rattle.facts.proofs.Digits.{digit_fits, digits_value_after-end, list_all-end, next_digit}
+use Rattle.texts.proofs.Words.{Some, ap, sym, ◌∙◌, arith, rules, is_digit, common_steps, digit_fits, digits_value_after-end, list_all-end, next_digit}
 use Rattle.texts.proofs.NumberLemmas.{is_value}
 use Rattle.texts.proofs.numbers.hexadecimal.Goals as goal
 

@@ -1,7 +1,4 @@
-use Rattle.std.proofs.Common.{◌≡◌, ◌<◌, ◌≤◌, ◌^◌, drop, length}
-use Rattle.std.specs.List.{list_all}
-use Rattle.std.specs.Char.{is_digit}
-use Rattle.std.specs.Str.Parse.{digits_value, digits_value_after}
+use Rattle.texts.proofs.Words.{◌≡◌, ◌<◌, ◌≤◌, ◌^◌, drop, length, list_all, is_digit, digits_value, digits_value_after}
 use Rattle.texts.proofs.numbers.hexadecimal.Given as goal
 
 -- the value so far, of so many digits, and the digits that are left

@@ -1,10 +1,4 @@
-use Rattle.std.proofs.Common.{◌≡◌, ◌<◌, ◌+◌, ◌*◌, true, Some, ap, sym, ◌∙◌, arith}
-use Rattle.std.proofs.lemmas.Bool.{lt-ltb}
-use Rattle.std.specs.Char.{is_digit}
-use Rattle.std.specs.List.{list_all}
-use Rattle.std.specs.Str.Parse.{digits_value}
-use Rattle.facts.proofs.Digits.{half_fits}
-use Rattle.texts.specs.Numbers.{numeral}
+use Rattle.texts.proofs.Words.{◌≡◌, ◌<◌, ◌+◌, ◌*◌, true, Some, ap, sym, ◌∙◌, arith, lt-ltb, is_digit, list_all, digits_value, half_fits, numeral}
 use Rattle.texts.proofs.NumberLemmas.{is_sixteen}
 use Rattle.texts.proofs.numbers.sixteen_digits.Goals as goal
 

@@ -1,4 +1,4 @@
-use Rattle.std.proofs.Common.{sym, ◌∙◌}
+use Rattle.texts.proofs.Words.{sym, ◌∙◌}
 use Rattle.texts.proofs.UpperDigitLemmas.{digits_of_f, value_of_f}
 use Rattle.texts.proofs.numbers.upper_digits.Goals as goal
 

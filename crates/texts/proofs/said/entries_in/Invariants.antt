@@ -1,6 +1,4 @@
-use Rattle.std.proofs.Common.{◌≡◌, ◌+◌, ◌≤◌, length}
-use Rattle.texts.specs.Lines.{lines_of}
-use Rattle.texts.specs.Said.{entries_from, entries_after}
+use Rattle.texts.proofs.Words.{◌≡◌, ◌+◌, ◌≤◌, length, lines_of, entries_from, entries_after}
 use Rattle.texts.proofs.said.entries_in.Given as goal
 
 -- the entries so far, and those of the lines that are left, are those of all lines

@@ -1,6 +1,4 @@
-use Rattle.std.proofs.Common.{◌≡◌, ◌+◌, ◌≤◌, length}
-use Rattle.texts.specs.Lines.{lines_of}
-use Rattle.texts.specs.Said.{entries_from, said_lines}
+use Rattle.texts.proofs.Words.{◌≡◌, ◌+◌, ◌≤◌, length, lines_of, entries_from, said_lines}
 use Rattle.texts.proofs.said.next_entry_in.Given as goal
 
 -- the lines that are left say what all do

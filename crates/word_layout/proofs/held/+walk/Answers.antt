@@ -1,10 +1,5 @@
-use Rattle.std.proofs.Common.{◌≡◌, ◌+◌, ◌-◌, ◌<◌, [], ◌∷◌, ◌++◌, length, suc, ◌∙◌, ap, subst, length-append, arith}
-use Rattle.std.specs.Prelude.{IfSome, IfNone}
-use Rattle.order_laws.specs.declared.items.Item.{Item}
+use Rattle.word_layout.proofs.Words.{◌≡◌, ◌+◌, ◌-◌, ◌<◌, [], ◌∷◌, ◌++◌, length, suc, ◌∙◌, ap, subst, length-append, arith, IfSome, IfNone, Item, capacity_of, copy_number, at, item_at, Nodes, fork, listed, items, Leads}
 use Rattle.facts.proofs.Options.{IfNone-weaker, IfSome-weaker}
-use Rattle.word_layout.specs.Layouts.{capacity_of}
-use Rattle.word_layout.specs.Copies.{copy_number}
-use Rattle.word_layout.specs.Words.{at, item_at, Nodes, fork, listed, items, Leads}
 use Rattle.word_layout.proofs.HeldLemmas.{past_no_tree, some_visit, left_too_large, right_too_large, three_parts}
 use Rattle.word_layout.proofs.held.+walk.Goals as goal
 use Rattle.word_layout.proofs.held.+walk.Goals.{then-link-capacity-via-then-link-capacity, then-link-capacity-via-else-link-capacity+then-left-eq0}

@@ -1,8 +1,4 @@
-use Rattle.std.proofs.Common.{◌<◌, length, subst, arith}
-use Rattle.std.specs.Prelude.{IfNone}
-use Rattle.word_layout.specs.Layouts.{capacity_of}
-use Rattle.word_layout.specs.Copies.{copy_number}
-use Rattle.word_layout.specs.Words.{at, root_word, Nodes, listed, Leads}
+use Rattle.word_layout.proofs.Words.{◌<◌, length, subst, arith, IfNone, capacity_of, copy_number, at, root_word, Nodes, listed, Leads}
 use Rattle.word_layout.proofs.HeldLemmas.{table_length}
 use Rattle.word_layout.proofs.held.held_in.Goals as goal
 

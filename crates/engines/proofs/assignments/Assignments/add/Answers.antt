@@ -1,13 +1,8 @@
-use Rattle.std.proofs.Common.{◌≡◌, ℕ, List, [], ◌∷◌, ◌++◌, Some, None, Result, Ok, Err, IfOk, sym, subst, ap, ◌∙◌, refl}
+use Rattle.engines.proofs.Words.{◌≡◌, ℕ, List, [], ◌∷◌, ◌++◌, Some, None, Result, Ok, Err, sym, subst, ap, ◌∙◌, refl, filter_map, ScriptLine, CatalogEntries, most_writers, Assignments, AreListed, IsAssigned, change_in, key_in, name_in}
+use Rattle.std.proofs.Common.{IfOk}
 use Rattle.std.specs.Global.{Vec}
-use Rattle.std.specs.List.{filter_map}
 use Rattle.facts.proofs.Lists.{one_given_more, none_given_more}
-use Rattle.run_files.specs.declared.scripts.ScriptLine.{ScriptLine}
-use Rattle.modules.specs.Entries.{CatalogEntries}
 use Rattle.shared_lookup.specs.declared.changes.Change.{Change}
-use Rattle.run_files.specs.Scripts.{most_writers}
-use Rattle.engines.specs.declared.assignments.Assignments.{Assignments}
-use Rattle.engines.specs.Assignments.{AreListed, IsAssigned, change_in, key_in, name_in}
 use Rattle.shared_lookup.specs.declared.changes.Change.TheVariants.{Load, Unload, DropInit}
 use Rattle.engines.proofs.assignments.Assignments.add.Goals as goal
 

@@ -1,7 +1,6 @@
-use Rattle.std.proofs.Common.{◌∷◌, ◌++◌, [], IfOk, subst}
+use Rattle.engines.proofs.Words.{◌∷◌, ◌++◌, [], subst, AreListed, most_writers}
+use Rattle.std.proofs.Common.{IfOk}
 use Rattle.facts.proofs.Options.{IfOk-Ok}
-use Rattle.engines.specs.Assignments.{AreListed}
-use Rattle.run_files.specs.Scripts.{most_writers}
 use Rattle.engines.proofs.assignments.Assignments.add_change.Goals as goal
 
 pub returns-clause-changes : goal.returns-clause-changes

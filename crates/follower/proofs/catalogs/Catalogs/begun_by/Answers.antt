@@ -1,9 +1,5 @@
-use Rattle.std.proofs.Common.{◌≡◌, ◌∙◌, List, nat_le, ap, sym, subst, rules}
-use Rattle.std.proofs.lemmas.List.Sorted.{IsPartitionPoint-from_clause, IsPartitionedBy-leb}
-use Rattle.follower.specs.declared.catalogs.DatedCatalog.{DatedCatalog}
-use Rattle.follower.specs.Catalogs.{AreInOrder, number_of, start_by}
+use Rattle.follower.proofs.Words.{◌≡◌, ◌∙◌, List, nat_le, ap, sym, subst, rules, IsPartitionPoint-from_clause, IsPartitionedBy-leb, DatedCatalog, AreInOrder, number_of, start_by, IsSplitBy}
 use Rattle.follower.proofs.CatalogLemmas.{in_order}
-use Rattle.modules.specs.Index.{IsSplitBy}
 use Rattle.modules.proofs.IndexLemmas.{IsSplitBy-from_partition}
 use Rattle.follower.proofs.catalogs.Catalogs.begun_by.Goals as goal
 

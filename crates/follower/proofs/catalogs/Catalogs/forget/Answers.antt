@@ -1,5 +1,4 @@
-use Rattle.std.proofs.Common.{ℕ, Option, Some, None, length, ap, sym, subst, arith}
-use Rattle.follower.specs.Catalogs.{DropsOldest, Forgets, ForgetsOldest}
+use Rattle.follower.proofs.Words.{ℕ, Option, Some, None, length, ap, sym, subst, arith, DropsOldest, Forgets, ForgetsOldest}
 use Rattle.follower.proofs.CatalogLemmas.{oldest_goes}
 use Rattle.follower.proofs.catalogs.Catalogs.forget.Goals as goal
 

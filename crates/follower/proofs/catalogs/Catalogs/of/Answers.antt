@@ -1,7 +1,4 @@
-use Rattle.std.proofs.Common.{◌≡◌, ◌-◌, ◌<◌, Some, subst, sym, arith, ap, ◌∙◌, get_or}
-use Rattle.follower.specs.declared.catalogs.DatedCatalog.{DatedCatalog}
-use Rattle.follower.specs.Catalogs.{number_of, start_by}
-use Rattle.modules.specs.Index.{IsSplitBy}
+use Rattle.follower.proofs.Words.{◌≡◌, ◌-◌, ◌<◌, Some, subst, sym, arith, ap, ◌∙◌, get_or, DatedCatalog, number_of, start_by, IsSplitBy}
 use Rattle.follower.proofs.CatalogLemmas.{none_stands, stands_last}
 use Rattle.follower.proofs.catalogs.Catalogs.of.Goals as goal
 

@@ -1,6 +1,4 @@
-use Rattle.std.proofs.Common.{rules, subst, ◌∙◌}
-use Rattle.modules.specs.Catalogs.{IsSoundCatalog}
-use Rattle.follower.specs.Following.{Followed, RefusesToShow, dated_as}
+use Rattle.follower.proofs.Words.{rules, subst, ◌∙◌, IsSoundCatalog, Followed, RefusesToShow, dated_as}
 use Rattle.follower.proofs.FollowingLemmas.{follows_on}
 use Rattle.follower.proofs.follower.Follower.show.Goals as goal
 

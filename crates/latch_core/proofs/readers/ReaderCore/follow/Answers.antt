@@ -1,5 +1,5 @@
-use Rattle.std.proofs.Common.{true≢false, ◌≤◌, sym, ◌∙◌, eq-eqb}
-use Rattle.std.proofs.lemmas.Bool.{ltb-false}
+use Rattle.latch_core.proofs.Words.{true≢false, ◌≤◌, sym, ◌∙◌, ltb-false}
+use Rattle.std.proofs.Common.{eq-eqb}
 use Rattle.latch_core.proofs.LoadingLemmas.{walk_visits}
 use Rattle.latch_core.proofs.readers.ReaderCore.follow.Goals as goal
 use Rattle.latch_core.proofs.readers.ReaderCore.follow.Goals.{then-self-eq0, else-self-eq0}

@@ -1,8 +1,7 @@
-use Rattle.std.proofs.Common.{◌≡◌, ◌++◌, ◌∙◌, List, ◌-◌, drop, ap, sym, length, length-drop, arith}
+use Rattle.latch_core.proofs.Words.{◌≡◌, ◌++◌, ◌∙◌, List, drop, ap, sym, length, length-drop, arith, drop_all, take_all, Item, Batch}
+use Rattle.std.proofs.Common.{◌-◌}
 use Rattle.std.specs.Global.{Vec}
-use Rattle.std.proofs.lemmas.List.{append-nil, drop_all, take_all}
-use Rattle.order_laws.specs.declared.items.Item.{Item}
-use Rattle.table_updates.specs.declared.updates.Update.TheVariants.{Batch}
+use Rattle.std.proofs.lemmas.List.{append-nil}
 use Rattle.latch_core.proofs.ReplacementLemmas.{all_found}
 use Rattle.latch_core.proofs.replacements.Difference.into_update.Goals as goal
 use Rattle.latch_core.proofs.replacements.Difference.into_update.Goals.{then-place-items+in_ok-extend_from_slice, else-place-items}

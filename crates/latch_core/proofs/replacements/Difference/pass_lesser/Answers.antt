@@ -1,8 +1,4 @@
-use Rattle.std.proofs.Common.{◌≡◌, Some, None, get_or, sym, ◌∙◌, ap}
-use Rattle.std.specs.Prelude.{slice_get}
-use Rattle.std.proofs.lemmas.Option.{get_or_from_slice_get, slice_get_past}
-use Rattle.order_laws.specs.declared.items.Item.{Item}
-use Rattle.latch_core.specs.declared.replacements.Difference.{Difference}
+use Rattle.latch_core.proofs.Words.{◌≡◌, Some, None, get_or, sym, ◌∙◌, ap, slice_get, get_or_from_slice_get, slice_get_past, Item, Difference}
 use Rattle.latch_core.proofs.ReplacementLemmas.{passed_at}
 use Rattle.latch_core.proofs.replacements.Difference.pass_lesser.Goals as goal
 

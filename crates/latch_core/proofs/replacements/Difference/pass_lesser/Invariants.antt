@@ -1,6 +1,5 @@
-use Rattle.std.proofs.Common.{◌≡◌, ◌∷◌, true, List, length, ◌-◌}
-use Rattle.order_laws.specs.declared.items.Item.{Item}
-use Rattle.latch_core.specs.Replacements.{is_rising, update_found}
+use Rattle.latch_core.proofs.Words.{◌≡◌, ◌∷◌, true, List, length, Item, is_rising, update_found}
+use Rattle.std.proofs.Common.{◌-◌}
 use Rattle.latch_core.proofs.replacements.Difference.pass_lesser.Given as goal
 
 abbrev pub invariant-loop-self : goal.invariant-loop-self

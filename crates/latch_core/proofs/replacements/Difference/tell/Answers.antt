@@ -1,7 +1,4 @@
-use Rattle.std.proofs.Common.{◌≡◌, ◌<◌, false, get_or, length, sym, ◌∙◌, arith}
-use Rattle.order_laws.specs.declared.items.Item.{Item}
-use Rattle.latch_core.specs.declared.replacements.Difference.{Difference}
-use Rattle.latch_core.specs.Replacements.{is_same}
+use Rattle.latch_core.proofs.Words.{◌≡◌, ◌<◌, false, get_or, length, sym, ◌∙◌, arith, Item, Difference, is_same}
 use Rattle.latch_core.proofs.ReplacementLemmas.{compared, met_at, gone_at, same_is_one}
 use Rattle.latch_core.proofs.replacements.Difference.tell.Goals as goal
 use Rattle.latch_core.proofs.replacements.Difference.tell.Goals.{else-self-items-via-then-self-items+else-eq, else-self-items-via-else-self-items}

@@ -1,11 +1,5 @@
-use Rattle.std.proofs.Common.{◌≡◌, ◌≤◌, ◌+◌, ◌*◌, ◌++◌, length, take, sym, ◌∙◌, ap, subst, arith}
-use Rattle.word_layout.specs.Layouts.{capacity_of, limit_of}
-use Rattle.rb_words.specs.Mirrors.{mirror_stores}
-use Rattle.table_updates.specs.declared.updates.Update.TheVariants.{Batch}
-use Rattle.table_updates.specs.Updates.{size_of}
-use Rattle.latch_core.specs.Plans.{update_stores}
-use Rattle.latch_core.specs.Changes.{stores_of_placed, InsertsItems}
-use Rattle.latch_core.specs.WriterViews.{WriterView}
+use Rattle.latch_core.proofs.Words.{◌≡◌, ◌≤◌, ◌+◌, ◌++◌, length, take, sym, ◌∙◌, ap, subst, arith, capacity_of, limit_of, mirror_stores, Batch, size_of, update_stores, stores_of_placed, InsertsItems, WriterView}
+use Rattle.std.proofs.Common.{◌*◌}
 use Rattle.latch_core.proofs.WriterLemmas.{rests_before}
 use Rattle.latch_core.proofs.BeginLemmas.{batch_is_small, with_room, PlansUpdate, batch_planned, planned_step, planned_begun}
 use Rattle.latch_core.proofs.writers.WriterCore.batch.Given.{Over}

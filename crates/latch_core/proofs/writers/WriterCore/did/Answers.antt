@@ -1,6 +1,4 @@
-use Rattle.std.proofs.Common.{sym, subst}
-use Rattle.latch_core.specs.Latches.{latch_after_step}
-use Rattle.latch_core.specs.Writers.{RepresentsLatch}
+use Rattle.latch_core.proofs.Words.{sym, subst, latch_after_step, RepresentsLatch}
 use Rattle.latch_core.proofs.WriterLemmas.{did_pictures}
 use Rattle.latch_core.proofs.writers.WriterCore.did.Goals as goal
 

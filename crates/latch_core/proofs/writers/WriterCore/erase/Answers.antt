@@ -1,11 +1,4 @@
-use Rattle.std.proofs.Common.{◌≡◌, ◌≤◌, ◌++◌, ◌∷◌, [], length, sym, ◌∙◌, ap, subst, arith}
-use Rattle.std.specs.Prelude.{IfSome, is_some}
-use Rattle.word_layout.specs.Layouts.{capacity_of, limit_of}
-use Rattle.rb_words.specs.Plans.{Erases}
-use Rattle.rb_words.specs.Mirrors.{mirror_stores}
-use Rattle.table_updates.specs.declared.updates.Update.TheVariants.{Erase}
-use Rattle.latch_core.specs.Plans.{update_stores}
-use Rattle.latch_core.specs.Writers.{AreInStep}
+use Rattle.latch_core.proofs.Words.{◌≡◌, ◌≤◌, ◌++◌, ◌∷◌, [], length, sym, ◌∙◌, ap, subst, arith, IfSome, is_some, capacity_of, limit_of, Erases, mirror_stores, Erase, update_stores, AreInStep}
 use Rattle.latch_core.proofs.BeginLemmas.{with_room, PlansUpdate, erase_planned, planned_step, planned_begun}
 use Rattle.latch_core.proofs.writers.WriterCore.erase.Given.{Over}
 use Rattle.latch_core.proofs.writers.WriterCore.erase.Goals as goal

@@ -1,6 +1,4 @@
-use Rattle.std.proofs.Common.{◌∙◌, sym, ap}
-use Rattle.table_updates.specs.declared.updates.Update.TheVariants.{Batch}
-use Rattle.table_updates.specs.Updates.{failed_test}
+use Rattle.latch_core.proofs.Words.{◌∙◌, sym, ap, Batch, failed_test}
 use Rattle.latch_core.proofs.writers.WriterCore.failed_test.Goals as goal
 
 pub returns-in-Batch : goal.returns-in-Batch

@@ -1,11 +1,4 @@
-use Rattle.std.proofs.Common.{◌≡◌, ◌≤◌, ◌++◌, ◌∷◌, [], length, ◌∙◌, ap, subst, arith}
-use Rattle.std.specs.Prelude.{Contains}
-use Rattle.word_layout.specs.Layouts.{capacity_of, limit_of}
-use Rattle.word_layout.specs.Words.{listed}
-use Rattle.rb_words.specs.Pictures.{Picture}
-use Rattle.rb_words.specs.Mirrors.{mirror_stores}
-use Rattle.table_updates.specs.declared.updates.Update.TheVariants.{Insert}
-use Rattle.latch_core.specs.Plans.{update_stores}
+use Rattle.latch_core.proofs.Words.{◌≡◌, ◌≤◌, ◌++◌, ◌∷◌, [], length, ◌∙◌, ap, subst, arith, Contains, capacity_of, limit_of, listed, Picture, mirror_stores, Insert, update_stores}
 use Rattle.latch_core.proofs.BeginLemmas.{taken_node, with_room, PlansUpdate, insert_planned, planned_step, planned_begun}
 use Rattle.latch_core.proofs.writers.WriterCore.insert.Given.{Over}
 use Rattle.latch_core.proofs.writers.WriterCore.insert.Goals as goal

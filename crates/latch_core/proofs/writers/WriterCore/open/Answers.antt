@@ -1,8 +1,4 @@
-use Rattle.std.proofs.Common.{◌≡◌, sym, subst, arith}
-use Rattle.word_layout.specs.Layouts.{capacity_of, limit_of}
-use Rattle.latch_core.specs.Latches.{opening_latch}
-use Rattle.latch_core.specs.WriterViews.{WriterView}
-use Rattle.latch_core.specs.Writers.{RepresentsLatch, opening_writer}
+use Rattle.latch_core.proofs.Words.{◌≡◌, sym, subst, arith, capacity_of, limit_of, opening_latch, WriterView, RepresentsLatch, opening_writer}
 use Rattle.latch_core.proofs.WriterLemmas.{opening_pictures}
 use Rattle.latch_core.proofs.writers.WriterCore.open.Goals as goal
 

@@ -1,8 +1,4 @@
-use Rattle.std.proofs.Common.{◌≡◌, sym, ◌∙◌, ap, subst}
-use Rattle.word_layout.specs.Layouts.{capacity_of, limit_of}
-use Rattle.rb_words.specs.Pictures.{Picture}
-use Rattle.latch_core.specs.WriterViews.{WriterView}
-use Rattle.latch_core.specs.Widening.{widened_writer, RepresentsWidened}
+use Rattle.latch_core.proofs.Words.{◌≡◌, sym, ◌∙◌, ap, subst, capacity_of, limit_of, Picture, WriterView, widened_writer, RepresentsWidened}
 use Rattle.latch_core.proofs.WideningLemmas.{may_widen, widened_pictures}
 use Rattle.latch_core.proofs.writers.WriterCore.widen.Goals as goal
 

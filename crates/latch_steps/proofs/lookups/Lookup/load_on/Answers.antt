@@ -1,9 +1,4 @@
-use Rattle.std.proofs.Common.{refl, ◌+◌, subst, sym, arith}
-use Rattle.latch_steps.specs.declared.events.Event.TheVariants.{Read}
-use Rattle.latch_steps.specs.declared.lookups.Lookup.{Lookup}
-use Rattle.latch_steps.specs.declared.replies.Reply.TheVariants.{Loaded, Retried}
-use Rattle.latch_steps.specs.declared.reports.Outcome.{Outcome}
-use Rattle.latch_steps.specs.Steps.{Goes, Retries}
+use Rattle.latch_steps.proofs.Words.{refl, ◌+◌, subst, sym, arith, Read, Lookup, Loaded, Retried, Outcome, Goes, Retries}
 use Rattle.latch_steps.proofs.ReportLemmas.{Loading, loads_more, load_ends, all_loaded}
 use Rattle.latch_steps.proofs.lookups.Lookup.load_on.Goals as goal
 use Rattle.latch_steps.proofs.lookups.Lookup.load_on.Goals.{in-Going, in-Retrying}

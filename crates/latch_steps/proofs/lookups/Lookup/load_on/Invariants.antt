@@ -1,7 +1,4 @@
-use Rattle.std.proofs.Common.{◌≡◌, ℕ, Some}
-use Rattle.std.specs.FinMap.{get}
-use Rattle.latch_steps.specs.Runs.{Moment}
-use Rattle.latch_steps.specs.Lookups.{IsPendingLookup}
+use Rattle.latch_steps.proofs.Words.{◌≡◌, ℕ, Some, get, Moment, IsPendingLookup}
 use Rattle.latch_steps.proofs.ReportLemmas.{Loading}
 use Rattle.latch_steps.proofs.lookups.Lookup.load_on.Given as goal
 

@@ -1,8 +1,4 @@
-use Rattle.std.proofs.Common.{refl, ap}
-use Rattle.latch_core.specs.WriterViews.{WriterView}
-use Rattle.word_layout.specs.Layouts.{capacity_of}
-use Rattle.latch_core.proofs.SoundLemmas.{sound_opening}
-use Rattle.latch_steps.specs.Runs.{opening}
+use Rattle.latch_steps.proofs.Words.{refl, ap, WriterView, capacity_of, sound_opening, opening}
 use Rattle.latch_steps.proofs.WorldLemmas.{none_in_hand}
 use Rattle.latch_steps.proofs.worlds.World.open.Goals as goal
 

@@ -1,12 +1,4 @@
-use Rattle.std.proofs.Common.{Some, cond, ◌∙◌, ap, sym, subst, refl}
-use Rattle.std.specs.Prelude.{IsSome}
-use Rattle.std.specs.Option.{option_copied_mut, option_flatten}
-use Rattle.std.specs.Ordering.{nat_cmp}
-use Rattle.std.specs.BTreeMap.{is_at}
-use Rattle.word_layout.specs.Layouts.{capacity_of}
-use Rattle.latch_steps.specs.declared.replies.Reply.TheVariants.{Loaded, Retried}
-use Rattle.latch_steps.specs.Lookups.{lookup_at}
-use Rattle.latch_steps.specs.Steps.{Goes, Retries}
+use Rattle.latch_steps.proofs.Words.{Some, cond, ◌∙◌, ap, sym, subst, refl, IsSome, option_copied_mut, option_flatten, nat_cmp, is_at, capacity_of, Loaded, Retried, lookup_at, Goes, Retries}
 use Rattle.latch_steps.proofs.WorldLemmas.{lookup_set, lookup_kept, idle, stays, returns}
 use Rattle.latch_steps.proofs.worlds.World.read.Goals as goal
 

@@ -1,6 +1,4 @@
-use Rattle.std.proofs.Common.{◌∙◌, ap, sym, subst, refl}
-use Rattle.std.specs.Prelude.{IsSome}
-use Rattle.std.specs.Option.{option_flatten}
+use Rattle.latch_steps.proofs.Words.{◌∙◌, ap, sym, subst, refl, IsSome, option_flatten}
 use Rattle.latch_steps.proofs.WorldLemmas.{lookup_set}
 use Rattle.latch_steps.proofs.ReportLemmas.{held_obeys}
 use Rattle.latch_steps.proofs.worlds.World.read_on.Goals as goal

@@ -1,6 +1,4 @@
-use Rattle.std.proofs.Common.{◌≡◌, length}
-use Rattle.latch_steps.specs.Runs.{Moment}
-use Rattle.latch_steps.specs.Worlds.{RepresentsMoment, layout_in}
+use Rattle.latch_steps.proofs.Words.{◌≡◌, length, Moment, RepresentsMoment, layout_in}
 use Rattle.latch_steps.proofs.AtOnceLemmas.{Writing}
 use Rattle.latch_steps.proofs.worlds.World.settle.Given as goal
 

@@ -1,6 +1,4 @@
-use Rattle.std.proofs.Common.{sym, subst}
-use Rattle.latch_steps.specs.declared.events.Event.{Event}
-use Rattle.latch_steps.specs.WorldSteps.{IsWorldStep}
+use Rattle.latch_steps.proofs.Words.{sym, subst, Event, IsWorldStep}
 use Rattle.latch_steps.proofs.AtOnceLemmas.{event_after}
 use Rattle.latch_steps.proofs.worlds.World.step_from.Goals as goal
 

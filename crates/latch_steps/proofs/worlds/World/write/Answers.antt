@@ -1,9 +1,4 @@
-use Rattle.std.proofs.Common.{sym, subst}
-use Rattle.latch_steps.specs.declared.events.Event.TheVariants.{Write}
-use Rattle.latch_steps.specs.declared.replies.Reply.TheVariants.{Idle}
-use Rattle.latch_steps.specs.declared.worlds.World.{World}
-use Rattle.latch_steps.specs.WorldSteps.{Does}
-use Rattle.latch_steps.specs.Worlds.{IsAtRest}
+use Rattle.latch_steps.proofs.Words.{sym, subst, Write, Idle, World, Does, IsAtRest}
 use Rattle.latch_steps.proofs.WorldLemmas.{idles}
 use Rattle.latch_steps.proofs.worlds.World.write.Goals as goal
 

@@ -1,8 +1,4 @@
-use Rattle.std.proofs.Common.{◌≡◌}
-use Rattle.latch_steps.specs.declared.commands.Command.{Command}
-use Rattle.latch_steps.specs.Reports.{IsWriting}
-use Rattle.latch_steps.specs.Runs.{Moment}
-use Rattle.latch_steps.specs.Worlds.{RepresentsMoment, layout_in}
+use Rattle.latch_steps.proofs.Words.{◌≡◌, Command, IsWriting, Moment, RepresentsMoment, layout_in}
 use Rattle.latch_steps.proofs.ReportLemmas.{Writing}
 use Rattle.latch_steps.proofs.worlds.World.write_on.Given as goal
 

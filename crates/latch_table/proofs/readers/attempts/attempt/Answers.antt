@@ -1,8 +1,4 @@
-use Rattle.std.proofs.Common.{sym, ◌∙◌, ap}
-use Rattle.word_layout.specs.Layouts.{capacity_of}
-use Rattle.latch_core.specs.Whole.{outcome_of}
-use Rattle.latch_table.specs.declared.readers.Try.TheVariants.{Answered, Retry}
-use Rattle.latch_table.specs.Seats.{reader_of}
+use Rattle.latch_table.proofs.Words.{sym, ◌∙◌, ap, capacity_of, outcome_of, Answered, Retry, reader_of}
 use Rattle.latch_table.proofs.WalkLemmas.{ready_now, table_now, tried_now}
 use Rattle.latch_table.proofs.readers.attempts.attempt.Goals as goal
 

@@ -1,10 +1,4 @@
-use Rattle.std.proofs.Common.{◌≡◌, refl, sym, ◌∙◌, ap, subst, inl, inr}
-use Rattle.word_layout.specs.Layouts.{capacity_of}
-use Rattle.latch_core.specs.Sequences.{generation_of}
-use Rattle.latch_core.specs.Whole.{outcome_of}
-use Rattle.latch_table.specs.Seats.{reader_of}
-use Rattle.latch_table.specs.Readers.{Tried}
-use Rattle.latch_table.specs.Memory.{IsRecalled, Recalled, MemoryHolds}
+use Rattle.latch_table.proofs.Words.{◌≡◌, refl, sym, ◌∙◌, ap, subst, inl, inr, capacity_of, generation_of, outcome_of, reader_of, Tried, IsRecalled, Recalled, MemoryHolds}
 use Rattle.latch_table.proofs.MemoryLemmas.{recalls_now, remembers_tried}
 use Rattle.latch_table.proofs.WalkLemmas.{begun_now, outcome_of_try, ready_now, table_now, tried_now}
 use Rattle.latch_table.proofs.readers.attempts.look.Goals.{in-Answered, in-Failed}

@@ -1,9 +1,4 @@
-use Rattle.std.proofs.Common.{rules, ◌∙◌, refl, sym, subst}
-use Rattle.atomic_table.specs.Table.{Me}
-use Rattle.atomic_table.specs.Seated.{TableId}
-use Rattle.latch_core.specs.WriterViews.{WriterView}
-use Rattle.latch_table.specs.declared.knowledge.Knowledge.{Knowledge}
-use Rattle.latch_table.specs.Writers.{WriterState, writer_state, IsTied, Begins}
+use Rattle.latch_table.proofs.Words.{rules, ◌∙◌, refl, sym, subst, Me, TableId, WriterView, Knowledge, WriterState, writer_state, IsTied, Begins}
 use Rattle.latch_table.proofs.WriterLemmas.{tied_begun, begins}
 use Rattle.latch_table.proofs.writers.Writer.begin.Goals as goal
 
@@ -11,8 +6,8 @@ pub invariant_of-self-2 : goal.invariant_of-self-2
 invariant_of-self-2 g c =
     let o = g.O.TreeOrder.order in
     let w = c.self.inside in
-    let core' : WriterView = c.begin_from.new.self in
-    let of = c.in_ok-begin_from.ensures in
+    let core' : WriterView = c.begin.new.self in
+    let of = c.in_ok-begin.ensures in
     let table = c.load_ahead.ensures.table ∙ c.take_update.ensures.table in
     let view = c.load_ahead.ensures.view ∙ c.take_update.ensures.view in
     let tied = tied_begun o g.met.O.TreeOrder.lawful w.seat.table_id w.readers w.seat.me w.core c.self.invariant.2 c.args.u of.accepted core' of.begun.1 in (
@@ -26,8 +21,8 @@ pub returns : goal.returns
 returns g c =
     let o = g.O.TreeOrder.order in
     let w = c.self.inside in
-    let core' : WriterView = c.begin_from.new.self in
-    let of = c.in_ok-begin_from.ensures in
+    let core' : WriterView = c.begin.new.self in
+    let of = c.in_ok-begin.ensures in
     let table = c.load_ahead.ensures.table ∙ c.take_update.ensures.table in
     let view = c.load_ahead.ensures.view ∙ c.take_update.ensures.view in
     let begun = begins o g.met.O.TreeOrder.lawful w.seat.table_id w.readers w.seat.me w.core c.self.invariant.2 c.args.u of.accepted core' of.begun.1 in

@@ -1,10 +1,4 @@
-use Rattle.std.proofs.Common.{rules, ◌≡◌, sym, ◌∙◌, subst}
-use Rattle.atomic_table.specs.Seated.{TableId}
-use Rattle.word_layout.specs.Layouts.{capacity_of}
-use Rattle.latch_table.specs.declared.knowledge.WriterKnowledge.{WriterKnowledge}
-use Rattle.latch_core.specs.Latched.{IsLatched}
-use Rattle.latch_table.specs.Seats.{writer_of}
-use Rattle.latch_table.specs.Writers.{WriterState, writer_state, IsTied, Finds}
+use Rattle.latch_table.proofs.Words.{rules, ◌≡◌, sym, ◌∙◌, subst, TableId, capacity_of, WriterKnowledge, IsLatched, writer_of, WriterState, writer_state, IsTied, Finds}
 use Rattle.latch_table.proofs.WriterLemmas.{latched_now, tied_loads, finds_state}
 use Rattle.latch_table.proofs.writers.Writer.find.Goals as goal
 

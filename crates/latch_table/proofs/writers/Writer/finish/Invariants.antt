@@ -1,4 +1,4 @@
-use Rattle.latch_table.specs.Writers.{OnTheWay, steps_left_of}
+use Rattle.latch_table.proofs.Words.{OnTheWay, steps_left_of}
 use Rattle.latch_table.proofs.writers.Writer.finish.Given as goal
 
 abbrev pub invariant-loop : goal.invariant-loop

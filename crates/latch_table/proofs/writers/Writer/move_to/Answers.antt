@@ -1,11 +1,4 @@
-use Rattle.std.proofs.Common.{rules, sym, ap, ◌∙◌, subst}
-use Rattle.word_layout.specs.Layouts.{capacity_of}
-use Rattle.word_layout.specs.Words.{words_for}
-use Rattle.word_layout.specs.Wider.{wider_words}
-use Rattle.latch_core.specs.WriterViews.{WriterView}
-use Rattle.latch_table.specs.Seats.{writer_of}
-use Rattle.latch_table.specs.Writers.{WriterState, writer_state}
-use Rattle.latch_table.specs.Enlarging.{Enlarges}
+use Rattle.latch_table.proofs.Words.{rules, sym, ap, ◌∙◌, subst, capacity_of, words_for, wider_words, WriterView, writer_of, WriterState, writer_state, Enlarges}
 use Rattle.latch_table.proofs.EnlargingLemmas.{opens_wider, tied_there, enlarges}
 use Rattle.latch_table.proofs.writers.Writer.move_to.Goals as goal
 

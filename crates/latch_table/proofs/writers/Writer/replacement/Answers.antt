@@ -1,10 +1,4 @@
-use Rattle.std.proofs.Common.{◌≡◌, ◌∙◌, [], List, ℕ, sym, ap, subst, arith, length}
-use Rattle.std.proofs.lemmas.List.{nil_from_length}
-use Rattle.word_layout.specs.Words.{at, root_word}
-use Rattle.latch_core.specs.declared.replacements.Difference.{Difference}
-use Rattle.latch_table.specs.Writers.{WriterState}
-use Rattle.latch_table.specs.Seats.{writer_of}
-use Rattle.latch_table.specs.Replacing.{LeadsToFew, TellsTree, IsReplacement}
+use Rattle.latch_table.proofs.Words.{◌≡◌, ◌∙◌, [], List, ℕ, sym, ap, subst, arith, length, nil_from_length, at, root_word, Difference, WriterState, writer_of, LeadsToFew, TellsTree, IsReplacement}
 use Rattle.latch_table.proofs.ReplacingLemmas.{few_there, tells_there, leads_to_few, all_told, is_replacement}
 use Rattle.latch_table.proofs.writers.Writer.replacement.Goals as goal
 

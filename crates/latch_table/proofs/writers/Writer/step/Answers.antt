@@ -1,11 +1,4 @@
-use Rattle.std.proofs.Common.{rules, ◌≡◌, Some, sym, subst}
-use Rattle.std.specs.Arc.{arc_value}
-use Rattle.word_layout.specs.Words.{words_for}
-use Rattle.atomic_table.specs.Table.{Me}
-use Rattle.atomic_table.specs.Seated.{TableId}
-use Rattle.latch_core.specs.WriterViews.{WriterView}
-use Rattle.latch_table.specs.declared.knowledge.Knowledge.{Knowledge}
-use Rattle.latch_table.specs.Writers.{WriterState, writer_state, IsTied, Steps, kind_of_store}
+use Rattle.latch_table.proofs.Words.{rules, ◌≡◌, Some, sym, subst, arc_value, words_for, Me, TableId, WriterView, Knowledge, WriterState, writer_state, IsTied, Steps, kind_of_store}
 use Rattle.latch_table.proofs.WriterLemmas.{allows_next, tied_after, steps_next, did_flip, did_store}
 use Rattle.latch_table.proofs.writers.Writer.step.Goals as goal
 use Rattle.latch_table.proofs.writers.Writer.step.Goals.{then-store-eq0, else-store-eq0}

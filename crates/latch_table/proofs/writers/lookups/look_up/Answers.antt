@@ -1,7 +1,4 @@
-use Rattle.std.proofs.Common.{sym, ◌∙◌, ap}
-use Rattle.word_layout.specs.Layouts.{capacity_of}
-use Rattle.latch_core.specs.Whole.{outcome_of}
-use Rattle.latch_table.specs.Seats.{writer_of}
+use Rattle.latch_table.proofs.Words.{sym, ◌∙◌, ap, capacity_of, outcome_of, writer_of}
 use Rattle.latch_table.proofs.WalkLemmas.{own_ready_now, own_table_now, view_now, not_again, finds}
 use Rattle.latch_table.proofs.writers.lookups.look_up.Goals as goal
 

@@ -1,10 +1,5 @@
-use Rattle.std.proofs.Common.{◌≡◌, refl, ◌-◌, ◌∷◌, [], suc, ◌∙◌, sym, ap, subst, arith}
+use Rattle.latch_table.proofs.Words.{◌≡◌, refl, ◌-◌, ◌∷◌, [], suc, ◌∙◌, sym, ap, subst, arith, TableId, capacity_of, at, item_at, left_word, right_word, items, Tells, writer_of}
 use Rattle.std.proofs.lemmas.Result.{on_ok_weaker}
-use Rattle.atomic_table.specs.Seated.{TableId}
-use Rattle.word_layout.specs.Layouts.{capacity_of}
-use Rattle.word_layout.specs.Words.{at, item_at, left_word, right_word, items}
-use Rattle.latch_core.specs.Replacements.{Tells}
-use Rattle.latch_table.specs.Seats.{writer_of}
 use Rattle.latch_table.proofs.ReplacingLemmas.{no_tree, few_below, few_there, still_writes, tells_fork, tells_there}
 use Rattle.latch_table.proofs.writers.replacements.+tell_tree.Goals as goal
 

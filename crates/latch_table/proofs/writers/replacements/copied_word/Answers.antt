@@ -1,5 +1,4 @@
-use Rattle.std.proofs.Common.{◌<◌, ap, subst}
-use Rattle.atomic_table.specs.Seated.{TableId}
+use Rattle.latch_table.proofs.Words.{◌<◌, ap, subst, TableId}
 use Rattle.latch_table.proofs.RuleLemmas.{allows_copy}
 use Rattle.latch_table.proofs.writers.replacements.copied_word.Goals as goal
 

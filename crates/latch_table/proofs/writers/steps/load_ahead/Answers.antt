@@ -1,8 +1,5 @@
-use Rattle.std.proofs.Common.{ap, subst, ◌∙◌, ◌<◌, List, length, arith}
-use lib.ListN.{get_or}
+use Rattle.latch_table.proofs.Words.{ap, subst, ◌∙◌, ◌<◌, List, length, arith, get_or, TableId, Store}
 use Rattle.std.proofs.lemmas.List.Elements.{All-get_or}
-use Rattle.atomic_table.specs.Seated.{TableId}
-use Rattle.word_layout.specs.declared.stores.Store.{Store}
 use Rattle.latch_table.proofs.RuleLemmas.{allows_copy}
 use Rattle.latch_table.proofs.writers.steps.load_ahead.Goals as goal
 

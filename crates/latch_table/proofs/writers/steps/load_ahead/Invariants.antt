@@ -1,4 +1,4 @@
-use Rattle.std.proofs.Common.{◌≡◌}
+use Rattle.latch_table.proofs.Words.{◌≡◌}
 use Rattle.latch_table.proofs.writers.steps.load_ahead.Given as goal
 
 abbrev pub invariant-loop-place : goal.invariant-loop-place

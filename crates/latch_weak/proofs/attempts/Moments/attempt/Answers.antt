@@ -1,4 +1,4 @@
-use Rattle.word_layout.specs.Layouts.{capacity_of}
+use Rattle.latch_weak.proofs.Words.{capacity_of}
 use Rattle.latch_core.specs.Whole.{outcome_of}
 use Rattle.latch_weak.proofs.ReaderLemmas.{ready, attempted}
 use Rattle.latch_weak.proofs.attempts.Moments.attempt.Goals as goal

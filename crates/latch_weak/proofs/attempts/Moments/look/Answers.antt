@@ -1,7 +1,5 @@
-use Rattle.std.proofs.Common.{arith, refl, ap, ◌∙◌, ◌≡◌, ◌<◌, set, get_or, length, subst}
-use Rattle.std.specs.Prelude.{max}
+use Rattle.latch_weak.proofs.Words.{arith, refl, ap, ◌∙◌, ◌≡◌, ◌<◌, set, get_or, length, subst, max, ordered_before}
 use Rattle.std.proofs.lemmas.Grind.{get_or_default_zero}
-use Rattle.latch_weak.specs.Barriers.{ordered_before}
 use Rattle.latch_weak.proofs.BarrierLemmas.{last_at_most}
 use Rattle.latch_weak.proofs.ReaderLemmas.{looked}
 use Rattle.latch_weak.proofs.attempts.Moments.look.Goals as goal

@@ -1,5 +1,4 @@
-use Rattle.std.proofs.Common.{arith, ap, ◌∙◌, sym, cond}
-use Rattle.latch_weak.specs.Barriers.{last_store, ordered_before}
+use Rattle.latch_weak.proofs.Words.{arith, ap, ◌∙◌, sym, cond, last_store, ordered_before}
 use Rattle.latch_weak.proofs.BarrierLemmas.{last_at_most}
 use Rattle.latch_weak.proofs.ReaderLemmas.{looked_first, looked_alone}
 use Rattle.latch_weak.proofs.attempts.Moments.look_first.Goals as goal

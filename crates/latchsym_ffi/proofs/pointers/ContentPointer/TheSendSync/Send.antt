@@ -1,7 +1,6 @@
 use denote.Struct.Struct.{exits_of}
 use denote.Struct.Owning.{shape, fields, to}
-use denote.Param.Send.{IsSend, AllSend, owning_send, struct_send, sendable}
-use Rattle.std_alloc.proofs.SendSync.{quiet}
+use Rattle.latchsym_ffi.proofs.Words.{IsSend, AllSend, owning_send, struct_send, sendable, quiet}
 use Rattle.std_heap.proofs.Global.TheSendSync as heap
 use Rattle.latchsym_ffi.specs.contracts.pointers.ContentPointer.{the_row, the_type}
 use Rattle.latchsym_ffi.proofs.contents.Content.TheSendSync.{the_send as content}

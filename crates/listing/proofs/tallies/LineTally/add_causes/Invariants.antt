@@ -1,5 +1,4 @@
-use Rattle.std.proofs.Common.{◌≡◌, ◌++◌, take}
-use Rattle.listing.specs.Tallies.{rows_of}
+use Rattle.listing.proofs.Words.{◌≡◌, ◌++◌, take, rows_of}
 use Rattle.listing.proofs.tallies.LineTally.add_causes.Given as goal
 
 -- there is a row for each cause so far

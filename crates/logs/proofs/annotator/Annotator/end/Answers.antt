@@ -1,6 +1,5 @@
-use Rattle.std.proofs.Common.{◌∙◌, ◌++◌, ℕ, List, ap}
+use Rattle.logs.proofs.Words.{◌∙◌, ◌++◌, ℕ, List, ap, Ends, Puts}
 use Rattle.logs.specs.AnnotatedLogs.{annotated_line}
-use Rattle.logs.specs.Annotation.{Ends, Puts}
 use Rattle.logs.proofs.LineLemmas.{last_is_put}
 use Rattle.logs.proofs.PutLemmas.{fault_puts, told}
 use Rattle.logs.proofs.annotator.Annotator.end.Goals as goal

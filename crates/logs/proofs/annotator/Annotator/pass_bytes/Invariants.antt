@@ -1,5 +1,4 @@
-use Rattle.std.proofs.Common.{◌≡◌, ◌++◌, List, ℕ, length}
-use Rattle.logs.specs.Annotation.{Adds, Passes}
+use Rattle.logs.proofs.Words.{◌≡◌, ◌++◌, List, ℕ, length, Adds, Passes}
 use Rattle.logs.proofs.annotator.Annotator.pass_bytes.Given as goal
 
 abbrev pub invariant-loop-line : goal.invariant-loop-line

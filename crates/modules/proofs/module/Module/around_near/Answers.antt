@@ -1,4 +1,4 @@
-use Rattle.std.proofs.Common.{sym, subst}
+use Rattle.modules.proofs.Words.{sym, subst}
 use Rattle.modules.specs.Index.{IsRising}
 use Rattle.modules.proofs.OrderedLemmas.{rising}
 use Rattle.modules.proofs.module.Module.around_near.Goals as goal

@@ -1,4 +1,4 @@
-use Rattle.std.proofs.Common.{take}
+use Rattle.modules.proofs.Words.{take}
 use Rattle.modules.proofs.Definitions.{AreNamed, lines_of_all}
 use Rattle.modules.proofs.names.Names.of_runs.Given as goal
 

@@ -1,4 +1,4 @@
-use Rattle.std.proofs.Common.{◌≡◌, map, take}
+use Rattle.modules.proofs.Words.{◌≡◌, map, take}
 use Rattle.modules.proofs.Definitions.{lines_at, region_line_region}
 use Rattle.modules.proofs.placing.Placed.in_lines.Given as goal
 

@@ -1,5 +1,4 @@
-use Rattle.modules.proofs.Words.{◌≡◌, sym, subst, true, All, bytes_eq}
-use Rattle.std.proofs.lemmas.List.Elements.{All-filter}
+use Rattle.modules.proofs.Words.{◌≡◌, sym, subst, true, All, bytes_eq, All-filter}
 use Rattle.modules.proofs.Definitions.{region_fits, ListedRegion}
 use Rattle.modules.proofs.ByNameLemmas.{all_at}
 use Rattle.modules.proofs.placing.RegionLines.place.Goals as goal

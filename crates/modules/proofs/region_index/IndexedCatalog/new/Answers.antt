@@ -1,6 +1,4 @@
-use Rattle.modules.proofs.Words.{List, subst, rules, IsPermutation}
-use Rattle.std.proofs.lemmas.List.Sorted.{IsNonDecreasingBy-from_sort_by_key}
-use Rattle.order_laws.specs.declared.items.Item.{Item}
+use Rattle.modules.proofs.Words.{List, subst, rules, IsPermutation, IsNonDecreasingBy-from_sort_by_key, Item}
 use Rattle.modules.proofs.region_index.IndexedCatalog.new.Goals as goal
 
 pub invariant_of-result : goal.invariant_of-result

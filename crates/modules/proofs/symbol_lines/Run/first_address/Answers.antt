@@ -1,5 +1,4 @@
-use Rattle.modules.proofs.Words.{List, ◌∙◌, ap, sym, find, option_map, bytes_eq}
-use Rattle.modules.specs.Entries.{SymbolEntry}
+use Rattle.modules.proofs.Words.{List, ◌∙◌, ap, sym, find, option_map, bytes_eq, SymbolEntry}
 use Rattle.modules.proofs.RunLemmas.{first_of_some, first_of_none}
 use Rattle.modules.proofs.symbol_lines.Run.first_address.Goals as goal
 

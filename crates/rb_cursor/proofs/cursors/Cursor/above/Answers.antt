@@ -1,7 +1,5 @@
-use Rattle.std.proofs.Common.{◌-◌, refl, sym, ap, ◌∙◌, arith}
+use Rattle.rb_cursor.proofs.Words.{◌-◌, refl, sym, ap, ◌∙◌, arith, step_at, option_copied}
 use Rattle.rb_cursor.proofs.ChangeLemmas.{nearest_is, no_path, last_leads, last_there}
-use Rattle.rb_cursor.specs.Writes.{step_at}
-use Rattle.std.proofs.Common.{option_copied}
 use Rattle.rb_cursor.proofs.cursors.Cursor.above.Goals as goal
 
 pub returns-then-self-eq0 : goal.returns-then-self-eq0

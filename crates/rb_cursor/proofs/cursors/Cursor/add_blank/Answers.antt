@@ -1,8 +1,5 @@
-use Rattle.std.proofs.Common.{ℕ, ◌+◌, refl, sym, ap, ◌∙◌, arith, subst, Some}
+use Rattle.rb_cursor.proofs.Words.{ℕ, ◌+◌, refl, sym, ap, ◌∙◌, arith, subst, Some, OnErr-from, Slab, slab_len, Updates, Node}
 use Rattle.rb_cursor.proofs.BlankLemmas.{grows, blank_node, blanked}
-use Rattle.facts.proofs.Options.{OnErr-from}
-use Rattle.slab.specs.Slab.{Slab, slab_len, Updates}
-use Rattle.rb_cursor.specs.declared.nodes.Node.{Node}
 use Rattle.rb_cursor.proofs.HeldLemmas.{Moved}
 use Rattle.rb_cursor.proofs.cursors.Cursor.add_blank.Goals as goal
 

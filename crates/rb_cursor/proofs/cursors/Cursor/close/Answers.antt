@@ -1,8 +1,5 @@
-use Rattle.std.proofs.Common.{◌-◌, refl, sym, ap, ◌∙◌, arith}
+use Rattle.rb_cursor.proofs.Words.{◌-◌, refl, sym, ap, ◌∙◌, arith, with_value, closed_zipper, step_at}
 use Rattle.rb_cursor.proofs.ChangeLemmas.{closes, not_closed, no_path, last_leads, last_there}
-use Rattle.slab.specs.Slab.{with_value}
-use Rattle.rb_cursor.specs.Closing.{closed_zipper}
-use Rattle.rb_cursor.specs.Writes.{step_at}
 use Rattle.rb_cursor.proofs.HeldLemmas.{Moved}
 use Rattle.std.specs.Option.{option_copied_mut}
 use Rattle.rb_cursor.proofs.cursors.Cursor.close.Goals as goal

@@ -1,4 +1,4 @@
-use Rattle.std.proofs.Common.{◌∙◌}
+use Rattle.rb_cursor.proofs.Words.{◌∙◌}
 use Rattle.rb_cursor.proofs.ChangeLemmas.{closed_to_none}
 use Rattle.rb_cursor.proofs.cursors.Cursor.close_all.Goals as goal
 

@@ -1,6 +1,5 @@
-use Rattle.std.proofs.Common.{refl}
+use Rattle.rb_cursor.proofs.Words.{refl, step_at}
 use Rattle.rb_cursor.proofs.ChangeLemmas.{closes_to, not_closed_to}
-use Rattle.rb_cursor.specs.Writes.{step_at}
 use Rattle.rb_cursor.proofs.cursors.Cursor.close_to.Goals as goal
 
 pub invariant_of-self : goal.invariant_of-self

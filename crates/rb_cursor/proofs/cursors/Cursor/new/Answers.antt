@@ -1,4 +1,4 @@
-use Rattle.std.proofs.Common.{refl}
+use Rattle.rb_cursor.proofs.Words.{refl}
 use Rattle.rb_cursor.proofs.HeldLemmas.{first}
 use Rattle.rb_cursor.proofs.cursors.Cursor.new.Goals as goal
 

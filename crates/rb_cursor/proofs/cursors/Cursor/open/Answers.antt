@@ -1,5 +1,4 @@
-use Rattle.std.proofs.Common.{◌-◌, ℕ, refl, sym, subst, arith}
-use Rattle.rb_cursor.specs.Opening.{OpensSide}
+use Rattle.rb_cursor.proofs.Words.{◌-◌, ℕ, refl, sym, subst, arith, OpensSide}
 use Rattle.rb_cursor.proofs.HeldLemmas.{IsInside, show, with_step, HasOpened, opened}
 use Rattle.rb_cursor.proofs.HeldLemmas.{none_there, depth_is}
 use Rattle.rb_cursor.proofs.cursors.Cursor.open.Goals as goal

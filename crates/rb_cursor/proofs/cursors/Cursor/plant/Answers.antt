@@ -1,7 +1,5 @@
-use Rattle.std.proofs.Common.{◌-◌, arith}
-use Rattle.rb_cursor.specs.Tops.{planted}
+use Rattle.rb_cursor.proofs.Words.{◌-◌, arith, planted, IsSome-from_ne}
 use Rattle.rb_cursor.proofs.HeldLemmas.{Moved, room_is}
-use Rattle.facts.proofs.Options.{IsSome-from_ne}
 use Rattle.rb_cursor.proofs.BlankLemmas.{blank_leads, blank_there, plants}
 use Rattle.rb_cursor.proofs.TurnLemmas.{leads_on}
 use Rattle.rb_cursor.proofs.cursors.Cursor.plant.Goals as goal

@@ -1,4 +1,4 @@
-use Rattle.std.proofs.Common.{◌≡◌, ◌-◌, ◌≤◌}
+use Rattle.rb_cursor.proofs.Words.{◌≡◌, ◌-◌, ◌≤◌}
 use Rattle.rb_cursor.proofs.cursors.Cursor.reserve.Given as goal
 
 abbrev pub invariant-loop-self : goal.invariant-loop-self

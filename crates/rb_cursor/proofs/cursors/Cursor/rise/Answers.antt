@@ -1,4 +1,4 @@
-use Rattle.std.proofs.Common.{◌-◌, ◌∙◌, arith}
+use Rattle.rb_cursor.proofs.Words.{◌-◌, ◌∙◌, arith}
 use Rattle.rb_cursor.proofs.StepLemmas.{risen_by}
 use Rattle.rb_cursor.proofs.cursors.Cursor.rise.Goals as goal
 

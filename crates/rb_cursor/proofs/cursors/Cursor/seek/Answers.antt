@@ -1,11 +1,7 @@
-use Rattle.std.proofs.Common.{◌≡◌, ◌-◌, List, sym, ap, ◌∙◌, arith}
-use Rattle.rb_trees.specs.Trees.{ColouredTree}
-use Rattle.rb_trees.specs.Paths.{Above}
-use Rattle.rb_cursor.specs.Keyed.{record_of}
+use Rattle.rb_cursor.proofs.Words.{◌≡◌, ◌-◌, List, sym, ap, ◌∙◌, arith, ColouredTree, Above, record_of, Equal-from_is_eq}
 use Rattle.rb_cursor.proofs.HeldLemmas.{show, written_back}
 use Rattle.rb_cursor.proofs.SeekLemmas.{Went, step_fits, seen_way, seen_goes, seen_ends, seen_misses}
 use Rattle.rb_cursor.proofs.cursors.Cursor.seek.Given.{Over}
-use Rattle.facts.proofs.Orderings.{Equal-from_is_eq}
 use Rattle.rb_cursor.proofs.cursors.Cursor.seek.Goals as goal
 
 pub set_step-requires : goal.set_step-requires

@@ -1,4 +1,4 @@
-use Rattle.rb_cursor.specs.Opening.{weight}
+use Rattle.rb_cursor.proofs.Words.{weight}
 use Rattle.rb_cursor.proofs.HeldLemmas.{show}
 use Rattle.rb_cursor.proofs.SeekLemmas.{SeekState, seen_way}
 use Rattle.rb_cursor.proofs.cursors.Cursor.seek.Given as goal

@@ -1,6 +1,4 @@
-use Rattle.std.proofs.Common.{◌-◌, Bool, List, refl, sym, ap, ◌∙◌, arith}
-use Rattle.rb_trees.specs.Trees.{ColouredTree}
-use Rattle.rb_trees.specs.Paths.{Above}
+use Rattle.rb_cursor.proofs.Words.{◌-◌, Bool, List, refl, sym, ap, ◌∙◌, arith, ColouredTree, Above}
 use Rattle.rb_cursor.proofs.HeldLemmas.{none_there, show}
 use Rattle.rb_cursor.proofs.SeekLemmas.{Went, step_fits, apart_way, apart_goes, apart_ends}
 use Rattle.rb_cursor.proofs.SeekLemmas.{apart_meets}

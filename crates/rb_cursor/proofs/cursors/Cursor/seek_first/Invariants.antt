@@ -1,7 +1,4 @@
-use Rattle.std.proofs.Common.{◌≡◌, ◌+◌, ◌≤◌, length}
-use Rattle.rb_trees.specs.Trees.{shape, depth}
-use Rattle.rb_trees.specs.Paths.{first_place, first_way}
-use Rattle.rb_cursor.specs.Opening.{weight}
+use Rattle.rb_cursor.proofs.Words.{◌≡◌, ◌+◌, ◌≤◌, length, shape, depth, first_place, first_way, weight}
 use Rattle.rb_cursor.proofs.cursors.Cursor.seek_first.Given as goal
 
 abbrev pub invariant-loop-fork : goal.invariant-loop-fork

@@ -1,5 +1,4 @@
-use Rattle.std.proofs.Common.{◌-◌, refl, arith}
-use Rattle.rb_trees.specs.Paths.{way_by}
+use Rattle.rb_cursor.proofs.Words.{◌-◌, refl, arith, way_by}
 use Rattle.rb_cursor.proofs.HeldLemmas.{none_there, show}
 use Rattle.rb_cursor.proofs.SeekLemmas.{Went, step_fits, item_goes, way_ends}
 use Rattle.rb_cursor.proofs.cursors.Cursor.seek_leaf.Given.{Over}

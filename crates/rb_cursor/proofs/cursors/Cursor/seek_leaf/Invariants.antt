@@ -1,5 +1,4 @@
-use Rattle.rb_cursor.specs.Opening.{weight}
-use Rattle.rb_trees.specs.Paths.{way_by}
+use Rattle.rb_cursor.proofs.Words.{weight, way_by}
 use Rattle.rb_cursor.proofs.HeldLemmas.{show}
 use Rattle.rb_cursor.proofs.SeekLemmas.{SeekState}
 use Rattle.rb_cursor.proofs.cursors.Cursor.seek_leaf.Given as goal

@@ -1,5 +1,4 @@
-use Rattle.std.proofs.Common.{◌+◌, ◌-◌, arith}
-use Rattle.rb_cursor.specs.Tops.{top_taken}
+use Rattle.rb_cursor.proofs.Words.{◌+◌, ◌-◌, arith, top_taken}
 use Rattle.rb_cursor.proofs.HeldLemmas.{Moved, top_present}
 use Rattle.rb_cursor.proofs.BlankLemmas.{thin_leads, room_fits, takes}
 use Rattle.rb_cursor.proofs.TurnLemmas.{leads_on}

@@ -1,4 +1,4 @@
-use Rattle.std.proofs.Common.{◌∙◌}
+use Rattle.rb_cursor.proofs.Words.{◌∙◌}
 use Rattle.rb_cursor.proofs.ReadLemmas.{hand_read, hand_is}
 use Rattle.rb_cursor.proofs.cursors.Cursor.tree.Goals as goal
 

@@ -1,8 +1,4 @@
-use Rattle.std.proofs.Common.{◌-◌, ℕ, sym, ap, ◌∙◌, arith}
-use Rattle.rb_trees.specs.declared.Side.{Side}
-use Rattle.rb_cursor.specs.declared.nodes.Node.{Node}
-use Rattle.rb_trees.specs.Sides.{opposite}
-use Rattle.rb_cursor.specs.Sides.{child_at, with_link}
+use Rattle.rb_cursor.proofs.Words.{◌-◌, ℕ, sym, ap, ◌∙◌, arith, Side, Node, opposite, child_at, with_link}
 use Rattle.rb_cursor.proofs.TurnLemmas.{with_turn, turned_to, turns, lone, none_turned, leads_on}
 use Rattle.rb_cursor.proofs.HeldLemmas.{Moved, none_there}
 use Rattle.rb_cursor.proofs.cursors.Cursor.turn.Goals as goal

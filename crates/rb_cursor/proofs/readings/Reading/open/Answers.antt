@@ -1,4 +1,4 @@
-use Rattle.std.proofs.Common.{◌-◌, sym, arith}
+use Rattle.rb_cursor.proofs.Words.{◌-◌, sym, arith}
 use Rattle.rb_cursor.proofs.ReadLemmas.{opens_read, empty_read}
 use Rattle.rb_cursor.proofs.readings.Reading.open.Goals as goal
 

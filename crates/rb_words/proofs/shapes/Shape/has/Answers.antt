@@ -1,9 +1,5 @@
-use Rattle.std.proofs.Common.{◌∙◌, ap}
-use Rattle.std.specs.Prelude.{is_some}
-use Rattle.order_laws.specs.Tables.{has}
+use Rattle.rb_words.proofs.Words.{◌∙◌, ap, is_some, has, item_with_word, found_by_word, any_has}
 use Rattle.rb_trees.specs.Erased.{first_word_at, found}
-use Rattle.rb_trees.specs.Found.{item_with_word}
-use Rattle.rb_trees.proofs.SoughtRows.{found_by_word, any_has}
 use Rattle.rb_words.proofs.shapes.Shape.has.Goals as goal
 
 pub returns-then-in_line : goal.returns-then-in_line

@@ -1,7 +1,4 @@
-use Rattle.std.proofs.Common.{◌∙◌, sym, ap}
-use Rattle.order_laws.specs.Tables.{meets, without_all}
-use Rattle.rb_trees.specs.Found.{meets_on_the_way, meets_anywhere}
-use Rattle.rb_trees.proofs.MeetRows.{met_meets, met_any_meets}
+use Rattle.rb_words.proofs.Words.{◌∙◌, sym, ap, meets, without_all, meets_on_the_way, meets_anywhere, met_meets, met_any_meets}
 use Rattle.rb_words.proofs.shapes.Shape.meets_with.Goals as goal
 
 pub returns-then-valid : goal.returns-then-valid

@@ -1,6 +1,4 @@
-use Rattle.std.proofs.Common.{refl, sym, subst, arith}
-use Rattle.word_layout.specs.Layouts.{capacity_of}
-use Rattle.word_layout.specs.Copies.{copy_number}
+use Rattle.rb_words.proofs.Words.{refl, sym, subst, arith, capacity_of, copy_number}
 use Rattle.rb_words.proofs.PlanLemmas.{AfterErase, after_erase, few_steps}
 use Rattle.rb_words.proofs.shapes.Shape.plan_erase_found.Given.{Over}
 use Rattle.rb_words.proofs.shapes.Shape.plan_erase_found.Goals as goal

@@ -1,6 +1,4 @@
-use Rattle.std.proofs.Common.{arith}
-use Rattle.word_layout.specs.Layouts.{capacity_of}
-use Rattle.word_layout.specs.Copies.{copy_number}
+use Rattle.rb_words.proofs.Words.{arith, capacity_of, copy_number}
 use Rattle.rb_words.proofs.PlanLemmas.{AfterInsert, shown_insert, few_steps}
 use Rattle.rb_words.proofs.shapes.Shape.plan_links.Given.{Over}
 use Rattle.rb_words.proofs.shapes.Shape.plan_links.Goals as goal

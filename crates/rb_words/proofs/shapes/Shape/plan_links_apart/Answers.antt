@@ -1,8 +1,4 @@
-use Rattle.std.proofs.Common.{◌≡◌, ◌∙◌, false, sym, ap, arith}
-use Rattle.order_laws.specs.Tables.{meets}
-use Rattle.order_laws.proofs.PlaceLemmas.{without_none}
-use Rattle.word_layout.specs.Layouts.{capacity_of}
-use Rattle.word_layout.specs.Copies.{copy_number}
+use Rattle.rb_words.proofs.Words.{◌≡◌, ◌∙◌, false, sym, ap, arith, meets, without_none, capacity_of, copy_number}
 use Rattle.rb_words.proofs.PlanLemmas.{AfterInsert, shown_insert, few_steps, met_none}
 use Rattle.rb_words.proofs.shapes.Shape.plan_links_apart.Given.{Over}
 use Rattle.rb_words.proofs.shapes.Shape.plan_links_apart.Goals as goal

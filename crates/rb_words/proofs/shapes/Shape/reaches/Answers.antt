@@ -1,8 +1,4 @@
-use Rattle.std.proofs.Common.{sym, ◌∙◌, ap, subst}
-use Rattle.std.specs.Prelude.{Contains}
-use Rattle.rb_trees.proofs.ListedRows.{reaches_shown}
-use Rattle.word_layout.specs.Words.{listed}
-use Rattle.rb_trees.specs.Found.{has_node}
+use Rattle.rb_words.proofs.Words.{sym, ◌∙◌, ap, subst, Contains, reaches_shown, listed, has_node}
 use Rattle.rb_words.proofs.shapes.Shape.reaches.Goals as goal
 
 pub returns : goal.returns

@@ -1,9 +1,5 @@
-use Rattle.std.proofs.Common.{◌≤◌, sym, subst}
-use Rattle.word_layout.specs.Layouts.{capacity_of}
-use Rattle.word_layout.specs.Copies.{copy_number}
-use Rattle.rb_words.specs.Pictures.{Picture}
+use Rattle.rb_words.proofs.Words.{◌≤◌, sym, subst, capacity_of, copy_number, Picture, picture_of}
 use Rattle.rb_words.specs.Wider.{IsPicturedWider}
-use Rattle.rb_words.specs.TreePictures.{picture_of}
 use Rattle.rb_words.proofs.WiderLemmas.{pictured_wider}
 use Rattle.rb_words.proofs.shapes.Shape.widen.Given.{Over}
 use Rattle.rb_words.proofs.shapes.Shape.widen.Goals as goal

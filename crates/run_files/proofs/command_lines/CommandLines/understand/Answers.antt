@@ -1,5 +1,4 @@
-use Rattle.std.proofs.Common.{◌∙◌, [], ap}
-use Rattle.texts.proofs.SaidLemmas.{none_before}
+use Rattle.run_files.proofs.Words.{◌∙◌, [], ap, none_before}
 use Rattle.run_files.proofs.TraceLineLemmas.{gone_past}
 use Rattle.run_files.proofs.command_lines.CommandLines.understand.Goals as goal
 

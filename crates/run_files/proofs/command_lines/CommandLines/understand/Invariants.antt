@@ -1,6 +1,4 @@
-use Rattle.std.proofs.Common.{◌≡◌, ℕ, List}
-use Rattle.latch_steps.specs.declared.commands.Command.{Command}
-use Rattle.texts.specs.Said.{entries_after}
+use Rattle.run_files.proofs.Words.{◌≡◌, ℕ, List, Command, entries_after}
 use Rattle.run_files.proofs.command_lines.CommandLines.understand.Given as goal
 
 -- these commands, and then those that the lines say which are left, are those of all lines

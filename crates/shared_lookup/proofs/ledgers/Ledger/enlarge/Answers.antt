@@ -1,6 +1,4 @@
-use Rattle.std.proofs.Common.{subst, sym}
-use Rattle.latch_table.specs.Writers.{WriterState}
-use Rattle.shared_lookup.specs.Ledgers.{IsLedger}
+use Rattle.shared_lookup.proofs.Words.{subst, sym, WriterState, IsLedger}
 use Rattle.shared_lookup.proofs.EnlargingLemmas.{ledger_enlarged}
 use Rattle.shared_lookup.proofs.ledgers.Ledger.enlarge.Goals as goal
 

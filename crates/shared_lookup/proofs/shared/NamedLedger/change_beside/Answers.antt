@@ -1,5 +1,4 @@
-use Rattle.std.proofs.Common.{◌∙◌, ap, sym}
-use Rattle.shared_lookup.specs.Ledgers.{LedgerState}
+use Rattle.shared_lookup.proofs.Words.{◌∙◌, ap, sym, LedgerState}
 use Rattle.shared_lookup.proofs.FollowingLemmas.{held_after, held_opened, made_beside}
 use Rattle.shared_lookup.proofs.shared.NamedLedger.change_beside.Goals as goal
 

@@ -1,8 +1,4 @@
-use Rattle.std.proofs.Common.{sym, ap, ◌∙◌, ◌++◌, take, arith, subst, length}
-use Rattle.std.proofs.lemmas.List.{take_rest, length-drop}
-use Rattle.std.proofs.Math.Seq.{take-add}
-use Rattle.std.proofs.KnownBytes.{Appends-trans}
-use Rattle.std.specs.Io.KnownBytes.{Appends}
+use Rattle.texts.proofs.Words.{sym, ap, ◌∙◌, ◌++◌, take, arith, subst, length, take_rest, length-drop, take-add, Appends-trans, Appends}
 use Rattle.texts.proofs.device.Device.write_all.Goals as goal
 
 pub loop-taken-preserved : goal.loop-taken-preserved

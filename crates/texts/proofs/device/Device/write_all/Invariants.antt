@@ -1,6 +1,4 @@
-use Rattle.std.proofs.Common.{◌≡◌, ◌-◌, ◌≤◌, false, length, take}
-use Rattle.std.specs.Io.KnownBytes.{Appends}
-use Rattle.texts.specs.Device.{error_kept, is_broken, writer_in}
+use Rattle.texts.proofs.Words.{◌≡◌, ◌-◌, ◌≤◌, false, length, take, Appends, error_kept, is_broken, writer_in}
 use Rattle.texts.proofs.device.Device.write_all.Given as goal
 
 -- no call failed, and the writer took this many bytes

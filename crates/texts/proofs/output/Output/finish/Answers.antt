@@ -1,5 +1,4 @@
-use Rattle.std.proofs.Common.{◌∙◌, sym, subst}
-use Rattle.std.specs.Io.KnownBytes.{Appends}
+use Rattle.texts.proofs.Words.{◌∙◌, sym, subst, Appends}
 use Rattle.texts.proofs.FlushedLemmas.{device_took}
 use Rattle.texts.proofs.OutputLemmas.{all_delivered, then_flushed}
 use Rattle.texts.proofs.output.Output.finish.Goals as goal

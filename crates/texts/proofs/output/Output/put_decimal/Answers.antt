@@ -1,4 +1,4 @@
-use Rattle.std.proofs.Common.{rules, ap, take, ◌∙◌, ◌+◌, ◌-◌}
+use Rattle.texts.proofs.Words.{rules, ap, take, ◌∙◌, ◌+◌, ◌-◌}
 use Rattle.std.proofs.lemmas.Fmt.{length-decimal-le}
 use Rattle.texts.proofs.OutputLemmas.{digits_kept, kept_is_said}
 use Rattle.texts.proofs.output.Output.put_decimal.Goals as goal

@@ -1,4 +1,4 @@
-use Rattle.std.proofs.Common.{sym, ◌∙◌}
+use Rattle.texts.proofs.Words.{sym, ◌∙◌}
 use Rattle.texts.proofs.OutputLemmas.{kept_is_said, lost_is_said, then, written_is_said}
 use Rattle.texts.proofs.output.Output.put_through.Goals as goal
 

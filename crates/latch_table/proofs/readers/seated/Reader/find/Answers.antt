@@ -1,6 +1,4 @@
-use Rattle.std.proofs.Common.{refl, ◌∙◌, ap}
-use Rattle.latch_table.specs.declared.readers.Try.TheVariants.{Answered}
-use Rattle.latch_table.specs.Memory.{memory_after}
+use Rattle.latch_table.proofs.Words.{refl, ◌∙◌, ap, Answered, memory_after}
 use Rattle.latch_table.proofs.WalkLemmas.{searches_none, searches_more, searched}
 use Rattle.latch_table.proofs.readers.seated.Reader.find.Goals as goal
 

@@ -1,5 +1,4 @@
-use Rattle.std.proofs.Common.{◌≡◌}
-use Rattle.latch_table.specs.Readers.{Searches}
+use Rattle.latch_table.proofs.Words.{◌≡◌, Searches}
 use Rattle.latch_table.proofs.readers.seated.Reader.find.Given as goal
 
 abbrev pub invariant-loop : goal.invariant-loop

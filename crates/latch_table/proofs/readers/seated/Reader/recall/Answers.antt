@@ -1,7 +1,4 @@
-use Rattle.std.proofs.Common.{rules, subst}
-use Rattle.latch_table.specs.Seats.{reader_of}
-use Rattle.latch_table.specs.Readers.{ReaderState}
-use Rattle.latch_table.specs.Memory.{Recalled}
+use Rattle.latch_table.proofs.Words.{rules, subst, reader_of, ReaderState, Recalled}
 use Rattle.latch_table.proofs.MemoryLemmas.{recalls_now, remembers_now}
 use Rattle.latch_table.proofs.readers.seated.Reader.recall.Goals as goal
 

@@ -1,8 +1,4 @@
-use Rattle.std.proofs.Common.{sym, ◌∙◌, ap, subst}
-use Rattle.latch_table.specs.declared.knowledge.ReaderKnowledge.{ReaderKnowledge}
-use Rattle.latch_table.specs.Seats.{reader_of}
-use Rattle.latch_table.specs.Readers.{Tried}
-use Rattle.latch_table.specs.Memory.{MemoryHolds}
+use Rattle.latch_table.proofs.Words.{sym, ◌∙◌, ap, subst, ReaderKnowledge, reader_of, Tried, MemoryHolds}
 use Rattle.latch_table.proofs.MemoryLemmas.{remembers_tried, tried_more}
 use Rattle.latch_table.proofs.readers.seated.Reader.try_find.Goals as goal
 

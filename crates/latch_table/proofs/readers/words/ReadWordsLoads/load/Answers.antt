@@ -1,5 +1,4 @@
-use Rattle.std.proofs.Common.{ap}
-use Rattle.latch_table.specs.Seats.{reader_of}
+use Rattle.latch_table.proofs.Words.{ap, reader_of}
 use Rattle.latch_table.proofs.RuleLemmas.{allows_word}
 use Rattle.latch_table.proofs.readers.words.ReadWordsLoads.load.Goals as goal
 

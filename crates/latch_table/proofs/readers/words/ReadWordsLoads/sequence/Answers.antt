@@ -1,4 +1,4 @@
-use Rattle.std.proofs.Common.{ap}
+use Rattle.latch_table.proofs.Words.{ap}
 use Rattle.latch_table.proofs.RuleLemmas.{allows_sequence}
 use Rattle.latch_table.proofs.readers.words.ReadWordsLoads.sequence.Goals as goal
 

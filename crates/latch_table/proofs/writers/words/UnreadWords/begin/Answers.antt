@@ -1,5 +1,4 @@
-use Rattle.std.proofs.Common.{ap}
-use Rattle.latch_table.specs.Seats.{writer_of}
+use Rattle.latch_table.proofs.Words.{ap, writer_of}
 use Rattle.latch_table.proofs.RuleLemmas.{allows_begin_lookup}
 use Rattle.latch_table.proofs.WalkLemmas.{own_begun_is}
 use Rattle.latch_table.proofs.writers.words.UnreadWords.begin.Goals as goal

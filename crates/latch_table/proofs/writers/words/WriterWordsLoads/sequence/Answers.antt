@@ -1,4 +1,4 @@
-use Rattle.std.proofs.Common.{ap}
+use Rattle.latch_table.proofs.Words.{ap}
 use Rattle.latch_table.proofs.RuleLemmas.{allows_writer_load}
 use Rattle.latch_table.proofs.writers.words.WriterWordsLoads.sequence.Goals as goal
 

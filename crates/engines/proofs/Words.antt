@@ -1,0 +1,72 @@
+-- The words that the proofs of this crate use, of whatever crate.
+pub use Rattle.std.proofs.Common.{◌≡◌, ℕ, ◌-◌, ◌≤◌, List, [], ◌∷◌, ◌++◌, length, take, drop, get_or, flat_map, codes, ap, arith, Result, Ok, sym, ◌∙◌, subst, append_assoc, append-nil, zero, suc, Some, None, Err, inl, refl, ◌<◌, inr, ⊎_elim, length-append, true, ◌≢◌, false, OnErr, option_map, map, ◌+◌, decimal, rules}
+pub use Rattle.std.proofs.lemmas.Grind.{flat_map-append, common_steps}
+pub use Rattle.std.proofs.lemmas.List.{take_rest, map-append, take_more, take_all}
+pub use Rattle.std.proofs.lemmas.Result.{err_from_is_err_and}
+pub use Rattle.std.specs.FinMap.{get, get-empty}
+pub use Rattle.std.specs.List.{filter_map, range_with_len, zip, list_any}
+pub use Rattle.std.specs.Prelude.{Contains, option_and_then}
+pub use Rattle.command_io.proofs.FaultLemmas.{handed_on}
+pub use Rattle.command_io.specs.Faults.{with_notes, noted}
+pub use Rattle.command_io.specs.JsonTexts.{json_count}
+pub use Rattle.command_io.specs.OpenedCatalogs.{AreReadAs, GivesListings, texts_in, known_given, listing_failures}
+pub use Rattle.command_io.specs.Readings.{AnswersInputs, Failures, HoldsOf, NoReaderFailed, OnlyFailed, last_failures, failures_in, known_text}
+pub use Rattle.command_io.specs.declared.fault.Fault.{Fault}
+pub use Rattle.command_io.specs.declared.fault.Fault.TheVariants.{BadLine, Read, Write}
+pub use Rattle.engines.specs.Assignments.{IsAssigned, AreListed, change_in, key_in, name_in}
+pub use Rattle.engines.specs.CatalogTables.{answer_at}
+pub use Rattle.engines.specs.Inputs.{Inputs, inputs_after, inputs_of, inputs_with, known_inputs, inputs, failures_behind}
+pub use Rattle.engines.specs.LoadedWorlds.{AreInsertsOf, HasTable, HoldsBelow, IsRefusedFor}
+pub use Rattle.engines.specs.LookupTexts.{Query, lookup_lines, counts_by, line_by}
+pub use Rattle.engines.specs.Lookups.{AnswersLookup, IsLookupOf, addresses_known, all_addresses, WritesLookup, bounds_beside, bounds_of_lookup}
+pub use Rattle.engines.specs.RunTexts.{count_of_answers, answers_text, numbered_text, writer_text, change_text}
+pub use Rattle.engines.specs.Runs.{AnswersLines, AnswersRun, IsRunOf, IsServed, MayRun, TellsServed, status_of, script_known}
+pub use Rattle.engines.specs.StepRuns.{AreLinesTold, IsOpenedFor, StopsTelling, Tells, TellsLines}
+pub use Rattle.engines.specs.StepTexts.{json_list, steps_text, begun_members, started_members}
+pub use Rattle.engines.specs.StepTraces.{AnswersStepsSaid, AreTold, IsBegunOf, IsBegunText, IsFrontText, IsStepsText, StopsAfter, IsCutText}
+pub use Rattle.engines.specs.TraceLines.{IsLinesFault, commands_of, numbers_of, IsNext}
+pub use Rattle.engines.specs.TraceTexts.{end_text, note_text}
+pub use Rattle.engines.specs.Traces.{HeaderMayOpen, IsRunText, greatest_of, order_by, IsTextOf, AnswersReadBy, AnswersSaidBy, HeaderMayNotOpen, IsNotOpened, IsTraceWith, AnswersSaid, IsTraceRun, Stays}
+pub use Rattle.engines.specs.declared.assignments.Assignments.{Assignments}
+pub use Rattle.facts.proofs.Numbers.{below_min, past_min}
+pub use Rattle.latch_core.proofs.SoundLemmas.{current_at_rest, none_begun, table_at_rest, sequence_at_rest}
+pub use Rattle.latch_steps.proofs.IdleLemmas.{NoLookup, found_at_end, none_at_end, same_readers, writes_keep}
+pub use Rattle.latch_steps.specs.AtOnce.{FindsNow, IsFoundFromAny, IsNotBegun, table_in, IsSettled, Settles}
+pub use Rattle.latch_steps.specs.Expands.{Expand, Repeats, most_of}
+pub use Rattle.latch_steps.specs.Reports.{AreReported, ObeysFromAny}
+pub use Rattle.latch_steps.specs.Runs.{last_of, opening, Done, Moment, accepted}
+pub use Rattle.latch_steps.specs.Steps.{Run, machine, machine_of, IsBegin}
+pub use Rattle.latch_steps.specs.Worlds.{RepresentsMoment, layout_in, IsAfter}
+pub use Rattle.latch_steps.specs.declared.commands.Command.{Command}
+pub use Rattle.latch_steps.specs.declared.worlds.World.{World}
+pub use Rattle.listing.specs.Opening.{Given, Listed, listings_of, IsOpened, listed_in}
+pub use Rattle.listing.specs.Tallies.{Tallies, tallies_of, tallies_with}
+pub use Rattle.listing.specs.declared.opening.OpenedCatalog.{OpenedCatalog}
+pub use Rattle.modules.proofs.NumberedItemLemmas.{as_many, has_addresses, is_apart_from, none_overlap, some_left}
+pub use Rattle.modules.specs.Catalogs.{IsSoundCatalog, regions_of}
+pub use Rattle.modules.specs.Entries.{CatalogEntries}
+pub use Rattle.modules.specs.Items.{items_of, items_at, items_below}
+pub use Rattle.order_laws.specs.Orders.{Order, half_open, half_open_lawful}
+pub use Rattle.order_laws.specs.Tables.{IsTable, look}
+pub use Rattle.order_laws.specs.declared.half_open_ranges.HalfOpen.{HalfOpen}
+pub use Rattle.order_laws.specs.declared.items.Item.{Item}
+pub use Rattle.order_laws.specs.declared.refusals.Refusal.{Refusal}
+pub use Rattle.order_laws.specs.declared.refusals.Refusal.TheVariants.{OutOfMemory}
+pub use Rattle.run_files.specs.CommandLines.{IsTaken, IsUnderstood, LinesLeft}
+pub use Rattle.run_files.specs.Scripts.{script_of, most_writers}
+pub use Rattle.run_files.specs.Trace.{Contents, with_header, command_lines, trace_of}
+pub use Rattle.run_files.specs.declared.command_lines.NumberedCommand.{NumberedCommand}
+pub use Rattle.run_files.specs.declared.header.Header.{Header}
+pub use Rattle.run_files.specs.declared.scripts.ScriptLine.{ScriptLine}
+pub use Rattle.table_updates.specs.Updates.{replay, erased, inserted, refusal_for}
+pub use Rattle.table_updates.specs.declared.updates.Update.{Update}
+pub use Rattle.texts.proofs.OutputLemmas.{nothing_said, then, all_delivered, part_written, same_text, then_flushed, piece_said, pair_said, pairs_said}
+pub use Rattle.texts.proofs.ReadLemmas.{of_read}
+pub use Rattle.texts.proofs.SaidLemmas.{all_said, none_before, one_more}
+pub use Rattle.texts.specs.Counted.{Rose, NoneFailed, device_of, failures_of}
+pub use Rattle.texts.specs.Output.{Says, Delivers, has_failed, Delivered, WrotePart}
+pub use Rattle.texts.specs.Said.{entries_after}
+pub use Rattle.texts.specs.declared.output.Output.{Output}
+pub use Rattle.word_layout.specs.Layouts.{capacity_of, limit_of}
+pub use Rattle.word_layout.specs.Words.{at}
+pub use Rattle.word_layout.specs.declared.layouts.Layout.{Layout}

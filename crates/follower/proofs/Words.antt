@@ -1,0 +1,11 @@
+-- The words that the proofs of this crate use, of whatever crate.
+pub use Rattle.std.proofs.Common.{◌≡◌, ℕ, suc, zero, ◌-◌, ◌<◌, ◌≤◌, nat_le, Bool, true, false, cond, List, [], ◌∷◌, ◌++◌, get_or, Option, Some, None, IfSome, refl, sym, subst, ◌∙◌, arith, ⊎_elim, ◌+◌, ◌*◌, length, take, ap, rules, All}
+pub use Rattle.std.proofs.lemmas.List.Sorted.{Contains-permutation, IsPermutation-sym, IsPartitionPoint-from_clause, IsPartitionedBy-leb}
+pub use Rattle.follower.specs.Catalogs.{AreInOrder, EachStands, ForgetsOldest, at_number, number_of, standing_at, start_by, DropsOldest, Forgets}
+pub use Rattle.follower.specs.Following.{BeginsToShow, IsBegun, IsFollowed, IsShownAt, generation_of, table_at, Followed, RefusesToShow, dated_as}
+pub use Rattle.follower.specs.declared.catalogs.DatedCatalog.{DatedCatalog}
+pub use Rattle.follower.specs.declared.catalogs.Moment.{Moment}
+pub use Rattle.modules.specs.Catalogs.{IsSoundCatalog}
+pub use Rattle.modules.specs.Entries.{CatalogEntries}
+pub use Rattle.modules.specs.Index.{IsSplitBy}
+pub use Rattle.modules.specs.RegionIndexes.{IsIndexOf}

@@ -1,0 +1,24 @@
+-- The words that the proofs of this crate use, of whatever crate.
+pub use Rattle.std.proofs.Common.{◌≡◌, ◌∙◌, ℕ, ◌+◌, ◌<◌, ◌≤◌, inl, inr, List, [], ◌∷◌, ◌++◌, length, length-append, arith, refl, sym, ap, subst, Ok, Err, take, append_assoc, append-nil, Bool, true, false, cond, ◌||◌, ◌==◌, get_or, true≢false, zero, suc, not, ◌&&◌, Result, ◌⊎◌, length-drop}
+pub use Rattle.std.proofs.Math.Bool.{or-true, or-false}
+pub use Rattle.std.proofs.lemmas.Bool.{eqb-true, false_from_ne_true, lt-ltb, ltb-true, and_parts, eq-eqb, leb-false, leb-true, or_cases}
+pub use Rattle.std.proofs.lemmas.List.{take_more, reverse-append, take_all, drop_more, get_or-drop, length-take, take_min, take_rest}
+pub use Rattle.std.specs.Io.KnownBytes.{Appends, Consumes, IsAtEnd, Keeps}
+pub use Rattle.std.specs.List.{onto_first, list_any, starts_with, list_all}
+pub use Rattle.std.specs.Prelude.{◌^◌, IfErr, IfOk, IsErrAnd, OnErr, codes, nat_eq, slice_index, Some, nat_le, nat_lt, reverse, slice_index_or}
+pub use Rattle.logs.specs.AnnotatedLogs.{annotated, annotated_lines, first_held, held_over, counted, woven}
+pub use Rattle.logs.specs.Annotation.{Annotates, Begins, Ends, IsCutOff, IsOpen, IsUpToDate, KeepsNothingBack, Passes, Puts, held_in, put_of, Adds, Ended, kept_of, IsWriteFault}
+pub use Rattle.logs.specs.Answering.{Answering}
+pub use Rattle.logs.specs.Lines.{lines, AreWhole, IsLine, has_end, is_long}
+pub use Rattle.logs.specs.Places.{ends_prefix, is_lead, is_of, last_of, lead_item, prefix_up_to, first_of, begins_like, has_point, has_time}
+pub use Rattle.logs.specs.Progress.{fewest, is_address_byte, is_begun, SameAddresses, framed, owed, tallied}
+pub use Rattle.logs.specs.TakenWords.{begins_user, has_words, tells_place, taken_among, taken_at, taken_in, is_user_line, next_first, has_code}
+pub use Rattle.logs.specs.Words.{run_of, is_word_byte, address_at, address_of_word, digits_between, begins_joint, has_prefix, words_behind, words_from, is_closer}
+pub use Rattle.logs.specs.declared.annotation.LogFault.{LogFault}
+pub use Rattle.logs.specs.declared.annotator.Annotator.{Annotator}
+pub use Rattle.logs.specs.declared.held.Held.{Held}
+pub use Rattle.logs.specs.declared.taken.Taken.{Taken}
+pub use Rattle.memchr.specs.Find.{Nowhere, is_byte, FindsNeedle, OccursAt}
+pub use Rattle.texts.specs.Counted.{NoneFailed, Rose, device_of, failures_of}
+pub use Rattle.texts.specs.Output.{WrotePart, contents_of, has_failed, Delivered, error_in}
+pub use Rattle.texts.specs.declared.output.Output.{Output}
