@@ -14,7 +14,7 @@ use Rattle.logs.specs.Answering.{Answering}
 use Rattle.logs.specs.Lines.{AreWhole, has_end, lines}
 use Rattle.logs.specs.declared.annotation.Findings.{Findings}
 use Rattle.logs.specs.declared.annotation.LogFault.{LogFault}
-use Rattle.logs.specs.declared.held.Held.{Held}
+use Rattle.logs.specs.declared.contexts.LogContext.{LogContext}
 use Rattle.logs.specs.declared.log_names.LogNames.{LogNames}
 use Rattle.modules.specs.Entries.{CatalogEntries}
 use Rattle.modules.specs.Listed.{BoundNames}
@@ -84,7 +84,7 @@ AreAnswersOf q a g answer =
 
 -- With a block, after a line that is open, the lines that have their end now are put, each named by
 -- these answers, and what is put of the line that is open after them.
-pub record NamesBlock (answer : Answering) (held held' : Held) (line block line' text : List ℕ)
+pub record NamesBlock (answer : Answering) (held held' : LogContext) (line block line' text : List ℕ)
     : Type 0 where
   pub ended : List ℕ
   pub parts : line ++ block ≡ ended ++ line'
@@ -93,13 +93,13 @@ pub record NamesBlock (answer : Answering) (held held' : Held) (line block line'
   pub carried : held' ≡ held_over answer held (lines ended)
   pub put : put_of line ++ text ≡ annotated_lines answer held (lines ended) ++ put_of line'
 
-abbrev pub NamesSome : Held → List ℕ → List ℕ → Answering → List ℕ → Type 0
+abbrev pub NamesSome : LogContext → List ℕ → List ℕ → Answering → List ℕ → Type 0
 NamesSome held line block answer text =
-    (held' : Held) × (line' : List ℕ) × NamesBlock answer held held' line block line' text
+    (held' : LogContext) × (line' : List ℕ) × NamesBlock answer held held' line block line' text
 
 -- The line that is open after the last block is put, named by these answers, and these are the
 -- names of the log.
-pub record NamesLast (held : Held) (line : List ℕ) (answer : Answering) (names : LogNames)
+pub record NamesLast (held : LogContext) (line : List ℕ) (answer : Answering) (names : LogNames)
     (text : List ℕ)
     : Type 0 where
   pub names_are : names ≡ (held_over answer held (lines line)).names
@@ -109,9 +109,9 @@ pub record NamesLast (held : Held) (line : List ℕ) (answer : Answering) (names
 -- named by the listings of the turn in whose block it ends; this line is open after it, and this is
 -- carried on.
 pub data IsNamed (q : Sources) (a : Annotate) (first : Given)
-    : List Turn → Given → Held → List ℕ → List ℕ → Type 0 where
+    : List Turn → Given → LogContext → List ℕ → List ℕ → Type 0 where
   no_turn : IsNamed q a first [] first first_held [] []
-  one_more : (turns : List Turn) (last : Given) (held held' : Held) (line line' text more : List ℕ)
+  one_more : (turns : List Turn) (last : Given) (held held' : LogContext) (line line' text more : List ℕ)
       (t : Turn) (answer : Answering)
       → IsNamed q a first turns last held line text → AreAnswersOf q a t.listings answer
       → NamesBlock answer held held' line t.block line' more
@@ -135,7 +135,7 @@ GivesCatalog kernel g (Err f) = OpensCatalog kernel g (Err f)
 
 -- The log was followed through these turns, and what is put for them was written.
 pub record IsFollowed {W : Type 0} (contents : W → Option (List ℕ)) (q : Sources) (a : Annotate)
-    (first : Given) (turns : List Turn) (last : Given) (held : Held) (line : List ℕ)
+    (first : Given) (turns : List Turn) (last : Given) (held : LogContext) (line : List ℕ)
     (before after : Option (List Event)) (w w' : Output W)
     : Type 0 where
   pub written : List ℕ
@@ -160,7 +160,7 @@ IsUnlisted before after w w' result =
     × (result ≡ Err (stop.Failed f))
 
 -- or, in one turn more, the lines that have their end in its block are not all written;
-abbrev pub IsStopped : {W : Type 0} → (W → Option (List ℕ)) → Sources → Annotate → Held → List ℕ
+abbrev pub IsStopped : {W : Type 0} → (W → Option (List ℕ)) → Sources → Annotate → LogContext → List ℕ
     → Option (List Event) → Option (List Event) → Output W → Output W → Result Findings Stop
     → Type 0
 IsStopped contents q a held line before after w w' result =
@@ -171,7 +171,7 @@ IsStopped contents q a held line before after w w' result =
 
 -- or the log is at its end;
 abbrev pub IsEnded : {W : Type 0} → (W → Option (List ℕ)) → Sources → Annotate → List Turn → Given
-    → Held → List ℕ → Option (List Event) → Option (List Event) → Output W → Output W
+    → LogContext → List ℕ → Option (List Event) → Option (List Event) → Output W → Output W
     → Result Findings Stop → Type 0
 IsEnded contents q a turns last held line before after w w' (Ok found) =
     Happen before after (Block [] ∷ []) × (found.head.items ≡ take 2 (read_in turns))
@@ -192,7 +192,7 @@ abbrev pub FollowsTurns : {W : Type 0} → (W → Option (List ℕ)) → Sources
     → Option (List Event) → Option (List Event) → Output W → Output W → Result Findings Stop
     → Type 0
 FollowsTurns {W} contents q a first before after w w' result =
-    (turns : List Turn) × (last : Given) × (held : Held) × (line : List ℕ)
+    (turns : List Turn) × (last : Given) × (held : LogContext) × (line : List ℕ)
     × (then : Option (List Event)) × (now : Output W)
     × IsFollowed contents q a first turns last held line before then w now
     × (IsUnread then after now w' result ⊎ IsUnlisted then after now w' result

@@ -9,7 +9,7 @@ use crate::address_texts::{AddressForm, put_words};
 use crate::kept_symbols::symbols_sought;
 use command_io::{Fault, ListingReaders, ListingTexts, open_catalog, read_given, unless_failed};
 use listing::ListingNotes;
-use modules::{Asked, IndexedCatalog, KernelBounds};
+use modules::{ExpectedLookups, IndexedCatalog, KernelBounds};
 use std::alloc::Global;
 use std::io::{Read, Write};
 use texts::Output;
@@ -50,7 +50,7 @@ fn answer_names<W: Write>(
         (IsAddressed form (option_copied kernel.entry) (map (λ w. w.now) words.now))
         (texts_in texts.now) writer.old writer.new result }
 {
-    let opened = open_catalog(alloc, texts, kernel, Asked::Any)?;
+    let opened = open_catalog(alloc, texts, kernel, ExpectedLookups::Any)?;
     let notes = opened.notes;
     let index = IndexedCatalog::new(alloc, opened.catalog)?;
     let sought = symbols_sought(alloc, &index, &texts.kallsyms, words)?;

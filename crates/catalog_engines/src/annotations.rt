@@ -17,7 +17,7 @@ use command_io::{
 };
 use listing::{LogRule, is_narrow};
 use logs::{Findings, LogFault, annotate};
-use modules::{Asked, IndexedCatalog};
+use modules::{ExpectedLookups, IndexedCatalog};
 use order_laws::Refusal;
 use std::alloc::{AllocError, Global};
 use std::io::{Read, Write};
@@ -113,7 +113,7 @@ fn annotate_over<L: Read, E: Write, W: Write>(
         (Some (texts_in texts.now)) [] log.old log.new writer.old writer.new
         errors.old errors.new result }
 {
-    let opened = open_catalog(alloc, texts, sources.kernel.as_ref(), Asked::Any)?;
+    let opened = open_catalog(alloc, texts, sources.kernel.as_ref(), ExpectedLookups::Any)?;
     let notes = opened.notes;
     let index = IndexedCatalog::new(alloc, opened.catalog)?;
     note_listings(&notes, sources, errors);

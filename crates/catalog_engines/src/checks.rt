@@ -23,7 +23,7 @@ use command_io::{
 use listing::{
     ListingNote, OpenedCatalog, SymbolFacts, applies_to_kallsyms, applies_to_modules, put_counts,
 };
-use modules::{Asked, Catalog, KernelBounds};
+use modules::{Catalog, ExpectedLookups, KernelBounds};
 use std::alloc::Global;
 use std::io::{Read, Write};
 use texts::Output;
@@ -60,7 +60,7 @@ fn check_given<W: Write>(
     ensures { AnswersGiven W.contents (IsChecked (option_copied kernel.entry) files.now)
         (texts_in texts.now) writer.old writer.new result }
 {
-    let opened = open_catalog(alloc, texts, kernel, Asked::These(&[]))?;
+    let opened = open_catalog(alloc, texts, kernel, ExpectedLookups::These(&[]))?;
     let names = kernel.unwrap_or(&opened.usual);
     put_report(writer, names, files, texts, &opened);
     unless_failed(writer, status_of_kept(opened.built.symbols))

@@ -23,7 +23,7 @@ use crate::sources::Sources;
 use command_io::{Fault, ListingTexts, open_catalog};
 use listing::is_narrow;
 use logs::{Annotator, Findings, LogNames, keep_head};
-use modules::{Asked, IndexedCatalog};
+use modules::{ExpectedLookups, IndexedCatalog};
 use std::alloc::Global;
 use std::io::Write;
 use texts::{BLOCK, Output};
@@ -64,7 +64,7 @@ fn tell_notes<E: Write>(
 ) -> Result<(), Fault>
     ensures { NotesTold E.contents sources.now (texts_in texts.now) errors.old errors.new result }
 {
-    let opened = open_catalog(alloc, texts, sources.kernel.as_ref(), Asked::Any)?;
+    let opened = open_catalog(alloc, texts, sources.kernel.as_ref(), ExpectedLookups::Any)?;
     note_listings(&opened.notes, sources, errors);
     Ok(())
 }
@@ -147,6 +147,6 @@ fn index_of<'a>(
 ) -> Result<IndexedCatalog<'a>, Fault>
     ensures { GivesCatalog sources.now.kernel (texts_in texts.now) result }
 {
-    let opened = open_catalog(alloc, texts, sources.kernel.as_ref(), Asked::Any)?;
+    let opened = open_catalog(alloc, texts, sources.kernel.as_ref(), ExpectedLookups::Any)?;
     Ok(IndexedCatalog::new(alloc, opened.catalog)?)
 }

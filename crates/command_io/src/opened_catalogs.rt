@@ -9,7 +9,7 @@ ghost use Rattle.command_io.specs.OpenedCatalogs.{listing_failures, texts_in};
 use crate::fault::Fault;
 use crate::readings::{KALLSYMS_PLACE, MODULES_PLACE, REGIONS_PLACE, read_at, read_if_given};
 use listing::{Listings, OpenedCatalog, open};
-use modules::{Asked, KernelBounds};
+use modules::{ExpectedLookups, KernelBounds};
 use std::alloc::Global;
 use std::io::Read;
 use texts::Counted;
@@ -78,7 +78,7 @@ pub fn open_catalog<'a>(
     alloc: Global,
     texts: &'a ListingTexts,
     kernel: Option<&KernelBounds>,
-    asked: Asked<'_>,
+    asked: ExpectedLookups<'_>,
 ) -> Result<OpenedCatalog<'a>, Fault>
     ensures { OpensCatalog (option_copied kernel.entry) (texts_in texts.now) result }
 {

@@ -15,7 +15,7 @@ use crate::lookup_texts::put_lookup;
 use crate::table::answers_of;
 use command_io::{AnswerForm, Fault, ListingReaders, ListingTexts, all_written, noted, read_given};
 use listing::{AddressRule, ListingNotes, Listings, OpenedCatalog, open, read_addresses};
-use modules::{Asked, KernelBounds};
+use modules::{ExpectedLookups, KernelBounds};
 use std::alloc::{AllocError, Global};
 use std::io::{Read, Write};
 use std::marker::Model;
@@ -131,7 +131,7 @@ fn answer_with<W: Write>(
     let usual = KernelBounds::usual();
     let kernel = bounds_beside(options.kernel, listings.modules, &usual);
     let places = places_of(alloc, options.rule, addresses)?;
-    let asked = Asked::These(&places);
+    let asked = ExpectedLookups::These(&places);
     let opened = open(alloc, listings, kernel, listings.modules.is_some(), asked)?;
     let done = write_lookup(alloc, &opened, options, addresses, writer);
     noted(done, opened.notes)

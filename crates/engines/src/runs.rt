@@ -22,7 +22,7 @@ use command_io::{
     with_notes,
 };
 use listing::{Listings, open};
-use modules::{Asked, Catalog, KernelBounds};
+use modules::{Catalog, ExpectedLookups, KernelBounds};
 use order_laws::Refusal;
 use run_files::{ModuleName, ScriptLine, read_script};
 use shared_lookup::{Open, Served, serve};
@@ -104,7 +104,7 @@ fn run_with<T: Threads + Wait + Sync, W: Write>(
         Ok(lines) => lines,
         Err(fault) => return Err(Fault::of_lines(SCRIPT_PLACE, fault)),
     };
-    let opened = open(alloc, listings, Some(kernel), true, Asked::Any)?;
+    let opened = open(alloc, listings, Some(kernel), true, ExpectedLookups::Any)?;
     let status = run_lines(rt, alloc, &opened.catalog, lines, readers, writer);
     with_notes(status, opened.notes)
 }

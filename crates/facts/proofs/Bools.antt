@@ -8,10 +8,6 @@ or_assoc a b c = elim a as (λ v. (v || (b || c)) ≡ ((v || b) || c)) [ true �
 pub or_swap : (a b c : Bool) → (a || (b || c)) ≡ (b || (a || c))
 or_swap a b c = elim a as (λ v. (v || (b || c)) ≡ (b || (v || c))) [ true ↦ sym (or-true b) | false ↦ refl ]
 
-pub or_from_cases : (a b : Bool) → (a ≡ true) ⊎ (b ≡ true) → (a || b) ≡ true
-or_from_cases true b h = refl
-or_from_cases false b h = ⊎_elim (λ k. absurd (cc)) (λ k. k) h
-
 -- the left one holds where the right one fails
 pub left_of_or : (a b : Bool) → (a || b) ≡ true → b ≡ false → a ≡ true
 left_of_or true b h k = refl

@@ -71,12 +71,6 @@ module _ {X : Type 0} (P : X → Type 0) where
   all_get (y ∷ xs) zero x h e = let same : y ≡ x = cc in subst P same h.0
   all_get (y ∷ xs) (suc i) x h e = all_get xs i x h.1 e
 
-pub all_get_or : {X : Type 0} (P : X → Type 0) (xs : List X) (i : ℕ) (d : X) → AllByRecursion P xs
-    → i < length xs → P (get_or xs i d)
-all_get_or P [] i d all lt = absurd (omega arith)
-all_get_or P (x ∷ xs) zero d all lt = all.0
-all_get_or P (x ∷ xs) (suc i) d all lt = all_get_or P xs i d all.1 (omega arith)
-
 -- ---- of numbers
 
 -- what is not in a list differs from each of its members

@@ -41,10 +41,6 @@ pub IsPrefix-along : {X : Type 0} (xs ys zs : List X) → IsPrefix xs ys → IsP
     → IsPrefix xs zs
 IsPrefix-along xs ys zs p q = (p.0 ++ q.0, sym (append_assoc xs p.0 q.0) ∙ (ap (λ z. z ++ q.0) p.1 ∙ q.1))
 
-pub ltb-length_nil : {X : Type 0} (xs : List X) → length xs ≤ 0 → nat_lt 0 (length xs) ≡ false
-ltb-length_nil [] e = refl
-ltb-length_nil (x ∷ xs) e = absurd (omega arith)
-
 pub nil-from_length : {X : Type 0} (xs : List X) → nat_lt 0 (length xs) ≡ false → xs ≡ []
 nil-from_length [] e = refl
 nil-from_length (x ∷ xs) e =
@@ -90,18 +86,6 @@ pub take-append_whole : {X : Type 0} (xs ys : List X) → take (length xs) (xs +
 take-append_whole [] ys = refl
 take-append_whole (x ∷ xs) ys = ap (λ zs. x ∷ zs) (take-append_whole xs ys)
 
-pub take-drop_append : {X : Type 0} (xs ys : List X) (from : ℕ) → from ≤ length xs
-    → take (length xs - from) (drop from (xs ++ ys)) ≡ drop from xs
-take-drop_append xs ys zero le = let e : length xs - 0 ≡ length xs = omega arith in ap (λ k. take k (xs ++ ys)) e ∙ take-append_whole xs ys
-take-drop_append [] ys (suc from) le = absurd (omega arith)
-take-drop_append (x ∷ xs) ys (suc from) le = let e : suc (length xs) - suc from ≡ length xs - from = omega arith in ap (λ k. take k (drop from (xs ++ ys))) e ∙ take-drop_append xs ys from (omega arith)
-
-pub get_or-drop_append : {X : Type 0} (xs ys : List X) (from place : ℕ) (d : X) → from ≤ place
-    → place < length xs → get_or (drop from xs) (place - from) d ≡ get_or (xs ++ ys) place d
-get_or-drop_append xs ys from place d above below =
-    let at_place : from + (place - from) ≡ place = omega arith in
-    get_or-drop from xs (place - from) d ∙ ap (λ k. get_or xs k d) at_place ∙ sym (get_or_append_left xs ys d place below)
-
 -- ---- the element at a place
 
 -- a list is split at a place
@@ -115,12 +99,6 @@ pub first_and_rest : {X : Type 0} (xs : List X) (s : X) → slice_get xs 0 ≡ S
     → xs ≡ s ∷ drop 1 xs
 first_and_rest [] s e = absurd (cc)
 first_and_rest (x ∷ xs) s e = let same : x ≡ s = cc in ap (λ y. y ∷ xs) same
-
-pub is_some-slice_get : {X : Type 0} (xs : List X) (i : ℕ) → i < length xs
-    → is_some (slice_get xs i) ≡ true
-is_some-slice_get [] i lt = absurd (omega (arith, lt))
-is_some-slice_get (x ∷ xs) zero lt = refl
-is_some-slice_get (x ∷ xs) (suc i) lt = is_some-slice_get xs i (omega (arith, lt))
 
 pub slice_get_some : {X : Type 0} (xs : List X) (i : ℕ) → i < length xs
     → (x : X) × (slice_get xs i ≡ Some x)

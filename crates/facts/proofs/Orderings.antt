@@ -88,10 +88,6 @@ lt-from_Less q b h = grind (arith, nat_tests)
 pub Less-from_lt : (q b : ℕ) → q < b → nat_cmp q b ≡ Less
 Less-from_lt q b h = grind (arith, nat_tests)
 
-pub slice_cmp-same : (xs : List ℕ) → slice_cmp nat_cmp xs xs ≡ Equal
-slice_cmp-same [] = refl
-slice_cmp-same (x ∷ xs) = let first : nat_cmp x x ≡ Equal = grind (arith, nat_tests) in rw first (slice_cmp-same xs)
-
 pub bytes_eq-neither : (xs ys : List ℕ)
     → (not (is_lt (slice_cmp nat_cmp xs ys)) && not (is_lt (slice_cmp nat_cmp ys xs))) ≡ bytes_eq ys xs
 bytes_eq-neither xs ys =

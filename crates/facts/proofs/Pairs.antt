@@ -64,22 +64,6 @@ module _ {X Y : Type 0} where
       ∙ ap (λ p. flat_map f (take n (zip xs ys)) ++ flat_map f (p ∷ [])) (get_or-zip xs ys n (x, y) below_x below_y)
       ∙ ap (λ t. flat_map f (take n (zip xs ys)) ++ t) (append-nil (f (get_or xs n x, get_or ys n y)))
 
-module _ {D X Y : Type 0} (contents : D → Option (List ℕ)) (f : X × Y → List ℕ) (xs : List X) (ys : List Y) (n : ℕ) where
-  -- the text of one pair more was written
-  pub written-zip_more : (old mid new : D) (x : X) (y : Y) → n < length xs → n < length ys
-      → Appends (contents old) (contents mid) (flat_map f (take n (zip xs ys)))
-      → Appends (contents mid) (contents new) (f (get_or xs n x, get_or ys n y))
-      → Appends (contents old) (contents new) (flat_map f (take (n + 1) (zip xs ys)))
-  written-zip_more old mid new x y below_x below_y before more =
-      subst (λ t. Appends (contents old) (contents new) t) (sym (flat_map-zip_more f xs ys n x y below_x below_y))
-      (Appends-trans (contents old) (contents mid) (contents new) _ _ before more)
-
-  -- that of all pairs was
-  pub written-zip_whole : (old new : D) → (length xs ≤ n) ⊎ (length ys ≤ n)
-      → Appends (contents old) (contents new) (flat_map f (take n (zip xs ys)))
-      → Appends (contents old) (contents new) (flat_map f (zip xs ys))
-  written-zip_whole old new few = subst (λ ps. Appends (contents old) (contents new) (flat_map f ps)) (take_all n (zip xs ys) (zip-past xs ys n few))
-
 -- one entry more
 pub take-zip_more : {A B : Type 0} (xs : List A) (ys : List B) (i : ℕ) (d : A) (e : B)
     → i < length xs → i < length ys

@@ -65,11 +65,6 @@ loads_push (Ends out) [] w go x e = absurd (cc)
 loads_push (Load w' go') (y ∷ v) w go x e = ap (λ ls. (w', y) ∷ ls) (loads_push (go' y) v w go x e)
 loads_push (Ends out) (y ∷ v) w go x e = absurd (cc)
 
-pub length_loads : (r : Reading) (v : List ℕ) (r' : Reading) → rest_after r v ≡ Some r' → length (loads_of r v) ≡ length v
-length_loads r [] r' e = refl
-length_loads (Load w go) (x ∷ v) r' e = ap suc (length_loads (go x) v r' e)
-length_loads (Ends out) (x ∷ v) r' e = absurd (cc)
-
 -- an attempt that loaded what stands in a latch gives what its table has
 pub latched_answers : {K : Type 0} (o : Order K) → IsLawful o → (n base : ℕ) (k : K) (m : List ℕ) (known : List Update) (v : List ℕ) (out : Outcome) → IsLatched o n base m known → IsAttempt o n k v out
     → StandAll n m (loads_of (attempt o n k) v) → (out ≡ Answer (look o k (replay o [] known)) (generation_of (at m 0))) × (length v ≤ 4 * length (replay o [] known) + 3)

@@ -4,8 +4,8 @@ use Rattle.order_laws.specs.Orders.{Order}
 use Rattle.word_layout.specs.Words.{at}
 use Rattle.latch_core.specs.Attempts.{Outcome, Answer, Again, Reading, Load, Ends, attempt}
 use Rattle.latch_core.specs.Attempts.{rest_after}
-use Rattle.latch_core.specs.declared.attempts.Attempted.{Attempted}
-use Rattle.latch_core.specs.declared.attempts.Attempted.TheVariants.{Answered, Failed}
+use Rattle.latch_core.specs.declared.attempts.AttemptOutcome.{AttemptOutcome}
+use Rattle.latch_core.specs.declared.attempts.AttemptOutcome.TheVariants.{Answered, Failed}
 
 -- what it comes to in words that nobody changes: each load gives what its word holds
 abbrev pub outcome_in : List ℕ → Reading → Outcome
@@ -18,7 +18,7 @@ loads_in m (Load w go) = suc (loads_in m (go (at m w)))
 loads_in m (Ends out) = 0
 
 -- what a whole attempt gives, as an outcome
-abbrev pub outcome_of : Attempted → Outcome
+abbrev pub outcome_of : AttemptOutcome → Outcome
 outcome_of (Answered answer g) = Answer answer g
 outcome_of Failed = Again
 

@@ -28,7 +28,7 @@ use word_layout::{Layout, places};
 
 /// What a whole attempt comes to.
 #[derive(Clone, Copy, Debug, PartialEq, Eq, Drop)]
-pub enum Attempted {
+pub enum AttemptOutcome {
     /// The item that the key is in, or none, and the generation that this is of.
     Answered(Option<Item>, u64),
     /// Nothing: another attempt is to be made.
@@ -156,7 +156,7 @@ pub fn attempt_from<O: TreeOrder, W: Loads>(
     l: Layout,
     key: O::Key,
     first: u64,
-) -> (Attempted, u32)
+) -> (AttemptOutcome, u32)
     requires sized { W.size words.now ≡ words_for (capacity_of l) }
     requires ready { IsReady (W.can_load words.now) (W.load_gives words.now) (W.can_end words.now)
         seat.old (attempt_after O.order (capacity_of l) key first) }
@@ -166,9 +166,12 @@ pub fn attempt_from<O: TreeOrder, W: Loads>(
     let (walked, loads) = walk::<O, W>(words, seat, l, key, first);
     let last = words.sequence(seat);
     let came_to = match walked {
-        Walked::At(item) if last == first => Attempted::Answered(Some(item), generation(first)),
-        Walked::Nowhere if last == first => Attempted::Answered(None, generation(first)),
-        _ => Attempted::Failed,
+        Walked::At(item) if last == first => AttemptOutcome::Answered(
+            Some(item),
+            generation(first),
+        ),
+        Walked::Nowhere if last == first => AttemptOutcome::Answered(None, generation(first)),
+        _ => AttemptOutcome::Failed,
     };
     (came_to, loads + 1)
 }
@@ -205,7 +208,7 @@ impl Loads for Still<'_> {
 
 /// Makes an attempt in words that nobody changes, and counts its loads. The second load of the
 /// sequence is counted and not made.
-pub fn attempt_in<O: TreeOrder>(words: &[u64], l: Layout, key: O::Key) -> (Attempted, u32)
+pub fn attempt_in<O: TreeOrder>(words: &[u64], l: Layout, key: O::Key) -> (AttemptOutcome, u32)
     requires { length words.now ≡ words_for (capacity_of l) }
     ensures outcome { outcome_of result.0
         ≡ outcome_in words.now (attempt O.order (capacity_of l) key) }

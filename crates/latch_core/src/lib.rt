@@ -52,7 +52,7 @@ pub mod replacements;
 pub mod sequences;
 pub mod writers;
 
-pub use attempts::{Attempted, Loads, attempt_from, attempt_in};
+pub use attempts::{AttemptOutcome, Loads, attempt_from, attempt_in};
 pub use readers::{ReaderCore, Taken};
 pub use replacements::{Difference, rises};
 pub use table_updates::{Entries, Update};

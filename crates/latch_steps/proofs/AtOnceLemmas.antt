@@ -1,6 +1,6 @@
 -- Writes up to the end of an update, and a lookup from its start to its return, with no step of the
 -- writer between.
-use Rattle.latch_steps.proofs.Words.{◌≡◌, ℕ, List, [], ◌∷◌, ◌++◌, refl, sym, ◌∙◌, ap, subst, ⊎_elim, append_assoc, append-nil, ◌≢◌, zero, suc, ◌+◌, ◌-◌, ◌*◌, ◌≤◌, length, Option, Some, None, arith, AllByRecursion, Order, IsLawful, capacity_of, limit_of, Store, Update, IsSound, rest_is_current, Event, Begin, Write, Start, Read, Reply, Wrote, Refused, Started, Loaded, OutOfMemory, World, Moment, Done, step_done, last_of, accepted, history, PendingLookup, machine, machine_of, Run, counted_up, with_lookups, new_lookup, with_value, after_value, load_left, start_done, load_done, read_done, StaysAfter, RepresentsMoment, IsAtRest, layout_in, IsAfter, machine_in, Does, GivesUp, IsWorldStep, min, get, insert, remove, cases_eq, Item, look, get-insert_other, get-insert_same, get-remove_other, get-remove_same, at, words_for, generation_of, current_table, Answer, Reading, Load, Ends, attempt, rest_after, RepresentsLatch, IsShallow, rest_push, attempt_ran, attempt_count, attempt_depth_count, few_deep_any, shallow_tree, stays_now, depth, IsPendingLookup, lookup_at}
+use Rattle.latch_steps.proofs.Definitions.{◌≡◌, ℕ, List, [], ◌∷◌, ◌++◌, refl, sym, ◌∙◌, ap, subst, ⊎_elim, append_assoc, append-nil, ◌≢◌, zero, suc, ◌+◌, ◌-◌, ◌*◌, ◌≤◌, length, Option, Some, None, arith, AllByRecursion, Order, IsLawful, capacity_of, limit_of, Store, Update, IsSound, rest_is_current, Event, Begin, Write, Start, Read, Reply, Wrote, Refused, Started, Loaded, OutOfMemory, World, Moment, Done, step_done, last_of, accepted, history, PendingLookup, machine, machine_of, Run, counted_up, with_lookups, new_lookup, with_value, after_value, load_left, start_done, load_done, read_done, StaysAfter, RepresentsMoment, IsAtRest, layout_in, IsAfter, machine_in, Does, GivesUp, IsWorldStep, min, get, insert, remove, cases_eq, Item, look, get-insert_other, get-insert_same, get-remove_other, get-remove_same, at, words_for, generation_of, current_table, Answer, Reading, Load, Ends, attempt, rest_after, RepresentsLatch, IsShallow, rest_push, attempt_ran, attempt_count, attempt_depth_count, few_deep_any, shallow_tree, stays_now, depth, IsPendingLookup, lookup_at}
 use Rattle.latch_steps.specs.declared.replies.Reply.TheVariants.{Returned as ReturnedReply}
 use Rattle.facts.proofs.Each.{all_push}
 use Rattle.latch_steps.specs.AtOnce.{IsSettled, Settles, IsFoundNow, IsNear, FindsNow, LooksUp, HasNoAnswer, table_in}
@@ -33,9 +33,6 @@ pub record Writing {O K : Type 0} (o : Order K) (old now : World O K) (w : Momen
   pub shows : RepresentsMoment o now (last_of w run)
 
 module _ {O K : Type 0} (o : Order K) (old : World O K) where
-  pub no_writes : (w : Moment K) → RepresentsMoment o old w → Writing o old old w
-  no_writes w s = record { run = []; writes = tt; steps = tt; shows = s }
-
   pub one_write : (now new : World O K) (s : Store) (w : Moment K) → Writing o old now w
       → layout_in now ≡ layout_in old → Does o now Write (Wrote s) new → Writing o old new w
   one_write now new s w h lay does =

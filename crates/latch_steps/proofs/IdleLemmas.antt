@@ -1,5 +1,5 @@
 -- What the events of a lookup do to an idle moment.
-use Rattle.latch_steps.proofs.Words.{◌≡◌, ◌≢◌, ℕ, List, [], ◌∷◌, ◌++◌, Option, Some, None, refl, sym, ◌∙◌, ap, subst, ⊎_elim, AllByRecursion, get, cases_eq, Order, get-insert_other, get-remove_other, get-remove_same, PendingUpdate, Write, Start, Read, Reply, Started, Lookup, World, PendingLookup, Moment, Done, step_done, last_of, machine, AfterLoad, Goes, Retries, Returns, Run, Step, IsWrite, after_load, load_done, read_done, start_done, new_lookup, counted_up, RepresentsMoment}
+use Rattle.latch_steps.proofs.Definitions.{◌≡◌, ◌≢◌, ℕ, List, [], ◌∷◌, ◌++◌, Option, Some, None, refl, sym, ◌∙◌, ap, subst, ⊎_elim, AllByRecursion, get, cases_eq, Order, get-insert_other, get-remove_other, get-remove_same, PendingUpdate, Write, Start, Read, Reply, Started, Lookup, World, PendingLookup, Moment, Done, step_done, last_of, machine, AfterLoad, Goes, Retries, Returns, Run, Step, IsWrite, after_load, load_done, read_done, start_done, new_lookup, counted_up, RepresentsMoment}
 use Rattle.latch_steps.specs.declared.replies.Reply.TheVariants.{Returned as ReturnedReply}
 use Rattle.latch_steps.specs.declared.replies.Returned.{Returned}
 use Rattle.latch_steps.specs.Lookups.{IsPendingLookup as IsHeld}

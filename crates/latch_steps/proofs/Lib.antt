@@ -1,5 +1,5 @@
 -- the words of all proofs of this crate
-mod Words
+mod Definitions
 mod SafeRunLemmas
 mod QuietRunLemmas
 mod LoadLemmas

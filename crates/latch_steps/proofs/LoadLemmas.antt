@@ -1,7 +1,7 @@
 -- One load of a lookup: by cases, whatever holds of a lookup whose attempt goes on, of one that has
 -- to try again and of one that returns the look of its key, holds of what the load leads to; and
 -- what the code makes of it.
-use Rattle.latch_steps.proofs.Words.{◌≡◌, ℕ, ◌-◌, ◌≤◌, true, false, cond, List, [], ◌∷◌, ◌++◌, length, Some, None, refl, sym, ◌∙◌, ap, subst, Option, nat_cmp, eq_by_cmp, FinMap, get, insert, remove, get-insert, get-remove, Item, Order, IsLawful, IsTable, look, at, Nodes, Holds, Update, generation_of, stable_copy_of, current_table, Answer, Again, Reading, Load, Ends, attempt, rest_after, Stand, IsStanding, IsSound, rest_push, stand_push, attempt_answers, standing_push, answer_first, PendingLookup, Moment, AfterLoad, Goes, Retries, Returns, with_value, next_attempt, return_of, after_value, load_left, after_load, counted_up, Lookup, IsLookupOf, LoadsTo, LoadsNextFrom, word_asked, NextLoad}
+use Rattle.latch_steps.proofs.Definitions.{◌≡◌, ℕ, ◌-◌, ◌≤◌, true, false, cond, List, [], ◌∷◌, ◌++◌, length, Some, None, refl, sym, ◌∙◌, ap, subst, Option, nat_cmp, eq_by_cmp, FinMap, get, insert, remove, get-insert, get-remove, Item, Order, IsLawful, IsTable, look, at, Nodes, Holds, Update, generation_of, stable_copy_of, current_table, Answer, Again, Reading, Load, Ends, attempt, rest_after, Stand, IsStanding, IsSound, rest_push, stand_push, attempt_answers, standing_push, answer_first, PendingLookup, Moment, AfterLoad, Goes, Retries, Returns, with_value, next_attempt, return_of, after_value, load_left, after_load, counted_up, Lookup, IsLookupOf, LoadsTo, LoadsNextFrom, word_asked, NextLoad}
 use Rattle.std.specs.Cmp.{nat_cmp_total}
 use Rattle.latch_core.specs.declared.readers.ReaderCore.{ReaderCore}
 use Rattle.latch_core.specs.declared.readers.Taken.TheVariants.{Going, Retrying, Returned}

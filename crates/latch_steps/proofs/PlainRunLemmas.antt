@@ -1,5 +1,5 @@
 -- Runs in which updates and lookups come one after another.
-use Rattle.latch_steps.proofs.Words.{◌≡◌, ◌≢◌, ℕ, ◌+◌, ◌-◌, ◌*◌, ◌%◌, ◌<◌, ◌≤◌, Bool, true, false, cond, List, [], ◌∷◌, ◌++◌, length, Option, Some, None, refl, sym, ◌∙◌, ap, subst, ⊎_elim, arith, length-append, is_some, nat_cmp, get, insert, remove, get-empty, cases_eq, Order, IsLawful, look, Refusal, at, Update, generation_of, stable_copy_of, replay, current_table, IsSound, IsPendingOf, PendingUpdate, Latch, attempt, Stand, sound_opening, current_at_rest, attempt_loads, Command, Event, Begin, Write, Start, Read, Reply, PendingLookup, Moment, Done, accepted, last_of, opening, machine, with_lookups, IsBegin, IsWrite, return_of, start_done, load_done, read_done, Step, Run, ends, event_of, most_of, Repeats}
+use Rattle.latch_steps.proofs.Definitions.{◌≡◌, ◌≢◌, ℕ, ◌+◌, ◌-◌, ◌*◌, ◌%◌, ◌<◌, ◌≤◌, Bool, true, false, cond, List, [], ◌∷◌, ◌++◌, length, Option, Some, None, refl, sym, ◌∙◌, ap, subst, ⊎_elim, arith, length-append, is_some, nat_cmp, get, insert, remove, get-empty, cases_eq, Order, IsLawful, look, Refusal, at, Update, generation_of, stable_copy_of, replay, current_table, IsSound, IsPendingOf, PendingUpdate, Latch, attempt, Stand, sound_opening, current_at_rest, attempt_loads, Command, Event, Begin, Write, Start, Read, Reply, PendingLookup, Moment, Done, accepted, last_of, opening, machine, with_lookups, IsBegin, IsWrite, return_of, start_done, load_done, read_done, Step, Run, ends, event_of, most_of, Repeats}
 use Rattle.latch_steps.specs.declared.commands.Command.TheVariants.{Begin as BeginCommand, Write as WriteCommand, WriteFlip, WriteEnd, Start as StartCommand, Read as ReadCommand}
 use Rattle.latch_steps.specs.Plain.{IsPlainEvent, IsPlain, ArePlain, IsLookAfter, IsLookReply, AreLooksAfter}
 use Rattle.latch_steps.proofs.LoadLemmas.{IsGoing, each_insert, each_remove, none_loaded, by_load}

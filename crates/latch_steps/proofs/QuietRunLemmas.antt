@@ -1,6 +1,6 @@
 -- A lookup that the writer leaves alone returns at its first attempt, and each other attempt needs
 -- a flip.
-use Rattle.latch_steps.proofs.Words.{◌≡◌, ◌≢◌, ℕ, ◌+◌, ◌-◌, ◌*◌, ◌^◌, ◌<◌, ◌≤◌, true, false, cond, List, [], ◌∷◌, ◌++◌, length, take, Option, Some, None, refl, sym, ◌∙◌, ap, subst, arith, length-append, append_assoc, ⊎_elim, ◌==◌, get, FinMap, get-empty, eqb-true, eqb-false, Item, Update, Refusal, ReaderBusy, Event, Begin, Write, Start, Read, Reply, Started, Loaded, Refused, Order, IsLawful, IsTable, get-insert_same, replay, current_table, at, Nodes, Holds, generation_of, stable_copy_of, Reading, Load, attempt, rest_after, Stand, PendingUpdate, Latch, PendingLookup, Moment, Done, step_done, accepted, history, opening, machine, counted_up, with_event, new_lookup, with_value, IsBegin, IsWrite, after_load, start_done, load_done, read_done, Step, Run, is_step, is_load_of, up_to_next_step, replies_to, ReturnsWithin, ReturnsFromStart, AreUndisturbed, flips_between, IsPatientReply, IsQuiet, take-append-le, gen_within, sequence_after, attempt_below, attempt_below_depth, few_deep_any, shallow_tree, depth, AreShallow, IsDepth, AreNear, AllByRecursion, nat_cmp, words_after, IsStanding}
+use Rattle.latch_steps.proofs.Definitions.{◌≡◌, ◌≢◌, ℕ, ◌+◌, ◌-◌, ◌*◌, ◌^◌, ◌<◌, ◌≤◌, true, false, cond, List, [], ◌∷◌, ◌++◌, length, take, Option, Some, None, refl, sym, ◌∙◌, ap, subst, arith, length-append, append_assoc, ⊎_elim, ◌==◌, get, FinMap, get-empty, eqb-true, eqb-false, Item, Update, Refusal, ReaderBusy, Event, Begin, Write, Start, Read, Reply, Started, Loaded, Refused, Order, IsLawful, IsTable, get-insert_same, replay, current_table, at, Nodes, Holds, generation_of, stable_copy_of, Reading, Load, attempt, rest_after, Stand, PendingUpdate, Latch, PendingLookup, Moment, Done, step_done, accepted, history, opening, machine, counted_up, with_event, new_lookup, with_value, IsBegin, IsWrite, after_load, start_done, load_done, read_done, Step, Run, is_step, is_load_of, up_to_next_step, replies_to, ReturnsWithin, ReturnsFromStart, AreUndisturbed, flips_between, IsPatientReply, IsQuiet, take-append-le, gen_within, sequence_after, attempt_below, attempt_below_depth, few_deep_any, shallow_tree, depth, AreShallow, IsDepth, AreNear, AllByRecursion, nat_cmp, words_after, IsStanding}
 use Rattle.latch_steps.specs.declared.replies.Reply.TheVariants.{Returned as ReturnedReply}
 use Rattle.latch_steps.proofs.LoadLemmas.{IsGoing, each_insert, each_remove, none_loaded, by_load, by_sound_load}
 use Rattle.latch_steps.proofs.IdleLemmas.{Differs, start_differs, read_reads}

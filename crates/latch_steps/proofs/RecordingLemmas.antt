@@ -1,6 +1,6 @@
 -- What is kept of the events of a run that is recorded, what is promised of its trace, and a driver
 -- that goes on by a command.
-use Rattle.latch_steps.proofs.Words.{◌≡◌, ℕ, ◌+◌, ◌^◌, ◌<◌, Bool, true, false, List, [], ◌∷◌, ◌++◌, length, refl, sym, ◌∙◌, ap, subst, arith, append_assoc, append-nil, take, get_or, Order, IsLawful, capacity_of, limit_of, World, IsEmpty, IsWhole, Keeps, AreWhole, AreReported, IsReportedRun, ObeysFromAny, Moment, Done, opening, last_of, machine_of, Run, IsTraceOf, kept, events_of, notes_of, layout_in, RepresentsMoment, take_push, MayOpen, Command, Event, Outcome, AreShallow, Expand}
+use Rattle.latch_steps.proofs.Definitions.{◌≡◌, ℕ, ◌+◌, ◌^◌, ◌<◌, Bool, true, false, List, [], ◌∷◌, ◌++◌, length, refl, sym, ◌∙◌, ap, subst, arith, append_assoc, append-nil, take, get_or, Order, IsLawful, capacity_of, limit_of, World, IsEmpty, IsWhole, Keeps, AreWhole, AreReported, IsReportedRun, ObeysFromAny, Moment, Done, opening, last_of, machine_of, Run, IsTraceOf, kept, events_of, notes_of, layout_in, RepresentsMoment, take_push, MayOpen, Command, Event, Outcome, AreShallow, Expand}
 use Rattle.word_layout.specs.declared.layouts.Layout.{Layout}
 use Rattle.latch_steps.specs.declared.traces.Recording.{Recording}
 use Rattle.latch_steps.specs.declared.traces.Trace.{Trace}

@@ -1,6 +1,6 @@
 -- Reports of the events of a run, and the commands that a world obeys so, with loads of a lookup
 -- that is held apart.
-use Rattle.latch_steps.proofs.Words.{◌≡◌, ℕ, ◌+◌, ◌<◌, Bool, true, false, cond, List, [], ◌∷◌, ◌++◌, length, Option, Some, None, Result, Ok, Err, refl, sym, ◌∙◌, ap, subst, arith, length-append, ◌≢◌, is_some, OnOk, get, insert, remove, Refusal, Order, capacity_of, limit_of, PendingUpdate, Latch, IsShallow, RepresentsLatch, Command, Event, Write, Read, NextLoad, Reply, Outcome, World, Repeats, ends, event_of, most_of, reads_within, AreShallow, AreReported, IsLoadBy, IsReportedRun, IsWriting, Obeys, ObeysFromAny, ObeysOnce, ReportsEvent, outcome_of, ChangesOneLookup, LoadsFrom, LoadsOn, lookup_at, IsPendingLookup, IsLookupOf, LoadsTo, LoadsNextFrom, next_load, Done, Moment, last_of, step_done, PendingLookup, AfterLoad, IsWrite, Run, machine_of, machine, counted_up, with_lookups, after_load, load_done, read_done, HasEvents, HasSequence, RepresentsMoment, layout_in, IsWorldStep, is_refused_for_memory, nat_cmp, option_map, BTreeMap, is_at, get-insert_other, get-insert_same, get-remove_other, get-remove_same, at, Lookup}
+use Rattle.latch_steps.proofs.Definitions.{◌≡◌, ℕ, ◌+◌, ◌<◌, Bool, true, false, cond, List, [], ◌∷◌, ◌++◌, length, Option, Some, None, Result, Ok, Err, refl, sym, ◌∙◌, ap, subst, arith, length-append, ◌≢◌, is_some, OnOk, get, insert, remove, Refusal, Order, capacity_of, limit_of, PendingUpdate, Latch, IsShallow, RepresentsLatch, Command, Event, Write, Read, NextLoad, Reply, Outcome, World, Repeats, ends, event_of, most_of, reads_within, AreShallow, AreReported, IsLoadBy, IsReportedRun, IsWriting, Obeys, ObeysFromAny, ObeysOnce, ReportsEvent, outcome_of, ChangesOneLookup, LoadsFrom, LoadsOn, lookup_at, IsPendingLookup, IsLookupOf, LoadsTo, LoadsNextFrom, next_load, Done, Moment, last_of, step_done, PendingLookup, AfterLoad, IsWrite, Run, machine_of, machine, counted_up, with_lookups, after_load, load_done, read_done, HasEvents, HasSequence, RepresentsMoment, layout_in, IsWorldStep, is_refused_for_memory, nat_cmp, option_map, BTreeMap, is_at, get-insert_other, get-insert_same, get-remove_other, get-remove_same, at, Lookup}
 use Rattle.latch_steps.proofs.WorldLemmas.{shown_none, shown, in_hand_at}
 use Rattle.latch_steps.proofs.RunLemmas.{IsUnended, does, last_append, repeats_ended, repeats_full, run_append, shallow_append, shows_shallow, unended_push, reads_shallow}
 use Rattle.latch_steps.specs.declared.commands.Command.TheVariants.{Read as ReadCommand}
@@ -57,14 +57,6 @@ pub obeyed_once : {O K T A : Type 0} (o : Order K) (reports : T → Event K → 
 obeyed_once o reports (Ok x) old new a b e c d same is count obeys = λ w s. subst (λ y. Obeys o reports y old new a b w (most_of w y)) (sym same) (subst (Obeys o reports d old new a b w) (sym (count w s)) (obeys d is w s))
 obeyed_once o reports (Err why) old new a b e c d same is count obeys = tt
 
--- a reader without a pending lookup is refused once
-pub idle_once : {O K : Type 0} (o : Order K) (c : World O K) (r most : ℕ) → is_some (lookup_at c.lookups r) ≡ false → (w : Moment K) → RepresentsMoment o c w → reads_within (get w.lookups r) most ≡ 1
-idle_once o c r most free w s = ap (λ f. reads_within f most) (shown_none o (capacity_of (layout_in c)) (lookup_at c.lookups r) (get w.lookups r) (none (lookup_at c.lookups r) free) (s.lookups r))
-  where
-    none : {X : Type 0} (x : Option X) → is_some x ≡ false → x ≡ None
-    none None e = refl
-    none (Some y) e = absurd (cc)
-
 -- a store takes no memory
 pub write_stays : {K : Type 0} (n : ℕ) (w next : Moment K) (pending : Option PendingUpdate) (r : Reply K) → IsWrite n w pending r next → is_refused_for_memory r ≡ false
 write_stays n w next None r done = ap is_refused_for_memory done.0
@@ -78,9 +70,6 @@ pub record Writing {O K T : Type 0} (o : Order K) (reports : T → Event K → O
   pub turns : length run ≡ turn
 
 module _ {O K T : Type 0} (o : Order K) (reports : T → Event K → Outcome K → T → Type 0) (c : Command K) (old : World O K) (a : T) where
-  pub writing_none : (w : Moment K) → RepresentsMoment o old w → Writing o reports c old old a a 0 w
-  writing_none w s = record { run = []; reported = none_reported o reports old a w s; unended = tt; turns = refl }
-
   pub writing_all : (now : World O K) (b : T) (turn most : ℕ) (w : Moment K) → Writing o reports c old now a b turn w → turn ≡ most → Obeys o reports c old now a b w most
   writing_all now b turn most w h e = (h.run, h.reported, repeats_full c h.run most h.unended (h.turns ∙ e))
 
@@ -132,17 +121,6 @@ pub record Loading {O K T : Type 0} (o : Order K) (n limit : ℕ) (reports : T �
   pub holding : ChangesOneLookup o n w (last_of w run) r (Some c) count
 
 module _ {O K T : Type 0} (o : Order K) (n limit : ℕ) (reports : T → Event K → Outcome K → T → Type 0) (w : Moment K) (r most : ℕ) (a : T) where
-  pub no_loads : (c : Lookup O K) (count : ℕ) → IsPendingLookup o n (Some c) (get w.lookups r) → count ≡ w.events → Loading o n limit reports w r most a 0 c count a
-  no_loads c count is e =
-      record {
-        run = [];
-        steps = tt;
-        unended = tt;
-        turns = refl;
-        reported = refl;
-        holding = record { latch = refl; lookup = is; others = λ q ne. refl; events = e };
-      }
-
   -- the next load, by the reply and the moment that it leads to
   module _ (c : Lookup O K) (count next turn : ℕ) (b b' : T) (h : Loading o n limit reports w r most a turn c count b) (counts : next ≡ counted_up count)
       (words : List ℕ) (same : w.latch.words ≡ words) (load : NextLoad K) (loads_next : LoadsNextFrom o c words load) (sequence : ℕ) (reads : sequence ≡ at words 0) where

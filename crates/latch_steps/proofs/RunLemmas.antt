@@ -1,7 +1,7 @@
 -- What events do to the latch and to the count of events, runs one after another, and the events
 -- that a command repeats. Each accepted update is the last of the history, and each flip adds one to
 -- the sequence.
-use Rattle.latch_steps.proofs.Words.{◌≡◌, ℕ, suc, zero, ◌+◌, ◌-◌, ◌<◌, ◌≤◌, Bool, false, cond, List, [], ◌∷◌, ◌++◌, length, take, drop, Option, Some, None, refl, sym, ◌∙◌, ap, subst, inl, ⊎_elim, arith, append-nil, ◌^◌, true, append_assoc, ◌==◌, is_some, count_by, min, get, eq-eqb, ne_eqb, drop-take, take-take, Store, Update, Refusal, Event, Begin, Write, Start, Read, Reply, Begun, Wrote, Order, IsLawful, at, words_after, refusal_for, PendingUpdate, Latch, IsWriterStep, IsSound, hidden_same, sound_step, sound_begin, PendingLookup, Moment, Done, accepted, moment_at, opening, last_of, machine, IsBegin, IsWrite, AfterLoad, Goes, Retries, Returns, after_load, start_done, load_done, read_done, Step, Run, counted_up, is_step, is_flip, flips_between, capacity_of, IsShallow, stays_now, Command, World, event_of, most_of, writes_within, ends, Repeats, Expand, AreShallow, events_of, note_of, notes_of, RepresentsMoment, layout_in, Does, MayDo, IsWorldStep, is_refused_for_memory}
+use Rattle.latch_steps.proofs.Definitions.{◌≡◌, ℕ, suc, zero, ◌+◌, ◌-◌, ◌<◌, ◌≤◌, Bool, false, cond, List, [], ◌∷◌, ◌++◌, length, take, drop, Option, Some, None, refl, sym, ◌∙◌, ap, subst, inl, ⊎_elim, arith, append-nil, ◌^◌, true, append_assoc, ◌==◌, is_some, count_by, min, get, eq-eqb, ne_eqb, drop-take, take-take, Store, Update, Refusal, Event, Begin, Write, Start, Read, Reply, Begun, Wrote, Order, IsLawful, at, words_after, refusal_for, PendingUpdate, Latch, IsWriterStep, IsSound, hidden_same, sound_step, sound_begin, PendingLookup, Moment, Done, accepted, moment_at, opening, last_of, machine, IsBegin, IsWrite, AfterLoad, Goes, Retries, Returns, after_load, start_done, load_done, read_done, Step, Run, counted_up, is_step, is_flip, flips_between, capacity_of, IsShallow, stays_now, Command, World, event_of, most_of, writes_within, ends, Repeats, Expand, AreShallow, events_of, note_of, notes_of, RepresentsMoment, layout_in, Does, MayDo, IsWorldStep, is_refused_for_memory}
 use Rattle.std.proofs.lemmas.List.Sums.{sum_by-append, sum_by-take-drop}
 use Rattle.word_layout.proofs.HoldsLemmas.{flip_adds}
 use Rattle.std.proofs.lemmas.List.Elements.{filter_map-append}

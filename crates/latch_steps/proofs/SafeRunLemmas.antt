@@ -1,6 +1,6 @@
 -- Every lookup that returns is right, and its item is in the table of its generation, so it answers
 -- for each key in it while that generation is current.
-use Rattle.latch_steps.proofs.Words.{◌≡◌, ℕ, suc, ◌+◌, ◌<◌, ◌≤◌, List, ◌++◌, Option, Some, None, refl, sym, ◌∙◌, ap, subst, arith, append-nil, ◌-◌, ◌^◌, [], ◌∷◌, length, take, append_assoc, Contains, nat_cmp, FinMap, get, insert, remove, get-empty, Update, Refusal, Event, Begin, Write, Start, Read, Reply, Order, IsLawful, look, IsLook, replay, current_table, table_at, at, generation_of, stable_copy_of, PendingUpdate, PendingLookup, Moment, accepted, Done, opening, history, moment_at, machine, counted_up, with_lookups, return_of, IsBegin, IsWrite, start_done, load_done, read_done, Step, Run, IsSound, AreTables, standing_step, gen_within, sound_opening, AllByRecursion, take-append-le, Item}
+use Rattle.latch_steps.proofs.Definitions.{◌≡◌, ℕ, suc, ◌+◌, ◌<◌, ◌≤◌, List, ◌++◌, Option, Some, None, refl, sym, ◌∙◌, ap, subst, arith, append-nil, ◌-◌, ◌^◌, [], ◌∷◌, length, take, append_assoc, Contains, nat_cmp, FinMap, get, insert, remove, get-empty, Update, Refusal, Event, Begin, Write, Start, Read, Reply, Order, IsLawful, look, IsLook, replay, current_table, table_at, at, generation_of, stable_copy_of, PendingUpdate, PendingLookup, Moment, accepted, Done, opening, history, moment_at, machine, counted_up, with_lookups, return_of, IsBegin, IsWrite, start_done, load_done, read_done, Step, Run, IsSound, AreTables, standing_step, gen_within, sound_opening, AllByRecursion, take-append-le, Item}
 use Rattle.latch_steps.specs.declared.replies.Returned.{Returned}
 use Rattle.latch_steps.specs.declared.replies.Reply.TheVariants.{Returned as ReturnedReply}
 use Rattle.latch_steps.proofs.RunLemmas.{step_sound, step_counts}

@@ -1,5 +1,5 @@
 -- What the methods of a world do to the moments that it shows.
-use Rattle.latch_steps.proofs.Words.{◌≡◌, ◌≢◌, ℕ, Bool, true, false, cond, Option, Some, None, refl, sym, ◌∙◌, ap, subst, ⊎_elim, arith, ◌<◌, ◌≤◌, List, [], ◌∷◌, length, inl, inr, Vec, Global, nat_cmp, option_flatten, BTreeMap, is_at, FinMap, get, insert, remove, empty, get-empty, cases_eq, lt-ltb, Order, get-insert_other, get-insert_same, get-remove_other, get-remove_same, Lookup, PendingLookup, Moment, IsPendingLookup, IsLookupOf, lookup_at, LoadsTo, ArePendingLookups, RepresentsMoment, IsAtRest, ◌⊎◌, is_some, nat_lt, Refusal, OutOfMemory, ReaderBusy, ReaderIdle, Store, capacity_of, limit_of, at, words_after, Update, WriterView, refusal_for, most_steps, PendingUpdate, Latch, IsWriterStep, latch_after_step, latch_with_update, RepresentsLatch, HasBegun, has_pending, why_refused, writer_after_step, Begin, Write, Start, Read, Reply, Begun, Wrote, Idle, Started, Refused, World, AfterLoad, counted_up, with_event, new_lookup, with_latch, with_lookups, IsBegin, IsWrite, after_load, start_done, load_done, read_done, writes_left, Does, MayDo}
+use Rattle.latch_steps.proofs.Definitions.{◌≡◌, ◌≢◌, ℕ, Bool, true, false, cond, Option, Some, None, refl, sym, ◌∙◌, ap, subst, ⊎_elim, arith, ◌<◌, ◌≤◌, List, [], ◌∷◌, length, inl, inr, Vec, Global, nat_cmp, option_flatten, BTreeMap, is_at, FinMap, get, insert, remove, empty, get-empty, cases_eq, lt-ltb, Order, get-insert_other, get-insert_same, get-remove_other, get-remove_same, Lookup, PendingLookup, Moment, IsPendingLookup, IsLookupOf, lookup_at, LoadsTo, ArePendingLookups, RepresentsMoment, IsAtRest, ◌⊎◌, is_some, nat_lt, Refusal, OutOfMemory, ReaderBusy, ReaderIdle, Store, capacity_of, limit_of, at, words_after, Update, WriterView, refusal_for, most_steps, PendingUpdate, Latch, IsWriterStep, latch_after_step, latch_with_update, RepresentsLatch, HasBegun, has_pending, why_refused, writer_after_step, Begin, Write, Start, Read, Reply, Begun, Wrote, Idle, Started, Refused, World, AfterLoad, counted_up, with_event, new_lookup, with_latch, with_lookups, IsBegin, IsWrite, after_load, start_done, load_done, read_done, writes_left, Does, MayDo}
 use Rattle.std.specs.BTreeMap.{get as tree_get}
 use Rattle.std.proofs.lemmas.Bool.Decides.{nat_tests}
 use Rattle.latch_core.proofs.TestLemmas.{never_for_memory}

@@ -14,7 +14,7 @@ use crate::lookups::{LoadOutcome, Lookup, LookupProgress};
 use crate::replies::{NextLoad, Reply, Returned};
 use crate::reports::Report;
 use crate::words::{opening_words, put, word_at};
-use latch_core::{Attempted, WriterCore, attempt_in};
+use latch_core::{AttemptOutcome, WriterCore, attempt_in};
 use order_laws::{Item, Refusal, TreeOrder};
 use std::alloc::Global;
 use std::collections::BTreeMap;
@@ -254,10 +254,10 @@ impl<O: TreeOrder> World<O> {
             return None;
         }
         match attempt_in::<O>(words, self.layout, key) {
-            (Attempted::Answered(answer, generation), loads) => {
+            (AttemptOutcome::Answered(answer, generation), loads) => {
                 Some((answer, generation, loads as u64))
             }
-            (Attempted::Failed, _) => None,
+            (AttemptOutcome::Failed, _) => None,
         }
     }
 

@@ -1,5 +1,5 @@
 -- One attempt: a walk, whose loads are those of a reader's seat or of the writer's.
-use Rattle.latch_table.proofs.Words.{◌≡◌, ◌≢◌, ℕ, List, [], ◌∷◌, ◌++◌, Option, Some, None, true, false, cond, refl, sym, ◌∙◌, ap, subst, append_assoc, append-nil, ◌==◌, eqb-true, IsPrefix, Me, TableId, Item, Order, IsLawful, look, IsPrefix-along, IsPrefix-whole, Update, generation_of, replay, Reading, Load, Ends, Outcome, Answer, Again, WalkEnd, AtItem, AtEmptyLink, Stuck, outcome, last_load, attempt, attempt_after, rest_after, IsAttempt, Stand, loads_of, IsKept, StandAll, IsLatched, wanted_kept, loads_push, ReaderKnowledge, Knowledge, Try, Answered, Retry, reader_knowledge, reader_of, with_sequence, with_word, writer_of, writer_knowledge, with_loads, LoadsSequence, as_writer, AreRetries, KnowsMore, Attempted, Tried, Searched, Searches, MayLoad, IsReading, LearnsWord, LearnsSequence, IsWriting, WriterLearns, at, WriterKnowledge, FindsIn}
+use Rattle.latch_table.proofs.Words.{◌≡◌, ◌≢◌, ℕ, List, [], ◌∷◌, ◌++◌, Option, Some, None, true, false, cond, refl, sym, ◌∙◌, ap, subst, append_assoc, append-nil, ◌==◌, eqb-true, IsPrefix, Me, TableId, Item, Order, IsLawful, look, IsPrefix-along, IsPrefix-whole, Update, generation_of, replay, Reading, Load, Ends, Outcome, Answer, Again, WalkEnd, AtItem, AtEmptyLink, Stuck, outcome, last_load, attempt, attempt_after, rest_after, IsAttempt, Stand, loads_of, IsKept, StandAll, IsLatched, wanted_kept, loads_push, ReaderKnowledge, Knowledge, Try, Answered, Retry, reader_knowledge, reader_of, with_sequence, with_word, writer_of, writer_knowledge, with_loads, LoadsSequence, as_writer, AreRetries, KnowsMore, EndedAttempt, Tried, Searched, Searches, MayLoad, IsReading, LearnsWord, LearnsSequence, IsWriting, WriterLearns, at, WriterKnowledge, FindsIn}
 use Rattle.latch_core.proofs.ReadingLemmas.{rest_push, stand_push}
 use Rattle.latch_core.proofs.WalkLemmas.{attempt_length, attempt_answers, attempt_loads}
 use Rattle.latch_core.specs.Loading.{Leads, IsReady, HasTried}
@@ -108,7 +108,7 @@ module _ {K : Type 0} (o : Order K) (k : K) (before begun e : ReaderKnowledge) (
       whole : IsAttempt o n k (values ++ t ∷ []) out
       whole = ended ∙ ap (λ (z : Outcome). Some (Ends z)) is
 
-      abbrev attempted : Attempted o k e' out
+      abbrev attempted : EndedAttempt o k e' out
       attempted = record {
         values = values ++ t ∷ [];
         whole = whole;

@@ -24,7 +24,7 @@ pub use Rattle.latch_core.specs.declared.replacements.Difference.{Difference}
 pub use Rattle.latch_table.specs.Enlarging.{Enlarges, enlarged_state, reader_beside}
 pub use Rattle.latch_table.specs.Lookups.{FindsIn}
 pub use Rattle.latch_table.specs.Memory.{Remembers, MemoryHolds, IsRecalled, Recalled, Looked, memory_after}
-pub use Rattle.latch_table.specs.Readers.{ReaderState, new_reader, KnowsMore, Answers, Tried, Met, AreRetries, Attempted, Searched, Searches, reader_at}
+pub use Rattle.latch_table.specs.Readers.{ReaderState, new_reader, KnowsMore, Answers, Tried, Met, AreRetries, EndedAttempt, Searched, Searches, reader_at}
 pub use Rattle.latch_table.specs.Replacing.{LeadsToFew, TellsTree, IsReplacement}
 pub use Rattle.latch_table.specs.Rule.{KnowledgeHolds, LoadsSequence, Rises, EndsRight, ReaderKnows, as_reader, WriterKnows, WriterPart, ReaderPart, SeatKnows, as_writer, sequence_loaded, word_loaded, lookup_begun, writer_loaded, word_copied, update_taken, word_stored}
 pub use Rattle.latch_table.specs.Seats.{writer_of, writer_knowledge, moved_writer, blank_reader, reader_of, with_sequence, with_word, last_or, joined_knowledge, new_reader_knowledge, no_knowledge, writer_alone, reader_alone, with_loads, with_update, with_store, shown_after, reader_knowledge, blank_writer, first_knowledge}

@@ -36,7 +36,7 @@ abbrev pub KnowsFloor : ReaderKnowledge → Type 0
 KnowsFloor e = IsPrefix e.floor e.known
 
 -- its last step ended one attempt, which had this outcome
-pub record Attempted {K : Type 0} (o : Order K) (k : K) (e : ReaderKnowledge) (out : Outcome)
+pub record EndedAttempt {K : Type 0} (o : Order K) (k : K) (e : ReaderKnowledge) (out : Outcome)
     : Type 0 where
   pub values : List ℕ
   pub whole : IsAttempt o e.capacity k values out
@@ -56,10 +56,10 @@ pub record Answers {K : Type 0} (o : Order K) (k : K) (e : ReaderKnowledge) (x :
 abbrev pub Tried : {K : Type 0} → Order K → K → ReaderKnowledge → ReaderKnowledge → Try → Type 0
 Tried o k e e' (Answered x g) =
     (s : ℕ) × (e'.seen ≡ e.seen ++ s ∷ s ∷ []) × (generation_of s ≡ g)
-    × KnowsMore e e' × Attempted o k e' (Answer x g) × Answers o k e' x g
+    × KnowsMore e e' × EndedAttempt o k e' (Answer x g) × Answers o k e' x g
 Tried o k e e' Retry =
     (s : ℕ) × (t : ℕ) × (e'.seen ≡ e.seen ++ s ∷ t ∷ []) × (t ≢ s)
-    × KnowsMore e e' × Attempted o k e' Again × KnowsFloor e'
+    × KnowsMore e e' × EndedAttempt o k e' Again × KnowsFloor e'
 
 -- the sequences that attempts without an answer loaded: for each attempt two that differ
 abbrev pub AreRetries : List ℕ → Type 0
@@ -72,7 +72,7 @@ abbrev pub Searched : {K : Type 0} → Order K → K → ReaderKnowledge → Rea
     → Option Item × ℕ → Type 0
 Searched o k e e' r =
     (more : List ℕ) × (s : ℕ) × (e'.seen ≡ (e.seen ++ more) ++ s ∷ s ∷ []) × (generation_of s ≡ r.1)
-    × KnowsMore e e' × Attempted o k e' (Answer r.0 r.1) × Answers o k e' r.0 r.1
+    × KnowsMore e e' × EndedAttempt o k e' (Answer r.0 r.1) × Answers o k e' r.0 r.1
     × AreRetries more
 
 -- none or more attempts, and none gave an answer

@@ -20,7 +20,7 @@ ghost use Rattle.latch_weak.specs.Readers.{view_of, IsReaderOf, Looks, LooksFirs
 ghost use Rattle.latch_weak.specs.Readers.{StandsBefore, HasAttempted};
 
 use crate::barriers::{Barriers, last_store, value_at};
-use latch_core::{Attempted, Loads, attempt_from};
+use latch_core::{AttemptOutcome, Loads, attempt_from};
 use order_laws::TreeOrder;
 use std::alloc::{AllocError, Global};
 use word_layout::{Layout, Store};
@@ -178,7 +178,7 @@ impl<S: LoadSchedule> Moments<'_, S> {
         reader: &mut ReaderView,
         l: Layout,
         key: O::Key,
-    ) -> Attempted
+    ) -> AttemptOutcome
         requires sized { length self.now.opening.now ≡ words_for (capacity_of l) }
         requires reader { IsReaderOf self.now.opening.now self.now.stores.now reader.old }
         ensures { HasAttempted (S.chooses self.now.schedule.now) self.now.barriers O.order

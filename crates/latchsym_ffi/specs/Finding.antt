@@ -11,7 +11,7 @@ use Rattle.modules.specs.Items.{item_of_address}
 use Rattle.latchsym_ffi.specs.Answers.{answer_number}
 use Rattle.latchsym_ffi.specs.declared.answers.Answer.TheVariants.{Done, NoSymbol, Nothing}
 use Rattle.latchsym_ffi.specs.declared.finding.CatalogAnswer.{CatalogAnswer}
-use Rattle.latchsym_ffi.specs.declared.finding.Seen.{Seen}
+use Rattle.latchsym_ffi.specs.declared.finding.RegionAndSymbol.{RegionAndSymbol}
 use Rattle.latchsym_ffi.specs.declared.finding.Description.{Description}
 
 -- the item of the region that an address lies in, if any, and the symbol that it belongs to there,
@@ -34,7 +34,7 @@ known_call c addr =
 abbrev pub known_in : CatalogEntries → ℕ → Option Item → Known
 known_in c addr x = option_map (λ i. (i, symbol_at c i addr)) x
 
-abbrev pub shown_seen : Seen → Item × Option Found
+abbrev pub shown_seen : RegionAndSymbol → Item × Option Found
 shown_seen s = (s.item, s.found)
 
 -- the number that is returned

@@ -6,7 +6,7 @@ ghost use Rattle.latchsym_ffi.specs.Batches.{told_at, told_of};
 ghost use Rattle.latchsym_ffi.specs.Finding.{shown_seen};
 
 use crate::answers::{BAD_LENGTH, DONE};
-use crate::finding::{CatalogAnswer, Seen, description_of, seek_next};
+use crate::finding::{CatalogAnswer, RegionAndSymbol, description_of, seek_next};
 use modules::{Catalog, Finder, IndexedCatalog, MOST_EXPECTED};
 
 /// What is told of one of several addresses: what a search for it alone tells, and the number that
@@ -19,7 +19,7 @@ pub struct CatalogTold {
 }
 
 /// What is told of what was seen.
-fn told(catalog: &Catalog<'static>, seen: Option<Seen<'_>>) -> CatalogTold
+fn told(catalog: &Catalog<'static>, seen: Option<RegionAndSymbol<'_>>) -> CatalogTold
     ensures { result ≡ told_of catalog.now (option_map shown_seen seen.entry) }
 {
     let description = description_of(catalog, seen);

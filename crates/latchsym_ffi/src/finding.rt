@@ -46,7 +46,7 @@ pub struct CatalogSymbol {
 
 /// The region that an address lies in, and the symbol that it belongs to, if there is one.
 #[derive(Drop)]
-pub(crate) struct Seen<'c> {
+pub(crate) struct RegionAndSymbol<'c> {
     item: Item,
     found: Option<FoundSymbol<'c, 'static>>,
 }
@@ -83,43 +83,55 @@ fn name_of<'a>(catalog: &Catalog<'a>, number: u64) -> &'a [u8]
 /// It is compiled into its callers: handed on through memory the answer was stored by words and
 /// loaded by pairs of them, which waits.
 #[inline(always)]
-pub(crate) fn seek<'c>(catalog: &'c IndexedCatalog<'static>, addr: u64) -> Option<Seen<'c>>
+pub(crate) fn seek<'c>(
+    catalog: &'c IndexedCatalog<'static>,
+    addr: u64,
+) -> Option<RegionAndSymbol<'c>>
     ensures { option_map shown_seen result ≡ known_at catalog.now addr }
 {
     let item = catalog.find(addr)?;
-    Some(Seen {
+    Some(RegionAndSymbol {
         item,
         found: symbol_of(catalog.catalog(), item, addr),
     })
 }
 
 /// The region of one of several addresses, and its symbol, if there is one.
-pub(crate) fn seek_next<'c>(finder: &mut Finder<'c, 'static>, addr: u64) -> Option<Seen<'c>>
+pub(crate) fn seek_next<'c>(
+    finder: &mut Finder<'c, 'static>,
+    addr: u64,
+) -> Option<RegionAndSymbol<'c>>
     ensures seen { option_map shown_seen result ≡ known_at finder.old addr }
     ensures stays { finder.new ≡ finder.old }
 {
     let (item, found) = finder.find(addr)?;
-    Some(Seen { item, found })
+    Some(RegionAndSymbol { item, found })
 }
 
 /// The region of the address one byte lower, and its symbol, with the offset of the return address
 /// itself: the call before it may be the last instruction of its symbol.
-pub(crate) fn seek_call<'c>(catalog: &'c IndexedCatalog<'static>, addr: u64) -> Option<Seen<'c>>
+pub(crate) fn seek_call<'c>(
+    catalog: &'c IndexedCatalog<'static>,
+    addr: u64,
+) -> Option<RegionAndSymbol<'c>>
     ensures { option_map shown_seen result ≡ known_call catalog.now addr }
 {
-    let Seen { item, found } = seek(catalog, addr.checked_sub(1)?)?;
+    let RegionAndSymbol { item, found } = seek(catalog, addr.checked_sub(1)?)?;
     let found = match found {
         Some(found) => Some(farther(found, 1)),
         None => None,
     };
-    Some(Seen { item, found })
+    Some(RegionAndSymbol { item, found })
 }
 
 /// What is told of what was seen.
-pub(crate) fn description_of(catalog: &Catalog<'static>, seen: Option<Seen<'_>>) -> Description
+pub(crate) fn description_of(
+    catalog: &Catalog<'static>,
+    seen: Option<RegionAndSymbol<'_>>,
+) -> Description
     ensures { Describes catalog.now (option_map shown_seen seen.entry) result }
 {
-    let Some(Seen { item, found }) = seen else {
+    let Some(RegionAndSymbol { item, found }) = seen else {
         return Description {
             code: NOTHING,
             answer: CatalogAnswer {
@@ -160,7 +172,7 @@ pub(crate) fn description_of(catalog: &Catalog<'static>, seen: Option<Seen<'_>>)
 /// numbers 0, where it lies in no region.
 pub(crate) fn name_places(
     catalog: &Catalog<'static>,
-    seen: Option<Seen<'_>>,
+    seen: Option<RegionAndSymbol<'_>>,
     out: &mut CatalogSymbol,
 ) -> u32
     ensures { IsTold catalog.now (option_map shown_seen seen.entry) result out.new }
@@ -179,7 +191,7 @@ pub(crate) fn name_places(
 /// Tells of what was seen, with as much of the names as there is room for.
 pub(crate) fn copy_names(
     catalog: &Catalog<'static>,
-    seen: Option<Seen<'_>>,
+    seen: Option<RegionAndSymbol<'_>>,
     out: &mut CatalogAnswer,
     name: &mut [u8],
     owner: &mut [u8],
@@ -203,12 +215,12 @@ pub(crate) fn seen_in<'c>(
     catalog: &'c Catalog<'static>,
     item: Option<Item>,
     addr: u64,
-) -> Option<Seen<'c>>
+) -> Option<RegionAndSymbol<'c>>
     requires { IfSome item (λ i. (i.a ≤ addr) × (addr < i.b)) }
     ensures { option_map shown_seen result ≡ known_in catalog.now addr item }
 {
     let item = item?;
-    Some(Seen {
+    Some(RegionAndSymbol {
         item,
         found: symbol_of(catalog, item, addr),
     })

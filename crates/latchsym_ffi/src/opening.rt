@@ -12,7 +12,7 @@ use crate::contents::Content;
 use crate::listings::CatalogListings;
 use crate::open_catalogs::OpenCatalog;
 use listing::{ModuleCounts, OpenedCatalog, SkippedModule, SkippedSymbol, open};
-use modules::{Asked, IndexedCatalog};
+use modules::{ExpectedLookups, IndexedCatalog};
 use order_laws::Refusal;
 use std::alloc::{AllocError, AllocFailed, Global};
 use texts::LineFault;
@@ -145,7 +145,13 @@ fn catalog_of(
 {
     let listings = given.listings(alloc)?;
     let kernel = given.kernel();
-    let opened = open(alloc, &listings, kernel.as_ref(), false, Asked::Any)?;
+    let opened = open(
+        alloc,
+        &listings,
+        kernel.as_ref(),
+        false,
+        ExpectedLookups::Any,
+    )?;
     let counts = counts_of(&opened);
     Ok((IndexedCatalog::new(alloc, opened.catalog)?, counts))
 }

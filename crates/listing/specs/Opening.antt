@@ -18,7 +18,7 @@ use Rattle.listing.specs.RegionListing.{regions_of_text}
 use Rattle.listing.specs.SymbolListing.{symbol_counts, symbols_in, symbols_with}
 use Rattle.listing.specs.declared.listing_notes.ListingNote.{ListingNote}
 use Rattle.listing.specs.declared.listing_notes.ListingNotes.{ListingNotes}
-use Rattle.listing.specs.declared.opening.Built.{Built}
+use Rattle.listing.specs.declared.opening.BuiltCatalog.{BuiltCatalog}
 use Rattle.listing.specs.declared.opening.Listings.{Listings}
 use Rattle.listing.specs.declared.opening.OpenedCatalog.{OpenedCatalog}
 
@@ -146,7 +146,7 @@ skipped_modules_of l = option_map (λ text. module_counts (lines_of text)) l.mod
 
 -- what was built, of symbols that may be kept, is what listings say
 pub record AreBuilt (kernel : Option BoundNames) (l : Listed) (symbols : List ListedSymbol)
-    (b : Built) : Type 0 where
+    (b : BuiltCatalog) : Type 0 where
   pub said : AreBy kernel l symbols l.modules b.catalog b.counts
   pub skipped : option_map (λ k. k.by_place) b.skipped ≡ skipped_modules_of l
   pub hidden : b.hidden ≡ hides_modules l

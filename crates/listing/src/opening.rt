@@ -24,7 +24,7 @@ use crate::looks::{are_modules_hidden, are_symbols_hidden};
 use crate::module_listing::{ModuleCounts, read_modules};
 use crate::region_listing::read_regions;
 use crate::symbol_listing::{SymbolCounts, read_kallsyms};
-use modules::{Asked, BuildCounts, Catalog, KernelBounds, RegionLine, SymbolLines};
+use modules::{BuildCounts, Catalog, ExpectedLookups, KernelBounds, RegionLine, SymbolLines};
 use order_laws::Refusal;
 use std::alloc::Global;
 use texts::LineFault;
@@ -104,7 +104,7 @@ pub struct OpenedCatalog<'a> {
 
 /// A catalog, and what is known of the listing of modules beside that of symbols.
 #[derive(Drop)]
-struct Built<'a> {
+struct BuiltCatalog<'a> {
     catalog: Catalog<'a>,
     counts: BuildCounts,
     skipped: Option<ModuleCounts>,
@@ -128,8 +128,8 @@ fn build<'a>(
     listings: &Listings<'a>,
     kernel: Option<&KernelBounds>,
     symbols: SymbolLines<'a>,
-    asked: Asked<'_>,
-) -> Result<Built<'a>, Refusal>
+    asked: ExpectedLookups<'_>,
+) -> Result<BuiltCatalog<'a>, Refusal>
     requires { All (λ r. region_fits r ≡ true) (unwrap_or (listed_in listings.now).regions []) }
     ensures built { IfOk result
         (AreBuilt (option_copied kernel.entry) (listed_in listings.now) symbols.entry) }
@@ -137,7 +137,7 @@ fn build<'a>(
 {
     let Some(text) = listings.modules else {
         let (catalog, counts) = Catalog::from_symbols(alloc, kernel, symbols, asked)?;
-        return Ok(Built {
+        return Ok(BuiltCatalog {
             catalog,
             counts,
             skipped: None,
@@ -150,7 +150,7 @@ fn build<'a>(
     let regions = lines_in(listings);
     let (catalog, counts) = Catalog::build(alloc, kernel, &lines, regions, symbols, asked)?;
     let note = note_of_modules(text, listings.kallsyms, hidden, &catalog);
-    Ok(Built {
+    Ok(BuiltCatalog {
         catalog,
         counts,
         skipped: Some(skipped),
@@ -167,7 +167,7 @@ pub fn open<'a>(
     listings: &Listings<'a>,
     kernel: Option<&KernelBounds>,
     with_mapping: bool,
-    asked: Asked<'_>,
+    asked: ExpectedLookups<'_>,
 ) -> Result<OpenedCatalog<'a>, Refusal>
     requires { All (λ r. region_fits r ≡ true) (unwrap_or (listed_in listings.now).regions []) }
     ensures opened { IfOk result

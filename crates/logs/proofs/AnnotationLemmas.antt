@@ -1,5 +1,5 @@
 -- Blocks that are read and written one after the other.
-use Rattle.logs.proofs.Words.{◌≡◌, ◌∙◌, ℕ, ◌+◌, ◌<◌, ◌≤◌, inl, inr, List, [], ◌∷◌, ◌++◌, length, length-append, arith, refl, sym, ap, subst, Ok, Err, take, append_assoc, append-nil, ◌^◌, Appends, Consumes, IsAtEnd, Keeps, NoneFailed, Rose, device_of, failures_of, Output, WrotePart, contents_of, has_failed, Answering, lines, annotated, annotated_lines, first_held, held_over, Annotates, Begins, Ends, IsCutOff, IsOpen, IsUpToDate, KeepsNothingBack, Passes, Puts, held_in, put_of, LogFault, Annotator}
+use Rattle.logs.proofs.Definitions.{◌≡◌, ◌∙◌, ℕ, ◌+◌, ◌<◌, ◌≤◌, inl, inr, List, [], ◌∷◌, ◌++◌, length, length-append, arith, refl, sym, ap, subst, Ok, Err, take, append_assoc, append-nil, ◌^◌, Appends, Consumes, IsAtEnd, Keeps, NoneFailed, Rose, device_of, failures_of, Output, WrotePart, contents_of, has_failed, Answering, lines, annotated, annotated_lines, first_held, held_over, Annotates, Begins, Ends, IsCutOff, IsOpen, IsUpToDate, KeepsNothingBack, Passes, Puts, held_in, put_of, LogFault, Annotator}
 use Rattle.std.proofs.Common.{Option}
 use Rattle.std.specs.Prelude.{◌-◌}
 use Rattle.std.proofs.KnownBytes.{Appends-nil, Appends-trans, Consumes-kept, Consumes-nil, Consumes-trans}

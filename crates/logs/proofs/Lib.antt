@@ -1,5 +1,5 @@
 -- the words of all proofs of this crate
-mod Words
+mod Definitions
 -- lines that are cut off
 pub mod LineLemmas
 -- blocks that are read and written one after the other

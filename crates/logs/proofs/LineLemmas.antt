@@ -1,5 +1,5 @@
 -- The lines that bytes are, and what is put for them.
-use Rattle.logs.proofs.Words.{◌≡◌, ◌∙◌, ℕ, ◌+◌, ◌<◌, ◌≤◌, Bool, true, false, cond, ◌||◌, ◌==◌, List, [], ◌∷◌, ◌++◌, length, take, get_or, length-append, refl, sym, ap, append_assoc, append-nil, arith, true≢false, onto_first, eqb-true, false_from_ne_true, lt-ltb, ltb-true, take_more, Nowhere, is_byte, Answering, AreWhole, IsLine, has_end, is_long, lines, annotated_lines, held_over, Adds, Ended, Ends, IsOpen, Passes, held_in, kept_of, put_of, Annotator, Held}
+use Rattle.logs.proofs.Definitions.{◌≡◌, ◌∙◌, ℕ, ◌+◌, ◌<◌, ◌≤◌, Bool, true, false, cond, ◌||◌, ◌==◌, List, [], ◌∷◌, ◌++◌, length, take, get_or, length-append, refl, sym, ap, append_assoc, append-nil, arith, true≢false, onto_first, eqb-true, false_from_ne_true, lt-ltb, ltb-true, take_more, Nowhere, is_byte, Answering, AreWhole, IsLine, has_end, is_long, lines, annotated_lines, held_over, Adds, Ended, Ends, IsOpen, Passes, held_in, kept_of, put_of, Annotator, LogContext}
 use Rattle.logs.proofs.TextLemmas.{at_default, none_up_to, or_left, or_right}
 use Rattle.memchr.specs.Find.{Passes as HasByte}
 use Rattle.logs.specs.AnnotatedLogs.{annotated_line, held_behind}
@@ -92,31 +92,31 @@ nothing_open : (a : Annotator) → a.is_long ≡ false → a.begun.items ≡ [] 
 nothing_open a short none = record { no_end = refl; long = short; kept = none }
 
 module _ (answer : Answering) where
-  stays : (held : Held) (line : List ℕ) → is_long line ≡ true → annotated_line answer held line ≡ line
+  stays : (held : LogContext) (line : List ℕ) → is_long line ≡ true → annotated_line answer held line ≡ line
   unfolding annotated_line
   stays held line long = rw long
 
-  passed_by : (held : Held) (line : List ℕ) → is_long line ≡ true → held_behind answer held line ≡ held
+  passed_by : (held : LogContext) (line : List ℕ) → is_long line ≡ true → held_behind answer held line ≡ held
   unfolding held_behind
   passed_by held line long = rw long
 
   -- lines, and then more
-  pub lines_then : (held : Held) (xs ys : List (List ℕ)) → annotated_lines answer held (xs ++ ys) ≡ annotated_lines answer held xs ++ annotated_lines answer (held_over answer held xs) ys
+  pub lines_then : (held : LogContext) (xs ys : List (List ℕ)) → annotated_lines answer held (xs ++ ys) ≡ annotated_lines answer held xs ++ annotated_lines answer (held_over answer held xs) ys
   lines_then held [] ys = refl
   lines_then held (x ∷ xs) ys =
       ap (λ l. annotated_line answer held x ++ l) (lines_then (held_behind answer held x) xs ys)
       ∙ sym (append_assoc (annotated_line answer held x) (annotated_lines answer (held_behind answer held x) xs) _)
 
-  pub held_then : (held : Held) (xs ys : List (List ℕ)) → held_over answer held (xs ++ ys) ≡ held_over answer (held_over answer held xs) ys
+  pub held_then : (held : LogContext) (xs ys : List (List ℕ)) → held_over answer held (xs ++ ys) ≡ held_over answer (held_over answer held xs) ys
   held_then held [] ys = refl
   held_then held (x ∷ xs) ys = held_then (held_behind answer held x) xs ys
 
   -- one line alone
-  line_alone : (held : Held) (line : List ℕ) → annotated_lines answer held (line ∷ []) ≡ annotated_line answer held line
+  line_alone : (held : LogContext) (line : List ℕ) → annotated_lines answer held (line ∷ []) ≡ annotated_line answer held line
   line_alone held line = append-nil (annotated_line answer held line)
 
   -- what was put of a line that is open begins what is put for it, whatever comes behind
-  pub put_begins : (held : Held) (line rest : List ℕ) → has_end line ≡ false → (behind : List ℕ) × (annotated_lines answer held (lines (line ++ rest)) ≡ put_of line ++ behind)
+  pub put_begins : (held : LogContext) (line rest : List ℕ) → has_end line ≡ false → (behind : List ℕ) × (annotated_lines answer held (lines (line ++ rest)) ≡ put_of line ++ behind)
   put_begins held line rest unended = either (is_long line) refl
     where
       either : (t : Bool) → is_long line ≡ t → (behind : List ℕ) × (annotated_lines answer held (lines (line ++ rest)) ≡ put_of line ++ behind)
@@ -269,12 +269,12 @@ module _ (answer : Answering) where
       (long' ∙ sym whole_long, none ∙ sym (kept_long (line ++ bytes) whole_long), ap (λ l. l ++ whole) (put_short line line_short) ∙ same ∙ sym (put_long (line ++ bytes) whole_long)))
 
   -- nothing is put for no bytes
-  nothing_put : (held : Held) → (annotated_line answer held [] ≡ []) × ((held_behind answer held []).names ≡ held.names)
+  nothing_put : (held : LogContext) → (annotated_line answer held [] ≡ []) × ((held_behind answer held []).names ≡ held.names)
   unfolding annotated_line held_behind
   nothing_put held = (refl, refl)
 
   -- no more bytes come
-  pub last_is_put : (a : Annotator) (held : Held) (begun text : List ℕ) → begun ≡ a.begun.items → held ≡ held_behind answer a.held begun → text ≡ annotated_line answer a.held begun → Ends answer a held.names text
+  pub last_is_put : (a : Annotator) (held : LogContext) (begun text : List ℕ) → begun ≡ a.begun.items → held ≡ held_behind answer a.held begun → text ≡ annotated_line answer a.held begun → Ends answer a held.names text
   last_is_put a held begun text kept held_is put = λ line is_open. ended line is_open (is_long line) refl
     where
       -- of what is kept

@@ -1,5 +1,5 @@
 -- Bytes that are gone through from the last one to the first, and the things that begin a line.
-use Rattle.logs.proofs.Words.{◌≡◌, ◌∙◌, ℕ, zero, suc, ◌+◌, ◌<◌, ◌≤◌, true, false, cond, not, ◌&&◌, ◌==◌, List, [], ◌∷◌, length, take, get_or, refl, sym, ap, arith, eqb-true, false_from_ne_true, reverse-append, take_more, run_of, ends_prefix, is_lead, is_of, last_of, lead_item, prefix_up_to}
+use Rattle.logs.proofs.Definitions.{◌≡◌, ◌∙◌, ℕ, zero, suc, ◌+◌, ◌<◌, ◌≤◌, true, false, cond, not, ◌&&◌, ◌==◌, List, [], ◌∷◌, length, take, get_or, refl, sym, ap, arith, eqb-true, false_from_ne_true, reverse-append, take_more, run_of, ends_prefix, is_lead, is_of, last_of, lead_item, prefix_up_to}
 use Rattle.std.proofs.Common.{◌-◌, drop}
 use Rattle.logs.specs.declared.places.Kind.{Kind}
 

@@ -1,5 +1,5 @@
 -- What a failed write leaves.
-use Rattle.logs.proofs.Words.{◌≡◌, ◌∙◌, ◌++◌, List, [], ℕ, Result, Ok, Err, ap, subst, sym, IfErr, IfOk, IsErrAnd, OnErr, Output, Delivered, WrotePart, error_in, Adds, IsWriteFault, Puts, LogFault}
+use Rattle.logs.proofs.Definitions.{◌≡◌, ◌∙◌, ◌++◌, List, [], ℕ, Result, Ok, Err, ap, subst, sym, IfErr, IfOk, IsErrAnd, OnErr, Output, Delivered, WrotePart, error_in, Adds, IsWriteFault, Puts, LogFault}
 use Rattle.std.proofs.Common.{Option}
 use Rattle.logs.specs.declared.annotation.LogFault.TheVariants as fault
 

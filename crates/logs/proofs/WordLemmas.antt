@@ -1,5 +1,5 @@
 -- Words that are no addresses, and the bytes that are leapt over.
-use Rattle.logs.proofs.Words.{◌≡◌, ◌∙◌, ◌⊎◌, inl, inr, ℕ, zero, suc, ◌+◌, ◌<◌, ◌≤◌, Bool, true, false, cond, not, ◌&&◌, ◌||◌, ◌==◌, List, [], ◌∷◌, length, take, get_or, refl, sym, ap, subst, arith, true≢false, Some, nat_eq, nat_le, nat_lt, reverse, length-drop, list_all, list_any, eqb-true, false_from_ne_true, leb-false, leb-true, lt-ltb, ltb-true, or_cases, drop_more, get_or-drop, length-take, fewest, is_address_byte, is_begun, taken_among, taken_at, address_at, address_of_word, digits_between, begins_joint, has_prefix, is_word_byte, run_of, words_behind, words_from, Held, Taken}
+use Rattle.logs.proofs.Definitions.{◌≡◌, ◌∙◌, ◌⊎◌, inl, inr, ℕ, zero, suc, ◌+◌, ◌<◌, ◌≤◌, Bool, true, false, cond, not, ◌&&◌, ◌||◌, ◌==◌, List, [], ◌∷◌, length, take, get_or, refl, sym, ap, subst, arith, true≢false, Some, nat_eq, nat_le, nat_lt, reverse, length-drop, list_all, list_any, eqb-true, false_from_ne_true, leb-false, leb-true, lt-ltb, ltb-true, or_cases, drop_more, get_or-drop, length-take, fewest, is_address_byte, is_begun, taken_among, taken_at, address_at, address_of_word, digits_between, begins_joint, has_prefix, is_word_byte, run_of, words_behind, words_from, LogContext, AddressWord}
 use Rattle.std.proofs.Common.{◌-◌}
 use Rattle.std.specs.Prelude.{None, Option, drop}
 use Rattle.std.specs.Char.{digit_value, is_digit}
@@ -94,7 +94,7 @@ run_within (b ∷ bytes) = one_more_at_most (is_word_byte b) (run_of is_word_byt
     one_more_at_most false n k low = omega arith
 
 -- a byte more, where no address begins with it
-over_one : (narrow : Bool) (held : Held) (line : List ℕ) (last : Option Taken) (at : ℕ) (within : Bool) (b : ℕ) (bytes : List ℕ) → address_at narrow line (record { start = at; end = at + run_of is_word_byte (b ∷ bytes) }) ≡ None
+over_one : (narrow : Bool) (held : LogContext) (line : List ℕ) (last : Option AddressWord) (at : ℕ) (within : Bool) (b : ℕ) (bytes : List ℕ) → address_at narrow line (record { start = at; end = at + run_of is_word_byte (b ∷ bytes) }) ≡ None
     → taken_among narrow held line last (words_from at within (b ∷ bytes)) ≡ taken_among narrow held line last (words_from (at + 1) (is_word_byte b) bytes)
 over_one narrow held line last at within b bytes none = either within (is_word_byte b)
   where
@@ -116,7 +116,7 @@ behind_one line at b bytes is = ap (drop 1) is ∙ drop_both at line
     drop_both (suc n) (x ∷ l) = let one : suc n + 1 ≡ suc (n + 1) = omega arith in drop_both n l ∙ sym (ap (λ m. drop m (x ∷ l)) one)
 
 -- bytes up to one of no address, and no more than an address has
-leap_from : (narrow : Bool) (held : Held) (line : List ℕ) (last : Option Taken) (at : ℕ) (within : Bool) (bytes : List ℕ) (k : ℕ) → bytes ≡ drop at line → k < length bytes → k < fewest narrow → is_address_byte (get_or bytes k 0) ≡ false
+leap_from : (narrow : Bool) (held : LogContext) (line : List ℕ) (last : Option AddressWord) (at : ℕ) (within : Bool) (bytes : List ℕ) (k : ℕ) → bytes ≡ drop at line → k < length bytes → k < fewest narrow → is_address_byte (get_or bytes k 0) ≡ false
     → taken_among narrow held line last (words_from at within bytes) ≡ taken_among narrow held line last (words_from (at + k + 1) (is_word_byte (get_or bytes k 0)) (drop (at + k + 1) line))
 leap_from narrow held line last at within [] k is below few other = absurd (omega arith)
 leap_from narrow held line last at within (b ∷ bytes) k is below few other =
@@ -139,7 +139,7 @@ leap_from narrow held line last at within (b ∷ bytes) k is below few other =
         let place : at + 1 + j + 1 ≡ at + suc j + 1 = omega arith in
         later j (behind_one line at b bytes is) (omega arith) (omega arith) other ∙ ap (λ m. taken_among narrow held line last (words_from m (is_word_byte (get_or bytes j 0)) (drop m line))) place
 
-pub leap : (narrow : Bool) (held : Held) (line : List ℕ) (last : Option Taken) (start place : ℕ) (within : Bool) → start ≤ place → place < length line → place < start + fewest narrow → is_address_byte (get_or line place 0) ≡ false
+pub leap : (narrow : Bool) (held : LogContext) (line : List ℕ) (last : Option AddressWord) (start place : ℕ) (within : Bool) → start ≤ place → place < length line → place < start + fewest narrow → is_address_byte (get_or line place 0) ≡ false
     → taken_among narrow held line last (words_from start within (drop start line)) ≡ taken_among narrow held line last (words_from (place + 1) (is_word_byte (get_or line place 0)) (drop (place + 1) line))
 leap narrow held line last start place within from below few other =
     let k = place - start in
@@ -161,13 +161,13 @@ not_begun line place =
     ap (λ t. t && is_word_byte (get_or line (place - 1) 0)) (false_from_ne_true (nat_lt place place) (λ e. let low = ltb-true place place e in absurd (omega (arith, low))))
 
 -- too few bytes are left
-few_from : (narrow : Bool) (held : Held) (line : List ℕ) (last : Option Taken) (at : ℕ) (within : Bool) (bytes : List ℕ) → length bytes < fewest narrow → taken_among narrow held line last (words_from at within bytes) ≡ []
+few_from : (narrow : Bool) (held : LogContext) (line : List ℕ) (last : Option AddressWord) (at : ℕ) (within : Bool) (bytes : List ℕ) → length bytes < fewest narrow → taken_among narrow held line last (words_from at within bytes) ≡ []
 few_from narrow held line last at within [] few = refl
 few_from narrow held line last at within (b ∷ bytes) few =
     over_one narrow held line last at within b bytes (no_address narrow line at (run_of is_word_byte (b ∷ bytes)) (inl (omega (arith, few, run_within (b ∷ bytes)))))
     ∙ few_from narrow held line last (at + 1) (is_word_byte b) bytes (omega (arith, few))
 
-pub few_left : (narrow : Bool) (held : Held) (line : List ℕ) (last : Option Taken) (start : ℕ) (within : Bool) → length line - start < fewest narrow → taken_among narrow held line last (words_from start within (drop start line)) ≡ []
+pub few_left : (narrow : Bool) (held : LogContext) (line : List ℕ) (last : Option AddressWord) (start : ℕ) (within : Bool) → length line - start < fewest narrow → taken_among narrow held line last (words_from start within (drop start line)) ≡ []
 few_left narrow held line last start within few = few_from narrow held line last start within (drop start line) (omega (arith, few, length-drop start line))
 
 -- the rest of a word

@@ -8,13 +8,13 @@ use Rattle.logs.specs.Lines.{is_long, lines}
 use Rattle.logs.specs.LogNames.{no_names, with_address}
 use Rattle.logs.specs.TakenWords.{begins_user, is_user_line, next_first, taken_in, tells_place}
 use Rattle.logs.specs.Words.{is_closer, part, run_of}
-use Rattle.logs.specs.declared.held.Held.{Held}
-use Rattle.logs.specs.declared.held.First.TheVariants as first
+use Rattle.logs.specs.declared.contexts.LogContext.{LogContext}
+use Rattle.logs.specs.declared.contexts.First.TheVariants as first
 use Rattle.logs.specs.declared.log_names.LogNames.{LogNames}
-use Rattle.logs.specs.declared.taken.Taken.{Taken}
+use Rattle.logs.specs.declared.address_words.AddressWord.{AddressWord}
 
 -- nothing was seen
-abbrev pub first_held : Held
+abbrev pub first_held : LogContext
 first_held = record { first = first.Exact; is_user = false; names = no_names }
 
 -- the bytes without a `]` at their end
@@ -30,7 +30,7 @@ says_itself rest text =
     || starts_with nat_eq rest (codes " (" ++ said)
 
 -- the place behind the closers of a word
-abbrev pub place_behind : List ℕ → Taken → ℕ
+abbrev pub place_behind : List ℕ → AddressWord → ℕ
 place_behind line t = t.word.end + run_of is_closer (drop t.word.end line)
 
 -- the text, unless these bytes say it already
@@ -39,11 +39,11 @@ unless_said rest None = None
 unless_said rest (Some text) = if says_itself rest text then None else Some text
 
 -- the text of the answer, if it has one and the address is of this kernel
-abbrev pub text_for : Answering → Taken → Option (List ℕ)
+abbrev pub text_for : Answering → AddressWord → Option (List ℕ)
 text_for answer t = if t.is_foreign then None else answer.text t.is_caller t.value
 
 -- the line from a place on, with the texts behind its address words that it does not say itself
-abbrev pub woven : Answering → List ℕ → ℕ → List Taken → List ℕ
+abbrev pub woven : Answering → List ℕ → ℕ → List AddressWord → List ℕ
 woven answer line at [] = drop at line
 woven answer line at (t ∷ more) =
     let place = place_behind line t in
@@ -51,19 +51,19 @@ woven answer line at (t ∷ more) =
     (unless_said (drop place line) (text_for answer t)) (woven answer line at more)
 
 -- what is counted, behind these address words more
-abbrev pub counted : Answering → List ℕ → LogNames → List Taken → LogNames
+abbrev pub counted : Answering → List ℕ → LogNames → List AddressWord → LogNames
 counted answer line names [] = names
 counted answer line names (t ∷ more) =
     counted answer line
     (with_address answer t (drop (place_behind line t) line) (text_for answer t) names) more
 
 -- A line with the texts of its answers. A long one stays as it is.
-unfoldable pub annotated_line : Answering → Held → List ℕ → List ℕ
+unfoldable pub annotated_line : Answering → LogContext → List ℕ → List ℕ
 annotated_line answer held line =
     if is_long line then line else woven answer line 0 (taken_in answer.is_narrow held line)
 
 -- what is carried on behind a line: nothing of a long one
-unfoldable pub held_behind : Answering → Held → List ℕ → Held
+unfoldable pub held_behind : Answering → LogContext → List ℕ → LogContext
 held_behind answer held line =
     let taken = taken_in answer.is_narrow held line in
     if is_long line then held
@@ -74,12 +74,12 @@ held_behind answer held line =
     }
 
 -- lines with their texts; and what is carried on behind them
-abbrev pub annotated_lines : Answering → Held → List (List ℕ) → List ℕ
+abbrev pub annotated_lines : Answering → LogContext → List (List ℕ) → List ℕ
 annotated_lines answer held [] = []
 annotated_lines answer held (line ∷ more) =
     annotated_line answer held line ++ annotated_lines answer (held_behind answer held line) more
 
-abbrev pub held_over : Answering → Held → List (List ℕ) → Held
+abbrev pub held_over : Answering → LogContext → List (List ℕ) → LogContext
 held_over answer held [] = held
 held_over answer held (line ∷ more) = held_over answer (held_behind answer held line) more
 

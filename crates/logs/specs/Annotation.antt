@@ -13,7 +13,7 @@ use Rattle.logs.specs.declared.annotation.Findings.{Findings}
 use Rattle.logs.specs.declared.annotation.LogFault.{LogFault}
 use Rattle.logs.specs.declared.annotation.LogFault.TheVariants as fault
 use Rattle.logs.specs.declared.annotator.Annotator.{Annotator}
-use Rattle.logs.specs.declared.held.Held.{Held}
+use Rattle.logs.specs.declared.contexts.LogContext.{LogContext}
 use Rattle.logs.specs.declared.log_names.LogNames.{LogNames}
 
 -- of a line without an end: what is put already, all of one that is too long; and what is kept
@@ -24,7 +24,7 @@ abbrev pub kept_of : List ℕ → List ℕ
 kept_of line = if is_long line then [] else line
 
 -- what is carried on behind the lines that were put
-abbrev pub held_in : Annotator → Held
+abbrev pub held_in : Annotator → LogContext
 held_in a = a.held
 
 -- This line, which has no end yet, follows the lines that were put.

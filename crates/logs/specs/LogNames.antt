@@ -7,7 +7,7 @@ use Rattle.logs.specs.Answering.{Answering}
 use Rattle.logs.specs.Places.{first_of}
 use Rattle.logs.specs.declared.log_names.LogNames.{LogNames}
 use Rattle.logs.specs.declared.places.Kind.TheVariants as kind
-use Rattle.logs.specs.declared.taken.Taken.{Taken}
+use Rattle.logs.specs.declared.address_words.AddressWord.{AddressWord}
 
 -- `/0xSIZE`, digits and it, and `+0xOFF/0xSIZE` as behind a name, with one digit at least
 abbrev pub begins_size : List ℕ → Bool
@@ -48,7 +48,7 @@ abbrev pub no_names : LogNames
 no_names = record { addresses = 0; named = 0; agreeing = 0; disagreeing = 0 }
 
 -- The text of the answer has the name, or another symbol at its address has it.
-abbrev pub agrees : Answering → Taken → List ℕ → List ℕ → Bool
+abbrev pub agrees : Answering → AddressWord → List ℕ → List ℕ → Bool
 agrees answer t text name =
     starts_with nat_eq text (codes " " ++ name ++ codes "+")
     || answer.is_alias t.is_caller t.value name
@@ -59,7 +59,7 @@ with_name true names = record names { agreeing = one_more names.agreeing }
 with_name false names = record names { disagreeing = one_more names.disagreeing }
 
 -- An address more, with its answer's text if it has one, before the rest of its line.
-abbrev pub with_address : Answering → Taken → List ℕ → Option (List ℕ) → LogNames → LogNames
+abbrev pub with_address : Answering → AddressWord → List ℕ → Option (List ℕ) → LogNames → LogNames
 with_address answer t rest None names = record names { addresses = one_more names.addresses }
 with_address answer t rest (Some text) names =
     let more = record names { addresses = one_more names.addresses; named = one_more names.named } in

@@ -6,10 +6,10 @@ use Rattle.logs.specs.AnnotatedLogs.{counted, woven}
 use Rattle.logs.specs.Answering.{Answering}
 use Rattle.logs.specs.TakenWords.{taken_among}
 use Rattle.logs.specs.Words.{is_word_byte}
-use Rattle.logs.specs.declared.held.Held.{Held}
+use Rattle.logs.specs.declared.contexts.LogContext.{LogContext}
 use Rattle.logs.specs.declared.line.Progress.{Progress}
 use Rattle.logs.specs.declared.log_names.LogNames.{LogNames}
-use Rattle.logs.specs.declared.taken.Taken.{Taken}
+use Rattle.logs.specs.declared.address_words.AddressWord.{AddressWord}
 use Rattle.logs.specs.declared.words.Word.{Word}
 
 -- the fewest bytes of an address word, and a byte that one may have
@@ -26,20 +26,20 @@ is_begun line from start = nat_lt from start && is_word_byte (slice_index_or lin
 -- these words of a line have the same addresses
 abbrev pub SameAddresses : Bool → List ℕ → List Word → List Word → Type 0
 SameAddresses narrow line words words' =
-    (held : Held) (last : Option Taken)
+    (held : LogContext) (last : Option AddressWord)
     → taken_among narrow held line last words ≡ taken_among narrow held line last words'
 
 -- the address words that are still to come; what is still to be put; whether there is a frame; and
 -- what is counted
-abbrev pub left_of : Answering → Held → List ℕ → Progress → List Word → List Taken
+abbrev pub left_of : Answering → LogContext → List ℕ → Progress → List Word → List AddressWord
 left_of answer held line p words = taken_among answer.is_narrow held line p.last words
 
-abbrev pub owed : Answering → Held → List ℕ → Progress → List Word → List ℕ
+abbrev pub owed : Answering → LogContext → List ℕ → Progress → List Word → List ℕ
 owed answer held line p words = woven answer line p.put (left_of answer held line p words)
 
-abbrev pub framed : Answering → Held → List ℕ → Progress → List Word → Bool
+abbrev pub framed : Answering → LogContext → List ℕ → Progress → List Word → Bool
 framed answer held line p words =
     p.has_frame || list_any (λ t. t.is_frame) (left_of answer held line p words)
 
-abbrev pub tallied : Answering → Held → List ℕ → Progress → List Word → LogNames
+abbrev pub tallied : Answering → LogContext → List ℕ → Progress → List Word → LogNames
 tallied answer held line p words = counted answer line p.names (left_of answer held line p words)

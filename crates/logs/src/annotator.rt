@@ -20,7 +20,7 @@ ghost use Rattle.logs.specs.Lines.{IsLine, has_end};
 
 use crate::annotation::LogFault;
 use crate::answers::Answers;
-use crate::held::Held;
+use crate::contexts::LogContext;
 use crate::line::{LONGEST, put_line};
 use crate::log_names::LogNames;
 use memchr::memchr;
@@ -33,7 +33,7 @@ use texts::Output;
 /// yet.
 #[derive(Drop)]
 pub struct Annotator {
-    held: Held,
+    held: LogContext,
     begun: Vec<u8>,
     /// Whether that line is too long: then it was written as it came.
     is_long: bool,
@@ -46,7 +46,7 @@ impl Annotator {
         ensures open { IsOpen result [] }
     {
         Annotator {
-            held: Held::new(),
+            held: LogContext::new(),
             begun: Vec::new(alloc),
             is_long: false,
         }

@@ -16,10 +16,10 @@ ghost use Rattle.logs.specs.AnnotatedLogs.{text_for, unless_said, without_bracke
 ghost use Rattle.logs.specs.Progress.{framed, owed, tallied};
 ghost use Rattle.logs.specs.Words.{words_behind};
 
+use crate::address_words::{AddressWord, address_at, carry_on, taken_at};
 use crate::answers::Answers;
-use crate::held::Held;
+use crate::contexts::LogContext;
 use crate::log_names::LogNames;
-use crate::taken::{Taken, address_at, carry_on, taken_at};
 use crate::words::{Word, begins_with, behind_closers, next_candidate};
 use std::alloc::AllocError;
 
@@ -34,7 +34,7 @@ pub(crate) struct Progress {
     /// The place up to which the line was put.
     pub(crate) put: usize,
     /// The last address word.
-    pub(crate) last: Option<Taken>,
+    pub(crate) last: Option<AddressWord>,
     pub(crate) has_frame: bool,
     pub(crate) names: LogNames,
 }
@@ -43,7 +43,7 @@ pub(crate) struct Progress {
 #[tactic(auto, unfolding(crate::specs::AnnotatedLogs::annotated_line, crate::specs::AnnotatedLogs::held_behind))]
 pub(crate) fn put_line<A: Answers>(
     answers: &A,
-    held: &mut Held,
+    held: &mut LogContext,
     line: &[u8],
     out: &mut Vec<u8>,
 ) -> Result<(), AllocError>
@@ -64,7 +64,7 @@ pub(crate) fn put_line<A: Answers>(
 /// Puts the line with the texts of its answers, and returns what its words say.
 fn put_words<A: Answers>(
     answers: &A,
-    held: Held,
+    held: LogContext,
     line: &[u8],
     out: &mut Vec<u8>,
 ) -> Result<Progress, AllocError>
@@ -98,7 +98,7 @@ fn put_words<A: Answers>(
 /// Puts the bytes before a word, and the text that is inserted behind it, if there is one.
 fn put_word<A: Answers>(
     answers: &A,
-    held: Held,
+    held: LogContext,
     line: &[u8],
     progress: &mut Progress,
     word: Word,
@@ -151,7 +151,7 @@ fn put_word<A: Answers>(
 }
 
 /// The text of the answer, if it has one and the address is of this kernel.
-fn text_for<A: Answers>(answers: &A, taken: Taken) -> Result<Option<Vec<u8>>, AllocError>
+fn text_for<A: Answers>(answers: &A, taken: AddressWord) -> Result<Option<Vec<u8>>, AllocError>
     ensures { IfOk result
         (λ o. option_map (λ v. v.items) o ≡ text_for (A.answering answers.now) taken) }
 {

@@ -14,9 +14,9 @@ ghost use Rattle.logs.specs.LogNames.{agrees, begins_offset, begins_size, begins
 ghost use Rattle.logs.specs.LogNames.{is_of_another_boot, is_unnamed, name_behind, name_in};
 ghost use Rattle.logs.specs.LogNames.{no_names, with_address, with_name, without_doubt};
 
+use crate::address_words::AddressWord;
 use crate::answers::Answers;
 use crate::places::{Kind, first_of};
-use crate::taken::Taken;
 use crate::words::begins_with;
 
 /// How many addresses a log has, and what was found of them. Each count stays at the greatest
@@ -82,7 +82,7 @@ impl LogNames {
     pub(crate) fn with_address<A: Answers>(
         self,
         answers: &A,
-        taken: Taken,
+        taken: AddressWord,
         rest: &[u8],
         text: Option<&[u8]>,
     ) -> LogNames
@@ -108,7 +108,7 @@ impl LogNames {
 }
 
 /// Whether a name agrees with the answer, which has this text.
-fn agrees<A: Answers>(answers: &A, taken: Taken, text: &[u8], name: &[u8]) -> bool
+fn agrees<A: Answers>(answers: &A, taken: AddressWord, text: &[u8], name: &[u8]) -> bool
     ensures { result ≡ agrees (A.answering answers.now) taken text.now name.now }
 {
     tells(text, name) || answers.is_alias(taken.is_caller, taken.value, name)

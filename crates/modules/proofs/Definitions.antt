@@ -34,7 +34,7 @@ pub use Rattle.modules.specs.Starts.{first_start, start_at, start_where, starts_
 pub use Rattle.modules.specs.declared.admission.Admission.{Admission}
 pub use Rattle.modules.specs.declared.catalog.BuildCounts.{BuildCounts}
 pub use Rattle.modules.specs.declared.catalog.Held.{Held}
-pub use Rattle.modules.specs.declared.gathering.Gathered.{Gathered}
+pub use Rattle.modules.specs.declared.gathering.SymbolLists.{SymbolLists}
 pub use Rattle.modules.specs.declared.gathering.Owner.{Owner}
 pub use Rattle.modules.specs.declared.lines.Part.{Part}
 pub use Rattle.modules.specs.declared.lines.Part.TheVariants.{Core}

@@ -1,7 +1,7 @@
 -- Where a symbol is kept, and one more run of symbol lines.
 use Rattle.modules.proofs.Words.{◌≡◌, ◌≢◌, ℕ, ◌<◌, Bool, false, List, ◌++◌, length, get_or, map, Some, None, Option, refl, sym, ap, ◌∙◌, ⊎_elim, arith, filter, Bor, Vec, position_from, option_copied, option_map_or, bytes_eq, common_steps, nat_tests, [], ◌∷◌, true, bytes_decides}
 use Rattle.modules.proofs.Lemmas.{cases_eq, map-append, append-nil, filter-append, list_any_at, slice_get-get_or, cases_order, false_from_ne_true, and_left, position_from-zero, get_or-map, length-map, position-Some, is_some-position_from}
-use Rattle.modules.proofs.Definitions.{Accepted, names_of, SymbolEntry, Gathers, HasRoom, Keeps, KeepsRun, lies_for, owner_for, AreDistinctNames, belongs, is_built_in, symbols_that, entry_of, ListedSymbol, PlacedModule, lines_of_run, line_of, Gathered, Owner, Run}
+use Rattle.modules.proofs.Definitions.{Accepted, names_of, SymbolEntry, Gathers, HasRoom, Keeps, KeepsRun, lies_for, owner_for, AreDistinctNames, belongs, is_built_in, symbols_that, entry_of, ListedSymbol, PlacedModule, lines_of_run, line_of, SymbolLists, Owner, Run}
 use Rattle.modules.specs.declared.gathering.Owner.TheVariants as owner
 
 pub not_built_in : (built_in : List (ℕ × ℕ)) (s : ListedSymbol) (name : List ℕ) → s.owner ≡ Some name → is_built_in built_in s ≡ false
@@ -43,12 +43,12 @@ that-append : (p : ListedSymbol → Bool) (xs ys : List ListedSymbol) → symbol
 that-append p xs ys = ap (map entry_of) (filter-append p xs ys) ∙ map-append entry_of (filter p xs) (filter p ys)
 
 -- what the lines of a run add to each list
-record Adds (a : Accepted) (n : Option (List ℕ)) (ss : List SymbolEntry) (g h : Gathered) : Type 0 where
+record Adds (a : Accepted) (n : Option (List ℕ)) (ss : List SymbolEntry) (g h : SymbolLists) : Type 0 where
   pub built_in : h.built_in.items ≡ g.built_in.items ++ symbols_that (is_built_in a.built_in) (map (line_of n) ss)
   pub lists : length h.modules.items ≡ length g.modules.items
   pub each : (j : ℕ) (d : Vec SymbolEntry) (m : PlacedModule) → j < length a.modules → (get_or h.modules.items j d).items ≡ (get_or g.modules.items j d).items ++ symbols_that (belongs (get_or a.modules j m)) (map (line_of n) ss)
 
-Gathers-added : (a : Accepted) (n : Option (List ℕ)) (ss : List SymbolEntry) (xs : List ListedSymbol) (g h : Gathered) → Gathers a xs g → Adds a n ss g h → Gathers a (xs ++ map (line_of n) ss) h
+Gathers-added : (a : Accepted) (n : Option (List ℕ)) (ss : List SymbolEntry) (xs : List ListedSymbol) (g h : SymbolLists) → Gathers a xs g → Adds a n ss g h → Gathers a (xs ++ map (line_of n) ss) h
 Gathers-added a n ss xs g h before adds =
     let lines : List ListedSymbol = map (line_of n) ss in
     record {
@@ -68,13 +68,13 @@ grows p q n ss es fs is more = more ∙ ap (λ xs. es ++ xs) (sym (that_run p q 
 abbrev lies : Accepted → Owner → SymbolEntry → Bool
 lies a o s = lies_for a o s.addr
 
-kernel_adds : (a : Accepted) (ss : List SymbolEntry) (g h : Gathered) → Keeps owner.BuiltIn (filter (lies a owner.BuiltIn) ss) g h → Adds a None ss g h
+kernel_adds : (a : Accepted) (ss : List SymbolEntry) (g h : SymbolLists) → Keeps owner.BuiltIn (filter (lies a owner.BuiltIn) ss) g h → Adds a None ss g h
 kernel_adds a ss g h keeps = grind (arith, common_steps, nat_tests, grows, stays, grows (is_built_in a.built_in) (lies a owner.BuiltIn) None ss g.built_in.items h.built_in.items)
 
 abbrev owner_at : Option ℕ → Owner
 owner_at o = option_map_or (λ place. owner.Module place) o owner.Nobody
 
-named_adds : (a : Accepted) (name : List ℕ) (o : Option ℕ) (ss : List SymbolEntry) (g h : Gathered) → AreDistinctNames (names_of a.modules) → position_from (bytes_eq name) 0 (names_of a.modules) ≡ o → Keeps (owner_at o) (filter (lies a (owner_at o)) ss) g h → Adds a (Some name) ss g h
+named_adds : (a : Accepted) (name : List ℕ) (o : Option ℕ) (ss : List SymbolEntry) (g h : SymbolLists) → AreDistinctNames (names_of a.modules) → position_from (bytes_eq name) 0 (names_of a.modules) ≡ o → Keeps (owner_at o) (filter (lies a (owner_at o)) ss) g h → Adds a (Some name) ss g h
 named_adds a name None ss g h distinct at keeps = record {
   built_in = stays (is_built_in a.built_in) (Some name) ss g.built_in.items h.built_in.items (λ s. refl) keeps.0;
   lists = ap length keeps.1;
@@ -93,20 +93,20 @@ named_adds a name (Some k) ss g h distinct at keeps = record {
       (cases_eq j k);
 }
 
-run_adds : (a : Accepted) (n : Option (List ℕ)) (ss : List SymbolEntry) (g h : Gathered) → AreDistinctNames (names_of a.modules) → Keeps (owner_for a n) (filter (lies a (owner_for a n)) ss) g h → Adds a n ss g h
+run_adds : (a : Accepted) (n : Option (List ℕ)) (ss : List SymbolEntry) (g h : SymbolLists) → AreDistinctNames (names_of a.modules) → Keeps (owner_for a n) (filter (lies a (owner_for a n)) ss) g h → Adds a n ss g h
 run_adds a None ss g h distinct keeps = kernel_adds a ss g h keeps
 run_adds a (Some name) ss g h distinct keeps = named_adds a name (position_from (bytes_eq name) 0 (names_of a.modules)) ss g h distinct refl keeps
 
-pub Gathers-run : (a : Accepted) (xs : List ListedSymbol) (r : Run) (g h : Gathered) → AreDistinctNames (names_of a.modules) → Gathers a xs g → KeepsRun a r g h → Gathers a (xs ++ lines_of_run r) h
+pub Gathers-run : (a : Accepted) (xs : List ListedSymbol) (r : Run) (g h : SymbolLists) → AreDistinctNames (names_of a.modules) → Gathers a xs g → KeepsRun a r g h → Gathers a (xs ++ lines_of_run r) h
 Gathers-run a xs r g h distinct before keeps = Gathers-added a (option_copied r.module) r.symbols.items xs g h before (run_adds a (option_copied r.module) r.symbols.items g h distinct keeps)
 
 -- an owner has a list
-room_at : (a : Accepted) (name : List ℕ) (o : Option ℕ) (g : Gathered) → length g.modules.items ≡ length a.modules → position_from (bytes_eq name) 0 (names_of a.modules) ≡ o → HasRoom g (owner_at o)
+room_at : (a : Accepted) (name : List ℕ) (o : Option ℕ) (g : SymbolLists) → length g.modules.items ≡ length a.modules → position_from (bytes_eq name) 0 (names_of a.modules) ≡ o → HasRoom g (owner_at o)
 room_at a name o g lists at = grind (arith, place_within)
 
-room_for : (a : Accepted) (n : Option (List ℕ)) (g : Gathered) → length g.modules.items ≡ length a.modules → HasRoom g (owner_for a n)
+room_for : (a : Accepted) (n : Option (List ℕ)) (g : SymbolLists) → length g.modules.items ≡ length a.modules → HasRoom g (owner_for a n)
 room_for a None g lists = tt
 room_for a (Some name) g lists = room_at a name (position_from (bytes_eq name) 0 (names_of a.modules)) g lists refl
 
-pub room_of : (a : Accepted) (m : Option (Bor (List ℕ))) (g : Gathered) (o : Owner) → o ≡ owner_for a (option_copied m) → length g.modules.items ≡ length a.modules → HasRoom g o
+pub room_of : (a : Accepted) (m : Option (Bor (List ℕ))) (g : SymbolLists) (o : Owner) → o ≡ owner_for a (option_copied m) → length g.modules.items ≡ length a.modules → HasRoom g o
 room_of a m g o is lists = rw is (room_for a (option_copied m) g lists)

@@ -25,13 +25,13 @@ pub use Rattle.std.proofs.lemmas.Map.Lookups.{exact_bytes, exact_unsigned}
 pub use Rattle.std.proofs.lemmas.Map.Text.{btree_map_updates_str, is_eq-slice_cmp}
 pub use Rattle.std.proofs.lemmas.Map.Views.{All-found, btree_map_get_iff}
 pub use Rattle.std.proofs.lemmas.Option.{get_or_from_slice_get, slice_get-get_or, slice_get_cases, slice_get_past, slice_get_within}
-pub use Rattle.facts.proofs.Bools.{and-needless_first, and-needless_second, and_by_second, and_rotate, count-and_false, count-or, count-or_apart, count_either, or_by_first, or_by_second, or_from_cases}
+pub use Rattle.facts.proofs.Bools.{and-needless_first, and-needless_second, and_by_second, and_rotate, count-and_false, count-or, count-or_apart, count_either, or_by_first, or_by_second}
 pub use Rattle.facts.proofs.Lists.{get_or-map_default, take_push}
 pub use Rattle.facts.proofs.Maps.{inserted_cases, list_all-insert_entry}
 pub use Rattle.facts.proofs.Members.{Contains-cons_cases, Contains-head, Contains-map, Contains-rest, Contains-slice_get}
 pub use Rattle.facts.proofs.Numbers.{eqb-one_false, eqb-one_more, is_lt-then, le_or_past, le_or_past_below, le_or_past_cases, le_or_past_within, le_unless_past, least_above, least_above_below, least_above_cases, least_above_past, least_above_within, pairs_chain, pairs_not_before, pairs_one_way}
 pub use Rattle.facts.proofs.Options.{Some_ne_None, bytes_eq-one_name}
-pub use Rattle.facts.proofs.Orderings.{Less-from_lt, bytes_eq-neither, is_eq-between, is_le-index, is_lt-index, is_lt-is_le, is_lt-not_eq, lt-from_Less, not_le-not_eq, slice_cmp-same}
+pub use Rattle.facts.proofs.Orderings.{Less-from_lt, bytes_eq-neither, is_eq-between, is_le-index, is_lt-index, is_lt-is_le, is_lt-not_eq, lt-from_Less, not_le-not_eq}
 pub use Rattle.facts.proofs.Pairs.{AllPairs-across, AllPairs-few, AllPairs-left, AllPairs-right}
 pub use Rattle.facts.proofs.Ranges.{range-append_from_zero}
 pub use Rattle.facts.proofs.Tests.{All-from_find, count_by-either, filter-middle, find-agree, find-both_none, find-both_some, find-filter, find-first, find-has, find-none, find-number, find-passes, find_place, is_some-position_from, least_in, list_all-agree, list_all-each_agree, list_all-filter, position_from-new, some_passes}

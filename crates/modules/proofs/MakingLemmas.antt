@@ -1,7 +1,7 @@
 -- The modules that are made of the accepted ones.
 use Rattle.modules.proofs.Words.{nat_tests, common_steps, ◌≡◌, ℕ, zero, suc, ◌+◌, ◌-◌, ◌<◌, List, [], ◌∷◌, ◌++◌, length, get_or, map, drop, Option, sym, ap, ◌∙◌, ⊎_elim, arith, length-append, count_by, sum_by, Vec, flat_map}
 use Rattle.modules.proofs.Lemmas.{cases_lt, count_by-either, get_or-map, get_or_append_left, get_or_push, length-flat_map, length-map, same_lists, slice_get_cases}
-use Rattle.modules.proofs.Definitions.{Accepted, AreDistinctNames, names_of, AreModules, EachMade, module_with, built_in_with, catalog_with, entry_for, kept_counts, CatalogEntries, ModuleEntry, SymbolEntry, Gathers, is_kept, ListedSymbol, PlacedModule, BuildCounts, Gathered}
+use Rattle.modules.proofs.Definitions.{Accepted, AreDistinctNames, names_of, AreModules, EachMade, module_with, built_in_with, catalog_with, entry_for, kept_counts, CatalogEntries, ModuleEntry, SymbolEntry, Gathers, is_kept, ListedSymbol, PlacedModule, BuildCounts, SymbolLists}
 use Rattle.modules.proofs.CountLemmas.{kept_in_lists}
 use Rattle.modules.proofs.SoundnessLemmas.{module_regions}
 
@@ -9,7 +9,7 @@ pub EachMade-push : (places : List PlacedModule) (lists : List (Vec SymbolEntry)
 EachMade-push places lists modules list made same each is = grind (arith, get_or_append_left, length-append, get_or_push, cases_lt)
 
 -- with what was gathered for each, they are the accepted modules with their symbols
-pub modules_are : (a b : Accepted) (symbols : List ListedSymbol) (g : Gathered) (modules : List ModuleEntry) → b ≡ a → Gathers a symbols g → AreModules b.modules g.modules.items modules → modules ≡ map (entry_for symbols) a.modules
+pub modules_are : (a b : Accepted) (symbols : List ListedSymbol) (g : SymbolLists) (modules : List ModuleEntry) → b ≡ a → Gathers a symbols g → AreModules b.modules g.modules.items modules → modules ≡ map (entry_for symbols) a.modules
 modules_are a b symbols g modules is gathers of_b =
     let made : AreModules a.modules g.modules.items modules = rw is at of_b in
     let none : PlacedModule = record { name = []; regions = []; parts = [] } in
@@ -25,17 +25,17 @@ modules_are a b symbols g modules is gathers of_b =
     (slice_get_cases g.modules.items k).1)
 
 -- what the steps made is the catalog of these modules
-pub catalog_from : (a : Accepted) (g : Gathered) (symbols : List ListedSymbol) (built_in : Option ModuleEntry) (made : List ModuleEntry) → Gathers a symbols g → built_in ≡ built_in_with a.built_in g.built_in.items → made ≡ map (entry_for symbols) a.modules
+pub catalog_from : (a : Accepted) (g : SymbolLists) (symbols : List ListedSymbol) (built_in : Option ModuleEntry) (made : List ModuleEntry) → Gathers a symbols g → built_in ≡ built_in_with a.built_in g.built_in.items → made ≡ map (entry_for symbols) a.modules
     → ◌≡◌ {A = CatalogEntries} (record { built_in = built_in; modules = made }) (catalog_with a symbols)
 catalog_from a g symbols built_in made gathers first others = grind arith
 
 -- what the modules that were made are, and how many regions and symbols they have
-pub record IsMade (a : Accepted) (symbols : List ListedSymbol) (g : Gathered) (made : List ModuleEntry) : Type 0 where
+pub record IsMade (a : Accepted) (symbols : List ListedSymbol) (g : SymbolLists) (made : List ModuleEntry) : Type 0 where
   pub others : made ≡ map (entry_for symbols) a.modules
   pub regions : sum_by (λ m. length m.regions) made ≡ length (flat_map (λ m. m.regions) a.modules)
   pub kept : length g.built_in.items + sum_by (λ m. length m.symbols) made ≡ count_by (is_kept a) symbols
 
-pub made_of : (a b : Accepted) (symbols : List ListedSymbol) (g : Gathered) (made : List ModuleEntry) → b ≡ a → AreDistinctNames (names_of a.modules) → Gathers a symbols g → AreModules b.modules g.modules.items made → IsMade a symbols g made
+pub made_of : (a b : Accepted) (symbols : List ListedSymbol) (g : SymbolLists) (made : List ModuleEntry) → b ≡ a → AreDistinctNames (names_of a.modules) → Gathers a symbols g → AreModules b.modules g.modules.items made → IsMade a symbols g made
 made_of a b symbols g made is distinct gathers of_b =
     let others = modules_are a b symbols g made is gathers of_b in
     record {

@@ -12,7 +12,7 @@ use Rattle.modules.specs.Kept.{belongs, is_built_in, lies_in, symbols_that}
 use Rattle.modules.specs.Listed.{ListedSymbol}
 use Rattle.modules.specs.Placed.{PlacedModule}
 use Rattle.modules.specs.Regions.{lies_in_any}
-use Rattle.modules.specs.declared.gathering.Gathered.{Gathered}
+use Rattle.modules.specs.declared.gathering.SymbolLists.{SymbolLists}
 use Rattle.modules.specs.declared.gathering.Owner.{Owner}
 use Rattle.modules.specs.declared.gathering.Owner.TheVariants as owner
 use Rattle.modules.specs.declared.symbol_lines.Run.{Run}
@@ -33,13 +33,13 @@ lies_for a (owner.Module place) addr =
 lies_for a owner.Nobody addr = false
 
 -- there is a list for the owner
-abbrev pub HasRoom : Gathered → Owner → Type 0
+abbrev pub HasRoom : SymbolLists → Owner → Type 0
 HasRoom g owner.BuiltIn = Unit {0}
 HasRoom g (owner.Module place) = place < vec_len g.modules
 HasRoom g owner.Nobody = Unit {0}
 
 -- the list of the owner has these symbols more, and the other lists are as they were
-abbrev pub Keeps : Owner → List SymbolEntry → Gathered → Gathered → Type 0
+abbrev pub Keeps : Owner → List SymbolEntry → SymbolLists → SymbolLists → Type 0
 Keeps owner.BuiltIn kept g h =
     (h.built_in.items ≡ g.built_in.items ++ kept) × (h.modules.items ≡ g.modules.items)
 Keeps (owner.Module place) kept g h =
@@ -57,11 +57,11 @@ abbrev pub kept_of : Accepted → Run → List SymbolEntry
 kept_of a r = filter (λ s. lies_for a (owner_for a (option_copied r.module)) s.addr) r.symbols.items
 
 -- the lines of a run are gone through
-abbrev pub KeepsRun : Accepted → Run → Gathered → Gathered → Type 0
+abbrev pub KeepsRun : Accepted → Run → SymbolLists → SymbolLists → Type 0
 KeepsRun a r g h = Keeps (owner_for a (option_copied r.module)) (kept_of a r) g h
 
 -- what the lines leave in each list
-pub record Gathers (a : Accepted) (symbols : List ListedSymbol) (g : Gathered) : Type 0 where
+pub record Gathers (a : Accepted) (symbols : List ListedSymbol) (g : SymbolLists) : Type 0 where
   pub built_in : g.built_in.items ≡ symbols_that (is_built_in a.built_in) symbols
   pub lists : length g.modules.items ≡ length a.modules
   pub each : (j : ℕ) (d : Vec SymbolEntry) (m : PlacedModule) → j < length a.modules

@@ -10,7 +10,7 @@ ghost use Rattle.modules.specs.Regions.{is_apart, are_beside, lie_apart};
 
 use crate::lines::ModuleLine;
 use crate::placed_modules::PlacedModules;
-use crate::placing::{Placed, RegionLines};
+use crate::placing::{PlacedModule, RegionLines};
 use crate::regions::{Region, Regions, is_apart_from};
 use std::alloc::{AllocError, Global};
 
@@ -76,7 +76,7 @@ impl<'a> Admission<'a> {
 
     /// Accepts the module, or counts why it is not accepted.
     #[tactic(auto, using(crate::proofs::AdmissionLemmas::after_line))]
-    fn take_module(&mut self, placed: Placed<'a>) -> Result<(), AllocError>
+    fn take_module(&mut self, placed: PlacedModule<'a>) -> Result<(), AllocError>
         requires tied { IsAdmission self.old }
         requires counts { self.old.double + self.old.overlap + 1 < 2 ^ 64 }
         ensures after { OnOk result

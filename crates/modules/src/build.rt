@@ -15,14 +15,14 @@ ghost use Rattle.modules.specs.Placed.{are_few, IsPlaced};
 ghost use Rattle.modules.specs.PlacedModules.{AreSoundModules};
 
 use crate::admission::{Admission, admit};
-use crate::asked::Asked;
 use crate::catalog::{BuildCounts, Catalog};
+use crate::expected_lookups::ExpectedLookups;
 use crate::from_symbols::modules_of;
 use crate::gathering::gather;
 use crate::lines::{KernelBounds, ModuleLine, RegionLine};
 use crate::module::Module;
 use crate::placed_modules::PlacedModules;
-use crate::placing::{Placed, RegionLines};
+use crate::placing::{PlacedModule, RegionLines};
 use crate::regions::Region;
 use crate::symbol_lines::SymbolLines;
 use crate::symbols::Symbol;
@@ -33,7 +33,7 @@ fn built_in_module<'a>(
     alloc: Global,
     regions: Vec<Region>,
     symbols: Vec<Symbol<'a>>,
-    asked: Asked<'_>,
+    expected: ExpectedLookups<'_>,
 ) -> Result<Option<Module<'a>>, AllocError>
     requires { All (λ r. r.0 < r.1) regions.items }
     ensures { IfOk result (λ m. m ≡ built_in_with regions.items symbols.entry.items) }
@@ -41,16 +41,16 @@ fn built_in_module<'a>(
     if regions.is_empty() {
         return Ok(None);
     }
-    let placed = Placed::kernel(alloc, regions)?;
-    Ok(Some(Module::new(alloc, placed, symbols, asked)?))
+    let placed = PlacedModule::kernel(alloc, regions)?;
+    Ok(Some(Module::new(alloc, placed, symbols, expected)?))
 }
 
 /// The accepted modules, each with its symbols.
 fn modules_from<'a>(
     alloc: Global,
-    places: Vec<Placed<'a>>,
+    places: Vec<PlacedModule<'a>>,
     lists: Vec<Vec<Symbol<'a>>>,
-    asked: Asked<'_>,
+    expected: ExpectedLookups<'_>,
 ) -> Result<Vec<Module<'a>>, AllocError>
     requires placed { All IsPlaced places.items }
     requires same { length lists.items ≡ length places.items }
@@ -60,7 +60,7 @@ fn modules_from<'a>(
     let mut rest = places.into_iter();
     for symbols in lists {
         if let Some(place) = rest.next() {
-            modules.push(Module::new(alloc, place, symbols, asked)?)?;
+            modules.push(Module::new(alloc, place, symbols, expected)?)?;
         }
     }
     Ok(modules)
@@ -88,7 +88,7 @@ fn catalog_with<'a>(
     alloc: Global,
     placed: PlacedModules<'a>,
     symbols: SymbolLines<'a>,
-    asked: Asked<'_>,
+    expected: ExpectedLookups<'_>,
 ) -> Result<(Catalog<'a>, BuildCounts), AllocError>
     requires sound { AreSoundModules placed }
     requires few { length (taken_regions placed) < 2 ^ 64 }
@@ -99,8 +99,8 @@ fn catalog_with<'a>(
     let gathered = gather(alloc, &placed, symbols)?;
     let of_kernel = placed.built_in.len();
     let first = gathered.built_in.len();
-    let built_in = built_in_module(alloc, placed.built_in, gathered.built_in, asked)?;
-    let modules = modules_from(alloc, placed.modules, gathered.modules, asked)?;
+    let built_in = built_in_module(alloc, placed.built_in, gathered.built_in, expected)?;
+    let modules = modules_from(alloc, placed.modules, gathered.modules, expected)?;
     let (regions, kept) = sizes_of(first, modules.as_slice());
     let counts = BuildCounts {
         modules: modules.len() as u64,
@@ -188,7 +188,7 @@ pub(crate) fn assemble<'a>(
     modules: &[ModuleLine<'a>],
     regions: &RegionLines<'_, 'a>,
     symbols: SymbolLines<'a>,
-    asked: Asked<'_>,
+    expected: ExpectedLookups<'_>,
 ) -> Result<(Catalog<'a>, BuildCounts), AllocError>
     requires fit { All (λ l. fits l ≡ true) modules.now }
     requires regions_fit { All (λ l. region_fits l ≡ true) regions.now }
@@ -201,7 +201,7 @@ pub(crate) fn assemble<'a>(
         ≡ counts_of (option_copied names.entry) modules.now regions.now symbols.entry) }
 {
     let (admission, lines) = accept_lines(alloc, names, modules, regions, &symbols)?;
-    let (catalog, kept) = catalog_with(alloc, admission.accepted, symbols, asked)?;
+    let (catalog, kept) = catalog_with(alloc, admission.accepted, symbols, expected)?;
     let counts = BuildCounts {
         symbols: kept.symbols,
         stray: kept.stray,
@@ -215,7 +215,7 @@ pub(crate) fn assemble_symbols<'a>(
     alloc: Global,
     names: Option<&KernelBounds>,
     symbols: SymbolLines<'a>,
-    asked: Asked<'_>,
+    expected: ExpectedLookups<'_>,
 ) -> Result<(Catalog<'a>, BuildCounts), AllocError>
     ensures { IfOk result (λ r. (a : Accepted)
         × IsFromSymbols (option_copied names.entry) symbols.entry a
@@ -224,5 +224,5 @@ pub(crate) fn assemble_symbols<'a>(
     let kernel = symbols.kernel_regions(alloc, names)?;
     let modules = modules_of(alloc, kernel.as_slice(), &symbols)?;
     let placed = PlacedModules::of(alloc, kernel, modules)?;
-    catalog_with(alloc, placed, symbols, asked)
+    catalog_with(alloc, placed, symbols, expected)
 }

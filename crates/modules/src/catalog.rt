@@ -14,8 +14,8 @@ ghost use Rattle.modules.specs.Loads.{drop_init_of, GivesOrLacksMemory, GivesSom
 ghost use Rattle.modules.specs.Loads.{unload_of};
 ghost use Rattle.modules.specs.Placed.{are_few};
 
-use crate::asked::Asked;
 use crate::build::{assemble, assemble_symbols};
+use crate::expected_lookups::ExpectedLookups;
 use crate::lines::{KernelBounds, ModuleLine, RegionLine};
 use crate::loads::{inserting, is_inserting};
 use crate::module::Module;
@@ -122,7 +122,7 @@ impl<'a> Catalog<'a> {
         modules: &[ModuleLine<'a>],
         regions: &[RegionLine<'a>],
         symbols: SymbolLines<'a>,
-        asked: Asked<'_>,
+        expected: ExpectedLookups<'_>,
     ) -> Result<(Catalog<'a>, BuildCounts), Refusal>
         requires fit { All (λ l. fits l ≡ true) modules.now }
         requires regions_fit { All (λ l. region_fits l ≡ true) regions.now }
@@ -139,7 +139,7 @@ impl<'a> Catalog<'a> {
         if !regions.are_few() {
             return Err(Refusal::TooManyRegions);
         }
-        Ok(assemble(alloc, names, modules, &regions, symbols, asked)?)
+        Ok(assemble(alloc, names, modules, &regions, symbols, expected)?)
     }
 
     /// Builds the catalog of a listing of symbols alone.
@@ -162,13 +162,13 @@ impl<'a> Catalog<'a> {
         alloc: Global,
         names: Option<&KernelBounds>,
         symbols: SymbolLines<'a>,
-        asked: Asked<'_>,
+        expected: ExpectedLookups<'_>,
     ) -> Result<(Catalog<'a>, BuildCounts), AllocError>
         ensures built { IfOk result (λ r. (a : Accepted)
             × IsFromSymbols (option_copied names.entry) symbols.entry a
             × (r.0 ≡ catalog_with a symbols.entry) × (r.1 ≡ kept_counts a symbols.entry)) }
     {
-        assemble_symbols(alloc, names, symbols, asked)
+        assemble_symbols(alloc, names, symbols, expected)
     }
 
     /// The module of a number.

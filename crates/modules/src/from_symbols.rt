@@ -23,7 +23,7 @@ use crate::gathering::empty_lists;
 use crate::line_marks::marks_of;
 use crate::marks::{Mark, region_at, regions_of_marks};
 use crate::names::Names;
-use crate::placing::Placed;
+use crate::placing::PlacedModule;
 use crate::regions::Region;
 use crate::symbol_lines::SymbolLines;
 use order_laws::Item;
@@ -63,7 +63,7 @@ fn modules_in_order<'a>(
     numbers: &Names<'a>,
     marks: &[Mark],
     items: &[Item],
-) -> Result<Vec<Placed<'a>>, AllocError>
+) -> Result<Vec<PlacedModule<'a>>, AllocError>
     requires laid { AreLaid items.now }
     requires numbered { All (λ i. (0 < i.tag) × (i.tag ≤ length numbers.now)) items.now }
     requires owned { All (λ m. m.owner ≤ length numbers.now) marks.now }
@@ -77,7 +77,7 @@ fn modules_in_order<'a>(
         if !lists[owner].is_empty() && is_kept(items, *mark) {
             let regions = mem::replace(&mut lists[owner], Vec::new(alloc));
             let name = numbers.name_of(mark.owner);
-            modules.push(Placed::in_rising(alloc, name, regions)?)?;
+            modules.push(PlacedModule::in_rising(alloc, name, regions)?)?;
         }
     }
     Ok(modules)
@@ -88,7 +88,7 @@ pub(crate) fn modules_of<'a>(
     alloc: Global,
     kernel: &[Region],
     lines: &SymbolLines<'a>,
-) -> Result<Vec<Placed<'a>>, AllocError>
+) -> Result<Vec<PlacedModule<'a>>, AllocError>
     ensures found { IfOk result (λ v. (names : Option BoundNames)
         → kernel.now ≡ kernel_regions names lines.now
         → IsFromSymbols names lines.now (accepted_with kernel.now v.items)) }

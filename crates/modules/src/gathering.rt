@@ -40,7 +40,7 @@ enum Owner {
 
 /// The symbols kept so far, in the order listed.
 #[derive(Drop)]
-pub(crate) struct Gathered<'a> {
+pub(crate) struct SymbolLists<'a> {
     /// The symbols of the kernel itself.
     pub(crate) built_in: Vec<Symbol<'a>>,
     /// The symbols of the accepted modules, by place.
@@ -59,7 +59,7 @@ pub(crate) fn empty_lists<T: Drop>(alloc: Global, count: usize) -> Result<Vec<Ve
     Ok(lists)
 }
 
-impl<'a> Gathered<'a> {
+impl<'a> SymbolLists<'a> {
     /// Puts symbols after the others of their owner.
     fn put(&mut self, owner: Owner, symbols: Vec<Symbol<'a>>) -> Result<(), AllocError>
         requires room { HasRoom self.old owner }
@@ -143,12 +143,12 @@ fn gather_runs<'a>(
     placed: &PlacedModules,
     runs: Vec<Run<'a>>,
     last: Run<'a>,
-) -> Result<Gathered<'a>, AllocError>
+) -> Result<SymbolLists<'a>, AllocError>
     requires { AreDistinctNames (names_of placed.now.modules) }
     ensures { IfOk result
         (Gathers placed.now (lines_of_all (runs.entry.items ++ last.entry ∷ []))) }
 {
-    let mut gathered = Gathered {
+    let mut gathered = SymbolLists {
         built_in: Vec::new(alloc),
         modules: empty_lists(alloc, placed.len())?,
     };
@@ -164,7 +164,7 @@ pub(crate) fn gather<'a>(
     alloc: Global,
     placed: &PlacedModules,
     symbols: SymbolLines<'a>,
-) -> Result<Gathered<'a>, AllocError>
+) -> Result<SymbolLists<'a>, AllocError>
     requires { AreDistinctNames (names_of placed.now.modules) }
     ensures { IfOk result (Gathers placed.now symbols.entry) }
 {

@@ -3,11 +3,11 @@
 #![tactic(auto)]
 
 mod admission;
-mod asked;
 mod buckets;
 mod build;
 mod by_name;
 pub mod catalog;
+mod expected_lookups;
 mod finder;
 pub mod found_symbols;
 mod from_symbols;
@@ -29,8 +29,8 @@ pub mod symbol_lines;
 pub mod symbol_names;
 pub mod symbols;
 
-pub use asked::Asked;
 pub use catalog::{ABSENT_MODULE, BuildCounts, Catalog, Held};
+pub use expected_lookups::ExpectedLookups;
 pub use finder::{Finder, MOST_EXPECTED};
 pub use found_symbols::{FoundSymbol, symbol_in, symbol_of};
 pub use lines::{KernelBounds, ModuleLine, Part, RegionLine, SymbolLine};

@@ -11,11 +11,11 @@ ghost use Rattle.modules.specs.Parts.{is_core, is_init};
 ghost use Rattle.modules.specs.Placed.{IsPlaced};
 ghost use Rattle.modules.specs.Starts.{first_start, start_at, start_where, starts_of};
 
-use crate::asked::Asked;
 use crate::buckets::{Buckets, place_near};
+use crate::expected_lookups::ExpectedLookups;
 use crate::lines::Part;
 use crate::loads::{erasing, is_erasing};
-use crate::placing::Placed;
+use crate::placing::PlacedModule;
 use crate::regions::Region;
 use crate::symbols::{Symbol, around_in_list, around_in_order, is_rising, ordered};
 use order_laws::Refusal;
@@ -96,8 +96,12 @@ fn init_start(regions: &[Region], parts: &[Part]) -> Option<u64>
 }
 
 /// The buckets of symbols by rising address, if they pay for what is asked.
-fn buckets_of(alloc: Global, symbols: &[Symbol], asked: Asked<'_>) -> Result<Buckets, AllocError> {
-    if asked.pays_buckets(symbols.len()) {
+fn buckets_of(
+    alloc: Global,
+    symbols: &[Symbol],
+    expected: ExpectedLookups<'_>,
+) -> Result<Buckets, AllocError> {
+    if expected.pays_buckets(symbols.len()) {
         Buckets::of(alloc, symbols)
     } else {
         Ok(Buckets::none(alloc))
@@ -111,14 +115,14 @@ fn order_of<'a>(
     symbols: &[Symbol<'a>],
     rising: bool,
     regions: &[Region],
-    asked: Asked<'_>,
+    expected: ExpectedLookups<'_>,
 ) -> Result<(Option<Vec<Symbol<'a>>>, Buckets), AllocError>
     ensures { IfOk result (λ r. HasOrdered symbols.now r.0) }
 {
     if rising {
-        return Ok((None, buckets_of(alloc, symbols, asked)?));
+        return Ok((None, buckets_of(alloc, symbols, expected)?));
     }
-    if !asked.pays_copies(regions, symbols.len()) {
+    if !expected.pays_copies(regions, symbols.len()) {
         return Ok((None, Buckets::none(alloc)));
     }
     let (copies, buckets) = ordered(alloc, symbols)?;
@@ -129,15 +133,15 @@ impl<'a> Module<'a> {
     /// The module in this place with these symbols, made ready for what is asked of them.
     pub(crate) fn new(
         alloc: Global,
-        placed: Placed<'a>,
+        placed: PlacedModule<'a>,
         symbols: Vec<Symbol<'a>>,
-        asked: Asked<'_>,
+        expected: ExpectedLookups<'_>,
     ) -> Result<Module<'a>, AllocError>
         requires { IsPlaced placed }
         ensures { IfOk result (λ m. m ≡ module_with placed.entry symbols.entry.items) }
     {
         let rising = is_rising(&symbols);
-        let (by_address, buckets) = order_of(alloc, &symbols, rising, &placed.regions, asked)?;
+        let (by_address, buckets) = order_of(alloc, &symbols, rising, &placed.regions, expected)?;
         Ok(Module {
             name: placed.name,
             regions: placed.regions,

@@ -7,7 +7,7 @@ ghost use Rattle.modules.specs.Accepted.{accepted_with, names_of, none_yet};
 ghost use Rattle.modules.specs.Kept.{AreDistinctNames};
 
 use crate::names::Names;
-use crate::placing::Placed;
+use crate::placing::PlacedModule;
 use crate::regions::Region;
 use std::alloc::{AllocError, Global};
 use std::marker::Model;
@@ -19,7 +19,7 @@ pub(crate) struct PlacedModules<'a> {
     /// The regions of the kernel itself.
     pub(crate) built_in: Vec<Region>,
     /// The modules in their order.
-    pub(crate) modules: Vec<Placed<'a>>,
+    pub(crate) modules: Vec<PlacedModule<'a>>,
     /// Their names.
     pub(crate) names: Names<'a>,
 }
@@ -53,7 +53,7 @@ impl<'a> PlacedModules<'a> {
     pub(crate) fn of(
         alloc: Global,
         built_in: Vec<Region>,
-        modules: Vec<Placed<'a>>,
+        modules: Vec<PlacedModule<'a>>,
     ) -> Result<PlacedModules<'a>, AllocError>
         requires { AreDistinctNames (names_of modules.items) }
         ensures { IfOk result (λ p. p ≡ accepted_with built_in.items modules.entry.items) }
@@ -91,7 +91,7 @@ impl<'a> PlacedModules<'a> {
     }
 
     /// Puts a module, whose name none has, after the others. An error leaves these as they were.
-    pub(crate) fn push(&mut self, added: Placed<'a>) -> Result<(), AllocError>
+    pub(crate) fn push(&mut self, added: PlacedModule<'a>) -> Result<(), AllocError>
         requires new { list_any (bytes_eq added.name) (names_of self.old.modules) ≡ false }
         ensures pushed { OnOk result
             (self.new ≡ record self.old { modules = self.old.modules ++ added.entry ∷ [] }) }

@@ -25,7 +25,7 @@ use std::marker::Model;
 
 /// A module and its regions.
 #[derive(Drop)]
-pub(crate) struct Placed<'a> {
+pub(crate) struct PlacedModule<'a> {
     pub(crate) name: &'a [u8],
     /// Its regions in their order.
     pub(crate) regions: Vec<Region>,
@@ -35,7 +35,7 @@ pub(crate) struct Placed<'a> {
     rising: bool,
 }
 
-impl<'a> Model for Placed<'a> {
+impl<'a> Model for PlacedModule<'a> {
     ghost use Rattle.std.specs.Prelude.{◌≡◌, true};
     ghost use Rattle.modules.specs.Placed.{PlacedModule};
     ghost use Rattle.modules.specs.Regions.{AreRising};
@@ -75,13 +75,16 @@ fn core_parts(alloc: Global, regions: &[Region]) -> Result<Vec<Part>, AllocError
     regions.iter().map(|_| Part::Core).collect(alloc)
 }
 
-impl<'a> Placed<'a> {
+impl<'a> PlacedModule<'a> {
     /// The kernel itself, in its regions.
-    pub(crate) fn kernel(alloc: Global, regions: Vec<Region>) -> Result<Placed<'static>, AllocError>
+    pub(crate) fn kernel(
+        alloc: Global,
+        regions: Vec<Region>,
+    ) -> Result<PlacedModule<'static>, AllocError>
         ensures { IfOk result (λ p. p ≡ kernel_at regions.items) }
     {
         let parts = core_parts(alloc, &regions)?;
-        Ok(Placed {
+        Ok(PlacedModule {
             name: b"-",
             regions,
             parts,
@@ -102,11 +105,11 @@ impl<'a> Placed<'a> {
     }
 
     /// A module with one region, of its core.
-    fn in_one(alloc: Global, name: &'a [u8], region: Region) -> Result<Placed<'a>, AllocError>
+    fn in_one(alloc: Global, name: &'a [u8], region: Region) -> Result<PlacedModule<'a>, AllocError>
         ensures { IfOk result
             (λ p. p ≡ record { name = name.now; regions = region ∷ []; parts = Core ∷ [] }) }
     {
-        Ok(Placed {
+        Ok(PlacedModule {
             name,
             regions: vec![in alloc; region]?,
             parts: vec![in alloc; Part::Core]?,
@@ -119,7 +122,7 @@ impl<'a> Placed<'a> {
         alloc: Global,
         name: &'a [u8],
         regions: Vec<Region>,
-    ) -> Result<Placed<'a>, AllocError>
+    ) -> Result<PlacedModule<'a>, AllocError>
         requires { AreRising regions.items }
         ensures { IfOk result (λ p. p ≡ record {
           name = name.now;
@@ -128,7 +131,7 @@ impl<'a> Placed<'a> {
         }) }
     {
         let parts = core_parts(alloc, &regions)?;
-        Ok(Placed {
+        Ok(PlacedModule {
             name,
             regions,
             parts,
@@ -141,7 +144,7 @@ impl<'a> Placed<'a> {
         alloc: Global,
         name: &'a [u8],
         lines: &[&RegionLine],
-    ) -> Result<Placed<'a>, AllocError>
+    ) -> Result<PlacedModule<'a>, AllocError>
         requires { All (λ l. region_fits l.now ≡ true) lines.now }
         ensures { IfOk result (λ p. p ≡ record {
           name = name.now;
@@ -155,7 +158,7 @@ impl<'a> Placed<'a> {
             regions.push(line.region())?;
             parts.push(line.part)?;
         }
-        Ok(Placed {
+        Ok(PlacedModule {
             name,
             regions,
             parts,
@@ -255,16 +258,16 @@ impl<'l, 'a> RegionLines<'l, 'a> {
         &self,
         alloc: Global,
         line: &ModuleLine<'a>,
-    ) -> Result<Placed<'a>, AllocError>
+    ) -> Result<PlacedModule<'a>, AllocError>
         requires region_fits { All (λ l. region_fits l ≡ true) self.now }
         requires fits { fits line.now ≡ true }
         ensures { IfOk result (λ p. p ≡ placed_line self.now line.now) }
     {
         let lines = self.named(line.name);
         if has_core(lines) {
-            Placed::in_lines(alloc, line.name, lines)
+            PlacedModule::in_lines(alloc, line.name, lines)
         } else {
-            Placed::in_one(alloc, line.name, line.region())
+            PlacedModule::in_one(alloc, line.name, line.region())
         }
     }
 }

@@ -20,14 +20,6 @@ place_for_fits o i (x ∷ xs) =
       | false ↦ omega (arith, place_for_fits o i xs)
     ]
 
-pub place_of_fits : (a : ℕ) (xs : List Item) → has a xs ≡ true → place_of a xs < length xs
-place_of_fits a [] h = absurd (cc)
-place_of_fits a (x ∷ xs) h =
-    elim (x.a == a) as (λ b. (b || has a xs) ≡ true → cond b 0 (suc (place_of a xs)) < length (x ∷ xs)) [
-      | true ↦ λ e. omega arith
-      | false ↦ λ e. omega (arith, place_of_fits a xs e)
-    ] h
-
 -- an item that no other has the first word of
 kept_all : {K : Type 0} (o : Order K) (law : IsLawful o) (a : ℕ) (x : Item) (xs : List Item) → x.a ≡ a → AllByRecursion (Precedes o x) xs → without a xs ≡ xs
 kept_all o law a x [] e h = refl
@@ -58,12 +50,3 @@ without_one a (x ∷ xs) =
       | true ↦ without_one a xs
       | false ↦ ap (λ ys. x ∷ ys) (without_one a xs)
     ])
-
--- the item at the place of a first word has it
-pub place_of_has : (a : ℕ) (xs : List Item) (i : Item) → has a xs ≡ true → slice_get xs (place_of a xs) ≡ Some i → i.a ≡ a
-place_of_has a [] i h e = absurd (cc)
-place_of_has a (x ∷ xs) i h e =
-    elim (x.a == a) as (λ b. (x.a == a) ≡ b → (b || has a xs) ≡ true → slice_get (x ∷ xs) (cond b 0 (suc (place_of a xs))) ≡ Some i → i.a ≡ a) [
-      | true ↦ λ is f g. let same : x ≡ i = cc in subst (λ y. y.a ≡ a) same (eqb-true x.a a is)
-      | false ↦ λ is f g. place_of_has a xs i f g
-    ] refl h e

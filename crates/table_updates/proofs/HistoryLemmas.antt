@@ -12,11 +12,6 @@ use Rattle.order_laws.proofs.PlaceLemmas.{without_none}
 use Rattle.order_laws.proofs.SetLemmas.{in_with_item}
 use Rattle.order_laws.specs.declared.refusals.Refusal.TheVariants.{BadItem, Full, NoSuchItem, Overlap, SequenceSpent, UpdateInHand}
 
-pub replay_append : {K : Type 0} (o : Order K) (table : List Item) (us vs : List Update)
-    → replay o table (us ++ vs) ≡ replay o (replay o table us) vs
-replay_append o table [] vs = refl
-replay_append o table (u ∷ us) vs = replay_append o (after o table u) us vs
-
 module _ {K : Type 0} (o : Order K) (x : Item) where
   pub from_items : (is table : List Item) → Contains (with_items o is table) x
       → Contains is x ⊎ Contains table x

@@ -111,24 +111,12 @@ part_written {W} {contents} {old} {new} {text} said failed =
     let a = awaited said in
     (failed, a.taken, a.lost, a.parts ∙ append-nil (a.taken ++ a.lost), a.holds)
 
-appends_nothing : (a b : Option (List ℕ)) → Keeps a b → Appends a b []
-appends_nothing None b kept = tt
-appends_nothing (Some x) None kept = absurd kept
-appends_nothing (Some x) (Some y) kept = kept ∙ sym (append-nil x)
-
 module _ {W : Type 0} {contents : W → Option (List ℕ)} {old new : Output W} where
   -- what is kept back is said
   pub kept_is_said : {text : List ℕ} → has_failed old ≡ false → new.device ≡ old.device → kept_back new ≡ kept_back old ++ text → Says contents old new text
   kept_is_said sound same kept =
       taken_is_said sound (λ _. ap (λ d. error_kept d) same)
       (append_known-grown _ _ (kept_back old) _ _ (subst (λ d. Keeps (contents_of contents old) (append_known (contents (writer_in d)) (kept_back old))) (sym same) (Keeps-refl _)) kept)
-
-  -- the device took the front of what is kept back, and nothing more is said
-  pub moved_is_said : (n : ℕ) → has_failed old ≡ false → (has_failed new ≡ false → error_in new ≡ error_in old)
-      → Appends (contents (writer_of old)) (contents (writer_of new)) (take n (kept_back old)) → kept_back new ≡ drop n (kept_back old) → Says contents old new []
-  moved_is_said n sound no_error took rest =
-      taken_is_said sound no_error (appends_nothing _ _
-      (append_known-moved _ _ _ _ _ took (sym (take-append-drop n (kept_back old)) ∙ ap (λ l. take n (kept_back old) ++ l) (sym rest))))
 
   -- nothing is kept back, and the device took the front of bytes, which is all if no call failed
   pub written_is_said : (n : ℕ) (bytes : List ℕ) → has_failed old ≡ false → (has_failed new ≡ false → error_in new ≡ error_in old) → (has_failed new ≡ false → n ≡ length bytes)

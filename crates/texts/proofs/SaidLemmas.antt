@@ -20,11 +20,3 @@ module _ {T : Type 0} where
 
     pub all_said : left ≡ Ok [] → whole ≡ Ok front
     all_said ended = sym is ∙ ap (entries_after front) ended ∙ ap (λ xs. Ok xs) (append-nil front)
-
-    pub bad_said : (n : ℕ) → left ≡ Err n → whole ≡ Err n
-    bad_said n bad = sym is ∙ ap (entries_after front) bad
-
-    pub same_fault : (fault : LineFault) → FaultsInGrammar fault left → FaultsInGrammar fault whole
-    same_fault line.OutOfMemory is_bad = is_bad
-    same_fault line.Read is_bad = is_bad
-    same_fault (line.BadLine n) is_bad = bad_said n is_bad

@@ -1,8 +1,7 @@
 -- Where link words lie, and what stores of links leave as it was.
-use Rattle.word_layout.proofs.Words.{◌+◌, ◌<◌, ◌∙◌, ◌≡◌, ◌≢◌, ◌≤◌, List, arith, inl, inr, refl, ℕ, All, AllByRecursion, All-from_recursion, all_weaker, AreLinkStores, IsItemWord, IsLinkWord, words_after_all, InUse, Reaches, a_word, at, b_word, by_left, by_right, by_root, item_at, left_word, right_word, root_word, tag_word, words_for, Store, ◌-◌, ◌++◌, length, length-drop, get_or, drop, subst, all_get_or}
+use Rattle.word_layout.proofs.Words.{◌+◌, ◌<◌, ◌∙◌, ◌≡◌, ◌≢◌, ◌≤◌, List, arith, inl, inr, refl, ℕ, All, AllByRecursion, All-from_recursion, all_weaker, AreLinkStores, IsItemWord, IsLinkWord, words_after_all, InUse, Reaches, a_word, at, b_word, by_left, by_right, by_root, item_at, left_word, right_word, root_word, tag_word, words_for, Store, ◌-◌, ◌++◌, length, length-drop, get_or, drop, subst}
 use Rattle.word_layout.proofs.StoreLemmas.{Agree, untouched}
 use Rattle.word_layout.proofs.WordLemmas.{IsCopyWord, in_copy, link_no_item, link_no_other, link_place}
-use Rattle.facts.proofs.Lists.{get_or-drop_append}
 use Rattle.word_layout.specs.Limits.{most_nodes}
 
 pub left_in : (n c i : ℕ) → c ≤ 1 → i < n → left_word c i < words_for n
@@ -57,11 +56,3 @@ item_kept m n c links i small are =
     let eb = untouched (IsItemWord i) m links away (b_word i) (inr (inl refl)) in
     let et = untouched (IsItemWord i) m links away (tag_word i) (inr (inr refl)) in
     λ d. record { a = ea d; b = eb d; tag = et d }
-
--- the word of a link of copy 0 and that of copy 1 beside it are in range
-pub link_word_fits : (n : ℕ) (xs ys : List Store) (from place : ℕ) (d : Store) → n ≤ most_nodes → from ≤ place → place < length xs → AreLinkStores n 0 (drop from xs) → (get_or (xs ++ ys) place d).word + 2 < 18446744073709551616
-link_word_fits n xs ys from place d most above below are =
-    let within : place - from < length (drop from xs) = omega (arith, length-drop from xs) in
-    let is = all_get_or (λ (s : Store). IsLinkWord n 0 s.word) (drop from xs) (place - from) d are within in
-    let lt : (get_or (drop from xs) (place - from) d).word < words_for n = (link_place n 0 (get_or (drop from xs) (place - from) d).word (omega arith) is).1 in
-    subst (λ (s : Store). s.word + 2 < 18446744073709551616) (get_or-drop_append xs ys from place d above below) (omega (arith, lt, most))

@@ -66,12 +66,6 @@ listed_in (fork l j r) i is =
 pub reached_listed : (m : List ℕ) (n copy : ℕ) (t : Nodes) → Leads m n copy (at m (root_word copy)) t → (i : ℕ) → Reaches m n copy i → Contains (listed t) i
 reached_listed m n copy t h i r = in_listed t i (reached_in m n copy t h i r)
 
--- a walk goes where it went, if roots and links are the same
-pub reach_back : (m m' : List ℕ) (n copy node : ℕ) → copy ≤ 1 → Agree (λ w. IsItemWord node w → ⊥) m m' → (i : ℕ) → Reaches m' n copy i → Reaches m n copy i
-reach_back m m' n copy node c same _ (by_root i lt e) = by_root i lt (sym (same (root_word copy) (item_not_root node copy c)) ∙ e)
-reach_back m m' n copy node c same _ (by_left i j r lt e) = by_left i j (reach_back m m' n copy node c same i r) lt (sym (same (left_word copy i) (item_not_left node copy i c)) ∙ e)
-reach_back m m' n copy node c same _ (by_right i j r lt e) = by_right i j (reach_back m m' n copy node c same i r) lt (sym (same (right_word copy i) (item_not_right node copy i c)) ∙ e)
-
 -- the nodes of a tree that a link leads to are nodes of the memory
 pub listed_below : (m : List ℕ) (n copy link : ℕ) (t : Nodes) → Leads m n copy link t → AllByRecursion (λ i. i < n) (listed t)
 listed_below m n copy link none h = tt

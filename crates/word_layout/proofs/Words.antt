@@ -5,7 +5,7 @@ pub use Rattle.std.proofs.lemmas.List.{set_past, length-take-le, take_more, get_
 pub use Rattle.std.proofs.lemmas.List.Elements.{All-from_recursion, Contains-append_left, Contains-append_right, Contains-append_cases}
 pub use Rattle.std.specs.List.{AllByRecursion}
 pub use Rattle.std.specs.Prelude.{slice_set, All, ◌⊎◌, Contains, replicate, IfSome, IfNone}
-pub use Rattle.facts.proofs.Each.{all_weaker, all_get_or, all_append}
+pub use Rattle.facts.proofs.Each.{all_weaker, all_append}
 pub use Rattle.order_laws.specs.declared.items.Item.{Item}
 pub use Rattle.word_layout.specs.Copies.{copy_number}
 pub use Rattle.word_layout.specs.Layouts.{capacity_of}

@@ -11,7 +11,7 @@ use super::Try;
 use super::memory::{recalled, remember};
 use super::words::ReadWords;
 use crate::knowledge::TableSeat;
-use latch_core::{Attempted, Loads, attempt_from};
+use latch_core::{AttemptOutcome, Loads, attempt_from};
 use order_laws::{Item, TreeOrder};
 use word_layout::Layout;
 
@@ -33,8 +33,8 @@ pub(super) fn attempt<O: TreeOrder>(
 {
     let first = words.sequence(seat);
     match attempt_from::<O, ReadWords<'_, O>>(&words, seat, l, k, first).0 {
-        Attempted::Answered(answer, generation) => Try::Answered(answer, generation),
-        Attempted::Failed => Try::Retry,
+        AttemptOutcome::Answered(answer, generation) => Try::Answered(answer, generation),
+        AttemptOutcome::Failed => Try::Retry,
     }
 }
 
@@ -65,8 +65,8 @@ pub(super) fn look<O: TreeOrder>(
         return Try::Answered(Some(item), generation);
     }
     let tried = match attempt_from::<O, ReadWords<'_, O>>(&words, seat, l, k, begun).0 {
-        Attempted::Answered(found, generation) => Try::Answered(found, generation),
-        Attempted::Failed => Try::Retry,
+        AttemptOutcome::Answered(found, generation) => Try::Answered(found, generation),
+        AttemptOutcome::Failed => Try::Retry,
     };
     remember(memory, tried);
     tried

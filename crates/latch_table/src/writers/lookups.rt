@@ -12,7 +12,7 @@ ghost use Rattle.latch_table.specs.Lookups.{FindsIn};
 use super::words::{UnreadWords, WriterWords};
 use super::{InHand, Writer};
 use crate::knowledge::TableSeat;
-use latch_core::{Attempted, attempt_from};
+use latch_core::{AttemptOutcome, attempt_from};
 use order_laws::{Item, TreeOrder};
 use word_layout::Layout;
 
@@ -40,8 +40,8 @@ fn look_up<O: TreeOrder>(
 {
     let (words, first) = words.begin(seat);
     match attempt_from::<O, WriterWords<'_, O>>(&words, seat, l, k, first).0 {
-        Attempted::Answered(found, generation) => (found, generation),
-        Attempted::Failed => unreachable!(),
+        AttemptOutcome::Answered(found, generation) => (found, generation),
+        AttemptOutcome::Failed => unreachable!(),
     }
 }
 

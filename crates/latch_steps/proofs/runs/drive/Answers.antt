@@ -1,4 +1,4 @@
-use Rattle.latch_steps.proofs.Words.{true, subst, arith, take_all, capacity_of, Keeps, opening, Expand, AreShallow}
+use Rattle.latch_steps.proofs.Definitions.{true, subst, arith, take_all, capacity_of, Keeps, opening, Expand, AreShallow}
 use Rattle.latch_steps.proofs.RecordingLemmas.{obeyed_none, obeyed_more, safe_trace, quiet_trace, near_trace, trace_of}
 use Rattle.latch_steps.proofs.runs.drive.Goals as goal
 

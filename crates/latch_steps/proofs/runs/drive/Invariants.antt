@@ -1,4 +1,4 @@
-use Rattle.latch_steps.proofs.Words.{◌≡◌, false, true, take, capacity_of, Keeps, opening}
+use Rattle.latch_steps.proofs.Definitions.{◌≡◌, false, true, take, capacity_of, Keeps, opening}
 use Rattle.latch_steps.proofs.RecordingLemmas.{Obeyed}
 use Rattle.latch_steps.proofs.runs.drive.Given as goal
 

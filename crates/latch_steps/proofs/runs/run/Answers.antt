@@ -1,4 +1,4 @@
-use Rattle.latch_steps.proofs.Words.{true, ◌∙◌, ◌++◌, ◌∷◌, [], refl, sym, ap, subst, arith, take_all, take_push, capacity_of, Keeps, AreShallow, step_done, last_of, opening}
+use Rattle.latch_steps.proofs.Definitions.{true, ◌∙◌, ◌++◌, ◌∷◌, [], refl, sym, ap, subst, arith, take_all, take_push, capacity_of, Keeps, AreShallow, step_done, last_of, opening}
 use Rattle.latch_steps.proofs.RecordingLemmas.{safe_trace, quiet_trace, near_trace, trace_of}
 use Rattle.latch_steps.proofs.ReportLemmas.{none_reported, runs_reported}
 use Rattle.latch_steps.proofs.RunLemmas.{events_append}

@@ -1,4 +1,4 @@
-use Rattle.latch_steps.proofs.Words.{false, true, ◌≡◌, List, take, capacity_of, Done, opening, events_of, Keeps, IsReportedRun}
+use Rattle.latch_steps.proofs.Definitions.{false, true, ◌≡◌, List, take, capacity_of, Done, opening, events_of, Keeps, IsReportedRun}
 use Rattle.latch_steps.proofs.runs.run.Given as goal
 
 -- the events before this one were done and recorded

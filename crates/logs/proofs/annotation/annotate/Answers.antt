@@ -1,4 +1,4 @@
-use Rattle.logs.proofs.Words.{[], ℕ, take, subst, arith, refl, Consumes, length-take, device_of, Annotates, Ends, Passes}
+use Rattle.logs.proofs.Definitions.{[], ℕ, take, subst, arith, refl, Consumes, length-take, device_of, Annotates, Ends, Passes}
 use Rattle.logs.proofs.AnnotationLemmas.{begun, cut_off, ended, not_more, not_put, not_read, one_more, stopped, too_long}
 use Rattle.logs.proofs.PutLemmas.{told}
 use Rattle.logs.proofs.LineLemmas.{passes_nothing}

@@ -1,4 +1,4 @@
-use Rattle.logs.proofs.Words.{◌∙◌, ◌++◌, ℕ, List, ap, take, take_min}
+use Rattle.logs.proofs.Definitions.{◌∙◌, ◌++◌, ℕ, List, ap, take, take_min}
 use Rattle.std.proofs.Common.{◌-◌}
 use Rattle.logs.proofs.AnnotationLemmas.{head_more}
 use Rattle.logs.proofs.annotation.keep_head.Goals as goal

@@ -1,4 +1,4 @@
-use Rattle.logs.proofs.Words.{◌∙◌, sym}
+use Rattle.logs.proofs.Definitions.{◌∙◌, sym}
 use Rattle.texts.proofs.OutputLemmas.{all_delivered, part_written, then_flushed}
 use Rattle.logs.proofs.annotator.put_now.Goals as goal
 

@@ -1,4 +1,4 @@
-use Rattle.logs.proofs.Words.{◌≡◌, ◌≤◌, ◌++◌, length, list_any, counted, woven, framed, owed, tallied, taken_in, words_behind}
+use Rattle.logs.proofs.Definitions.{◌≡◌, ◌≤◌, ◌++◌, length, list_any, counted, woven, framed, owed, tallied, taken_in, words_behind}
 use Rattle.std.proofs.Common.{◌-◌}
 use Rattle.logs.proofs.line.put_words.Given as goal
 

@@ -1,4 +1,4 @@
-use Rattle.logs.proofs.Words.{◌≡◌, length, begins_like}
+use Rattle.logs.proofs.Definitions.{◌≡◌, length, begins_like}
 use Rattle.logs.proofs.places.begins_like.Given as goal
 
 abbrev pub invariant-loop-signs : goal.invariant-loop-signs

@@ -1,4 +1,4 @@
-use Rattle.logs.proofs.Words.{◌∙◌, ap, arith, sym, take_rest, is_lead}
+use Rattle.logs.proofs.Definitions.{◌∙◌, ap, arith, sym, take_rest, is_lead}
 use Rattle.logs.proofs.PlaceLemmas.{lead_step}
 use Rattle.logs.proofs.places.is_lead.Goals as goal
 

@@ -1,4 +1,4 @@
-use Rattle.logs.proofs.Words.{◌≡◌, length, is_lead}
+use Rattle.logs.proofs.Definitions.{◌≡◌, length, is_lead}
 use Rattle.logs.proofs.places.is_lead.Given as goal
 
 abbrev pub invariant-loop-rest : goal.invariant-loop-rest

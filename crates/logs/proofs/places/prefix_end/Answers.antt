@@ -1,4 +1,4 @@
-use Rattle.logs.proofs.Words.{◌∙◌, ap, arith, sym, take, take_rest, ends_prefix}
+use Rattle.logs.proofs.Definitions.{◌∙◌, ap, arith, sym, take, take_rest, ends_prefix}
 use Rattle.logs.proofs.PlaceLemmas.{prefix_here}
 use Rattle.logs.proofs.places.prefix_end.Goals as goal
 

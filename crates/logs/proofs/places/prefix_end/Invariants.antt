@@ -1,4 +1,4 @@
-use Rattle.logs.proofs.Words.{◌≡◌, ◌≤◌, length, prefix_up_to}
+use Rattle.logs.proofs.Definitions.{◌≡◌, ◌≤◌, length, prefix_up_to}
 use Rattle.logs.proofs.places.prefix_end.Given as goal
 
 abbrev pub invariant-loop-end : goal.invariant-loop-end

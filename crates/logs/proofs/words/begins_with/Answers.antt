@@ -1,4 +1,4 @@
-use Rattle.logs.proofs.Words.{◌∙◌, ◌&&◌, ap, length, sym, nat_eq, starts_with, take_rest}
+use Rattle.logs.proofs.Definitions.{◌∙◌, ◌&&◌, ap, length, sym, nat_eq, starts_with, take_rest}
 use Rattle.std.proofs.Common.{drop}
 use Rattle.logs.proofs.TextLemmas.{starts_with_both}
 use Rattle.logs.proofs.words.begins_with.Goals as goal

@@ -1,4 +1,4 @@
-use Rattle.logs.proofs.Words.{◌≡◌, ◌≤◌, ◌<◌, true, slice_index_or, is_address_byte}
+use Rattle.logs.proofs.Definitions.{◌≡◌, ◌≤◌, ◌<◌, true, slice_index_or, is_address_byte}
 use Rattle.std.proofs.Common.{◌-◌}
 use Rattle.logs.proofs.words.last_other.Given as goal
 

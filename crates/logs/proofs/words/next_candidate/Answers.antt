@@ -1,4 +1,4 @@
-use Rattle.logs.proofs.Words.{◌∙◌, ◌+◌, Bool, ap, arith, get_or, sym, taken_among, words_from}
+use Rattle.logs.proofs.Definitions.{◌∙◌, ◌+◌, Bool, ap, arith, get_or, sym, taken_among, words_from}
 use Rattle.std.proofs.Common.{drop}
 use Rattle.logs.proofs.WordLemmas.{begun_behind, few_left, goes_on, is_word, leap, not_begun, some_fewest}
 use Rattle.logs.proofs.words.next_candidate.Goals as goal

@@ -1,4 +1,4 @@
-use Rattle.logs.proofs.Words.{◌≤◌, length, SameAddresses, is_begun, words_behind, words_from}
+use Rattle.logs.proofs.Definitions.{◌≤◌, length, SameAddresses, is_begun, words_behind, words_from}
 use Rattle.std.proofs.Common.{◌-◌, drop}
 use Rattle.logs.proofs.words.next_candidate.Given as goal
 

@@ -1,4 +1,4 @@
-use Rattle.latch_steps.proofs.Words.{refl, ◌+◌, subst, sym, arith, Read, Lookup, Loaded, Retried, Outcome, Goes, Retries}
+use Rattle.latch_steps.proofs.Definitions.{refl, ◌+◌, subst, sym, arith, Read, Lookup, Loaded, Retried, Outcome, Goes, Retries}
 use Rattle.latch_steps.proofs.ReportLemmas.{Loading, loads_more, load_ends, all_loaded}
 use Rattle.latch_steps.proofs.lookups.Lookup.load_on.Goals as goal
 use Rattle.latch_steps.proofs.lookups.Lookup.load_on.Goals.{in-Going, in-Retrying}

@@ -1,4 +1,4 @@
-use Rattle.latch_steps.proofs.Words.{◌≡◌, ℕ, Some, get, Moment, IsPendingLookup}
+use Rattle.latch_steps.proofs.Definitions.{◌≡◌, ℕ, Some, get, Moment, IsPendingLookup}
 use Rattle.latch_steps.proofs.ReportLemmas.{Loading}
 use Rattle.latch_steps.proofs.lookups.Lookup.load_on.Given as goal
 

@@ -1,4 +1,4 @@
-use Rattle.latch_steps.proofs.Words.{sym, subst, Begin, Refused, MayDo}
+use Rattle.latch_steps.proofs.Definitions.{sym, subst, Begin, Refused, MayDo}
 use Rattle.latch_steps.proofs.WorldLemmas.{begins, refused, given_up}
 use Rattle.latch_steps.proofs.worlds.World.begin.Goals as goal
 use Rattle.latch_steps.proofs.worlds.World.begin.Goals.{in-OutOfMemory, in_default}

@@ -1,4 +1,4 @@
-use Rattle.latch_steps.proofs.Words.{◌∙◌, refl, sym, arith, None-from_is_none}
+use Rattle.latch_steps.proofs.Definitions.{◌∙◌, refl, sym, arith, None-from_is_none}
 use Rattle.latch_steps.proofs.AtOnceLemmas.{look_found, look_right, look_near, look_never, after_found}
 use Rattle.latch_steps.proofs.worlds.World.find_now.Goals as goal
 

@@ -1,4 +1,4 @@
-use Rattle.latch_steps.proofs.Words.{◌∙◌, ap, nat_lt}
+use Rattle.latch_steps.proofs.Definitions.{◌∙◌, ap, nat_lt}
 use Rattle.latch_steps.proofs.WorldLemmas.{hand_shown}
 use Rattle.latch_steps.proofs.worlds.World.is_writing.Goals as goal
 

@@ -1,4 +1,4 @@
-use Rattle.latch_steps.proofs.Words.{sym}
+use Rattle.latch_steps.proofs.Definitions.{sym}
 use Rattle.latch_steps.proofs.WorldLemmas.{makes}
 use Rattle.latch_steps.proofs.worlds.World.make.Goals as goal
 

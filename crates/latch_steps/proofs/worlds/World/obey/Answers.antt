@@ -1,4 +1,4 @@
-use Rattle.latch_steps.proofs.Words.{cond, ◌∙◌, ap, false, true, refl, sym}
+use Rattle.latch_steps.proofs.Definitions.{cond, ◌∙◌, ap, false, true, refl, sym}
 use Rattle.latch_steps.proofs.ReportLemmas.{obeyed_writing}
 use Rattle.latch_steps.proofs.RunLemmas.{within_is}
 use Rattle.latch_steps.proofs.worlds.World.obey.Goals as goal

@@ -1,4 +1,4 @@
-use Rattle.latch_steps.proofs.Words.{refl, ap, WriterView, capacity_of, sound_opening, opening}
+use Rattle.latch_steps.proofs.Definitions.{refl, ap, WriterView, capacity_of, sound_opening, opening}
 use Rattle.latch_steps.proofs.WorldLemmas.{none_in_hand}
 use Rattle.latch_steps.proofs.worlds.World.open.Goals as goal
 

@@ -1,4 +1,4 @@
-use Rattle.latch_steps.proofs.Words.{Some, cond, ◌∙◌, ap, sym, subst, refl, IsSome, option_copied_mut, option_flatten, nat_cmp, is_at, capacity_of, Loaded, Retried, lookup_at, Goes, Retries}
+use Rattle.latch_steps.proofs.Definitions.{Some, cond, ◌∙◌, ap, sym, subst, refl, IsSome, option_copied_mut, option_flatten, nat_cmp, is_at, capacity_of, Loaded, Retried, lookup_at, Goes, Retries}
 use Rattle.latch_steps.proofs.WorldLemmas.{lookup_set, lookup_kept, idle, stays, returns}
 use Rattle.latch_steps.proofs.worlds.World.read.Goals as goal
 

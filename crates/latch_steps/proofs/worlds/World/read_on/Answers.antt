@@ -1,4 +1,4 @@
-use Rattle.latch_steps.proofs.Words.{◌∙◌, ap, sym, subst, refl, IsSome, option_flatten}
+use Rattle.latch_steps.proofs.Definitions.{◌∙◌, ap, sym, subst, refl, IsSome, option_flatten}
 use Rattle.latch_steps.proofs.WorldLemmas.{lookup_set}
 use Rattle.latch_steps.proofs.ReportLemmas.{held_obeys}
 use Rattle.latch_steps.proofs.worlds.World.read_on.Goals as goal

@@ -1,4 +1,4 @@
-use Rattle.latch_steps.proofs.Words.{◌∙◌}
+use Rattle.latch_steps.proofs.Definitions.{◌∙◌}
 use Rattle.latch_steps.proofs.AtOnceLemmas.{one_write, all_written, is_settled}
 use Rattle.latch_steps.proofs.worlds.World.settle.Goals as goal
 

@@ -1,4 +1,4 @@
-use Rattle.latch_steps.proofs.Words.{◌≡◌, length, Moment, RepresentsMoment, layout_in}
+use Rattle.latch_steps.proofs.Definitions.{◌≡◌, length, Moment, RepresentsMoment, layout_in}
 use Rattle.latch_steps.proofs.AtOnceLemmas.{Writing}
 use Rattle.latch_steps.proofs.worlds.World.settle.Given as goal
 

@@ -1,4 +1,4 @@
-use Rattle.latch_steps.proofs.Words.{Some, ◌∙◌, sym, None-from_is_none}
+use Rattle.latch_steps.proofs.Definitions.{Some, ◌∙◌, sym, None-from_is_none}
 use Rattle.latch_steps.proofs.WorldLemmas.{busy, starts, lookup_set}
 use Rattle.latch_steps.proofs.worlds.World.start.Goals as goal
 

@@ -1,4 +1,4 @@
-use Rattle.latch_steps.proofs.Words.{sym, subst, Event, IsWorldStep}
+use Rattle.latch_steps.proofs.Definitions.{sym, subst, Event, IsWorldStep}
 use Rattle.latch_steps.proofs.AtOnceLemmas.{event_after}
 use Rattle.latch_steps.proofs.worlds.World.step_from.Goals as goal
 

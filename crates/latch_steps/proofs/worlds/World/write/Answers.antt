@@ -1,4 +1,4 @@
-use Rattle.latch_steps.proofs.Words.{sym, subst, Write, Idle, World, Does, IsAtRest}
+use Rattle.latch_steps.proofs.Definitions.{sym, subst, Write, Idle, World, Does, IsAtRest}
 use Rattle.latch_steps.proofs.WorldLemmas.{idles}
 use Rattle.latch_steps.proofs.worlds.World.write.Goals as goal
 

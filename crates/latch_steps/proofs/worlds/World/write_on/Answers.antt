@@ -1,4 +1,4 @@
-use Rattle.latch_steps.proofs.Words.{◌∙◌, sym, arith}
+use Rattle.latch_steps.proofs.Definitions.{◌∙◌, sym, arith}
 use Rattle.latch_steps.proofs.ReportLemmas.{writing_all, writing_more, writing_last}
 use Rattle.latch_steps.proofs.worlds.World.write_on.Goals as goal
 

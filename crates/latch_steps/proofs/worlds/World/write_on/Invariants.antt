@@ -1,4 +1,4 @@
-use Rattle.latch_steps.proofs.Words.{◌≡◌, Command, IsWriting, Moment, RepresentsMoment, layout_in}
+use Rattle.latch_steps.proofs.Definitions.{◌≡◌, Command, IsWriting, Moment, RepresentsMoment, layout_in}
 use Rattle.latch_steps.proofs.ReportLemmas.{Writing}
 use Rattle.latch_steps.proofs.worlds.World.write_on.Given as goal
 

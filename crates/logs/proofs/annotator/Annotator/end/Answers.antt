@@ -1,4 +1,4 @@
-use Rattle.logs.proofs.Words.{◌∙◌, ◌++◌, ℕ, List, ap, Ends, Puts}
+use Rattle.logs.proofs.Definitions.{◌∙◌, ◌++◌, ℕ, List, ap, Ends, Puts}
 use Rattle.logs.specs.AnnotatedLogs.{annotated_line}
 use Rattle.logs.proofs.LineLemmas.{last_is_put}
 use Rattle.logs.proofs.PutLemmas.{fault_puts, told}

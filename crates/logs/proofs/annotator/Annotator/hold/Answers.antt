@@ -1,4 +1,4 @@
-use Rattle.logs.proofs.Words.{◌∙◌, ◌++◌, ℕ, List, refl, ap, arith}
+use Rattle.logs.proofs.Definitions.{◌∙◌, ◌++◌, ℕ, List, refl, ap, arith}
 use Rattle.logs.proofs.LineLemmas.{gets_long, is_held, long_goes_on}
 use Rattle.logs.proofs.annotator.Annotator.hold.Goals as goal
 

@@ -1,4 +1,4 @@
-use Rattle.logs.proofs.Words.{Passes}
+use Rattle.logs.proofs.Definitions.{Passes}
 use Rattle.logs.proofs.PutLemmas.{added, puts}
 use Rattle.logs.proofs.annotator.Annotator.pass.Goals as goal
 

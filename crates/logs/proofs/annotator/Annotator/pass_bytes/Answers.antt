@@ -1,4 +1,4 @@
-use Rattle.logs.proofs.Words.{◌∙◌, [], ◌++◌, ℕ, List, refl, sym, ap, subst, append_assoc, Adds, Passes}
+use Rattle.logs.proofs.Definitions.{◌∙◌, [], ◌++◌, ℕ, List, refl, sym, ap, subst, append_assoc, Adds, Passes}
 use Rattle.logs.proofs.LineLemmas.{adds_nothing, then_adds}
 use Rattle.logs.proofs.annotator.Annotator.pass_bytes.Goals as goal
 

@@ -1,4 +1,4 @@
-use Rattle.logs.proofs.Words.{◌≡◌, ◌++◌, List, ℕ, length, Adds, Passes}
+use Rattle.logs.proofs.Definitions.{◌≡◌, ◌++◌, List, ℕ, length, Adds, Passes}
 use Rattle.logs.proofs.annotator.Annotator.pass_bytes.Given as goal
 
 abbrev pub invariant-loop-line : goal.invariant-loop-line

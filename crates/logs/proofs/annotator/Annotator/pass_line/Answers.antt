@@ -1,4 +1,4 @@
-use Rattle.logs.proofs.Words.{◌∙◌, ◌++◌, ℕ, List, refl, sym, ap}
+use Rattle.logs.proofs.Definitions.{◌∙◌, ◌++◌, ℕ, List, refl, sym, ap}
 use Rattle.logs.proofs.LineLemmas.{long_ends, none_in, short_ends}
 use Rattle.logs.proofs.annotator.Annotator.pass_line.Goals as goal
 

@@ -14,22 +14,22 @@ pub enum First {
 
 /// What is carried from one line of a log to the next.
 #[derive(Clone, Copy, Debug, Drop)]
-pub struct Held {
+pub struct LogContext {
     pub first: First,
     /// Whether the registers of a program were begun.
     pub is_user: bool,
     pub names: LogNames,
 }
 
-impl Held {
+impl LogContext {
     ghost use Rattle.std.specs.Prelude.{◌≡◌};
     ghost use Rattle.logs.specs.AnnotatedLogs.{first_held};
 
     /// That of the beginning of a log.
-    pub(crate) fn new() -> Held
+    pub(crate) fn new() -> LogContext
         ensures { result ≡ first_held }
     {
-        Held {
+        LogContext {
             first: First::Exact,
             is_user: false,
             names: LogNames::none(),

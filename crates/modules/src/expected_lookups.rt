@@ -1,4 +1,4 @@
-//! Whether it pays to make a module's symbols ready for what is asked of them.
+//! Whether to make a module's symbols ready pays for the lookups that are expected.
 
 use crate::placing::lies_in_any;
 use crate::regions::Region;
@@ -13,20 +13,20 @@ const SYMBOLS_A_SEARCH: usize = 64;
 /// The addresses that a catalog is asked about: it gives the same answers whatever is said here, in
 /// more or less time.
 #[derive(Clone, Copy, Drop)]
-pub enum Asked<'q> {
+pub enum ExpectedLookups<'q> {
     /// Any, and any number of them.
     Any,
     /// Mostly these.
     These(&'q [u64]),
 }
 
-impl Asked<'_> {
+impl ExpectedLookups<'_> {
     /// Whether there are so many lookups that it costs less to put the symbols into buckets than to
     /// seek each in the whole list.
     pub(crate) fn pays_buckets(self, symbols: usize) -> bool {
         match self {
-            Asked::Any => true,
-            Asked::These(addrs) => addrs.len() > symbols / SYMBOLS_A_SEARCH,
+            ExpectedLookups::Any => true,
+            ExpectedLookups::These(addrs) => addrs.len() > symbols / SYMBOLS_A_SEARCH,
         }
     }
 
@@ -34,8 +34,8 @@ impl Asked<'_> {
     /// for. They are counted only if that costs less than the copies.
     pub(crate) fn pays_copies(self, regions: &[Region], symbols: usize) -> bool {
         match self {
-            Asked::Any => true,
-            Asked::These(addrs) => {
+            ExpectedLookups::Any => true,
+            ExpectedLookups::These(addrs) => {
                 addrs.len() > symbols
                     || addrs
                         .iter()

@@ -1,6 +1,6 @@
-use Rattle.logs.proofs.Words.{◌∙◌, ◌||◌, ap, sym, or-false, is_user_line, next_first}
+use Rattle.logs.proofs.Definitions.{◌∙◌, ◌||◌, ap, sym, or-false, is_user_line, next_first}
 use Rattle.logs.proofs.TextLemmas.{no_place, no_user, nowhere}
-use Rattle.logs.proofs.taken.carry_on.Goals as goal
+use Rattle.logs.proofs.address_words.carry_on.Goals as goal
 
 pub returns-in-None-clause-first : goal.returns-in-None-clause-first
 returns-in-None-clause-first c =

@@ -1,6 +1,6 @@
 use Rattle.modules.proofs.Words.{◌≡◌, map, take}
 use Rattle.modules.proofs.Definitions.{lines_at, region_line_region}
-use Rattle.modules.proofs.placing.Placed.in_lines.Given as goal
+use Rattle.modules.proofs.placing.PlacedModule.in_lines.Given as goal
 
 abbrev pub invariant-loop-line : goal.invariant-loop-line
 invariant-loop-line l =

@@ -17,7 +17,7 @@ ghost use Rattle.logs.specs.TakenWords.{is_frame, is_marked, is_user_line, next_
 ghost use Rattle.logs.specs.TakenWords.{repeats, says_caller, taken_at, tells_place};
 ghost use Rattle.logs.specs.Words.{address_at, begins_joint, part};
 
-use crate::held::{First, Held};
+use crate::contexts::{First, LogContext};
 use crate::places::{
     Kind, begins_numbered, end_of, first_of, has_label, is_lead, prefix_end, without_end,
 };
@@ -35,7 +35,7 @@ pub struct Place {
 
 /// An address word, and how it is taken.
 #[derive(Clone, Copy, Debug, Drop)]
-pub struct Taken {
+pub struct AddressWord {
     pub word: Word,
     pub value: u64,
     pub place: Place,
@@ -94,12 +94,12 @@ fn ends_in_joint(bytes: &[u8]) -> bool
 /// How an address word is taken, behind another one or as the first of its line.
 pub(crate) fn taken_at(
     narrow: bool,
-    held: Held,
+    held: LogContext,
     line: &[u8],
-    last: Option<Taken>,
+    last: Option<AddressWord>,
     word: Word,
     value: u64,
-) -> Taken
+) -> AddressWord
     requires word { word.start < word.end }
     requires within { word.end ≤ length line.now }
     ensures { result ≡ taken_at narrow held line.now last word value }
@@ -108,7 +108,7 @@ pub(crate) fn taken_at(
     let place = place_of(last, without_end(Kind::Mark, gap));
     let is_frame = is_frame(place, last, gap, &line[word.start..word.end]);
     let says = says_caller(place, gap);
-    Taken {
+    AddressWord {
         word,
         value,
         place,
@@ -120,7 +120,7 @@ pub(crate) fn taken_at(
 }
 
 /// The bytes between the address word before, or the line's begin, and a word.
-fn gap_before(line: &[u8], last: Option<Taken>, word: Word) -> &[u8]
+fn gap_before(line: &[u8], last: Option<AddressWord>, word: Word) -> &[u8]
     requires { word.start ≤ length line.now }
     ensures { result.now ≡ gap_before line.now last word }
 {
@@ -131,7 +131,7 @@ fn gap_before(line: &[u8], last: Option<Taken>, word: Word) -> &[u8]
 }
 
 /// The place of a word in its line, with these bytes before its marks.
-fn place_of(last: Option<Taken>, head: &[u8]) -> Place
+fn place_of(last: Option<AddressWord>, head: &[u8]) -> Place
     ensures { result ≡ place_of last head.now }
 {
     let end = prefix_end(head);
@@ -162,7 +162,7 @@ fn is_marked(gap: &[u8], word: &[u8]) -> bool
 }
 
 /// Whether a word is the second of `[ADDRESS] [ADDRESS]`, and the first begins the line.
-fn ends_pair(last: Option<Taken>, gap: &[u8]) -> bool
+fn ends_pair(last: Option<AddressWord>, gap: &[u8]) -> bool
     ensures { result ≡ ends_pair last gap.now }
 {
     match last {
@@ -176,7 +176,7 @@ fn ends_pair(last: Option<Taken>, gap: &[u8]) -> bool
 }
 
 /// Whether a word is a frame.
-fn is_frame(place: Place, last: Option<Taken>, gap: &[u8], word: &[u8]) -> bool
+fn is_frame(place: Place, last: Option<AddressWord>, gap: &[u8], word: &[u8]) -> bool
     ensures { result ≡ is_frame place last gap.now word.now }
 {
     (place.begins_line && is_marked(gap, word)) || ends_pair(last, gap)
@@ -194,7 +194,7 @@ fn says_caller(place: Place, gap: &[u8]) -> bool
 /// Whether a word is taken as a caller's.
 fn is_caller(
     next: First,
-    last: Option<Taken>,
+    last: Option<AddressWord>,
     gap: &[u8],
     says: bool,
     is_frame: bool,
@@ -212,7 +212,7 @@ fn is_caller(
 }
 
 /// Whether the address before is this number, with no `:` or `=` between.
-fn repeats(last: Taken, gap: &[u8], value: u64) -> bool
+fn repeats(last: AddressWord, gap: &[u8], value: u64) -> bool
     ensures { result ≡ repeats last gap.now value }
 {
     last.value == value && !has_sign(gap)
@@ -244,14 +244,20 @@ fn is_exact(first: First) -> bool
 }
 
 /// Whether a word is not of this kernel: one of a program, or a part of its code.
-fn is_foreign(narrow: bool, held: Held, line: &[u8], last: Option<Taken>, gap: &[u8]) -> bool
+fn is_foreign(
+    narrow: bool,
+    held: LogContext,
+    line: &[u8],
+    last: Option<AddressWord>,
+    gap: &[u8],
+) -> bool
     ensures { result ≡ is_foreign narrow held line.now last gap.now }
 {
     was_foreign(held, line, last) || begins_user(gap) || (narrow && has_code(gap))
 }
 
 /// Whether none before the word was of this kernel.
-fn was_foreign(held: Held, line: &[u8], last: Option<Taken>) -> bool
+fn was_foreign(held: LogContext, line: &[u8], last: Option<AddressWord>) -> bool
     ensures { result ≡ option_map_or (λ t. t.is_foreign) last (is_user_line held line.now) }
 {
     match last {
@@ -261,7 +267,7 @@ fn was_foreign(held: Held, line: &[u8], last: Option<Taken>) -> bool
 }
 
 /// Whether a program's registers were begun before the line, and it does not end them.
-fn is_user_line(held: Held, line: &[u8]) -> bool
+fn is_user_line(held: LogContext, line: &[u8]) -> bool
     ensures { result ≡ is_user_line held line.now }
 {
     held.is_user && !ends_user(line)
@@ -345,7 +351,7 @@ fn next_first(first: First, has_frame: bool, tells: bool) -> First
 }
 
 /// Carries on behind a line with a frame or without one. Mostly the line has no `P` at all.
-pub(crate) fn carry_on(held: &mut Held, line: &[u8], has_frame: bool)
+pub(crate) fn carry_on(held: &mut LogContext, line: &[u8], has_frame: bool)
     ensures first { held.new.first
         ≡ next_first held.old.first has_frame (tells_place line.now) }
     ensures user { held.new.is_user ≡ (is_user_line held.old line.now || begins_user line.now) }

@@ -16,8 +16,8 @@ pub use Rattle.logs.specs.TakenWords.{begins_user, has_words, tells_place, taken
 pub use Rattle.logs.specs.Words.{run_of, is_word_byte, address_at, address_of_word, digits_between, begins_joint, has_prefix, words_behind, words_from, is_closer}
 pub use Rattle.logs.specs.declared.annotation.LogFault.{LogFault}
 pub use Rattle.logs.specs.declared.annotator.Annotator.{Annotator}
-pub use Rattle.logs.specs.declared.held.Held.{Held}
-pub use Rattle.logs.specs.declared.taken.Taken.{Taken}
+pub use Rattle.logs.specs.declared.contexts.LogContext.{LogContext}
+pub use Rattle.logs.specs.declared.address_words.AddressWord.{AddressWord}
 pub use Rattle.memchr.specs.Find.{Nowhere, is_byte, FindsNeedle, OccursAt}
 pub use Rattle.texts.specs.Counted.{NoneFailed, Rose, device_of, failures_of}
 pub use Rattle.texts.specs.Output.{WrotePart, contents_of, has_failed, Delivered, error_in}
