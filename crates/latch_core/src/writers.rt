@@ -237,7 +237,7 @@ impl<O: TreeOrder> WriterCore<O> {
     fn meets(&self, item: &Item) -> bool
         ensures { result ≡ meets O.order item.now self.now.table }
     {
-        self.shape.meets(item, &[])
+        self.shape.meets(item, &[], false)
     }
 
     /// Why a batch is not to be carried out, if it is not.
@@ -304,11 +304,7 @@ impl<O: TreeOrder> WriterCore<O> {
         requires { IsTrue rising → IsNonDecreasing but.now }
         ensures { result ≡ some_meet O.order items.now (without_all but.now self.now.table) }
     {
-        if rising {
-            items.iter().any(|i| self.shape.meets_rising(i, but))
-        } else {
-            items.iter().any(|i| self.shape.meets(i, but))
-        }
+        items.iter().any(|i| self.shape.meets(i, but, rising))
     }
 
     /// Plans to insert an item in a free node, which both copies then link. Returns whether it
@@ -549,5 +545,5 @@ fn reserve<O: TreeOrder>(
 {
     plan.reserve(2 * (size * STORES) + 2)?;
     links.clear();
-    shape.reserve_in(size as u32, links)
+    shape.reserve(size as u32, links)
 }

@@ -8,7 +8,7 @@ pub mod Lines
 -- regions of addresses, from a first address up to an end that is excluded
 pub mod Regions
 -- where the modules of the listing lie
-pub mod PlacedModule
+pub mod Placed
 -- which lines of the listing of modules are accepted
 pub mod Accepted
 -- what a catalog holds

@@ -4,7 +4,7 @@ ghost use Rattle.std.specs.Prelude.{◌≡◌, ◌==◌, IsTrue, is_some};
 ghost use Rattle.std.specs.List.{list_any};
 ghost use Rattle.std.specs.List.Sorted.{IsNonDecreasing};
 ghost use Rattle.rb_trees.specs.Erased.{first_word_at, found};
-ghost use Rattle.rb_trees.specs.Found.{item_with_word, has_node, meets_anywhere, meets_on_the_way};
+ghost use Rattle.rb_trees.specs.Found.{item_with_word, meets_anywhere, meets_on_the_way};
 
 use crate::readings::Reading;
 use order_laws::{Item, TreeOrder};
@@ -76,18 +76,6 @@ pub fn meets<O: TreeOrder>(tree: &Reading<'_>, item: &Item, but: &[u64], rising:
         };
     }
     false
-}
-
-/// Whether a record has this node; goes through all.
-pub fn reaches(tree: &Reading<'_>, number: u32) -> bool
-    ensures { result ≡ has_node number tree.now }
-{
-    match tree.open() {
-        None => false,
-        Some(fork) => {
-            fork.node.node == number || reaches(&fork.left, number) || reaches(&fork.right, number)
-        }
-    }
 }
 
 /// Whether some item, those with one of the first words `but` left out, is not apart from this one;

@@ -1,5 +1,5 @@
 -- From the links inside a tree to what a copy holds.
-use Rattle.rb_trees.proofs.Words.{◌≡◌, ℕ, ◌<◌, ◌≤◌, true, false, cond, List, [], ◌∷◌, ◌++◌, length, map, refl, sym, ◌∙◌, ap, subst, inl, inr, ⊎_elim, arith, ◌==◌, Contains, slice_set, AllByRecursion, eqb-true, map-append, Contains-append_left, Contains-append_right, all_append, all_left, all_right, Contains-rest, Store, Nodes, none, fork, at, root_word, left_word, right_word, item_at, items, listed, words_for, Leads, words_after_all, IsLinkWord, AreLinkStores, at_stored, at_other, untouched, after_append, length_after, Record, ColouredTree, tip, branch, shape, rows, link, relink_root, Among, LeadLinks, items_of_records, IsLinkOf, root_no_link, owns_no_root, owns_links, owns_values, Relinks}
+use Rattle.rb_trees.proofs.Words.{◌≡◌, ℕ, ◌<◌, ◌≤◌, true, false, cond, List, [], ◌∷◌, ◌++◌, length, map, refl, sym, ◌∙◌, ap, subst, inl, inr, ⊎_elim, arith, ◌==◌, Contains, slice_set, AllByRecursion, eqb-true, map-append, Contains-append_left, Contains-append_right, all_append, all_left, all_right, Contains-rest, Store, Nodes, none, fork, at, root_word, left_word, right_word, item_at, items, listed, words_for, Leads, words_after_all, IsLinkWord, AreLinkStores, at_stored, at_other, untouched, after_append, length_after, Record, ColouredTree, tip, branch, shape, rows, link, relink_root, Among, LeadLinks, items_of_records, IsLinkOf, root_no_link, owns_no_root, owns_links, owns_values, Relinks, length-map}
 use Rattle.rb_trees.specs.Linked.{Inner}
 use Rattle.rb_trees.proofs.RelinkLemmas.{link_fits}
 
@@ -59,6 +59,10 @@ module _ (n c : ℕ) (small : c ≤ 1) (P : ℕ → Type 0) (below : (i : ℕ) �
 pub listed_rows : (t : ColouredTree) → listed (shape t) ≡ map (λ r. r.node) (rows t)
 listed_rows tip = refl
 listed_rows (branch red l y r) = ap (λ xs. xs ++ y.node ∷ listed (shape r)) (listed_rows l) ∙ ap (λ xs. map (λ r. r.node) (rows l) ++ y.node ∷ xs) (listed_rows r) ∙ sym (map-append (λ r. r.node) (rows l) (y ∷ rows r))
+
+pub as_many_rows : (t : ColouredTree) → length (listed (shape t)) ≡ length (items_of_records (rows t))
+as_many_rows t = ap length (listed_rows t) ∙ length-map (rows t) (λ r. r.node)
+    ∙ sym (length-map (rows t) (λ r. r.item))
 
 pub all_among : (P : ℕ → Type 0) (t : Nodes) → AllByRecursion P (listed t) → (i : ℕ) → Among t i → P i
 all_among P none h i a = absurd a

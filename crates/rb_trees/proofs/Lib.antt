@@ -12,7 +12,6 @@ pub mod PathLemmas
 pub mod PlaceRows
 pub mod SoughtRows
 pub mod MeetRows
-pub mod ListedRows
 pub mod DepthLemmas
 pub mod GrowLemmas
 pub mod TopLemmas

@@ -11,11 +11,6 @@ use Rattle.rb_trees.specs.Trees.{ColouredTree, tip, branch}
 abbrev pub items_of_records : List Record → List Item
 items_of_records rs = map (λ r. r.item) rs
 
--- whether some record has this node
-abbrev pub has_node : ℕ → ColouredTree → Bool
-has_node i tip = false
-has_node i (branch red l y r) = (y.node == i) || (has_node i l || has_node i r)
-
 -- the first of two answers
 abbrev pub first_item_of : Option Item → Option Item → Option Item
 first_item_of (Some x) other = Some x

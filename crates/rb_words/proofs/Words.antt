@@ -10,10 +10,10 @@ pub use Rattle.order_laws.proofs.PlaceLemmas.{with_place, without_place, without
 pub use Rattle.order_laws.specs.Orders.{Order, IsLawful, IsInLine}
 pub use Rattle.order_laws.specs.Tables.{IsTable, with_item, without, place_for, place_of, has, meets, without_all}
 pub use Rattle.order_laws.specs.declared.items.Item.{Item}
-pub use Rattle.rb_trees.proofs.ListedRows.{as_many_rows, reaches_shown}
+pub use Rattle.rb_trees.proofs.LeadsLemmas.{as_many_rows}
 pub use Rattle.rb_trees.proofs.MeetRows.{met_meets, met_any_meets}
 pub use Rattle.rb_trees.proofs.SoughtRows.{found_by_word, any_has, word_found, item_found, any_is, found_by_any}
-pub use Rattle.rb_trees.specs.Found.{items_of_records, meets_on_the_way, item_with_word, meets_anywhere, has_node}
+pub use Rattle.rb_trees.specs.Found.{items_of_records, meets_on_the_way, item_with_word, meets_anywhere}
 pub use Rattle.rb_words.specs.Mirrors.{mirror_word, mirror_store, mirror_stores, second_picture}
 pub use Rattle.rb_words.specs.Pictures.{Picture, IsPictured, IsPicture}
 pub use Rattle.rb_words.specs.Plans.{AreLinks, item_stores, Inserts, LeadsWithItem, Erases, LeadsByLinks}

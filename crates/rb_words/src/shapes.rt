@@ -3,7 +3,7 @@
 //! The tree is red-black: the writer's nodes alone have colours, so a change of colours stores
 //! nothing.
 
-ghost use Rattle.std.specs.Prelude.{◌≡◌, ◌↔◌, ◌+◌, ◌*◌, ◌<◌, ◌≤◌, ◌++◌, [], true, false, List};
+ghost use Rattle.std.specs.Prelude.{◌≡◌, ◌+◌, ◌*◌, ◌<◌, ◌≤◌, ◌++◌, [], true, false, List};
 ghost use Rattle.std.specs.Prelude.{IsTrue, IfOk, IfErr, OnOk, IfSome, IsSome, is_some, Some, None};
 ghost use Rattle.std.specs.Prelude.{Contains, length, vec_len, vec_capacity};
 ghost use Rattle.std.specs.List.Sorted.{IsNonDecreasing};
@@ -26,7 +26,7 @@ use rb_cursor::Cursor;
 use rb_cursor::erases::erase;
 use rb_cursor::inserts::{insert, insert_apart};
 use rb_cursor::probes::{ItemProbe, WordProbe};
-use rb_cursor::searches::{find_any, has, meets, meets_any, reaches};
+use rb_cursor::searches::{find_any, has, meets, meets_any};
 use rb_trees::Record;
 use std::alloc::Global;
 use std::marker::{Model, PhantomData};
@@ -46,7 +46,6 @@ pub struct Shape<O: TreeOrder> {
     copy: TreeCopy,
     cursor: Cursor,
     count: u32,
-    alloc: Global,
     order: PhantomData<O>,
 }
 
@@ -83,7 +82,6 @@ impl<O: TreeOrder> Shape<O> {
             copy,
             cursor: Cursor::new(alloc),
             count: 0,
-            alloc,
             order: PhantomData,
         }
     }
@@ -126,34 +124,11 @@ impl<O: TreeOrder> Shape<O> {
         }
     }
 
-    /// Whether the node is one of the pictured tree.
-    pub fn reaches(&self, node: u32) -> bool
-        ensures { IsTrue result ↔ Contains (listed self.now.tree) node }
-    {
-        reaches(&self.cursor.tree(), node)
-    }
-
     /// Whether some item, those with one of the first words `but` left out, is not apart from this
-    /// one.
-    pub fn meets(&self, item: &Item, but: &[u64]) -> bool
-        ensures { result ≡ meets O.order item.now (without_all but.now self.now.table) }
-    {
-        self.meets_with(item, but, false)
-    }
-
-    /// Whether some item, but those with one of the rising first words `but`, is not apart from this
-    /// one. Each item that is met costs a search by halves among `but`, so k of them cost
-    /// O((k + 1) log n + k log k) in an order of items in line ([`TreeOrder::in_line`]).
-    pub fn meets_rising(&self, item: &Item, but: &[u64]) -> bool
-        requires { IsNonDecreasing but.now }
-        ensures { result ≡ meets O.order item.now (without_all but.now self.now.table) }
-    {
-        self.meets_with(item, but, true)
-    }
-
-    // Whether some item but those that are left out is not apart from this one, by halves if the
-    // first words that are left out rise.
-    fn meets_with(&self, item: &Item, but: &[u64], rising: bool) -> bool
+    /// one; `rising` says that these words rise. Then each item that is met costs a search by halves
+    /// among them, so k of them cost O((k + 1) log n + k log k) in an order of items in line
+    /// ([`TreeOrder::in_line`]).
+    pub fn meets(&self, item: &Item, but: &[u64], rising: bool) -> bool
         requires { IsTrue rising → IsNonDecreasing but.now }
         ensures { result ≡ meets O.order item.now (without_all but.now self.now.table) }
     {
@@ -164,28 +139,12 @@ impl<O: TreeOrder> Shape<O> {
         }
     }
 
-    /// Makes room for `k` items, and hands out an empty list with room for `k` plans.
-    ///
-    /// What is pictured stays, even if memory is refused by [`Refusal::OutOfMemory`].
-    pub fn reserve(&mut self, k: u32) -> Result<Vec<Store>, Refusal>
-        ensures kept { self.new ≡ record self.old { room = self.new.room } }
-        ensures grown { self.old.room ≤ self.new.room }
-        ensures room { IfOk result (λ out. k ≤ self.new.room) }
-        ensures list { IfOk result (λ out. (out.items ≡ []) × (k * STORES ≤ vec_capacity out)) }
-        ensures refusal { IfErr result (λ e. e ≡ Refusal.OutOfMemory) }
-    {
-        let mut out = Vec::new(self.alloc);
-        self.reserve_in(k, &mut out)?;
-        Ok(out)
-    }
-
-    /// Makes room for `k` items, and in a list that is there already for `k` plans more: for a
-    /// writer that keeps its list from update to update.
+    /// Makes room for `k` items, and in a list for `k` plans more.
     ///
     /// What is pictured and what is listed stay, even if memory is refused by
     /// [`Refusal::OutOfMemory`].
     #[inline(always)]
-    pub fn reserve_in(&mut self, k: u32, out: &mut Vec<Store>) -> Result<(), Refusal>
+    pub fn reserve(&mut self, k: u32, out: &mut Vec<Store>) -> Result<(), Refusal>
         ensures kept { self.new ≡ record self.old { room = self.new.room } }
         ensures grown { self.old.room ≤ self.new.room }
         ensures room { OnOk result (k ≤ self.new.room) }
@@ -193,21 +152,8 @@ impl<O: TreeOrder> Shape<O> {
         ensures list { OnOk result (vec_len out.new + k * STORES ≤ vec_capacity out.new) }
         ensures refusal { IfErr result (λ e. e ≡ Refusal.OutOfMemory) }
     {
-        self.reserve_room(k)?;
+        self.cursor.reserve(k as usize)?;
         Ok(out.reserve(k as usize * STORES)?)
-    }
-
-    /// Makes room for `k` items, and in no list.
-    ///
-    /// What is pictured stays, even if memory is refused by [`Refusal::OutOfMemory`].
-    #[inline(always)]
-    pub fn reserve_room(&mut self, k: u32) -> Result<(), Refusal>
-        ensures kept { self.new ≡ record self.old { room = self.new.room } }
-        ensures grown { self.old.room ≤ self.new.room }
-        ensures room { OnOk result (k ≤ self.new.room) }
-        ensures refusal { IfErr result (λ e. e ≡ Refusal.OutOfMemory) }
-    {
-        Ok(self.cursor.reserve(k as usize)?)
     }
 
     /// Plans to insert an item in a free node, and pictures the copy with it: appends the stores of
@@ -257,7 +203,7 @@ impl<O: TreeOrder> Shape<O> {
         ensures capacity { vec_capacity out.new ≡ vec_capacity out.old }
     {
         if !O::in_line() {
-            if self.meets(&item, &[]) {
+            if self.meets(&item, &[], false) {
                 return true;
             }
             self.plan_links(out, node, item);

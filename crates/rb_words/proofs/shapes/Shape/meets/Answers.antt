@@ -1,5 +1,5 @@
 use Rattle.rb_words.proofs.Words.{◌∙◌, sym, ap, meets, without_all, meets_on_the_way, meets_anywhere, met_meets, met_any_meets}
-use Rattle.rb_words.proofs.shapes.Shape.meets_with.Goals as goal
+use Rattle.rb_words.proofs.shapes.Shape.meets.Goals as goal
 
 pub returns-then-valid : goal.returns-then-valid
 returns-then-valid g c =
