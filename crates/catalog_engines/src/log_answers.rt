@@ -88,7 +88,8 @@ const ROOM: usize = 64;
 fn written(alloc: Global, answer: &Answer) -> Result<Vec<u8>, AllocError>
     ensures { IfOk result (λ text. text.items ≡ codes " " ++ text_of answer.now) }
 {
-    let mut text = Output::with_capacity(alloc, ROOM, Vec::new(alloc))?;
+    let room = Vec::with_capacity(alloc, ROOM)?;
+    let mut text = Output::new(alloc, room);
     text.put(b" ");
     put_answer(&mut text, answer);
     let Some(text) = text.finish() else {

@@ -6,5 +6,5 @@ use Rattle.catalog_engines.proofs.log_answers.written.Goals as goal
 pub returns : goal.returns
 returns c =
     let said = then c.put.ensures c.put_answer.ensures in
-    c.in-Some.ensures c.new.result c.in_ok-text.text (codes " " ++ text_of c.args.answer.now) c.in_ok-text.ensures said
-    ∙ ap (λ l. l ++ (codes " " ++ text_of c.args.answer.now)) c.new.ensures.items
+    c.in-Some.ensures c.in_ok-room.room c.new-text.result (codes " " ++ text_of c.args.answer.now) c.new-text.ensures said
+    ∙ ap (λ l. l ++ (codes " " ++ text_of c.args.answer.now)) c.in_ok-room.ensures.items
