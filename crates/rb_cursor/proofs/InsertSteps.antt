@@ -1,5 +1,5 @@
 -- The way up of an insert, as the calls of a cursor show it.
-use Rattle.rb_cursor.proofs.Words.{◌≡◌, ℕ, suc, ◌+◌, ◌≤◌, Bool, true, false, List, [], ◌∷◌, ◌++◌, refl, sym, ◌∙◌, ap, subst, arith, length, length-append, append_assoc, Store, Order, IsLawful, Record, Left, Right, ColouredTree, tip, branch, is_red, blackened, shape, rows, HasNoClash, IsRedBlack, depth, sided, set_link, link, relink, relink_root, moved, Lead, items_of_records, Above, plugged, way_by, Replaced, Nothing, Sound, plugged_by, short_by, red_sided, link_sided, rows_blackened, moved_one, not_moved, relink_moved, root_moved, replaced_lead, Grown, at_side, grown_leaf, grown_red, mended_calm, grown_black, grown_kept, kept_still, grown_good, kept_good, Nearest, Zipper, altered, IsNearest, risen, PutsIn}
+use Rattle.rb_cursor.proofs.Words.{◌≡◌, ℕ, suc, ◌+◌, ◌≤◌, Bool, true, false, List, [], ◌∷◌, ◌++◌, refl, sym, ◌∙◌, ap, subst, arith, length, length-append, append_assoc, Store, Order, IsLawful, Record, Left, Right, ColouredTree, tip, branch, is_red, blackened, shape, rows, HasNoClash, IsRedBlack, depth, sided, set_link, link, relink, relink_root, moved, Lead, items_of_records, Above, plugged, way_by, Replaced, Nothing, Sound, place_leaf, plugged_to, short_to, leaf_lies, red_sided, link_sided, rows_blackened, moved_one, not_moved, relink_moved, root_moved, replaced_lead, Grown, at_side, grown_leaf, grown_red, mended_calm, grown_black, grown_kept, kept_still, grown_good, kept_good, Nearest, Zipper, altered, IsNearest, risen, PutsIn}
 use Rattle.order_laws.specs.Tables.{IsTable}
 use Rattle.rb_trees.specs.Inserted.{mended, mend_links, clash}
 use Rattle.rb_trees.proofs.PlaceRows.{rows_grown}
@@ -211,10 +211,12 @@ module _ {K : Type 0} (o : Order K) (added : Record) (t : ColouredTree) {from pa
   way_there = goes ∙ ap (way_by o.less added.item t) top
 
   pub insert_whole : plugged path tip ≡ t
-  insert_whole = ap (λ p. plugged p tip) way_there ∙ plugged_by o.less added.item t []
+  insert_whole =
+      ap (λ p. plugged p tip) way_there ∙ ap (plugged (way_by o.less added.item t [])) (sym (place_leaf o.less added.item t))
+      ∙ plugged_to (leaf_lies o.less added.item) t []
 
   pub insert_few : length path ≤ depth (shape t)
-  insert_few = omega (arith, ap length way_there, short_by o.less added.item t [])
+  insert_few = omega (arith, ap length way_there, short_to (leaf_lies o.less added.item) t [])
 
   pub insert_puts : IsLawful o → IsTable o (items_of_records (rows t)) → {rs : List Record} → rs ≡ rows (plugged path (branch true tip added tip)) → PutsIn o added (rows t) rs
   insert_puts law is e = e ∙ ap (λ p. rows (plugged p (branch true tip added tip))) way_there ∙ rows_grown o law added t is

@@ -6,7 +6,7 @@ pub use Rattle.std.specs.Prelude.{◌==◌, nat_lt, not}
 pub use Rattle.std.specs.declared.cmp.Ordering.{Ordering}
 pub use Rattle.std.specs.declared.cmp.Ordering.TheVariants.{Less, Equal, Greater}
 pub use Rattle.facts.proofs.Options.{OnErr-from, IsSome-from_ne}
-pub use Rattle.facts.proofs.Orderings.{Greater-from_tests, Less-from_is_lt, Equal-from_is_eq}
+pub use Rattle.facts.proofs.Orderings.{Equal-from_is_eq}
 pub use Rattle.order_laws.specs.Orders.{Order, IsLawful}
 pub use Rattle.rb_cursor.specs.Changes.{most_on_climb, Climbs, PutsIn, TakesFirst, TakesTop, AddsLinks}
 pub use Rattle.rb_cursor.specs.Closing.{closed_zipper, closed_to, risen, all_closed, risen_from}
@@ -24,14 +24,14 @@ pub use Rattle.rb_cursor.specs.declared.nodes.Node.{Node}
 pub use Rattle.rb_cursor.specs.declared.nodes.Step.{Step}
 pub use Rattle.rb_trees.proofs.FillLemmas.{Filling, filling, filled_sided, fill_links_sided}
 pub use Rattle.rb_trees.proofs.GrowLemmas.{at_side, kept_up, kept_still, lost_kept, kept_lost, lost_filled, Grown, grown_leaf, grown_red, mended_calm, grown_black, grown_kept, grown_good, kept_good, lost_good}
-pub use Rattle.rb_trees.proofs.PathLemmas.{plugged_by, short_by, short_first, short_to, plugged_to}
+pub use Rattle.rb_trees.proofs.PathLemmas.{place_leaf, short_first, short_to, plugged_to}
 pub use Rattle.rb_trees.proofs.ReplaceLemmas.{replaced_lead, around}
 pub use Rattle.rb_trees.proofs.SideLemmas.{link_sided, red_sided}
 pub use Rattle.rb_trees.proofs.TurnLemmas.{moved_one, not_moved, relink_moved, rows_blackened, root_moved}
 pub use Rattle.rb_trees.specs.Erased.{filled, fill_links, lowered, record_found_at, found, first_word_at}
 pub use Rattle.rb_trees.specs.Found.{items_of_records, meets_on_the_way}
 pub use Rattle.rb_trees.specs.Linked.{Lead}
-pub use Rattle.rb_trees.specs.Paths.{Above, joined, plugged, way_by, past_left, past_right, place_at, place_from, way_at, way_from, first_place, first_way}
+pub use Rattle.rb_trees.specs.Paths.{Above, joined, plugged, way_by, past_left, past_right, place_at, place_from, way_at, way_from, leaf_lies, apart_lies, first_place, first_way}
 pub use Rattle.rb_trees.specs.Replaced.{Lost, Replaced, Nothing, Sound}
 pub use Rattle.rb_trees.specs.Sides.{sided, set_link, opposite}
 pub use Rattle.rb_trees.specs.Trees.{ColouredTree, tip, branch, shape, is_red, blackened, rows, HasNoClash, IsRedBlack, depth, coloured}

@@ -1,10 +1,11 @@
 //! What is sought in a tree: where it lies against the item of a node.
 
-ghost use Rattle.std.specs.Prelude.{◌≡◌, ℕ};
+ghost use Rattle.std.specs.Prelude.{◌≡◌, ℕ, false};
 ghost use Rattle.std.specs.Ordering.{is_eq, is_lt};
 ghost use Rattle.std.specs.declared.cmp.Ordering.{Ordering};
 ghost use Rattle.rb_trees.specs.declared.Record.{Record};
 ghost use Rattle.rb_trees.specs.Erased.{first_word_at, item_lies};
+ghost use Rattle.rb_trees.specs.Paths.{leaf_lies, apart_lies};
 
 use order_laws::{Item, TreeOrder};
 use std::marker::PhantomData;
@@ -17,9 +18,10 @@ pub trait Probe {
     fn is_at(&self, item: &Item) -> bool
         ensures { (n : ℕ) → result ≡ is_eq (seen self.now (record { node = n; item = item.now })) };
 
-    /// Whether it lies before a record with this item.
+    /// Whether it lies before a record with this item, at which it does not lie.
     fn is_before(&self, item: &Item) -> bool
-        ensures { (n : ℕ) → result ≡ is_lt (seen self.now (record { node = n; item = item.now })) };
+        ensures { (n : ℕ) → let lies = seen self.now (record { node = n; item = item.now }) in
+            is_eq lies ≡ false → result ≡ is_lt lies };
 }
 
 /// A first word, in a tree in the order of first words.
@@ -59,6 +61,42 @@ impl<O: TreeOrder> Probe for ItemProbe<O> {
 
     #[inline(always)]
     fn is_before(&self, item: &Item) -> bool {
-        item.a != self.item.a && O::less(&self.item, item)
+        O::less(&self.item, item)
+    }
+}
+
+/// An item that is to be put after those that are not greater, in the order of the tree.
+#[derive(Drop)]
+pub struct LeafProbe<O: TreeOrder>(pub Item, pub PhantomData<O>);
+
+impl<O: TreeOrder> Probe for LeafProbe<O> {
+    ghost seen = { λ s. leaf_lies O.order.less s.0 };
+
+    #[inline(always)]
+    fn is_at(&self, _item: &Item) -> bool {
+        false
+    }
+
+    #[inline(always)]
+    fn is_before(&self, item: &Item) -> bool {
+        O::less(&self.0, item)
+    }
+}
+
+/// As [`LeafProbe`], but it lies at an item that is not apart from it.
+#[derive(Drop)]
+pub struct ApartProbe<O: TreeOrder>(pub Item, pub PhantomData<O>);
+
+impl<O: TreeOrder> Probe for ApartProbe<O> {
+    ghost seen = { λ s. apart_lies O.order s.0 };
+
+    #[inline(always)]
+    fn is_at(&self, item: &Item) -> bool {
+        !O::apart(item, &self.0)
+    }
+
+    #[inline(always)]
+    fn is_before(&self, item: &Item) -> bool {
+        O::less(&self.0, item)
     }
 }

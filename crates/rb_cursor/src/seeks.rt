@@ -7,37 +7,29 @@ ghost use Rattle.rb_trees.specs.Paths.{plugged, way_by, place_at, way_at, first_
 
 use crate::cursors::{Cursor, set_step};
 use crate::nodes::side_by;
-use crate::probes::Probe;
+use crate::probes::{ApartProbe, LeafProbe, Probe};
 use order_laws::{Item, TreeOrder};
 use rb_trees::Side;
+use std::marker::PhantomData;
 
 impl Cursor {
     /// Goes down to where an item belongs: after those that are not greater, in a tree that is in
     /// order. No node is in hand then.
     #[inline]
+    #[tactic(auto, using(rb_trees::proofs::PathLemmas::place_leaf))]
     pub fn seek_leaf<O: TreeOrder>(&mut self, item: &Item)
         requires { depth (shape self.old.tree) + length self.old.path ≤ 64 }
         ensures tree { self.new.tree ≡ tip }
         ensures path { self.new.path ≡ way_by O.order.less item.now self.old.tree self.old.path }
         ensures room { self.new.room ≡ self.old.room }
     {
-        let mut link = self.tree;
-        let mut depth = self.depth;
-        while link != 0 {
-            // By a `&mut`, since that tests no range.
-            let node = &mut self.nodes[link as usize - 1];
-            let side = side_by(O::less(item, &node.item));
-            set_step(&mut self.steps, depth, link, side);
-            depth += 1;
-            link = node.child(side);
-        }
-        self.tree = link;
-        self.depth = depth;
+        self.seek(&LeafProbe::<O>(*item, PhantomData));
     }
 
     /// Goes down to where an item belongs, unless it meets one on the way: then that one is in
     /// hand. Returns whether it does, in a tree where no item beyond one that is apart can meet it.
     #[inline]
+    #[tactic(auto, using(crate::proofs::SeekLemmas::apart_ways))]
     pub fn seek_apart<O: TreeOrder>(&mut self, item: &Item) -> bool
         requires { depth (shape self.old.tree) + length self.old.path ≤ 64 }
         ensures met { result ≡ meets_on_the_way O.order item.now [] self.old.tree }
@@ -47,24 +39,8 @@ impl Cursor {
         ensures whole { plugged self.new.path self.new.tree ≡ plugged self.old.path self.old.tree }
         ensures room { self.new.room ≡ self.old.room }
     {
-        let mut link = self.tree;
-        let mut depth = self.depth;
-        while link != 0 {
-            // By a `&mut`, since that tests no range.
-            let node = &mut self.nodes[link as usize - 1];
-            if !O::apart(&node.item, item) {
-                self.tree = link;
-                self.depth = depth;
-                return true;
-            }
-            let side = side_by(O::less(item, &node.item));
-            set_step(&mut self.steps, depth, link, side);
-            depth += 1;
-            link = node.child(side);
-        }
-        self.tree = link;
-        self.depth = depth;
-        false
+        self.seek(&ApartProbe::<O>(*item, PhantomData));
+        !self.tree().is_empty()
     }
 
     /// Goes down to the node of what is sought. No node is in hand then where there is none.

@@ -1,18 +1,7 @@
 -- The ways down lead to places of the tree that they began in, and are no longer than it is deep.
-use Rattle.rb_trees.proofs.Words.{◌≡◌, suc, ◌+◌, ◌≤◌, true, false, cond, List, ◌∷◌, refl, arith, length, max, Ordering, Less, Equal, Greater, Item, Record, ColouredTree, tip, branch, shape, depth, Above, plugged, past_left, past_right, place_from, way_from, way_by, way_at, place_at, first_way, first_place}
+use Rattle.rb_trees.proofs.Words.{◌≡◌, suc, ◌+◌, ◌≤◌, true, false, cond, List, ◌∷◌, refl, arith, length, max, Ordering, Less, Equal, Greater, Item, Record, ColouredTree, tip, branch, shape, depth, Above, plugged, past_left, past_right, place_from, way_from, way_at, place_at, leaf_lies, first_way, first_place}
 use Rattle.std.proofs.Common.{Bool}
 use Rattle.facts.proofs.Numbers.{suc-max_left, suc-max_right}
-
-pub plugged_by : (less : Item → Item → Bool) (x : Item) (t : ColouredTree) (path : List Above)
-    → plugged (way_by less x t path) tip ≡ plugged path t
-plugged_by less x tip path = refl
-plugged_by less x (branch red l y r) path =
-    elim (less x y.item) as (λ v.
-    plugged (cond v (way_by less x l (past_left red y r ∷ path)) (way_by less x r (past_right red l y ∷ path))) tip
-    ≡ plugged path (branch red l y r)) [
-      | true ↦ plugged_by less x l (past_left red y r ∷ path)
-      | false ↦ plugged_by less x r (past_right red l y ∷ path)
-    ]
 
 pub plugged_to : (seen : Record → Ordering) (t : ColouredTree) (path : List Above)
     → plugged (way_at seen t path) (place_at seen t) ≡ plugged path t
@@ -28,27 +17,24 @@ plugged_to seen (branch red l y r) path =
       | Greater ↦ plugged_to seen r (past_right red l y ∷ path)
     ]
 
+-- the way of an item ends where there is no node
+pub place_leaf : (less : Item → Item → Bool) (x : Item) (t : ColouredTree)
+    → place_at (leaf_lies less x) t ≡ tip
+place_leaf less x tip = refl
+place_leaf less x (branch red l y r) =
+    elim (less x y.item) as (λ v.
+    place_from (cond v Less Greater) (place_at (leaf_lies less x) l) (branch red l y r) (place_at (leaf_lies less x) r)
+    ≡ tip) [
+      | true ↦ place_leaf less x l
+      | false ↦ place_leaf less x r
+    ]
+
 pub plugged_first : (t : ColouredTree) (path : List Above)
     → plugged (first_way t path) (first_place t) ≡ plugged path t
 plugged_first tip path = refl
 plugged_first (branch red tip y r) path = refl
 plugged_first (branch red (branch k a x b) y r) path =
     plugged_first (branch k a x b) (past_left red y r ∷ path)
-
-pub short_by : (less : Item → Item → Bool) (x : Item) (t : ColouredTree) (path : List Above)
-    → length (way_by less x t path) ≤ length path + depth (shape t)
-short_by less x tip path = omega arith
-short_by less x (branch red l y r) path =
-    elim (less x y.item) as (λ v.
-    length (cond v (way_by less x l (past_left red y r ∷ path)) (way_by less x r (past_right red l y ∷ path)))
-    ≤ length path + suc (max (depth (shape l)) (depth (shape r)))) [
-      | true ↦
-          suc-max_left (length (way_by less x l (past_left red y r ∷ path))) (length path) (depth (shape l)) (depth (shape r))
-          (short_by less x l (past_left red y r ∷ path))
-      | false ↦
-          suc-max_right (length (way_by less x r (past_right red l y ∷ path))) (length path) (depth (shape l)) (depth (shape r))
-          (short_by less x r (past_right red l y ∷ path))
-    ]
 
 pub short_to : (seen : Record → Ordering) (t : ColouredTree) (path : List Above)
     → length (way_at seen t path) + depth (shape (place_at seen t)) ≤ length path + depth (shape t)

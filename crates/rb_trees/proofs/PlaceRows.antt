@@ -1,5 +1,5 @@
 -- What an insert puts at its place, and what an erase takes out.
-use Rattle.rb_trees.proofs.Words.{◌≡◌, ℕ, suc, true, false, cond, List, [], ◌∷◌, ◌++◌, Some, refl, sym, ◌∙◌, ap, subst, ◌==◌, insert, remove, slice_get, AllByRecursion, map-append, Item, Order, Precedes, IsLawful, IsTable, place_for, place_of, Parted, parted, Lacks, differs_before, all_weaker, Record, ColouredTree, tip, branch, rows, Above, plugged, past_left, past_right, way_by, items_of_records}
+use Rattle.rb_trees.proofs.Words.{◌≡◌, ℕ, suc, true, false, cond, List, [], ◌∷◌, ◌++◌, Some, refl, sym, ◌∙◌, ap, subst, ◌==◌, insert, remove, slice_get, AllByRecursion, map-append, Item, Order, Precedes, IsLawful, IsTable, place_for, place_of, Parted, parted, Lacks, differs_before, all_weaker, Record, ColouredTree, tip, branch, rows, Above, plugged, past_left, past_right, way_from, way_by, items_of_records, Less, Greater}
 use Rattle.std.proofs.Common.{Bool}
 use Rattle.std.proofs.lemmas.Bool.{eq-eqb}
 
@@ -45,7 +45,7 @@ plugged_leaf : (less : Item → Item → Bool) (x : Record) (t : ColouredTree) (
 plugged_leaf less x tip path = refl
 plugged_leaf less x (branch red l y r) path =
     elim (less x.item y.item) as (λ v.
-    plugged (cond v (way_by less x.item l (past_left red y r ∷ path)) (way_by less x.item r (past_right red l y ∷ path))) (branch true tip x tip)
+    plugged (way_from (cond v Less Greater) (way_by less x.item l (past_left red y r ∷ path)) path (way_by less x.item r (past_right red l y ∷ path))) (branch true tip x tip)
     ≡ plugged path (cond v (branch red (with_leaf less x l) y r) (branch red l y (with_leaf less x r)))) [
       | true ↦ plugged_leaf less x l (past_left red y r ∷ path)
       | false ↦ plugged_leaf less x r (past_right red l y ∷ path)

@@ -19,7 +19,7 @@ pub use Rattle.rb_trees.specs.Erased.{Remainder, whole, lowered, filled_over_bla
 pub use Rattle.rb_trees.specs.Found.{items_of_records, meets_on_the_way, meets_anywhere, first_item_of, item_with_word}
 pub use Rattle.rb_trees.specs.Inserted.{clash, mended, mend_links, recoloured, mended_over, mend_links_over}
 pub use Rattle.rb_trees.specs.Linked.{Among, IsSeparate, LeadLinks, With, HasRoom, Lead}
-pub use Rattle.rb_trees.specs.Paths.{Above, joined, plugged, past_left, past_right, place_from, way_from, way_by, way_at, place_at, first_way, first_place}
+pub use Rattle.rb_trees.specs.Paths.{Above, joined, plugged, past_left, past_right, place_from, way_from, way_by, way_at, place_at, leaf_lies, first_way, first_place}
 pub use Rattle.rb_trees.specs.Replaced.{Sound, Relinks, Fits, Replaced, Nothing, In, Lost, Own}
 pub use Rattle.rb_trees.specs.Sides.{sided, opposite, on, set_link, link_word}
 pub use Rattle.rb_trees.specs.Trees.{ColouredTree, tip, branch, is_red, blackened, HasBlackHeight, HasNoClash, IsRedBlack, shape, IsBalanced, depth, rows}

@@ -3,6 +3,7 @@ use Rattle.std.specs.Prelude.{Bool, List, [], ◌∷◌, if◌then◌else◌}
 use Rattle.std.specs.declared.cmp.Ordering.{Ordering}
 use Rattle.std.specs.declared.cmp.Ordering.TheVariants.{Less, Equal, Greater}
 use Rattle.order_laws.specs.declared.items.Item.{Item}
+use Rattle.order_laws.specs.Orders.{Order}
 use Rattle.rb_trees.specs.declared.Record.{Record}
 use Rattle.rb_trees.specs.declared.Side.{Side}
 use Rattle.rb_trees.specs.declared.Side.TheVariants.{Left, Right}
@@ -32,13 +33,6 @@ past_left red y r = record { side = Left; red = red; row = y; other = r }
 abbrev pub past_right : Bool → ColouredTree → Record → Above
 past_right red l y = record { side = Right; red = red; row = y; other = l }
 
--- the path up from the place of an item: left of each node that it is less than
-abbrev pub way_by : (Item → Item → Bool) → Item → ColouredTree → List Above → List Above
-way_by less x tip path = path
-way_by less x (branch red l y r) path =
-    if less x y.item then way_by less x l (past_left red y r ∷ path)
-    else way_by less x r (past_right red l y ∷ path)
-
 -- the place where a record lies, by where it lies against each: its node, or none
 abbrev pub place_from : Ordering → ColouredTree → ColouredTree → ColouredTree → ColouredTree
 place_from Less left here right = left
@@ -61,6 +55,18 @@ way_at seen tip path = path
 way_at seen (branch red l y r) path =
     way_from (seen y) (way_at seen l (past_left red y r ∷ path)) path
     (way_at seen r (past_right red l y ∷ path))
+
+-- where an item belongs, by an order's `less`: after each record that it is not less than
+abbrev pub leaf_lies : (Item → Item → Bool) → Item → Record → Ordering
+leaf_lies less x y = if less x y.item then Less else Greater
+
+-- as that, or at a record that it is not apart from
+abbrev pub apart_lies : {K : Type 0} → Order K → Item → Record → Ordering
+apart_lies o x y = if o.apart y.item x then leaf_lies o.less x y else Equal
+
+-- the path up from the place of an item: left of each node that it is less than
+abbrev pub way_by : (Item → Item → Bool) → Item → ColouredTree → List Above → List Above
+way_by less x t path = way_at (leaf_lies less x) t path
 
 -- the first node
 abbrev pub first_place : ColouredTree → ColouredTree
