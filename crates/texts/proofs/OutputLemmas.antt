@@ -1,5 +1,5 @@
 -- Texts that are said one after the other.
-use Rattle.texts.proofs.Words.{◌≡◌, ◌∙◌, ℕ, List, [], ◌∷◌, ◌++◌, Option, Bool, true, false, refl, sym, ap, subst, append_assoc, append-nil, take, drop, length, ◌+◌, ◌-◌, ◌<◌, ◌≤◌, ◌⊎◌, flat_map, get_or, None, Some, take-append-drop, le_of_eq, arith, flat_map-append, take-append-add, take-append_seam, take_all, take_more, take-take, zip, Appends, Keeps, append_known, Appends-nil, Appends-trans, Keeps-refl, append_known-grown, append_known-moved, append_known-passed, error_kept, writer_in, Output, Awaits, Says, Delivered, Delivers, WroteAll, WrotePart, contents_of, error_in, has_failed, kept_back, writer_of}
+use Rattle.texts.proofs.Words.{◌≡◌, ◌∙◌, ℕ, List, [], ◌∷◌, ◌++◌, Option, Bool, true, false, refl, sym, ap, subst, append_assoc, append-nil, take, drop, length, ◌+◌, ◌-◌, ◌<◌, ◌≤◌, ◌⊎◌, flat_map, get_or, None, Some, take-append-drop, le_of_eq, arith, flat_map-append, take-append-add, take-append_seam, take_all, take_more, take-take, zip, Appends, Keeps, append_known, Appends-nil, Appends-trans, Keeps-refl, append_known-grown, append_known-moved, append_known-passed, error_kept, writer_in, Output, Awaits, Says, Delivered, Delivers, WrotePart, contents_of, error_in, has_failed, kept_back, writer_of}
 use Rattle.facts.proofs.Pairs.{flat_map-zip_more, zip-past}
 
 -- where nothing failed, what the writer took was said
@@ -87,25 +87,19 @@ pub pairs_said : {W X Y : Type 0} {contents : W → Option (List ℕ)} {old new 
     → Says contents old new (flat_map f (take i (zip xs ys))) → Says contents old new (flat_map f (zip xs ys))
 pairs_said f xs ys i few said = same_text (ap (flat_map f) (take_all i (zip xs ys) (zip-past xs ys i few))) said
 
--- what was said is written, where no call failed
-pub all_written : {W : Type 0} {contents : W → Option (List ℕ)} {old new : Output W} {text : List ℕ} → Says contents old new text → has_failed new ≡ false → WroteAll contents old new text
-all_written {W} {contents} {old} {new} {text} said sound =
+-- what was said and flushed is delivered, if no call failed
+pub all_delivered : {W : Type 0} {contents : W → Option (List ℕ)} {old new : Output W} {text : List ℕ} → Delivers contents old new text → has_failed new ≡ false → Delivered contents old new text
+all_delivered {W} {contents} {old} {new} {text} (said, flushed) sound =
     let a = awaited said in
     let whole : a.taken ≡ text = sym (a.parts ∙ append-nil (a.taken ++ a.lost) ∙ ap (λ l. a.taken ++ l) (a.none_lost sound) ∙ append-nil a.taken) in
-    (was_sound (has_failed old) (has_failed new) said.stays sound, sound, subst (λ l. Appends (contents_of contents old) (contents_of contents new) l) whole a.holds)
-
--- and is delivered, where the device was flushed behind it
-pub all_delivered : {W : Type 0} {contents : W → Option (List ℕ)} {old new : Output W} {text : List ℕ} → Delivers contents old new text → has_failed new ≡ false → Delivered contents old new text
-all_delivered delivers sound =
-    let wrote = all_written delivers.0 sound in
-    (wrote.0, wrote.1, wrote.2, delivers.1 sound)
+    (was_sound (has_failed old) (has_failed new) said.stays sound, sound, subst (λ l. Appends (contents_of contents old) (contents_of contents new) l) whole a.holds, flushed sound)
 
 -- a text, and then the device was flushed
 pub then_flushed : {W : Type 0} {contents : W → Option (List ℕ)} {old mid new : Output W} {t : List ℕ} → Says contents old mid t → Delivers contents mid new []
     → Delivers contents old new t
 then_flushed first second = (same_text (append-nil _) (then first second.0), second.1)
 
--- and else a beginning of it is
+-- a beginning of what was said is held, if a call failed
 pub part_written : {W : Type 0} {contents : W → Option (List ℕ)} {old new : Output W} {text : List ℕ} → Says contents old new text → has_failed new ≡ true → WrotePart contents old new text
 part_written {W} {contents} {old} {new} {text} said failed =
     let a = awaited said in

@@ -15,7 +15,7 @@ pub use Rattle.memchr.specs.Find.{Nowhere, Passes, is_byte}
 pub use Rattle.texts.specs.Device.{is_settled, error_kept, writer_in, is_broken}
 pub use Rattle.texts.specs.Lines.{lines_of, words_of}
 pub use Rattle.texts.specs.Numbers.{numeral}
-pub use Rattle.texts.specs.Output.{Delivered, IsOpenedOver, contents_of, is_flushed, kept_back, writer_of, Awaits, Says, Delivers, WroteAll, WrotePart, error_in, has_failed}
+pub use Rattle.texts.specs.Output.{Delivered, IsOpenedOver, contents_of, is_flushed, kept_back, writer_of, Awaits, Says, Delivers, WrotePart, error_in, has_failed}
 pub use Rattle.texts.specs.Said.{Gives, GivesInGrammar, FaultsInGrammar, entries_after, entries_from, said_by, said_lines}
 pub use Rattle.texts.specs.declared.faults.LineFault.{LineFault}
 pub use Rattle.texts.specs.declared.output.Output.{Output}

@@ -73,12 +73,6 @@ abbrev pub Delivers : {W : Type 0} → (W → Option (List ℕ)) → Output W �
 Delivers contents old new text =
     Says contents old new text × (has_failed new ≡ false → is_flushed new ≡ true)
 
--- No call failed, and this text and nothing else was taken by the device or is kept back.
-abbrev pub WroteAll : {W : Type 0} → (W → Option (List ℕ)) → Output W → Output W → List ℕ → Type 0
-WroteAll contents old new text =
-    (has_failed old ≡ false) × (has_failed new ≡ false)
-    × Appends (contents_of contents old) (contents_of contents new) text
-
 -- No call failed, the device has taken this text and nothing else, and nothing is kept back.
 abbrev pub Delivered : {W : Type 0} → (W → Option (List ℕ)) → Output W → Output W → List ℕ → Type 0
 Delivered contents old new text =
@@ -92,8 +86,8 @@ TookAll {W} contents o w =
     (device : W) (opened : Output W) (text : List ℕ) → IsOpenedOver device opened
     → Says contents opened o text → Appends (contents device) (contents w) text
 
--- A call failed, and the device has taken a beginning of this text and nothing else, or what is
--- kept back, and never given to it, is the end of that beginning.
+-- A call failed, and what the output holds, kept back or not, grew by a beginning of this text and
+-- by nothing else. What is kept back then is never given to the device.
 abbrev pub WrotePart : {W : Type 0} → (W → Option (List ℕ)) → Output W → Output W → List ℕ → Type 0
 WrotePart contents old new text =
     (has_failed new ≡ true) × (part : List ℕ) × (rest : List ℕ) × (text ≡ part ++ rest)
