@@ -1,11 +1,11 @@
 -- Blank nodes: one is planted, one comes back, one more is put into the slab.
-use Rattle.rb_cursor.proofs.Words.{◌≡◌, ℕ, suc, ◌+◌, ◌-◌, ◌^◌, ◌<◌, ◌≤◌, Bool, true, false, List, [], ◌∷◌, length, if◌then◌else◌, Some, None, inl, inr, refl, sym, ap, subst, ◌∙◌, arith, ◌==◌, cases_eq, Slab, get, slab_len, with_value, Updates, Updates-with_value, Record, ColouredTree, tip, branch, Node, Inside, Zipper, weight, HasOneSubtree, only_subtree, Keyed, nil, keyed, Level, link_of, link_to, plain, plain_path, size, at_key, uses, path_uses, list_uses, node_with, node_of, IsLinked, IsChain, with_last_link, IsPlace}
+use Rattle.rb_cursor.proofs.Words.{◌≡◌, ℕ, suc, ◌+◌, ◌-◌, ◌^◌, ◌<◌, ◌≤◌, Bool, true, false, List, [], ◌∷◌, length, if◌then◌else◌, Some, None, inl, inr, refl, sym, ap, subst, ◌∙◌, arith, ◌==◌, cases_eq, Slab, get, slab_len, with_value, Updates, Updates-with_value, Record, ColouredTree, tip, branch, Left, Node, Inside, Zipper, weight, HasOneSubtree, only_subtree, Keyed, nil, keyed, link_of, link_to, plain, plain_path, size, at_key, uses, path_uses, list_uses, node_with, node_of, IsLinked, IsChain, with_last_link, IsPlace}
 use Rattle.facts.proofs.Numbers.{if_suc}
 use Rattle.rb_cursor.proofs.KeyedLemmas.{at_same, at_apart, at_most, linked_kept, path_kept}
 use Rattle.rb_cursor.proofs.KeyedLemmas.{chain_kept, linked_beside, path_beside, chain_beside}
 use Rattle.rb_cursor.proofs.KeyedLemmas.{linked_vacant, path_vacant, chain_vacant}
 use Rattle.rb_cursor.proofs.KeyedLemmas.{same_len}
-use Rattle.rb_cursor.proofs.HeldLemmas.{IsInside, show, Held, Moved, held, shut}
+use Rattle.rb_cursor.proofs.HeldLemmas.{IsInside, show, Held, Moved, held, held_on, none_there, shut}
 use Rattle.rb_cursor.proofs.TurnLemmas.{IsLoose, tightened}
 
 -- a tree without nodes
@@ -13,40 +13,39 @@ nil_by : (t : Keyed) → plain t ≡ tip → t ≡ nil
 nil_by nil e = refl
 nil_by (keyed red l k x r) e = absurd (omega (arith, ap weight e))
 
--- a blank node is there, at the end of its link
-chain_leads : (s : Slab Node) (blank room : ℕ) (blanks : List ℕ) → IsChain s blanks →
-    blank ≡ link_to blanks → room ≡ length blanks → 0 < room → 0 < blank
-chain_leads s blank room [] h link many some = absurd (omega arith)
-chain_leads s blank room (k ∷ ks) h link many some = omega arith
+-- the blank nodes that a link leads to
+pub blanks_are : (key : ℕ) (blanks : List ℕ) → link_to blanks ≡ suc key →
+    (rest : List ℕ) × (blanks ≡ key ∷ rest)
+blanks_are key [] some = absurd (omega arith)
+blanks_are key (k ∷ rest) some = (rest, ap (λ j. j ∷ rest) (omega arith))
+
+chain_leads : (blanks : List ℕ) → 0 < length blanks → 0 < link_to blanks
+chain_leads [] some = absurd (omega arith)
+chain_leads (k ∷ ks) some = omega arith
 
 pub blank_leads : (i : Inside) (now : Zipper) → IsInside i → show i ≡ now → 0 < now.room → 0 < i.blank
 blank_leads i now f is some =
     let e = ap (λ (z : Zipper). z.room) (held i now f is).shows in
-    chain_leads i.nodes i.blank i.room f.blanks f.place.chained f.blank_link f.room_is (omega arith)
-
-chain_there : (s : Slab Node) (blank key : ℕ) (blanks : List ℕ) → IsChain s blanks →
-    blank ≡ link_to blanks → blank ≡ suc key → get s key ≡ None → ⊥
-chain_there s blank key [] h link some none = omega arith
-chain_there s blank key (k ∷ ks) h link some none =
-    let same : k ≡ key = omega arith in
-    let here = h.0.1 in let there = ap (get s) same in cc
+    omega (arith, chain_leads f.blanks (omega (arith, f.room_is)), f.blank_link)
 
 pub blank_there : (i : Inside) (key : ℕ) → IsInside i → i.blank ≡ suc key → get i.nodes key ≡ None → ⊥
 blank_there i key f some none =
-    chain_there i.nodes i.blank key f.blanks f.place.chained f.blank_link some none
+    let here = (subst (IsChain i.nodes) (blanks_are key f.blanks (sym f.blank_link ∙ some)).1 f.place.chained).0.1 in cc
 
 -- a blank node becomes a red leaf
-plants_by : (i : Inside) (u : Slab Node) (now : Zipper) (path : List Level) (blanks : List ℕ)
-    (key : ℕ) (row : Record) (n : Node) → Held i now nil path blanks → i.blank ≡ suc key →
-    get i.nodes key ≡ Some n →
+pub plants : (i : Inside) (u : Slab Node) (now : Zipper) (key : ℕ) (row : Record) (n : Node) →
+    IsInside i → show i ≡ now → now.tree ≡ tip → i.blank ≡ suc key → get i.nodes key ≡ Some n →
     u ≡ with_last_link (with_value i.nodes key (node_with true row 0 0)) i.steps i.depth i.blank →
     Moved (record i { nodes = u; tree = i.blank; blank = n.left; room = i.room - 1 })
     (record { tree = branch true tip row tip; path = now.path; room = now.room - 1 })
-plants_by i u now path [] key row n h some found is = let e = h.blank_link in absurd (omega arith)
-plants_by i u now path (k ∷ ks) key row n h some found is =
-    let same : k ≡ key = let e = h.blank_link in omega arith in
+plants i u now key row n f shown leaf some found is =
+    let h = held i now f shown in
+    let none : f.hand ≡ nil = nil_by f.hand (sym (ap (λ (z : Zipper). z.tree) h.shows) ∙ leaf) in
+    let b = blanks_are key f.blanks (sym f.blank_link ∙ some) in
+    let path = f.path in
+    let ks = b.0 in
     let g : Held i now nil path (key ∷ ks) =
-    subst (λ (e : ℕ). Held i now nil path (e ∷ ks)) same h in
+    subst (λ (t : Keyed). Held i now t path (key ∷ ks)) none (subst (Held i now f.hand path) b.1 h) in
     let p = g.place in
     let s = i.nodes in
     let new : Node = node_with true row 0 0 in
@@ -84,34 +83,17 @@ plants_by i u now path (k ∷ ks) key row n h some found is =
       }) g.shows;
     })
 
-pub plants : (i : Inside) (u : Slab Node) (now : Zipper) (key : ℕ) (row : Record) (n : Node) →
-    IsInside i → show i ≡ now → now.tree ≡ tip → i.blank ≡ suc key → get i.nodes key ≡ Some n →
-    u ≡ with_last_link (with_value i.nodes key (node_with true row 0 0)) i.steps i.depth i.blank →
-    Moved (record i { nodes = u; tree = i.blank; blank = n.left; room = i.room - 1 })
-    (record { tree = branch true tip row tip; path = now.path; room = now.room - 1 })
-plants i u now key row n f shows leaf some found is =
-    let h = held i now f shows in
-    let none : f.hand ≡ nil = nil_by f.hand (sym (ap (λ (z : Zipper). z.tree) h.shows) ∙ leaf) in
-    plants_by i u now f.path f.blanks key row n
-    (subst (λ (t : Keyed). Held i now t f.path f.blanks) none h) some found is
-
 -- a node becomes blank, and its only subtree takes its place
-thin_by : (i : Inside) (now : Zipper) (hand : Keyed) (path : List Level) (blanks : List ℕ) →
-    Held i now hand path blanks → HasOneSubtree now.tree → 0 < i.tree
-thin_by i now nil path blanks h thin = absurd (subst (λ (z : Zipper). HasOneSubtree z.tree) h.shows thin)
-thin_by i now (keyed red l k x r) path blanks h thin = let e = h.tree_link in omega arith
-
 pub thin_leads : (i : Inside) (now : Zipper) → IsInside i → show i ≡ now → HasOneSubtree now.tree → 0 < i.tree
-thin_leads i now f is thin = thin_by i now f.hand f.path f.blanks (held i now f is) thin
-
-room_by : (i : Inside) (now : Zipper) (hand : Keyed) (path : List Level) (blanks : List ℕ) →
-    Held i now hand path blanks → 0 < i.tree → i.room + 1 < 2 ^ 32
-room_by i now nil path blanks h some = let e = h.tree_link in absurd (omega arith)
-room_by i now (keyed red l k x r) path blanks h some =
-    omega (arith, h.room_is, h.place.counted, h.place.small)
+thin_leads i now f is thin = elim (cases_eq i.tree 0) [
+  | inl none ↦ absurd (subst HasOneSubtree (none_there i now f is none) thin)
+  | inr some ↦ omega arith
+]
 
 pub room_fits : (i : Inside) (now : Zipper) → IsInside i → show i ≡ now → 0 < i.tree → i.room + 1 < 2 ^ 32
-room_fits i now f is some = room_by i now f.hand f.path f.blanks (held i now f is) some
+room_fits i now f is some =
+    let h = (held_on i now Left (i.tree - 1) f is (omega arith)).held in
+    omega (arith, h.room_is, h.place.counted, h.place.small)
 
 -- with a subtree of the node, which both the tree and the links tell
 record IsOnly (red : Bool) (l : Keyed) (x : Record) (r : Keyed) (only : Keyed) : Type 0 where
@@ -147,24 +129,22 @@ only_by red (keyed hue a k y b) x r thin =
       },
     )
 
-takes_by : (i : Inside) (u : Slab Node) (now : Zipper) (hand : Keyed) (path : List Level)
-    (blanks : List ℕ) (key subtree : ℕ) (n : Node) → Held i now hand path blanks → HasOneSubtree now.tree →
-    i.tree ≡ suc key → get i.nodes key ≡ Some n →
+pub takes : (i : Inside) (u : Slab Node) (now : Zipper) (key subtree : ℕ) (n : Node) → IsInside i →
+    show i ≡ now → HasOneSubtree now.tree → i.tree ≡ suc key → get i.nodes key ≡ Some n →
     subtree ≡ (if n.left == 0 then n.right else n.left) →
     u ≡ with_last_link (with_value i.nodes key (record n { left = i.blank })) i.steps i.depth subtree →
     Moved (record i { nodes = u; tree = subtree; blank = i.tree; room = i.room + 1 })
     (record { tree = only_subtree now.tree; path = now.path; room = now.room + 1 })
-takes_by i u now nil path blanks key subtree n h thin some found sub is = let e = h.tree_link in
-    absurd (omega arith)
-takes_by i u now (keyed red l k x r) path blanks key subtree n h thin some found sub is =
-    let same : k ≡ key = let e = h.tree_link in omega arith in
-    let g : Held i now (keyed red l key x r) path blanks =
-    subst (λ (e : ℕ). Held i now (keyed red l e x r) path blanks) same h in
+takes i u now key subtree n f shown thin some found sub is =
+    let v = held_on i now Left key f shown some in
+    let g = v.held in
+    let path = f.path in
+    let blanks = f.blanks in
     let p = g.place in
     let s = i.nodes in
-    let pair = only_by red l x r (subst (λ (z : Zipper). HasOneSubtree z.tree) h.shows thin) in
+    let pair = only_by v.red v.near v.row v.far (subst (λ (z : Zipper). HasOneSubtree z.tree) g.shows thin) in
     let only = pair.0 in let o = pair.1 in
-    let node : node_of red l x r ≡ n = let there = p.hand_linked.0 in cc in
+    let node : node_of v.red v.near v.row v.far ≡ n = let there = p.hand_linked.0 in cc in
     let link : subtree ≡ link_of only = sub
     ∙ sym (ap (λ (m : Node). if m.left == 0 then m.right else m.left) node) ∙ o.link in
     let new : Node = record n { left = i.blank } in
@@ -207,16 +187,6 @@ takes_by i u now (keyed red l k x r) path blanks key subtree n h thin some found
           ∙ ap (λ (t : ColouredTree). record { tree = t; path = plain_path path; room = i.room + 1 })
           o.tree;
     })
-
-pub takes : (i : Inside) (u : Slab Node) (now : Zipper) (key subtree : ℕ) (n : Node) → IsInside i →
-    show i ≡ now → HasOneSubtree now.tree → i.tree ≡ suc key → get i.nodes key ≡ Some n →
-    subtree ≡ (if n.left == 0 then n.right else n.left) →
-    u ≡ with_last_link (with_value i.nodes key (record n { left = i.blank })) i.steps i.depth subtree →
-    Moved (record i { nodes = u; tree = subtree; blank = i.tree; room = i.room + 1 })
-    (record { tree = only_subtree now.tree; path = now.path; room = now.room + 1 })
-takes i u now key subtree n f shows thin some found sub is =
-    takes_by i u now f.hand f.path f.blanks key subtree n (held i now f shows) thin some found sub
-    is
 
 -- the slab has grown
 pub grows : (i : Inside) (u : Slab Node) (now : Zipper) → IsInside i → show i ≡ now →

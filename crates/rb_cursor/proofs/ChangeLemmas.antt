@@ -1,11 +1,11 @@
 -- Going up from the tree in hand, and writes of the node in hand.
-use Rattle.rb_cursor.proofs.Words.{◌≡◌, ℕ, suc, ◌-◌, ◌<◌, ◌≤◌, Bool, List, [], ◌∷◌, length, if◌then◌else◌, Some, None, inl, inr, refl, sym, ap, subst, ◌∙◌, arith, cases_eq, le-ltb, lt-ltb, Slab, get, with_value, Updates-with_value, Record, ColouredTree, branch, Node, Step, Side, Left, Right, Inside, Above, Zipper, sided, joined, plugged, closed_zipper, closed_to, IsNearest, Keyed, nil, keyed, Level, link_of, plain, plain_level, plain_path, node_with, node_of, sided_node, record_of, step_at, IsPlace}
+use Rattle.rb_cursor.proofs.Words.{◌≡◌, ℕ, suc, ◌-◌, ◌<◌, ◌≤◌, Bool, List, [], ◌∷◌, length, if◌then◌else◌, Some, None, inl, inr, refl, sym, ap, subst, ◌∙◌, arith, cases_eq, le-ltb, lt-ltb, Slab, get, with_value, Updates-with_value, Record, ColouredTree, branch, Node, Step, Side, Left, Right, Inside, Above, Zipper, sided, joined, plugged, closed_zipper, closed_to, IsNearest, Keyed, keyed, Level, link_of, plain, plain_level, plain_path, node_with, node_of, sided_node, record_of, step_at, IsPlace}
 use Rattle.rb_cursor.proofs.KeyedLemmas.{at_same}
 use Rattle.rb_cursor.proofs.KeyedLemmas.{linked_beside, path_beside, chain_beside}
 use Rattle.rb_cursor.proofs.KeyedLemmas.{steps_length}
 use Rattle.rb_cursor.proofs.KeyedLemmas.{plain_length, same_len}
 use Rattle.rb_cursor.proofs.SideLemmas.{read-sided, plain-joined}
-use Rattle.rb_cursor.proofs.HeldLemmas.{IsInside, show, Held, Moved, held, shut, back}
+use Rattle.rb_cursor.proofs.HeldLemmas.{IsInside, show, Held, Moved, held, held_on, shut, back}
 use Rattle.rb_cursor.proofs.HeldLemmas.{gone_back, without_step}
 
 -- the node in hand is written anew, with the same subtrees
@@ -17,33 +17,29 @@ pub record Rewritten (i : Inside) (now : Zipper) (key : ℕ) (red : Bool) (row :
   pub moved : Moved (record i { nodes = with_value i.nodes key (node_with red row n.left n.right) })
       (record now { tree = branch red left row right })
 
-rewrites_by : (i : Inside) (now : Zipper) (hand : Keyed) (path : List Level) (blanks : List ℕ)
-    (key : ℕ) (red : Bool) (row : Record) (n : Node) → Held i now hand path blanks →
-    i.tree ≡ suc key → get i.nodes key ≡ Some n → Rewritten i now key red row n
-rewrites_by i now nil path blanks key red row n h some found = let e = h.tree_link in
-    absurd (omega arith)
-rewrites_by i now (keyed hue l k x r) path blanks key red row n h some found =
-    let same : k ≡ key = let e = h.tree_link in omega arith in
-    let g : Held i now (keyed hue l key x r) path blanks =
-    subst (λ (e : ℕ). Held i now (keyed hue l e x r) path blanks) same h in
+pub rewrites : (i : Inside) (now : Zipper) (key : ℕ) (red : Bool) (row : Record) (n : Node) → IsInside i →
+    show i ≡ now → i.tree ≡ suc key → get i.nodes key ≡ Some n → Rewritten i now key red row n
+rewrites i now key red row n f is some found =
+    let v = held_on i now Left key f is some in
+    let g = v.held in
     let p = g.place in
     let here = p.hand_linked.0 in
-    let node : node_of hue l x r ≡ n = cc in
+    let node : node_of v.red v.near v.row v.far ≡ n = cc in
     let s = i.nodes in
-    let new : Node = node_of red l row r in
+    let new : Node = node_of red v.near row v.far in
     let w = Updates-with_value s key new (rw here refl) in
     let u = with_value s key new in
     let once = at_same key in
     let most = p.apart key in
-    let len = same_len s key (node_of hue l x r) new here in
-    let place : IsPlace u (keyed red l key row r) path blanks = record {
+    let len = same_len s key (node_of v.red v.near v.row v.far) new here in
+    let place : IsPlace u (keyed red v.near key row v.far) f.path f.blanks = record {
       hand_linked = (
         w.changed,
-        linked_beside s u key l w.others (omega arith) p.hand_linked.1,
-        linked_beside s u key r w.others (omega arith) p.hand_linked.2,
+        linked_beside s u key v.near w.others (omega arith) p.hand_linked.1,
+        linked_beside s u key v.far w.others (omega arith) p.hand_linked.2,
       );
-      path_linked = path_beside s u key (suc key) path w.others (omega arith) p.path_linked;
-      chained = chain_beside s u key blanks w.others (omega arith) p.chained;
+      path_linked = path_beside s u key (suc key) f.path w.others (omega arith) p.path_linked;
+      chained = chain_beside s u key f.blanks w.others (omega arith) p.chained;
       apart = p.apart;
       counted = omega (arith, p.counted);
       fits = omega (arith, p.fits);
@@ -51,29 +47,24 @@ rewrites_by i now (keyed hue l k x r) path blanks key red row n h some found =
     } in
     let nodes : u ≡ with_value s key (node_with red row n.left n.right) =
     ap (λ (z : Node). with_value s key (node_with red row z.left z.right)) node in
-    let now' : Zipper = record now { tree = branch red (plain l) row (plain r) } in
+    let now' : Zipper = record now { tree = branch red (plain v.near) row (plain v.far) } in
     let j : Inside = record i { nodes = with_value s key (node_with red row n.left n.right) } in
     record {
-      left = plain l;
-      right = plain r;
+      left = plain v.near;
+      right = plain v.far;
       was = ap (λ (z : Zipper). z.tree) g.shows
-          ∙ ap (λ (z : Node). branch z.red (plain l) (record_of z) (plain r)) node;
-      moved = shut j now' (keyed red l key row r) path blanks (record {
-        place = subst (λ (z : Slab Node). IsPlace z (keyed red l key row r) path blanks) nodes
+          ∙ ap (λ (z : Node). branch z.red (plain v.near) (record_of z) (plain v.far)) node;
+      moved = shut j now' (keyed red v.near key row v.far) f.path f.blanks (record {
+        place = subst (λ (z : Slab Node). IsPlace z (keyed red v.near key row v.far) f.path f.blanks) nodes
             place;
         tree_link = some;
         path_steps = g.path_steps;
         blank_link = g.blank_link;
         room_is = g.room_is;
         few = g.few;
-        shows = ap (λ (z : Zipper). record z { tree = branch red (plain l) row (plain r) }) g.shows;
+        shows = ap (λ (z : Zipper). record z { tree = branch red (plain v.near) row (plain v.far) }) g.shows;
       });
     }
-
-pub rewrites : (i : Inside) (now : Zipper) (key : ℕ) (red : Bool) (row : Record) (n : Node) → IsInside i →
-    show i ≡ now → i.tree ≡ suc key → get i.nodes key ≡ Some n → Rewritten i now key red row n
-rewrites i now key red row n f is some found =
-    rewrites_by i now f.hand f.path f.blanks key red row n (held i now f is) some found
 
 -- the nearest node above
 pub record LastIs (i : Inside) (now : Zipper) (hand : Keyed) (blanks : List ℕ) : Type 0 where
@@ -81,14 +72,12 @@ pub record LastIs (i : Inside) (now : Zipper) (hand : Keyed) (blanks : List ℕ)
   pub rest : List Level
   pub held : Held i now hand (level ∷ rest) blanks
 
-last_by : (i : Inside) (now : Zipper) (hand : Keyed) (path : List Level) (blanks : List ℕ) →
-    Held i now hand path blanks → 0 < i.depth → LastIs i now hand blanks
-last_by i now hand [] blanks h some = let e = h.path_steps in absurd (omega arith)
-last_by i now hand (a ∷ path) blanks h some = record { level = a; rest = path; held = h }
-
 pub last_is : (i : Inside) (now : Zipper) (f : IsInside i) → show i ≡ now → 0 < i.depth →
     LastIs i now f.hand f.blanks
-last_is i now f is some = last_by i now f.hand f.path f.blanks (held i now f is) some
+last_is i now f is some = elim f.path as (λ path. Held i now f.hand path f.blanks → LastIs i now f.hand f.blanks) [
+  | [] ↦ λ h. let e = h.path_steps in absurd (omega arith)
+  | a ∷ path ↦ λ h. record { level = a; rest = path; held = h }
+] (held i now f is)
 
 -- the last step, and the key of its node
 last_step : (i : Inside) (now : Zipper) (hand : Keyed) (a : Level) (path : List Level)
@@ -155,12 +144,10 @@ nearest_is i now f is some step key n at link found =
     }
 
 pub no_path : (i : Inside) (now : Zipper) → IsInside i → show i ≡ now → i.depth ≡ 0 → now.path ≡ []
-no_path i now f is none = none_by f.hand f.path f.blanks (held i now f is)
-  where
-    none_by : (hand : Keyed) (path : List Level) (blanks : List ℕ) → Held i now hand path blanks →
-        now.path ≡ []
-    none_by hand [] blanks h = ap (λ (z : Zipper). z.path) h.shows
-    none_by hand (a ∷ path) blanks h = let e = h.path_steps.0 in absurd (omega arith)
+no_path i now f is none = elim f.path as (λ path. Held i now f.hand path f.blanks → now.path ≡ []) [
+  | [] ↦ λ h. ap (λ (z : Zipper). z.path) h.shows
+  | a ∷ path ↦ λ h. let e = h.path_steps.0 in absurd (omega arith)
+] (held i now f is)
 
 -- one step up, in a colour
 repainted : (side : Side) (hue red : Bool) (t : ColouredTree) (x : Record) (o : ColouredTree) (hue' : Bool)
@@ -186,8 +173,8 @@ closes i now step key red n f is some at link found =
     let g = gone_back i now f.hand a t.rest f.blanks step.link t.held e in
     let mid : Zipper =
     record { tree = plain (back a f.hand); path = plain_path t.rest; room = i.room } in
-    let r = rewrites_by (without_step i step.link) mid (back a f.hand) t.rest f.blanks key red
-    (record_of n) n g link found in
+    let m = shut (without_step i step.link) mid (back a f.hand) t.rest f.blanks g in
+    let r = rewrites (without_step i step.link) mid key red (record_of n) n m.is m.shows link found in
     let tree = repainted a.side a.red red (plain f.hand) a.row (plain a.other) n.red r.left
     (record_of n) r.right (sym (plain-joined a.side a.red f.hand a.key a.row a.other) ∙ r.was) in
     record {

@@ -1,7 +1,7 @@
 -- What the fields of a cursor hold, and what the calls that go down and up make of it.
-use Rattle.rb_cursor.proofs.Words.{◌≡◌, ℕ, suc, ◌+◌, ◌-◌, ◌<◌, ◌≤◌, Bool, List, [], ◌∷◌, length, Option, Some, None, is_some, count_by, set, refl, sym, ap, subst, ◌∙◌, arith, get_or-set_same, set-get_or, Slab, get, slab_len, ContainsKey, with_value, Record, ColouredTree, tip, Node, Step, Side, Inside, Above, Zipper, sided, child_at, weight, OpensSide, Keyed, nil, keyed, Level, link_of, link_to, plain, plain_level, plain_path, sided_node, record_of, IsLinked, IsPath, tree_from, no_step, step_at, IsPlace, AreSteps, IsCursor, path_from}
+use Rattle.rb_cursor.proofs.Words.{◌≡◌, ℕ, suc, ◌+◌, ◌-◌, ◌<◌, ◌≤◌, Bool, List, [], ◌∷◌, length, Option, Some, None, is_some, count_by, set, refl, sym, ap, subst, ◌∙◌, arith, get_or-set_same, set-get_or, Slab, get, slab_len, ContainsKey, with_value, Record, ColouredTree, tip, Node, Step, Side, Left, Inside, Above, Zipper, sided, child_at, weight, OpensSide, Keyed, nil, Level, link_of, link_to, plain, plain_level, plain_path, sided_node, record_of, IsPath, tree_from, no_step, step_at, IsPlace, AreSteps, IsCursor, path_from}
 use Rattle.rb_cursor.specs.Places.{shown}
-use Rattle.rb_cursor.proofs.SideLemmas.{joined_keyed, seen, parted, linked-joined, read-sided}
+use Rattle.rb_cursor.proofs.SideLemmas.{joined_keyed, seen, nothing, parted, linked-joined, read-sided}
 use Rattle.rb_cursor.proofs.SideLemmas.{plain-joined, link-joined, uses-joined, size-joined}
 use Rattle.rb_cursor.proofs.SideLemmas.{weight-sided, child-sided}
 use Rattle.rb_cursor.proofs.KeyedLemmas.{tree_is}
@@ -110,13 +110,9 @@ pub room_is : (i : Inside) (now : Zipper) → IsInside i → show i ≡ now → 
 room_is i now f is = sym (ap (λ (z : Zipper). z.room) (held i now f is).shows)
 
 -- no link, no tree
-none_by : (i : Inside) (now : Zipper) (hand : Keyed) (path : List Level) (blanks : List ℕ) →
-    Held i now hand path blanks → i.tree ≡ 0 → now.tree ≡ tip
-none_by i now nil path blanks h none = ap (λ (z : Zipper). z.tree) h.shows
-none_by i now (keyed red l k x r) path blanks h none = let e = h.tree_link in absurd (omega arith)
-
 pub none_there : (i : Inside) (now : Zipper) → IsInside i → show i ≡ now → i.tree ≡ 0 → now.tree ≡ tip
-none_there i now f is none = none_by i now f.hand f.path f.blanks (held i now f is) none
+none_there i now f is none =
+    ap (λ (z : Zipper). z.tree) (held i now f is).shows ∙ ap plain (nothing f.hand (sym f.tree_link ∙ none))
 
 -- going down on a side
 abbrev pub with_step : Inside → Side → ℕ → Inside
@@ -283,16 +279,8 @@ gone_back i now hand a path blanks link h e = record {
 }
 
 -- the node in hand is there
-present_by : (s : Slab Node) (link key : ℕ) (t : Keyed) → IsLinked s t → link ≡ link_of t →
-    link ≡ suc key → ContainsKey s key
-present_by s link key nil h a some = absurd (omega arith)
-present_by s link key (keyed red l k x r) h a some =
-    let same : k ≡ key = omega arith in
-    rw (sym (ap (get s) same) ∙ h.0) refl
-
 pub top_present : (i : Inside) (key : ℕ) → IsInside i → i.tree ≡ suc key → ContainsKey i.nodes key
-top_present i key f some =
-    present_by i.nodes i.tree key f.hand f.place.hand_linked f.tree_link some
+top_present i key f some = rw (held_on i (show i) Left key f refl some).held.place.hand_linked.0 refl
 
 -- a value written back is no change
 pub same_value : (s : Slab Node) (key : ℕ) (n : Node) → get s key ≡ Some n →

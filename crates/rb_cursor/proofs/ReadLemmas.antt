@@ -1,7 +1,8 @@
 -- Reading a tree of records.
-use Rattle.rb_cursor.proofs.Words.{◌≡◌, ℕ, suc, ◌<◌, ◌≤◌, Some, refl, sym, ap, ◌∙◌, arith, Slab, get, ColouredTree, tip, branch, Zipper, weight, Node, Inside, Keyed, nil, keyed, link_of, plain, size, node_of, record_of, IsLinked, tree_from}
+use Rattle.rb_cursor.proofs.Words.{◌≡◌, ℕ, suc, ◌<◌, Some, sym, ap, subst, ◌∙◌, arith, Slab, get, ColouredTree, tip, branch, Zipper, weight, Left, Node, Inside, keyed, plain, size, node_of, record_of, IsLinked, tree_from}
 use Rattle.rb_cursor.specs.Links.{IsLink, read}
 use Rattle.rb_cursor.proofs.KeyedLemmas.{tree_is}
+use Rattle.rb_cursor.proofs.SideLemmas.{seen, nothing}
 use Rattle.rb_cursor.proofs.HeldLemmas.{IsInside, show, held}
 
 pub read_is : (s : Slab Node) (link : ℕ) (f : IsLink s link) → read s link ≡ plain f.tree
@@ -16,65 +17,37 @@ pub record ReadOpened (s : Slab Node) (n : Node) (now : ColouredTree) : Type 0 w
   pub left_less : weight (read s n.left) < weight now
   pub right_less : weight (read s n.right) < weight now
 
-opened_by : (s : Slab Node) (link key : ℕ) (n : Node) (now : ColouredTree) (t : Keyed) →
-    link ≡ link_of t → IsLinked s t → size t ≤ s.capacity → now ≡ plain t → link ≡ suc key →
-    get s key ≡ Some n → ReadOpened s n now
-opened_by s link key n now nil a h e is some found = absurd (omega arith)
-opened_by s link key n now (keyed red l k x r) a h e is some found =
-    let same : k ≡ key = omega arith in
-    let here : get s key ≡ Some (node_of red l x r) = ap (get s) (sym same) ∙ h.0 in
-    let node : node_of red l x r ≡ n = cc in
-    let left : IsLink s n.left =
-    record {
-      tree = l;
-      link_is = ap (λ (z : Node). z.left) (sym node);
-      linked = h.1;
-      fits =
-          omega arith;
-    } in
-    let right : IsLink s n.right =
-    record {
-      tree = r;
-      link_is = ap (λ (z : Node). z.right) (sym node);
-      linked = h.2;
-      fits =
-          omega arith;
-    } in
-    let left_is : read s n.left ≡ plain l = ap (read s) left.link_is
-    ∙ read_is s (link_of l)
-    (record { tree = l; link_is = refl; linked = h.1; fits = omega arith }) in
-    let right_is : read s n.right ≡ plain r = ap (read s) right.link_is
-    ∙ read_is s (link_of r)
-    (record { tree = r; link_is = refl; linked = h.2; fits = omega arith }) in
-    let was : now ≡ branch n.red (read s n.left) (record_of n) (read s n.right) =
-    is ∙ ap (λ (z : Node). branch z.red (plain l) (record_of z) (plain r)) node
-    ∙ sym (ap (λ (z : ColouredTree). branch n.red z (record_of n) (plain r)) left_is)
-    ∙ sym (ap (λ (z : ColouredTree). branch n.red (read s n.left) (record_of n) z) right_is) in
-    let heavy = ap weight was in
-    record {
-      left = left;
-      right = right;
-      was = was;
-      left_less = omega arith;
-      right_less =
-          omega arith;
-    }
-
 pub opens_read : (s : Slab Node) (link key : ℕ) (n : Node) (now : ColouredTree) → (f : IsLink s link) →
     read s link ≡ now → link ≡ suc key → get s key ≡ Some n → ReadOpened s n now
-opens_read s link key n now f is some found =
-    opened_by s link key n now f.tree f.link_is f.linked f.fits (sym is
-    ∙ read_is s link f) some found
-
-empty_by : (s : Slab Node) (link : ℕ) (now : ColouredTree) (t : Keyed) → link ≡ link_of t →
-    now ≡ plain t → link ≡ 0 → now ≡ tip
-empty_by s link now nil a is none = is
-empty_by s link now (keyed red l k x r) a is none = absurd (omega arith)
+opens_read s link key n now f shown some found =
+    let v = seen Left key f.tree (sym f.link_is ∙ some) in
+    let h = subst (IsLinked s) v.is f.linked in
+    let e = ap size v.is in
+    let is : now ≡ plain (keyed v.red v.near key v.row v.far) = sym shown ∙ read_is s link f ∙ ap plain v.is in
+    let node : node_of v.red v.near v.row v.far ≡ n = let here = h.0 in cc in
+    let left : IsLink s n.left = record {
+      tree = v.near;
+      link_is = ap (λ (z : Node). z.left) (sym node);
+      linked = h.1;
+      fits = omega (arith, e, f.fits);
+    } in
+    let right : IsLink s n.right = record {
+      tree = v.far;
+      link_is = ap (λ (z : Node). z.right) (sym node);
+      linked = h.2;
+      fits = omega (arith, e, f.fits);
+    } in
+    let was : now ≡ branch n.red (read s n.left) (record_of n) (read s n.right) =
+    is ∙ ap (λ (z : Node). branch z.red (plain v.near) (record_of z) (plain v.far)) node
+    ∙ sym (ap (λ (z : ColouredTree). branch n.red z (record_of n) (plain v.far)) (read_is s n.left left))
+    ∙ sym (ap (λ (z : ColouredTree). branch n.red (read s n.left) (record_of n) z) (read_is s n.right right)) in
+    let heavy = ap weight was in
+    record { left = left; right = right; was = was; left_less = omega arith; right_less = omega arith }
 
 pub empty_read : (s : Slab Node) (link : ℕ) (now : ColouredTree) → (f : IsLink s link) →
     read s link ≡ now → link ≡ 0 → now ≡ tip
 empty_read s link now f is none =
-    empty_by s link now f.tree f.link_is (sym is ∙ read_is s link f) none
+    sym is ∙ read_is s link f ∙ ap plain (nothing f.tree (sym f.link_is ∙ none))
 
 pub hand_read : (i : Inside) → IsInside i → IsLink i.nodes i.tree
 hand_read i f =

@@ -86,20 +86,17 @@ tightened s u steps depth old new hand path blanks is link p a =
           (let a = l.len in let c = p.small in omega arith);
     }
 
-leads_by : (steps : List Step) (depth : ℕ) (path : List Level) → AreSteps steps depth path →
-    LastLeadsOn steps depth
-leads_by steps depth [] a = subst (λ (d : ℕ). LastLeadsOn steps d) (sym a) tt
-leads_by steps depth (l ∷ path) a =
-    let some : 0 < (step_at steps (length path)).link = (let e = ap (λ (z : Step). z.link) a.1 in
-    omega arith) in
-    subst (λ (d : ℕ). LastLeadsOn steps d) (sym a.0) some
-
 -- the fields after a turn
 abbrev pub with_turn : Inside → Slab Node → ℕ → Inside
 with_turn i u link = record i { nodes = u; tree = link }
 
 pub leads_on : (i : Inside) → IsInside i → LastLeadsOn i.steps i.depth
-leads_on i f = leads_by i.steps i.depth f.path f.path_steps
+leads_on i f = elim f.path as (λ path. AreSteps i.steps i.depth path → LastLeadsOn i.steps i.depth) [
+  | [] ↦ λ a. subst (LastLeadsOn i.steps) (sym a) tt
+  | l ∷ path ↦ λ a.
+      let some : 0 < (step_at i.steps (length path)).link = omega (arith, ap (λ (z : Step). z.link) a.1) in
+      subst (LastLeadsOn i.steps) (sym a.0) some
+] f.path_steps
 
 -- the two nodes as they are written
 abbrev pub below_turned : Inside → Side → Bool → Node → Node
