@@ -78,8 +78,7 @@ plants i u now key row n f shown leaf some found is =
       shows = ap (λ (q : Zipper). record {
         tree = branch true tip row tip;
         path = q.path;
-        room =
-            q.room - 1;
+        room = q.room - 1;
       }) g.shows;
     })
 
@@ -112,8 +111,7 @@ only_by red nil x r thin = (
     link = refl;
     linked = λ s a b. b;
     size_is = omega arith;
-    uses_is =
-        λ i. omega arith;
+    uses_is = λ i. omega arith;
   },
 )
 only_by red (keyed hue a k y b) x r thin =
@@ -181,8 +179,7 @@ takes i u now key subtree n f shown thin some found sub is =
       shows = ap (λ (q : Zipper). record {
         tree = only_subtree q.tree;
         path = q.path;
-        room =
-            q.room + 1;
+        room = q.room + 1;
       }) g.shows
           ∙ ap (λ (t : ColouredTree). record { tree = t; path = plain_path path; room = i.room + 1 })
           o.tree;
@@ -223,8 +220,7 @@ blank_node link =
       node = 0;
       left = link;
       right = 0;
-      red =
-          false;
+      red = false;
     }
 
 -- one blank node more

@@ -131,15 +131,13 @@ nearest_is i now f is some step key n at link found =
             side = z;
             red = a.red;
             row = a.row;
-            other =
-                plain a.other;
+            other = plain a.other;
           } ∷ plain_path t.rest) (sym side)
           ∙ ap (λ (z : Bool). record {
             side = step.side;
             red = z;
             row = a.row;
-            other =
-                plain a.other;
+            other = plain a.other;
           } ∷ plain_path t.rest) parts.0;
     }
 
@@ -161,8 +159,7 @@ pub closes : (i : Inside) (now : Zipper) (step : Step) (key : ℕ) (red : Bool) 
     get i.nodes key ≡ Some n →
     Moved (record i {
       nodes = with_value i.nodes key (record n { red = red });
-      tree =
-          step.link;
+      tree = step.link;
       depth = i.depth - 1;
     }) (closed_zipper red now.tree now.path now.room)
 closes i now step key red n f is some at link found =

@@ -43,8 +43,7 @@ shown_is i hand path blanks p link steps =
     ap (λ (t : ColouredTree). record {
       tree = t;
       path = path_from i.nodes fuel i.steps i.depth;
-      room =
-          i.room;
+      room = i.room;
     }) a
     ∙ ap (λ (q : List Above). record { tree = plain hand; path = q; room = i.room }) b
 
@@ -139,8 +138,7 @@ steps_more i side key path red row other some steps within =
     let d = steps_length i.steps i.depth path steps in
     let last : step_at (set i.steps i.depth step) (length path) ≡ record {
       link = suc key;
-      side =
-          side;
+      side = side;
     } =
     ap (step_at (set i.steps i.depth step)) (sym d)
     ∙ get_or-set_same i.steps i.depth step no_step within
@@ -149,66 +147,6 @@ steps_more i side key path red row other some steps within =
     subst (λ (e : ℕ). AreSteps (set i.steps i.depth step) e path) d
     (steps_kept i.steps i.depth i.depth step path (omega arith) steps) in
     (omega arith, last, kept)
-
-opened_at : (i : Inside) (now : Zipper) (side : Side) (red : Bool) (t : Keyed) (key : ℕ) (x : Record)
-    (other : Keyed) (path : List Level) (blanks : List ℕ) (n : Node) →
-    Held i now (joined_keyed side red t key x other) path blanks → i.tree ≡ suc key →
-    get i.nodes key ≡ Some n → i.depth < 64 → i.depth < length i.steps → HasOpened i now side n
-opened_at i now side red t key x other path blanks n h some found room within =
-    let p = h.place in
-    let parts = parted i.nodes side red t key x other p.hand_linked in
-    let here = parts.here in
-    let node : sided_node side red x (link_of t) (link_of other) ≡ n = cc in
-    let read = read-sided side red x (link_of t) (link_of other) n node in
-    let a : Level = record { side = side; red = red; key = key; row = x; other = other } in
-    let j : Inside = with_step i side (child_at side n) in
-    let new : Zipper =
-    record { tree = plain t; path = plain_level a ∷ plain_path path; room = i.room } in
-    let m : Moved j new = shut j new t (a ∷ path) blanks (record {
-      place = record {
-        hand_linked = parts.near;
-        path_linked = (
-          parts.here,
-          parts.far,
-          subst (λ (l : ℕ). IsPath i.nodes l path) (link-joined side red t key x other)
-              p.path_linked,
-        );
-        chained = p.chained;
-        apart = λ e. (let all = p.apart e in
-            let here = uses-joined e side red t key x other in omega arith);
-        counted = omega (arith, p.counted, size-joined side red t key x other);
-        fits = p.fits;
-        small = p.small;
-      };
-      tree_link = sym (ap (child_at side) node)
-          ∙ child-sided side red x (link_of t) (link_of other);
-      path_steps = steps_more i side key path red x other some h.path_steps within;
-      blank_link = h.blank_link;
-      room_is = h.room_is;
-      few = omega arith;
-      shows = refl;
-    }) in
-    let e : now.tree ≡ sided side n.red (plain t) x (plain other) =
-    ap (λ (z : Zipper). z.tree) h.shows ∙ plain-joined side red t key x other
-    ∙ ap (λ (v : Bool). sided side v (plain t) x (plain other)) read.0 in
-    let heavy = ap weight e ∙ weight-sided side n.red (plain t) x (plain other) in
-    let light = ap (λ (z : Zipper). weight z.tree) m.shows in
-    let up : Bool → Above = λ v. record { side = side; red = v; row = x; other = plain other } in
-    record {
-      is = m.is;
-      opens = record {
-        row = x;
-        other = plain other;
-        node = sym (ap (λ (z : Record). z.node) read.1);
-        was = e ∙ sym (ap (λ (z : Zipper). sided side n.red z.tree x (plain other)) m.shows);
-        path = ap (λ (z : Zipper). z.path) m.shows
-            ∙ ap (λ (v : Bool). up v ∷ plain_path path) read.0
-            ∙ sym (ap (λ (z : Zipper). up n.red ∷ z.path) h.shows);
-        room = ap (λ (z : Zipper). z.room) m.shows ∙ sym (ap (λ (z : Zipper). z.room) h.shows);
-        less = omega arith;
-      };
-      row_is = read.1;
-    }
 
 -- the tree in hand seen from a side
 pub record HeldOn (i : Inside) (now : Zipper) (side : Side) (key : ℕ) (path : List Level)
@@ -236,8 +174,61 @@ pub opened : (i : Inside) (now : Zipper) (side : Side) (key : ℕ) (n : Node) �
     i.depth < length i.steps → HasOpened i now side n
 opened i now side key n f is some found room within =
     let v = held_on i now side key f is some in
-    opened_at i now side v.red v.near key v.row v.far f.path f.blanks n v.held some found room
-    within
+    let h = v.held in
+    let p = h.place in
+    let parts = parted i.nodes side v.red v.near key v.row v.far p.hand_linked in
+    let here = parts.here in
+    let node : sided_node side v.red v.row (link_of v.near) (link_of v.far) ≡ n = cc in
+    let read = read-sided side v.red v.row (link_of v.near) (link_of v.far) n node in
+    let a : Level = record { side = side; red = v.red; key = key; row = v.row; other = v.far } in
+    let j : Inside = with_step i side (child_at side n) in
+    let new : Zipper =
+    record { tree = plain v.near; path = plain_level a ∷ plain_path f.path; room = i.room } in
+    let m : Moved j new = shut j new v.near (a ∷ f.path) f.blanks (record {
+      place = record {
+        hand_linked = parts.near;
+        path_linked = (
+          parts.here,
+          parts.far,
+          subst (λ (l : ℕ). IsPath i.nodes l f.path) (link-joined side v.red v.near key v.row v.far)
+              p.path_linked,
+        );
+        chained = p.chained;
+        apart = λ e. (let all = p.apart e in
+            let here = uses-joined e side v.red v.near key v.row v.far in omega arith);
+        counted = omega (arith, p.counted, size-joined side v.red v.near key v.row v.far);
+        fits = p.fits;
+        small = p.small;
+      };
+      tree_link = sym (ap (child_at side) node)
+          ∙ child-sided side v.red v.row (link_of v.near) (link_of v.far);
+      path_steps = steps_more i side key f.path v.red v.row v.far some h.path_steps within;
+      blank_link = h.blank_link;
+      room_is = h.room_is;
+      few = omega arith;
+      shows = refl;
+    }) in
+    let e : now.tree ≡ sided side n.red (plain v.near) v.row (plain v.far) =
+    ap (λ (z : Zipper). z.tree) h.shows ∙ plain-joined side v.red v.near key v.row v.far
+    ∙ ap (λ (b : Bool). sided side b (plain v.near) v.row (plain v.far)) read.0 in
+    let heavy = ap weight e ∙ weight-sided side n.red (plain v.near) v.row (plain v.far) in
+    let light = ap (λ (z : Zipper). weight z.tree) m.shows in
+    let up : Bool → Above = λ b. record { side = side; red = b; row = v.row; other = plain v.far } in
+    record {
+      is = m.is;
+      opens = record {
+        row = v.row;
+        other = plain v.far;
+        node = sym (ap (λ (z : Record). z.node) read.1);
+        was = e ∙ sym (ap (λ (z : Zipper). sided side n.red z.tree v.row (plain v.far)) m.shows);
+        path = ap (λ (z : Zipper). z.path) m.shows
+            ∙ ap (λ (b : Bool). up b ∷ plain_path f.path) read.0
+            ∙ sym (ap (λ (z : Zipper). up n.red ∷ z.path) h.shows);
+        room = ap (λ (z : Zipper). z.room) m.shows ∙ sym (ap (λ (z : Zipper). z.room) h.shows);
+        less = omega arith;
+      };
+      row_is = read.1;
+    }
 
 -- going up with nothing written
 abbrev pub back : Level → Keyed → Keyed

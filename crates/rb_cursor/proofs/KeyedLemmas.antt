@@ -102,8 +102,7 @@ above_by : (s : Slab Node) (side : Side) (red : Bool) (key : ℕ) (row : Record)
     above_with s fuel side (node_or (get s key)) ≡ record {
       side = side;
       red = red;
-      row =
-          row;
+      row = row;
       other = plain other;
     }
 above_by s Left red key row other link fuel h o e =

@@ -55,8 +55,7 @@ hand_read i f =
       tree = f.hand;
       link_is = f.tree_link;
       linked = f.place.hand_linked;
-      fits =
-          omega (arith, f.place.counted, f.place.fits);
+      fits = omega (arith, f.place.counted, f.place.fits);
     }
 
 pub hand_is : (i : Inside) (now : Zipper) → IsInside i → show i ≡ now → read i.nodes i.tree ≡ now.tree

@@ -36,8 +36,7 @@ leads s u steps depth old new [] is h a most =
     record {
       path_linked = tt;
       len = ap slab_len e;
-      capacity =
-          ap (λ (z : Slab Node). z.capacity) e;
+      capacity = ap (λ (z : Slab Node). z.capacity) e;
       beside = λ k none. ap (λ (z : Slab Node). get z k) e;
     }
 leads s u steps depth old new (a ∷ path) is h at most =
@@ -82,8 +81,7 @@ tightened s u steps depth old new hand path blanks is link p a =
       apart = p.apart;
       counted = p.counted ∙ sym l.len;
       fits = (let a = l.len in let b = l.capacity in let c = p.fits in omega arith);
-      small =
-          (let a = l.len in let c = p.small in omega arith);
+      small = (let a = l.len in let c = p.small in omega arith);
     }
 
 -- the fields after a turn

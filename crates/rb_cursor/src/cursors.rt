@@ -189,6 +189,7 @@ impl Cursor {
 
     /// Goes up to the nearest node above, which keeps its colour.
     #[inline(always)]
+    #[tactic(auto, using(crate::proofs::StepLemmas::risen_by))]
     pub(crate) fn rise(&mut self)
         ensures { self.new ≡ risen self.old }
     {
@@ -211,6 +212,7 @@ impl Cursor {
 
     /// Goes all the way up, and leaves the colours as they are.
     #[inline(always)]
+    #[tactic(auto, using(crate::proofs::ChangeLemmas::closed_to_none))]
     pub fn close_all(&mut self)
         ensures { self.new ≡ all_closed self.old }
     {
@@ -324,6 +326,7 @@ impl Cursor {
 
     /// Puts a red node in hand, where there is none.
     #[inline]
+    #[tactic(auto, using(crate::proofs::TurnLemmas::leads_on))]
     pub fn plant(&mut self, row: Record)
         requires leaf { self.old.tree ≡ tip }
         requires room { 0 < self.old.room }
@@ -345,6 +348,7 @@ impl Cursor {
     }
 
     /// Takes the node in hand out, which has one subtree at most: that subtree is in hand then.
+    #[tactic(auto, using(crate::proofs::TurnLemmas::leads_on))]
     pub fn take_top(&mut self)
         requires { HasOneSubtree self.old.tree }
         ensures { self.new ≡ top_taken self.old }
@@ -362,6 +366,7 @@ impl Cursor {
     /// Puts the child on the other side of the node in hand in its place, and the node on this side
     /// of it. The child gets the first colour, the node the second.
     #[inline(always)]
+    #[tactic(auto, using(crate::proofs::TurnLemmas::leads_on))]
     pub fn turn(&mut self, side: Side, child_red: bool, node_red: bool)
         ensures { self.new ≡ altered (turned side child_red node_red) self.old }
     {

@@ -1,7 +1,6 @@
 use Rattle.rb_cursor.proofs.Words.{◌-◌, arith, planted, IsSome-from_ne}
 use Rattle.rb_cursor.proofs.HeldLemmas.{Moved, room_is}
 use Rattle.rb_cursor.proofs.BlankLemmas.{blank_leads, blank_there, plants}
-use Rattle.rb_cursor.proofs.TurnLemmas.{leads_on}
 use Rattle.rb_cursor.proofs.cursors.Cursor.plant.Goals as goal
 
 pub overflow_sub-link : goal.overflow_sub-link
@@ -22,9 +21,6 @@ overflow_sub-self c =
       room_is c.self.inside c.args.self.now c.self.invariant c.self.view_is,
       c.requires.room,
     )
-
-pub lead-requires-clause-leads : goal.lead-requires-clause-leads
-lead-requires-clause-leads c = leads_on c.self.inside c.self.invariant
 
 there : (c : goal.After-lead) →
     Moved (record c.self.inside {

@@ -1,7 +1,6 @@
 use Rattle.rb_cursor.proofs.Words.{◌+◌, ◌-◌, arith, top_taken}
 use Rattle.rb_cursor.proofs.HeldLemmas.{Moved, top_present}
 use Rattle.rb_cursor.proofs.BlankLemmas.{thin_leads, room_fits, takes}
-use Rattle.rb_cursor.proofs.TurnLemmas.{leads_on}
 use Rattle.rb_cursor.proofs.cursors.Cursor.take_top.Goals as goal
 
 pub overflow_sub-link : goal.overflow_sub-link
@@ -21,9 +20,6 @@ overflow_add-self c =
       room_fits c.self.inside c.args.self.now c.self.invariant c.self.view_is
           (thin_leads c.self.inside c.args.self.now c.self.invariant c.self.view_is c.requires),
     )
-
-pub lead-requires-clause-leads : goal.lead-requires-clause-leads
-lead-requires-clause-leads c = leads_on c.self.inside c.self.invariant
 
 there : (c : goal.After-lead) →
     Moved (record c.self.inside {

@@ -1,5 +1,5 @@
 use Rattle.rb_cursor.proofs.Words.{◌-◌, ℕ, sym, ap, ◌∙◌, arith, Side, Node, opposite, child_at, with_link}
-use Rattle.rb_cursor.proofs.TurnLemmas.{with_turn, turned_to, turns, lone, none_turned, leads_on}
+use Rattle.rb_cursor.proofs.TurnLemmas.{with_turn, turned_to, turns, lone, none_turned}
 use Rattle.rb_cursor.proofs.HeldLemmas.{Moved, none_there}
 use Rattle.rb_cursor.proofs.cursors.Cursor.turn.Goals as goal
 
@@ -16,9 +16,6 @@ returns-then-child-eq0 c =
     (c.child-child.ensures
     ∙ ap (λ (s : Side). child_at s c.in-Some.node.now) c.opposite-other.ensures)
     c.if-child-eq0.true
-
-pub lead-requires-clause-leads : goal.lead-requires-clause-leads
-lead-requires-clause-leads c = leads_on c.self.inside c.self.invariant
 
 there : (c : goal.After-lead) →
     Moved (with_turn c.self.inside c.lead.new.nodes c.child-child.result)
