@@ -7,7 +7,7 @@ use Rattle.texts.specs.declared.counted.Counted.{Counted}
 use Rattle.logs.specs.declared.annotation.Findings.{Findings}
 use Rattle.logs.specs.declared.annotation.LogFault.TheVariants as fault
 use Rattle.logs.specs.declared.log_names.LogNames.{LogNames}
-use Rattle.logs.proofs.LineLemmas.{held_then, lines_then, put_begins, then_passes}
+use Rattle.logs.proofs.LineLemmas.{held_then, lines_then, passes_nothing, put_begins, then_passes}
 
 -- With these bytes an annotator came here from one of the beginning of a log.
 pub record Came (answer : Answering) (a : Annotator) (written read : List ℕ) : Type 0 where
@@ -16,29 +16,27 @@ pub record Came (answer : Answering) (a : Annotator) (written read : List ℕ) :
   pub held : held_in first ≡ first_held
   pub passes : Passes answer first a read written
 
-module _ (answer : Answering) where
-  came_more : (a a' : Annotator) (written read bytes text : List ℕ) → Came answer a written read → Passes answer a a' bytes text → Came answer a' (written ++ text) (read ++ bytes)
-  came_more a a' written read bytes text came more = record {
+begins_less : (answer : Answering) (written part rest text read : List ℕ) → text ≡ part ++ rest → Begins answer (written ++ text) read → Begins answer (written ++ part) read
+begins_less answer written part rest text read parts begins = λ more.
+    let (behind, is) = begins more in (rest ++ behind, is ∙ simp (parts, append_assoc))
+
+begins_more : (answer : Answering) (written read bytes : List ℕ) → Begins answer written read → Begins answer written (read ++ bytes)
+begins_more answer written read bytes begins = λ more.
+    let (behind, is) = begins (bytes ++ more) in (behind, rw (append_assoc read bytes more) is)
+
+module _ {answer : Answering} where
+  came_more : {a : Annotator} {written read : List ℕ} (a' : Annotator) (bytes text : List ℕ) → Came answer a written read → Passes answer a a' bytes text → Came answer a' (written ++ text) (read ++ bytes)
+  came_more {a = a} {written = written} {read = read} a' bytes text came more = record {
     first = came.first;
     is_open = came.is_open;
     held = came.held;
     passes = then_passes answer came.first a a' read bytes written text came.passes more;
   }
 
-  begins_less : (written part rest text read : List ℕ) → text ≡ part ++ rest → Begins answer (written ++ text) read → Begins answer (written ++ part) read
-  begins_less written part rest text read parts begins = λ more.
-      let (behind, is) = begins more in
-      (rest ++ behind, is ∙ ap (λ t. (written ++ t) ++ behind) parts ∙ ap (λ l. l ++ behind) (sym (append_assoc written part rest)) ∙ append_assoc (written ++ part) rest behind)
-
-  begins_more : (written read bytes : List ℕ) → Begins answer written read → Begins answer written (read ++ bytes)
-  begins_more written read bytes begins = λ more.
-      let (behind, is) = begins (bytes ++ more) in
-      (behind, ap (annotated answer) (append_assoc read bytes more) ∙ is)
-
-  up_to_date : (a : Annotator) (written read : List ℕ) → Came answer a written read → IsUpToDate answer written read
-  up_to_date a written read came =
+  up_to_date : {a : Annotator} {written read : List ℕ} → Came answer a written read → IsUpToDate answer written read
+  up_to_date {written = written} came =
       let p = came.passes [] came.is_open in
-      let is_written : written ≡ annotated answer p.passed ++ put_of p.line' = p.put ∙ ap (λ h. annotated_lines answer h (lines p.passed) ++ put_of p.line') came.held in
+      let is_written : written ≡ annotated answer p.passed ++ put_of p.line' = rw came.held at p.put in
       record {
         passed = p.passed;
         line = p.line';
@@ -47,8 +45,7 @@ module _ (answer : Answering) where
         no_end = p.is_open.no_end;
         is_written = is_written;
         begins = λ more.
-            let behind_held = held_over answer first_held (lines p.passed) in
-            let (behind, is) = put_begins answer behind_held p.line' more p.is_open.no_end in (
+            let (behind, is) = put_begins answer (held_over answer first_held (lines p.passed)) p.line' more p.is_open.no_end in (
               behind,
               ap (λ l. annotated answer (l ++ more)) p.parts ∙ ap (annotated answer) (append_assoc p.passed p.line' more)
                   ∙ ap (annotated_lines answer first_held) (p.whole (p.line' ++ more)) ∙ lines_then answer first_held (lines p.passed) (lines (p.line' ++ more))
@@ -57,13 +54,10 @@ module _ (answer : Answering) where
             );
       }
 
-  begins_at : (a : Annotator) (written read : List ℕ) → Came answer a written read → Begins answer written read
-  begins_at a written read came = (up_to_date a written read came).begins
-
   -- the log is there as a whole
-  whole_at : (a : Annotator) (written read text : List ℕ) (names : LogNames) → Came answer a written read → Ends answer a names text
+  whole_at : {a : Annotator} {written read : List ℕ} (text : List ℕ) (names : LogNames) → Came answer a written read → Ends answer a names text
       → (written ++ text ≡ annotated answer read) × (names ≡ (held_over answer first_held (lines read)).names)
-  whole_at a written read text names came ends =
+  whole_at {a = a} {read = read} text names came ends =
       let p = came.passes [] came.is_open in
       let e = ends p.line' p.is_open in
       let held : held_in a ≡ held_over answer first_held (lines p.passed) = p.held ∙ ap (λ h. held_over answer h (lines p.passed)) came.held in
@@ -78,9 +72,9 @@ module _ (answer : Answering) where
 
 -- the first two bytes, of what was read and of bytes more
 pub head_more : (head bytes read : List ℕ) → head ≡ take 2 read → head ++ take (2 - length head) bytes ≡ take 2 (read ++ bytes)
-head_more head bytes [] is = ap (λ h. h ++ take (2 - length h) bytes) is
-head_more head bytes (a ∷ []) is = ap (λ h. h ++ take (2 - length h) bytes) is
-head_more head bytes (a ∷ b ∷ read) is = ap (λ h. h ++ take (2 - length h) bytes) is
+head_more head bytes [] is = rw is
+head_more head bytes (a ∷ []) is = rw is
+head_more head bytes (a ∷ b ∷ read) is = rw is
 
 -- So much was read and written, and nothing failed. Each turn read a byte at least.
 pub record IsOn {R W : Type 0} (remaining : R → Option (List ℕ)) (contents : W → Option (List ℕ)) (answer : Answering) (r r' : Counted R) (w w' : Output W) (a : Annotator) (head : List ℕ) (turns : ℕ) : Type 0 where
@@ -95,9 +89,9 @@ pub record IsOn {R W : Type 0} (remaining : R → Option (List ℕ)) (contents :
   pub came : Came answer a written read
   pub head_is : head ≡ take 2 read
 
-module _ {R W : Type 0} (remaining : R → Option (List ℕ)) (contents : W → Option (List ℕ)) (answer : Answering) (r : Counted R) (w : Output W) where
-  pub begun : (a : Annotator) (h : List ℕ) → held_in a ≡ first_held → IsOpen a [] → Passes answer a a [] [] → h ≡ [] → IsOn remaining contents answer r r w w a h 0
-  begun a h held is_open passes none = record {
+module _ {R W : Type 0} {remaining : R → Option (List ℕ)} {contents : W → Option (List ℕ)} {answer : Answering} {r : Counted R} {w : Output W} where
+  pub begun : {a : Annotator} {h : List ℕ} → held_in a ≡ first_held → IsOpen a [] → h ≡ [] → IsOn remaining contents answer r r w w a h 0
+  begun {a = a} held is_open none = record {
     read_all = refl;
     written_all = refl;
     none_back = inl refl;
@@ -106,120 +100,118 @@ module _ {R W : Type 0} (remaining : R → Option (List ℕ)) (contents : W → 
     many = omega arith;
     consumed = Consumes-nil _;
     appended = Appends-nil _;
-    came = record { first = a; is_open = is_open; held = held; passes = passes };
+    came = record { first = a; is_open = is_open; held = held; passes = passes_nothing answer a };
     head_is = none;
   }
 
-  -- a block more
-  pub one_more : (r' r'' : Counted R) (w' w'' : Output W) (a a' : Annotator) (h h' : List ℕ) (n : ℕ) (bytes : List ℕ) (u : Unit {0}) → 0 < length bytes → ((read : List ℕ) → h ≡ take 2 read → h' ≡ take 2 (read ++ bytes)) → IsOn remaining contents answer r r' w w' a h n → NoneFailed r' r'' → Consumes (remaining (device_of r')) (remaining (device_of r'')) bytes
-      → Puts contents (λ (u : Unit {0}). Passes answer a a' bytes) w' w'' (Ok u) → IsOn remaining contents answer r r'' w w'' a' h' (n + 1)
-  one_more r' r'' w' w'' a a' h h' n bytes u some keeps on all took (text, put, passes) = record {
-    read_all = all ∙ on.read_all;
-    written_all = put.1 ∙ sym put.0 ∙ on.written_all;
-    none_back = inr put.3;
-    read = on.read ++ bytes;
-    written = on.written ++ text;
-    many = omega (arith, on.many, some, length-append on.read bytes);
-    consumed = Consumes-trans _ _ _ on.read bytes on.consumed took;
-    appended = Appends-trans _ _ _ on.written text on.appended put.2;
-    came = came_more answer a a' on.written on.read bytes text on.came passes;
-    head_is = keeps on.read on.head_is;
-  }
+  module _ {r' : Counted R} {w' : Output W} {a : Annotator} {h : List ℕ} {n : ℕ} (on : IsOn remaining contents answer r r' w w' a h n) where
+    -- no block is left to be read
+    pub too_long : 2 ^ 64 - 1 ≤ n → Annotates remaining contents answer r r' w w' (Err fault.TooLong)
+    too_long last =
+        (on.read_all, (on.written_all, on.none_back, (on.read, on.written, on.consumed, on.appended, (up_to_date on.came, omega (arith, on.many, last)))))
 
-  -- a read failed
-  pub not_read : (r' r'' : Counted R) (w' : Output W) (a : Annotator) (h : List ℕ) (n : ℕ) → IsOn remaining contents answer r r' w w' a h n → Rose (failures_of r') (failures_of r'') → Keeps (remaining (device_of r')) (remaining (device_of r''))
-      → Annotates remaining contents answer r r'' w w' (Err fault.Read)
-  not_read r' r'' w' a h n on rose keeps = (
-    subst (λ n. Rose n (failures_of r'')) on.read_all rose,
-    (
-      on.written_all,
-      on.none_back,
-      (on.read, on.written, Consumes-kept _ _ _ on.read on.consumed keeps, on.appended, up_to_date answer a on.written on.read on.came),
-    ),
-  )
-
-  -- no block is left to be read
-  pub too_long : (r' : Counted R) (w' : Output W) (a : Annotator) (h : List ℕ) (n : ℕ) → IsOn remaining contents answer r r' w w' a h n → 2 ^ 64 - 1 ≤ n → Annotates remaining contents answer r r' w w' (Err fault.TooLong)
-  too_long r' w' a h n on last =
-      (on.read_all, (on.written_all, on.none_back, (on.read, on.written, on.consumed, on.appended, (up_to_date answer a on.written on.read on.came, omega (arith, on.many, last)))))
-
-  -- nothing more was put
-  pub not_more : (r' r'' : Counted R) (w' w'' : Output W) (a : Annotator) (h : List ℕ) (n : ℕ) (bytes : List ℕ) → IsOn remaining contents answer r r' w w' a h n → NoneFailed r' r'' → Consumes (remaining (device_of r')) (remaining (device_of r'')) bytes → w'' ≡ w'
-      → Annotates remaining contents answer r r'' w w'' (Err fault.OutOfMemory)
-  not_more r' r'' w' w'' a h n bytes on all took same =
-      subst (λ x. Annotates remaining contents answer r r'' w x (Err fault.OutOfMemory)) (sym same) (
-        all ∙ on.read_all,
+    module _ (r'' : Counted R) where
+      -- a read failed
+      pub not_read : Rose (failures_of r') (failures_of r'') → Keeps (remaining (device_of r')) (remaining (device_of r'')) → Annotates remaining contents answer r r'' w w' (Err fault.Read)
+      not_read rose keeps = (
+        subst (λ n. Rose n (failures_of r'')) on.read_all rose,
         (
           on.written_all,
           on.none_back,
+          (on.read, on.written, Consumes-kept _ _ _ on.read on.consumed keeps, on.appended, up_to_date on.came),
+        ),
+      )
+
+      module _ (w'' : Output W) (bytes : List ℕ) (all : NoneFailed r' r'') (took : Consumes (remaining (device_of r')) (remaining (device_of r'')) bytes) where
+        -- a block more
+        pub one_more : {a' : Annotator} {h' : List ℕ} (u : Unit {0}) → 0 < length bytes → ((read : List ℕ) → h ≡ take 2 read → h' ≡ take 2 (read ++ bytes))
+            → Puts contents (λ (u : Unit {0}). Passes answer a a' bytes) w' w'' (Ok u) → IsOn remaining contents answer r r'' w w'' a' h' (n + 1)
+        one_more {a' = a'} u some keeps (text, put, passes) = record {
+          read_all = all ∙ on.read_all;
+          written_all = put.1 ∙ sym put.0 ∙ on.written_all;
+          none_back = inr put.3;
+          read = on.read ++ bytes;
+          written = on.written ++ text;
+          many = omega (arith, on.many, some, length-append on.read bytes);
+          consumed = Consumes-trans _ _ _ on.read bytes on.consumed took;
+          appended = Appends-trans _ _ _ on.written text on.appended put.2;
+          came = came_more a' bytes text on.came passes;
+          head_is = keeps on.read on.head_is;
+        }
+
+        -- nothing more was put
+        pub not_more : w'' ≡ w' → Annotates remaining contents answer r r'' w w'' (Err fault.OutOfMemory)
+        not_more same =
+            subst (λ x. Annotates remaining contents answer r r'' w x (Err fault.OutOfMemory)) (sym same) (
+              all ∙ on.read_all,
+              (
+                on.written_all,
+                on.none_back,
+                (
+                  on.read ++ bytes,
+                  on.written,
+                  Consumes-trans _ _ _ on.read bytes on.consumed took,
+                  on.appended,
+                  begins_more answer on.written on.read bytes (up_to_date on.came).begins,
+                ),
+              ),
+            )
+
+        -- a beginning of the block was put
+        pub stopped : {a' : Annotator} (u : Unit {0}) (text : List ℕ) → WrotePart contents w' w'' text → Passes answer a a' bytes text → IsCutOff remaining contents answer r r'' w w''
+        stopped {a' = a'} u text (failed, part, lost, parts, put) passes = (
+          all ∙ on.read_all,
+          failed,
           (
             on.read ++ bytes,
-            on.written,
+            on.written ++ part,
             Consumes-trans _ _ _ on.read bytes on.consumed took,
-            on.appended,
-            begins_more answer on.written on.read bytes (begins_at answer a on.written on.read on.came),
+            Appends-trans _ _ _ on.written part on.appended put,
+            inl (begins_less answer on.written part lost text (on.read ++ bytes) parts (up_to_date (came_more a' bytes text on.came passes)).begins),
           ),
-        ),
-      )
+        )
 
-  -- a beginning of the block was put
-  pub stopped : (r' r'' : Counted R) (w' w'' : Output W) (a a' : Annotator) (h : List ℕ) (n : ℕ) (bytes : List ℕ) (u : Unit {0}) (text : List ℕ) → IsOn remaining contents answer r r' w w' a h n → NoneFailed r' r'' → Consumes (remaining (device_of r')) (remaining (device_of r'')) bytes
-      → WrotePart contents w' w'' text → Passes answer a a' bytes text → IsCutOff remaining contents answer r r'' w w''
-  stopped r' r'' w' w'' a a' h n bytes u text on all took (failed, part, lost, parts, put) passes = (
-    all ∙ on.read_all,
-    failed,
-    (
-      on.read ++ bytes,
-      on.written ++ part,
-      Consumes-trans _ _ _ on.read bytes on.consumed took,
-      Appends-trans _ _ _ on.written part on.appended put,
-      inl (begins_less answer on.written part lost text (on.read ++ bytes) parts
-          (begins_at answer a' (on.written ++ text) (on.read ++ bytes) (came_more answer a a' on.written on.read bytes text on.came passes))),
-    ),
-  )
+        -- what was to be put for bytes could not be
+        pub not_put : {X : Type 0} (P : X → List ℕ → Type 0) (e : LogFault) → ((x : X) (text : List ℕ) → WrotePart contents w' w'' text → P x text → IsCutOff remaining contents answer r r'' w w'')
+            → Puts contents P w' w'' (Err e) → Annotates remaining contents answer r r'' w w'' (Err e)
+        not_put P fault.OutOfMemory cut puts = not_more puts
+        not_put P fault.Write cut ((text, x, put, holds), error) = (cut x text put holds, error)
+        not_put P fault.Closed cut ((text, x, put, holds), error) = (cut x text put holds, error)
+        not_put P fault.Read cut puts = absurd puts.1
+        not_put P fault.TooLong cut puts = absurd puts.1
 
-  -- what was to be put for bytes could not be
-  pub not_put : {X : Type 0} (P : X → List ℕ → Type 0) (r' r'' : Counted R) (w' w'' : Output W) (a : Annotator) (h : List ℕ) (n : ℕ) (bytes : List ℕ) (e : LogFault) → IsOn remaining contents answer r r' w w' a h n → NoneFailed r' r'' → Consumes (remaining (device_of r')) (remaining (device_of r'')) bytes
-      → ((x : X) (text : List ℕ) → WrotePart contents w' w'' text → P x text → IsCutOff remaining contents answer r r'' w w'') → Puts contents P w' w'' (Err e) → Annotates remaining contents answer r r'' w w'' (Err e)
-  not_put P r' r'' w' w'' a h n bytes fault.OutOfMemory on all took cut puts = not_more r' r'' w' w'' a h n bytes on all took puts
-  not_put P r' r'' w' w'' a h n bytes fault.Write on all took cut ((text, x, put, holds), error) = (cut x text put holds, error)
-  not_put P r' r'' w' w'' a h n bytes fault.Closed on all took cut ((text, x, put, holds), error) = (cut x text put holds, error)
-  not_put P r' r'' w' w'' a h n bytes fault.Read on all took cut puts = absurd puts.1
-  not_put P r' r'' w' w'' a h n bytes fault.TooLong on all took cut puts = absurd puts.1
+      module _ (w'' : Output W) (all : NoneFailed r' r'') (took : Consumes (remaining (device_of r')) (remaining (device_of r'')) []) (at_end : IsAtEnd (remaining (device_of r''))) where
+        -- the log is at its end, and a beginning of its last line was put
+        pub cut_off : (names : LogNames) (text : List ℕ) → WrotePart contents w' w'' text → Ends answer a names text → IsCutOff remaining contents answer r r'' w w''
+        cut_off names text (failed, part, lost, parts, put) ends = (
+          all ∙ on.read_all,
+          failed,
+          (
+            on.read ++ [],
+            on.written ++ part,
+            Consumes-trans _ _ _ on.read [] on.consumed took,
+            Appends-trans _ _ _ on.written part on.appended put,
+            inr (
+              at_end,
+              lost,
+              ap (annotated answer) (append-nil on.read) ∙ sym (whole_at text names on.came ends).0 ∙ ap (λ l. on.written ++ l) parts ∙ sym (append_assoc on.written part lost),
+            ),
+          ),
+        )
 
-  -- the log is at its end, and a beginning of its last line was put
-  pub cut_off : (r' r'' : Counted R) (w' w'' : Output W) (a : Annotator) (h : List ℕ) (n : ℕ) (names : LogNames) (text : List ℕ) → IsOn remaining contents answer r r' w w' a h n → NoneFailed r' r'' → Consumes (remaining (device_of r')) (remaining (device_of r'')) [] → IsAtEnd (remaining (device_of r''))
-      → WrotePart contents w' w'' text → Ends answer a names text → IsCutOff remaining contents answer r r'' w w''
-  cut_off r' r'' w' w'' a h n names text on all took at_end (failed, part, lost, parts, put) ends = (
-    all ∙ on.read_all,
-    failed,
-    (
-      on.read ++ [],
-      on.written ++ part,
-      Consumes-trans _ _ _ on.read [] on.consumed took,
-      Appends-trans _ _ _ on.written part on.appended put,
-      inr (
-        at_end,
-        lost,
-        ap (annotated answer) (append-nil on.read) ∙ sym (whole_at answer a on.written on.read text names on.came ends).0 ∙ ap (λ l. on.written ++ l) parts ∙ sym (append_assoc on.written part lost),
-      ),
-    ),
-  )
-
-  -- the log is at its end, and is written to its end
-  pub ended : (r' r'' : Counted R) (w' w'' : Output W) (a : Annotator) (h : List ℕ) (n : ℕ) (found : Findings) → IsOn remaining contents answer r r' w w' a h n → NoneFailed r' r'' → Consumes (remaining (device_of r')) (remaining (device_of r'')) []
-      → IsAtEnd (remaining (device_of r'')) → found.head.items ≡ h → Puts contents (Ends answer a) w' w'' (Ok found.names) → Annotates remaining contents answer r r'' w w'' (Ok found)
-  ended r' r'' w' w'' a h n found on all took at_end head (text, put, ends) =
-      let (is_annotated, are_names) = whole_at answer a on.written on.read text found.names on.came ends in
-      let same = sym (append-nil on.read) in (
-        all ∙ on.read_all,
-        put.1,
-        put.3,
-        (
-          on.read ++ [],
-          on.written ++ text,
-          Consumes-trans _ _ _ on.read [] on.consumed took,
-          Appends-trans _ _ _ on.written text on.appended put.2,
-          (at_end, is_annotated ∙ ap (annotated answer) same, are_names ∙ ap (λ l. (held_over answer first_held (lines l)).names) same, head ∙ on.head_is ∙ ap (take 2) same),
-        ),
-      )
+        -- the log is at its end, and is written to its end
+        pub ended : (found : Findings) → found.head.items ≡ h → Puts contents (Ends answer a) w' w'' (Ok found.names) → Annotates remaining contents answer r r'' w w'' (Ok found)
+        ended found head (text, put, ends) =
+            let (is_annotated, are_names) = whole_at text found.names on.came ends in
+            let same = sym (append-nil on.read) in (
+              all ∙ on.read_all,
+              put.1,
+              put.3,
+              (
+                on.read ++ [],
+                on.written ++ text,
+                Consumes-trans _ _ _ on.read [] on.consumed took,
+                Appends-trans _ _ _ on.written text on.appended put.2,
+                (at_end, is_annotated ∙ ap (annotated answer) same, are_names ∙ ap (λ l. (held_over answer first_held (lines l)).names) same, head ∙ on.head_is ∙ ap (take 2) same),
+              ),
+            )

@@ -1,37 +1,26 @@
 -- Bytes that are gone through from the last one to the first, and the things that begin a line.
-use Rattle.logs.proofs.Definitions.{◌≡◌, ◌∙◌, ℕ, zero, suc, ◌+◌, ◌<◌, ◌≤◌, true, false, cond, not, ◌&&◌, ◌==◌, List, [], ◌∷◌, length, take, get_or, refl, sym, ap, arith, eqb-true, false_from_ne_true, reverse-append, take_more, run_of, ends_prefix, is_lead, is_of, last_of, lead_item, prefix_up_to}
+use Rattle.logs.proofs.Definitions.{ne_eqb, ◌≡◌, ◌∙◌, ℕ, zero, suc, ◌+◌, ◌<◌, ◌≤◌, false, cond, not, ◌&&◌, ◌==◌, List, [], ◌∷◌, length, take, get_or, refl, ap, arith, reverse-append, take_more, ends_prefix, is_lead, is_of, last_of, lead_item, prefix_up_to}
 use Rattle.std.proofs.Common.{◌-◌, drop}
 use Rattle.logs.specs.declared.places.Kind.{Kind}
 
 -- one byte more at the end
-last_more : (k : Kind) (bytes : List ℕ) (i : ℕ) → i < length bytes → last_of k (take (i + 1) bytes) ≡ cond (is_of k (get_or bytes i 0)) (last_of k (take i bytes) + 1) 0
-last_more k bytes i below =
-    ap (last_of k) (take_more bytes i 0 below) ∙ ap (run_of (λ b. is_of k b)) (reverse-append (take i bytes) (get_or bytes i 0 ∷ []))
-
-pub last_step : (k : Kind) (bytes : List ℕ) (i : ℕ) → 0 < i → i ≤ length bytes → is_of k (get_or bytes (i - 1) 0) ≡ true → last_of k (take i bytes) ≡ last_of k (take (i - 1) bytes) + 1
-last_step k bytes i some within is =
-    let same : i ≡ (i - 1) + 1 = omega arith in
-    ap (λ n. last_of k (take n bytes)) same ∙ last_more k bytes (i - 1) (omega arith) ∙ ap (λ t. cond t (last_of k (take (i - 1) bytes) + 1) 0) is
-
-pub last_stop : (k : Kind) (bytes : List ℕ) (i : ℕ) → 0 < i → i ≤ length bytes → is_of k (get_or bytes (i - 1) 0) ≡ false → last_of k (take i bytes) ≡ 0
-last_stop k bytes i some within is =
-    let same : i ≡ (i - 1) + 1 = omega arith in
-    ap (λ n. last_of k (take n bytes)) same ∙ last_more k bytes (i - 1) (omega arith) ∙ ap (λ t. cond t (last_of k (take (i - 1) bytes) + 1) 0) is
+pub last_more : (k : Kind) (bytes : List ℕ) (i : ℕ) → 0 < i → i ≤ length bytes → last_of k (take i bytes) ≡ cond (is_of k (get_or bytes (i - 1) 0)) (last_of k (take (i - 1) bytes) + 1) 0
+last_more k bytes zero some within = absurd (omega arith)
+last_more k bytes (suc i) some within =
+    let one : suc i ≡ i + 1 = omega arith in
+    let less : suc i - 1 ≡ i = omega arith in
+    rw (less, one, take_more bytes i 0 (omega arith), reverse-append (take i bytes) (get_or bytes i 0 ∷ []))
 
 one_less : (n : ℕ) → suc n - 1 ≡ n
 one_less n = omega arith
 
 not_zero : (n : ℕ) → (suc n == 0) ≡ false
-not_zero n = false_from_ne_true (suc n == 0) (λ e. let is = eqb-true (suc n) 0 e in absurd (omega (arith, is)))
+not_zero n = ne_eqb (suc n) 0 (λ is. omega (arith, is))
 
 -- where the prefix ends
-pub prefix_here : (bytes : List ℕ) (p : ℕ) → ends_prefix (take p bytes) (drop p bytes) ≡ true → 0 < p → prefix_up_to bytes p ≡ p
-prefix_here bytes zero is some = absurd (omega arith)
-prefix_here bytes (suc p) is some = ap (λ t. cond t (suc p) (prefix_up_to bytes p)) is
-
-pub prefix_before : (bytes : List ℕ) (p : ℕ) → ends_prefix (take p bytes) (drop p bytes) ≡ false → 0 < p → prefix_up_to bytes p ≡ prefix_up_to bytes (p - 1)
-prefix_before bytes zero is some = absurd (omega arith)
-prefix_before bytes (suc p) is some = ap (λ t. cond t (suc p) (prefix_up_to bytes p)) is ∙ ap (prefix_up_to bytes) (sym (one_less p))
+pub prefix_at : (bytes : List ℕ) (p : ℕ) → 0 < p → prefix_up_to bytes p ≡ cond (ends_prefix (take p bytes) (drop p bytes)) p (prefix_up_to bytes (p - 1))
+prefix_at bytes zero some = absurd (omega arith)
+prefix_at bytes (suc p) some = rw (one_less p)
 
 -- what is skipped
 lead_skipped : (n : ℕ) (bytes : List ℕ) → n ≤ length bytes → is_lead n bytes ≡ is_lead 0 (drop n bytes)
@@ -47,9 +36,7 @@ lead_past (suc n) (b ∷ bytes) past = lead_past n bytes (omega arith)
 -- one thing more
 lead_rest : (b : ℕ) (bytes : List ℕ) (n : ℕ) → suc n ≡ lead_item (b ∷ bytes) → is_lead 0 (b ∷ bytes) ≡ is_lead n bytes
 lead_rest b bytes n is =
-    ap (λ m. not (m == 0) && is_lead (m - 1) bytes) (sym is)
-    ∙ ap (λ t. not t && is_lead (suc n - 1) bytes) (not_zero n)
-    ∙ ap (λ m. is_lead m bytes) (one_less n)
+    rw (← is, not_zero n, one_less n)
 
 pub lead_step : (bytes : List ℕ) (n : ℕ) → n ≡ lead_item bytes → 0 < n → n ≤ length bytes → is_lead 0 bytes ≡ is_lead 0 (drop n bytes)
 lead_step [] n is some within = absurd (omega arith)

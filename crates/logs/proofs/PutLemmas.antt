@@ -1,16 +1,11 @@
 -- What a failed write leaves.
-use Rattle.logs.proofs.Definitions.{◌≡◌, ◌∙◌, ◌++◌, List, [], ℕ, Result, Ok, Err, ap, subst, sym, IfErr, IfOk, IsErrAnd, OnErr, Output, Delivered, WrotePart, error_in, Adds, IsWriteFault, Puts, LogFault}
+use Rattle.logs.proofs.Definitions.{◌≡◌, ◌∙◌, ◌++◌, List, [], ℕ, Result, Ok, Err, ap, subst, sym, IfErr, IfOk, OnErr, Output, Delivered, WrotePart, error_in, Adds, IsWriteFault, Puts, LogFault}
 use Rattle.std.proofs.Common.{Option}
 use Rattle.logs.specs.declared.annotation.LogFault.TheVariants as fault
 
 -- a text that was added to nothing
 pub added : (out out' text : List ℕ) (P : List ℕ → Type 0) → out ≡ [] → text ≡ out' → Adds out out' P → P text
 added out out' text P none same (more, put, holds) = subst P (sym (same ∙ put ∙ ap (λ o. o ++ more) none)) holds
-
--- a fault is told as it came
-pub told : {X E : Type 0} (P : Result X E → Type 0) (result : Result X E) (e : E) → IsErrAnd result (λ f. f ≡ e) → P (Err e) → P result
-told P (Ok x) e is holds = absurd is
-told P (Err f) e is holds = subst (λ f. P (Err f)) (sym is) holds
 
 module _ {W X : Type 0} (contents : W → Option (List ℕ)) (P : X → List ℕ → Type 0) (w w' : Output W) where
   pub fault_puts : (x : X) (text : List ℕ) (e : LogFault) → P x text → IsWriteFault (error_in w') e → WrotePart contents w w' text → Puts contents P w w' (Err e)

@@ -1,6 +1,7 @@
 -- Words that are no addresses, and the bytes that are leapt over.
-use Rattle.logs.proofs.Definitions.{◌≡◌, ◌∙◌, ◌⊎◌, inl, inr, ℕ, zero, suc, ◌+◌, ◌<◌, ◌≤◌, Bool, true, false, cond, not, ◌&&◌, ◌||◌, ◌==◌, List, [], ◌∷◌, length, take, get_or, refl, sym, ap, subst, arith, true≢false, Some, nat_eq, nat_le, nat_lt, reverse, length-drop, list_all, list_any, eqb-true, false_from_ne_true, leb-false, leb-true, lt-ltb, ltb-true, or_cases, drop_more, get_or-drop, length-take, fewest, is_address_byte, is_begun, taken_among, taken_at, address_at, address_of_word, digits_between, begins_joint, has_prefix, is_word_byte, run_of, words_behind, words_from, LogContext, AddressWord}
-use Rattle.std.proofs.Common.{◌-◌}
+use Rattle.logs.proofs.Definitions.{get_or-take, and_parts, le-ltb, drop-drop, list_any_at, cond_both, lt-leb, ◌≡◌, ◌∙◌, ◌⊎◌, inl, inr, ℕ, zero, suc, ◌+◌, ◌<◌, ◌≤◌, Bool, true, false, cond, not, ◌&&◌, ◌||◌, ◌==◌, List, [], ◌∷◌, length, take, get_or, refl, sym, ap, subst, arith, true≢false, Some, nat_eq, nat_le, reverse, length-drop, list_all, list_any, eqb-true, leb-false, leb-true, lt-ltb, ltb-true, or_cases, drop_more, get_or-drop, length-take, fewest, is_address_byte, is_begun, taken_among, taken_at, address_at, address_of_word, digits_between, begins_joint, has_prefix, is_word_byte, run_of, words_behind, words_from, LogContext, AddressWord}
+use Rattle.std.proofs.Common.{◌-◌, ⊎_elim}
+use Rattle.facts.proofs.Options.{cond-None}
 use Rattle.std.specs.Prelude.{None, Option, drop}
 use Rattle.std.specs.Char.{digit_value, is_digit}
 use Rattle.std.specs.Option.{option_map_or}
@@ -12,72 +13,45 @@ use Rattle.logs.specs.declared.words.Word.{Word}
 abbrev is_other : ℕ → Bool
 is_other b = not (is_address_byte b)
 
-none_either : (t : Bool) → cond {A = Option ℕ} t None None ≡ None
-none_either true = refl
-none_either false = refl
-
 few_digits : (least most : ℕ) (digits : List ℕ) → length digits < least → digits_between least most digits ≡ None
-few_digits least most digits few =
-    ap (λ t. cond (t && nat_le (length digits) most) (numeral 16 16 digits) None)
-    (false_from_ne_true (nat_le least (length digits)) (λ e. let enough = leb-true least (length digits) e in absurd (omega (arith, enough, few))))
+few_digits least most digits few = rw (lt-leb least (length digits) few)
 
 not_all : (digits : List ℕ) → list_any is_other digits ≡ true → list_all (λ c. is_digit c 16) digits ≡ false
 not_all [] other = absurd (true≢false (sym other))
 not_all (d ∷ digits) other = grind (arith, other, not_all digits)
 
 no_digits : (least most : ℕ) (digits : List ℕ) → list_any is_other digits ≡ true → digits_between least most digits ≡ None
-no_digits least most digits other = ap (λ o. cond (nat_le least (length digits) && nat_le (length digits) most) o None) none ∙ none_either (nat_le least (length digits) && nat_le (length digits) most)
+no_digits least most digits other = cond-None (nat_le least (length digits) && nat_le (length digits) most) _ _ none refl
   where
     none : numeral 16 16 digits ≡ None
     none = grind (arith, not_all digits other)
 
 behind_two : (word : List ℕ) → has_prefix word ≡ true → list_any is_other word ≡ true → list_any is_other (drop 2 word) ≡ true
 behind_two [] prefix other = other
-behind_two (a ∷ []) prefix other = absurd (none (nat_eq 48 a) prefix)
+behind_two (a ∷ []) prefix other = grind (arith, prefix)
+behind_two (a ∷ b ∷ word) prefix other = ⊎_elim (past 120 refl) (past 88 refl) (or_cases _ _ prefix)
   where
-    none : (t : Bool) → ((t && false) || (t && false)) ≡ true → ⊥
-    none true e = true≢false (sym e)
-    none false e = true≢false (sym e)
-behind_two (a ∷ b ∷ word) prefix other = told (which (nat_eq 48 a) (nat_eq 120 b) (nat_eq 88 b) prefix)
-  where
-    which : (s t u : Bool) → ((s && (t && true)) || (s && (u && true))) ≡ true → (s ≡ true) × ((t ≡ true) ⊎ (u ≡ true))
-    which true true u e = (refl, inl refl)
-    which true false true e = (refl, inr refl)
-    which true false false e = absurd (true≢false (sym e))
-    which false t u e = absurd (true≢false (sym e))
-
-    told : (nat_eq 48 a ≡ true) × ((nat_eq 120 b ≡ true) ⊎ (nat_eq 88 b ≡ true)) → list_any is_other word ≡ true
-    told (is, inl x) = subst (λ b. (is_other 48 || (is_other b || list_any is_other word)) ≡ true) (sym (eqb-true 120 b x)) (subst (λ a. (is_other a || (is_other b || list_any is_other word)) ≡ true) (sym (eqb-true 48 a is)) other)
-    told (is, inr x) = subst (λ b. (is_other 48 || (is_other b || list_any is_other word)) ≡ true) (sym (eqb-true 88 b x)) (subst (λ a. (is_other a || (is_other b || list_any is_other word)) ≡ true) (sym (eqb-true 48 a is)) other)
+    past : (c : ℕ) → is_other c ≡ false → (nat_eq 48 a && (nat_eq c b && true)) ≡ true → list_any is_other word ≡ true
+    past c is both =
+        let (zero_is, x_is) = and_parts _ _ both in
+        let x_is' = and_parts _ _ x_is in
+        rw (← eqb-true 48 a zero_is, ← eqb-true c b x_is'.0, is) at other
 
 no_word : (narrow : Bool) (word : List ℕ) → (length word < fewest narrow) ⊎ (list_any is_other word ≡ true) → address_of_word narrow word ≡ None
-no_word true word why = either (has_prefix word) refl why
-  where
-    either : (t : Bool) → has_prefix word ≡ t → (length word < 8) ⊎ (list_any is_other word ≡ true) → digits_between 8 8 (cond t (drop 2 word) word) ≡ None
-    either true prefix (inl few) = few_digits 8 8 (drop 2 word) (omega (arith, length-drop 2 word, few))
-    either true prefix (inr other) = no_digits 8 8 (drop 2 word) (behind_two word prefix other)
-    either false prefix (inl few) = few_digits 8 8 word few
-    either false prefix (inr other) = no_digits 8 8 word other
-no_word false word why = either (has_prefix word) refl why
-  where
-    either : (t : Bool) → has_prefix word ≡ t → (length word < 11) ⊎ (list_any is_other word ≡ true) → cond t (digits_between 9 16 (drop 2 word)) (digits_between 16 16 word) ≡ None
-    either true prefix (inl few) = few_digits 9 16 (drop 2 word) (omega (arith, length-drop 2 word, few))
-    either true prefix (inr other) = no_digits 9 16 (drop 2 word) (behind_two word prefix other)
-    either false prefix (inl few) = few_digits 16 16 word (omega (arith, few))
-    either false prefix (inr other) = no_digits 16 16 word other
+no_word true word (inl few) = few_digits 8 8 _ (cond_both (has_prefix word) (drop 2 word) word (λ w. length w < 8) (λ _. omega (arith, length-drop 2 word, few)) (λ _. few))
+no_word true word (inr other) = no_digits 8 8 (cond (has_prefix word) (drop 2 word) word) (cond_both (has_prefix word) (drop 2 word) word (λ w. list_any is_other w ≡ true) (λ prefix. behind_two word prefix other) (λ _. other))
+no_word false word (inl few) = cond-None (has_prefix word) _ _ (few_digits 9 16 (drop 2 word) (omega (arith, length-drop 2 word, few))) (few_digits 16 16 word (omega (arith, few)))
+no_word false word (inr other) = cond_both (has_prefix word) (digits_between 9 16 (drop 2 word)) (digits_between 16 16 word) (λ o. o ≡ None) (λ prefix. no_digits 9 16 (drop 2 word) (behind_two word prefix other)) (λ _. no_digits 16 16 word other)
 
 any_at : (bytes : List ℕ) (n k : ℕ) → k < n → k < length bytes → is_address_byte (get_or bytes k 0) ≡ false → list_any is_other (take n bytes) ≡ true
-any_at [] n k below within other = absurd (omega arith)
-any_at (b ∷ bytes) zero k below within other = absurd (omega arith)
-any_at (b ∷ bytes) (suc n) zero below within other = ap (λ t. not t || list_any is_other (take n bytes)) other
-any_at (b ∷ bytes) (suc n) (suc k) below within other = grind (arith, any_at bytes n k (omega arith) (omega arith) other)
+any_at bytes n k below within other = list_any_at is_other (take n bytes) k 0 (omega (arith, length-take n bytes)) (rw (get_or-take n bytes k 0 below, other))
 
 -- a word of this length, with such a byte or too short
 no_address : (narrow : Bool) (line : List ℕ) (at n : ℕ) → (n < fewest narrow) ⊎ (list_any is_other (take n (drop at line)) ≡ true) → address_at narrow line (record { start = at; end = at + n }) ≡ None
 no_address narrow line at n why =
     let joined : Bool = begins_joint (reverse (take at line)) || begins_joint (drop (at + n) line) in
     let all : (at + n) - at ≡ n = omega arith in
-    ap (λ o. cond joined None o) (ap (λ m. address_of_word narrow (take m (drop at line))) all ∙ no_word narrow (take n (drop at line)) (of_take why)) ∙ none_either joined
+    cond-None joined _ _ refl (ap (λ m. address_of_word narrow (take m (drop at line))) all ∙ no_word narrow (take n (drop at line)) (of_take why))
   where
     of_take : (n < fewest narrow) ⊎ (list_any is_other (take n (drop at line)) ≡ true) → (length (take n (drop at line)) < fewest narrow) ⊎ (list_any is_other (take n (drop at line)) ≡ true)
     of_take (inl few) = inl (omega (arith, length-take n (drop at line), few))
@@ -87,11 +61,7 @@ no_address narrow line at n why =
 
 run_within : (bytes : List ℕ) → run_of is_word_byte bytes ≤ length bytes
 run_within [] = omega arith
-run_within (b ∷ bytes) = one_more_at_most (is_word_byte b) (run_of is_word_byte bytes) (length bytes) (run_within bytes)
-  where
-    one_more_at_most : (t : Bool) (n k : ℕ) → n ≤ k → cond t (n + 1) 0 ≤ suc k
-    one_more_at_most true n k low = omega arith
-    one_more_at_most false n k low = omega arith
+run_within (b ∷ bytes) = grind (arith, run_within bytes)
 
 -- a byte more, where no address begins with it
 over_one : (narrow : Bool) (held : LogContext) (line : List ℕ) (last : Option AddressWord) (at : ℕ) (within : Bool) (b : ℕ) (bytes : List ℕ) → address_at narrow line (record { start = at; end = at + run_of is_word_byte (b ∷ bytes) }) ≡ None
@@ -108,12 +78,7 @@ over_one narrow held line last at within b bytes none = either within (is_word_b
         ap (λ o. option_map_or (λ value. let t = taken_at narrow held line last w value in t ∷ taken_among narrow held line (Some t) (words_from (at + 1) true bytes)) o (taken_among narrow held line last (words_from (at + 1) true bytes))) none
 
 behind_one : (line : List ℕ) (at b : ℕ) (bytes : List ℕ) → (b ∷ bytes) ≡ drop at line → bytes ≡ drop (at + 1) line
-behind_one line at b bytes is = ap (drop 1) is ∙ drop_both at line
-  where
-    drop_both : (n : ℕ) (l : List ℕ) → drop 1 (drop n l) ≡ drop (n + 1) l
-    drop_both zero l = refl
-    drop_both (suc n) [] = let one : suc n + 1 ≡ suc (n + 1) = omega arith in sym (ap (λ m. drop m []) one)
-    drop_both (suc n) (x ∷ l) = let one : suc n + 1 ≡ suc (n + 1) = omega arith in drop_both n l ∙ sym (ap (λ m. drop m (x ∷ l)) one)
+behind_one line at b bytes is = ap (drop 1) is ∙ drop-drop 1 at line
 
 -- bytes up to one of no address, and no more than an address has
 leap_from : (narrow : Bool) (held : LogContext) (line : List ℕ) (last : Option AddressWord) (at : ℕ) (within : Bool) (bytes : List ℕ) (k : ℕ) → bytes ≡ drop at line → k < length bytes → k < fewest narrow → is_address_byte (get_or bytes k 0) ≡ false
@@ -158,7 +123,7 @@ begun_behind line from place low =
 -- and none where none did
 pub not_begun : (line : List ℕ) (place : ℕ) → is_begun line place place ≡ false
 not_begun line place =
-    ap (λ t. t && is_word_byte (get_or line (place - 1) 0)) (false_from_ne_true (nat_lt place place) (λ e. let low = ltb-true place place e in absurd (omega (arith, low))))
+    rw (le-ltb place place (omega arith))
 
 -- too few bytes are left
 few_from : (narrow : Bool) (held : LogContext) (line : List ℕ) (last : Option AddressWord) (at : ℕ) (within : Bool) (bytes : List ℕ) → length bytes < fewest narrow → taken_among narrow held line last (words_from at within bytes) ≡ []

@@ -281,6 +281,7 @@ fn ends_user(line: &[u8]) -> bool
 }
 
 /// Whether the bytes begin the registers of a program. Mostly they have no `P` at all.
+#[tactic(auto, using(crate::proofs::TextLemmas::no_user))]
 fn begins_user(bytes: &[u8]) -> bool
     ensures { result ≡ begins_user bytes.now }
 {
@@ -312,6 +313,7 @@ fn has_code(bytes: &[u8]) -> bool
 }
 
 /// Whether the bytes have these words.
+#[tactic(auto, using(crate::proofs::TextLemmas::none_found))]
 fn has_words(words: &[u8], bytes: &[u8]) -> bool
     ensures { result ≡ has_words words.now false bytes.now }
 {
@@ -351,6 +353,7 @@ fn next_first(first: First, has_frame: bool, tells: bool) -> First
 }
 
 /// Carries on behind a line with a frame or without one. Mostly the line has no `P` at all.
+#[tactic(auto, using(crate::proofs::TextLemmas::no_place, crate::proofs::TextLemmas::no_user))]
 pub(crate) fn carry_on(held: &mut LogContext, line: &[u8], has_frame: bool)
     ensures first { held.new.first
         ≡ next_first held.old.first has_frame (tells_place line.now) }

@@ -161,6 +161,7 @@ impl Annotator {
 }
 
 /// Cuts off the first line of the bytes, with its end, if it has one.
+#[tactic(auto, using(crate::proofs::LineLemmas::line_found, crate::proofs::LineLemmas::none_ends))]
 fn cut_line(bytes: &[u8]) -> Option<(&[u8], &[u8])>
     ensures line { IfSome result (λ r. IsLine r.0.now) }
     ensures parts { IfSome result (λ r. bytes.now ≡ r.0.now ++ r.1.now) }

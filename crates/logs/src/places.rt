@@ -81,7 +81,7 @@ pub(crate) fn first_of(kind: Kind, bytes: &[u8]) -> usize
 }
 
 /// How many bytes of a kind the bytes end in.
-#[tactic(auto, using(crate::proofs::PlaceLemmas::last_step, crate::proofs::PlaceLemmas::last_stop))]
+#[tactic(auto, using(crate::proofs::PlaceLemmas::last_more))]
 fn last_of(kind: Kind, bytes: &[u8]) -> usize
     ensures within { result ≤ length bytes.now }
     ensures is { result ≡ last_of kind bytes.now }
@@ -237,7 +237,7 @@ fn ends_prefix(front: &[u8], behind: &[u8]) -> bool
 }
 
 /// The place of the prefix's end, or 0 without a prefix.
-#[tactic(auto, using(crate::proofs::PlaceLemmas::prefix_before))]
+#[tactic(auto, using(crate::proofs::PlaceLemmas::prefix_at, std::proofs::lemmas::List::take_rest))]
 pub(crate) fn prefix_end(bytes: &[u8]) -> usize
     ensures is { result ≡ prefix_end bytes.now }
     ensures within { result ≤ length bytes.now }
@@ -289,7 +289,7 @@ fn lead_item(bytes: &[u8]) -> usize
 }
 
 /// Whether the bytes are items that may come before a line's first address.
-#[tactic(auto, using(crate::proofs::PlaceLemmas::lead_step, crate::proofs::PlaceLemmas::lead_none, crate::proofs::PlaceLemmas::lead_over))]
+#[tactic(auto, using(crate::proofs::PlaceLemmas::lead_step, crate::proofs::PlaceLemmas::lead_none, crate::proofs::PlaceLemmas::lead_over, std::proofs::lemmas::List::take_rest))]
 pub(crate) fn is_lead(bytes: &[u8]) -> bool
     ensures { result ≡ is_lead 0 bytes.now }
 {

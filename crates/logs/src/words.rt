@@ -189,7 +189,7 @@ fn digits_between(least: usize, most: usize, digits: &[u8]) -> Option<u64>
 }
 
 /// Whether the bytes begin with these, one behind the other.
-#[tactic(auto, using(crate::proofs::TextLemmas::starts_with_both))]
+#[tactic(auto, using(crate::proofs::TextLemmas::starts_with_both, std::proofs::lemmas::List::take_rest))]
 pub(crate) fn begins_with(bytes: &[u8], first: &[u8], second: &[u8]) -> bool
     ensures { result ≡ starts_with nat_eq bytes.now (first.now ++ second.now) }
 {

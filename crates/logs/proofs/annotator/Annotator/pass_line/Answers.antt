@@ -1,5 +1,6 @@
-use Rattle.logs.proofs.Definitions.{◌∙◌, ◌++◌, ℕ, List, refl, sym, ap}
-use Rattle.logs.proofs.LineLemmas.{long_ends, none_in, short_ends}
+use Rattle.logs.proofs.Definitions.{◌∙◌, ◌++◌, ℕ, List, refl, sym, ap, eqb-true}
+use Rattle.std.proofs.lemmas.List.{nil_from_length}
+use Rattle.logs.proofs.LineLemmas.{long_ends, short_ends}
 use Rattle.logs.proofs.annotator.Annotator.pass_line.Goals as goal
 
 pub returns-then-self : goal.returns-then-self
@@ -8,7 +9,7 @@ returns-then-self g c =
 
 pub returns-then-is_empty : goal.returns-then-is_empty
 returns-then-is_empty g c =
-    let none = none_in c.args.self.now.begun.items _ c.args.self.now.begun.ok.0 (sym c.is_empty.ensures ∙ c.if-is_empty.true) in
+    let none = nil_from_length c.args.self.now.begun.items (sym c.args.self.now.begun.ok.0 ∙ eqb-true _ 0 (sym c.is_empty.ensures ∙ c.if-is_empty.true)) in
     short_ends (g.A.Answers.answering c.args.answers.now) c.args.self.now _ c.args.line.now c.args.line.now c.args.out.now.items _ c.if-self.false c.requires (ap (λ (l : List ℕ). l ++ c.args.line.now) (sym none)) c.in_ok-put_line.ensures.held c.if-self.false none
     c.in_ok-put_line.ensures.text
 
