@@ -3,16 +3,15 @@ pub use Rattle.std.proofs.Common.{◌≡◌, ◌∙◌, ℕ, ◌+◌, ◌<◌, �
 pub use Rattle.std.proofs.Math.Bool.{or-false, and_assoc}
 pub use Rattle.std.proofs.lemmas.Bool.{eqb-true, false_from_ne_true, lt-ltb, ltb-true, and_parts, eq-eqb, leb-false, leb-true, or_cases, or_parts, le-ltb, lt-leb, and_right, cond_both, ne_eqb, cond-false}
 pub use Rattle.std.proofs.lemmas.List.Folds.{list_any-append, list_any_at}
-pub use Rattle.std.proofs.lemmas.List.{take_more, reverse-append, take_all, drop_more, get_or-drop, length-take, take_min, take_rest, drop-drop, get_or-take}
+pub use Rattle.std.proofs.lemmas.List.{take_more, reverse-append, take_all, drop_more, get_or-drop, length-take, take_rest, drop-drop, get_or-take}
 pub use Rattle.std.specs.Io.KnownBytes.{Appends, Consumes, IsAtEnd, Keeps}
 pub use Rattle.std.specs.List.{onto_first, list_any, starts_with, list_all}
 pub use Rattle.std.specs.Prelude.{◌^◌, IfErr, IfOk, OnErr, codes, nat_eq, slice_index, Some, nat_le, reverse, slice_index_or}
-pub use Rattle.logs.specs.AnnotatedLogs.{annotated, annotated_lines, first_held, held_over, counted, woven}
+pub use Rattle.logs.specs.AnnotatedLogs.{annotated, annotated_lines, first_held, held_over, counted, woven, fewest, is_address_byte, is_begun, SameAddresses, framed, owed, tallied}
 pub use Rattle.logs.specs.Annotation.{Annotates, Begins, Ends, IsCutOff, IsOpen, IsUpToDate, KeepsNothingBack, Passes, Puts, held_in, put_of, Adds, Ended, kept_of, IsWriteFault}
 pub use Rattle.logs.specs.Answering.{Answering}
 pub use Rattle.logs.specs.Lines.{lines, AreWhole, IsLine, has_end, is_long}
 pub use Rattle.logs.specs.Places.{ends_prefix, is_lead, is_of, last_of, lead_item, prefix_up_to, first_of, begins_like, has_point, has_time}
-pub use Rattle.logs.specs.Progress.{fewest, is_address_byte, is_begun, SameAddresses, framed, owed, tallied}
 pub use Rattle.logs.specs.TakenWords.{begins_user, has_words, tells_place, taken_among, taken_at, taken_in, has_code}
 pub use Rattle.logs.specs.Words.{run_of, is_word_byte, address_at, address_of_word, digits_between, begins_joint, has_prefix, words_behind, words_from, is_closer}
 pub use Rattle.logs.specs.declared.annotation.LogFault.{LogFault}

@@ -60,9 +60,6 @@ line_found xs n below here none =
 long_more : (xs ys : List ℕ) → is_long xs ≡ true → is_long (xs ++ ys) ≡ true
 long_more xs ys long = let more = ltb-true 65536 (length xs) long in lt-ltb 65536 (length (xs ++ ys)) (omega (arith, more, length-append xs ys))
 
-not_long : (xs : List ℕ) → length xs ≤ 65536 → is_long xs ≡ false
-not_long xs low = le-ltb 65536 (length xs) low
-
 module _ (answer : Answering) where
   stays : (held : LogContext) (line : List ℕ) → is_long line ≡ true → annotated_line answer held line ≡ line
   unfolding annotated_line
@@ -75,8 +72,7 @@ module _ (answer : Answering) where
   -- lines, and then more
   pub lines_then : (held : LogContext) (xs ys : List (List ℕ)) → annotated_lines answer held (xs ++ ys) ≡ annotated_lines answer held xs ++ annotated_lines answer (held_over answer held xs) ys
   lines_then held [] ys = refl
-  lines_then held (x ∷ xs) ys =
-      rw (lines_then (held_behind answer held x) xs ys, append_assoc)
+  lines_then held (x ∷ xs) ys = rw (lines_then (held_behind answer held x) xs ys, append_assoc)
 
   pub held_then : (held : LogContext) (xs ys : List (List ℕ)) → held_over answer held (xs ++ ys) ≡ held_over answer (held_over answer held xs) ys
   held_then held [] ys = refl
@@ -111,21 +107,16 @@ module _ (answer : Answering) where
   then_passes a a' a'' bytes more text text' first second line is_open =
       let p = first line is_open in
       let q = second p.line' p.is_open in
-      let both : lines (p.passed ++ q.passed) ≡ lines p.passed ++ lines q.passed = p.whole q.passed in
       record {
         passed = p.passed ++ q.passed;
         line' = q.line';
-        parts =
-            sym (append_assoc line bytes more) ∙ ap (λ l. l ++ more) p.parts ∙ append_assoc p.passed p.line' more ∙ ap (λ l. p.passed ++ l) q.parts
-            ∙ sym (append_assoc p.passed q.passed q.line');
+        parts = rw (append_assoc p.passed q.passed q.line', ← q.parts, ← append_assoc line bytes more, p.parts) (append_assoc p.passed p.line' more);
         whole = whole_then p.passed q.passed p.whole q.whole;
         is_open = q.is_open;
-        held = q.held ∙ ap (λ h. held_over answer h (lines q.passed)) p.held ∙ sym (ap (held_over answer (held_in a)) both ∙ held_then (held_in a) (lines p.passed) (lines q.passed));
+        held = rw (p.whole q.passed, held_then (held_in a) (lines p.passed) (lines q.passed), ← p.held) q.held;
         put =
-            sym (append_assoc (put_of line) text text') ∙ ap (λ l. l ++ text') p.put ∙ append_assoc (annotated_lines answer (held_in a) (lines p.passed)) (put_of p.line') text'
-            ∙ ap (λ l. annotated_lines answer (held_in a) (lines p.passed) ++ l) (q.put ∙ ap (λ h. annotated_lines answer h (lines q.passed) ++ put_of q.line') p.held)
-            ∙ sym (append_assoc (annotated_lines answer (held_in a) (lines p.passed)) (annotated_lines answer (held_over answer (held_in a) (lines p.passed)) (lines q.passed)) (put_of q.line'))
-            ∙ ap (λ l. l ++ put_of q.line') (sym (ap (annotated_lines answer (held_in a)) both ∙ lines_then (held_in a) (lines p.passed) (lines q.passed)));
+            rw (p.whole q.passed, lines_then (held_in a) (lines p.passed) (lines q.passed), ← p.held, append_assoc, ← q.put, ← append_assoc (put_of line) text text', p.put)
+            (append_assoc (annotated_lines answer (held_in a) (lines p.passed)) (put_of p.line') text');
       }
 
   pub adds_nothing : (a : Annotator) (out : List ℕ) → Adds out out (Passes answer a a [])
@@ -214,7 +205,7 @@ module _ (answer : Answering) where
       line_goes_on a a' bytes [] out out unended held (sym (append-nil out)) (λ line is_open.
       let line_short : is_long line ≡ false = sym is_open.long ∙ short in
       let same : a'.begun.items ≡ line ++ bytes = more ∙ ap (λ l. l ++ bytes) (rw line_short at is_open.kept) in
-      let whole_short : is_long (line ++ bytes) ≡ false = ap is_long (sym same) ∙ not_long a'.begun.items low in
+      let whole_short : is_long (line ++ bytes) ≡ false = ap is_long (sym same) ∙ le-ltb 65536 (length a'.begun.items) low in
       (short' ∙ sym whole_short, rw whole_short same, rw (line_short, whole_short)))
 
   pub gets_long : (a a' : Annotator) (bytes whole out out' : List ℕ) → a.is_long ≡ false → has_end bytes ≡ false → whole ≡ a.begun.items ++ bytes → 65536 < length whole → a'.held ≡ a.held → a'.is_long ≡ true → a'.begun.items ≡ []
@@ -248,8 +239,7 @@ module _ (answer : Answering) where
           let (names, is) = behind [] (kept ∙ (rw long at is_open.kept)) in
           record {
             names_are = names ∙ (nothing_put a.held).1 ∙ ap (λ h. h.names) (sym (ap (held_over answer (held_in a)) one ∙ passed_by (held_in a) (b ∷ line) long));
-            put =
-                rw (long, is, (nothing_put a.held).0, one, stays (held_in a) (b ∷ line) long);
+            put = rw (long, is, (nothing_put a.held).0, one, stays (held_in a) (b ∷ line) long);
           }
       ended (b ∷ line) is_open false short =
           let one = last_line b line is_open.no_end in

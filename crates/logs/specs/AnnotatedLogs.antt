@@ -1,17 +1,21 @@
 -- A log with the text of the answer behind each of its addresses, line by line.
-use Rattle.std.specs.Prelude.{ℕ, ◌+◌, ◌-◌, ◌||◌, Bool, false, if◌then◌else◌, nat_eq}
+use Rattle.std.specs.Prelude.{◌≡◌, ℕ, ◌+◌, ◌-◌, ◌==◌, ◌||◌, ◌&&◌, Bool, false, if◌then◌else◌, nat_eq}
 use Rattle.std.specs.Prelude.{List, [], ◌∷◌, ◌++◌, length, take, drop, codes, Option, None, Some}
+use Rattle.std.specs.Prelude.{nat_lt, slice_index_or}
+use Rattle.std.specs.Char.{digit_value, is_digit}
 use Rattle.std.specs.List.{ends_with, list_any, starts_with}
 use Rattle.std.specs.Option.{option_map_or}
 use Rattle.logs.specs.Answering.{Answering}
 use Rattle.logs.specs.Lines.{is_long, lines}
 use Rattle.logs.specs.LogNames.{no_names, with_address}
-use Rattle.logs.specs.TakenWords.{begins_user, is_user_line, next_first, taken_in, tells_place}
-use Rattle.logs.specs.Words.{is_closer, part, run_of}
+use Rattle.logs.specs.TakenWords.{begins_user, is_user_line, next_first, taken_among, taken_in, tells_place}
+use Rattle.logs.specs.Words.{is_closer, is_word_byte, part, run_of}
 use Rattle.logs.specs.declared.contexts.LogContext.{LogContext}
 use Rattle.logs.specs.declared.contexts.First.TheVariants as first
 use Rattle.logs.specs.declared.log_names.LogNames.{LogNames}
 use Rattle.logs.specs.declared.address_words.AddressWord.{AddressWord}
+use Rattle.logs.specs.declared.line.Progress.{Progress}
+use Rattle.logs.specs.declared.words.Word.{Word}
 
 -- nothing was seen
 abbrev pub first_held : LogContext
@@ -89,3 +93,37 @@ annotated answer log = annotated_lines answer first_held (lines log)
 
 abbrev pub names_of : Answering → List ℕ → LogNames
 names_of answer log = (held_over answer first_held (lines log)).names
+
+-- ---- a line that is put word by word
+
+-- the fewest bytes of an address word, and a byte that one may have
+abbrev pub fewest : Bool → ℕ
+fewest narrow = if narrow then 8 else 11
+
+abbrev pub is_address_byte : ℕ → Bool
+is_address_byte b = is_digit b 16 || digit_value b == 33
+
+-- a word goes on at a place, where none does at an earlier one
+abbrev pub is_begun : List ℕ → ℕ → ℕ → Bool
+is_begun line from start = nat_lt from start && is_word_byte (slice_index_or line (start - 1) 0)
+
+-- these words of a line have the same addresses
+abbrev pub SameAddresses : Bool → List ℕ → List Word → List Word → Type 0
+SameAddresses narrow line words words' =
+    (held : LogContext) (last : Option AddressWord)
+    → taken_among narrow held line last words ≡ taken_among narrow held line last words'
+
+-- the address words that are still to come; what is still to be put; whether there is a frame; and
+-- what is counted
+abbrev pub left_of : Answering → LogContext → List ℕ → Progress → List Word → List AddressWord
+left_of answer held line p words = taken_among answer.is_narrow held line p.last words
+
+abbrev pub owed : Answering → LogContext → List ℕ → Progress → List Word → List ℕ
+owed answer held line p words = woven answer line p.put (left_of answer held line p words)
+
+abbrev pub framed : Answering → LogContext → List ℕ → Progress → List Word → Bool
+framed answer held line p words =
+    p.has_frame || list_any (λ t. t.is_frame) (left_of answer held line p words)
+
+abbrev pub tallied : Answering → LogContext → List ℕ → Progress → List Word → LogNames
+tallied answer held line p words = counted answer line p.names (left_of answer held line p words)

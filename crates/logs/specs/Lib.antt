@@ -10,9 +10,7 @@ pub mod Places
 pub mod TakenWords
 -- the names that a log has itself, and how many there are
 pub mod LogNames
--- what is carried from line to line, and a log with the answers' texts
+-- what is carried from line to line, and a log with the answers' texts, put word by word
 pub mod AnnotatedLogs
 -- what was read of a log, and what was written for it
 pub mod Annotation
--- a line that is put word by word
-pub mod Progress

@@ -43,6 +43,7 @@ pub struct Findings {
 }
 
 /// Keeps the first two bytes of a log, whose blocks come one after the other.
+#[tactic(auto, using(crate::proofs::AnnotationLemmas::head_more, std::proofs::lemmas::List::take_min))]
 pub fn keep_head(head: &mut Vec<u8>, block: &[u8]) -> Result<(), AllocError>
     ensures { IfOk result (λ _. (read : List ℕ) → head.old.items ≡ take 2 read
         → head.new.items ≡ take 2 (read ++ block.now)) }

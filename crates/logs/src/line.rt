@@ -11,9 +11,9 @@
 ghost use Rattle.std.specs.Prelude.{◌≡◌, ◌≤◌, ◌<◌, ◌++◌, ◌∷◌, length, option_map, IfOk};
 ghost use Rattle.std.specs.List.{list_any};
 ghost use Rattle.logs.specs.TakenWords.{taken_in};
-ghost use Rattle.logs.specs.AnnotatedLogs.{annotated_line, counted, held_behind, says_itself};
-ghost use Rattle.logs.specs.AnnotatedLogs.{text_for, unless_said, without_bracket, woven};
-ghost use Rattle.logs.specs.Progress.{framed, owed, tallied};
+ghost use Rattle.logs.specs.AnnotatedLogs.{annotated_line, counted, framed, held_behind, owed};
+ghost use Rattle.logs.specs.AnnotatedLogs.{says_itself, tallied, text_for, unless_said};
+ghost use Rattle.logs.specs.AnnotatedLogs.{without_bracket, woven};
 ghost use Rattle.logs.specs.Words.{words_behind};
 
 use crate::address_words::{AddressWord, address_at, carry_on, taken_at};

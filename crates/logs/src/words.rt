@@ -16,7 +16,7 @@ ghost use Rattle.std.specs.Prelude.{◌≡◌, ◌≤◌, ◌<◌, ◌+◌, ◌+
 ghost use Rattle.std.specs.Prelude.{nat_eq, slice_index_or};
 ghost use Rattle.std.specs.List.{starts_with};
 ghost use Rattle.std.specs.Prelude.{IfNone, IfSome, MatchOption};
-ghost use Rattle.logs.specs.Progress.{SameAddresses, fewest, is_address_byte, is_begun};
+ghost use Rattle.logs.specs.AnnotatedLogs.{SameAddresses, fewest, is_address_byte, is_begun};
 ghost use Rattle.logs.specs.Words.{address_of_word, digits_between, has_prefix};
 ghost use Rattle.logs.specs.Words.{is_closer, is_word_byte, run_of, words_behind};
 

@@ -1,4 +1,4 @@
-use Rattle.logs.proofs.Definitions.{◌∙◌, ◌++◌, ◌∷◌, ◌||◌, [], ℕ, List, Bool, ap, subst, sym, or-false, take_rest, list_any, counted, woven, SameAddresses, words_behind, AddressWord}
+use Rattle.logs.proofs.Definitions.{◌∙◌, ◌++◌, ◌||◌, ◌∷◌, Bool, subst, SameAddresses, words_behind, ℕ, List, ap, sym, or-false, take_rest, list_any, counted, woven, AddressWord}
 use Rattle.logs.proofs.line.put_words.Goals as goal
 
 pub loop-word-preserved : goal.loop-word-preserved
@@ -16,24 +16,12 @@ loop-word-preserved g c =
       put = put.put;
     }
 
-pub returns-in-None-clause-text : goal.returns-in-None-clause-text
-returns-in-None-clause-text g c =
-    let answer = g.A.Answers.answering c.args.answers.now in
-    let p = c.loop-word.progress in
-    let left = subst (λ (n : Bool). SameAddresses n c.args.line.now (words_behind c.args.line.now p.at) []) c.is_narrow.ensures c.in-None.ensures.words c.args.held p.last in
-    c.in_ok-extend_from_slice-in-None.ensures.items ∙ ap (λ (l : List ℕ). c.loop-word.out.items ++ l) (take_rest c.args.line.now p.put)
-    ∙ ap (λ (ts : List AddressWord). c.loop-word.out.items ++ woven answer c.args.line.now p.put ts) (sym left) ∙ c.loop-word.invariant.text
-
-pub returns-in-None-clause-frame : goal.returns-in-None-clause-frame
-returns-in-None-clause-frame g c =
-    let answer = g.A.Answers.answering c.args.answers.now in
-    let p = c.loop-word.progress in
-    let left = subst (λ (n : Bool). SameAddresses n c.args.line.now (words_behind c.args.line.now p.at) []) c.is_narrow.ensures c.in-None.ensures.words c.args.held p.last in
-    sym (or-false p.has_frame) ∙ ap (λ (ts : List AddressWord). p.has_frame || list_any (λ t. t.is_frame) ts) (sym left) ∙ c.loop-word.invariant.frame
-
-pub returns-in-None-clause-names : goal.returns-in-None-clause-names
-returns-in-None-clause-names g c =
-    let answer = g.A.Answers.answering c.args.answers.now in
-    let p = c.loop-word.progress in
-    let left = subst (λ (n : Bool). SameAddresses n c.args.line.now (words_behind c.args.line.now p.at) []) c.is_narrow.ensures c.in-None.ensures.words c.args.held p.last in
-    ap (λ (ts : List AddressWord). counted answer c.args.line.now p.names ts) (sym left) ∙ c.loop-word.invariant.names
+pub returns-in-None : goal.returns-in-None
+returns-in-None g c =
+    let left = (rw c.is_narrow.ensures at c.in-None.ensures.words) c.args.held c.loop-word.progress.last in
+    let on = c.loop-word.invariant in
+    record {
+      text = c.in_ok-extend_from_slice-in-None.ensures.items ∙ ap (λ (l : List ℕ). c.loop-word.out.items ++ l) (take_rest c.args.line.now c.loop-word.progress.put) ∙ (rw left at on.text);
+      frame = sym (or-false _) ∙ (rw left at on.frame);
+      names = rw left at on.names;
+    }

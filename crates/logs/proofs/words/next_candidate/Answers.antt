@@ -1,5 +1,4 @@
-use Rattle.logs.proofs.Definitions.{◌∙◌, ◌+◌, Bool, ap, arith, get_or, sym, taken_among, words_from}
-use Rattle.std.proofs.Common.{drop}
+use Rattle.logs.proofs.Definitions.{◌∙◌, ap, arith, get_or, sym, taken_among}
 use Rattle.logs.proofs.WordLemmas.{begun_behind, few_left, goes_on, is_word, leap, not_begun, some_fewest}
 use Rattle.logs.proofs.words.next_candidate.Goals as goal
 
@@ -7,16 +6,17 @@ pub loop-start-preserved-in-Some : goal.loop-start-preserved-in-Some
 loop-start-preserved-in-Some c =
     let line = c.args.line.now in
     let place = c.in-Some.place in
+    let low = c.in-Some.ensures.from in
+    let high = c.in-Some.ensures.below in
     record {
       low = c.loop-start.invariant.low;
-      from = omega (arith, c.loop-start.invariant.from, c.in-Some.ensures.from);
-      within = omega (arith, c.loop-start.invariant.within, c.in-Some.ensures.below, c.loop-start-test.true);
+      from = omega (arith, c.loop-start.invariant.from, low);
+      within = omega (arith, c.loop-start.invariant.within, high, c.loop-start-test.true);
       left = λ held last.
-          c.loop-start.invariant.left held last
-          ∙ leap c.args.narrow held line last c.loop-start.start place _ c.in-Some.ensures.from (omega (arith, c.loop-start.invariant.within, c.in-Some.ensures.below, c.loop-start-test.true))
-          (omega (arith, c.in-Some.ensures.below, c.fewest-fewest.ensures)) c.in-Some.ensures.other
-          ∙ ap (λ (t : Bool). taken_among c.args.narrow held line last (words_from (place + 1) t (drop (place + 1) line)))
-          (sym (begun_behind line c.loop-start.from place (omega (arith, c.loop-start.invariant.from, c.in-Some.ensures.from))));
+          rw (begun_behind line c.loop-start.from place (omega (arith, c.loop-start.invariant.from, low)))
+          (c.loop-start.invariant.left held last
+          ∙ leap c.args.narrow held line last c.loop-start.start place _ low (omega (arith, c.loop-start.invariant.within, high, c.loop-start-test.true))
+          (omega (arith, high, c.fewest-fewest.ensures)) c.in-Some.ensures.other);
     }
 
 pub loop-start-preserved : goal.loop-start-preserved
@@ -30,10 +30,10 @@ loop-start-preserved c =
       from = omega arith;
       within = c.behind_word-end.ensures.within;
       left = λ held last.
-          c.loop-start.invariant.left held last ∙ ap (λ (t : Bool). taken_among c.args.narrow held line last (words_from start t (drop start line))) (sym c.is_begun.ensures ∙ c.if-not-is_begun.false)
+          rw (not_begun line end)
+          ((rw (sym c.is_begun.ensures ∙ c.if-not-is_begun.false) at c.loop-start.invariant.left held last)
           ∙ ap (taken_among c.args.narrow held line last) (goes_on line start end _ (omega (arith, c.loop-start.invariant.within, c.loop-start-test.true, some, c.fewest-fewest.ensures))
-          (is_word (get_or line start 0) (c.in-None.ensures.none (omega (arith, some, c.fewest-fewest.ensures)))) c.behind_word-end.ensures.words)
-          ∙ ap (λ (t : Bool). taken_among c.args.narrow held line last (words_from end t (drop end line))) (sym (not_begun line end));
+          (is_word (get_or line start 0) (c.in-None.ensures.none (omega (arith, some, c.fewest-fewest.ensures)))) c.behind_word-end.ensures.words));
     }
 
 pub loop-start-init : goal.loop-start-init
@@ -41,7 +41,7 @@ loop-start-init c = record {
   low = omega arith;
   from = omega arith;
   within = omega arith;
-  left = λ held last. ap (λ (t : Bool). taken_among c.args.narrow held c.args.line.now last (words_from c.args.at t (drop c.args.at c.args.line.now))) (sym (not_begun c.args.line.now c.args.at));
+  left = λ held last. rw (not_begun c.args.line.now c.args.at);
 }
 
 pub returns-clause-words : goal.returns-clause-words
