@@ -220,3 +220,5 @@ module _ {K : Type 0} (o : Order K) (added : Record) (t : ColouredTree) {from pa
 
   pub insert_puts : IsLawful o → IsTable o (items_of_records (rows t)) → {rs : List Record} → rs ≡ rows (plugged path (branch true tip added tip)) → PutsIn o added (rows t) rs
   insert_puts law is e = e ∙ ap (λ p. rows (plugged p (branch true tip added tip))) way_there ∙ rows_grown o law added t is
+
+pub ruleset insert_place = (insert_whole, insert_few)

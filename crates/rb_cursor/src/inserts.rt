@@ -36,6 +36,7 @@ use word_layout::places::{left_of, right_of};
 use word_layout::{Store, TreeCopy};
 
 /// Puts a record at its place, after those that are not greater.
+#[tactic(auto, using(crate::proofs::InsertSteps::insert_place))]
 pub fn insert<O: TreeOrder>(
     out: &mut Vec<Store>,
     copy: TreeCopy,
@@ -65,6 +66,7 @@ pub fn insert<O: TreeOrder>(
 /// As [`insert`] puts it, unless its item meets one of the tree: then nothing changes. Returns
 /// whether it does. In the tree no item beyond one that is apart from the item can meet it.
 #[inline(always)]
+#[tactic(auto, using(crate::proofs::InsertSteps::insert_place))]
 pub fn insert_apart<O: TreeOrder>(
     out: &mut Vec<Store>,
     copy: TreeCopy,

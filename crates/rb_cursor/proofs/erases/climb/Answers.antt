@@ -1,12 +1,9 @@
 -- Each goal of the loop is one of the facts of EraseSteps at the values of the step.
-use Rattle.rb_cursor.proofs.Words.{◌≡◌, ◌<◌, refl, sym, ◌∙◌, ap, subst, arith, length, length-append, copy_number, closed_to, most_on_climb}
+use Rattle.rb_cursor.proofs.Words.{◌≡◌, ◌<◌, sym, ◌∙◌, ap, subst, arith, length, length-append, copy_number, closed_to, most_on_climb}
 use Rattle.rb_cursor.proofs.StepLemmas.{shorter, closed_room}
-use Rattle.rb_cursor.proofs.EraseSteps.{EraseEnds, erase_begins, erase_filled, fill_fits, relink_fits, there_is, erase_stays, erase_arrived}
+use Rattle.rb_cursor.proofs.EraseSteps.{EraseEnds, erase_filled, fill_fits, relink_fits, there_is, erase_stays, erase_arrived}
 use Rattle.rb_cursor.proofs.erases.climb.Goals as goal
 use Rattle.rb_cursor.proofs.erases.climb.Goals.{else-loop-copy-test, then-loop-copy-test+in-Some+then-not-short}
-
-pub loop-copy-init : goal.loop-copy-init
-loop-copy-init c = record { rises = erase_begins c.link-after.ensures c.args.out.now.items; few = c.requires.steps; room = refl; capacity = refl }
 
 pub fill-short-requires-clause-list : goal.fill-short-requires-clause-list
 fill-short-requires-clause-list c =

@@ -1,8 +1,8 @@
 -- Each goal of the loop is one of the facts of InsertSteps at the values of the step.
-use Rattle.rb_cursor.proofs.Words.{◌≡◌, ℕ, ◌-◌, [], ◌∷◌, ◌++◌, refl, sym, ◌∙◌, ap, subst, arith, length, length-append, append_assoc, vec_capacity, copy_number, Store, Left, set_link, tip, rows, shape, blackened, IsRedBlack, link, relink_root, Lead, plugged}
+use Rattle.rb_cursor.proofs.Words.{◌≡◌, ℕ, ◌-◌, [], ◌∷◌, ◌++◌, refl, sym, ◌∙◌, ap, subst, arith, length, length-append, append_assoc, vec_capacity, copy_number, Store, Left, set_link, tip, shape, blackened, IsRedBlack, link, relink_root, Lead, plugged}
 use Rattle.rb_cursor.proofs.StepLemmas.{shorter}
 use Rattle.rb_cursor.proofs.InsertSteps.{InsertEnds, insert_begins, insert_at_red, insert_at_black, mend_fits, relink_fits, there_is, insert_settled_black, insert_settled_below, insert_topmost}
-use Rattle.rb_cursor.proofs.InsertSteps.{ends_rows, ends_lead, ends_few}
+use Rattle.rb_cursor.proofs.InsertSteps.{ends_lead, ends_few}
 use Rattle.rb_cursor.proofs.inserts.grow.Goals as goal
 use Rattle.rb_cursor.proofs.inserts.grow.Goals.{in-Some+then-not-red, in-Some+else-not-red+else-above+else-clashes, in_default}
 
@@ -101,9 +101,6 @@ pub relink_root-requires : goal.relink_root-requires
 relink_root-requires c =
     let e = ends c in
     omega (arith, ends_few e, ap length (roots c), simp length-append at (ap length e.stores), c.requires.list, c.match-above.out.ok.0, c.args.out.now.ok.0, kept c)
-
-pub returns-clause-rows : goal.returns-clause-rows
-returns-clause-rows c = ap (λ z. rows z.tree) c.blacken.ensures ∙ ends_rows (ends c.before)
 
 pub returns-clause-balanced : goal.returns-clause-balanced
 returns-clause-balanced c = subst (λ z. IsRedBlack z.tree) (sym c.blacken.ensures) ((ends c.before).good c.requires.good)

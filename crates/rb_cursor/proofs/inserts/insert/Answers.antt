@@ -1,17 +1,7 @@
 -- The way up from the place of the item: the facts of InsertSteps there.
-use Rattle.rb_cursor.proofs.Words.{◌≡◌, sym, ◌∙◌, ap, subst, arith, copy_number, shape, IsRedBlack, link, AddsLinks}
-use Rattle.rb_cursor.proofs.InsertSteps.{insert_whole, insert_few, insert_puts}
+use Rattle.rb_cursor.proofs.Words.{◌≡◌, subst, copy_number, AddsLinks}
+use Rattle.rb_cursor.proofs.InsertSteps.{insert_whole, insert_puts}
 use Rattle.rb_cursor.proofs.inserts.insert.Goals as goal
-
-pub grow-requires-clause-good : goal.grow-requires-clause-good
-grow-requires-clause-good g c = subst IsRedBlack (sym (insert_whole g.O.TreeOrder.order c.args.added c.args.cursor.now.tree c.seek_leaf.ensures.path c.requires.whole)) c.requires.good
-
-pub grow-requires-clause-root : goal.grow-requires-clause-root
-grow-requires-clause-root g c = c.link-root.ensures ∙ ap (λ t. link (shape t)) (sym (insert_whole g.O.TreeOrder.order c.args.added c.args.cursor.now.tree c.seek_leaf.ensures.path c.requires.whole))
-
-pub grow-requires-clause-steps : goal.grow-requires-clause-steps
-grow-requires-clause-steps g c =
-    omega (arith, insert_few g.O.TreeOrder.order c.args.added c.args.cursor.now.tree c.seek_leaf.ensures.path c.requires.whole, c.requires.steps)
 
 pub returns-clause-rows : goal.returns-clause-rows
 returns-clause-rows g c = insert_puts g.O.TreeOrder.order c.args.added c.args.cursor.now.tree c.seek_leaf.ensures.path c.requires.whole g.met.O.TreeOrder.lawful c.requires.table c.grow.ensures.rows

@@ -1,28 +1,10 @@
 -- The way up from the place of the item: the facts of InsertSteps there.
-use Rattle.rb_cursor.proofs.Words.{◌≡◌, refl, sym, ◌∙◌, ap, subst, arith, copy_number, shape, IsRedBlack, link, AddsLinks}
-use Rattle.rb_cursor.proofs.InsertSteps.{insert_whole, insert_few, insert_puts}
-use Rattle.rb_cursor.proofs.StepLemmas.{all_back}
+use Rattle.rb_cursor.proofs.Words.{◌≡◌, subst, copy_number, AddsLinks}
+use Rattle.rb_cursor.proofs.InsertSteps.{insert_whole, insert_puts}
 use Rattle.rb_cursor.proofs.inserts.insert_apart.Goals as goal
-
-pub grow-requires-clause-good : goal.grow-requires-clause-good
-grow-requires-clause-good g c = subst IsRedBlack (sym (insert_whole g.O.TreeOrder.order c.args.added c.args.cursor.now.tree (c.seek_apart.ensures.path c.if-seek_apart.false) c.requires.whole)) c.requires.good
-
-pub grow-requires-clause-root : goal.grow-requires-clause-root
-grow-requires-clause-root g c = c.link-root.ensures ∙ ap (λ t. link (shape t)) (sym (insert_whole g.O.TreeOrder.order c.args.added c.args.cursor.now.tree (c.seek_apart.ensures.path c.if-seek_apart.false) c.requires.whole))
-
-pub grow-requires-clause-steps : goal.grow-requires-clause-steps
-grow-requires-clause-steps g c =
-    omega (arith, insert_few g.O.TreeOrder.order c.args.added c.args.cursor.now.tree (c.seek_apart.ensures.path c.if-seek_apart.false) c.requires.whole, c.requires.steps)
 
 pub returns-clause-rows : goal.returns-clause-rows
 returns-clause-rows g c = λ _. insert_puts g.O.TreeOrder.order c.args.added c.args.cursor.now.tree (c.seek_apart.ensures.path c.if-seek_apart.false) c.requires.whole g.met.O.TreeOrder.lawful c.requires.table c.grow.ensures.rows
 
 pub returns-clause-links : goal.returns-clause-links
 returns-clause-links g c = λ _. subst (λ t. AddsLinks (λ i. i ≡ c.args.added.node) (copy_number c.args.copy) t c.grow.new.cursor.tree c.args.out.now c.grow.new.out) (insert_whole g.O.TreeOrder.order c.args.added c.args.cursor.now.tree (c.seek_apart.ensures.path c.if-seek_apart.false) c.requires.whole) c.grow.ensures.links
-
-pub returns-then-seek_apart-clause-unchanged : goal.returns-then-seek_apart-clause-unchanged
-returns-then-seek_apart-clause-unchanged g c = λ _. (
-  all_back c.args.cursor.now c.seek_apart.new.self c.close_all.new.self c.requires.whole
-      c.seek_apart.ensures.whole c.seek_apart.ensures.room c.close_all.ensures,
-  refl,
-)
