@@ -55,8 +55,8 @@ pub record Halves (red : Bool) (a b : ColouredTree) (h : ℕ) : Type 0 where
   pub near_black : red ≡ true → is_red a ≡ false
   pub far_black : red ≡ true → is_red b ≡ false
 
-pub halves : (s : Side) (red : Bool) (a : ColouredTree) (x : Record) (b : ColouredTree) (h : ℕ) → Sound (sided s red a x b) h → Halves red a b h
-halves Left true a x b h is = record {
+halved : (red : Bool) (a : ColouredTree) (x : Record) (b : ColouredTree) (h : ℕ) → Sound (branch red a x b) h → Halves red a b h
+halved true a x b h is = record {
   height = h;
   level = refl;
   near = record { calm = is.calm.2; high = is.high.0 };
@@ -64,17 +64,8 @@ halves Left true a x b h is = record {
   near_black = λ e. is.calm.0;
   far_black = λ e. is.calm.1;
 }
-halves Right true a x b h is = record {
-  height = h;
-  level = refl;
-  near = record { calm = is.calm.3; high = is.high.1 };
-  far = record { calm = is.calm.2; high = is.high.0 };
-  near_black = λ e. is.calm.1;
-  far_black = λ e. is.calm.0;
-}
-halves Left false a x b zero is = absurd is.high
-halves Right false a x b zero is = absurd is.high
-halves Left false a x b (suc h) is = record {
+halved false a x b zero is = absurd is.high
+halved false a x b (suc h) is = record {
   height = h;
   level = refl;
   near = record { calm = is.calm.0; high = is.high.0 };
@@ -82,14 +73,12 @@ halves Left false a x b (suc h) is = record {
   near_black = λ e. absurd (cc);
   far_black = λ e. absurd (cc);
 }
-halves Right false a x b (suc h) is = record {
-  height = h;
-  level = refl;
-  near = record { calm = is.calm.1; high = is.high.1 };
-  far = record { calm = is.calm.0; high = is.high.0 };
-  near_black = λ e. absurd (cc);
-  far_black = λ e. absurd (cc);
-}
+
+pub halves : (s : Side) (red : Bool) (a : ColouredTree) (x : Record) (b : ColouredTree) (h : ℕ) → Sound (sided s red a x b) h → Halves red a b h
+halves Left red a x b h is = halved red a x b h is
+halves Right red a x b h is =
+    let v = halved red b x a h is in
+    record { height = v.height; level = v.level; near = v.far; far = v.near; near_black = v.far_black; far_black = v.near_black }
 
 pub sound_over : (s : Side) (red : Bool) (a : ColouredTree) (x : Record) (b : ColouredTree) (h : ℕ) → (red ≡ true → is_red a ≡ false) → (red ≡ true → is_red b ≡ false) → Sound a h → Sound b h → Sound (sided s red a x b) (over red h)
 sound_over s true a x b h ra rb p q = sound_red s a x b h (ra refl) (rb refl) p q

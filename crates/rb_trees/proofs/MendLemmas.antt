@@ -41,9 +41,6 @@ module _ (s : Side) (y : Record) (far : ColouredTree) where
 
     module _ (outer : ColouredTree) (x : Record) (inner : ColouredTree) (o : Sound outer h) (i : Sound inner h) (one : is_red outer ≡ true → is_red inner ≡ false)
         (n : IsNear (sided s true outer x inner)) (e : HasBlackHeight (sided s true outer x inner) h) where
-      near : ColouredTree
-      near = sided s true outer x inner
-
       outer_sound : is_red outer ≡ true → Sound (mended_over s Outer (sided s true outer x inner) y far) (suc h)
       outer_sound ro =
           let t = sided s true outer x inner in

@@ -47,19 +47,18 @@ found_lies seen (branch red l y r) x e =
       | Greater ↦ λ s f. found_lies seen r x f
     ]) refl e
 
+lies_equal : (same less : Bool) → cond same Equal (cond less Less Greater) ≡ Equal → same ≡ true
+lies_equal true less e = refl
+lies_equal false true e = absurd (cc)
+lies_equal false false e = absurd (cc)
+
 pub word_found : (a : ℕ) (t : ColouredTree) (x : Record) → found (first_word_at a) t ≡ Some x → x.item.a ≡ a
 word_found a t x e =
-    (elim (a == x.item.a) as (λ b. (a == x.item.a) ≡ b → cond b Equal (cond (nat_lt a x.item.a) Less Greater) ≡ Equal → x.item.a ≡ a) [
-      | true ↦ λ f g. sym (eqb-true a x.item.a f)
-      | false ↦ λ f. elim (nat_lt a x.item.a) as (λ v. cond v Less Greater ≡ Equal → x.item.a ≡ a) [ true ↦ λ g. absurd (cc) | false ↦ λ g. absurd (cc) ]
-    ]) refl (found_lies (first_word_at a) t x e)
+    sym (eqb-true a x.item.a (lies_equal (a == x.item.a) (nat_lt a x.item.a) (found_lies (first_word_at a) t x e)))
 
 pub item_found : (less : Item → Item → Bool) (i : Item) (t : ColouredTree) (x : Record) → found (item_lies less i) t ≡ Some x → x.item.a ≡ i.a
 item_found less i t x e =
-    (elim (x.item.a == i.a) as (λ b. (x.item.a == i.a) ≡ b → cond b Equal (cond (less i x.item) Less Greater) ≡ Equal → x.item.a ≡ i.a) [
-      | true ↦ λ f g. eqb-true x.item.a i.a f
-      | false ↦ λ f. elim (less i x.item) as (λ v. cond v Less Greater ≡ Equal → x.item.a ≡ i.a) [ true ↦ λ g. absurd (cc) | false ↦ λ g. absurd (cc) ]
-    ]) refl (found_lies (item_lies less i) t x e)
+    eqb-true x.item.a i.a (lies_equal (x.item.a == i.a) (less i x.item) (found_lies (item_lies less i) t x e))
 
 -- first words lead, where they rise along the order
 module _ {K : Type 0} (o : Order K) (line : IsInLine o) (a : ℕ) where

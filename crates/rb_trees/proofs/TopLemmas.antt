@@ -79,9 +79,6 @@ lone_lost c red l x = record {
 -- the next node takes the place of a top that has a right subtree
 module _ (c : ℕ) (red : Bool) (l : ColouredTree) (x : Record) (r : ColouredTree) (f : Record) (u : ColouredTree) (ss : List Store)
     (first : rows r ≡ f ∷ rows u) where
-  abbrev links_of : List Store
-  links_of = set_link Left c f.node (link (shape l)) ∷ set_link Right c f.node (link (shape u)) ∷ []
-
   next_relinks : (n : ℕ) → c ≤ 1 → HasRoom n Nothing (fork (shape l) x.node (shape r)) → Among (shape r) f.node → Relinks n c (Own Nothing (In (f.node ∷ [])) (shape r)) (shape r) (shape u) ss
       → Relinks n c (Own Nothing (In []) (fork (shape l) x.node (shape r))) (fork (shape l) x.node (shape r)) (fork (shape l) f.node (shape u)) (ss ++ (set_link Left c f.node (link (shape l)) ∷ set_link Right c f.node (link (shape u)) ∷ []))
   next_relinks n small room in_r i =
