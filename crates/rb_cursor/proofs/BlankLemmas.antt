@@ -1,10 +1,7 @@
 -- Blank nodes: one is planted, one comes back, one more is put into the slab.
 use Rattle.rb_cursor.proofs.Words.{◌≡◌, ℕ, suc, ◌+◌, ◌-◌, ◌^◌, ◌<◌, ◌≤◌, Bool, true, false, List, [], ◌∷◌, length, if◌then◌else◌, Some, None, inl, inr, refl, sym, ap, subst, ◌∙◌, arith, ◌==◌, cases_eq, Slab, get, slab_len, with_value, Updates, Updates-with_value, Record, ColouredTree, tip, branch, Left, Node, Inside, Zipper, weight, HasOneSubtree, only_subtree, Keyed, nil, keyed, link_of, link_to, plain, plain_path, size, at_key, uses, path_uses, list_uses, node_with, node_of, IsLinked, IsChain, with_last_link, IsPlace}
 use Rattle.facts.proofs.Numbers.{if_suc}
-use Rattle.rb_cursor.proofs.KeyedLemmas.{at_same, at_apart, at_most, linked_kept, path_kept}
-use Rattle.rb_cursor.proofs.KeyedLemmas.{chain_kept, linked_beside, path_beside, chain_beside}
-use Rattle.rb_cursor.proofs.KeyedLemmas.{linked_vacant, path_vacant, chain_vacant}
-use Rattle.rb_cursor.proofs.KeyedLemmas.{same_len}
+use Rattle.rb_cursor.proofs.KeyedLemmas.{at_same, at_apart, at_most, linked_kept, path_kept, chain_kept, linked_beside, path_beside, chain_beside, linked_vacant, path_vacant, chain_vacant, same_len}
 use Rattle.rb_cursor.proofs.HeldLemmas.{IsInside, show, Held, Moved, held, held_on, none_there, shut}
 use Rattle.rb_cursor.proofs.TurnLemmas.{IsLoose, tightened}
 

@@ -1,12 +1,8 @@
 -- Going up from the tree in hand, and writes of the node in hand.
 use Rattle.rb_cursor.proofs.Words.{◌≡◌, ℕ, suc, ◌-◌, ◌<◌, ◌≤◌, Bool, List, [], ◌∷◌, length, if◌then◌else◌, Some, None, inl, inr, refl, sym, ap, subst, ◌∙◌, arith, cases_eq, le-ltb, lt-ltb, Slab, get, with_value, Updates-with_value, Record, ColouredTree, branch, Node, Step, Side, Left, Right, Inside, Above, Zipper, sided, joined, plugged, closed_zipper, closed_to, IsNearest, Keyed, keyed, Level, link_of, plain, plain_level, plain_path, node_with, node_of, sided_node, record_of, step_at, IsPlace}
-use Rattle.rb_cursor.proofs.KeyedLemmas.{at_same}
-use Rattle.rb_cursor.proofs.KeyedLemmas.{linked_beside, path_beside, chain_beside}
-use Rattle.rb_cursor.proofs.KeyedLemmas.{steps_length}
-use Rattle.rb_cursor.proofs.KeyedLemmas.{plain_length, same_len}
+use Rattle.rb_cursor.proofs.KeyedLemmas.{at_same, linked_beside, path_beside, chain_beside, steps_length, plain_length, same_len}
 use Rattle.rb_cursor.proofs.SideLemmas.{read-sided, plain-joined}
-use Rattle.rb_cursor.proofs.HeldLemmas.{IsInside, show, Held, Moved, held, held_on, shut, back}
-use Rattle.rb_cursor.proofs.HeldLemmas.{gone_back, without_step}
+use Rattle.rb_cursor.proofs.HeldLemmas.{IsInside, show, Held, Moved, held, held_on, shut, back, gone_back, without_step}
 
 -- the node in hand is written anew, with the same subtrees
 pub record Rewritten (i : Inside) (now : Zipper) (key : ℕ) (red : Bool) (row : Record) (n : Node) :

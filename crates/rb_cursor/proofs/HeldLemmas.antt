@@ -1,11 +1,8 @@
 -- What the fields of a cursor hold, and what the calls that go down and up make of it.
 use Rattle.rb_cursor.proofs.Words.{◌≡◌, ℕ, suc, ◌+◌, ◌-◌, ◌<◌, ◌≤◌, Bool, List, [], ◌∷◌, length, Option, Some, None, is_some, count_by, set, refl, sym, ap, subst, ◌∙◌, arith, get_or-set_same, set-get_or, Slab, get, slab_len, ContainsKey, with_value, Record, ColouredTree, tip, Node, Step, Side, Left, Inside, Above, Zipper, sided, child_at, weight, OpensSide, Keyed, nil, Level, link_of, link_to, plain, plain_level, plain_path, sided_node, record_of, IsPath, tree_from, no_step, step_at, IsPlace, AreSteps, IsCursor, path_from}
 use Rattle.rb_cursor.specs.Places.{shown}
-use Rattle.rb_cursor.proofs.SideLemmas.{joined_keyed, seen, nothing, parted, linked-joined, read-sided}
-use Rattle.rb_cursor.proofs.SideLemmas.{plain-joined, link-joined, uses-joined, size-joined}
-use Rattle.rb_cursor.proofs.SideLemmas.{weight-sided, child-sided}
-use Rattle.rb_cursor.proofs.KeyedLemmas.{tree_is}
-use Rattle.rb_cursor.proofs.KeyedLemmas.{path_is, steps_kept, steps_length, plain_length}
+use Rattle.rb_cursor.proofs.SideLemmas.{joined_keyed, seen, nothing, parted, linked-joined, read-sided, plain-joined, link-joined, uses-joined, size-joined, weight-sided, child-sided}
+use Rattle.rb_cursor.proofs.KeyedLemmas.{tree_is, path_is, steps_kept, steps_length, plain_length}
 
 abbrev pub IsInside : Inside → Type 0
 IsInside i = IsCursor i.nodes i.tree i.steps i.depth i.blank i.room

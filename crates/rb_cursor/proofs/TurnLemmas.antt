@@ -1,13 +1,8 @@
 -- Changes that put another node at the top of the tree in hand: the link of the nearest node above
 -- follows.
 use Rattle.rb_cursor.proofs.Words.{◌≡◌, ◌≢◌, ℕ, suc, ◌+◌, ◌^◌, ◌<◌, ◌≤◌, Bool, List, [], ◌∷◌, length, Some, refl, sym, ap, subst, ◌∙◌, arith, Slab, get, slab_len, with_value, Updates-with_value, Record, ColouredTree, tip, Node, Step, Side, Inside, Zipper, Keyed, nil, Level, link_of, size, path_size, at_key, uses, path_uses, list_uses, sided_node, plain, plain_path, IsLinked, IsPath, IsChain, opposite, turned, child_at, with_link, with_node_link, with_step_link, step_at, LastLeadsOn, with_last_link, IsPlace, AreSteps}
-use Rattle.rb_cursor.proofs.KeyedLemmas.{at_same, linked_kept}
-use Rattle.rb_cursor.proofs.KeyedLemmas.{chain_kept, linked_beside, path_beside, chain_beside}
-use Rattle.rb_cursor.proofs.KeyedLemmas.{same_len}
-use Rattle.rb_cursor.proofs.SideLemmas.{joined_keyed, seen, nothing, parted, linked-joined}
-use Rattle.rb_cursor.proofs.SideLemmas.{link-joined, uses-joined, size-joined, child-sided}
-use Rattle.rb_cursor.proofs.SideLemmas.{relinked, coloured-sided}
-use Rattle.rb_cursor.proofs.SideLemmas.{plain-turned, plain-lone, tip-turned}
+use Rattle.rb_cursor.proofs.KeyedLemmas.{at_same, linked_kept, chain_kept, linked_beside, path_beside, chain_beside, same_len}
+use Rattle.rb_cursor.proofs.SideLemmas.{joined_keyed, seen, nothing, parted, linked-joined, link-joined, uses-joined, size-joined, child-sided, relinked, coloured-sided, plain-turned, plain-lone, tip-turned}
 use Rattle.rb_cursor.proofs.HeldLemmas.{IsInside, show, Held, Moved, shut, held_on}
 
 -- all but the link that leads to the tree in hand, which leads elsewhere

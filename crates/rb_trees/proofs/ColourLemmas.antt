@@ -1,6 +1,5 @@
 -- Colours and black heights, by the sides of a node.
-use Rattle.rb_trees.proofs.Words.{◌≡◌, ℕ, zero, suc, true, false, refl, Record, Side, Left, Right, ColouredTree, tip, branch, is_red, blackened, HasBlackHeight, HasNoClash, IsRedBlack, sided, Sound}
-use Rattle.std.proofs.Common.{Bool}
+use Rattle.rb_trees.proofs.Words.{◌≡◌, ℕ, zero, suc, true, false, refl, Record, Side, Left, Right, ColouredTree, tip, branch, is_red, blackened, HasBlackHeight, HasNoClash, IsRedBlack, sided, Sound, Bool}
 
 -- no red node has a red child, but the top may have one
 abbrev pub IsNear : ColouredTree → Type 0

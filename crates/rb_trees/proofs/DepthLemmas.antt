@@ -1,6 +1,5 @@
 -- How deep a red-black tree is.
-use Rattle.rb_trees.proofs.Words.{◌≡◌, ℕ, zero, suc, ◌+◌, ◌*◌, ◌≤◌, ◌^◌, true, false, refl, sym, subst, arith, length, Nodes, none, listed, ColouredTree, tip, branch, is_red, shape, HasBlackHeight, HasNoClash, IsBalanced, depth}
-use Rattle.std.proofs.Common.{Bool}
+use Rattle.rb_trees.proofs.Words.{◌≡◌, ℕ, zero, suc, ◌+◌, ◌*◌, ◌≤◌, ◌^◌, true, false, refl, sym, subst, arith, length, Nodes, none, listed, ColouredTree, tip, branch, is_red, shape, HasBlackHeight, HasNoClash, IsBalanced, depth, Bool}
 use Rattle.std.proofs.lemmas.Nat.{pow-add}
 use Rattle.std.proofs.Math.Nat.{pow-suc, pow-le-pow_right, mul-le-mul}
 use Rattle.word_layout.proofs.HoldsLemmas.{size, size_listed}

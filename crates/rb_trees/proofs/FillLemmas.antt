@@ -1,6 +1,5 @@
 -- A filled node: its records, its colours and black height, where its stores lead, and how many.
-use Rattle.rb_trees.proofs.Words.{◌≡◌, ℕ, zero, suc, ◌<◌, ◌≤◌, true, false, cond, List, [], ◌∷◌, ◌++◌, length, length-append, refl, sym, ◌∙◌, ap, subst, inl, inr, arith, append_assoc, not, Store, fork, Record, Side, Left, Right, ColouredTree, tip, branch, is_red, blackened, shape, rows, opposite, on, sided, link, relink, turned, turn_links, turn_links_over, Remainder, whole, lowered, filled_over_black, fill_links_over_black, filled_over, filled, fill_links_over, fill_links, Among, IsSeparate, Relinks, Sound, Fits}
-use Rattle.std.proofs.Common.{Bool}
+use Rattle.rb_trees.proofs.Words.{◌≡◌, ℕ, zero, suc, ◌<◌, ◌≤◌, true, false, cond, List, [], ◌∷◌, ◌++◌, length, length-append, refl, sym, ◌∙◌, ap, subst, inl, inr, arith, append_assoc, not, Store, fork, Record, Side, Left, Right, ColouredTree, tip, branch, is_red, blackened, shape, rows, opposite, on, sided, link, relink, turned, turn_links, turn_links_over, Remainder, whole, lowered, filled_over_black, fill_links_over_black, filled_over, filled, fill_links_over, fill_links, Among, IsSeparate, Relinks, Sound, Fits, Bool}
 use Rattle.rb_trees.proofs.SideLemmas.{red_sided, link_sided}
 use Rattle.rb_trees.proofs.TurnLemmas.{rows_blackened, rows_sided, rows_turned, turned_sided, turned_back, turn_two, moved_one, relink_moved}
 use Rattle.rb_trees.proofs.ColourLemmas.{over, near_of_calm, black_blackened, sound_blackened, sound_black, sound_red, sound_over}

@@ -1,6 +1,5 @@
 -- The steps up of an insert and of an erase.
-use Rattle.rb_trees.proofs.Words.{◌≡◌, ℕ, zero, suc, true, false, List, [], ◌∷◌, ◌++◌, refl, sym, ◌∙◌, ap, subst, inl, append-nil, Store, Record, Side, Left, Right, ColouredTree, tip, branch, is_red, blackened, shape, rows, HasBlackHeight, HasNoClash, IsRedBlack, sided, set_link, link, relink, clash, mended, mend_links, filled, fill_links, filled_over, Above, joined, plugged, Relinks, Replaced, Sound, Fits, Nothing, In, Lost}
-use Rattle.std.proofs.Common.{Bool}
+use Rattle.rb_trees.proofs.Words.{◌≡◌, ℕ, zero, suc, true, false, List, [], ◌∷◌, ◌++◌, refl, sym, ◌∙◌, ap, subst, inl, append-nil, Store, Record, Side, Left, Right, ColouredTree, tip, branch, is_red, blackened, shape, rows, HasBlackHeight, HasNoClash, IsRedBlack, sided, set_link, link, relink, clash, mended, mend_links, filled, fill_links, filled_over, Above, joined, plugged, Relinks, Replaced, Sound, Fits, Nothing, In, Lost, Bool}
 use Rattle.rb_trees.proofs.SideLemmas.{red_sided, link_sided}
 use Rattle.rb_trees.proofs.ColourLemmas.{IsNear, near_of_calm, blackened_good, over, halves, sound_over}
 use Rattle.rb_trees.proofs.RelinkLemmas.{planted}

@@ -1,6 +1,5 @@
 -- From the links inside a tree to what a copy holds.
-use Rattle.rb_trees.proofs.Words.{◌≡◌, ℕ, ◌<◌, ◌≤◌, true, false, cond, List, [], ◌∷◌, ◌++◌, length, map, refl, sym, ◌∙◌, ap, subst, inl, inr, ⊎_elim, arith, ◌==◌, Contains, slice_set, AllByRecursion, eqb-true, map-append, Contains-append_left, Contains-append_right, all_append, all_left, all_right, Contains-rest, Store, Nodes, none, fork, at, root_word, left_word, right_word, item_at, items, listed, words_for, Leads, words_after_all, IsLinkWord, AreLinkStores, at_stored, at_other, untouched, after_append, length_after, Record, ColouredTree, tip, branch, shape, rows, link, relink_root, Among, LeadLinks, items_of_records, IsLinkOf, root_no_link, owns_no_root, owns_links, owns_values, Relinks, length-map}
-use Rattle.rb_trees.specs.Linked.{Inner}
+use Rattle.rb_trees.proofs.Words.{◌≡◌, ℕ, ◌<◌, ◌≤◌, true, false, cond, List, [], ◌∷◌, ◌++◌, length, map, refl, sym, ◌∙◌, ap, subst, inl, inr, ⊎_elim, arith, ◌==◌, Contains, slice_set, AllByRecursion, eqb-true, map-append, Contains-append_left, Contains-append_right, all_append, all_left, all_right, Contains-rest, Store, Nodes, none, fork, at, root_word, left_word, right_word, item_at, items, listed, words_for, Leads, words_after_all, IsLinkWord, AreLinkStores, at_stored, at_other, untouched, after_append, length_after, Record, ColouredTree, tip, branch, shape, rows, link, relink_root, Among, LeadLinks, items_of_records, IsLinkOf, root_no_link, owns_no_root, owns_links, owns_values, Relinks, length-map, Inner}
 use Rattle.rb_trees.proofs.RelinkLemmas.{link_fits}
 
 pub leads_link : (m : List ℕ) (n c w : ℕ) (t : Nodes) → Leads m n c w t → w ≡ link t

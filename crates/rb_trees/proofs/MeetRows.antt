@@ -1,6 +1,5 @@
 -- The search for an item that is not apart.
-use Rattle.rb_trees.proofs.Words.{◌≡◌, ℕ, true, false, cond, List, ◌∷◌, ◌++◌, refl, sym, ◌∙◌, ap, ◌==◌, ◌||◌, ◌&&◌, not, list_any, or-false, Item, Order, Precedes, IsLawful, IsInLine, IsTable, meets, without_all, all_weaker, ColouredTree, tip, branch, rows, items_of_records, meets_on_the_way, meets_anywhere}
-use Rattle.std.proofs.Common.{Bool}
+use Rattle.rb_trees.proofs.Words.{◌≡◌, ℕ, true, false, cond, List, ◌∷◌, ◌++◌, refl, sym, ◌∙◌, ap, ◌==◌, ◌||◌, ◌&&◌, not, list_any, or-false, Item, Order, Precedes, IsLawful, IsInLine, IsTable, meets, without_all, all_weaker, ColouredTree, tip, branch, rows, items_of_records, meets_on_the_way, meets_anywhere, Bool}
 use Rattle.order_laws.proofs.MeetLemmas.{meets_split, meets_none, apart_head, any_head, meeting_head}
 use Rattle.rb_trees.proofs.PlaceRows.{parts, items_append}
 

@@ -1,6 +1,5 @@
 -- The ways down lead to places of the tree that they began in, and are no longer than it is deep.
-use Rattle.rb_trees.proofs.Words.{◌≡◌, suc, ◌+◌, ◌≤◌, true, false, cond, List, ◌∷◌, refl, arith, length, max, Ordering, Less, Equal, Greater, Item, Record, ColouredTree, tip, branch, shape, depth, Above, plugged, past_left, past_right, place_from, way_from, way_at, place_at, leaf_lies, first_way, first_place}
-use Rattle.std.proofs.Common.{Bool}
+use Rattle.rb_trees.proofs.Words.{◌≡◌, suc, ◌+◌, ◌≤◌, true, false, cond, List, ◌∷◌, refl, arith, length, max, Ordering, Less, Equal, Greater, Item, Record, ColouredTree, tip, branch, shape, depth, Above, plugged, past_left, past_right, place_from, way_from, way_at, place_at, leaf_lies, first_way, first_place, Bool}
 use Rattle.facts.proofs.Numbers.{suc-max_left, suc-max_right}
 
 pub plugged_to : (seen : Record → Ordering) (t : ColouredTree) (path : List Above)

@@ -1,7 +1,5 @@
 -- What an insert puts at its place, and what an erase takes out.
-use Rattle.rb_trees.proofs.Words.{◌≡◌, ℕ, suc, true, false, cond, List, [], ◌∷◌, ◌++◌, Some, refl, sym, ◌∙◌, ap, subst, ◌==◌, insert, remove, slice_get, AllByRecursion, map-append, Item, Order, Precedes, IsLawful, IsTable, place_for, place_of, Parted, parted, Lacks, differs_before, all_weaker, Record, ColouredTree, tip, branch, rows, Above, plugged, past_left, past_right, way_from, way_by, items_of_records, Less, Greater}
-use Rattle.std.proofs.Common.{Bool}
-use Rattle.std.proofs.lemmas.Bool.{eq-eqb}
+use Rattle.rb_trees.proofs.Words.{◌≡◌, ℕ, suc, true, false, cond, List, [], ◌∷◌, ◌++◌, Some, refl, sym, ◌∙◌, ap, subst, ◌==◌, insert, remove, slice_get, AllByRecursion, map-append, Item, Order, Precedes, IsLawful, IsTable, place_for, place_of, Parted, parted, Lacks, differs_before, all_weaker, Record, ColouredTree, tip, branch, rows, Above, plugged, past_left, past_right, way_from, way_by, items_of_records, Less, Greater, Bool, eq-eqb}
 
 pub items_append : (xs ys : List Record) → items_of_records (xs ++ ys) ≡ items_of_records xs ++ items_of_records ys
 items_append xs ys = map-append (λ r. r.item) xs ys

@@ -1,7 +1,5 @@
 -- What stores of links make of the links of a tree, one small change after another.
-use Rattle.rb_trees.proofs.Words.{◌≡◌, ◌≢◌, ℕ, suc, ◌<◌, ◌≤◌, true, false, cond, List, [], ◌∷◌, ◌++◌, length, refl, sym, ◌∙◌, subst, inl, inr, ⊎_elim, arith, length-set, ap, ◌⊎◌, ◌==◌, slice_set, eqb-true, Store, Nodes, none, fork, at, words_for, left_word, right_word, words_after_all, at_stored, at_other, after_append, length_after, Owns, owns_append, owns_weaker, link_kept, Record, Side, Left, Right, ColouredTree, tip, branch, blackened, shape, opposite, sided, link_word, set_link, link, relink, turned, turn_links, Among, IsSeparate, Relinks}
-use Rattle.std.proofs.Common.{Bool}
-use Rattle.rb_trees.specs.Linked.{Inner}
+use Rattle.rb_trees.proofs.Words.{◌≡◌, ◌≢◌, ℕ, suc, ◌<◌, ◌≤◌, true, false, cond, List, [], ◌∷◌, ◌++◌, length, refl, sym, ◌∙◌, subst, inl, inr, ⊎_elim, arith, length-set, ap, ◌⊎◌, ◌==◌, slice_set, eqb-true, Store, Nodes, none, fork, at, words_for, left_word, right_word, words_after_all, at_stored, at_other, after_append, length_after, Owns, owns_append, owns_weaker, link_kept, Record, Side, Left, Right, ColouredTree, tip, branch, blackened, shape, opposite, sided, link_word, set_link, link, relink, turned, turn_links, Among, IsSeparate, Relinks, Bool, Inner}
 use Rattle.rb_trees.proofs.SideLemmas.{forked, link_forked, inner_on, on_inner, apart_on, on_apart, among_on, on_among, other_side, other_node, word_in, is_link}
 
 pub inner_kept : (n c : ℕ) (P : ℕ → Type 0) (m : List ℕ) (ss : List Store) → Owns n c P ss → (t : Nodes) → ((i : ℕ) → Among t i → P i → ⊥) → Inner m c t → Inner (words_after_all m ss) c t

@@ -1,7 +1,6 @@
 -- A tree that stands in the place of another below some nodes of a path: what the stores so far make
 -- of the links there, and what follows for the tree above.
-use Rattle.rb_trees.proofs.Words.{◌≡◌, ℕ, ◌<◌, ◌≤◌, List, [], ◌∷◌, ◌++◌, refl, sym, ◌∙◌, ap, subst, inl, inr, ⊎_elim, append_assoc, ◌⊎◌, Store, Nodes, Record, Side, Left, Right, ColouredTree, shape, rows, sided, link, relink, relink_root, Among, IsSeparate, With, HasRoom, Lead, Above, joined, plugged, Relinks, Own, Replaced}
-use Rattle.std.proofs.Common.{Bool}
+use Rattle.rb_trees.proofs.Words.{◌≡◌, ℕ, ◌<◌, ◌≤◌, List, [], ◌∷◌, ◌++◌, refl, sym, ◌∙◌, ap, subst, inl, inr, ⊎_elim, append_assoc, ◌⊎◌, Store, Nodes, Record, Side, Left, Right, ColouredTree, shape, rows, sided, link, relink, relink_root, Among, IsSeparate, With, HasRoom, Lead, Above, joined, plugged, Relinks, Own, Replaced, Bool}
 use Rattle.rb_trees.proofs.SideLemmas.{forked, among_near, separate_near, apart_on, on_among}
 use Rattle.rb_trees.proofs.TurnLemmas.{rows_sided}
 use Rattle.rb_trees.proofs.RelinkLemmas.{then, step}

@@ -1,9 +1,7 @@
 -- What is said of a node of a tree, by its sides.
-use Rattle.rb_trees.proofs.Words.{◌≡◌, ◌≢◌, ℕ, suc, ◌<◌, ◌≤◌, List, refl, sym, inl, inr, ⊎_elim, ◌⊎◌, IsLinkOf, Nodes, fork, at, words_for, Record, Side, Left, Right, ColouredTree, is_red, shape, opposite, sided, link_word, link, Among, IsSeparate}
-use Rattle.std.specs.Prelude.{Bool}
+use Rattle.rb_trees.proofs.Words.{◌≡◌, ◌≢◌, ℕ, suc, ◌<◌, ◌≤◌, List, refl, sym, inl, inr, ⊎_elim, ◌⊎◌, IsLinkOf, Nodes, fork, at, words_for, Record, Side, Left, Right, ColouredTree, is_red, shape, opposite, sided, link_word, link, Among, IsSeparate, Inner, Bool}
 use Rattle.word_layout.proofs.WordLemmas.{left_not_left, left_not_right, right_not_right}
 use Rattle.word_layout.proofs.LinkLemmas.{left_in, right_in}
-use Rattle.rb_trees.specs.Linked.{Inner}
 
 -- a node with this tree on a side, and that one on the other
 abbrev pub forked : Side → Nodes → ℕ → Nodes → Nodes

@@ -1,8 +1,6 @@
 -- A search for a first word comes to the record of that first word, by first words or by the order
 -- of the item.
-use Rattle.rb_trees.proofs.Words.{◌≡◌, ◌≢◌, ℕ, ◌<◌, ◌≤◌, true, false, cond, List, [], ◌∷◌, ◌++◌, Option, Some, None, refl, sym, ◌∙◌, ap, subst, ⊎_elim, arith, ◌==◌, ◌||◌, not, nat_lt, is_some, Contains, AllByRecursion, eqb-true, ne_eqb, ltb-true, ltb-false, Contains-append_cases, Contains-append_left, Contains-append_right, Ordering, Less, Equal, Greater, or-true, Item, Order, Precedes, IsLawful, IsInLine, IsTable, has, parted, all_at, all_weaker, Contains-cons_cases, Contains-rest, Lacks, has_front, has_back, across, all_before, differs, differs_before, Record, ColouredTree, tip, branch, rows, first_word_at, item_lies, record_found_at, found, items_of_records, first_item_of, item_with_word}
-use Rattle.std.proofs.Common.{Bool}
-use Rattle.std.proofs.lemmas.Bool.{eq-eqb}
+use Rattle.rb_trees.proofs.Words.{◌≡◌, ◌≢◌, ℕ, ◌<◌, ◌≤◌, true, false, cond, List, [], ◌∷◌, ◌++◌, Option, Some, None, refl, sym, ◌∙◌, ap, subst, ⊎_elim, arith, ◌==◌, ◌||◌, not, nat_lt, is_some, Contains, AllByRecursion, eqb-true, ne_eqb, ltb-true, ltb-false, Contains-append_cases, Contains-append_left, Contains-append_right, Ordering, Less, Equal, Greater, or-true, Item, Order, Precedes, IsLawful, IsInLine, IsTable, has, parted, all_at, all_weaker, Contains-cons_cases, Contains-rest, Lacks, has_front, has_back, across, all_before, differs, differs_before, Record, ColouredTree, tip, branch, rows, first_word_at, item_lies, record_found_at, found, items_of_records, first_item_of, item_with_word, Bool, eq-eqb}
 use Rattle.order_laws.proofs.WithoutLemmas.{has_either}
 use Rattle.rb_trees.proofs.PlaceRows.{items_append, parts}
 

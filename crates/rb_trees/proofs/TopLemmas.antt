@@ -1,7 +1,5 @@
 -- A node is taken out: the first one of a tree, or its top, whose place the next in order takes.
-use Rattle.rb_trees.proofs.Words.{◌≡◌, ℕ, ◌<◌, ◌≤◌, true, false, List, [], ◌∷◌, ◌++◌, refl, sym, ◌∙◌, ap, subst, inl, inr, ⊎_elim, append-nil, append_assoc, Store, none, fork, words_after_all, after_append, length_after, owns_append, owns_weaker, Record, Left, Right, ColouredTree, tip, branch, is_red, shape, rows, set_link, link, lowered, filled, fill_links, Among, HasRoom, plugged, past_left, first_place, first_way, Above, Relinks, Own, Replaced, Sound, Fits, Nothing, In, Lost}
-use Rattle.std.proofs.Common.{Bool}
-use Rattle.rb_trees.specs.Linked.{Inner}
+use Rattle.rb_trees.proofs.Words.{◌≡◌, ℕ, ◌<◌, ◌≤◌, true, false, List, [], ◌∷◌, ◌++◌, refl, sym, ◌∙◌, ap, subst, inl, inr, ⊎_elim, append-nil, append_assoc, Store, none, fork, words_after_all, after_append, length_after, owns_append, owns_weaker, Record, Left, Right, ColouredTree, tip, branch, is_red, shape, rows, set_link, link, lowered, filled, fill_links, Among, HasRoom, plugged, past_left, first_place, first_way, Above, Relinks, Own, Replaced, Sound, Fits, Nothing, In, Lost, Bool, Inner}
 use Rattle.rb_trees.proofs.ColourLemmas.{halves, over, sound_over}
 use Rattle.rb_trees.proofs.RelinkLemmas.{inner_kept, link_fits, placed}
 use Rattle.rb_trees.proofs.FillLemmas.{rows_lowered, shape_lowered, lowered_fits, rows_filled, fill_relinks}

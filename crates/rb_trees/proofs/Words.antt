@@ -1,7 +1,7 @@
 -- The words that the proofs of this crate use, of whatever crate.
-pub use Rattle.std.proofs.Common.{◌≡◌, ℕ, zero, suc, true, false, refl, ◌+◌, ◌*◌, ◌≤◌, ◌^◌, sym, subst, arith, length, ◌<◌, cond, List, [], ◌∷◌, ◌++◌, length-append, ◌∙◌, ap, inl, inr, append_assoc, append-nil, map, ⊎_elim, Some, ◌≢◌, length-set, Option, None}
+pub use Rattle.std.proofs.Common.{Bool, ◌≡◌, ℕ, zero, suc, true, false, refl, ◌+◌, ◌*◌, ◌≤◌, ◌^◌, sym, subst, arith, length, ◌<◌, cond, List, [], ◌∷◌, ◌++◌, length-append, ◌∙◌, ap, inl, inr, append_assoc, append-nil, map, ⊎_elim, Some, ◌≢◌, length-set, Option, None}
 pub use Rattle.std.proofs.Math.Bool.{or-false, or-true}
-pub use Rattle.std.proofs.lemmas.Bool.{eqb-true, or_cases, or_left, or_right, ne_eqb, ltb-true, ltb-false}
+pub use Rattle.std.proofs.lemmas.Bool.{eq-eqb, eqb-true, or_cases, or_left, or_right, ne_eqb, ltb-true, ltb-false}
 pub use Rattle.std.proofs.lemmas.List.{map-append, length-map}
 pub use Rattle.std.proofs.lemmas.List.Elements.{Contains-append_left, Contains-append_right, Contains-append_cases}
 pub use Rattle.std.specs.List.{AllByRecursion, list_any}
@@ -18,7 +18,7 @@ pub use Rattle.order_laws.specs.declared.items.Item.{Item}
 pub use Rattle.rb_trees.specs.Erased.{Remainder, whole, lowered, filled_over_black, fill_links_over_black, filled_over, filled, fill_links_over, fill_links, first_word_at, item_lies, record_found_at, found}
 pub use Rattle.rb_trees.specs.Found.{items_of_records, meets_on_the_way, meets_anywhere, first_item_of, item_with_word}
 pub use Rattle.rb_trees.specs.Inserted.{clash, mended, mend_links, recoloured, mended_over, mend_links_over}
-pub use Rattle.rb_trees.specs.Linked.{Among, IsSeparate, LeadLinks, With, HasRoom, Lead}
+pub use Rattle.rb_trees.specs.Linked.{Inner, Among, IsSeparate, LeadLinks, With, HasRoom, Lead}
 pub use Rattle.rb_trees.specs.Paths.{Above, joined, plugged, past_left, past_right, place_from, way_from, way_by, way_at, place_at, leaf_lies, first_way, first_place}
 pub use Rattle.rb_trees.specs.Replaced.{Sound, Relinks, Fits, Replaced, Nothing, In, Lost, Own}
 pub use Rattle.rb_trees.specs.Sides.{sided, opposite, on, set_link, link_word}

@@ -1,8 +1,7 @@
 -- Each goal of the loop is one of the facts of InsertSteps at the values of the step.
 use Rattle.rb_cursor.proofs.Words.{◌≡◌, ℕ, ◌-◌, [], ◌∷◌, ◌++◌, refl, sym, ◌∙◌, ap, subst, arith, length, length-append, append_assoc, vec_capacity, copy_number, Store, Left, set_link, tip, shape, blackened, IsRedBlack, link, relink_root, Lead, plugged}
 use Rattle.rb_cursor.proofs.StepLemmas.{shorter}
-use Rattle.rb_cursor.proofs.InsertSteps.{InsertEnds, insert_begins, insert_at_red, insert_at_black, mend_fits, relink_fits, there_is, insert_settled_black, insert_settled_below, insert_topmost}
-use Rattle.rb_cursor.proofs.InsertSteps.{ends_lead, ends_few}
+use Rattle.rb_cursor.proofs.InsertSteps.{InsertEnds, insert_begins, insert_at_red, insert_at_black, mend_fits, relink_fits, there_is, insert_settled_black, insert_settled_below, insert_topmost, ends_lead, ends_few}
 use Rattle.rb_cursor.proofs.inserts.grow.Goals as goal
 use Rattle.rb_cursor.proofs.inserts.grow.Goals.{in-Some+then-not-red, in-Some+else-not-red+else-above+else-clashes, in_default}
 
