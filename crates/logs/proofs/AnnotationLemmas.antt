@@ -1,5 +1,5 @@
 -- Blocks that are read and written one after the other.
-use Rattle.logs.proofs.Definitions.{◌≡◌, ◌∙◌, ℕ, ◌+◌, ◌<◌, ◌≤◌, inl, inr, List, [], ◌∷◌, ◌++◌, length, length-append, arith, refl, sym, ap, subst, Ok, Err, take, append_assoc, append-nil, ◌^◌, Appends, Consumes, IsAtEnd, Keeps, NoneFailed, Rose, device_of, failures_of, Output, WrotePart, contents_of, has_failed, Answering, lines, annotated, annotated_lines, first_held, held_over, Annotates, Begins, Ends, IsCutOff, IsOpen, IsUpToDate, KeepsNothingBack, Passes, Puts, held_in, put_of, LogFault, Annotator}
+use Rattle.logs.proofs.Definitions.{◌≡◌, ◌∙◌, ℕ, ◌+◌, ◌<◌, ◌≤◌, inl, inr, List, [], ◌∷◌, ◌++◌, length, length-append, arith, refl, sym, ap, subst, Ok, Err, take, append_assoc, append-nil, ◌^◌, Appends, Consumes, IsAtEnd, Keeps, NoneFailed, Rose, device_of, failures_of, Output, WrotePart, contents_of, has_failed, Answering, lines, annotated, first_held, held_over, Annotates, Begins, Ends, IsCutOff, IsOpen, IsUpToDate, KeepsNothingBack, Passes, Puts, held_in, put_of, LogFault, Annotator}
 use Rattle.std.proofs.Common.{Option}
 use Rattle.std.specs.Prelude.{◌-◌}
 use Rattle.std.proofs.KnownBytes.{Appends-nil, Appends-trans, Consumes-kept, Consumes-nil, Consumes-trans}
@@ -47,9 +47,8 @@ module _ {answer : Answering} where
         begins = λ more.
             let (behind, is) = put_begins answer (held_over answer first_held (lines p.passed)) p.line' more p.is_open.no_end in (
               behind,
-              ap (λ l. annotated answer (l ++ more)) p.parts ∙ ap (annotated answer) (append_assoc p.passed p.line' more)
-                  ∙ ap (annotated_lines answer first_held) (p.whole (p.line' ++ more)) ∙ lines_then answer first_held (lines p.passed) (lines (p.line' ++ more))
-                  ∙ ap (λ l. annotated answer p.passed ++ l) is ∙ sym (append_assoc (annotated answer p.passed) (put_of p.line') behind)
+              ap (λ l. annotated answer (l ++ more)) p.parts
+                  ∙ (rw (append_assoc p.passed p.line' more, p.whole (p.line' ++ more), lines_then answer first_held (lines p.passed) (lines (p.line' ++ more)), is) (sym (append_assoc (annotated answer p.passed) (put_of p.line') behind)))
                   ∙ ap (λ l. l ++ behind) (sym is_written),
             );
       }
@@ -62,12 +61,8 @@ module _ {answer : Answering} where
       let e = ends p.line' p.is_open in
       let held : held_in a ≡ held_over answer first_held (lines p.passed) = p.held ∙ ap (λ h. held_over answer h (lines p.passed)) came.held in
       let all : lines read ≡ lines p.passed ++ lines p.line' = ap lines p.parts ∙ p.whole p.line' in (
-        ap (λ l. l ++ text) (p.put ∙ ap (λ h. annotated_lines answer h (lines p.passed) ++ put_of p.line') came.held)
-            ∙ append_assoc (annotated answer p.passed) (put_of p.line') text
-            ∙ ap (λ l. annotated answer p.passed ++ l) (e.put ∙ ap (λ h. annotated_lines answer h (lines p.line')) held)
-            ∙ sym (ap (annotated_lines answer first_held) all ∙ lines_then answer first_held (lines p.passed) (lines p.line')),
-        e.names_are ∙ ap (λ h. (held_over answer h (lines p.line')).names) held
-            ∙ ap (λ h. h.names) (sym (ap (held_over answer first_held) all ∙ held_then answer first_held (lines p.passed) (lines p.line'))),
+        rw (all, lines_then answer first_held (lines p.passed) (lines p.line'), ← held, ← e.put, ← append_assoc) (ap (λ l. l ++ text) (rw came.held at p.put)),
+        rw (all, held_then answer first_held (lines p.passed) (lines p.line'), ← held) e.names_are,
       )
 
 -- the first two bytes, of what was read and of bytes more

@@ -1,6 +1,6 @@
 -- The lines that bytes are, and what is put for them.
-use Rattle.logs.proofs.Definitions.{le-ltb, or_parts, list_any-append, ◌≡◌, ◌∙◌, ℕ, ◌+◌, ◌<◌, ◌≤◌, Bool, true, false, ◌==◌, List, [], ◌∷◌, ◌++◌, length, take, get_or, length-append, refl, sym, ap, append_assoc, append-nil, arith, cond-false, true≢false, onto_first, eqb-true, lt-ltb, ltb-true, take_more, Nowhere, is_byte, Answering, AreWhole, IsLine, has_end, is_long, lines, annotated_lines, held_over, Adds, Ended, Ends, IsOpen, Passes, held_in, kept_of, put_of, Annotator, LogContext}
-use Rattle.logs.proofs.TextLemmas.{none_up_to, nowhere}
+use Rattle.logs.proofs.Definitions.{take_all, le-ltb, or_parts, list_any-append, ◌≡◌, ◌∙◌, ℕ, ◌+◌, ◌<◌, ◌≤◌, Bool, true, false, ◌==◌, List, [], ◌∷◌, ◌++◌, length, take, get_or, length-append, refl, sym, ap, append_assoc, append-nil, arith, cond-false, true≢false, onto_first, eqb-true, lt-ltb, ltb-true, take_more, Nowhere, is_byte, Answering, AreWhole, IsLine, has_end, is_long, lines, annotated_lines, held_over, Adds, Ended, Ends, IsOpen, Passes, held_in, kept_of, put_of, Annotator, LogContext}
+use Rattle.logs.proofs.TextLemmas.{none_up_to}
 use Rattle.memchr.specs.Find.{Passes as HasByte}
 use Rattle.logs.specs.AnnotatedLogs.{annotated_line, held_behind}
 
@@ -49,7 +49,7 @@ whole_then xs ys first second = λ rest.
 
 -- what a search for an end says
 pub none_ends : (bytes : List ℕ) → Nowhere (HasByte (is_byte 10) bytes) 0 (length bytes) → has_end bytes ≡ false
-none_ends bytes none = nowhere 10 bytes none
+none_ends bytes none = ap has_end (sym (take_all (length bytes) bytes (omega arith))) ∙ none_up_to 10 bytes (length bytes) (omega arith) none
 
 pub line_found : (xs : List ℕ) (n : ℕ) → n < length xs → HasByte (is_byte 10) xs n → Nowhere (HasByte (is_byte 10) xs) 0 n → IsLine (take (n + 1) xs)
 line_found xs n below here none =

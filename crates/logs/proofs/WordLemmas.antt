@@ -1,9 +1,11 @@
 -- Words that are no addresses, and the bytes that are leapt over.
-use Rattle.logs.proofs.Definitions.{get_or-take, and_parts, le-ltb, drop-drop, list_any_at, cond_both, lt-leb, ◌≡◌, ◌∙◌, ◌⊎◌, inl, inr, ℕ, zero, suc, ◌+◌, ◌<◌, ◌≤◌, Bool, true, false, cond, not, ◌&&◌, ◌||◌, ◌==◌, List, [], ◌∷◌, length, take, get_or, refl, sym, ap, subst, arith, true≢false, Some, nat_eq, nat_le, reverse, length-drop, list_all, list_any, eqb-true, leb-false, leb-true, lt-ltb, ltb-true, or_cases, drop_more, get_or-drop, length-take, fewest, is_address_byte, is_begun, taken_among, taken_at, address_at, address_of_word, digits_between, begins_joint, has_prefix, is_word_byte, run_of, words_behind, words_from, LogContext, AddressWord}
+use Rattle.logs.proofs.Definitions.{get_or-take, and_parts, le-ltb, drop-drop, list_any_at, cond_both, lt-leb, ◌≡◌, ◌∙◌, ◌⊎◌, inl, inr, ℕ, zero, suc, ◌+◌, ◌<◌, ◌≤◌, Bool, true, false, cond, not, ◌&&◌, ◌||◌, List, [], ◌∷◌, length, take, get_or, refl, sym, ap, arith, true≢false, Some, nat_eq, nat_le, reverse, length-drop, list_all, list_any, eqb-true, lt-ltb, or_cases, drop_more, get_or-drop, length-take, fewest, is_address_byte, is_begun, taken_among, taken_at, address_at, address_of_word, digits_between, begins_joint, has_prefix, is_word_byte, run_of, words_behind, words_from, LogContext, AddressWord}
 use Rattle.std.proofs.Common.{◌-◌, ⊎_elim}
+use Rattle.std.proofs.lemmas.Bool.{cases_lt}
+use Rattle.std.proofs.lemmas.Bool.Decides.{nat_tests}
 use Rattle.facts.proofs.Options.{cond-None}
 use Rattle.std.specs.Prelude.{None, Option, drop}
-use Rattle.std.specs.Char.{digit_value, is_digit}
+use Rattle.std.specs.Char.{is_digit}
 use Rattle.std.specs.Option.{option_map_or}
 use Rattle.texts.specs.Numbers.{numeral}
 use Rattle.logs.specs.declared.words.Word.{Word}
@@ -80,29 +82,22 @@ over_one narrow held line last at within b bytes none = either within (is_word_b
 behind_one : (line : List ℕ) (at b : ℕ) (bytes : List ℕ) → (b ∷ bytes) ≡ drop at line → bytes ≡ drop (at + 1) line
 behind_one line at b bytes is = ap (drop 1) is ∙ drop-drop 1 at line
 
+-- a word is too short, or has the byte at this place
+too_short : (narrow : Bool) (bytes : List ℕ) (n k : ℕ) → k < length bytes → k < fewest narrow → is_address_byte (get_or bytes k 0) ≡ false → (n < fewest narrow) ⊎ (list_any is_other (take n bytes) ≡ true)
+too_short narrow bytes n k below few other = ⊎_elim (λ high. inr (any_at bytes n k high below other)) (λ low. inl (omega (arith, low, few))) (cases_lt k n)
+
 -- bytes up to one of no address, and no more than an address has
 leap_from : (narrow : Bool) (held : LogContext) (line : List ℕ) (last : Option AddressWord) (at : ℕ) (within : Bool) (bytes : List ℕ) (k : ℕ) → bytes ≡ drop at line → k < length bytes → k < fewest narrow → is_address_byte (get_or bytes k 0) ≡ false
     → taken_among narrow held line last (words_from at within bytes) ≡ taken_among narrow held line last (words_from (at + k + 1) (is_word_byte (get_or bytes k 0)) (drop (at + k + 1) line))
 leap_from narrow held line last at within [] k is below few other = absurd (omega arith)
-leap_from narrow held line last at within (b ∷ bytes) k is below few other =
-    over_one narrow held line last at within b bytes (no_address narrow line at n (why (nat_le n k) refl)) ∙ on k below few other (λ j is' below few other. leap_from narrow held line last (at + 1) (is_word_byte b) bytes j is' below few other)
-  where
-    n : ℕ
-    n = run_of is_word_byte (b ∷ bytes)
-
-    why : (t : Bool) → nat_le n k ≡ t → (n < fewest narrow) ⊎ (list_any is_other (take n (drop at line)) ≡ true)
-    why true low = let low' = leb-true n k low in inl (omega (arith, low', few))
-    why false high = inr (subst (λ l. list_any is_other (take n l) ≡ true) is (any_at (b ∷ bytes) n k (leb-false n k high) below other))
-
-    on : (k : ℕ) → k < length (b ∷ bytes) → k < fewest narrow → is_address_byte (get_or (b ∷ bytes) k 0) ≡ false
-        → ((j : ℕ) → bytes ≡ drop (at + 1) line → j < length bytes → j < fewest narrow → is_address_byte (get_or bytes j 0) ≡ false → taken_among narrow held line last (words_from (at + 1) (is_word_byte b) bytes) ≡ taken_among narrow held line last (words_from (at + 1 + j + 1) (is_word_byte (get_or bytes j 0)) (drop (at + 1 + j + 1) line)))
-        → taken_among narrow held line last (words_from (at + 1) (is_word_byte b) bytes) ≡ taken_among narrow held line last (words_from (at + k + 1) (is_word_byte (get_or (b ∷ bytes) k 0)) (drop (at + k + 1) line))
-    on zero below few other later =
-        let place : at + 1 ≡ at + 0 + 1 = omega arith in
-        ap (λ l. taken_among narrow held line last (words_from (at + 1) (is_word_byte b) l)) (behind_one line at b bytes is) ∙ ap (λ m. taken_among narrow held line last (words_from m (is_word_byte b) (drop m line))) place
-    on (suc j) below few other later =
-        let place : at + 1 + j + 1 ≡ at + suc j + 1 = omega arith in
-        later j (behind_one line at b bytes is) (omega arith) (omega arith) other ∙ ap (λ m. taken_among narrow held line last (words_from m (is_word_byte (get_or bytes j 0)) (drop m line))) place
+leap_from narrow held line last at within (b ∷ bytes) zero is below few other =
+    let place : at + 0 + 1 ≡ at + 1 = omega arith in
+    rw (place, ← behind_one line at b bytes is) (over_one narrow held line last at within b bytes (no_address narrow line at (run_of is_word_byte (b ∷ bytes)) (rw (← is) (too_short narrow (b ∷ bytes) (run_of is_word_byte (b ∷ bytes)) zero below few other))))
+leap_from narrow held line last at within (b ∷ bytes) (suc j) is below few other =
+    let place : at + suc j + 1 ≡ at + 1 + j + 1 = omega arith in
+    rw place
+    (over_one narrow held line last at within b bytes (no_address narrow line at (run_of is_word_byte (b ∷ bytes)) (rw (← is) (too_short narrow (b ∷ bytes) (run_of is_word_byte (b ∷ bytes)) (suc j) below few other)))
+    ∙ leap_from narrow held line last (at + 1) (is_word_byte b) bytes j (behind_one line at b bytes is) (omega arith) (omega arith) other)
 
 pub leap : (narrow : Bool) (held : LogContext) (line : List ℕ) (last : Option AddressWord) (start place : ℕ) (within : Bool) → start ≤ place → place < length line → place < start + fewest narrow → is_address_byte (get_or line place 0) ≡ false
     → taken_among narrow held line last (words_from start within (drop start line)) ≡ taken_among narrow held line last (words_from (place + 1) (is_word_byte (get_or line place 0)) (drop (place + 1) line))
@@ -149,11 +144,7 @@ goes_on line start end w below is words =
 
 -- bytes of address words are bytes of words
 pub is_word : (b : ℕ) → is_address_byte b ≡ true → is_word_byte b ≡ true
-is_word b is = ap (λ t. t || b == 95) (lt-ltb (digit_value b) 36 (low (or_cases (is_digit b 16) (digit_value b == 33) is)))
-  where
-    low : (is_digit b 16 ≡ true) ⊎ ((digit_value b == 33) ≡ true) → digit_value b < 36
-    low (inl digit) = let low' = ltb-true (digit_value b) 16 digit in omega (arith, low')
-    low (inr x) = let same = eqb-true (digit_value b) 33 x in omega (arith, same)
+is_word b is = grind (arith, nat_tests, is)
 
 pub some_fewest : (narrow : Bool) → 0 < fewest narrow
 some_fewest true = omega arith
