@@ -2,7 +2,7 @@
 use Rattle.command_io.proofs.Words.{◌≡◌, ◌∙◌, Bool, List, ℕ, Option, Some, None, Result, Ok, Err, IfOk, ap, false, refl, subst}
 use Rattle.texts.specs.Lines.{lines_of}
 use Rattle.modules.specs.Listed.{BoundNames, ListedRegion}
-use Rattle.listing.specs.Opening.{Given, IsOpened, Listed, has_regions, listings_of, listings_with, skipped_modules_of, with_lines}
+use Rattle.listing.specs.Opening.{Given, IsOpened, Listed, listings_of, listings_with, skipped_modules_of, with_lines}
 use Rattle.listing.specs.RegionListing.{regions_of_text}
 use Rattle.listing.specs.SymbolListing.{symbol_counts}
 use Rattle.listing.specs.Tallies.{tallies_by, tallies_of, tallies_with}

@@ -47,28 +47,12 @@ text_of_faulty bytes less =
     ∙ faulty (length bytes) bytes (λ is. omega (arith, is, less))
     ∙ ap (λ t. take n bytes ++ replacement_bytes ++ t) (within_any (length bytes) (length rest) rest (omega (arith, shorter)) (omega arith))
 
--- the text of bytes, behind the characters up to a byte that is none, and that byte
-text_past : (rest text after : List ℕ) (n : ℕ) → n ≡ utf8_valid_len rest → n < length rest → text ≡ take n rest → after ≡ drop (n + 1) rest
-    → flat_map escaped (text_of rest) ≡ flat_map escaped text ++ replacement_bytes ++ flat_map escaped (text_of after)
-text_past rest text after n is_n less is_text is_after =
-    let v = utf8_valid_len rest in
-    let next = drop (v + 1) rest in
-    let texts : text ≡ take v rest = is_text ∙ ap (λ k. take k rest) is_n in
-    let afters : after ≡ next = is_after ∙ ap (λ k. drop (k + 1) rest) is_n in
-    ap (flat_map escaped) (text_of_faulty rest (omega (arith, is_n, less)))
-    ∙ flat_map-append escaped (take v rest ++ replacement_bytes) (text_of next)
-    ∙ ap (λ x. x ++ flat_map escaped (text_of next)) (flat_map-append escaped (take v rest) replacement_bytes)
-    ∙ ap (λ t. flat_map escaped t ++ replacement_bytes ++ flat_map escaped (text_of next)) (sym texts)
-    ∙ ap (λ r. flat_map escaped text ++ replacement_bytes ++ flat_map escaped (text_of r)) (sym afters)
-
--- what was written goes on over both
+-- what was written goes on over the characters up to a byte that is none, and that byte
 moves_past : (all done rest text after : List ℕ) (n : ℕ) → n ≡ utf8_valid_len rest → n < length rest → text ≡ take n rest → after ≡ drop (n + 1) rest
     → all ≡ done ++ flat_map escaped (text_of rest) → all ≡ done ++ flat_map escaped text ++ replacement_bytes ++ flat_map escaped (text_of after)
 moves_past all done rest text after n is_n less is_text is_after e =
-    let more = flat_map escaped (text_of after) in
-    e ∙ ap (λ x. done ++ x) (text_past rest text after n is_n less is_text is_after)
-    ∙ sym (append_assoc done (flat_map escaped text ++ replacement_bytes) more)
-    ∙ ap (λ x. x ++ more) (sym (append_assoc done (flat_map escaped text) replacement_bytes))
+    let v = utf8_valid_len rest in
+    e ∙ (rw (is_text, is_after, is_n, text_of_faulty rest (omega (arith, is_n, less)), flat_map-append escaped (take v rest ++ replacement_bytes) (text_of (drop (v + 1) rest)), flat_map-append escaped (take v rest) replacement_bytes) (simp append_assoc))
 
 pub loop-fault-preserved : goal.loop-fault-preserved
 loop-fault-preserved g c =
