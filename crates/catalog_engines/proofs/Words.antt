@@ -35,7 +35,6 @@ pub use Rattle.catalog_engines.specs.NoteTexts.{IsNoted, applying_lines, line_if
 pub use Rattle.catalog_engines.specs.declared.address_texts.AddressForm.{AddressForm}
 pub use Rattle.catalog_engines.specs.declared.annotations.Annotate.{Annotate}
 pub use Rattle.catalog_engines.specs.declared.asked_names.Distance.{Distance}
-pub use Rattle.catalog_engines.specs.declared.sources.ListingFiles.{ListingFiles}
 pub use Rattle.catalog_engines.specs.declared.sources.Sources.{Sources}
 pub use Rattle.command_io.proofs.FaultLemmas.{handed_on}
 pub use Rattle.command_io.proofs.OpenedLemmas.{catalog_opened, holds_at, same_texts, tallies_said}
@@ -47,14 +46,12 @@ pub use Rattle.command_io.specs.declared.fault.Fault.TheVariants.{BadLine, Read,
 pub use Rattle.command_io.specs.declared.opened_catalogs.ListingTexts.{ListingTexts}
 pub use Rattle.facts.proofs.Lists.{moved_over}
 pub use Rattle.listing.proofs.ListingNoteLemmas.{bounds_are, given_or}
-pub use Rattle.listing.specs.ListingNotes.{is_of_kallsyms, is_of_modules, is_some_noted}
+pub use Rattle.listing.specs.ListingNotes.{is_of_kallsyms, is_of_modules}
 pub use Rattle.listing.specs.Looks.{are_modules_hidden, are_symbols_hidden, is_narrow}
-pub use Rattle.listing.specs.ModuleListing.{module_counts}
 pub use Rattle.listing.specs.Opening.{Given, IsOpened, listings_of, symbols_of}
-pub use Rattle.listing.specs.SymbolListing.{is_mapping, symbol_counts, symbol_of, symbols_in}
+pub use Rattle.listing.specs.SymbolListing.{is_mapping, symbol_of, symbols_in}
 pub use Rattle.listing.specs.Tallies.{Tallies, counts_text, tallies_of}
 pub use Rattle.listing.specs.declared.listing_notes.ListingNote.{ListingNote}
-pub use Rattle.listing.specs.declared.opening.OpenedCatalog.{OpenedCatalog}
 pub use Rattle.logs.specs.declared.annotation.Findings.{Findings}
 pub use Rattle.logs.specs.declared.annotation.LogFault.{LogFault}
 pub use Rattle.memchr.specs.Find.{Nowhere, Passes, is_byte}
@@ -64,9 +61,8 @@ pub use Rattle.modules.specs.Entries.{CatalogEntries, ModuleEntry, SymbolEntry}
 pub use Rattle.modules.specs.Found.{Found, IsFound, found_in, symbol_at, symbols_from}
 pub use Rattle.modules.specs.Items.{item_of_address}
 pub use Rattle.modules.specs.Lines.{bounds_for, usual_bounds}
-pub use Rattle.modules.specs.Listed.{BoundNames, ListedRegion, ListedSymbol}
+pub use Rattle.modules.specs.Listed.{BoundNames, ListedSymbol}
 pub use Rattle.modules.specs.Regions.{holds}
-pub use Rattle.modules.specs.declared.catalog.BuildCounts.{BuildCounts}
 pub use Rattle.order_laws.specs.declared.items.Item.{Item}
 pub use Rattle.texts.proofs.OutputLemmas.{all_delivered, part_written, piece_said, same_text, then, then_flushed}
 pub use Rattle.texts.specs.Exact.{hexadecimal}
