@@ -1,5 +1,5 @@
 -- Bytes that are gone through from the last one to the first, and the things that begin a line.
-use Rattle.logs.proofs.Definitions.{ne_eqb, ◌≡◌, ◌∙◌, ℕ, zero, suc, ◌+◌, ◌<◌, ◌≤◌, false, cond, not, ◌&&◌, ◌==◌, List, [], ◌∷◌, length, take, get_or, refl, ap, arith, reverse-append, take_more, ends_prefix, is_lead, is_of, last_of, lead_item, prefix_up_to}
+use Rattle.logs.proofs.Definitions.{take_rest, ne_eqb, ◌≡◌, ◌∙◌, ℕ, zero, suc, ◌+◌, ◌<◌, ◌≤◌, false, cond, not, ◌&&◌, ◌==◌, List, [], ◌∷◌, length, take, get_or, refl, ap, arith, reverse-append, take_more, ends_prefix, is_lead, is_of, last_of, lead_item, prefix_up_to}
 use Rattle.std.proofs.Common.{◌-◌, drop}
 use Rattle.logs.specs.declared.places.Kind.{Kind}
 
@@ -51,3 +51,6 @@ pub lead_over : (bytes : List ℕ) (n : ℕ) → n ≡ lead_item bytes → lengt
 lead_over [] n is past some = absurd (omega arith)
 lead_over (b ∷ bytes) zero is past some = absurd (omega arith)
 lead_over (b ∷ bytes) (suc n) is past some = lead_rest b bytes n is ∙ lead_past n bytes (omega arith)
+
+-- one thing more, or none, or one that is too long
+pub ruleset leads = (lead_step, lead_none, lead_over, take_rest)

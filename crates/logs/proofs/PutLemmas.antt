@@ -1,6 +1,7 @@
 -- What a failed write leaves.
 use Rattle.logs.proofs.Definitions.{◌≡◌, ◌∙◌, ◌++◌, List, [], ℕ, Result, Ok, Err, ap, subst, sym, IfErr, IfOk, OnErr, Output, Delivered, WrotePart, error_in, Adds, IsWriteFault, Puts, LogFault}
 use Rattle.std.proofs.Common.{Option}
+use Rattle.texts.proofs.OutputLemmas.{all_delivered, part_written, then_flushed}
 use Rattle.logs.specs.declared.annotation.LogFault.TheVariants as fault
 
 -- a text that was added to nothing
@@ -19,3 +20,6 @@ pub puts : {W : Type 0} (contents : W → Option (List ℕ)) (P : List ℕ → T
     → Puts contents (λ (u : Unit {0}). P) w w' result
 puts contents P w w' text (Ok u) holds written is begun = (text, written, holds)
 puts contents P w w' text (Err e) holds written is begun = fault_puts contents (λ (u : Unit {0}). P) w w' tt text e holds is begun
+
+-- what is put and flushed is written, or a beginning of it
+pub ruleset put_through = (all_delivered, part_written, then_flushed)

@@ -175,7 +175,7 @@ fn cut_line(bytes: &[u8]) -> Option<(&[u8], &[u8])>
 }
 
 /// Writes the bytes, and lets the writer keep nothing back.
-#[tactic(auto, using(texts::proofs::OutputLemmas::all_delivered, texts::proofs::OutputLemmas::part_written, texts::proofs::OutputLemmas::then_flushed))]
+#[tactic(auto, using(crate::proofs::PutLemmas::put_through))]
 fn put_now<W: Write>(writer: &mut Output<W>, bytes: &[u8]) -> Result<(), LogFault>
     ensures written { IfOk result (λ _. Delivered W.contents writer.old writer.new bytes.now) }
     ensures fault { IfErr result (IsWriteFault (error_in writer.new)) }

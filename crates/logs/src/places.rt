@@ -289,7 +289,7 @@ fn lead_item(bytes: &[u8]) -> usize
 }
 
 /// Whether the bytes are items that may come before a line's first address.
-#[tactic(auto, using(crate::proofs::PlaceLemmas::lead_step, crate::proofs::PlaceLemmas::lead_none, crate::proofs::PlaceLemmas::lead_over, std::proofs::lemmas::List::take_rest))]
+#[tactic(auto, using(crate::proofs::PlaceLemmas::leads))]
 pub(crate) fn is_lead(bytes: &[u8]) -> bool
     ensures { result ≡ is_lead 0 bytes.now }
 {
