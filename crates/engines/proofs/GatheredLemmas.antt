@@ -8,7 +8,7 @@ use Rattle.latch_steps.specs.Drivers.{DrivesOn, IsTakenFrom, LeavesNotes, notes_
 use Rattle.latch_steps.specs.Promises.{AreNotesOfCommands, IsExactWherePlain}
 use Rattle.latch_steps.specs.Safe.{IsSafe}
 use Rattle.latch_steps.specs.Traces.{notes_of}
-use Rattle.engines.specs.GatheredTraces.{GathersCommand, GathersLines, HasGathered}
+use Rattle.engines.specs.Traces.{GathersCommand, GathersLines, HasGathered}
 
 module _ {O W : Type 0} (o : Order ℕ) (contents : W → Option (List ℕ)) where
   -- a command more

@@ -1,9 +1,10 @@
 -- The same answer, where more is known of what was read: of the engines of lookups and of runs.
-use Rattle.engines.proofs.Words.{◌≡◌, ℕ, zero, suc, [], ◌∷◌, Some, None, Result, Ok, Err, ap, arith, inl, refl, subst, sym, Rose, Output, Fault, BadLine, Read, Write, AreReadAs, GivesListings, Given, Listed, listings_of, AnswersInputs, Failures, HoldsOf, NoReaderFailed, OnlyFailed, last_failures, Inputs, inputs_after, inputs_of, inputs_with, known_inputs}
+use Rattle.engines.proofs.Words.{◌≡◌, ℕ, zero, suc, Some, None, Result, Ok, Err, ap, arith, inl, option_map, refl, subst, sym, Rose, Output, Fault, BadLine, Read, Write, AreReadAs, GivesListings, Given, Listed, listings_of, AnswersInputs, Failures, HoldsOf, NoReaderFailed, OnlyFailed, last_failures, Inputs, failures_behind, inputs_after, inputs_of, inputs_with, known_inputs, listing_failures}
 use Rattle.std.proofs.Common.{Option}
 use Rattle.std.specs.Prelude.{IfSome}
 use Rattle.order_laws.specs.declared.refusals.Refusal.TheVariants as refusal
 use Rattle.command_io.specs.declared.fault.Fault.TheVariants.{Refused}
+use Rattle.command_io.specs.declared.opened_catalogs.ListingReaders.{ListingReaders}
 use Rattle.command_io.specs.declared.opened_catalogs.ListingTexts.{ListingTexts}
 
 no_rise : Rose 0 0 → ⊥
@@ -22,34 +23,42 @@ module _ {I V W : Type 0} (Says : I → Result V Fault → Type 0) (inner known 
   still_answered (Err _) h = absurd h
 
 -- what was returned after three readers that did not fail
-module _ {I V W : Type 0} (Says : I → Result V Fault → Type 0) (inner known : Option (Result I (ℕ × ℕ))) (all : (P : Result I (ℕ × ℕ) → Type 0) → IfSome inner P → IfSome known P) (m k r : ℕ × ℕ) (m_same : m.1 ≡ m.0) (k_same : k.1 ≡ k.0) (r_same : r.1 ≡ r.0) (before after : ℕ) (w w' : Output W) where
+module _ {I V W M K R : Type 0} (Says : I → Result V Fault → Type 0) (inner known : Option (Result I (ℕ × ℕ))) (all : (P : Result I (ℕ × ℕ) → Type 0) → IfSome inner P → IfSome known P) (old new : ListingReaders M K R) (read : NoReaderFailed (listing_failures old new)) (before after : ℕ) (w w' : Output W) where
   abbrev counts : Failures
-  counts = m ∷ k ∷ r ∷ (before, after) ∷ []
+  counts = failures_behind (listing_failures old new) before after
 
   none : NoReaderFailed (last_failures before after) → NoReaderFailed counts
-  none h = (m_same, (k_same, (r_same, h.1.1.1)))
+  none h = (read.0, (read.1.0, (read.1.1.0, h.1.1.1)))
 
   only : (place : ℕ) → OnlyFailed place (last_failures before after) → OnlyFailed place counts
   only zero h = absurd (no_rise h.0)
   only (suc zero) h = absurd (no_rise h.1.0)
   only (suc (suc zero)) h = absurd (no_rise h.1.1.0)
-  only (suc (suc (suc place))) h = (m_same, (k_same, (r_same, h.1.1.1)))
+  only (suc (suc (suc place))) h = (read.0, (read.1.0, (read.1.1.0, h.1.1.1)))
 
   pub answered_behind : (result : Result V Fault) → AnswersInputs Says inner (last_failures before after) w w' result → AnswersInputs Says known counts w w' result
   answered_behind result h = still_answered Says inner known all (last_failures before after) counts none only w w' result h
 
 -- what is returned where the listings could not be read
-module _ {I V W : Type 0} (Says : I → Result V Fault → Type 0) (known : Option (Result I (ℕ × ℕ))) (m k r : ℕ × ℕ) (n : ℕ) (w : Output W) where
-  only_one : (place : ℕ) → OnlyFailed place (m ∷ k ∷ r ∷ []) → OnlyFailed place (m ∷ k ∷ r ∷ (n, n) ∷ [])
+module _ {I V W M K R : Type 0} (Says : I → Result V Fault → Type 0) (known : Option (Result I (ℕ × ℕ))) (old new : ListingReaders M K R) (n : ℕ) (w : Output W) where
+  abbrev counts_behind : Failures
+  counts_behind = failures_behind (listing_failures old new) n n
+
+  only_one : (place : ℕ) → OnlyFailed place (listing_failures old new) → OnlyFailed place counts_behind
   only_one zero h = (h.0, (h.1.0, (h.1.1.0, (refl, tt))))
   only_one (suc zero) h = (h.0, (h.1.0, (h.1.1.0, (refl, tt))))
   only_one (suc (suc zero)) h = (h.0, (h.1.0, (h.1.1.0, (refl, tt))))
   only_one (suc (suc (suc place))) h = absurd h.1.1.1
 
-  pub not_read : (f : Fault) → AreReadAs {A = ListingTexts} (m ∷ k ∷ r ∷ []) (Err f) → AnswersInputs Says known (m ∷ k ∷ r ∷ (n, n) ∷ []) w w (Err f)
+  pub not_read : (f : Fault) → AreReadAs {A = ListingTexts} (listing_failures old new) (Err f) → AnswersInputs Says known counts_behind w w (Err f)
   not_read (Refused refusal.OutOfMemory) h = ((h.0, (h.1.0, (h.1.1.0, (refl, tt)))), refl)
   not_read (Read place) h = (refl, only_one place h)
   not_read _ h = absurd h
+
+-- what is known of the text of a file is known of what it says
+pub said_of : {A B : Type 0} (says : A → B) (file : Option A) (P : B → Type 0) → IfSome file (λ x. P (says x)) → IfSome (option_map says file) P
+said_of says None P read = tt
+said_of says (Some x) P read = read
 
 -- what holds of the inputs that were read holds of those that are known
 module _ {X : Type 0} (P : Result (Inputs X) (ℕ × ℕ) → Type 0) where

@@ -58,9 +58,9 @@ module _ {O W : Type 0} (o : Order ℕ) (contents : W → Option (List ℕ)) (li
   }
 
   -- one command more of the lines
-  pub lines_more : (left rest : LinesLeft) (now new : World O ℕ) (b b' : Output W) (c : NumberedCommand) → AreLinesTold o contents lines left old now a b → IsTaken left c rest
-      → ObeysFromAny o (Tells contents c.line) c.command now new b b' → AreLinesTold o contents lines rest old new a b'
-  lines_more left rest now new b b' c h taken obeys = record {
+  pub lines_more : (left rest : LinesLeft) (now new : World O ℕ) (b b' : Output W) (c : NumberedCommand) (line : ℕ) → line ≡ c.line → AreLinesTold o contents lines left old now a b → IsTaken left c rest
+      → ObeysFromAny o (Tells contents line) c.command now new b b' → AreLinesTold o contents lines rest old new a b'
+  lines_more left rest now new b b' c line same h taken obeys = record {
     front = h.front ++ c ∷ [];
     taken = record {
       said = ap (λ cs. entries_after cs rest.said) (map-append (λ (x : NumberedCommand). x.command) h.front (c ∷ []))
@@ -71,7 +71,7 @@ module _ {O W : Type 0} (o : Order ℕ) (contents : W → Option (List ℕ)) (li
     };
     told = λ w s.
         let t = h.told w s in
-        let (run, done, repeats) = obeys (last_of w t.run) t.shows in
+        let (run, done, repeats) = subst (λ l. ObeysFromAny o (Tells contents l) c.command now new b b') same obeys (last_of w t.run) t.shows in
         let l = layout_in old in
         let n = capacity_of l in
         let said = reported_said o contents (capacity_of (layout_in now)) c.line (last_of w t.run) run b b' done.reported in

@@ -6,7 +6,6 @@ pub use Rattle.std.proofs.lemmas.Result.{err_from_is_err_and}
 pub use Rattle.std.specs.FinMap.{get, get-empty}
 pub use Rattle.std.specs.List.{filter_map, range_with_len, zip, list_any}
 pub use Rattle.std.specs.Prelude.{Contains, option_and_then}
-pub use Rattle.command_io.proofs.FaultLemmas.{handed_on}
 pub use Rattle.command_io.specs.Faults.{with_notes, noted}
 pub use Rattle.command_io.specs.JsonTexts.{json_count}
 pub use Rattle.command_io.specs.OpenedCatalogs.{AreReadAs, GivesListings, texts_in, known_given, listing_failures}
@@ -14,19 +13,16 @@ pub use Rattle.command_io.specs.Readings.{AnswersInputs, Failures, HoldsOf, NoRe
 pub use Rattle.command_io.specs.declared.fault.Fault.{Fault}
 pub use Rattle.command_io.specs.declared.fault.Fault.TheVariants.{BadLine, Read, Write}
 pub use Rattle.engines.specs.Assignments.{IsAssigned, AreListed, change_in, key_in, name_in}
-pub use Rattle.engines.specs.CatalogTables.{answer_at}
+pub use Rattle.engines.specs.CatalogTables.{answer_at, AreInsertsOf, HasTable, HoldsBelow, IsRefusedFor}
 pub use Rattle.engines.specs.Inputs.{Inputs, inputs_after, inputs_of, inputs_with, known_inputs, inputs, failures_behind}
-pub use Rattle.engines.specs.LoadedWorlds.{AreInsertsOf, HasTable, HoldsBelow, IsRefusedFor}
 pub use Rattle.engines.specs.LookupTexts.{Query, lookup_lines, counts_by, line_by}
 pub use Rattle.engines.specs.Lookups.{AnswersLookup, IsLookupOf, addresses_known, all_addresses, WritesLookup, bounds_beside, bounds_of_lookup}
 pub use Rattle.engines.specs.RunTexts.{count_of_answers, answers_text, numbered_text, writer_text, change_text}
 pub use Rattle.engines.specs.Runs.{AnswersLines, AnswersRun, IsRunOf, IsServed, MayRun, TellsServed, status_of, script_known}
-pub use Rattle.engines.specs.StepRuns.{AreLinesTold, IsOpenedFor, StopsTelling, Tells, TellsLines}
+pub use Rattle.engines.specs.StepTraces.{AreLinesTold, IsOpenedFor, StopsTelling, Tells, TellsLines, AnswersStepsSaid, AreTold, IsBegunOf, IsBegunText, IsFrontText, IsStepsText, StopsAfter, IsCutText}
 pub use Rattle.engines.specs.StepTexts.{json_list, steps_text, begun_members, started_members}
-pub use Rattle.engines.specs.StepTraces.{AnswersStepsSaid, AreTold, IsBegunOf, IsBegunText, IsFrontText, IsStepsText, StopsAfter, IsCutText}
-pub use Rattle.engines.specs.TraceLines.{IsLinesFault, commands_of, numbers_of, IsNext}
+pub use Rattle.engines.specs.Traces.{IsLinesFault, commands_of, numbers_of, IsNext, HeaderMayOpen, IsRunText, greatest_of, order_by, IsTextOf, AnswersReadBy, AnswersSaidBy, HeaderMayNotOpen, IsNotOpened, IsTraceWith, AnswersSaid, IsTraceRun, Stays}
 pub use Rattle.engines.specs.TraceTexts.{end_text, note_text}
-pub use Rattle.engines.specs.Traces.{HeaderMayOpen, IsRunText, greatest_of, order_by, IsTextOf, AnswersReadBy, AnswersSaidBy, HeaderMayNotOpen, IsNotOpened, IsTraceWith, AnswersSaid, IsTraceRun, Stays}
 pub use Rattle.engines.specs.declared.assignments.Assignments.{Assignments}
 pub use Rattle.facts.proofs.Numbers.{below_min, past_min}
 pub use Rattle.latch_core.proofs.SoundLemmas.{current_at_rest, none_begun, table_at_rest, sequence_at_rest}

@@ -11,9 +11,11 @@ no_updates : AreInsertsOf [] []
 no_updates = record { inserted = refl; erased = refl; few = omega arith }
 
 -- a world that was opened holds nothing
-opened_world : (c : CatalogEntries) (w : World HalfOpen ℕ) (l : Layout) → IsSoundCatalog c → layout_in w ≡ l → RepresentsMoment half_open w (opening (capacity_of l) 0)
-    → IsAfter half_open 0 [] w → length (regions_of c) ≤ capacity_of l → limit_of l ≡ greatest_wide_sequence → HoldsBelow c 0 w
-opened_world c w l sound lay shows after room limit =
+pub opened : (c : CatalogEntries) (r : Result (World HalfOpen ℕ) Refusal) (l : Layout) → IsSoundCatalog c → IfOk r (λ w. layout_in w ≡ l)
+    → IfOk r (λ w. RepresentsMoment half_open w (opening (capacity_of l) 0)) → IfOk r (IsAfter half_open 0 [])
+    → length (regions_of c) ≤ capacity_of l → limit_of l ≡ greatest_wide_sequence → IfOk r (HoldsBelow c 0)
+opened c (Err e) l sound lay shows after room limit = tt
+opened c (Ok w) l sound lay shows after room limit =
     let n = capacity_of (layout_in w) in
     let none : NoLookup after.moment = same_readers half_open w (opening (capacity_of l) 0) after.moment shows after.shows (λ r. get-empty nat_cmp r) in
     record {
@@ -25,12 +27,6 @@ opened_world c w l sound lay shows after room limit =
       };
       room = record { capacity = omega (arith, as_many c, ap capacity_of lay); limit = ap limit_of lay ∙ limit };
     }
-
-pub opened : (c : CatalogEntries) (r : Result (World HalfOpen ℕ) Refusal) (l : Layout) → IsSoundCatalog c → IfOk r (λ w. layout_in w ≡ l)
-    → IfOk r (λ w. RepresentsMoment half_open w (opening (capacity_of l) 0)) → IfOk r (IsAfter half_open 0 [])
-    → length (regions_of c) ≤ capacity_of l → limit_of l ≡ greatest_wide_sequence → IfOk r (HoldsBelow c 0)
-opened c (Ok w) l sound lay shows after room limit = opened_world c w l sound lay shows after room limit
-opened c (Err e) l sound lay shows after room limit = tt
 
 -- a lookup in an idle world finds the item that holds the address, and leaves the world idle
 module _ (items : List Item) (old new : World HalfOpen ℕ) (h : HasTable items old) where

@@ -1,10 +1,10 @@
 -- What is written for a trace that is read.
 use Rattle.std.specs.Prelude.{◌≡◌, ℕ, ◌%◌, ◌<◌, ◌≤◌, List, ◌++◌, Bool, true, false, Option, Result}
-use Rattle.std.specs.Prelude.{Ok, Err, IfSome, flat_map, if◌then◌else◌}
+use Rattle.std.specs.Prelude.{Ok, Err, IfSome, flat_map, if◌then◌else◌, [], map, Some, None, ◌∷◌}
 use Rattle.texts.specs.declared.counted.Counted.{Counted}
 use Rattle.texts.specs.Counted.{NoneFailed, Rose, device_of, failures_of}
 use Rattle.texts.specs.declared.output.Output.{Output}
-use Rattle.texts.specs.Output.{Delivered, WrotePart, has_failed}
+use Rattle.texts.specs.Output.{Delivered, WrotePart, has_failed, Says}
 use Rattle.order_laws.specs.Orders.{Order, closed, half_open}
 use Rattle.order_laws.specs.declared.refusals.Refusal.{Refusal}
 use Rattle.order_laws.specs.declared.refusals.Refusal.TheVariants as refusal
@@ -25,6 +25,15 @@ use Rattle.run_files.specs.Trace.{Contents, trace_of}
 use Rattle.engines.specs.TraceTexts.{end_text, note_text}
 use Rattle.command_io.specs.declared.fault.Fault.{Fault}
 use Rattle.command_io.specs.declared.fault.Fault.TheVariants.{Refused, BadLine, Read, Write}
+use Rattle.latch_steps.specs.declared.commands.Command.{Command}
+use Rattle.run_files.specs.declared.command_lines.NumberedCommand.{NumberedCommand}
+use Rattle.run_files.specs.CommandLines.{IsTaken, LinesLeft}
+use Rattle.texts.specs.Said.{entries_after}
+use Rattle.word_layout.specs.declared.layouts.Layout.{Layout}
+use Rattle.word_layout.specs.Layouts.{capacity_of, limit_of}
+use Rattle.latch_steps.specs.declared.drivers.Driver.{Driver}
+use Rattle.latch_steps.specs.declared.replies.Note.{Note}
+use Rattle.latch_steps.specs.Drivers.{HasDriven, notes_in}
 
 -- the greatest sequence of the tables that a trace of this version runs on
 abbrev pub greatest_of : Version → ℕ
@@ -147,3 +156,60 @@ abbrev pub AnswersTrace : {R W : Type 0} → (R → Option (List ℕ)) → (W �
 AnswersTrace remaining contents =
     AnswersReadBy (IsTextOf (λ read. IsTraceRun)) (IsTextOf (λ read. IsTraceRun)) Stays
     remaining contents
+
+-- ---- the lines of a trace that are left, as the engines take commands from them
+
+-- the commands of a list, and the numbers of their lines
+abbrev pub commands_of : List NumberedCommand → List (Command ℕ)
+commands_of cs = map (λ c. c.command) cs
+
+abbrev pub numbers_of : List NumberedCommand → List ℕ
+numbers_of cs = map (λ c. c.line) cs
+
+-- the next command of lines, if there is one, was taken from them
+abbrev pub IsNext : LinesLeft → LinesLeft → Option NumberedCommand → Type 0
+IsNext old new None = (old.said ≡ Ok []) × (old.lines ≡ [])
+IsNext old new (Some next) = IsTaken old next new × (new.bytes < old.bytes)
+
+-- these commands were taken from lines, and others are left
+pub record AreTaken (lines : LinesLeft) (taken : List NumberedCommand) (left : LinesLeft)
+    : Type 0 where
+  pub said : entries_after (commands_of taken) left.said ≡ lines.said
+  pub numbers : numbers_of taken ++ left.lines ≡ lines.lines
+
+-- memory ran out, or a line is bad
+abbrev pub IsLinesFault : Result (List (Command ℕ)) ℕ → Fault → Type 0
+IsLinesFault said (Refused refusal.OutOfMemory) = Unit {0}
+IsLinesFault said (BadLine place n) = (place ≡ 0) × (said ≡ Err n)
+IsLinesFault said _ = ⊥
+
+-- ---- the text of a trace whose commands are run one after another
+
+-- a driver carried out these commands on a table as the header asks for it, and this text has the
+-- lines of what they came to
+pub record HasGathered {O : Type 0} (o : Order ℕ) (h : Header) (commands : List (Command ℕ))
+    (text : List ℕ) (d : Driver O ℕ) : Type 0 where
+  pub opens : HeaderMayOpen h
+  pub layout : Layout
+  pub capacity : capacity_of layout ≡ h.capacity
+  pub limit : limit_of layout ≡ greatest_of h.version
+  pub notes : List (Note ℕ)
+  pub driven : HasDriven o layout h.start commands notes d
+  pub none : notes_in d ≡ []
+  pub gathered : text ≡ flat_map note_text notes
+
+-- what a command came to was said, so that whatever was gathered before, it is then, too
+abbrev pub GathersCommand : {O W : Type 0} → Order ℕ → (W → Option (List ℕ)) → Command ℕ
+    → Driver O ℕ → Driver O ℕ → Output W → Output W → Type 0
+GathersCommand o contents c old new a b =
+    (more : List ℕ) × Says contents a b more
+    × ((h : Header) (commands : List (Command ℕ)) (text : List ℕ)
+    → HasGathered o h commands text old → HasGathered o h (commands ++ c ∷ []) (text ++ more) new)
+
+-- so was what all commands that these lines say came to
+abbrev pub GathersLines : {O W : Type 0} → Order ℕ → (W → Option (List ℕ))
+    → Result (List (Command ℕ)) ℕ → Driver O ℕ → Driver O ℕ → Output W → Output W → Type 0
+GathersLines o contents said old new a b =
+    (cs : List (Command ℕ)) × (said ≡ Ok cs) × (more : List ℕ) × Says contents a b more
+    × ((h : Header) (commands : List (Command ℕ)) (text : List ℕ)
+    → HasGathered o h commands text old → HasGathered o h (commands ++ cs) (text ++ more) new)

@@ -6,8 +6,8 @@
 ghost use Rattle.std.specs.Prelude.{◌≡◌, IfErr, IfOk, OnOk};
 ghost use Rattle.run_files.specs.CommandLines.{IsUnderstood};
 ghost use Rattle.run_files.specs.Trace.{command_lines, trace_of, with_header};
-ghost use Rattle.engines.specs.StepRuns.{IsOpenedFor, StopsTelling, TellsLines};
-ghost use Rattle.engines.specs.StepTraces.{AnswersSteps, AnswersStepsSaid};
+ghost use Rattle.engines.specs.StepTraces.{IsOpenedFor, StopsTelling, TellsLines, AnswersSteps};
+ghost use Rattle.engines.specs.StepTraces.{AnswersStepsSaid};
 ghost use Rattle.engines.specs.Traces.{IsNotOpened, order_by};
 
 use crate::step_texts::{put_event, put_opening};
@@ -120,7 +120,7 @@ impl<W> StepLines<W> {
 }
 
 impl<W: Write> Report<u64> for StepLines<W> {
-    ghost use Rattle.engines.specs.StepRuns.{Tells};
+    ghost use Rattle.engines.specs.StepTraces.{Tells};
 
     type To = Output<W>;
 

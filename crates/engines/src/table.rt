@@ -2,8 +2,8 @@
 ghost use Rattle.std.specs.Prelude.{◌≡◌, ◌+◌, ◌≤◌, List, length, map, IfOk, IfErr};
 ghost use Rattle.order_laws.specs.declared.items.Item.{Item};
 ghost use Rattle.modules.specs.Items.{items_of};
-ghost use Rattle.engines.specs.CatalogTables.{answer_at, answer_in, HasFewRegions};
-ghost use Rattle.engines.specs.LoadedWorlds.{HasTable, HoldsBelow, IsRefusedFor};
+ghost use Rattle.engines.specs.CatalogTables.{answer_at, answer_in, HasFewRegions, HasTable};
+ghost use Rattle.engines.specs.CatalogTables.{HoldsBelow, IsRefusedFor};
 
 use latch_steps::{Event, Reply, World};
 use listing::AddressRule;

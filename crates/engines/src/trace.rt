@@ -5,8 +5,7 @@
 //! runs out, leaves the output empty.
 ghost use Rattle.std.specs.Prelude.{◌≡◌, [], IfErr, IfOk, OnOk};
 ghost use Rattle.run_files.specs.Trace.{trace_of, with_header};
-ghost use Rattle.engines.specs.TraceLines.{IsLinesFault};
-ghost use Rattle.engines.specs.GatheredTraces.{GathersCommand, GathersLines, HasGathered};
+ghost use Rattle.engines.specs.Traces.{IsLinesFault, GathersCommand, GathersLines, HasGathered};
 ghost use Rattle.engines.specs.Traces.{AnswersSaid, AnswersTrace, IsNotOpened, order_by};
 
 use crate::trace_lines::{layout_for, next_command, understand};

@@ -3,8 +3,7 @@ ghost use Rattle.std.specs.Prelude.{◌≡◌, ◌≢◌, ◌<◌, ◌↔◌, �
 ghost use Rattle.run_files.specs.CommandLines.{IsUnderstood};
 ghost use Rattle.word_layout.specs.Layouts.{capacity_of, limit_of};
 ghost use Rattle.word_layout.specs.Limits.{most_nodes};
-ghost use Rattle.engines.specs.TraceLines.{IsLinesFault, IsNext};
-ghost use Rattle.engines.specs.Traces.{greatest_of};
+ghost use Rattle.engines.specs.Traces.{IsLinesFault, IsNext, greatest_of};
 
 use command_io::Fault;
 use order_laws::Refusal;

@@ -1,23 +1,14 @@
-use Rattle.engines.proofs.Words.{◌≡◌, Some, None, List, [], ℕ, Result, option_map, refl, subst, sym, ap, handed_on, listed_in, texts_in, last_failures, script_of, device_of, failures_of, inputs_of, inputs_with, AnswersRun, IsRunOf, script_known}
-use Rattle.std.proofs.Common.{Option, IfSome}
-use Rattle.engines.proofs.InputLemmas.{listed_known, not_listed, still_answered}
+use Rattle.engines.proofs.Words.{◌≡◌, of_read, Some, [], refl, subst, err_from_is_err_and, listed_in, texts_in, last_failures, script_of, device_of, failures_of, inputs_of, inputs_with, AnswersRun, IsRunOf, script_known}
+use Rattle.engines.proofs.InputLemmas.{listed_known, not_listed, said_of, still_answered}
 use Rattle.engines.proofs.runs.run_over.Goals as goal
-
--- what is known of the text of the script is known of what it says
-said_of : {X : Type 0} (says : List ℕ → Result X ℕ) (text : List ℕ) (script : Option (List ℕ)) → IfSome script (λ x. text ≡ x) → IfSome (option_map says script) (λ s. s ≡ says text)
-said_of says text None read = tt
-said_of says text (Some x) read = ap says (sym read)
 
 pub returns-in_err-listings : goal.returns-in_err-listings
 returns-in_err-listings g c =
     let a = c.args in
     let w = a.writer.now in
-    let n = failures_of a.script.now in
     let said = script_known a.readers (g.S.Read.remaining (device_of a.script.now)) in
-    let texts = texts_in a.texts.now in
-    let fault = c.in_err-listings.field-0.0 in
-    handed_on (AnswersRun g.W.Write.contents a.kernel.now a.readers (inputs_of said texts) (last_failures n n) w w) c.from_residual.result fault c.from_residual.ensures.1
-    (not_listed (IsRunOf g.W.Write.contents a.kernel.now a.readers w w) said texts n w fault c.in_err-listings.ensures.listings)
+    let (fault, is, same) = err_from_is_err_and c.from_residual.result c.from_residual.ensures.1 in
+    rw (is, same) (not_listed (IsRunOf g.W.Write.contents a.kernel.now a.readers w w) said (texts_in a.texts.now) (failures_of a.script.now) w c.in_err-listings.field-0.0 c.in_err-listings.ensures.listings)
 
 pub returns : goal.returns
 returns g c =
@@ -31,6 +22,6 @@ returns g c =
     let text = c.in_ok-text.text.items in
     let answered = subst (λ x. AnswersRun g.W.Write.contents a.kernel.now a.readers (Some (inputs_with l (says x))) [] w w' c.run_with.result) c.deref.ensures.value c.run_with.ensures in
     still_answered (IsRunOf g.W.Write.contents a.kernel.now a.readers w w') (Some (inputs_with l (says text))) (inputs_of (script_known a.readers script) texts)
-    (λ P p. listed_known P texts l c.in_ok-listings.ensures.listings (says text) (script_known a.readers script) (said_of says text script c.in_ok-text.ensures.bytes) p)
+    (λ P p. listed_known P texts l c.in_ok-listings.ensures.listings (says text) (script_known a.readers script) (said_of says script (λ s. s ≡ says text) (of_read script text (λ x. says x ≡ says text) c.in_ok-text.ensures.bytes refl)) p)
     [] (last_failures (failures_of a.script.now) (failures_of c.read_at.new.reader)) (λ _. (refl, (refl, (refl, (c.in_ok-text.ensures.read, tt)))))
     (λ place bad. absurd bad) w w' c.run_with.result answered

@@ -1,4 +1,4 @@
-use Rattle.engines.proofs.Words.{refl, subst, err_from_is_err_and, ObeysFromAny, Tells}
+use Rattle.engines.proofs.Words.{refl, err_from_is_err_and}
 use Rattle.engines.proofs.StepLemmas.{lines_begun, lines_more, next_stops, obey_stops}
 use Rattle.engines.proofs.TraceLineLemmas.{none_taken, taken}
 use Rattle.engines.proofs.steps.tell_lines.Goals as goal
@@ -8,18 +8,15 @@ loop-next-init g c = lines_begun g.O.TreeOrder.order g.W.Write.contents c.args.l
 
 pub loop-next-preserved-in_ok-all_written : goal.loop-next-preserved-in_ok-all_written
 loop-next-preserved-in_ok-all_written g c =
-    lines_more g.O.TreeOrder.order g.W.Write.contents _ _ _ _ _ _ _ _ _ c.in-Some.next c.loop-next.invariant (taken _ _ _ _ c.in-Some.is c.in_ok-next.ensures.next)
-    (subst (λ line. ObeysFromAny g.O.TreeOrder.order (Tells g.W.Write.contents line) c.in-Some.next.command c.loop-next.world c.obey.new.self c.loop-next.writer c.obey.new.to) c.of.ensures c.in_ok-obey.ensures.obeyed)
+    lines_more g.O.TreeOrder.order g.W.Write.contents _ _ _ _ _ _ _ _ _ c.in-Some.next _ c.of.ensures c.loop-next.invariant (taken _ _ _ _ c.in-Some.is c.in_ok-next.ensures.next) c.in_ok-obey.ensures.obeyed
 
 pub loop-next-preserved-in_ok-all_written-2 : goal.loop-next-preserved-in_ok-all_written-2
 loop-next-preserved-in_ok-all_written-2 g c =
-    lines_more g.O.TreeOrder.order g.W.Write.contents _ _ _ _ _ _ _ _ _ c.in-Some.next c.loop-next.invariant (taken _ _ _ _ c.in-Some.is c.in_ok-next.ensures.next)
-    (subst (λ line. ObeysFromAny g.O.TreeOrder.order (Tells g.W.Write.contents line) c.in-Some.next.command c.loop-next.world c.obey.new.self c.loop-next.writer c.obey.new.to) c.of.ensures c.in_ok-obey.ensures.obeyed)
+    lines_more g.O.TreeOrder.order g.W.Write.contents _ _ _ _ _ _ _ _ _ c.in-Some.next _ c.of.ensures c.loop-next.invariant (taken _ _ _ _ c.in-Some.is c.in_ok-next.ensures.next) c.in_ok-obey.ensures.obeyed
 
 pub loop-next-preserved : goal.loop-next-preserved
 loop-next-preserved g c =
-    lines_more g.O.TreeOrder.order g.W.Write.contents _ _ _ _ _ _ _ _ _ c.in-Some.next c.loop-next.invariant (taken _ _ _ _ c.in-Some.is c.in_ok-next.ensures.next)
-    (subst (λ line. ObeysFromAny g.O.TreeOrder.order (Tells g.W.Write.contents line) c.in-Some.next.command c.loop-next.world c.obey.new.self c.loop-next.writer c.obey.new.to) c.of.ensures c.in_ok-obey.ensures.obeyed)
+    lines_more g.O.TreeOrder.order g.W.Write.contents _ _ _ _ _ _ _ _ _ c.in-Some.next _ c.of.ensures c.loop-next.invariant (taken _ _ _ _ c.in-Some.is c.in_ok-next.ensures.next) c.in_ok-obey.ensures.obeyed
 
 pub returns-in_err-next-clause-fault : goal.returns-in_err-next-clause-fault
 returns-in_err-next-clause-fault g c =
@@ -43,8 +40,7 @@ returns-in_err-all_written-clause-fault g c =
       (
         _,
         _,
-        lines_more g.O.TreeOrder.order g.W.Write.contents _ _ _ _ _ _ _ _ _ c.in-Some.next c.loop-next.invariant (taken _ _ _ _ c.in-Some.is c.in_ok-next.ensures.next)
-            (subst (λ line. ObeysFromAny g.O.TreeOrder.order (Tells g.W.Write.contents line) c.in-Some.next.command c.loop-next.world c.obey.new.self c.loop-next.writer c.obey.new.to) c.of.ensures c.in_ok-obey.ensures.obeyed),
+        lines_more g.O.TreeOrder.order g.W.Write.contents _ _ _ _ _ _ _ _ _ c.in-Some.next _ c.of.ensures c.loop-next.invariant (taken _ _ _ _ c.in-Some.is c.in_ok-next.ensures.next) c.in_ok-obey.ensures.obeyed,
       ),
     )
 

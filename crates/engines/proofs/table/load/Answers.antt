@@ -19,9 +19,6 @@ record Starts (w : World HalfOpen ℕ) (u : Update) (reply : Reply ℕ) (a : Mom
   pub lookups : next.lookups ≡ a.lookups
 
 module _ (c : CatalogEntries) (k : ℕ) (u : Update) (le : k ≤ length c.modules) (old new : World HalfOpen ℕ) (h : HoldsBelow c k old) (l : LoadsItems c k u) (reply : Reply ℕ) where
-  in_hand_at : Moment ℕ
-  in_hand_at = h.holds.idle.after.moment
-
   accepts : let w = h.holds.idle.after.moment in
       refusal_for half_open (capacity_of (layout_in old)) (limit_of (layout_in old)) (is_some w.latch.pending) w.latch.newest_table (at w.latch.words 0) u ≡ None
   accepts =

@@ -1,6 +1,5 @@
-use Rattle.engines.proofs.Words.{◌≡◌, ℕ, List, [], ◌∷◌, ◌++◌, Some, None, Result, Ok, Err, sym, subst, ap, ◌∙◌, refl, filter_map, ScriptLine, CatalogEntries, most_writers, Assignments, AreListed, IsAssigned, change_in, key_in, name_in}
+use Rattle.engines.proofs.Words.{◌≡◌, ℕ, List, [], ◌∷◌, ◌++◌, Some, None, Result, Ok, Err, sym, ap, ◌∙◌, refl, filter_map, ScriptLine, CatalogEntries, most_writers, Assignments, AreListed, IsAssigned, change_in, key_in, name_in}
 use Rattle.std.proofs.Common.{IfOk}
-use Rattle.std.specs.Global.{Vec}
 use Rattle.facts.proofs.Lists.{one_given_more, none_given_more}
 use Rattle.shared_lookup.specs.declared.changes.Change.{Change}
 use Rattle.shared_lookup.specs.declared.changes.Change.TheVariants.{Load, Unload, DropInit}
@@ -9,14 +8,13 @@ use Rattle.engines.proofs.assignments.Assignments.add.Goals as goal
 module _ {E : Type 0} (c : CatalogEntries) (readers : ℕ) (lines : List ScriptLine) (line : ScriptLine) (old new : Assignments) (were : IsAssigned c readers lines old) where
   changed : (writer : ℕ) (change : Change) (name : List ℕ) (r : Result (Unit {0}) E)
       → change_in c line ≡ Some (writer, change) → name_in line ≡ Some (writer, name) → key_in line ≡ None → new.keys ≡ old.keys
-      → IfOk r (λ _. AreListed most_writers (filter_map (change_in c) lines ++ (writer, change) ∷ []) new.changes.items)
-      → IfOk r (λ _. AreListed most_writers (filter_map name_in lines ++ (writer, name) ∷ []) new.names.items)
+      → ((entries : List (ℕ × Change)) → AreListed most_writers entries old.changes.items → IfOk r (λ _. AreListed most_writers (entries ++ (writer, change) ∷ []) new.changes.items))
+      → ((entries : List (ℕ × List ℕ)) → AreListed most_writers entries old.names.items → IfOk r (λ _. AreListed most_writers (entries ++ (writer, name) ∷ []) new.names.items))
       → IfOk r (λ _. IsAssigned c readers (lines ++ line ∷ []) new)
   changed writer change name (Ok u) is_change is_name is_key kept changes names = record {
-    changes = subst (λ es. AreListed most_writers es new.changes.items) (sym (one_given_more (change_in c) lines line (writer, change) is_change)) changes;
-    names = subst (λ es. AreListed most_writers es new.names.items) (sym (one_given_more name_in lines line (writer, name) is_name)) names;
-    keys = subst (λ es. AreListed readers es new.keys.items) (sym (none_given_more key_in lines line is_key))
-        (subst (λ (ks : Vec (Vec ℕ)). AreListed readers (filter_map key_in lines) ks.items) (sym kept) were.keys);
+    changes = rw (one_given_more (change_in c) lines line (writer, change) is_change) (changes _ were.changes);
+    names = rw (one_given_more name_in lines line (writer, name) is_name) (names _ were.names);
+    keys = rw (none_given_more key_in lines line is_key, kept) were.keys;
   }
   changed writer change name (Err e) is_change is_name is_key kept changes names = tt
 
@@ -26,11 +24,9 @@ module _ {E : Type 0} (c : CatalogEntries) (readers : ℕ) (lines : List ScriptL
       → IfOk r (λ _. AreListed readers (filter_map key_in lines ++ (reader, address) ∷ []) new.keys.items)
       → IfOk r (λ _. IsAssigned c readers (lines ++ line ∷ []) new)
   looked reader address (Ok u) is_change is_name is_key same_changes same_names keys = record {
-    changes = subst (λ es. AreListed most_writers es new.changes.items) (sym (none_given_more (change_in c) lines line is_change))
-        (subst (λ (cs : Vec (Vec Change)). AreListed most_writers (filter_map (change_in c) lines) cs.items) (sym same_changes) were.changes);
-    names = subst (λ es. AreListed most_writers es new.names.items) (sym (none_given_more name_in lines line is_name))
-        (subst (λ (ns : Vec (Vec (List ℕ))). AreListed most_writers (filter_map name_in lines) ns.items) (sym same_names) were.names);
-    keys = subst (λ es. AreListed readers es new.keys.items) (sym (one_given_more key_in lines line (reader, address) is_key)) keys;
+    changes = rw (none_given_more (change_in c) lines line is_change, same_changes) were.changes;
+    names = rw (none_given_more name_in lines line is_name, same_names) were.names;
+    keys = rw (one_given_more key_in lines line (reader, address) is_key) keys;
   }
   looked reader address (Err e) is_change is_name is_key same_changes same_names keys = tt
 
@@ -41,8 +37,7 @@ returns-in-Load c = λ lines were.
     let call = c.add_change in
     changed catalog c.args.readers lines c.args.line.now c.args.self.now call.new.self were writer (Load c.number_for.result) c.in-Load.name call.result
     (ap (change_in catalog) c.in-Load.is ∙ ap (λ n. Some (writer, Load n)) (sym c.number_for.ensures)) (ap name_in c.in-Load.is) (ap key_in c.in-Load.is)
-    call.ensures.keys (call.ensures.changes (filter_map (change_in catalog) lines) were.changes)
-    (call.ensures.names (filter_map name_in lines) were.names)
+    call.ensures.keys call.ensures.changes call.ensures.names
 
 pub returns-in-Unload : goal.returns-in-Unload
 returns-in-Unload c = λ lines were.
@@ -51,8 +46,7 @@ returns-in-Unload c = λ lines were.
     let call = c.add_change-in-Unload in
     changed catalog c.args.readers lines c.args.line.now c.args.self.now call.new.self were writer (Unload c.number_for-in-Unload.result) c.in-Unload.name call.result
     (ap (change_in catalog) c.in-Unload.is ∙ ap (λ n. Some (writer, Unload n)) (sym c.number_for-in-Unload.ensures)) (ap name_in c.in-Unload.is) (ap key_in c.in-Unload.is)
-    call.ensures.keys (call.ensures.changes (filter_map (change_in catalog) lines) were.changes)
-    (call.ensures.names (filter_map name_in lines) were.names)
+    call.ensures.keys call.ensures.changes call.ensures.names
 
 pub returns-in-Init : goal.returns-in-Init
 returns-in-Init c = λ lines were.
@@ -61,8 +55,7 @@ returns-in-Init c = λ lines were.
     let call = c.add_change-in-Init in
     changed catalog c.args.readers lines c.args.line.now c.args.self.now call.new.self were writer (DropInit c.number_for-in-Init.result) c.in-Init.name call.result
     (ap (change_in catalog) c.in-Init.is ∙ ap (λ n. Some (writer, DropInit n)) (sym c.number_for-in-Init.ensures)) (ap name_in c.in-Init.is) (ap key_in c.in-Init.is)
-    call.ensures.keys (call.ensures.changes (filter_map (change_in catalog) lines) were.changes)
-    (call.ensures.names (filter_map name_in lines) were.names)
+    call.ensures.keys call.ensures.changes call.ensures.names
 
 pub returns-in-Look : goal.returns-in-Look
 returns-in-Look c = λ lines were.
