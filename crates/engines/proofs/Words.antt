@@ -56,7 +56,7 @@ pub use Rattle.run_files.specs.declared.header.Header.{Header}
 pub use Rattle.run_files.specs.declared.scripts.ScriptLine.{ScriptLine}
 pub use Rattle.table_updates.specs.Updates.{replay, erased, inserted, refusal_for}
 pub use Rattle.table_updates.specs.declared.updates.Update.{Update}
-pub use Rattle.texts.proofs.OutputLemmas.{nothing_said, then, all_delivered, part_written, same_text, then_flushed, piece_said, pair_said, pairs_said}
+pub use Rattle.texts.proofs.OutputLemmas.{nothing_said, then, all_delivered, part_written, same_text, then_flushed, pair_said, pairs_said}
 pub use Rattle.texts.proofs.ReadLemmas.{of_read}
 pub use Rattle.texts.proofs.SaidLemmas.{all_said, none_before, one_more}
 pub use Rattle.texts.specs.Counted.{Rose, NoneFailed, device_of, failures_of}
