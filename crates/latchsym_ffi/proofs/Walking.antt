@@ -14,7 +14,7 @@ pub use Rattle.std_heap.specs.contracts.GlobalAllocator.TheImpl.{dict, ghosts}
 pub use base.Fml.{flft, fsep, ftrue}
 pub use base.Logic.{SProp, emp, ent, fst∗, id⊢, never}
 pub use contract.BorrowLft.{◌⊑◌}
-pub use contract.Monad.{Fun, fact, fact_i}
+pub use contract.Monad.{fact, fact_i}
 pub use contract.Running.{tables}
 pub use denote.Builtin.{RawPtr}
 pub use denote.Exit.{no, yes}
@@ -31,20 +31,16 @@ pub use denote.Struct.Tuple.{Tuple}
 pub use denote.Triple.Call.{calls_at, calls_at_last}
 pub use denote.Triple.Clauses.{Lasts, lasts}
 pub use denote.Triple.Spec.{triple_of}
-pub use denote.Triple.Table.{entered}
-pub use denote.Triple.Walked.{Goes-dropped, Stays, ends_at, says, stay_dropped, walk_Meets, walk_of}
+pub use denote.Triple.Walked.{Goes-dropped, Stays, ends_at, says, stay_dropped, walk_of}
 pub use lib.Dec.{T, lit<}
 pub use mathlib.Core.Bool.{Bool, false, true, ◌&&◌}
 pub use mir.MapTy.{inst_fn}
 pub use mir.Syntax.{a_type, dcons, dnil, impl, tnil}
 pub use mir.Val.{Val, WT, has_ty, of_list, vcons, vnil, vnull, vptr, vstruct}
-pub use prog.Memory.{Memory}
-pub use prog.Routine.{Routine}
-pub use prog.Wp.{Tables, WpFn}
+pub use prog.Wp.{WpFn}
 pub use seplogic.Ra.Ura.{Ura}
-pub use sound.WpLaws.{WpFn-mono}
 pub use types.ByLocal.{alloc_all, env, free_all, get, get_in, lands_as, lands_last, look_at, pass_all, sets}
-pub use types.Kit.{ !, Goal, Item, Seq, Step, at_ret, await, by, done, drop, feq_i, feq_l, fjoin, fpack, fpick, fsplit, join, keep, later, move, pick, qed, raw, rewrite, some, split, split3, step, suffices, use0, use1, ‵, ◌$◌, ◌∵◌, ◌⊛◌}
+pub use types.Kit.{!, Goal, Item, Seq, Step, at_ret, await, by, done, drop, feq_i, feq_l, fjoin, fpack, fpick, fsplit, join, keep, later, move, pick, qed, raw, rewrite, some, split, split3, step, suffices, use0, use1, ‵, ◌$◌, ◌∵◌, ◌⊛◌}
 pub use types.Logic.{Logic, sem}
 pub use types.Part.{agg, sub, whole}
 pub use types.Run.{and_then, blocks, enter, exec, first, fld, lit, no_more, of_opd, returns, stop}

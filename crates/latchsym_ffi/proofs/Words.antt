@@ -1,9 +1,9 @@
 -- The words that the proofs of this crate use, of whatever crate.
-pub use Rattle.std.proofs.Common.{All, Bool, Bor, List, None, Option, Some, [], ap, append-nil, arith, drop, false, get_or, inl, inr, length, length-append, map, min, nat_le, refl, rules, set, slice_get, slice_index_or, slice_set, subst, suc, sym, take, zero, ℕ, ⊎_elim, ◌++◌, ◌+◌, ◌-◌, ◌<◌, ◌^◌, ◌∙◌, ◌∷◌, ◌≡◌, ◌≤◌, true, find, if◌then◌else◌}
+pub use Rattle.std.proofs.Common.{All, Bool, Bor, List, None, Option, Some, [], ap, append-nil, arith, drop, false, get_or, inl, inr, length, length-append, map, min, nat_le, refl, rules, slice_get, slice_index_or, slice_set, subst, suc, sym, take, zero, ℕ, ⊎_elim, ◌++◌, ◌+◌, ◌-◌, ◌<◌, ◌^◌, ◌∙◌, ◌∷◌, ◌≡◌, ◌≤◌, true, find, if◌then◌else◌}
 pub use Rattle.std.proofs.lemmas.Bool.{cases_lt}
 pub use Rattle.std.proofs.lemmas.Grind.{flat_map-append}
-pub use Rattle.std.proofs.lemmas.List.{get_or-map, get_or-set_same, get_or_default, length-map, length-set, map-append, take_all, take_more, take_more_set}
-pub use Rattle.std.proofs.lemmas.List.Elements.{All-append, All-contains, All-map, All-pop, All-set, AllWithin-kept, AllWithin-more, AllWithin-more_set}
+pub use Rattle.std.proofs.lemmas.List.{get_or-map, get_or_default, length-map, length-set, map-append, take_all, take_more, take_more_set}
+pub use Rattle.std.proofs.lemmas.List.Elements.{All-append, All-contains, All-map, All-pop, All-set, AllWithin-more_set}
 pub use Rattle.std.proofs.lemmas.List.Sorted.{All-permutation, IsNonDecreasingBy-from_sort_by_key, IsPartitionPoint-from_clause, IsPartitionedBy-leb, IsPermutation-map, answers_always, length_permutation}
 pub use Rattle.std.proofs.lemmas.Option.{get_or_from_slice_get, slice_get-get_or, slice_get-map}
 pub use Rattle.std.proofs.lemmas.Result.{IfErr-weaker, IfOk-weaker}
@@ -34,7 +34,6 @@ pub use Rattle.latchsym_ffi.specs.Flattening.{AreListed, AreRowsBelow}
 pub use Rattle.latchsym_ffi.specs.Handles.{HoldsReader}
 pub use Rattle.latchsym_ffi.specs.Kinds.{kind_in, reader_kind}
 pub use Rattle.latchsym_ffi.specs.Named.{IsNamed}
-pub use Rattle.latchsym_ffi.specs.Opening.{AreRead, HasTooManyRegionLines, IsCounted, RefusesTexts, counts_in}
 pub use Rattle.latchsym_ffi.specs.Owning.{owns_content}
 pub use Rattle.latchsym_ffi.specs.Replacing.{RefusesReplacingAs, item_told}
 pub use Rattle.latchsym_ffi.specs.Tables.{AreOpened, first_reader}
@@ -48,8 +47,6 @@ pub use Rattle.latchsym_ffi.specs.declared.handles.Handle.{Handle}
 pub use Rattle.latchsym_ffi.specs.declared.view_rows.ViewRegion.{ViewRegion}
 pub use Rattle.latchsym_ffi.specs.declared.view_rows.ViewSymbol.{ViewSymbol}
 pub use Rattle.latchsym_ffi.specs.declared.views.SeenRow.{SeenRow}
-pub use Rattle.listing.specs.Opening.{Given, IsOpened, Listed, Say, lines_beside, listed_in, listings_of, skipped_modules_of}
-pub use Rattle.listing.specs.SymbolListing.{symbol_counts}
 pub use Rattle.modules.proofs.IndexLemmas.{IsSplitBy-from_partition, above_at, comes_before_weak, entry_at, last_below, length-entries_of, none_below, rising}
 pub use Rattle.modules.proofs.ItemLemmas.{all_regions, one_number_more, region_of}
 pub use Rattle.modules.proofs.NearestLemmas.{found, found_is}
@@ -70,4 +67,3 @@ pub use Rattle.order_laws.specs.declared.items.Item.{Item}
 pub use Rattle.order_laws.specs.declared.refusals.Refusal.TheVariants.{OutOfMemory}
 pub use Rattle.std_alloc.proofs.SendSync.{lies, quiet}
 pub use Rattle.table_updates.specs.Updates.{replay}
-pub use Rattle.texts.specs.Lines.{lines_of}
