@@ -46,7 +46,7 @@ pub(crate) const BAD_LENGTH: u32 = 102;
 /// The struct of the listings is not one of this version, or has one that it says is not there.
 pub(crate) const BAD_LISTINGS: u32 = 103;
 
-/// A stamp lies below that of a catalog that was shown before.
+/// A stamp lies below the stamp of a catalog that was shown before.
 pub(crate) const BAD_STAMP: u32 = 104;
 
 /// What a call returns.
@@ -233,7 +233,7 @@ fn number_of_note(note: ListingNote) -> u32
     }
 }
 
-/// The number of a note if there is one, and else that of nothing.
+/// The number of a note, or of nothing if there is none.
 pub(crate) fn number_if_noted(note: Option<ListingNote>) -> u32
     ensures { result ≡ number_if_noted note }
 {
@@ -280,7 +280,7 @@ pub(crate) fn text_of(number: u32) -> &'static [u8]
     }
 }
 
-/// A number means one thing: it is that of no second answer.
+/// A number means one thing: no two answers have it.
 #[tactic(auto, unfolding(crate::specs::Answers::has_number))]
 fn numbers_mean_one_thing()
     ensures { (a : Told) → answer_with (answer_number a) ≡ Some a }

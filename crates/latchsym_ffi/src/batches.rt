@@ -9,7 +9,7 @@ use crate::answers::{BAD_LENGTH, DONE};
 use crate::finding::{CatalogAnswer, RegionAndSymbol, description_of, seek_next};
 use modules::{Catalog, Finder, IndexedCatalog, MOST_EXPECTED};
 
-/// What is told of one of several addresses: what a search for it alone tells, and the number that
+/// The answer for one of several addresses: what a search for it alone tells, and the number that
 /// this returns.
 #[repr(C)]
 #[derive(Clone, Copy, Drop)]
@@ -18,7 +18,7 @@ pub struct CatalogTold {
     pub code: u32,
 }
 
-/// What is told of what was seen.
+/// The answer for what a search found.
 fn told(catalog: &Catalog<'static>, seen: Option<RegionAndSymbol<'_>>) -> CatalogTold
     ensures { result ≡ told_of catalog.now (option_map shown_seen seen.entry) }
 {

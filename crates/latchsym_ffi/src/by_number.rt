@@ -62,7 +62,7 @@ fn tell_module(catalog: &Catalog<'static>, number: u64, out: &mut CatalogModule)
     DONE
 }
 
-/// Tells of the region at a place among those of a module.
+/// Tells of the region at a place in a module.
 fn tell_region(
     catalog: &Catalog<'static>,
     number: u64,
@@ -92,7 +92,7 @@ fn tell_region(
     DONE
 }
 
-/// Tells of the symbol at a place among those of a module.
+/// Tells of the symbol at a place in a module.
 fn tell_symbol(catalog: &Catalog<'static>, number: u64, place: usize, out: &mut CatalogEntry) -> u32
     ensures { TellsSymbol (symbol_at_place catalog.now number place) result out.old out.new }
 {
@@ -216,7 +216,7 @@ pub extern "C" fn latchsym_catalog_symbol(
     )
 }
 
-/// Tells where the next symbol of a module is that has a name.
+/// Tells the place of a module's next symbol that has a name.
 #[unsafe(no_mangle)]
 pub extern "C" fn latchsym_catalog_place_of_name_nonnull(
     catalog: &mut Handle,

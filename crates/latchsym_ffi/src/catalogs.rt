@@ -175,14 +175,14 @@ pub extern "C" fn latchsym_catalog_name_nonnull(
     )
 }
 
-/// The same catalog once more, in a box.
+/// Another share of a catalog, in a box.
 fn shared_in(alloc: Global, catalog: &OpenCatalog) -> Result<Box<Content, Global>, AllocError>
     ensures { IfOk result (λ shared. shared.value ≡ content.Catalog catalog.now) }
 {
     Ok(Box::new(alloc, Content::Catalog(catalog.share()?))?)
 }
 
-/// Opens another handle of the same catalog, for another thread.
+/// Opens another handle of a catalog, for another thread.
 #[unsafe(no_mangle)]
 pub extern "C" fn latchsym_catalog_share(
     alloc: Global,

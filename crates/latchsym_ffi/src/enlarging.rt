@@ -35,7 +35,7 @@ fn are_its_readers(writer: &Writer<HalfOpen>, handles: &[Handle]) -> bool
     handles.len() == writer.readers() as usize && all_readers(handles)
 }
 
-/// Puts a reader in place of the one that the handle holds, in the same box.
+/// Puts a reader into the handle's box, in place of the one that it holds.
 fn replace_reader(handle: &mut Handle, reader: Reader<HalfOpen>)
     requires { handle.old.kind ≡ reader_kind }
     ensures { HoldsReader reader handle.new }
@@ -61,7 +61,7 @@ fn replace_readers(handles: &mut [Handle], readers: Vec<Reader<HalfOpen>>)
     }
 }
 
-/// Lets the writer go on with so many nodes.
+/// Lets the writer go on with `nodes` nodes.
 fn move_writer(
     alloc: Global,
     nodes: u32,
@@ -75,7 +75,7 @@ fn move_writer(
     writer.move_to(alloc, layout)
 }
 
-/// Lets the writer go on with so many nodes, and its readers with it.
+/// Lets the writer and its readers go on with `nodes` nodes.
 fn enlarge(alloc: Global, nodes: u32, writer: &mut Writer<HalfOpen>, readers: &mut [Handle]) -> u32
     ensures enlarged { result ≡ 0 → AreItsReaders writer.old readers.old
         × IsEnlarged nodes writer.old writer.new readers.new }
@@ -95,7 +95,7 @@ fn enlarge(alloc: Global, nodes: u32, writer: &mut Writer<HalfOpen>, readers: &m
     }
 }
 
-/// Goes on with so many nodes, no fewer than before, in other words. The handles, one for each
+/// Goes on with `nodes` nodes, no fewer than before, in other words. The handles, one for each
 /// reader of the table, are then readers of these words.
 #[unsafe(no_mangle)]
 pub extern "C" fn latchsym_table_enlarge_nonnull(

@@ -12,7 +12,7 @@ use listing::farther;
 use modules::{Catalog, Finder, FoundSymbol, IndexedCatalog, symbol_of};
 use order_laws::Item;
 
-/// What is told of an address.
+/// The answer for an address.
 #[repr(C)]
 #[derive(Clone, Copy, Drop)]
 pub struct CatalogAnswer {
@@ -28,7 +28,7 @@ pub struct CatalogAnswer {
     pub module_len: usize,
 }
 
-/// What is told of an address, with the names where they lie in the listings.
+/// The answer for an address, with the places of the names in the listings.
 #[repr(C)]
 #[derive(Clone, Copy, Drop)]
 pub struct CatalogSymbol {
@@ -51,7 +51,7 @@ pub(crate) struct RegionAndSymbol<'c> {
     found: Option<FoundSymbol<'c, 'static>>,
 }
 
-/// What is told of an address, with the names.
+/// The answer for an address, with the names.
 #[derive(Drop)]
 pub(crate) struct Description {
     pub(crate) code: u32,
@@ -124,7 +124,7 @@ pub(crate) fn seek_call<'c>(
     Some(RegionAndSymbol { item, found })
 }
 
-/// What is told of what was seen.
+/// The answer for what a search found.
 pub(crate) fn description_of(
     catalog: &Catalog<'static>,
     seen: Option<RegionAndSymbol<'_>>,
@@ -167,9 +167,9 @@ pub(crate) fn description_of(
     }
 }
 
-/// Tells of what was seen, with the names where they lie in the listings: DONE with a symbol,
+/// Tells of what a search found, with the places of the names in the listings: DONE with a symbol,
 /// NO_SYMBOL if no symbol of its region is at or below the address, and NOTHING, with all
-/// numbers 0, where it lies in no region.
+/// numbers 0, if it lies in no region.
 pub(crate) fn name_places(
     catalog: &Catalog<'static>,
     seen: Option<RegionAndSymbol<'_>>,

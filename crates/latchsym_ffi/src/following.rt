@@ -92,7 +92,7 @@ pub extern "C" fn latchsym_follower_show(
     result
 }
 
-/// Tells by the catalog that stands at a moment what `seek` or `seek_call` finds there.
+/// Tells what `seek` or `seek_call` finds in the catalog that is current at a moment.
 macro_rules! tell_standing {
     ($follower:ident, $moment:expr, $seek:ident, $addr:ident, $out:ident) => {
         with_follower!($follower, |open| match open.catalog_at($moment) {
@@ -105,7 +105,7 @@ macro_rules! tell_standing {
     };
 }
 
-/// Tells of an address by the catalog that stands at a generation.
+/// Tells of an address by the catalog that is current at a generation.
 #[unsafe(no_mangle)]
 pub extern "C" fn latchsym_follower_find(
     follower: &mut Handle,
@@ -121,7 +121,7 @@ pub extern "C" fn latchsym_follower_find(
     tell_standing!(follower, Moment::Generation(generation), seek, addr, out)
 }
 
-/// Tells of a return address by the catalog that stands at a generation.
+/// Tells of a return address by the catalog that is current at a generation.
 #[unsafe(no_mangle)]
 pub extern "C" fn latchsym_follower_find_caller(
     follower: &mut Handle,
@@ -143,7 +143,7 @@ pub extern "C" fn latchsym_follower_find_caller(
     )
 }
 
-/// Tells of an address by the catalog that stands at a stamp.
+/// Tells of an address by the catalog that is current at a stamp.
 #[unsafe(no_mangle)]
 pub extern "C" fn latchsym_follower_find_since(
     follower: &mut Handle,
@@ -158,7 +158,7 @@ pub extern "C" fn latchsym_follower_find_since(
     tell_standing!(follower, Moment::Stamp(at), seek, addr, out)
 }
 
-/// Tells of a return address by the catalog that stands at a stamp.
+/// Tells of a return address by the catalog that is current at a stamp.
 #[unsafe(no_mangle)]
 pub extern "C" fn latchsym_follower_find_caller_since(
     follower: &mut Handle,

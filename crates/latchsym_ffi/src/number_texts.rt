@@ -5,14 +5,14 @@ ghost use Rattle.latchsym_ffi.specs.Answers.{text_with};
 
 use crate::answers::text_of;
 
-/// Where bytes lie that stay there.
+/// The place of bytes that stay in memory.
 #[repr(C)]
 #[derive(Clone, Copy, Drop)]
 pub struct Place {
     pub bytes: &'static [u8],
 }
 
-/// Tells where the text of a number lies, with the 0 at its end.
+/// Tells the place of a number's text, with the 0 at its end.
 #[unsafe(no_mangle)]
 pub extern "C" fn latchsym_place_of_text(number: u32, out: &mut Place)
     ensures { out.new.bytes.now ≡ text_with number ++ 0 ∷ [] }

@@ -13,7 +13,7 @@ use crate::handles::Handle;
 use latch_table::Writer;
 use order_laws::{HalfOpen, Refusal};
 
-/// Closes a handle with a reader, of which the writer then counts one fewer.
+/// Closes a handle with a reader. The writer then counts one reader fewer.
 fn take_back(writer: &mut Writer<HalfOpen>, reader: &mut Handle) -> u32
     ensures taken { result ≡ 0 → TakesBack reader.old reader.new writer.old writer.new }
     ensures unchanged { result ≢ 0 → (writer.new ≡ writer.old) × (reader.new ≡ reader.old) }
