@@ -84,7 +84,8 @@ AreAnswersOf q a g answer =
 
 -- With a block, after a line that is open, the lines that have their end now are put, each named by
 -- these answers, and what is put of the line that is open after them.
-pub record NamesBlock (answer : Answering) (held held' : LogContext) (line block line' text : List ℕ)
+pub record NamesBlock (answer : Answering) (held held' : LogContext)
+    (line block line' text : List ℕ)
     : Type 0 where
   pub ended : List ℕ
   pub parts : line ++ block ≡ ended ++ line'
@@ -111,7 +112,8 @@ pub record NamesLast (held : LogContext) (line : List ℕ) (answer : Answering) 
 pub data IsNamed (q : Sources) (a : Annotate) (first : Given)
     : List Turn → Given → LogContext → List ℕ → List ℕ → Type 0 where
   no_turn : IsNamed q a first [] first first_held [] []
-  one_more : (turns : List Turn) (last : Given) (held held' : LogContext) (line line' text more : List ℕ)
+  one_more : (turns : List Turn) (last : Given) (held held' : LogContext)
+      (line line' text more : List ℕ)
       (t : Turn) (answer : Answering)
       → IsNamed q a first turns last held line text → AreAnswersOf q a t.listings answer
       → NamesBlock answer held held' line t.block line' more
@@ -160,7 +162,8 @@ IsUnlisted before after w w' result =
     × (result ≡ Err (stop.Failed f))
 
 -- or, in one turn more, the lines that have their end in its block are not all written;
-abbrev pub IsStopped : {W : Type 0} → (W → Option (List ℕ)) → Sources → Annotate → LogContext → List ℕ
+abbrev pub IsStopped : {W : Type 0} → (W → Option (List ℕ)) → Sources → Annotate
+    → LogContext → List ℕ
     → Option (List Event) → Option (List Event) → Output W → Output W → Result Findings Stop
     → Type 0
 IsStopped contents q a held line before after w w' result =

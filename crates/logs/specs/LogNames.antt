@@ -59,7 +59,8 @@ with_name true names = record names { agreeing = one_more names.agreeing }
 with_name false names = record names { disagreeing = one_more names.disagreeing }
 
 -- An address more, with its answer's text if it has one, before the rest of its line.
-abbrev pub with_address : Answering → AddressWord → List ℕ → Option (List ℕ) → LogNames → LogNames
+abbrev pub with_address : Answering → AddressWord → List ℕ → Option (List ℕ)
+    → LogNames → LogNames
 with_address answer t rest None names = record names { addresses = one_more names.addresses }
 with_address answer t rest (Some text) names =
     let more = record names { addresses = one_more names.addresses; named = one_more names.named } in

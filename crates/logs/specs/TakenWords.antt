@@ -131,7 +131,8 @@ taken_at narrow held line last w value =
     }
 
 -- the address words among the words of a line
-abbrev pub taken_among : Bool → LogContext → List ℕ → Option AddressWord → List Word → List AddressWord
+abbrev pub taken_among : Bool → LogContext → List ℕ → Option AddressWord → List Word
+    → List AddressWord
 taken_among narrow held line last [] = []
 taken_among narrow held line last (w ∷ words) =
     option_map_or
