@@ -28,14 +28,17 @@
  *
  * From a signal handler only the calls marked "handler" may be made: they take no memory. To one a
  * handle is closed while a call has it which the signal interrupts, and so is, to one in a forked
- * child, a handle that a call of another thread had. It is proved that they return rightly where the
- * signal comes between two calls on the table (block the signal during the writer's calls). A handler
- * inside a running call is tested, and not proved; a forked child is tested on x86-64. The child has
- * a copy of each table, in which what the parent's writer does from then on is not seen.
+ * child, a handle that a call of another thread had. It is proved that they return rightly where
+ * the signal comes between two calls on the table (block the signal during the writer's calls). A
+ * handler inside a running call is tested, and not proved; a forked child is tested on x86-64. The
+ * child has a copy of each table, in which what the parent's writer does from then on is not seen.
+ * What is closed to it stays so: it opens no handle again, and goes on to exec. A writer whose
+ * thread ended inside a call is closed to all for good, and its readers answer on.
  */
 #ifndef LATCHSYM_H
 #define LATCHSYM_H
 #include <assert.h>
+#include <sched.h>
 #include <stddef.h>
 #include <stdint.h>
 #ifdef __cplusplus
@@ -61,42 +64,47 @@ static_assert(sizeof(struct latchsym_follower) == sizeof(struct latchsym_handle)
 #define LATCHSYM_VERSION 10200
 
 /* What calls return. A number means one thing, whatever call returns it. Those below 20 are
- * refusals, and are the numbers that the program prints. */
+ * refusals, and are the numbers that the program prints. Each comment begins with the number's text,
+ * up to its first full stop. */
 enum {
-    LATCHSYM_DONE = 0,         /* done; of a search: found; of a step: no update is pending */
-    LATCHSYM_BAD_ITEM = 1,     /* the item is empty */
-    LATCHSYM_OVERLAP = 2,      /* the item overlaps one of the table */
-    LATCHSYM_NO_SUCH_ITEM = 3, /* no item begins there */
-    LATCHSYM_FULL = 4,         /* the table has as many items as nodes */
-    LATCHSYM_UPDATE_IN_HAND = 5, /* an update has begun and is not at its end */
-    LATCHSYM_SEQUENCE_SPENT = 6, /* after 2^63 - 1 updates */
-    LATCHSYM_OUT_OF_MEMORY = 7,
-    LATCHSYM_BAD_CAPACITY = 10, /* nodes or readers are not in their range */
+    LATCHSYM_DONE = 0,     /* done. Of a search: found; of a step: no update is pending */
+    LATCHSYM_BAD_ITEM = 1, /* the item is empty */
+    LATCHSYM_OVERLAP = 2,  /* the item overlaps one of the table */
+    LATCHSYM_NO_SUCH_ITEM = 3,   /* no item of the table begins there */
+    LATCHSYM_FULL = 4,           /* the table has as many items as nodes */
+    LATCHSYM_UPDATE_IN_HAND = 5, /* an update is pending. It has begun and is not at its end */
+    LATCHSYM_SEQUENCE_SPENT = 6, /* the sequence is spent. The table has had 2^63 - 1 updates */
+    LATCHSYM_OUT_OF_MEMORY = 7,  /* out of memory */
+    LATCHSYM_BAD_CAPACITY = 10,  /* the number of nodes or of readers is out of its range */
     LATCHSYM_TOO_MANY_REGIONS = 14, /* more than 7 region lines have one name */
-    LATCHSYM_BAD_LINE = 15,         /* a line of the listing of regions is not one */
-    LATCHSYM_NO_SYMBOL = 21, /* of a search for a name: in a region, but no symbol at or below */
-    LATCHSYM_NOTHING = 22,   /* of a search: nothing is there */
-    LATCHSYM_RETRY = 23,     /* of a search by a reader: the writer flipped meanwhile, try again */
-    LATCHSYM_BUSY = 24,      /* of a pool: other calls have all its readers, try again */
-    LATCHSYM_FORGOTTEN = 25, /* of a follower: it has no listing of that moment */
-    LATCHSYM_FLIP = 31,      /* of a step: a flip of the sequence; the second shows the update */
-    LATCHSYM_STORE = 32,     /* of a step: another word was stored */
-    LATCHSYM_NOTE_GZIP = 41, /* of a listing, here and up to 53: it is compressed by gzip */
-    LATCHSYM_NOTE_HIDDEN = 42,        /* every address is 0: it was not read as root */
-    LATCHSYM_NOTE_LIKE_SYMBOLS = 43,  /* of modules: it looks like a listing of symbols */
-    LATCHSYM_NOTE_LIKE_MODULES = 44,  /* of symbols: it looks like a listing of modules */
-    LATCHSYM_NOTE_CR_LF = 45,         /* its lines end in CR LF */
-    LATCHSYM_NOTE_NO_START = 46,      /* of symbols: none has the name at the kernel's start */
-    LATCHSYM_NOTE_NO_END = 47,        /* of symbols: none has the name at the kernel's end */
-    LATCHSYM_NOTE_OTHER_BOOT = 48,    /* of modules: no symbol lies in one of them */
-    LATCHSYM_NOTE_NO_MODULE_LINE = 49, /* of modules: no line is of the form of /proc/modules */
-    LATCHSYM_NOTE_NO_SYMBOL_LINE = 50, /* of symbols: no line is of the form of /proc/kallsyms */
-    LATCHSYM_NOTE_MODULES_OVERLAP = 51, /* of modules: a symbol names one that is left out, as sizes overlap */
-    LATCHSYM_NOTE_EMPTY = 52,  /* of symbols: no byte, and there is no listing of modules */
-    LATCHSYM_NOTE_UTF_16 = 53, /* it is in UTF-16 */
-    LATCHSYM_BAD_HANDLE = 101, /* closed where open is wanted, the other way round, or of others */
-    LATCHSYM_BAD_LENGTH = 102, /* not as much room as there are addresses */
-    LATCHSYM_BAD_LISTINGS = 103, /* of a struct of listings: not as this version has it */
+    LATCHSYM_BAD_LINE = 15, /* a line of the listing of regions is not one. Its number is told */
+    LATCHSYM_NO_SYMBOL = 21, /* no symbol of the region is at or below the address */
+    LATCHSYM_NOTHING = 22,   /* nothing is there */
+    LATCHSYM_RETRY = 23,     /* the writer flipped meanwhile: try again */
+    LATCHSYM_BUSY = 24,      /* other calls have all readers of the pool: try again */
+    LATCHSYM_FORGOTTEN = 25, /* the follower has no listing of that moment */
+    LATCHSYM_FLIP = 31,      /* a flip of the sequence. The second of an update shows it */
+    LATCHSYM_STORE = 32,     /* a store of a word */
+    LATCHSYM_NOTE_GZIP = 41, /* is compressed by gzip; unpack it first. Up to 53: a listing's */
+    LATCHSYM_NOTE_HIDDEN = 42,        /* every address is 0; read it as root (kernel.kptr_restrict) */
+    LATCHSYM_NOTE_LIKE_SYMBOLS = 43,  /* looks like a listing of symbols. Noted of modules */
+    LATCHSYM_NOTE_LIKE_MODULES = 44,  /* looks like a listing of modules. Noted of symbols */
+    LATCHSYM_NOTE_CR_LF = 45,         /* lines end in CR LF */
+    LATCHSYM_NOTE_NO_START = 46,      /* has no symbol at the kernel's first address */
+    LATCHSYM_NOTE_NO_END = 47,        /* has no symbol at the kernel's end; try the end _einittext */
+    LATCHSYM_NOTE_OTHER_BOOT = 48,    /* no symbol lies in a listed module; are both listings of one
+                                       * boot? */
+    LATCHSYM_NOTE_NO_MODULE_LINE = 49, /* no line is of the form of /proc/modules */
+    LATCHSYM_NOTE_NO_SYMBOL_LINE = 50, /* no line is of the form of /proc/kallsyms */
+    LATCHSYM_NOTE_MODULES_OVERLAP = 51, /* modules overlap, as sizes do from Linux 6.4 on; leave
+                                         * their listing out. A symbol names one that is left out */
+    LATCHSYM_NOTE_EMPTY = 52,  /* is empty. Noted of symbols where modules are not given */
+    LATCHSYM_NOTE_UTF_16 = 53, /* is UTF-16; convert it first */
+    LATCHSYM_BAD_HANDLE = 101, /* the handle does not hold what is wanted. It is closed where open is
+                                * wanted, the other way round, or of others */
+    LATCHSYM_BAD_LENGTH = 102, /* the room is not for as many answers as there are addresses */
+    LATCHSYM_BAD_LISTINGS = 103, /* the listings are not as this version has them. Or there are bytes
+                                  * of modules or of regions, and has_modules is 0 */
     LATCHSYM_BAD_STAMP = 104     /* the stamp lies below that of a listing shown before */
 };
 
@@ -310,7 +318,7 @@ static inline uint32_t latchsym_catalog_place_of_name(struct latchsym_catalog *c
  * others of this name come before, by rising number of the module and then in the order listed. Ask
  * with 0, 1, 2 .. for one after the other. The first call with a handle sorts the symbols by name, for
  * which it takes memory; later ones are logarithmic. 0, LATCHSYM_NOTHING, LATCHSYM_OUT_OF_MEMORY or
- * LATCHSYM_BAD_HANDLE; each but 0 writes nothing. */
+ * LATCHSYM_BAD_HANDLE; each but 0 writes nothing. Since 1.2. */
 uint32_t latchsym_catalog_find_name_nonnull(struct latchsym_catalog *, const uint8_t *name,
                                             size_t name_len, size_t from, uint64_t *number,
                                             size_t *place);
@@ -432,7 +440,7 @@ uint32_t latchsym_writer_add_reader(struct latchsym_writer *, struct latchsym_re
 /* Closes a reader and frees its place in the writer's table, also amid an update: the table then has
  * one reader fewer for latchsym_writer_add_reader and latchsym_table_enlarge. It is not checked
  * whether it is a reader of this table. 0, LATCHSYM_BAD_HANDLE where one of the two is closed, or
- * LATCHSYM_BAD_CAPACITY where the table has no reader. */
+ * LATCHSYM_BAD_CAPACITY where the table has no reader. Since 1.1. */
 uint32_t latchsym_writer_take_reader(struct latchsym_writer *, struct latchsym_reader *);
 
 /* Begin an update: put an item in, take the item out that begins at a, or do several of
@@ -458,7 +466,7 @@ static inline uint32_t latchsym_writer_begin_batch(struct latchsym_writer *write
  * new ones in, at once, and leaves those alone that the table has already. Takes memory for a copy of
  * all items first, and then for what differs. 0, LATCHSYM_BAD_HANDLE, LATCHSYM_UPDATE_IN_HAND,
  * LATCHSYM_OVERLAP where one does not lie below the next, LATCHSYM_BAD_ITEM, LATCHSYM_FULL,
- * LATCHSYM_SEQUENCE_SPENT or LATCHSYM_OUT_OF_MEMORY. */
+ * LATCHSYM_SEQUENCE_SPENT or LATCHSYM_OUT_OF_MEMORY. Since 1.1. */
 uint32_t latchsym_writer_begin_replace_nonnull(struct latchsym_writer *,
                                                const struct latchsym_item *items, size_t items_len);
 static inline uint32_t latchsym_writer_begin_replace(struct latchsym_writer *writer,
@@ -471,7 +479,7 @@ static inline uint32_t latchsym_writer_begin_replace(struct latchsym_writer *wri
 /* Writes an item for each region of the catalog, each below the next, with the number of its module
  * as the tag: what latchsym_writer_begin_replace takes. There are to be as many rooms as
  * latchsym_catalog_sizes tells regions. 0, LATCHSYM_BAD_LENGTH or LATCHSYM_BAD_HANDLE; each but 0
- * writes nothing. Takes no memory. */
+ * writes nothing. Takes no memory. Since 1.1. */
 uint32_t latchsym_catalog_items_nonnull(struct latchsym_catalog *, struct latchsym_item *out,
                                         size_t out_len);
 static inline uint32_t latchsym_catalog_items(struct latchsym_catalog *catalog,
@@ -515,7 +523,8 @@ static inline void latchsym_writer_close(struct latchsym_writer *writer) {
 
 /* The item of an address: from memory where the reader found it last and no update was shown since,
  * else by one attempt. 0, LATCHSYM_NOTHING, LATCHSYM_RETRY (nothing is written) or
- * LATCHSYM_BAD_HANDLE. It is never LATCHSYM_RETRY beside a writer at rest. Handler. */
+ * LATCHSYM_BAD_HANDLE. It is never LATCHSYM_RETRY beside a writer at rest; beside one that never
+ * rests no lookup was seen to take more than 6 attempts. Handler. */
 uint32_t latchsym_reader_try_find(struct latchsym_reader *, uint64_t addr,
                                   struct latchsym_found *out);
 
@@ -546,24 +555,40 @@ static inline void latchsym_reader_close(struct latchsym_reader *reader) {
 
 /* ---- a pool of readers ---- */
 
-/* Readers of one table that any number of threads, signal handlers and calls inside calls share, in a
- * slot each. A call claims a free one without waiting for it, and has given it back when it returns.
- * A pool is some 4 KB large and begins as all bytes 0 (`= {0}`), which is a closed one. The calls here
- * alone write to it, and none of them runs while it is moved, opened, or freed.
+/* Readers of one table that any number of threads, signal handlers and calls inside calls share, in
+ * a slot each. A call claims a free one without waiting for it, and has given it back when it
+ * returns. A pool is some 4 KB large and begins as all bytes 0 (`= {0}`), which is a closed one.
+ * Its type is aligned to 64 bytes: on the heap take aligned_alloc. The calls here alone write to
+ * it, and none of them runs while it is moved, opened, or freed.
  *
- * In a forked child a slot stays claimed that a call of another thread had at the fork: where all
- * were, each call there returns LATCHSYM_BUSY. */
+ * It needs a slot for each call that may run at once: two for a thread that looks up both in a
+ * handler and outside of it. A handler bounds how often it asks while it is told LATCHSYM_BUSY:
+ * inside the call that enlarges the table it would be told so for ever.
+ *
+ * A slot stays claimed for good if a handler leaves the lookup that it interrupted, by siglongjmp
+ * or pthread_exit; and in a forked child, if a call of another thread had it at the fork. Once all
+ * are, or if one just wanted all, each call returns LATCHSYM_BUSY. */
 enum { LATCHSYM_POOL_MOST = 64 };
+/* How often an enlarging or a close looks for free slots before it is told LATCHSYM_BUSY. */
+#ifndef LATCHSYM_POOL_LOOKS
+#define LATCHSYM_POOL_LOOKS 1000
+#endif
 struct latchsym_pool_slot {
-    uint32_t claims; /* odd while a call has the reader: each claim adds 1, and so does its end */
+    uint64_t claims; /* odd while a call has the reader: each claim adds 1, and so does its end */
     struct latchsym_reader reader;
     uint64_t apart[5]; /* the next slot lies in another line of the cache */
 };
-struct latchsym_pool {
+struct __attribute__((aligned(64))) latchsym_pool {
     uint32_t slots_len, shift; /* calls begin to look at one of the first 2^(32 - shift) slots */
-    uint64_t apart[7];
+    uint32_t is_wanted;        /* 1 while a call claims all slots, and then no other claims any */
+    uint32_t apart[13];
     struct latchsym_pool_slot slots[LATCHSYM_POOL_MOST];
 };
+
+/* How many slots a pool has, 0 once it is closed. */
+static inline uint32_t latchsym_pool_len(const struct latchsym_pool *pool) {
+    return __atomic_load_n(&pool->slots_len, __ATOMIC_RELAXED);
+}
 
 /* Claims a slot, if it is free. */
 static inline int latchsym_pool_claim_slot(struct latchsym_pool_slot *slot) {
@@ -573,21 +598,23 @@ static inline int latchsym_pool_claim_slot(struct latchsym_pool_slot *slot) {
 
 /* Gives a slot back, which only the call that has claimed it does. */
 static inline void latchsym_pool_give_back(struct latchsym_pool_slot *slot) {
-    const uint32_t claims = __atomic_load_n(&slot->claims, __ATOMIC_RELAXED);
+    const uint64_t claims = __atomic_load_n(&slot->claims, __ATOMIC_RELAXED);
     __atomic_store_n(&slot->claims, claims + 1, __ATOMIC_RELEASE);
 }
 
-/* Claims a free slot of a pool; null where all were claimed at one moment. Claims only rise, so two
- * rounds with one sum met the same claims, all of which held between the rounds. Most threads begin
- * at a slot of their own, where there are enough, since their stacks lie apart, mostly by 2^23. */
+/* Claims a free slot of a pool; null where a call wants all, or all were claimed at one moment.
+ * Claims only rise, so two rounds with one sum met the same claims, all of which held between the
+ * rounds. Most threads begin at a slot of their own, where there are enough, since their stacks lie
+ * apart, mostly by 2^23. */
 static inline struct latchsym_pool_slot *latchsym_pool_claim(const struct latchsym_pool *pool) {
     const char here = 0;
     const uint64_t at = (uint64_t)(uintptr_t)&here;
     const uint32_t stack = (uint32_t)((at >> 16) + (at >> 23)), mixed = stack * 0x9e3779b9u;
-    const uint32_t len = __atomic_load_n(&pool->slots_len, __ATOMIC_RELAXED);
+    const uint32_t len = latchsym_pool_len(pool);
     const uint32_t first = (uint32_t)((uint64_t)mixed >> pool->shift);
     uint64_t sum, before = UINT64_MAX;
     uint32_t i;
+    if (__atomic_load_n(&pool->is_wanted, __ATOMIC_RELAXED)) return NULL;
     for (;; before = sum) {
         for (sum = 0, i = 0; i < len; i++) {
             const uint32_t place = first + i < len ? first + i : first + i - len;
@@ -600,19 +627,48 @@ static inline struct latchsym_pool_slot *latchsym_pool_claim(const struct latchs
     }
 }
 
-/* Claims all slots of a pool, or none where one is claimed. */
-static inline int latchsym_pool_claim_all(struct latchsym_pool *pool) {
-    uint32_t i;
-    for (i = 0; i < pool->slots_len; i++) {
-        if (latchsym_pool_claim_slot(&pool->slots[i])) continue;
-        while (i-- > 0) latchsym_pool_give_back(&pool->slots[i]);
-        return 0;
-    }
-    return 1;
+/* All of 1 to 64 slots, as bits: bit i is that of slot i. */
+static inline uint64_t latchsym_pool_all(uint32_t len) {
+    return UINT64_MAX >> (LATCHSYM_POOL_MOST - len);
 }
 
-/* Opens a closed pool with readers, 1 to 64, whose handles are no handles then. 0, LATCHSYM_BAD_HANDLE
- * where the pool is open, or LATCHSYM_BAD_CAPACITY where they are not so many. */
+/* Claims those slots that are free, beside those that the call has, and returns all that it has
+ * then. */
+static inline uint64_t latchsym_pool_claim_more(struct latchsym_pool *pool, uint32_t len,
+                                                uint64_t mine) {
+    uint32_t i;
+    for (i = 0; i < len; i++)
+        if (!(mine >> i & 1) && latchsym_pool_claim_slot(&pool->slots[i])) mine |= (uint64_t)1 << i;
+    return mine;
+}
+
+/* Gives back the slots that the call has. */
+static inline void latchsym_pool_give_back_all(struct latchsym_pool *pool, uint64_t mine) {
+    for (; mine; mine &= mine - 1) latchsym_pool_give_back(&pool->slots[__builtin_ctzll(mine)]);
+}
+
+/* Claims all slots of a pool that had `len`, 1 or more: one call at a time, so that no two wait for
+ * each other. It keeps what it has while it looks for the others, and lets their threads run at
+ * last. 0; LATCHSYM_BUSY where another call has a slot or wants all, or LATCHSYM_BAD_HANDLE where
+ * the pool was closed meanwhile: then it has none. Only a call that has all slots closes a pool, so
+ * that it stays open until this one gives them back. */
+static inline uint32_t latchsym_pool_claim_all(struct latchsym_pool *pool, uint32_t len) {
+    const uint64_t all = latchsym_pool_all(len);
+    uint64_t mine = 0;
+    uint32_t looks, is_open;
+    if (__atomic_exchange_n(&pool->is_wanted, 1, __ATOMIC_ACQUIRE)) return LATCHSYM_BUSY;
+    for (looks = 0; looks < LATCHSYM_POOL_LOOKS && mine != all; looks++) {
+        if (looks + 10 >= LATCHSYM_POOL_LOOKS) sched_yield(); /* one may wait for this processor */
+        mine = latchsym_pool_claim_more(pool, len, mine);
+    }
+    is_open = latchsym_pool_len(pool) == len;
+    if (mine != all || !is_open) latchsym_pool_give_back_all(pool, mine);
+    __atomic_store_n(&pool->is_wanted, 0, __ATOMIC_RELEASE);
+    return mine != all ? LATCHSYM_BUSY : is_open ? LATCHSYM_DONE : LATCHSYM_BAD_HANDLE;
+}
+
+/* Opens a closed pool with readers, 1 to 64, whose handles are no handles then. 0,
+ * LATCHSYM_BAD_HANDLE where the pool is open, or LATCHSYM_BAD_CAPACITY for another number. */
 static inline uint32_t latchsym_pool_fill(struct latchsym_pool *pool,
                                           const struct latchsym_reader *readers, size_t slots) {
     uint32_t i;
@@ -624,9 +680,9 @@ static inline uint32_t latchsym_pool_fill(struct latchsym_pool *pool,
     return LATCHSYM_DONE;
 }
 
-/* Opens an empty table of 1 to 65536 nodes: its writer, and a pool with so many of its readers, 1 to
- * 64; both or neither. Refused as latchsym_table_open is, by LATCHSYM_BAD_HANDLE also where the pool
- * is open. (A pool of a follower's readers: latchsym_follower_open and latchsym_pool_fill.) */
+/* Opens an empty table of 1 to 65536 nodes: its writer, and a pool with so many of its readers, 1
+ * to 64; both or neither. Refused as latchsym_table_open is, by LATCHSYM_BAD_HANDLE also where the
+ * pool is open. (A pool of a follower's readers: latchsym_follower_open and latchsym_pool_fill.) */
 static inline uint32_t latchsym_pool_open(uint32_t nodes, size_t slots,
                                           struct latchsym_writer *writer,
                                           struct latchsym_pool *pool) {
@@ -637,57 +693,55 @@ static inline uint32_t latchsym_pool_open(uint32_t nodes, size_t slots,
     return answer ? answer : latchsym_pool_fill(pool, readers, slots);
 }
 
-/* The item of an address, as latchsym_reader_try_find tells it. Any number of threads call it with one
- * pool at once, and so do handlers inside such calls. 0, LATCHSYM_NOTHING, LATCHSYM_RETRY,
- * LATCHSYM_BUSY where other calls had all readers at one moment (nothing is written), or
- * LATCHSYM_BAD_HANDLE. It is never LATCHSYM_BUSY where at most as many calls run at once as there are
- * slots and none enlarges or closes the pool. Of two calls one after the other the second tells no
- * lower generation, whichever readers they had. Handler. */
+/* The item of an address, as latchsym_reader_try_find tells it. Any number of threads call it with
+ * one pool at once, and so do handlers inside such calls. 0, LATCHSYM_NOTHING, LATCHSYM_RETRY,
+ * LATCHSYM_BUSY where other calls had all readers at one moment, or one wants all (nothing is
+ * written), or LATCHSYM_BAD_HANDLE. It is never LATCHSYM_BUSY where at most as many calls run at
+ * once as there are slots and none enlarges or closes the pool. Of two calls one after the other
+ * the second tells no lower generation, whichever readers they had. Handler. */
 static inline uint32_t latchsym_pool_try_find(const struct latchsym_pool *pool, uint64_t addr,
                                               struct latchsym_found *out) {
     struct latchsym_pool_slot *slot = latchsym_pool_claim(pool);
     uint32_t answer;
-    if (!slot) return pool->slots_len ? LATCHSYM_BUSY : LATCHSYM_BAD_HANDLE;
+    if (!slot) return latchsym_pool_len(pool) ? LATCHSYM_BUSY : LATCHSYM_BAD_HANDLE;
     answer = latchsym_reader_try_find(&slot->reader, addr, out);
     latchsym_pool_give_back(slot);
     return answer;
 }
 
 /* Goes on with so many nodes in new words, as latchsym_table_enlarge does, with the readers of the
- * pool, which are to be all that the table has. Threads and handlers may look up meanwhile: they are
- * told LATCHSYM_BUSY. 0, LATCHSYM_BAD_HANDLE where the pool is closed, LATCHSYM_BUSY where a call has
- * one of the slots, and else what latchsym_table_enlarge refuses: ask again. */
+ * pool, which are to be all that the table has. Threads and handlers may look up meanwhile, and
+ * threads close the pool: they are told LATCHSYM_BUSY. 0, LATCHSYM_BAD_HANDLE where the pool is
+ * closed, LATCHSYM_BUSY where a call has one of the slots or wants all, so ask again, and else what
+ * latchsym_table_enlarge refuses. */
 static inline uint32_t latchsym_pool_enlarge(uint32_t nodes, struct latchsym_writer *writer,
                                              struct latchsym_pool *pool) {
     struct latchsym_reader readers[LATCHSYM_POOL_MOST];
-    const uint32_t len = pool->slots_len;
-    uint32_t i, answer;
-    if (!len) return LATCHSYM_BAD_HANDLE;
-    if (!latchsym_pool_claim_all(pool)) return LATCHSYM_BUSY;
+    const uint32_t len = latchsym_pool_len(pool);
+    uint32_t i, answer = len ? latchsym_pool_claim_all(pool, len) : (uint32_t)LATCHSYM_BAD_HANDLE;
+    if (answer) return answer;
     for (i = 0; i < len; i++) readers[i] = pool->slots[i].reader;
     answer = latchsym_table_enlarge(nodes, writer, readers, len);
-    for (i = 0; i < len; i++) {
-        pool->slots[i].reader = readers[i];
-        latchsym_pool_give_back(&pool->slots[i]);
-    }
+    for (i = 0; i < len; i++) pool->slots[i].reader = readers[i];
+    latchsym_pool_give_back_all(pool, latchsym_pool_all(len));
     return answer;
 }
 
-/* Closes a pool with its readers, so that calls return LATCHSYM_BAD_HANDLE. 0, or LATCHSYM_BUSY where
- * a call has one of the slots, and then it stays open: ask again. */
+/* Closes a pool with its readers, so that calls return LATCHSYM_BAD_HANDLE; also beside calls of
+ * other threads that look up, enlarge the table or close it. 0, or LATCHSYM_BUSY where a call has
+ * one of the slots or wants all, and then this one did nothing: ask again. */
 static inline uint32_t latchsym_pool_close(struct latchsym_pool *pool) {
-    uint32_t i, len = pool ? pool->slots_len : 0;
-    if (!len) return LATCHSYM_DONE;
-    if (!latchsym_pool_claim_all(pool)) return LATCHSYM_BUSY;
+    const uint32_t len = pool ? latchsym_pool_len(pool) : 0;
+    uint32_t i, answer = len ? latchsym_pool_claim_all(pool, len) : (uint32_t)LATCHSYM_BAD_HANDLE;
+    if (answer == LATCHSYM_BAD_HANDLE) return LATCHSYM_DONE;
+    if (answer) return answer;
     __atomic_store_n(&pool->slots_len, 0, __ATOMIC_RELAXED);
-    for (i = 0; i < len; i++) {
-        latchsym_reader_close(&pool->slots[i].reader);
-        latchsym_pool_give_back(&pool->slots[i]);
-    }
+    for (i = 0; i < len; i++) latchsym_reader_close(&pool->slots[i].reader);
+    latchsym_pool_give_back_all(pool, latchsym_pool_all(len));
     return LATCHSYM_DONE;
 }
 
-/* ---- a table that follows a listing ---- */
+/* ---- a table that follows a listing, since 1.2 ---- */
 
 /* A follower changes a table of its own, so that it has the regions of the catalog that was shown
  * last, and keeps each catalog with the generation of its update and a stamp of the caller's, any

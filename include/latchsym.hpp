@@ -22,6 +22,7 @@
 #include <stdexcept>
 #include <string>
 #include <string_view>
+#include <thread>
 #include <type_traits>
 #include <utility>
 #include <vector>
@@ -341,6 +342,25 @@ inline found found_of(std::uint32_t number, const latchsym_found &out) {
     return {item{out.a, out.b, out.tag}, out.generation};
 }
 
+/* How often a lookup is tried before its refusal is thrown. */
+constexpr int most_tries = 1000000;
+
+/* The first answer of a call that may be told to try again; where others have all readers, other
+ * threads run before that. */
+template <class Call>
+found first_answer(Call call) {
+    latchsym_found out{};
+    std::uint32_t number = LATCHSYM_RETRY;
+    for (int tries = 0; tries < most_tries; tries++) {
+        number = call(&out);
+        if (number == LATCHSYM_BUSY)
+            std::this_thread::yield();
+        else if (number != LATCHSYM_RETRY)
+            return found_of(number, out);
+    }
+    throw error(number);
+}
+
 } // namespace detail
 
 /* One of the readers of a table, which is there as long as its `readers` are. */
@@ -359,11 +379,10 @@ public:
     }
 
     /* Attempts until one answers. Beside a writer that rests, also amid an update, that is the
-     * first. */
+     * first; beside another an error with LATCHSYM_RETRY comes after 1,000,000, which nobody saw. */
     found find(std::uint64_t addr) {
-        for (;;) {
-            if (auto out = try_find(addr)) return *out;
-        }
+        return detail::first_answer(
+            [&](latchsym_found *out) { return latchsym_reader_try_find(get(), addr, out); });
     }
 
     /* One attempt, and the symbol in the item that was found, whose tag is taken as the number of a
@@ -453,11 +472,11 @@ public:
         return detail::found_of(number, out);
     }
 
-    /* Attempts until one answers. */
+    /* Attempts until one answers, at most 1,000,000, between which other threads may run: then an
+     * error with LATCHSYM_BUSY, as where no reader is ever given back. */
     found find(std::uint64_t addr) const {
-        for (;;) {
-            if (auto out = try_find(addr)) return *out;
-        }
+        return detail::first_answer(
+            [&](latchsym_found *out) { return latchsym_pool_try_find(get(), addr, out); });
     }
 
 private:

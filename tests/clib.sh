@@ -2,8 +2,8 @@
 # Builds the library for C, and runs the programs of tests/c and examples/c with it: the text of
 # each number, null pointers, which refusal comes first, what is found of addresses, views on
 # several threads, the table on threads, beside signals and at each stop of its writer, calls inside
-# calls, readers that are added and taken back, readers that calls share, each request for memory
-# refused, files that are read and each call for that refused, items replaced, code that is sampled
+# calls, readers that are added and taken back, readers that calls share, each order of such calls' steps,
+# each request for memory refused, files that are read and each call for that refused, items replaced, code that is sampled
 # while it comes and goes, a listing that is followed while it changes and named by its time, the listings of examples/ as
 # `latchsym lookup` answers, its logs as `latchsym annotate` writes them, and addresses of this
 # machine's kernel as libbcc answers; under valgrind and sanitizers where these are there, and names of
@@ -19,21 +19,33 @@ compile() {
     gcc -std=gnu11 -Wall -Wextra -Werror -O2 -I"$top/include" "$top/tests/c/$1.c" "$library" -lpthread -o "$work/$1" "${@:2}"
 }
 
-for name in numbers nulls order find view table adding pool stops nested replace refused following; do
+for name in numbers nulls order find view table adding placements claims pool stops nested replace refused following; do
     compile $name
     "$work/$name"
 done
 compile read
 "$work/read" "$work/file"
-# What claims readers for a call is of the header, and no proof sees what is wrong there: pool.c does.
-for edit in "$top"/tests/wrong_headers/*.edit; do
-    rm -rf "$work/wrong"
-    mkdir -p "$work/wrong/include"
-    cp "$top/include/latchsym.h" "$work/wrong/include"
-    "$top/tests/edits.py" --put "$work/wrong" "$edit"
-    gcc -std=gnu11 -w -O2 -I"$work/wrong/include" "$top/tests/c/pool.c" "$library" -lpthread -o "$work/wrong/pool"
-    ! timeout 60 "$work/wrong/pool" >"$work/lines" 2>&1 || { echo "clib: ${edit##*/} is not seen"; exit 1; }
-done
+# is_right HEADERS NAME OPTION..: whether the program NAME.c of tests/c passes with the headers of this folder
+is_right() {
+    gcc -std=gnu11 -w -O2 -I"$1" "$top/tests/c/$2.c" "$library" -lpthread -o "$1/$2" "${@:3}" || exit 1
+    timeout 60 "$1/$2" >"$work/lines" 2>&1
+}
+
+# What claims readers for a call is of the header, and no proof sees what is wrong there: one of these does.
+if compile claims -g -fsanitize=thread 2>/dev/null; then
+    "$work/claims"
+    for edit in "$top"/tests/wrong_headers/*.edit; do
+        rm -rf "$work/wrong"
+        mkdir -p "$work/wrong/include"
+        cp "$top/include/latchsym.h" "$work/wrong/include"
+        "$top/tests/edits.py" --put "$work/wrong" "$edit"
+        if is_right "$work/wrong/include" placements && is_right "$work/wrong/include" claims -fsanitize=thread &&
+            is_right "$work/wrong/include" pool; then
+            echo "clib: ${edit##*/} is not seen"
+            exit 1
+        fi
+    done
+fi
 if command -v valgrind >/dev/null; then
     for name in nulls view refused; do
         valgrind -q --error-exitcode=1 --leak-check=full "$work/$name"

@@ -2,7 +2,6 @@
 import doctest
 import os
 import pathlib
-import re
 import shutil
 import subprocess
 import sys
@@ -11,8 +10,6 @@ import unittest
 
 import latchsym
 from latchsym import _catalog, _follow, _library, _table
-
-TOP = pathlib.Path(__file__).parents[2]
 
 
 def load_tests(loader, tests, pattern):
@@ -24,16 +21,10 @@ def load_tests(loader, tests, pattern):
 
 
 class Package(unittest.TestCase):
-    @unittest.skipUnless((TOP / "include").is_dir(), "the repository's header is not here")
-    def test_calls_are_those_of_the_header(self):
-        header = (TOP / "include" / "latchsym.h").read_text()
-        calls = re.findall(r"^(?:uint32_t|void) (latchsym_\w+?)(_nonnull)?\(", header, re.MULTILINE)
-        self.assertEqual(set(_library.CALLS), {name for name, _ in calls})
-        self.assertEqual(_library.NONNULL, {name for name, nonnull in calls if nonnull})
-        names = re.search(r"struct latchsym_counts \{(.*?)\};", header, re.DOTALL)[1]
-        fields = [*_library.COUNTS, *_library.NOTES]
-        self.assertEqual(fields, re.findall(r"\b(?:modules|symbols|regions)\w*", names))
-        self.assertEqual(latchsym.Counts._fields, tuple(fields))
+    def test_counts_are_those_of_the_library(self):
+        fields = tuple(name for name, _ in _library.Counts._fields_)
+        self.assertEqual(latchsym.Counts._fields, fields)
+        self.assertEqual((*_library.COUNTS, *_library.NOTES), fields)
 
     def test_exceptions_have_the_texts_of_the_library(self):
         for number in (1, 7, 10, 23, 101, 103):

@@ -1,63 +1,19 @@
 """Compares what the library finds with the lines of examples/listings: names.py liblatchsym.so FOLDER"""
-import ctypes, pathlib, sys
-from ctypes import POINTER, byref, c_size_t, c_uint32, c_uint64, c_void_p
+import ctypes, os, pathlib, sys
+from ctypes import c_uint64, c_void_p
 
-class Handle(ctypes.Structure):
-    _fields_ = [("kind", c_uint32), ("at", c_void_p)]
-
-COUNTS = ("modules modules_hidden modules_empty modules_wraps modules_overlap modules_double modules_long "
-          "modules_malformed symbols symbols_hidden symbols_stray symbols_long symbols_malformed regions "
-          "regions_stray").split()
-
-class Counts(ctypes.Structure):
-    _fields_ = [(name, c_uint64) for name in COUNTS] + [("modules_note", c_uint32), ("symbols_note", c_uint32)]
-
-class Place(ctypes.Structure):
-    _fields_ = [("at", c_void_p), ("len", c_size_t)]
-
-class Symbol(ctypes.Structure):
-    _fields_ = [("module_number", c_uint64), ("offset", c_uint64), ("size", c_uint64), ("name", Place), ("module", Place)]
-
-class Listings(ctypes.Structure):
-    _fields_ = [("size", c_size_t)] + [(name, Place) for name in ("kallsyms", "modules", "regions", "start", "end")] + [
-        ("has_modules", c_uint32)]
-
-class Answer(ctypes.Structure):
-    _fields_ = [("module_number", c_uint64), ("offset", c_uint64), ("size", c_uint64),
-                ("name_len", c_size_t), ("module_len", c_size_t)]
-
-class Item(ctypes.Structure):
-    _fields_ = [("a", c_uint64), ("b", c_uint64), ("tag", c_uint64)]
-
-class Found(ctypes.Structure):
-    _fields_ = Item._fields_ + [("generation", c_uint64)]
-
-NO_SYMBOL, NOTHING = 21, 22
-
-lib = ctypes.CDLL(sys.argv[1])
-lib.latchsym_place_of_text.argtypes = [c_uint32, POINTER(Place)]
-lib.latchsym_place_of_text.restype = None
-names = [POINTER(Answer)] + [ctypes.c_char_p, c_size_t] * 2
-lib.latchsym_catalog_open_nonnull.argtypes = [POINTER(Listings), POINTER(Handle), POINTER(Counts), POINTER(c_uint64)]
-lib.latchsym_catalog_name_nonnull.argtypes = [POINTER(Handle), c_uint64] + names
-lib.latchsym_catalog_find.argtypes = [POINTER(Handle), c_uint64, POINTER(Symbol)]
-lib.latchsym_catalog_find_caller.argtypes = [POINTER(Handle), c_uint64, POINTER(Symbol)]
-lib.latchsym_catalog_share.argtypes = [POINTER(Handle), POINTER(Handle)]
-lib.latchsym_catalog_close_nonnull.argtypes = [POINTER(Handle)]
-lib.latchsym_catalog_close_nonnull.restype = None
-lib.latchsym_table_open_nonnull.argtypes = [c_uint32, POINTER(Handle), POINTER(Handle), c_size_t]
-lib.latchsym_writer_begin_insert.argtypes = [POINTER(Handle), POINTER(Item)]
-lib.latchsym_writer_finish.argtypes = [POINTER(Handle), POINTER(c_uint64)]
-lib.latchsym_reader_find_name_nonnull.argtypes = [POINTER(Handle), POINTER(Handle), c_uint64, POINTER(Found)] + names
-
-NONE = ctypes.create_string_buffer(1)
+os.environ["LATCHSYM_LIBRARY"] = os.path.abspath(sys.argv[1])
+sys.dont_write_bytecode = True
+sys.path.insert(0, str(pathlib.Path(__file__).parents[2] / "python/src"))
+from latchsym._library import COUNTS, NO_SYMBOL, NOTHING, Answer, Counts, Found, Handle, Item, Listings, Place
+from latchsym._library import lib, no_place, no_symbol, text_of
 
 def found(call, catalog, addr):
     """The line of what a call finds, with the names where they lie."""
-    place = Place(ctypes.addressof(NONE), 0)
-    symbol = Symbol(0, 0, 0, place, place)
+    symbol = no_symbol()
     answer = call(catalog, addr, symbol)
-    return line(addr, answer, symbol, *(ctypes.create_string_buffer(ctypes.string_at(p.at, p.len)) for p in (symbol.name, symbol.module)))
+    names = (symbol.name_at, symbol.name_len), (symbol.module_at, symbol.module_len)
+    return line(addr, answer, symbol, *(ctypes.create_string_buffer(ctypes.string_at(*it)) for it in names))
 
 def line(addr, answer, symbol, name, module):
     if answer == NOTHING or (answer == NO_SYMBOL and symbol.module_number == 0):
@@ -74,11 +30,6 @@ def counts_lines(counts, has_regions):
     if has_regions:
         out.append(f"regions {counts.regions} stray {counts.regions_stray}")
     return out
-
-def text_of(number):
-    text = Place()
-    lib.latchsym_place_of_text(number, text)
-    return ctypes.string_at(text.at).decode()
 
 NOTES = {text_of(number): number for number in range(41, 49)}
 BOUNDS = {"has no symbol _stext": 46, "has no symbol _end; try --kernel _stext _einittext": 47}
@@ -99,34 +50,34 @@ def compare(folder, name):
     other = Handle()
     catalog, counts = opened((modules, kallsyms, regions), b"_stext", b"_end")
     assert lib.latchsym_catalog_share(catalog, other) == 0
-    lib.latchsym_catalog_close_nonnull(catalog)
-    lib.latchsym_catalog_close_nonnull(catalog)
+    lib.latchsym_catalog_close(catalog)
+    lib.latchsym_catalog_close(catalog)
     symbol = Answer()
     lines = []
     for word in read("addresses").split():
         addr = int(word, 0)
         first, second = ctypes.create_string_buffer(4096), ctypes.create_string_buffer(4096)
-        got = lib.latchsym_catalog_name_nonnull(other, addr, symbol, first, 4096, second, 4096)
+        got = lib.latchsym_catalog_name(other, addr, symbol, first, 4096, second, 4096)
         lines.append(line(addr, got, symbol, first, second))
         assert found(lib.latchsym_catalog_find, other, addr) == lines[-1]
     expected = read("expected").decode().splitlines()
     assert lines + counts_lines(counts, regions is not None) == expected, name
     assert (counts.modules_note, counts.symbols_note) == noted(folder, name), name
-    assert lib.latchsym_catalog_name_nonnull(catalog, 1, symbol, first, 4096, second, 4096) == 101
+    assert lib.latchsym_catalog_name(catalog, 1, symbol, first, 4096, second, 4096) == 101
     return other, (modules, kallsyms, regions), len(lines)
 
 def short_rooms_and_a_table(catalog):
     """A name in a room that is too short for it, and the name of an address through a table."""
     addr, symbol, found, generation = 0xffffffffc0000018, Answer(), Found(), c_uint64()
     short = ctypes.create_string_buffer(b"????????", 8)
-    assert lib.latchsym_catalog_name_nonnull(catalog, addr, symbol, short, 3, short, 0) == 0
+    assert lib.latchsym_catalog_name(catalog, addr, symbol, short, 3, short, 0) == 0
     assert short.raw == b"ext?????" and symbol.name_len == 6, short.raw
     writer, reader, short, module = Handle(), Handle(), ctypes.create_string_buffer(9), ctypes.create_string_buffer(16)
-    assert lib.latchsym_table_open_nonnull(4, writer, reader, 1) == 0
-    assert lib.latchsym_reader_find_name_nonnull(reader, catalog, addr, found, symbol, short, 8, module, 16) == NOTHING
+    assert lib.latchsym_table_open(4, writer, reader, 1) == 0
+    assert lib.latchsym_reader_find_name(reader, catalog, addr, found, symbol, short, 8, module, 16) == NOTHING
     item = Item(0xffffffffc0000000, 0xffffffffc0001000, 1)
     assert lib.latchsym_writer_begin_insert(writer, item) == 0 and lib.latchsym_writer_finish(writer, generation) == 0
-    assert lib.latchsym_reader_find_name_nonnull(reader, catalog, addr, found, symbol, short, 8, module, 16) == 0
+    assert lib.latchsym_reader_find_name(reader, catalog, addr, found, symbol, short, 8, module, 16) == 0
     assert line(addr, 0, symbol, short, module) == "0xffffffffc0000018 ext4_a+0x8/0x30 [ext4]"
     assert (found.a, found.b, found.tag, found.generation) == (item.a, item.b, 1, 1)
 
@@ -139,7 +90,7 @@ def opening(texts, start=b"", end=b""):
     words = [place(text or b"") for text in (kallsyms, modules, regions, start, end)]
     catalog, counts, bad = Handle(), Counts(), c_uint64(77)
     listings = Listings(ctypes.sizeof(Listings), *words, modules is not None)
-    return lib.latchsym_catalog_open_nonnull(listings, catalog, counts, bad), catalog, counts, bad.value
+    return lib.latchsym_catalog_open(listings, catalog, counts, bad), catalog, counts, bad.value
 
 def opened(texts, start=b"", end=b""):
     """A handle of the catalog of the listings, and the counts. The texts stay while it is open."""
@@ -165,12 +116,12 @@ def other_bounds(texts):
             known = given == end or end in (b"_end", b"_etext")
             assert answer(catalog, addr) == (right if known else f"0x{addr:x} -"), (end, given)
             assert (bytes(found) == bytes(counts)) == known
-            lib.latchsym_catalog_close_nonnull(catalog)
+            lib.latchsym_catalog_close(catalog)
     for start, end in ((b"_etext", b"_stext"), (b"_stext", b""), (b"", b"_etext"), (b"_stext", b"_end")):
         catalog, found = opened(renamed[b"_etext"], start, end)
         assert answer(catalog, addr) == f"0x{addr:x} -" and found.symbols < counts.symbols
-        lib.latchsym_catalog_close_nonnull(catalog)
-    lib.latchsym_catalog_close_nonnull(usual)
+        lib.latchsym_catalog_close(catalog)
+    lib.latchsym_catalog_close(usual)
 
 def from_symbols():
     """Without a listing of modules they are the owners of the symbols, wherever these lie."""
@@ -185,7 +136,7 @@ def from_symbols():
              0xffffffffc02000ff: "prog+0xff/0x1000 [bpf]"}
     for addr, text in lines.items():
         assert answer(catalog, addr) == f"0x{addr:x} {text}", answer(catalog, addr)
-    lib.latchsym_catalog_close_nonnull(catalog)
+    lib.latchsym_catalog_close(catalog)
 
 def callers(catalog):
     """A return address is told of the call before it, and 0 of none."""
@@ -201,7 +152,7 @@ def a_bad_line():
 
 def numbers():
     """The version, and the text of a number."""
-    place = Place(ctypes.addressof(NONE), 0)
+    place = no_place()
     lib.latchsym_place_of_text(NOTHING, place)
     assert ctypes.string_at(place.at, place.len) == b"nothing is there\0"
     assert lib.latchsym_version() == 10200
@@ -215,7 +166,7 @@ for path in sorted(folder.glob("*.modules")):
         short_rooms_and_a_table(catalog)
         callers(catalog)
         other_bounds(texts)
-    lib.latchsym_catalog_close_nonnull(catalog)
+    lib.latchsym_catalog_close(catalog)
 a_bad_line()
 from_symbols()
 print("names: ok")

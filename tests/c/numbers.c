@@ -7,6 +7,7 @@
 #define CHECK(x) do { if (!(x)) { printf("numbers: line %d: %s\n", __LINE__, #x); exit(1); } } while (0)
 
 static const struct { uint32_t number; const char *text; } texts[] = {
+    /* made of include/latchsym.h by bindings/write.py */
     {LATCHSYM_DONE, "done"},
     {LATCHSYM_BAD_ITEM, "the item is empty"},
     {LATCHSYM_OVERLAP, "the item overlaps one of the table"},

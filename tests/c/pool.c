@@ -1,6 +1,6 @@
 /* A pool of readers: what it refuses and in which order, that each call has a reader of its own and gives it back, that it
  * is told busy just where all are claimed, on threads, in handlers, inside calls and in a forked child, and a table that
- * grows meanwhile. Arguments: the seconds of each part with threads, and `threads` for no handler and no child. */
+ * grows meanwhile, also beside threads that never rest, or is closed by two at once. Arguments: the seconds of each part with threads, and `threads` for no handler and no child. */
 #define _GNU_SOURCE
 #include <latchsym.h>
 #include <pthread.h>
@@ -15,7 +15,7 @@
 
 #define CHECK(x) do { if (!(x)) { dprintf(1, "pool: line %d: %s\n", __LINE__, #x); _exit(1); } } while (0)
 
-enum { THREADS = 4, MOST = LATCHSYM_POOL_MOST, FORKS = 200 };
+enum { THREADS = 4, MOST = LATCHSYM_POOL_MOST, FORKS = 200, CLOSES = 20, GROWTHS = 10, MOST_REFUSALS = 100000 };
 
 static struct latchsym_pool pool;
 static struct latchsym_writer writer;
@@ -225,6 +225,59 @@ static void on_threads(size_t slots, int may, void (*between)(void)) {
     close_all();
 }
 
+/* Twice as many threads as processors may be, each with a slot that it has nearly always: enlarging is refused now and
+ * then, and not a hundred thousand times for each that is done, as where it gives up at each slot that it finds claimed. */
+static void beside_threads_that_never_rest(void) {
+    pthread_t threads[2 * THREADS];
+    long refused = 0;
+    open_pool(16, 2 * THREADS);
+    may_be_busy = 1;
+    start(threads, 2 * THREADS);
+    for (int done = 0; done < GROWTHS;) {
+        const uint32_t answer = latchsym_pool_enlarge(16, &writer, &pool);
+        CHECK(answer == LATCHSYM_DONE || answer == LATCHSYM_BUSY);
+        done += answer == LATCHSYM_DONE;
+        CHECK((refused += answer == LATCHSYM_BUSY) < MOST_REFUSALS);
+        if (answer == LATCHSYM_DONE) usleep(1000);
+    }
+    join(threads, 2 * THREADS);
+    printf("pool: %d enlargings beside %d threads that never rest, refused %ld times\n", GROWTHS, 2 * THREADS, refused);
+    CHECK(are_free(2 * THREADS));
+    close_all();
+}
+
+static void *look_up_until_closed(void *unused) {
+    for (uint32_t answer = 0; answer != LATCHSYM_BAD_HANDLE;) {
+        answer = find(first.a);
+        CHECK(answer == LATCHSYM_DONE || answer == LATCHSYM_BUSY || answer == LATCHSYM_BAD_HANDLE);
+    }
+    return unused;
+}
+
+static void *close_pool(void *unused) {
+    uint32_t answer;
+    while ((answer = latchsym_pool_close(&pool)) == LATCHSYM_BUSY) {}
+    CHECK(answer == LATCHSYM_DONE && find(first.a) == LATCHSYM_BAD_HANDLE);
+    return unused;
+}
+
+/* Two close one pool beside lookups and an enlarging: all are told so, and no slot stays claimed. */
+static void closed_beside_calls(void) {
+    pthread_t threads[THREADS];
+    for (int round = 0; round < CLOSES; round++) {
+        open_pool(16, 2);
+        for (int i = 0; i < THREADS; i++)
+            CHECK(!pthread_create(&threads[i], NULL, i < 2 ? look_up_until_closed : close_pool, NULL));
+        for (uint32_t answer = 0; answer != LATCHSYM_BAD_HANDLE;) {
+            answer = latchsym_pool_enlarge(16, &writer, &pool);
+            CHECK(answer == LATCHSYM_DONE || answer == LATCHSYM_BUSY || answer == LATCHSYM_BAD_HANDLE);
+        }
+        for (int i = 0; i < THREADS; i++) pthread_join(threads[i], NULL);
+        for (size_t i = 0; i < 2; i++) CHECK(pool.slots[i].claims % 2 == 0 && !pool.slots[i].reader.handle.at);
+        close_all();
+    }
+}
+
 static _Thread_local int depth;
 
 /* A call inside the call that it interrupts, and once more inside that. */
@@ -259,11 +312,11 @@ static void in_handlers(void) {
 #if defined(__x86_64__)
 static long inner_busy, inner_found;
 
-/* A call inside another: it finds, or is told busy since the other has the last slot. */
+/* A call inside another: it finds, or is told busy since the other has the last slot, or wants all. */
 static void inside_of_one(int signal) {
     uint32_t answer = find(first.a);
     (void)signal;
-    CHECK(answer == LATCHSYM_DONE || (answer == LATCHSYM_BUSY && pool.slots[pool.slots_len - 1].claims % 2));
+    CHECK(answer == LATCHSYM_DONE || (answer == LATCHSYM_BUSY && (pool.is_wanted || pool.slots[pool.slots_len - 1].claims % 2)));
     inner_busy += answer == LATCHSYM_BUSY;
     inner_found += answer == LATCHSYM_DONE;
 }
@@ -301,8 +354,31 @@ static void beside_one_that_changes_over(void) {
     close_all();
 }
 
+static int steps_left;
+
+/* One of two slots is given back at last; what wants both has kept the other meanwhile. */
+static void give_back_at_last(int signal) {
+    (void)signal;
+    if (--steps_left) return;
+    CHECK(pool.slots[held == &pool.slots[0]].claims % 2);
+    latchsym_pool_give_back(held);
+}
+
+static void beside_one_that_gives_back(void) {
+    signal(SIGTRAP, give_back_at_last);
+    for (int after = 2000; after < 2060; after++) {
+        open_pool(16, 2);
+        held = &pool.slots[after % 2];
+        steps_left = after;
+        CHECK(latchsym_pool_claim_slot(held));
+        CHECK(stepped(1) == LATCHSYM_DONE && steps_left < 0 && are_free(2));
+        close_all();
+    }
+}
+
 static void at_each_instruction(void) {
     beside_one_that_changes_over();
+    beside_one_that_gives_back();
     signal(SIGTRAP, inside_of_one);
     for (size_t slots = 1; slots <= 2; slots++) {
         open_pool(16, slots);
@@ -351,6 +427,8 @@ int main(int argc, char **argv) {
     on_threads(THREADS, 0, NULL);
     on_threads(2, 1, NULL);
     on_threads(THREADS + 2, 1, grow);
+    beside_threads_that_never_rest();
+    closed_beside_calls();
     if (argc <= 2) {
         in_handlers();
         at_each_instruction();

@@ -1,5 +1,5 @@
 // SPDX-License-Identifier: MIT OR Apache-2.0
-use crate::{sys, Error, Item, View};
+use crate::{error::text_of, sys, Error, Item, View};
 use std::{cell::UnsafeCell, fmt, marker::PhantomData, mem::size_of, slice};
 
 /// The listings that a catalog is opened of.
@@ -84,7 +84,7 @@ impl Counts {
 }
 
 fn note(number: u32) -> Option<&'static str> {
-    (number != sys::NOTHING).then(|| sys::text_of(number))
+    (number != sys::NOTHING).then(|| text_of(number))
 }
 
 /// What is known of an address. It is shown as `latchsym lookup` writes it.
@@ -137,7 +137,7 @@ pub struct Answer {
 }
 
 impl Answer {
-    pub(crate) fn named(answer: &sys::NameAnswer, number: u32) -> Answer {
+    pub(crate) fn named(answer: &sys::Answer, number: u32) -> Answer {
         Answer {
             module_number: answer.module_number,
             offset: answer.offset,
@@ -292,7 +292,7 @@ impl<'l> Catalog<'l> {
 
     /// An item for each region, each below the next, with the number of its module as the tag.
     pub fn items(&self) -> Result<Vec<Item>, Error> {
-        let mut sizes = sys::Sizes { regions: 0, symbols: 0 };
+        let mut sizes = sys::Sizes::NONE;
         // SAFETY: the handle is open and in no other call.
         Error::check(unsafe { sys::latchsym_catalog_sizes(self.handle(), &mut sizes) })?;
         let mut items = vec![Item::default(); sizes.regions];
@@ -305,7 +305,7 @@ impl<'l> Catalog<'l> {
 
     /// The module of a number.
     pub fn module(&self, number: u64) -> Option<Module<'l>> {
-        let mut out = sys::Module { name: sys::Place::of(b""), regions: 0, symbols: 0 };
+        let mut out = sys::Module::NONE;
         // SAFETY: the handle is open and in no other call.
         let got = unsafe { sys::latchsym_catalog_module(self.handle(), number, &mut out) };
         (got == sys::DONE).then(|| Module {
@@ -320,7 +320,7 @@ impl<'l> Catalog<'l> {
     /// The regions of the module of a number, in the order of their listing.
     pub fn regions(&self, number: u64) -> impl Iterator<Item = Region> + '_ {
         (0..).map_while(move |place| {
-            let mut out = sys::Region::default();
+            let mut out = sys::Region::NONE;
             // SAFETY: the handle is open and in no other call.
             let got =
                 unsafe { sys::latchsym_catalog_region(self.handle(), number, place, &mut out) };
@@ -335,7 +335,7 @@ impl<'l> Catalog<'l> {
 
     /// The symbol at a place of the module of a number.
     pub fn symbol(&self, number: u64, place: usize) -> Option<Entry<'l>> {
-        let mut out = sys::Entry { addr: 0, name: sys::Place::of(b"") };
+        let mut out = sys::Entry::NONE;
         // SAFETY: the handle is open and in no other call.
         let got = unsafe { sys::latchsym_catalog_symbol(self.handle(), number, place, &mut out) };
         (got == sys::DONE).then(|| Entry {
@@ -438,6 +438,13 @@ pub(crate) unsafe fn symbol_told<'l>(number: u32, out: &sys::Symbol) -> Option<S
         module: unsafe { bytes_at(out.module) },
         module_number: out.module_number,
     })
+}
+
+impl sys::Place {
+    /// (the pointer of a slice is never null, also where it is empty)
+    fn of(bytes: &[u8]) -> sys::Place {
+        sys::Place { at: bytes.as_ptr(), len: bytes.len() }
+    }
 }
 
 /// The bytes at a place that a call has told.

@@ -1,6 +1,17 @@
 // SPDX-License-Identifier: MIT OR Apache-2.0
 use crate::sys;
-use std::fmt;
+use std::{ffi::CStr, fmt};
+
+/// The text of a number.
+pub(crate) fn text_of(number: u32) -> &'static str {
+    let mut place = sys::Place::NONE;
+    // SAFETY: the call writes a place, of a text that ends with a 0 byte and stays.
+    let text = unsafe {
+        sys::latchsym_place_of_text(number, &mut place);
+        CStr::from_ptr(place.at.cast())
+    };
+    text.to_str().unwrap_or_default()
+}
 
 /// What the library refused. It is shown by the library's text.
 #[derive(Clone, Copy, Debug, PartialEq, Eq, Hash)]
@@ -24,6 +35,8 @@ pub enum Error {
     BadCapacity,
     /// More than 7 region lines have one name.
     TooManyRegions,
+    /// The writer flipped in each of many attempts.
+    Retry,
     /// Other calls have all readers of a pool, or one of them where all are wanted: try again.
     Busy,
     /// A follower has no listing of that moment.
@@ -44,41 +57,43 @@ impl Error {
     /// The number that the call returned.
     pub fn number(self) -> u32 {
         match self {
-            Error::BadItem => 1,
-            Error::Overlap => 2,
-            Error::NoSuchItem => 3,
-            Error::Full => 4,
-            Error::UpdateInHand => 5,
-            Error::SequenceSpent => 6,
-            Error::OutOfMemory => 7,
-            Error::BadCapacity => 10,
-            Error::TooManyRegions => 14,
+            Error::BadItem => sys::BAD_ITEM,
+            Error::Overlap => sys::OVERLAP,
+            Error::NoSuchItem => sys::NO_SUCH_ITEM,
+            Error::Full => sys::FULL,
+            Error::UpdateInHand => sys::UPDATE_IN_HAND,
+            Error::SequenceSpent => sys::SEQUENCE_SPENT,
+            Error::OutOfMemory => sys::OUT_OF_MEMORY,
+            Error::BadCapacity => sys::BAD_CAPACITY,
+            Error::TooManyRegions => sys::TOO_MANY_REGIONS,
             Error::BadLine(_) => sys::BAD_LINE,
+            Error::Retry => sys::RETRY,
             Error::Busy => sys::BUSY,
-            Error::Forgotten => 25,
-            Error::BadHandle => 101,
-            Error::BadListings => 103,
-            Error::BadStamp => 104,
+            Error::Forgotten => sys::FORGOTTEN,
+            Error::BadHandle => sys::BAD_HANDLE,
+            Error::BadListings => sys::BAD_LISTINGS,
+            Error::BadStamp => sys::BAD_STAMP,
             Error::Other(number) => number,
         }
     }
 
     pub(crate) fn of(number: u32) -> Error {
         match number {
-            1 => Error::BadItem,
-            2 => Error::Overlap,
-            3 => Error::NoSuchItem,
-            4 => Error::Full,
-            5 => Error::UpdateInHand,
-            6 => Error::SequenceSpent,
-            7 => Error::OutOfMemory,
-            10 => Error::BadCapacity,
-            14 => Error::TooManyRegions,
+            sys::BAD_ITEM => Error::BadItem,
+            sys::OVERLAP => Error::Overlap,
+            sys::NO_SUCH_ITEM => Error::NoSuchItem,
+            sys::FULL => Error::Full,
+            sys::UPDATE_IN_HAND => Error::UpdateInHand,
+            sys::SEQUENCE_SPENT => Error::SequenceSpent,
+            sys::OUT_OF_MEMORY => Error::OutOfMemory,
+            sys::BAD_CAPACITY => Error::BadCapacity,
+            sys::TOO_MANY_REGIONS => Error::TooManyRegions,
+            sys::RETRY => Error::Retry,
             sys::BUSY => Error::Busy,
-            25 => Error::Forgotten,
-            101 => Error::BadHandle,
-            103 => Error::BadListings,
-            104 => Error::BadStamp,
+            sys::FORGOTTEN => Error::Forgotten,
+            sys::BAD_HANDLE => Error::BadHandle,
+            sys::BAD_LISTINGS => Error::BadListings,
+            sys::BAD_STAMP => Error::BadStamp,
             _ => Error::Other(number),
         }
     }
@@ -102,7 +117,7 @@ impl Error {
 
 impl fmt::Display for Error {
     fn fmt(&self, out: &mut fmt::Formatter<'_>) -> fmt::Result {
-        out.write_str(sys::text_of(self.number()))?;
+        out.write_str(text_of(self.number()))?;
         match self {
             Error::BadLine(line) => write!(out, ": line {line}"),
             _ => Ok(()),

@@ -59,6 +59,7 @@ mod table;
 mod view;
 
 #[allow(dead_code)]
+#[rustfmt::skip]
 mod sys;
 
 pub use catalog::{Answer, Catalog, Counts, Entry, Listings, Module, Region, Symbol};

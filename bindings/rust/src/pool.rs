@@ -1,12 +1,18 @@
 // SPDX-License-Identifier: MIT OR Apache-2.0
-use crate::{sys, Error, Found, Writer};
+use crate::{sys, table::first_answer, Error, Found, Writer};
 use std::{
     cell::UnsafeCell,
     fmt,
-    sync::atomic::{AtomicU32, Ordering::SeqCst},
+    sync::atomic::{AtomicBool, AtomicU64, Ordering::SeqCst},
+    thread,
 };
 
 const MOST_SLOTS: usize = 64;
+
+/// How often an enlarging looks for free slots before it is refused, and how many of the last looks let
+/// other threads run before them.
+const LOOKS: usize = 1000;
+const LAST_LOOKS: usize = 10;
 
 /// Opens an empty table of 1 to 65536 nodes with a pool of 1 to 64 readers, which threads share.
 ///
@@ -28,23 +34,24 @@ pub fn pooled_table(nodes: u32, slots: usize) -> Result<(Writer, Pool), Error> {
     let mut readers = [sys::Handle::CLOSED; MOST_SLOTS];
     let writer = Writer::open(nodes, readers.as_mut_ptr(), slots)?;
     let slots = readers.into_iter().take(slots).map(Slot::of).collect();
-    Ok((writer, Pool { slots }))
+    Ok((writer, Pool { slots, is_wanted: AtomicBool::new(false) }))
 }
 
 /// A reader, and its claims: odd while a call has it. Each claim adds 1, and so does its end.
 #[repr(align(64))]
 struct Slot {
-    claims: AtomicU32,
+    claims: AtomicU64,
     handle: UnsafeCell<sys::Handle>,
 }
 
 impl Slot {
     fn of(handle: sys::Handle) -> Slot {
-        Slot { claims: AtomicU32::new(0), handle: UnsafeCell::new(handle) }
+        Slot { claims: AtomicU64::new(0), handle: UnsafeCell::new(handle) }
     }
 
     fn claim(&self) -> Option<Claim<'_>> {
-        (self.claims.fetch_or(1, SeqCst) % 2 == 0).then(|| Claim { slot: self })
+        let is_free = self.claims.load(SeqCst) % 2 == 0 && self.claims.fetch_or(1, SeqCst) % 2 == 0;
+        is_free.then(|| Claim { slot: self })
     }
 }
 
@@ -69,6 +76,8 @@ impl Drop for Claim<'_> {
 /// waiting for it.
 pub struct Pool {
     slots: Box<[Slot]>,
+    /// Whether an enlarging claims all slots, while no other call claims one.
+    is_wanted: AtomicBool,
 }
 
 // SAFETY: between two calls a handle may go to another thread, and a call claims the one that it uses.
@@ -76,10 +85,13 @@ unsafe impl Send for Pool {}
 unsafe impl Sync for Pool {}
 
 impl Pool {
-    /// A slot that was free, or none where all were claimed at one moment. Claims only rise, so two
-    /// rounds with one sum met the same claims, all of which held between the rounds. A thread
-    /// begins at a slot of its own, as its stack lies elsewhere.
+    /// A slot that was free, or none where an enlarging wants all, or all were claimed at one moment.
+    /// Claims only rise, so two rounds with one sum met the same claims, all of which held between the
+    /// rounds. A thread begins at a slot of its own, as its stack lies elsewhere.
     fn claim(&self) -> Option<Claim<'_>> {
+        if self.is_wanted.load(SeqCst) {
+            return None;
+        }
         let here = 0u8;
         let first = (&here as *const u8 as usize >> 16).wrapping_mul(0x9e37_79b9) >> 16;
         let (before, behind) = self.slots.split_at(first % self.slots.len());
@@ -90,7 +102,7 @@ impl Pool {
                 if let Some(claim) = slot.claim() {
                     return Some(claim);
                 }
-                sum += u64::from(slot.claims.load(SeqCst));
+                sum += slot.claims.load(SeqCst);
             }
             if last == Some(sum) {
                 return None;
@@ -103,7 +115,7 @@ impl Pool {
     /// all readers.
     pub fn try_find(&self, addr: u64) -> Result<Option<Found>, Error> {
         let claim = self.claim().ok_or(Error::Busy)?;
-        let mut out = sys::Found::default();
+        let mut out = sys::Found::NONE;
         // SAFETY: the handle is open, and in no other call, as it is claimed.
         match unsafe { sys::latchsym_reader_try_find(claim.handle(), addr, &mut out) } {
             sys::RETRY => Ok(None),
@@ -111,26 +123,43 @@ impl Pool {
         }
     }
 
-    /// Attempts until one answers, also where other calls have all readers.
+    /// Attempts until one answers; other threads may run between those that find all readers in
+    /// other calls. After 1,000,000 it is [`Error::Busy`], as where no reader is ever given back.
     pub fn find(&self, addr: u64) -> Result<Found, Error> {
-        loop {
-            match self.try_find(addr) {
-                Ok(Some(found)) => return Ok(found),
-                Ok(None) | Err(Error::Busy) => (),
-                Err(error) => return Err(error),
-            }
-        }
+        first_answer(|| self.try_find(addr))
     }
 
-    /// The claims of all slots, or none where a call has one.
+    /// The claims of all slots, for one call at a time, or none where other calls have or want them.
     fn claim_all(&self) -> Option<Vec<Claim<'_>>> {
-        self.slots.iter().map(Slot::claim).collect()
+        if self.is_wanted.swap(true, SeqCst) {
+            return None;
+        }
+        let claims = self.claims_after_looks();
+        self.is_wanted.store(false, SeqCst);
+        claims
+    }
+
+    /// The same. Claims are kept while it looks for the others.
+    fn claims_after_looks(&self) -> Option<Vec<Claim<'_>>> {
+        let mut claims: Vec<_> = self.slots.iter().map(|_| None).collect();
+        for look in 0..LOOKS {
+            if look + LAST_LOOKS >= LOOKS {
+                thread::yield_now();
+            }
+            for (claim, slot) in claims.iter_mut().zip(self.slots.iter()) {
+                *claim = claim.take().or_else(|| slot.claim());
+            }
+            if claims.iter().all(Option::is_some) {
+                break;
+            }
+        }
+        claims.into_iter().collect()
     }
 }
 
 impl Writer {
     /// Goes on with so many nodes, with the readers of its pool, while other calls look up.
-    /// [`Error::Busy`] where one of these has a reader just now: ask again.
+    /// [`Error::Busy`] where one of these has a reader just now, or enlarges too: ask again.
     ///
     /// A pool of another table goes over to this one.
     pub fn enlarge_pool(&mut self, nodes: u32, pool: &Pool) -> Result<(), Error> {
@@ -162,5 +191,48 @@ impl Drop for Pool {
 impl fmt::Debug for Pool {
     fn fmt(&self, out: &mut fmt::Formatter<'_>) -> fmt::Result {
         out.debug_struct("Pool").field("slots", &self.slots.len()).finish_non_exhaustive()
+    }
+}
+
+#[cfg(test)]
+mod tests {
+    use super::*;
+
+    fn found(generation: u64) -> Result<Found, Error> {
+        Ok(Found { item: None, generation })
+    }
+
+    #[test]
+    fn a_lookup_ends_where_all_readers_stay_claimed() {
+        let (_writer, pool) = pooled_table(4, 2).unwrap();
+        let claims = (pool.claim().unwrap(), pool.claim().unwrap());
+        assert_eq!((pool.find(1), pool.try_find(1)), (Err(Error::Busy), Err(Error::Busy)));
+        drop(claims.1);
+        assert_eq!(pool.find(1), found(0));
+    }
+
+    #[test]
+    fn an_enlarging_wants_all_slots_and_keeps_none_where_it_is_refused() {
+        let (mut writer, pool) = pooled_table(4, 2).unwrap();
+        let claim = pool.claim();
+        assert_eq!(writer.enlarge_pool(8, &pool), Err(Error::Busy));
+        assert_eq!(pool.find(1), found(0));
+        drop(claim);
+        pool.is_wanted.store(true, SeqCst);
+        assert_eq!(
+            (writer.enlarge_pool(8, &pool), pool.try_find(1)),
+            (Err(Error::Busy), Err(Error::Busy))
+        );
+        pool.is_wanted.store(false, SeqCst);
+        assert_eq!((writer.enlarge_pool(8, &pool), pool.find(1)), (Ok(()), found(0)));
+        assert!(pool.slots.iter().all(|slot| slot.claims.load(SeqCst) % 2 == 0));
+    }
+
+    #[test]
+    fn claims_rise_past_32_bits() {
+        let (_writer, pool) = pooled_table(4, 1).unwrap();
+        pool.slots[0].claims.store(u64::from(u32::MAX) - 1, SeqCst);
+        assert_eq!(pool.find(1), found(0));
+        assert_eq!(pool.slots[0].claims.load(SeqCst), u64::from(u32::MAX) + 1);
     }
 }

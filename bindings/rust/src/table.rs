@@ -1,6 +1,29 @@
 // SPDX-License-Identifier: MIT OR Apache-2.0
 use crate::{sys, Answer, Catalog, Error};
-use std::{cell::UnsafeCell, fmt, marker::PhantomData};
+use std::{cell::UnsafeCell, fmt, marker::PhantomData, thread};
+
+/// How often a lookup is tried before its refusal is returned.
+const MOST_TRIES: u32 = 1_000_000;
+
+/// The first answer of attempts; other threads may run after one that found all readers in other
+/// calls.
+pub(crate) fn first_answer(
+    mut attempt: impl FnMut() -> Result<Option<Found>, Error>,
+) -> Result<Found, Error> {
+    let mut refusal = Error::Retry;
+    for _ in 0..MOST_TRIES {
+        refusal = match attempt() {
+            Ok(Some(found)) => return Ok(found),
+            Ok(None) => Error::Retry,
+            Err(Error::Busy) => Error::Busy,
+            Err(error) => return Err(error),
+        };
+        if refusal == Error::Busy {
+            thread::yield_now();
+        }
+    }
+    Err(refusal)
+}
 
 /// Addresses from `a` up to `b`, which is excluded, and a number of the caller's.
 #[repr(C)]
@@ -162,7 +185,7 @@ impl Writer {
 
     /// What readers find now, also amid an update.
     pub fn find(&mut self, addr: u64) -> Result<Found, Error> {
-        let mut out = sys::Found::default();
+        let mut out = sys::Found::NONE;
         // SAFETY: the handle is open and in no other call.
         let number = unsafe { sys::latchsym_writer_find(self.handle(), addr, &mut out) };
         Found::of(number, out)
@@ -302,7 +325,7 @@ unsafe impl Send for Reader<'_> {}
 impl Reader<'_> {
     /// One attempt: none where the writer flipped meanwhile.
     pub fn try_find(&mut self, addr: u64) -> Result<Option<Found>, Error> {
-        let mut out = sys::Found::default();
+        let mut out = sys::Found::NONE;
         // SAFETY: the handle is open, and in no other call.
         match unsafe { sys::latchsym_reader_try_find(self.handle, addr, &mut out) } {
             sys::RETRY => Ok(None),
@@ -310,13 +333,10 @@ impl Reader<'_> {
         }
     }
 
-    /// Attempts until one answers. Beside a writer that rests, also amid an update, the first does.
+    /// Attempts until one answers. Beside a writer that rests, also amid an update, the first does;
+    /// beside another [`Error::Retry`] comes after 1,000,000, which nobody saw.
     pub fn find(&mut self, addr: u64) -> Result<Found, Error> {
-        loop {
-            if let Some(found) = self.try_find(addr)? {
-                return Ok(found);
-            }
-        }
+        first_answer(|| self.try_find(addr))
     }
 
     /// The same attempt, and the symbol in the item that was found, whose tag is taken as the
@@ -331,7 +351,7 @@ impl Reader<'_> {
         name: &mut [u8],
         module: &mut [u8],
     ) -> Result<Option<(Found, Answer)>, Error> {
-        let (mut found, mut out) = (sys::Found::default(), sys::NameAnswer::default());
+        let (mut found, mut out) = (sys::Found::NONE, sys::Answer::NONE);
         // SAFETY: both handles are in no other call; pointers and lengths are those of slices.
         let number = unsafe {
             sys::latchsym_reader_find_name(
@@ -358,5 +378,27 @@ impl Reader<'_> {
 impl fmt::Debug for Reader<'_> {
     fn fmt(&self, out: &mut fmt::Formatter<'_>) -> fmt::Result {
         out.debug_struct("Reader").finish_non_exhaustive()
+    }
+}
+
+#[cfg(test)]
+mod tests {
+    use super::*;
+
+    #[test]
+    fn a_lookup_is_tried_again_but_not_for_ever() {
+        let found = Found { item: None, generation: 7 };
+        let mut calls = 0;
+        let answers = [Ok(None), Err(Error::Busy), Ok(None), Ok(Some(found))];
+        let mut next = answers.into_iter().inspect(|_| calls += 1);
+        assert_eq!(first_answer(|| next.next().unwrap()), Ok(found));
+        assert_eq!(calls, 4);
+        assert_eq!(first_answer(|| Err(Error::BadHandle)), Err(Error::BadHandle));
+        let mut calls = 0;
+        let never = || {
+            calls += 1;
+            Ok(None)
+        };
+        assert_eq!((first_answer(never), calls), (Err(Error::Retry), MOST_TRIES));
     }
 }

@@ -26,28 +26,13 @@ unsafe impl Sync for View<'_> {}
 
 impl<'l> View<'l> {
     pub(crate) fn of(catalog: &Catalog<'l>) -> Result<View<'l>, Error> {
-        let mut sizes = sys::Sizes::default();
+        let mut sizes = sys::Sizes::NONE;
         // SAFETY: the handle is in no other call.
         Error::check(unsafe { sys::latchsym_catalog_sizes(catalog.handle(), &mut sizes) })?;
-        // (the pointers of empty rows are those of empty slices, and never null)
-        let no_rows: &[sys::ViewSymbol] = &[];
-        let no_addresses: &[u64] = &[];
-        let no_region = sys::ViewRegion {
-            a: 0,
-            b: 0,
-            module_number: 0,
-            module: sys::Place::NONE,
-            symbols: no_rows.as_ptr(),
-            symbols_len: 0,
-            addresses: no_addresses.as_ptr(),
-            addresses_len: 0,
-        };
-        let no_symbol = sys::ViewSymbol { addr: 0, place: 0, name: sys::Place::NONE };
-        let mut regions = vec![no_region; sizes.regions];
-        let mut symbols = vec![no_symbol; sizes.symbols];
+        let mut regions = vec![sys::ViewRegion::NONE; sizes.regions];
+        let mut symbols = vec![sys::ViewSymbol::NONE; sizes.symbols];
         let mut addresses = vec![0; sizes.symbols];
-        let no_regions: &[sys::ViewRegion] = &[];
-        let mut view = sys::View { regions: no_regions.as_ptr(), regions_len: 0 };
+        let mut view = sys::View::NONE;
         // SAFETY: pointers and lengths are those of vectors, whose rows stay where they are when
         // these are moved.
         Error::check(unsafe {

@@ -10,7 +10,7 @@ import threading
 import warnings
 import weakref
 from array import array
-from ctypes import byref, c_char, c_size_t, c_uint64
+from ctypes import POINTER, byref, c_size_t, c_uint64
 from pathlib import Path
 from typing import Any, Callable, Iterator, NamedTuple, Sequence, overload
 
@@ -217,9 +217,10 @@ def symbol_by(call: it.Call, *words: Any, modules: dict[int, str]) -> Symbol | N
     return symbol_of(call(*words, found), found, modules)
 
 
-def _rows(row: ctypes.Structure, count: int) -> bytearray:
-    """So many rows that are as this one."""
-    return bytearray(bytes(row) * count or bytes(row))
+def _rows(row: Any, count: int) -> ctypes.Array[Any]:
+    """So many rows that are as this one, and at least one."""
+    count = max(count, 1)
+    return (type(row) * count).from_buffer(bytearray(bytes(row) * count))
 
 
 class View:
@@ -239,22 +240,20 @@ class View:
         sizes = it.Sizes()
         check(lib.latchsym_catalog_sizes(handle, sizes))
         self._listings = listings
-        self._rows = (
-            _rows(it.no_view_region(), sizes.regions),
-            _rows(it.no_view_symbol(), sizes.symbols),
-            _rows(c_uint64(), sizes.symbols),
-        )
-        regions, symbols, addresses = (c_char.from_buffer(rows) for rows in self._rows)
+        regions = _rows(it.no_view_region(), sizes.regions)
+        symbols = _rows(it.no_view_symbol(), sizes.symbols)
+        addresses = _rows(c_uint64(), sizes.symbols)
+        self._rows = regions, symbols, addresses
         self._modules: dict[int, str] = {}
         self._view = it.View(it.EMPTY_AT, 0)
         check(
             lib.latchsym_catalog_flatten(
                 handle,
-                byref(regions),
+                regions,
                 sizes.regions,
-                byref(symbols),
+                symbols,
                 sizes.symbols,
-                byref(addresses),
+                addresses,
                 sizes.symbols,
                 self._view,
             )
@@ -412,9 +411,10 @@ class Catalog(Closing):
         answers = Answers(len(view)) if out is None else out
         rooms = min(len(view), len(answers))
         with Pinned(view) as pinned, self._lock:
+            first = ctypes.cast(pinned.at, POINTER(c_uint64))
             check(
                 lib.latchsym_catalog_find_many(
-                    self._handle, pinned.at, len(view), answers._told, rooms
+                    self._handle, first, len(view), answers._told, rooms
                 )
             )
         return answers
@@ -492,7 +492,7 @@ class Catalog(Closing):
         for number in range(count.value + 1):
             module = it.Module(it.no_place(), 0, 0)
             if self._is_there(lib.latchsym_catalog_module, number, module):
-                yield Module(number, module.name.text(), module.regions, module.symbols)
+                yield Module(number, it.text_of_place(module.name), module.regions, module.symbols)
 
     def items(self) -> list[Item]:
         """An item for each region, each below the next, with the number of its module as the tag."""
@@ -515,7 +515,7 @@ class Catalog(Closing):
         """The symbols of the module of a number, in the order listed."""
         entry, place = it.Entry(0, it.no_place()), 0
         while self._is_there(lib.latchsym_catalog_symbol, number, place, entry):
-            yield Entry(entry.addr, entry.name.text())
+            yield Entry(entry.addr, it.text_of_place(entry.name))
             place += 1
 
     def addresses_of(self, name: str | bytes, number: int | None = None) -> Iterator[int]:

@@ -1,5 +1,5 @@
 # SPDX-License-Identifier: MIT OR Apache-2.0
-"""The shared library as include/latchsym.h has it: its types, its numbers and its calls."""
+"""The shared library, with the types, the numbers and the calls of include/latchsym.h."""
 
 from __future__ import annotations
 
@@ -9,214 +9,16 @@ import os
 import shutil
 import site
 import sys
-from ctypes import POINTER, c_char, c_size_t, c_uint8, c_uint32, c_uint64, c_void_p
+from ctypes import c_uint32, c_uint64
 from typing import Callable, Iterator
 
 from . import _errors
+from ._header import *
 
 Call = Callable[..., int]
 
-MAJOR = 1  # of the header that this file repeats
-
-DONE, NO_SYMBOL, NOTHING, RETRY, BUSY, FORGOTTEN = 0, 21, 22, 23, 24, 25
-BAD_CAPACITY, BAD_LINE, FLIP, STORE, BAD_HANDLE = 10, 15, 31, 32, 101
-
-
-class Handle(ctypes.Structure):
-    """All bytes 0 are a closed handle. An open one is never copied or moved."""
-
-    _fields_ = [("kind", c_uint32), ("at", c_void_p)]
-
-
-COUNTS = (
-    "modules modules_hidden modules_empty modules_wraps modules_overlap modules_double modules_long "
-    "modules_malformed symbols symbols_hidden symbols_stray symbols_long symbols_malformed regions "
-    "regions_stray"
-).split()
-
-
-NOTES = ("modules_note", "symbols_note")
-
-
-class Counts(ctypes.Structure):
-    _fields_ = [(name, c_uint64) for name in COUNTS] + [(name, c_uint32) for name in NOTES]
-
-
-class Place(ctypes.Structure):
-    _fields_ = [("at", c_void_p), ("len", c_size_t)]
-
-    def text(self) -> str:
-        return text_at(self.at, self.len)
-
-
-class Symbol(ctypes.Structure):
-    # (the fields of its two places as its own, which are sooner read)
-    _fields_ = [
-        ("module_number", c_uint64),
-        ("offset", c_uint64),
-        ("size", c_uint64),
-        ("name_at", c_void_p),
-        ("name_len", c_size_t),
-        ("module_at", c_void_p),
-        ("module_len", c_size_t),
-    ]
-
-
-class Answer(ctypes.Structure):
-    _fields_ = [
-        ("module_number", c_uint64),
-        ("offset", c_uint64),
-        ("size", c_uint64),
-        ("name_len", c_size_t),
-        ("module_len", c_size_t),
-    ]
-
-
-class Told(ctypes.Structure):
-    _fields_ = [("answer", Answer), ("code", c_uint32)]
-
-
-class Item(ctypes.Structure):
-    _fields_ = [("a", c_uint64), ("b", c_uint64), ("tag", c_uint64)]
-
-
-class Found(ctypes.Structure):
-    _fields_ = [("a", c_uint64), ("b", c_uint64), ("tag", c_uint64), ("generation", c_uint64)]
-
-
-class Listings(ctypes.Structure):
-    _fields_ = [
-        ("size", c_size_t),
-        ("kallsyms", Place),
-        ("modules", Place),
-        ("regions", Place),
-        ("start", Place),
-        ("end", Place),
-        ("has_modules", c_uint32),
-    ]
-
-
-class Module(ctypes.Structure):
-    _fields_ = [("name", Place), ("regions", c_size_t), ("symbols", c_size_t)]
-
-
-class Region(ctypes.Structure):
-    _fields_ = [("a", c_uint64), ("b", c_uint64), ("is_init", c_uint32)]
-
-
-class Entry(ctypes.Structure):
-    _fields_ = [("addr", c_uint64), ("name", Place)]
-
-
-class Sizes(ctypes.Structure):
-    _fields_ = [("regions", c_size_t), ("symbols", c_size_t)]
-
-
-class ViewSymbol(ctypes.Structure):
-    _fields_ = [("addr", c_uint64), ("place", c_size_t), ("name", Place)]
-
-
-class ViewRegion(ctypes.Structure):
-    _fields_ = [
-        ("a", c_uint64),
-        ("b", c_uint64),
-        ("module_number", c_uint64),
-        ("module", Place),
-        ("symbols", c_void_p),
-        ("symbols_len", c_size_t),
-        ("addresses", c_void_p),
-        ("addresses_len", c_size_t),
-    ]
-
-
-class View(ctypes.Structure):
-    _fields_ = [("regions", c_void_p), ("regions_len", c_size_t)]
-
-
-_HANDLE = POINTER(Handle)
-_ROOMS = [POINTER(Answer), POINTER(c_char), c_size_t, POINTER(c_char), c_size_t]
-
-# Each call of the header with what it takes, and whether it returns a number.
-CALLS = {
-    "latchsym_place_of_text": ([c_uint32, POINTER(Place)], False),
-    "latchsym_version": ([], True),
-    "latchsym_catalog_open": ([POINTER(Listings), _HANDLE, POINTER(Counts), POINTER(c_uint64)], True),
-    "latchsym_catalog_find": ([_HANDLE, c_uint64, POINTER(Symbol)], True),
-    "latchsym_catalog_find_caller": ([_HANDLE, c_uint64, POINTER(Symbol)], True),
-    "latchsym_catalog_find_many": ([_HANDLE, c_void_p, c_size_t, POINTER(Told), c_size_t], True),
-    "latchsym_catalog_name": ([_HANDLE, c_uint64, *_ROOMS], True),
-    "latchsym_catalog_modules": ([_HANDLE, POINTER(c_uint64)], True),
-    "latchsym_catalog_module": ([_HANDLE, c_uint64, POINTER(Module)], True),
-    "latchsym_catalog_region": ([_HANDLE, c_uint64, c_size_t, POINTER(Region)], True),
-    "latchsym_catalog_symbol": ([_HANDLE, c_uint64, c_size_t, POINTER(Entry)], True),
-    "latchsym_catalog_place_of_name": (
-        [_HANDLE, c_uint64, POINTER(c_char), c_size_t, c_size_t, POINTER(c_size_t)],
-        True,
-    ),
-    "latchsym_catalog_find_name": (
-        [_HANDLE, POINTER(c_char), c_size_t, c_size_t, POINTER(c_uint64), POINTER(c_size_t)],
-        True,
-    ),
-    "latchsym_catalog_sizes": ([_HANDLE, POINTER(Sizes)], True),
-    "latchsym_catalog_flatten": (
-        [_HANDLE, c_void_p, c_size_t, c_void_p, c_size_t, c_void_p, c_size_t, POINTER(View)],
-        True,
-    ),
-    "latchsym_view_find": ([POINTER(View), c_uint64, POINTER(Symbol)], True),
-    "latchsym_view_find_caller": ([POINTER(View), c_uint64, POINTER(Symbol)], True),
-    "latchsym_catalog_share": ([_HANDLE, _HANDLE], True),
-    "latchsym_catalog_close": ([_HANDLE], False),
-    "latchsym_table_open": ([c_uint32, _HANDLE, _HANDLE, c_size_t], True),
-    "latchsym_writer_add_reader": ([_HANDLE, _HANDLE], True),
-    "latchsym_writer_take_reader": ([_HANDLE, _HANDLE], True),
-    "latchsym_writer_begin_insert": ([_HANDLE, POINTER(Item)], True),
-    "latchsym_writer_begin_erase": ([_HANDLE, c_uint64], True),
-    "latchsym_writer_begin_batch": (
-        [_HANDLE, POINTER(c_uint64), c_size_t, POINTER(Item), c_size_t],
-        True,
-    ),
-    "latchsym_writer_begin_replace": ([_HANDLE, POINTER(Item), c_size_t], True),
-    "latchsym_catalog_items": ([_HANDLE, POINTER(Item), c_size_t], True),
-    "latchsym_writer_step": ([_HANDLE], True),
-    "latchsym_writer_finish": ([_HANDLE, POINTER(c_uint64)], True),
-    "latchsym_table_enlarge": ([c_uint32, _HANDLE, _HANDLE, c_size_t], True),
-    "latchsym_writer_find": ([_HANDLE, c_uint64, POINTER(Found)], True),
-    "latchsym_writer_close": ([_HANDLE], False),
-    "latchsym_reader_try_find": ([_HANDLE, c_uint64, POINTER(Found)], True),
-    "latchsym_reader_find_name": ([_HANDLE, _HANDLE, c_uint64, POINTER(Found), *_ROOMS], True),
-    "latchsym_reader_close": ([_HANDLE], False),
-    "latchsym_follower_open": ([c_uint32, _HANDLE, _HANDLE, c_size_t], True),
-    "latchsym_follower_add_reader": ([_HANDLE, _HANDLE], True),
-    "latchsym_follower_show": ([_HANDLE, _HANDLE, c_uint64, c_uint64, POINTER(c_uint64)], True),
-    "latchsym_follower_find": ([_HANDLE, c_uint64, c_uint64, POINTER(Symbol)], True),
-    "latchsym_follower_find_caller": ([_HANDLE, c_uint64, c_uint64, POINTER(Symbol)], True),
-    "latchsym_follower_find_since": ([_HANDLE, c_uint64, c_uint64, POINTER(Symbol)], True),
-    "latchsym_follower_find_caller_since": ([_HANDLE, c_uint64, c_uint64, POINTER(Symbol)], True),
-    "latchsym_follower_forget": ([_HANDLE, c_uint64, POINTER(c_uint64)], True),
-    "latchsym_follower_forget_since": ([_HANDLE, c_uint64, POINTER(c_uint64)], True),
-    "latchsym_follower_close": ([_HANDLE, POINTER(c_uint64)], True),
-}
-
-# Those of them that the header lets take null pointers: the library's own have names that end in
-# _nonnull, and no call here hands them one.
-NONNULL = {
-    "latchsym_catalog_close",
-    "latchsym_catalog_find_many",
-    "latchsym_catalog_find_name",
-    "latchsym_catalog_flatten",
-    "latchsym_catalog_items",
-    "latchsym_catalog_name",
-    "latchsym_catalog_open",
-    "latchsym_catalog_place_of_name",
-    "latchsym_follower_open",
-    "latchsym_reader_close",
-    "latchsym_reader_find_name",
-    "latchsym_table_enlarge",
-    "latchsym_table_open",
-    "latchsym_writer_begin_batch",
-    "latchsym_writer_begin_replace",
-    "latchsym_writer_close",
-}
+COUNTS = [name for name, kind in Counts._fields_ if kind is c_uint64]
+NOTES = [name for name, kind in Counts._fields_ if kind is c_uint32]
 
 
 def _paths() -> Iterator[str]:
@@ -302,6 +104,10 @@ def decoded(name: bytes) -> str:
 
 def text_at(at: int, length: int) -> str:
     return decoded(ctypes.string_at(at, length))
+
+
+def text_of_place(place: Place) -> str:
+    return text_at(place.at, place.len)
 
 
 def encoded(name: str | bytes) -> bytes:
