@@ -7,9 +7,9 @@ set -euo pipefail
 usage='usage: install.sh [--static] [--target PROCESSOR] [--uninstall] PREFIX
 
 Puts the program latchsym and the library for C and C++ under PREFIX: bin/latchsym, the headers in
-include, liblatchsym.a and liblatchsym.so in lib with latchsym.pc for pkg-config; and the man pages
-and the completions for bash, zsh and fish, each in its folder of share. In the repository it
-builds them, which takes the Rattle kit and gcc; a release has them.
+include, liblatchsym.a and liblatchsym.so in lib with latchsym.pc for pkg-config and a package for
+CMake; and the man pages and the completions for bash, zsh and fish, each in its folder of share. In
+the repository it builds them, which takes the Rattle kit and gcc; a release has them.
 All are copied before the first is renamed to its name, so a program that runs goes on
 with the files that it has, and a copy that fails leaves them as they are.
 
@@ -66,6 +66,7 @@ version=$(cat "$here/VERSION")
 
 files=(bin/latchsym include/latchsym.h include/latchsym.hpp include/latchsym_read.h
     "$lib"/{liblatchsym.a,"liblatchsym.so.$version",pkgconfig/latchsym.pc}
+    "$lib"/cmake/latchsym/latchsym-config{,-version}.cmake
     share/bash-completion/completions/latchsym share/fish/vendor_completions.d/latchsym.fish
     share/man/man1/latchsym.1 share/man/man3/latchsym.3 share/zsh/site-functions/_latchsym)
 # each link, and the file beside it that it leads to
@@ -128,13 +129,35 @@ Cflags: -I"\${includedir}"
 Libs: -L"\${libdir}"$rpath -llatchsym
 END
 
+# (found from where it lies, which may be another folder than it was installed to)
+cat >"$work/latchsym-config.cmake" <<END
+# latchsym::latchsym is the static library with its headers.
+get_filename_component(_latchsym_lib "\${CMAKE_CURRENT_LIST_DIR}/../.." REALPATH)
+get_filename_component(_latchsym_include "\${_latchsym_lib}/$(realpath -ms --relative-to="/$lib" /include)" ABSOLUTE)
+if(NOT TARGET latchsym::latchsym)
+  add_library(latchsym::latchsym STATIC IMPORTED)
+  set_target_properties(latchsym::latchsym PROPERTIES
+    IMPORTED_LOCATION "\${_latchsym_lib}/liblatchsym.a"
+    INTERFACE_INCLUDE_DIRECTORIES "\${_latchsym_include}")
+endif()
+END
+cat >"$work/latchsym-config-version.cmake" <<END
+set(PACKAGE_VERSION "$version")
+if(PACKAGE_FIND_VERSION_MAJOR EQUAL ${version%%.*} AND NOT PACKAGE_FIND_VERSION VERSION_GREATER PACKAGE_VERSION)
+  set(PACKAGE_VERSION_COMPATIBLE TRUE)
+endif()
+if(PACKAGE_FIND_VERSION VERSION_EQUAL PACKAGE_VERSION)
+  set(PACKAGE_VERSION_EXACT TRUE)
+endif()
+END
+
 new=.latchsym.new
 copies=("${all[@]/#/"$to/"}")
 copies=("${copies[@]/%/$new}")
 trap 'rm -rf "$work" "${copies[@]}"' EXIT
 for file in "${files[@]}"; do
     case $file in
-        *.pc) source=$work/latchsym.pc ;;
+        *.pc | *.cmake) source=$work/${file##*/} ;;
         *) source=$(source_of "$file") ;;
     esac
     case $file in

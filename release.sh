@@ -46,6 +46,7 @@ mkdir -p "$tree/docs/watch"
 cp "$top"/docs/*.{md,txt} "$tree/docs"
 cp "$top"/docs/watch/*.{html,png} "$tree/docs/watch"
 cp -r "$top"/{python,bindings,examples} "$tree"
+rm "$tree/bindings/write.py" # which reads the sources
 cp -r "$top/packaging/debian" "$tree/debian"
 python3 "$top/packaging/contents.py" "$processor" "$epoch" "$tree"
 # the crate's own library, which its package has then, too, without what is of the program alone

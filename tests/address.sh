@@ -15,12 +15,14 @@ fail() {
     failed=1
 }
 
-# writes LINES ARGUMENT..: the program succeeds and writes these lines, and nothing on standard error
+# writes LINES ARGUMENT..: the program writes these lines, and nothing on standard error, with status
+# 1 if no name has an address
 writes() {
-    local lines=$1 status=0
+    local lines=$1 status=0 wanted=1
     shift
+    ! printf -- "$lines" | grep -q ' 0x\|"address"' || wanted=0
     "$program" address "$@" >"$work/out" 2>"$work/err" || status=$?
-    [ $status = 0 ] && [ ! -s "$work/err" ] || fail "address $*: status $status, $(cat "$work/err")"
+    [ $status = $wanted ] && [ ! -s "$work/err" ] || fail "address $*: status $status, $(cat "$work/err")"
     printf -- "$lines" | cmp -s - "$work/out" || fail "address $*: $(cat "$work/out")"
 }
 
@@ -30,7 +32,9 @@ for names in *.names; do
     modules=()
     [ ! -e "$name.modules" ] || modules=(--modules "$name.modules")
     mapfile -t words <"$names"
-    "$program" address "${modules[@]}" --kallsyms "$name.kallsyms" -- "${words[@]}" >"$work/out" || fail "$names: status $?"
+    status=0
+    "$program" address "${modules[@]}" --kallsyms "$name.kallsyms" -- "${words[@]}" >"$work/out" || status=$?
+    [ $status = "$(grep -q ' 0x' "$name.found" && echo 0 || echo 1)" ] || fail "$names: status $status"
     cmp "$work/out" "$name.found" || fail "$names: other lines"
 done
 
@@ -77,7 +81,7 @@ fi
 # what is noted of the listings comes on standard error, and the lines stand
 status=0
 "$program" address --modules no_end.modules --kallsyms no_end.kallsyms --kernel _stext _end _stext >"$work/out" 2>"$work/err" || status=$?
-[ $status = 0 ] && cmp -s "$work/err" no_end.notes && [ "$(cat "$work/out")" = '_stext -' ] || fail "notes: status $status, $(cat "$work/err")"
+[ $status = 1 ] && cmp -s "$work/err" no_end.notes && [ "$(cat "$work/out")" = '_stext -' ] || fail "notes: status $status, $(cat "$work/err")"
 [ $failed = 0 ] || exit 1
 
 mkdir "$work/run"

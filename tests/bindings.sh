@@ -22,17 +22,6 @@ same() {
         diff - <(grep '^0x' "$top/examples/listings/alone.expected")
 }
 
-# Each package has each call. (C++ has texts by latchsym_text, and names where they lie.)
-grep -oE '^(uint32_t|void) latchsym_[a-z_]+' "$top/include/latchsym.h" | cut -d' ' -f2 | sed 's/_nonnull$//' | while read -r call; do
-    files=("$top/bindings/rust/src/sys.rs" "$top/python/src/latchsym/_library.py" "$top/include/latchsym.hpp")
-    case $call in
-        latchsym_place_of_text | latchsym_catalog_name) unset 'files[2]' ;;
-    esac
-    for file in "${files[@]}"; do
-        grep -qE "\b$call\b" "$file" || { echo "bindings: $file has no $call"; exit 1; }
-    done
-done
-
 # sample LANGUAGE: what README.md has in the language, over a listing of examples/ in place of the kernel's
 sample() {
     awk -v head="In $1 (" '

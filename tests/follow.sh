@@ -1,7 +1,8 @@
 #!/usr/bin/env bash
 # Follows logs: those of examples/logs/ come out as without --follow, since their listings stay as they
-# are. Of a log that goes on, each line is named by the listings as they are when its end comes; what is
-# noted is noted once; and listings that cannot be read any more end it, with what was written.
+# are. Of a log that goes on, each line is named by the listings as they are when its end comes, and a
+# line that asks for no name makes no reading; what is noted is noted once, before the first line; and
+# while listings give no names, lines have none, which is told once.
 set -euo pipefail
 . "$(dirname "$0")/program.sh"
 build latchsym
@@ -88,16 +89,24 @@ lists xfs
 says ' [<ffffffffc0000018>] a' ' [<ffffffffc0000018>] xfs_a+0x8/0xff0 [xfs] a'
 lists ext4
 says ' [<ffffffffc0000010>] b' ' [<ffffffffc0000010>] b'
-# the last line, without an end, by what was read last
+# the last line, whose end is that of the log
 printf 'at 0xffffffffc0000018' >&3
 sleep 0.3
 lists xfs
-printf 'at 0xffffffffc0000018 ext4_a+0x8/0xff0 [ext4]' >>wanted
+printf 'at 0xffffffffc0000018 xfs_a+0x8/0xff0 [xfs]' >>wanted
+ends 0 ''
+# and one that asks for no name
+lists
+begins
+rm kallsyms
+printf 'quiet' | tee -a wanted >&3
 ends 0 ''
 
 # what is noted is noted once, as the listing is at the beginning
 printf 'ffffffff81000000 T _text\n' >kallsyms
 begins
+echo 'latchsym: note: kallsyms: has no symbol _stext' >noted
+waits err noted
 says 1 1
 says 2 2
 lists ext4
@@ -123,28 +132,64 @@ sleep 0.2
 printf '\037\213\n' >>wanted
 ends 0 'latchsym: note: pipe: is compressed by gzip; unpack it first'
 
-# a listing that cannot be read any more
+# unread REASON: it was told at once that the listing of symbols gives no names
+unread() {
+    echo "latchsym: note: ${2-kallsyms}: cannot be read again ($1); lines have no names until it can" >noted
+    waits err noted
+}
+named='at ffffffffc0000018 ext4_a+0x8/0xff0 [ext4]'
+# a listing that cannot be read any more: lines without an address do not need it, the others have no
+# names, which is told once, and what the log says itself is not counted
 lists ext4
 begins
-says 'at ffffffffc0000018' 'at ffffffffc0000018 ext4_a+0x8/0xff0 [ext4]'
+says 'at ffffffffc0000018' "$named"
 rm kallsyms
-echo 'at ffffffffc0000018' >&3
-ends 1 'latchsym: kallsyms: cannot be read (No such file or directory)'
+says quiet quiet
+[ ! -s err ] || fail "a line without an address: $(cat err)"
+for turn in 1 2 3 4 5; do
+    says "ffffffffc0000018 other+0x8/0x10 $turn" "ffffffffc0000018 other+0x8/0x10 $turn"
+done
+unread 'No such file or directory'
+lists ext4
+says 'at ffffffffc0000018' "$named"
+rm kallsyms
+says 'at ffffffffc0000018' 'at ffffffffc0000018'
+ends 0 "$(cat noted)"
+# a trace goes on while nothing has a name
+lists ext4
+begins
+says ' [<ffffffffc0000018>]' " [<ffffffffc0000018>] ${named#* * }"
+rm kallsyms
+says ' [<ffffffffc0000010>]' ' [<ffffffffc0000010>]'
+lists ext4
+says ' [<ffffffffc0000010>]' ' [<ffffffffc0000010>]'
+ends 0 "$(unread 'No such file or directory'; cat noted)"
+# one that shows no symbol any more
+lists ext4
+begins
+says 'at ffffffffc0000018' "$named"
+sed 's/^[0-9a-f]*/0000000000000000/' kallsyms >hidden
+mv hidden kallsyms
+says 'at ffffffffc0000018' 'at ffffffffc0000018'
+unread 'no symbol'
+ends 0 "$(cat noted)"
 # regions that cannot be understood any more, or that are too many of one module
 lists ext4
 echo 'ext4 4096 0 - Live 0xffffffffc0000000' >modules
 printf 'latchregions 1\next4 core 0xffffffffc0000000 4096\n' >regions
 begins --modules modules --regions regions
-says 'at ffffffffc0000018' 'at ffffffffc0000018 ext4_a+0x8/0xff0 [ext4]'
+says 'at ffffffffc0000018' "$named"
 printf 'latchregions 1\next4 core\n' >regions
-echo 'at ffffffffc0000018' >&3
-ends 1 'latchsym: regions: line 2 is not understood'
+says 'at ffffffffc0000018' 'at ffffffffc0000018'
+unread 'line 2 is not understood' regions
+ends 0 "$(cat noted)"
 printf 'latchregions 1\n' >regions
 begins --modules modules --regions regions
-says 'at ffffffffc0000018' 'at ffffffffc0000018 ext4_a+0x8/0xff0 [ext4]'
+says 'at ffffffffc0000018' "$named"
 { echo 'latchregions 1'; printf 'm core %d 1\n' 1 2 3 4 5 6 7 8; } >regions
-echo 'at ffffffffc0000018' >&3
-ends 1 'latchsym: refused 14'
+says 'at ffffffffc0000018' 'at ffffffffc0000018'
+unread 'a module has more than 7 regions' regions
+ends 0 "$(cat noted)"
 
 # a log that cannot be read, one of many blocks, and a reader that has gone
 lists ext4

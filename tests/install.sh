@@ -2,8 +2,9 @@
 # Installs the program, the library for C, the man pages and the completions by install.sh, installs
 # them again while program and library are in use, behind a DESTDIR, below a prefix with blanks, with
 # a program without shared libraries, and where a folder cannot be made; and takes them away again.
-# Looks at what the shared library shows and asks for. Needs gcc and binutils; pkg-config is installed
-# from Debian's packages where it is not there, by root, or else passed over.
+# Looks at what the shared library shows and asks for, and builds a project of CMake's in C and one in
+# C++. Needs gcc and binutils; pkg-config and CMake are installed from Debian's packages where they are
+# not there, by root, or else passed over.
 set -euo pipefail
 . "$(dirname "$0")/program.sh"
 . "$top/tests/tools.sh"
@@ -16,7 +17,8 @@ fail() {
 # installed FOLDER: what lies under it
 installed() { (cd "$1" && find . ! -type d | LC_ALL=C sort | tr '\n' ' '); }
 version=$(cat "$top/VERSION")
-whole='./bin/latchsym ./include/latchsym.h ./include/latchsym.hpp ./include/latchsym_read.h ./lib/liblatchsym.a ./lib/liblatchsym.so '
+whole='./bin/latchsym ./include/latchsym.h ./include/latchsym.hpp ./include/latchsym_read.h '
+whole+='./lib/cmake/latchsym/latchsym-config-version.cmake ./lib/cmake/latchsym/latchsym-config.cmake ./lib/liblatchsym.a ./lib/liblatchsym.so '
 whole+="./lib/liblatchsym.so.${version%%.*} ./lib/liblatchsym.so.$version ./lib/pkgconfig/latchsym.pc "
 whole+='./share/bash-completion/completions/latchsym ./share/fish/vendor_completions.d/latchsym.fish '
 whole+='./share/man/man1/latchsym.1 ./share/man/man3/latchsym.3 ./share/zsh/site-functions/_latchsym '
@@ -91,6 +93,28 @@ if command -v pkg-config >/dev/null; then
     eval "gcc -std=gnu11 $top/tests/c/waits.c $(pkg-config --cflags --libs latchsym) -o $work/waits"
     "$work/waits" /dev/null || fail "a program of $(pkg-config --libs latchsym)"
 fi
+
+# by_cmake PREFIX LANGUAGE SOURCE VERSION: makes `built` the program of the source, by a project that
+# wants this version of what is installed there; or fails
+by_cmake() {
+    rm -rf "$work/project"
+    mkdir "$work/project"
+    printf '%s\n' 'cmake_minimum_required(VERSION 3.13)' "project(project $2)" 'set(CMAKE_CXX_STANDARD 17)' \
+        "find_package(latchsym $4 REQUIRED)" "add_executable(program \"$3\")" \
+        'target_link_libraries(program PRIVATE latchsym::latchsym)' >"$work/project/CMakeLists.txt"
+    built=$work/project/built/program
+    cmake -S "$work/project" -B "$work/project/built" -DCMAKE_PREFIX_PATH="$1" >"$work/out" 2>&1 &&
+        cmake --build "$work/project/built" >>"$work/out" 2>&1
+}
+if has 'command -v cmake && command -v make && command -v g++' cmake make g++; then
+    by_cmake "$prefix" C "$top/tests/c/waits.c" "${version%.*}" && "$built" /dev/null || fail "CMake, C: $(cat "$work/out")"
+    ! readelf -d "$built" | grep -q liblatchsym || fail 'a program by CMake wants the shared library'
+    by_cmake "$prefix" CXX "$top/examples/cpp/lookup.cpp" "$version" &&
+        "$built" alone.kallsyms 0xffffffff81000108 | grep -qx '0xffffffff81000108 do_one+0x8/0x1f00' || fail "CMake, C++: $(cat "$work/out")"
+    for other in "${version%%.*}.99" $((${version%%.*} + 1)); do
+        ! by_cmake "$prefix" C "$top/tests/c/waits.c" "$other" || fail "CMake takes it for version $other"
+    done
+fi
 run --uninstall "$prefix"
 [ $status = 0 ] && [ -z "$(installed "$prefix")" ] || fail "uninstalled: $(installed "$prefix")"
 prefix=$work/prefix
@@ -110,6 +134,8 @@ if command -v pkg-config >/dev/null; then
     words=$(PKG_CONFIG_ALLOW_SYSTEM_LIBS=1 pkg-config --libs latchsym)
     [ "${words% }" = '-L/usr/lib/x86_64-linux-gnu -llatchsym' ] || fail "LIBDIR: $words"
 fi
+[ ! -d "$work/project" ] || { by_cmake "$work/system/usr" C "$top/tests/c/waits.c" '' && "$built" /dev/null; } ||
+    fail "LIBDIR: CMake: $(cat "$work/out")"
 DESTDIR=$work/system run --uninstall /usr
 [ $status = 0 ] && [ -z "$(installed "$work/system")" ] || fail "LIBDIR: left: $(installed "$work/system")"
 for LIBDIR in /usr/lib64 ../lib lib/../..; do

@@ -417,6 +417,14 @@ refused 1 "no_such: cannot be read" "${alone[@]}" --addresses no_such 1
 refused 1 "-: line 3 is not understood" "${alone[@]}" --addresses - <"$work/bad.addresses"
 refused 2 "" --modules basic.modules --kallsyms basic.kallsyms --modules basic.modules 1
 refused 2 "" --modules basic.modules --kallsyms basic.kallsyms --symbols x 1
+# a file is opened once, which a pipe by a name needs
+mkfifo "$work/pipe"
+cat basic.kallsyms >"$work/pipe" 2>"$work/err" &
+writer=$!
+timeout 20 "$program" lookup --kallsyms "$work/pipe" 0xffffffff81000108 >"$work/out" || fail "a listing in a pipe: status $?"
+head -n 1 "$work/out" | grep -q '^0xffffffff81000108 do_one+0x8/' || fail "a listing in a pipe: $(cat "$work/out")"
+kill $writer 2>"$work/err" || true
+wait $writer || true
 if [ -e /dev/full ]; then
     status=0
     "$program" lookup --modules basic.modules --kallsyms basic.kallsyms 1 >/dev/full 2>"$work/err" || status=$?

@@ -141,23 +141,11 @@ for script in "bash install.sh $work/prefix" "bash "tests/{cases,quick,try,linea
         fail "$script without the kit: status $status, $(cat "$work/out")"
 done
 
-# the page of the library: the calls of the header, word for word, and its numbers
-header=$top/include/latchsym.h
+# the page of the library, whose calls and numbers bindings/write.py makes
 warnings=$({ groff -man -ww -Tutf8 -z "$top/docs/latchsym.3"; } 2>&1)
 [ -z "$warnings" ] || fail "$warnings"
 groff -man -Tutf8 -P-cbou -rLL=400n "$top/docs/latchsym.3" >"$work/page"
 tail -n 1 "$work/page" | grep -q "^$("$program" --version) " || fail "the page of the library is of another version"
-# (of a call that the header lets take null pointers, the library's own has the arguments; a pool's
-# calls and the reading of a file are the headers' alone)
-calls() {
-    tr -s ' \n' ' ' | sed -E 's/static inline (uint32_t latchsym_pool_(open|try_find|enlarge|close)\(|int latchsym_read_file\()/\1/g
-        s/static inline (uint32_t|int|void) //g; s/_nonnull\(/(/g' |
-        grep -oE '(const char \*|uint32_t |int |void )latchsym_[a-z_]+\([^)]*\)' | sort
-}
-same "the calls of the library's page" "$(cat "$header" "$top/include/latchsym_read.h" | calls)" "$(section SYNOPSIS | calls)"
-same "the numbers of the library's page" \
-    "$(sed -nE 's/^ +(LATCHSYM_[A-Z_]+) = ([0-9]+).*/\2 \1/p' "$header" | grep -v '^0 ' | sort)" \
-    "$(section ERRORS | sed -nE 's/^ +([0-9]+ LATCHSYM_[A-Z_]+)$/\1/p' | sort)"
 
 # bash: what is offered for the last word, and `files` where it is files
 # shellcheck disable=SC2016

@@ -17,11 +17,9 @@ has include/latchsym.h "#define LATCHSYM_VERSION $((major * 10000 + minor * 100 
 has CHANGELOG.md "## $version"
 has python/pyproject.toml "version = \"$version\""
 has python/src/latchsym/__init__.py "__version__ = \"$version\""
-has python/src/latchsym/_library.py "MAJOR = $major  # of the header that this file repeats"
 has bindings/rust/Cargo.toml "version = \"$version\""
 has bindings/rust/Cargo.lock "version = \"$version\""
 has packaging/debian/changelog "latchsym ($version-1) unstable; urgency=medium"
-has packaging/liblatchsym.map "LATCHSYM_$major {"
 for page in 1 3; do
     grep -q "^\.TH LATCHSYM $page [0-9-]* \"latchsym $version\" " "$top/docs/latchsym.$page" ||
         { echo "versions: docs/latchsym.$page is of another version"; failed=1; }

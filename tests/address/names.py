@@ -69,15 +69,17 @@ def lines_of(word, symbols, size, higher=0):
 
 
 def asked(program, folder, words, bounds=None, higher=0):
-    """The lines that the program writes for words; this program ends where it fails."""
+    """The lines that the program writes for words; this program ends if its status is not that of the lines."""
     line = [program, "address", "--kallsyms", "kallsyms"]
     line += ["--kernel", *bounds] if bounds else []
     line += ["--offset", hex(higher)] * bool(higher)
     done = subprocess.run(line + ["--", *words], cwd=folder, capture_output=True, timeout=600)
     noted = all(note.startswith(b"latchsym: note: kallsyms: ") for note in done.stderr.splitlines())
-    if done.returncode != 0 or not noted:
+    written = done.stdout.split(b"\n")[:-1]
+    none = all(line.endswith(b" -") for line in written)
+    if done.returncode != (1 if none else 0) or not noted:
         sys.exit(f"address: {words[:5]}: status {done.returncode}, {done.stderr[:200]!r}")
-    return done.stdout.split(b"\n")[:-1]
+    return written
 
 
 def compare(words, expected, written):

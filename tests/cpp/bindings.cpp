@@ -174,6 +174,21 @@ static void shares_readers() {
     CHECK(refused([] { latchsym::pooled_table table(4, 65); }) == LATCHSYM_BAD_CAPACITY);
 }
 
+/* A lookup is tried again, but not for ever. */
+static void gives_up() {
+    auto [writer, pool] = latchsym::pooled_table(4, 1);
+    writer.insert({0x1000, 0x2000, 7});
+    latchsym_pool_slot *slot = latchsym_pool_claim(pool.get());
+    CHECK(slot && refused([&, &pool = pool] { pool.find(0x1000); }) == LATCHSYM_BUSY && !pool.try_find(0x1000));
+    latchsym_pool_give_back(slot);
+    CHECK(pool.find(0x1000).item->tag == 7);
+    int calls = 0;
+    const auto never = [&](latchsym_found *) { return calls++, std::uint32_t{LATCHSYM_RETRY}; };
+    CHECK(refused([&] { latchsym::detail::first_answer(never); }) == LATCHSYM_RETRY && calls == 1000000);
+    const auto at_last = [&](latchsym_found *) { return std::uint32_t{--calls ? LATCHSYM_RETRY : LATCHSYM_NOTHING}; };
+    CHECK(!latchsym::detail::first_answer(at_last).item && calls == 0);
+}
+
 static void reads_on_threads() {
     latchsym::table table(4, 3);
     std::atomic<bool> is_over{false};
@@ -229,6 +244,7 @@ int main() {
     moves_and_shares();
     updates();
     shares_readers();
+    gives_up();
     names_items();
     reads_on_threads();
 }

@@ -74,9 +74,16 @@ def counts(lines):
     return objects
 
 
-def run(program, arguments, command="lookup"):
-    done = subprocess.run([program, command, *arguments], stdout=subprocess.PIPE, stderr=subprocess.DEVNULL, check=True)
-    return done.stdout
+def run(program, arguments):
+    """What a lookup writes."""
+    return subprocess.run([program, "lookup", *arguments], stdout=subprocess.PIPE, stderr=subprocess.DEVNULL, check=True).stdout
+
+
+def asked(program, arguments):
+    """The lines that are written for words, and the status: 0 or 1."""
+    done = subprocess.run([program, "address", *arguments], stdout=subprocess.PIPE, stderr=subprocess.DEVNULL)
+    assert done.returncode in (0, 1), done
+    return lines(done.stdout), done.returncode
 
 
 def lines(written):
@@ -113,17 +120,18 @@ def wanted_of(word, answer):
 
 
 def compare_names(program, arguments, words):
-    """Whether the objects for these words are those of the lines."""
-    text = lines(run(program, [*arguments, "--", *words], "address"))
-    objects = lines(run(program, [*arguments, "--json", "--", *words], "address"))
-    both = lines(run(program, ["--no-counts", *arguments, "--json", "--", *words], "address"))
+    """Whether the objects for these words are those of the lines, with status 1 if none has an address."""
+    text, status = asked(program, [*arguments, "--", *words])
+    objects, again = asked(program, [*arguments, "--json", "--", *words])
+    both, third = asked(program, ["--no-counts", *arguments, "--json", "--", *words])
     expected, at = [], 0
     for word in words:
         while at < len(text) and text[at].startswith(word + b" "):
             expected.append(wanted_of(word, text[at][len(word) + 1 :]))
             at += 1
     read = [json.loads(line.decode("utf-8"), object_pairs_hook=list) for line in objects]
-    return at == len(text) and read == expected and both == objects
+    found = 0 if any(dict(members).get("address") for members in expected) else 1
+    return at == len(text) and read == expected and both == objects and status == again == third == found
 
 
 def words_of(rng, symbols):

@@ -1,5 +1,5 @@
 -- The kept symbols of the names that words ask for, symbol by symbol.
-use Rattle.catalog_engines.proofs.Words.{append_assoc, list_any-append, or-false, or-true, same_from_decides, ◌≡◌, ◌∙◌, ℕ, List, [], ◌∷◌, ◌++◌, Bool, true, false, cond, ◌||◌, ◌+◌, ◌<◌, length, take, get_or, Option, Some, None, option_map, refl, sym, ap, subst, option_and_then, unwrap_or, BTreeMap, UpdatesBy, get_by, is_at, Bor, slice_cmp, Vec, cons_option, option_to_list, lookup, nat_cmp, result_ok, bytes_eq, flat_map-append, filter-append, filter_map-append, btree_map_updates_str, bytes_eq-Decides, Item, CatalogEntries, Found, symbol_at, item_of_address, ListedSymbol, Output, Says, same_text, then, lines_of, is_mapping, symbol_of, symbols_in, AddressForm, symbols_text, word_text, words_text, asked_of, IsSought, Kept, end_of, found_by, is_owner, is_sought, kept_at_its_address, kept_in, kept_line, kept_symbol, kept_symbols, named, sought}
+use Rattle.catalog_engines.proofs.Words.{drop, map-append, take-append-drop, list_any, is_told, has_line, has_any_line, append_assoc, list_any-append, or-false, or-true, same_from_decides, ◌≡◌, ◌∙◌, ℕ, List, [], ◌∷◌, ◌++◌, Bool, true, false, cond, ◌||◌, ◌+◌, ◌<◌, length, take, get_or, Option, Some, None, option_map, refl, sym, ap, subst, option_and_then, unwrap_or, BTreeMap, UpdatesBy, get_by, is_at, Bor, slice_cmp, Vec, cons_option, option_to_list, lookup, nat_cmp, result_ok, bytes_eq, flat_map-append, filter-append, filter_map-append, btree_map_updates_str, bytes_eq-Decides, Item, CatalogEntries, Found, symbol_at, item_of_address, ListedSymbol, Output, Says, same_text, then, lines_of, is_mapping, symbol_of, symbols_in, AddressForm, symbols_text, word_text, words_text, asked_of, IsSought, Kept, end_of, found_by, is_owner, is_sought, kept_at_its_address, kept_in, kept_line, kept_symbol, kept_symbols, named, sought}
 use Rattle.std.proofs.lemmas.List.{append-nil}
 use Rattle.catalog_engines.proofs.WordLemmas.{text_more, texts}
 
@@ -183,19 +183,36 @@ own_is_sought : (before after : List (List ℕ)) (word : List ℕ) → is_sought
 own_is_sought [] after word = ap (λ b. b || is_sought after (asked_of word).symbol) (own_bytes (asked_of word).symbol)
 own_is_sought (w ∷ ws) after word = ap (λ b. bytes_eq (asked_of word).symbol (asked_of w).symbol || b) (own_is_sought ws after word) ∙ or-true (bytes_eq (asked_of word).symbol (asked_of w).symbol)
 
--- the text of words by a map that has the symbols of their names
-pub text_by_map : (form : AddressForm) (words : List (List ℕ)) (kept : List Kept) (m : Symbols) → IsSought words kept m
-    → words_text form (λ name. unwrap_or (found_by m name) []) words ≡ words_text form (named kept) words
-text_by_map form words kept m holds = from [] words refl
-  where
-    from : (before after : List (List ℕ)) → words ≡ before ++ after → words_text form (λ name. unwrap_or (found_by m name) []) after ≡ words_text form (named kept) after
-    from before [] is = refl
-    from before (w ∷ ws) is =
-        let symbol = (asked_of w).symbol in
-        let asks : is_sought words symbol ≡ true = ap (λ all. is_sought all symbol) is ∙ own_is_sought before ws w in
-        let has : unwrap_or (found_by m symbol) [] ≡ named kept symbol = ap (λ o. unwrap_or o []) (holds symbol ∙ ap (λ b. cond b (Some (named kept symbol)) None) asks) in
-        ap (λ ks. symbols_text form w (asked_of w) ks ++ words_text form (λ name. unwrap_or (found_by m name) []) ws) has
-        ∙ ap (λ text. symbols_text form w (asked_of w) (named kept symbol) ++ text) (from (before ++ w ∷ []) ws (is ∙ sym (append_assoc before (w ∷ []) ws)))
+-- a map has the symbols of the names of words
+module _ (form : AddressForm) (words : List (List ℕ)) (kept : List Kept) (m : Symbols) (holds : IsSought words kept m) where
+  abbrev by_map : List ℕ → List Kept
+  by_map name = unwrap_or (found_by m name) []
+
+  has_own : (before ws : List (List ℕ)) (w : List ℕ) → words ≡ before ++ w ∷ ws → by_map (asked_of w).symbol ≡ named kept (asked_of w).symbol
+  has_own before ws w is =
+      let symbol = (asked_of w).symbol in
+      let asks : is_sought words symbol ≡ true = ap (λ all. is_sought all symbol) is ∙ own_is_sought before ws w in
+      ap (λ o. unwrap_or o []) (holds symbol ∙ ap (λ b. cond b (Some (named kept symbol)) None) asks)
+
+  -- so it gives their text
+  texts_from : (before after : List (List ℕ)) → words ≡ before ++ after → words_text form by_map after ≡ words_text form (named kept) after
+  texts_from before [] is = refl
+  texts_from before (w ∷ ws) is =
+      ap (λ ks. symbols_text form w (asked_of w) ks ++ words_text form by_map ws) (has_own before ws w is)
+      ∙ ap (λ text. symbols_text form w (asked_of w) (named kept (asked_of w).symbol) ++ text) (texts_from (before ++ w ∷ []) ws (is ∙ sym (append_assoc before (w ∷ []) ws)))
+
+  pub text_by_map : words_text form (λ name. unwrap_or (found_by m name) []) words ≡ words_text form (named kept) words
+  text_by_map = texts_from [] words refl
+
+  -- and says whether one of them has a line
+  lines_from : (before after : List (List ℕ)) → words ≡ before ++ after → has_any_line form by_map after ≡ has_any_line form (named kept) after
+  lines_from before [] is = refl
+  lines_from before (w ∷ ws) is =
+      ap (λ ks. list_any (is_told form (asked_of w)) ks || has_any_line form by_map ws) (has_own before ws w is)
+      ∙ ap (λ b. has_line form (named kept) w || b) (lines_from (before ++ w ∷ []) ws (is ∙ sym (append_assoc before (w ∷ []) ws)))
+
+  pub line_by_map : has_any_line form (λ name. unwrap_or (found_by m name) []) words ≡ has_any_line form (named kept) words
+  line_by_map = lines_from [] words refl
 
 -- where no text is left, all lines were gone through
 pub whole_text : (done : List (List ℕ)) (rest text : List ℕ) → done ++ lines_of rest ≡ lines_of text → rest ≡ [] → done ≡ lines_of text
@@ -210,3 +227,19 @@ word_said form found words i d below before said =
     ap (words_text form found) (text_more words i d below) ∙ flat_map-append (word_text form found) (texts (take i words)) (w ∷ [])
     ∙ ap (λ t. words_text form found (texts (take i words)) ++ t) (append-nil (word_text form found w)) in
     same_text (sym longer) (then before said)
+
+-- one word more, and whether it passes
+module _ (p : List ℕ → Bool) (words : List (Bor (List ℕ))) (i : ℕ) (d : Bor (List ℕ)) (below : i < length words) where
+  passes_more : (rest : List (List ℕ)) → list_any p (texts (take i words)) ≡ false → list_any p (texts (take (i + 1) words) ++ rest) ≡ (p (get_or words i d).now || list_any p rest)
+  passes_more rest none =
+      list_any-append p (texts (take (i + 1) words)) rest
+      ∙ ap (λ b. b || list_any p rest) (ap (list_any p) (text_more words i d below) ∙ list_any-append p (texts (take i words)) ((get_or words i d).now ∷ [])
+      ∙ ap (λ b. b || (p (get_or words i d).now || false)) none ∙ or-false (p (get_or words i d).now))
+
+  pub none_passes : (b : Bool) → list_any p (texts (take i words)) ≡ false → b ≡ p (get_or words i d).now → b ≡ false → list_any p (texts (take (i + 1) words)) ≡ false
+  none_passes b none is false_is = ap (list_any p) (sym (append-nil (texts (take (i + 1) words)))) ∙ passes_more [] none ∙ or-false (p (get_or words i d).now) ∙ sym is ∙ false_is
+
+  pub one_passes : (b : Bool) → list_any p (texts (take i words)) ≡ false → b ≡ p (get_or words i d).now → b ≡ true → true ≡ list_any p (texts words)
+  one_passes b none is true_is =
+      sym (ap (λ l. list_any p (texts l)) (sym (take-append-drop (i + 1) words)) ∙ ap (list_any p) (map-append (λ (w : Bor (List ℕ)). w.now) (take (i + 1) words) (drop (i + 1) words))
+      ∙ passes_more (texts (drop (i + 1) words)) none ∙ ap (λ x. x || list_any p (texts (drop (i + 1) words))) (sym is ∙ true_is))

@@ -4,7 +4,7 @@ pub use Rattle.std.proofs.Math.Bool.{or-false, or-true}
 pub use Rattle.std.proofs.lemmas.Bool.{and_parts, eqb-true, false_from_ne_true, ltb-true, leb-false}
 pub use Rattle.std.proofs.lemmas.Bool.Decides.{same_from_decides}
 pub use Rattle.std.proofs.lemmas.Grind.{flat_map-append}
-pub use Rattle.std.proofs.lemmas.List.{map-append, nil_from_length, take_more, take_rest, take_all}
+pub use Rattle.std.proofs.lemmas.List.{map-append, take-append-drop, nil_from_length, take_more, take_rest, take_all}
 pub use Rattle.std.proofs.lemmas.List.Elements.{filter-append, filter_map-append, filter_passes}
 pub use Rattle.std.proofs.lemmas.List.Folds.{list_any-append}
 pub use Rattle.std.proofs.lemmas.List.Sorted.{IsPartitionPoint-from_clause, IsPartitionedBy-leb, IsPartitionedBy-ltb}
@@ -22,12 +22,14 @@ pub use Rattle.std.specs.Ordering.{nat_cmp}
 pub use Rattle.std.specs.Prelude.{All, IfSome, MatchOption, option_and_then, unwrap_or, ◌&&◌, nat_eq, ◌⊎◌, ◌^◌, IsErrAnd, is_some, not}
 pub use Rattle.std.specs.Result.{result_ok}
 pub use Rattle.std.specs.Str.{bytes_eq}
-pub use Rattle.catalog_engines.specs.AddressTexts.{is_told, owner_member, owner_text, symbols_text, told_line, told_lines, word_text, words_text}
+pub use Rattle.catalog_engines.specs.AddressTexts.{has_any_line, has_line, is_told, owner_member, owner_text, symbols_text, told_line, told_lines, word_text, words_text}
 pub use Rattle.catalog_engines.specs.Addresses.{IsAddressed}
 pub use Rattle.catalog_engines.specs.Annotations.{AnnotatesBy, AnnotatesLog, IsTold, IsEndTold, stopped}
 pub use Rattle.catalog_engines.specs.AskedNames.{AskedSymbols, asked_of, cut_at_last, cut_before, distance_in, parted_by, without_last}
 pub use Rattle.catalog_engines.specs.Checks.{IsChecked, IsReport, lines_on_modules, modules_name, opened_report, report, report_by}
-pub use Rattle.catalog_engines.specs.Following.{AreAnswersOf, Block, Event, Failed, FollowsTurns, GivesCatalog, Happen, IsEnded, IsFaultOfListings, IsFollowed, IsNamed, IsStopped, IsTooLong, IsUnlisted, IsUnread, Listings, NamesBy, NamesLast, NamesSome, Turn, events_of, no_turn, one_more, read_in}
+pub use Rattle.catalog_engines.specs.Following.{AreAnswersOf, AreAsKnown, By, EndsBy, FollowsTurns, GivesCatalog, GoesOn, HasNoNames, IsAskedFor, IsCutOff, IsEnded, IsFollowed, IsNamed, IsNamedAtEnd, IsNamedIn, IsNamingAfter, IsNamingOf, IsNoCatalog, IsOutOfMemory, IsPutBy, IsStarved, IsTooLong, IsUnread, NamesAfter, NamesBlock, NamesLast, NamesPart, NamesSome, Naming, PassesBy, Point, PutsAs, PutsIfNamed, PutsNameless, PutsPart, ReadsOnce, TakesPart, Turn, Unnamed, answering_of, asks_for_names, carried_by, events_of, first_point, is_told_after, no_turn, one_more, point_after, read_in, told_once}
+pub use Rattle.catalog_engines.specs.LastingLogs.{Block, Event, Failed, Happen, IsFaultOfListings, Listings, ReadsBlock, ReadsListings, Seen}
+pub use Rattle.catalog_engines.specs.declared.following.Followed.{Followed}
 pub use Rattle.catalog_engines.specs.GivenAnswers.{AnswersGiven, AnswersListings, IsTextWritten}
 pub use Rattle.catalog_engines.specs.KeptSymbols.{IsSought, Kept, end_of, found_by, is_owner, is_sought, kept_at_its_address, kept_in, kept_line, kept_symbol, kept_symbols, named, sought}
 pub use Rattle.catalog_engines.specs.LogAnswers.{answered_by, lists_symbol}

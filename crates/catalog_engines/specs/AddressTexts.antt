@@ -106,6 +106,19 @@ word_text form found word = symbols_text form word (asked_of word) (found (asked
 abbrev pub words_text : AddressForm → (List ℕ → List Kept) → List (List ℕ) → List ℕ
 words_text form found words = flat_map (word_text form found) words
 
+-- a word has a line, if `found` gives the symbols of each name; and one of these words has
+abbrev pub has_line : AddressForm → (List ℕ → List Kept) → List ℕ → Bool
+has_line form found word =
+    list_any (is_told form (asked_of word)) (found (asked_of word).symbol)
+
+abbrev pub has_any_line : AddressForm → (List ℕ → List Kept) → List (List ℕ) → Bool
+has_any_line form found words = list_any (has_line form found) words
+
 -- what is written for words by a catalog, and the symbols of its listing in the order listed
 abbrev pub address_text : AddressForm → CatalogEntries → List ListedSymbol → List (List ℕ) → List ℕ
 address_text form c symbols words = words_text form (named (kept_symbols c symbols)) words
+
+-- the program's status: 1 if no word has a line
+abbrev pub address_status : AddressForm → CatalogEntries → List ListedSymbol → List (List ℕ) → ℕ
+address_status form c symbols words =
+    if has_any_line form (named (kept_symbols c symbols)) words then 0 else 1

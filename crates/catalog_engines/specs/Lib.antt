@@ -9,6 +9,10 @@ pub mod LogAnswers
 pub mod LogIndexes
 -- what is written for a log, and told of its listings
 pub mod Annotations
+-- why listings that are read again give no names
+pub mod NoNames
+-- what is read of a log that lasts, and of its listings
+pub mod LastingLogs
 -- what is written for a log that lasts, whose listings are read again
 pub mod Following
 -- what is written of listings that are checked

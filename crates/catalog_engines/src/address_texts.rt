@@ -8,7 +8,7 @@ ghost use Rattle.catalog_engines.specs.AddressTexts.{address_line, address_objec
 ghost use Rattle.catalog_engines.specs.AddressTexts.{asked_object, is_of, is_told, no_address};
 ghost use Rattle.catalog_engines.specs.AddressTexts.{is_within, owner_member, owner_text, symbols_text, told_address};
 ghost use Rattle.catalog_engines.specs.AddressTexts.{told_line, told_lines, untold_line, word_text};
-ghost use Rattle.catalog_engines.specs.AddressTexts.{words_text};
+ghost use Rattle.catalog_engines.specs.AddressTexts.{has_any_line, has_line, words_text};
 ghost use Rattle.catalog_engines.specs.KeptSymbols.{found_by};
 ghost use Rattle.catalog_engines.specs.NoteTexts.{line_where};
 
@@ -47,6 +47,33 @@ pub fn put_words<W: Write>(
 {
     for word in words {
         put_word(writer, form, sought, word.as_bytes());
+    }
+}
+
+/// Whether one of the words has a line.
+pub fn has_any_line(form: AddressForm, sought: &SoughtSymbols<'_, '_>, words: &[&str]) -> bool
+    ensures { result ≡ has_any_line form (λ name. unwrap_or (found_by sought.now name) [])
+        (map (λ w. w.now) words.now) }
+{
+    for word in words {
+        if has_line(form, sought, word.as_bytes()) {
+            return true;
+        }
+    }
+    false
+}
+
+/// Whether a word has a line.
+fn has_line(form: AddressForm, sought: &SoughtSymbols<'_, '_>, word: &[u8]) -> bool
+    ensures { result
+        ≡ has_line form (λ name. unwrap_or (found_by sought.now name) []) word.now }
+{
+    let asked = asked_name(word);
+    let symbols = sought.get(asked.symbol);
+    let it = AskedWord { form, word, asked };
+    match symbols {
+        Some(symbols) => is_any_told(&it, symbols),
+        None => false,
     }
 }
 

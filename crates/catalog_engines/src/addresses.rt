@@ -1,22 +1,24 @@
 //! From the bytes of listings and from names to the lines that say where the symbols are.
-ghost use Rattle.std.specs.Prelude.{map};
+ghost use Rattle.std.specs.Prelude.{◌≡◌, if◌then◌else◌, map};
 ghost use Rattle.std.specs.Option.{option_copied};
 ghost use Rattle.catalog_engines.specs.Addresses.{IsAddressed};
 ghost use Rattle.catalog_engines.specs.GivenAnswers.{AnswersGiven, AnswersListings};
 ghost use Rattle.command_io.specs.OpenedCatalogs.{known_given, listing_failures, texts_in};
 
-use crate::address_texts::{AddressForm, put_words};
+use crate::address_texts::{AddressForm, has_any_line, put_words};
 use crate::kept_symbols::symbols_sought;
-use command_io::{Fault, ListingReaders, ListingTexts, open_catalog, read_given, unless_failed};
-use listing::ListingNotes;
+use command_io::{
+    FAILED, Fault, Finished, ListingReaders, ListingTexts, SUCCEEDED, open_catalog, read_given,
+    unless_failed,
+};
 use modules::{ExpectedLookups, IndexedCatalog, KernelBounds};
 use std::alloc::Global;
 use std::io::{Read, Write};
 use texts::Output;
 
 /// Writes where the kept symbols of each name are, in the order listed, as objects of JSON or as
-/// lines of text, and returns what is noted of the listings. A name may have the module in front of
-/// it, and an offset after it.
+/// lines of text. Returns what is noted of the listings, and the status 1 if no name has a line. A
+/// name may have the module in front of it, and an offset after it.
 ///
 /// All is read, and the catalog is there, before the first byte is written; so every fault but a
 /// failed write leaves the writer as it was. docs/FORMATS.md has the names and the lines.
@@ -27,7 +29,7 @@ pub fn address_engine<M: Read, K: Read, R: Read, W: Write>(
     kernel: Option<&KernelBounds>,
     words: &[&str],
     writer: &mut Output<W>,
-) -> Result<ListingNotes, Fault>
+) -> Result<Finished, Fault>
     ensures { AnswersListings W.contents
         (IsAddressed form (option_copied kernel.entry) (map (λ w. w.now) words.now))
         (known_given M.remaining K.remaining R.remaining readers.old)
@@ -45,7 +47,7 @@ fn answer_names<W: Write>(
     kernel: Option<&KernelBounds>,
     words: &[&str],
     writer: &mut Output<W>,
-) -> Result<ListingNotes, Fault>
+) -> Result<Finished, Fault>
     ensures { AnswersGiven W.contents
         (IsAddressed form (option_copied kernel.entry) (map (λ w. w.now) words.now))
         (texts_in texts.now) writer.old writer.new result }
@@ -56,5 +58,13 @@ fn answer_names<W: Write>(
     let sought = symbols_sought(alloc, &index, &texts.kallsyms, words)?;
     put_words(writer, form, &sought, words);
     writer.flush();
-    unless_failed(writer, notes)
+    let status = status_of_found(has_any_line(form, &sought, words));
+    unless_failed(writer, Finished { status, notes })
+}
+
+/// The program's status, by whether a name has a line.
+fn status_of_found(found: bool) -> u8
+    ensures { result ≡ (if found then 0 else 1) }
+{
+    if found { SUCCEEDED } else { FAILED }
 }

@@ -107,7 +107,7 @@ fn take_line<'a>(
     let Ok(symbol) = symbol_of_line(line, tab) else {
         return Ok(());
     };
-    let Some(found) = sought.get_mut(symbol.name) else {
+    let Some(found) = sought.get_mut(symbol.name()) else {
         return Ok(());
     };
     let Some(kept) = kept_symbol(index, &symbol) else {
@@ -121,7 +121,7 @@ fn take_line<'a>(
 fn kept_symbol<'a>(index: &IndexedCatalog<'_>, symbol: &SymbolLine<'a>) -> Option<KeptSymbol<'a>>
     ensures { result ≡ kept_symbol index.now symbol.now }
 {
-    if is_mapping(symbol.name) {
+    if is_mapping(symbol.name()) {
         None
     } else {
         kept_at_its_address(index, symbol)
@@ -152,7 +152,7 @@ fn kept_in<'a>(catalog: &Catalog<'_>, symbol: &SymbolLine<'a>, item: Item) -> Op
     Some(KeptSymbol {
         addr: symbol.addr,
         end: at.addr + found.size,
-        name: symbol.name,
+        name: symbol.name(),
         owner: symbol.module,
     })
 }

@@ -75,5 +75,5 @@ fn has_symbol(symbols: &[Symbol], addr: u64, name: &[u8]) -> bool
 {
     symbols
         .iter()
-        .any(|symbol| symbol.addr == addr && symbol.name == name)
+        .any(|symbol| symbol.addr == addr && symbol.name() == name)
 }

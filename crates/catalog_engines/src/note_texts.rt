@@ -89,7 +89,7 @@ fn put_note<W: Write>(writer: &mut Output<W>, names: &KernelBounds, file: &[u8],
 }
 
 /// Writes `latchsym: note: FILE: `.
-fn put_note_head<W: Write>(writer: &mut Output<W>, file: &[u8])
+pub(crate) fn put_note_head<W: Write>(writer: &mut Output<W>, file: &[u8])
     ensures { Says W.contents writer.old writer.new (note_head file.now) }
 {
     writer.put(b"latchsym: note: ");

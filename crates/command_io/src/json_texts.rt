@@ -58,7 +58,7 @@ fn put_found_members<W: Write>(writer: &mut Output<W>, found: &FoundSymbol)
     ensures { Says W.contents writer.old writer.new (found_members found.now) }
 {
     let symbol = found.symbol;
-    put_symbol_members(writer, symbol.name, found.offset, found.size);
+    put_symbol_members(writer, symbol.name(), found.offset, found.size);
 }
 
 /// Writes a symbol, how far an address lies above it, and how far it reaches.

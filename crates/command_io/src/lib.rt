@@ -13,6 +13,7 @@ mod json;
 mod json_texts;
 mod opened_catalogs;
 mod readings;
+mod reasons;
 
 pub use fault::{
     FAILED, Fault, Finished, SUCCEEDED, all_written, noted, unless_failed, with_notes, with_status,
@@ -25,4 +26,5 @@ pub use json_texts::{
     put_offset_members, put_symbol_members,
 };
 pub use opened_catalogs::{ListingReaders, ListingTexts, open_catalog, read_given};
-pub use readings::read_at;
+pub use readings::{KALLSYMS_PLACE, MODULES_PLACE, REGIONS_PLACE, read_at};
+pub use reasons::{LONGEST_WORDS, words_of};

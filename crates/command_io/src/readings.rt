@@ -10,13 +10,13 @@ use std::io::Read;
 use texts::{Counted, ReadFault, read_whole};
 
 /// The place of the listing of modules among the files that are read.
-pub(crate) const MODULES_PLACE: u64 = 0;
+pub const MODULES_PLACE: u64 = 0;
 
 /// The place of the listing of symbols.
-pub(crate) const KALLSYMS_PLACE: u64 = 1;
+pub const KALLSYMS_PLACE: u64 = 1;
 
 /// The place of the listing of regions.
-pub(crate) const REGIONS_PLACE: u64 = 2;
+pub const REGIONS_PLACE: u64 = 2;
 
 /// Reads the file at a place of the order in which they are read, if there is one.
 pub(crate) fn read_if_given<R: Read>(

@@ -1,6 +1,5 @@
 -- Facts about truth values alone.
-use Rattle.facts.proofs.Words.{◌&&◌, ◌+◌, ◌||◌, ◌∙◌, ◌≡◌, Bool, arith, cond, false, not, refl, sym, true, ℕ, ⊎_elim, or-true, or_left}
-use Rattle.std.proofs.Common.{◌⊎◌}
+use Rattle.facts.proofs.Words.{◌&&◌, ◌+◌, ◌||◌, ◌∙◌, ◌≡◌, Bool, arith, cond, false, not, refl, sym, true, ℕ, or-true, or_left}
 
 pub or_assoc : (a b c : Bool) → (a || (b || c)) ≡ ((a || b) || c)
 or_assoc a b c = elim a as (λ v. (v || (b || c)) ≡ ((v || b) || c)) [ true ↦ refl | false ↦ refl ]

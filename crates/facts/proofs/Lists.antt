@@ -1,5 +1,5 @@
 -- Facts about lists and the places in them alone.
-use Rattle.facts.proofs.Words.{◌++◌, ◌+◌, ◌-◌, ◌<◌, ◌∙◌, ◌∷◌, ◌≡◌, ◌≤◌, List, Some, [], ap, append_assoc, arith, drop, false, get_or, inl, inr, length, map, refl, suc, sym, take, true, zero, ℕ, ⊎_elim, is_some, slice_get, slice_index_or, slice_set, onto_first, swap_remove, lt-ltb, get_or-drop, get_or_append_left, take-set, take-take, take_more, Option, None, filter_map, cons_option, filter_map-append}
+use Rattle.facts.proofs.Words.{◌++◌, ◌+◌, ◌-◌, ◌<◌, ◌∙◌, ◌∷◌, ◌≡◌, ◌≤◌, List, Some, [], ap, append_assoc, arith, drop, false, get_or, inl, inr, length, map, refl, suc, sym, take, true, zero, ℕ, ⊎_elim, slice_get, slice_index_or, slice_set, onto_first, swap_remove, lt-ltb, take-set, take-take, take_more, Option, None, filter_map, cons_option, filter_map-append}
 use Rattle.std.proofs.Common.{append-nil}
 use Rattle.std.specs.Prelude.{◌⊎◌, insert, nat_lt, remove}
 use Rattle.std.specs.Global.{Vec}

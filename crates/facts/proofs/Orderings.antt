@@ -1,5 +1,5 @@
 -- Facts about the outcomes of a comparison alone.
-use Rattle.facts.proofs.Words.{◌&&◌, ◌<◌, ◌∙◌, ◌∷◌, ◌≡◌, ◌≢◌, ◌≤◌, List, [], ap, arith, false, inl, inr, not, refl, true, ℕ, slice_cmp, is_eq, is_le, is_lt, nat_cmp, ordering_index, ordering_reverse, bytes_eq, Ordering, Equal, Greater, Less, nat_tests, nat_list_cmp_total}
+use Rattle.facts.proofs.Words.{◌&&◌, ◌<◌, ◌∙◌, ◌≡◌, ◌≢◌, ◌≤◌, List, ap, arith, false, inl, inr, not, refl, true, ℕ, slice_cmp, is_eq, is_le, is_lt, nat_cmp, ordering_index, ordering_reverse, bytes_eq, Ordering, Equal, Greater, Less, nat_tests, nat_list_cmp_total}
 use Rattle.std.specs.Prelude.{◌⊎◌}
 use Rattle.std.proofs.lemmas.Map.Text.{is_eq-slice_cmp}
 

@@ -1,8 +1,6 @@
 -- Facts about pairs of elements of lists alone: of one list, and of two side by side.
-use Rattle.facts.proofs.Words.{◌++◌, ◌+◌, ◌<◌, ◌∙◌, ◌∷◌, ◌≡◌, ◌≤◌, List, Option, Some, [], ap, arith, flat_map, get_or, inl, inr, length, length-append, refl, subst, suc, sym, take, zero, ℕ, ⊎_elim, Contains, slice_get, zip, AllPairs, range_with_len, flat_map-append, get_or-append-add, get_or_append_left, get_or_default, take_all, take_more}
+use Rattle.facts.proofs.Words.{◌++◌, ◌+◌, ◌<◌, ◌∙◌, ◌∷◌, ◌≡◌, ◌≤◌, List, Some, [], ap, arith, flat_map, get_or, inl, inr, length, length-append, refl, subst, suc, sym, take, zero, ℕ, ⊎_elim, Contains, slice_get, zip, AllPairs, range_with_len, flat_map-append, get_or-append-add, get_or_append_left, get_or_default, take_more}
 use Rattle.std.proofs.Common.{◌⊎◌}
-use Rattle.std.specs.Io.KnownBytes.{Appends}
-use Rattle.std.proofs.KnownBytes.{Appends-trans}
 use Rattle.std.proofs.lemmas.List.{append-nil}
 use Rattle.std.proofs.lemmas.List.FromFn.{get_or-range_with_len}
 use Rattle.std.proofs.lemmas.Slice.Zip.{get_or-zip, length-zip}

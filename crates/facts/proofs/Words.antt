@@ -6,7 +6,7 @@ pub use Rattle.std.proofs.lemmas.Bool.{or_left, and_parts, cases_lt, eqb-true, n
 pub use Rattle.std.proofs.lemmas.Bool.Decides.{nat_tests, leb_tells}
 pub use Rattle.std.proofs.lemmas.Cmp.{nat_cmp_total, nat_list_cmp_total}
 pub use Rattle.std.proofs.lemmas.Grind.{pow_more, flat_map-append, get_or_default_zero}
-pub use Rattle.std.proofs.lemmas.List.{get_or-drop, get_or_append_left, take-set, take-take, take_more, take-append-drop, get_or-append-add, get_or_default, take_all, get_or-map, length-map}
+pub use Rattle.std.proofs.lemmas.List.{get_or_append_left, take-set, take-take, take_more, take-append-drop, get_or-append-add, get_or_default, get_or-map, length-map}
 pub use Rattle.std.proofs.lemmas.List.Elements.{All-contains, All-from_recursion, filter_map-append, Contains-append_cases, Contains-append_left, Contains-append_right, All-cons, All-head, All-nil, All-tail}
 pub use Rattle.std.proofs.lemmas.Option.{get_or_from_slice_get, slice_get_within, slice_get-get_or}
 pub use Rattle.std.specs.Cmp.Lexicographic.{bytes_decides, pointwise, same_text, slice_cmp}

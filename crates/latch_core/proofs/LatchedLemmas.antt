@@ -1,6 +1,6 @@
 -- What a reader has loaded stands through each step of the writer, and leads to words that are
 -- kept.
-use Rattle.latch_core.proofs.Words.{◌≡◌, ℕ, suc, ◌+◌, ◌<◌, ◌≤◌, List, [], ◌∷◌, ◌++◌, length, Some, refl, sym, ◌∙◌, ap, subst, inl, inr, ⊎_elim, arith, Order, IsLawful, look, reaches_on, Store, at, InUse, words_after, generation_of, stable_copy_of, Reading, Load, Ends, Outcome, Answer, attempt, rest_after, IsAttempt, Stand, replay, Update, PendingUpdate, Latch, IsHidden, IsWriterStep, loads_of, IsKept, StandAll, IsSteady, IsLatched}
+use Rattle.latch_core.proofs.Words.{◌≡◌, ℕ, ◌+◌, ◌<◌, ◌≤◌, List, [], ◌∷◌, ◌++◌, length, Some, refl, sym, ◌∙◌, ap, subst, inl, inr, ⊎_elim, arith, Order, IsLawful, look, reaches_on, Store, at, InUse, words_after, generation_of, stable_copy_of, Reading, Load, Ends, Outcome, Answer, attempt, rest_after, IsAttempt, Stand, replay, Update, PendingUpdate, Latch, IsHidden, IsWriterStep, loads_of, IsKept, StandAll, IsSteady, IsLatched}
 use Rattle.std.proofs.Common.{◌*◌}
 use Rattle.latch_core.proofs.ReadingLemmas.{AllLoads}
 use Rattle.latch_core.proofs.SoundLemmas.{hidden_same, attempt_uses, sequence_after}

@@ -1,7 +1,7 @@
 -- Reports of the events of a run, and the commands that a world obeys so, with loads of a lookup
 -- that is held apart.
-use Rattle.latch_steps.proofs.Definitions.{◌≡◌, ℕ, ◌+◌, ◌<◌, Bool, true, false, cond, List, [], ◌∷◌, ◌++◌, length, Option, Some, None, Result, Ok, Err, refl, sym, ◌∙◌, ap, subst, arith, length-append, ◌≢◌, is_some, OnOk, get, insert, remove, Refusal, Order, capacity_of, limit_of, PendingUpdate, Latch, IsShallow, RepresentsLatch, Command, Event, Write, Read, NextLoad, Reply, Outcome, World, Repeats, ends, event_of, most_of, reads_within, AreShallow, AreReported, IsLoadBy, IsReportedRun, IsWriting, Obeys, ObeysFromAny, ObeysOnce, ReportsEvent, outcome_of, ChangesOneLookup, LoadsFrom, LoadsOn, lookup_at, IsPendingLookup, IsLookupOf, LoadsTo, LoadsNextFrom, next_load, Done, Moment, last_of, step_done, PendingLookup, AfterLoad, IsWrite, Run, machine_of, machine, counted_up, with_lookups, after_load, load_done, read_done, HasEvents, HasSequence, RepresentsMoment, layout_in, IsWorldStep, is_refused_for_memory, nat_cmp, option_map, BTreeMap, is_at, get-insert_other, get-insert_same, get-remove_other, get-remove_same, at, Lookup}
-use Rattle.latch_steps.proofs.WorldLemmas.{shown_none, shown, in_hand_at}
+use Rattle.latch_steps.proofs.Definitions.{◌≡◌, ℕ, ◌+◌, ◌<◌, Bool, true, false, cond, List, [], ◌∷◌, ◌++◌, length, Option, Some, None, Result, Ok, Err, refl, sym, ◌∙◌, ap, subst, arith, length-append, ◌≢◌, OnOk, get, insert, remove, Refusal, Order, capacity_of, limit_of, PendingUpdate, Latch, IsShallow, RepresentsLatch, Command, Event, Write, Read, NextLoad, Reply, Outcome, World, Repeats, ends, event_of, most_of, reads_within, AreShallow, AreReported, IsLoadBy, IsReportedRun, IsWriting, Obeys, ObeysFromAny, ObeysOnce, ReportsEvent, outcome_of, ChangesOneLookup, LoadsFrom, LoadsOn, lookup_at, IsPendingLookup, IsLookupOf, LoadsTo, LoadsNextFrom, next_load, Done, Moment, last_of, step_done, PendingLookup, AfterLoad, IsWrite, Run, machine_of, machine, counted_up, with_lookups, after_load, load_done, read_done, HasEvents, HasSequence, RepresentsMoment, layout_in, IsWorldStep, is_refused_for_memory, nat_cmp, option_map, BTreeMap, is_at, get-insert_other, get-insert_same, get-remove_other, get-remove_same, at, Lookup}
+use Rattle.latch_steps.proofs.WorldLemmas.{shown, in_hand_at}
 use Rattle.latch_steps.proofs.RunLemmas.{IsUnended, does, last_append, repeats_ended, repeats_full, run_append, shallow_append, shows_shallow, unended_push, reads_shallow}
 use Rattle.latch_steps.specs.declared.commands.Command.TheVariants.{Read as ReadCommand}
 use Rattle.latch_steps.specs.declared.lookups.LoadOutcome.TheVariants.{Returned as ReturnedLoad}

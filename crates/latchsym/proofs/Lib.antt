@@ -2,6 +2,8 @@
 mod Words
 -- what a parse by the program's command gives
 mod ParseLemmas
+-- what is known of a log before it is followed
+mod HeldLemmas
 -- words that are numbers, one after the other
 mod AddressLemmas
 -- options that do not go together, row after row

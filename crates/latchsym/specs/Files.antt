@@ -5,7 +5,7 @@ use Rattle.std.specs.Option.{option_map}
 use Rattle.std.specs.Str.{bytes_eq}
 use Rattle.clap.specs.Words.{Text}
 use Rattle.texts.specs.declared.counted.Counted.{Counted}
-use Rattle.texts.specs.Counted.{device_of}
+use Rattle.texts.specs.Counted.{device_of, failures_of}
 use Rattle.latchsym.specs.declared.jobs.OpenedJob.{OpenedJob}
 use Rattle.latchsym.specs.declared.jobs.OpenedJob.TheVariants as opened
 use Rattle.latchsym.specs.declared.requests.Job.{Job}
@@ -14,7 +14,9 @@ use Rattle.catalog_engines.specs.declared.sources.ListingFiles.{ListingFiles}
 use Rattle.latchsym.specs.declared.requests.Request.{Request}
 use Rattle.latchsym.specs.declared.requests.Subcommand.{Subcommand}
 use Rattle.latchsym.specs.declared.requests.Subcommand.TheVariants as sub
+use Rattle.command_io.specs.OpenedCatalogs.{given_of}
 use Rattle.command_io.specs.declared.opened_catalogs.ListingReaders.{ListingReaders}
+use Rattle.listing.specs.Opening.{Given}
 
 -- the file that is read after the listings
 abbrev pub input_of : Subcommand → Option Text
@@ -46,9 +48,14 @@ file_at job place = option_and_then (λ f. f) (slice_get (files_of job) place)
 abbrev pub Held : Type 0
 Held = Text → Option (List ℕ)
 
+-- the reader gives this, if it is known, and no call of it was made that failed
+abbrev pub IsNew : {F : Type 0} → (F → Option (List ℕ)) → Option (List ℕ) → Counted F → Type 0
+IsNew remaining text reader =
+    (remaining (device_of reader) ≡ text) × (failures_of reader ≡ 0)
+
 -- the reader gives what the file of this name holds
 abbrev pub IsOpened : {F : Type 0} → (F → Option (List ℕ)) → Held → Text → Counted F → Type 0
-IsOpened remaining held name reader = remaining (device_of reader) ≡ held name
+IsOpened remaining held name reader = IsNew remaining (held name) reader
 
 -- there is a reader if a file is named, and it gives what that file holds
 abbrev pub IsOpenedIfGiven : {F : Type 0} → (F → Option (List ℕ)) → Held
@@ -56,6 +63,17 @@ abbrev pub IsOpenedIfGiven : {F : Type 0} → (F → Option (List ℕ)) → Held
 IsOpenedIfGiven remaining held None None = Unit {0}
 IsOpenedIfGiven remaining held (Some name) (Some reader) = IsOpened remaining held name reader
 IsOpenedIfGiven remaining held _ _ = ⊥
+
+-- what the file of a listing holds, if one is named
+abbrev pub held_text : Held → Option Text → Option (Option (List ℕ))
+held_text held None = Some None
+held_text held (Some name) = option_map (λ text. Some text) (held name)
+
+-- what the files of listings hold, if that is known
+abbrev pub held_given : Held → ListingFiles → Option Given
+held_given held files =
+    given_of (held_text held (option_map (λ f. f.now) files.modules)) (held files.kallsyms.now)
+    (held_text held (option_map (λ f. f.now) files.regions))
 
 -- what the names hold of files of addresses, of scripts and of logs, of which `-` is the standard
 -- input

@@ -8,6 +8,8 @@ use Rattle.catalog_engines.specs.Addresses.{IsAddressed}
 use Rattle.catalog_engines.specs.Annotations.{AnnotatesLog}
 use Rattle.catalog_engines.specs.Checks.{IsChecked}
 use Rattle.catalog_engines.specs.Following.{FollowsLog}
+use Rattle.catalog_engines.specs.LastingLogs.{Seen}
+use Rattle.latchsym.specs.Files.{Held, held_given}
 use Rattle.catalog_engines.specs.GivenAnswers.{AnswersListings}
 use Rattle.command_io.specs.Faults.{with_notes, with_status, without_notes}
 use Rattle.listing.specs.ListingNotes.{no_notes}
@@ -61,7 +63,7 @@ IsLookedUpBy remaining contents query l l' i i' w w' result =
     (known_given remaining remaining remaining l))
     (failures_behind (listing_failures l l') (failures_in i) (failures_in i')) w w' result
 
--- a script is run by so many readers
+-- a script is run by a number of readers
 abbrev pub IsOutcomeOfRun : {R W : Type 0} → (R → Option (List ℕ)) → (W → Option (List ℕ))
     → Sources → ℕ → ListingReaders R R R → ListingReaders R R R → Option (Counted R)
     → Option (Counted R) → Output W → Output W → Result Finished Fault → Type 0
@@ -72,24 +74,37 @@ IsOutcomeOfRun remaining contents s readers l l' i i' w w' outcome =
     (failures_behind (listing_failures l l') (failures_of r) (failures_of r')) w w' outcome)
     i i' outcome
 
--- A log is followed, or annotated by the listings as they are at its beginning. Nothing is known of
--- what files give that are opened again.
-abbrev pub IsLogBy : {R W E : Type 0} → (R → Option (List ℕ)) → (W → Option (List ℕ))
+-- What is known of a log before it is followed: what it has, what the listings give that are open,
+-- and what their files hold, which are opened again. In which order all of it is read is not.
+abbrev pub seen_first : {R : Type 0} → (R → Option (List ℕ)) → Held → Sources
+    → ListingReaders R R R → Counted R → Seen
+seen_first remaining held s l r = record {
+  events = None;
+  left = remaining (device_of r);
+  next = known_given remaining remaining remaining l;
+  later = held_given held s.files;
+}
+
+-- A log is followed, or annotated by the listings as they are at its beginning.
+abbrev pub IsLogBy : {R W E : Type 0} → (R → Option (List ℕ)) → Held → (W → Option (List ℕ))
     → (E → Option (List ℕ)) → Sources → Annotate → Bool → ListingReaders R R R
     → ListingReaders R R R → Output W → Output W → Output E → Output E
     → Result Finished Fault → Counted R → Counted R → Type 0
-IsLogBy remaining contents errors s a true l l' w w' e e' outcome r r' =
-    Ends (FollowsLog contents errors s a None None w w' e e') (with_notes no_notes) outcome
-IsLogBy remaining contents errors s a false l l' w w' e e' outcome r r' =
+IsLogBy remaining held contents errors s a true l l' w w' e e' outcome r r' =
+    (after : Seen)
+    × Ends (FollowsLog contents errors s a (seen_first remaining held s l r) after w w' e e')
+    (with_notes no_notes) outcome
+IsLogBy remaining held contents errors s a false l l' w w' e e' outcome r r' =
     Ends (AnnotatesLog remaining contents errors s a (known_given remaining remaining remaining l)
     (listing_failures l l') r r' w w' e e') (with_notes no_notes) outcome
 
-abbrev pub IsOutcomeOfLog : {R W E : Type 0} → (R → Option (List ℕ)) → (W → Option (List ℕ))
+abbrev pub IsOutcomeOfLog : {R W E : Type 0} → (R → Option (List ℕ)) → Held → (W → Option (List ℕ))
     → (E → Option (List ℕ)) → Sources → Annotate → Bool → ListingReaders R R R
     → ListingReaders R R R → Option (Counted R) → Option (Counted R) → Output W → Output W
     → Output E → Output E → Result Finished Fault → Type 0
-IsOutcomeOfLog remaining contents errors s a follow l l' i i' w w' e e' outcome =
-    HoldsOfInput (IsLogBy remaining contents errors s a follow l l' w w' e e' outcome) i i' outcome
+IsOutcomeOfLog remaining held contents errors s a follow l l' i i' w w' e e' outcome =
+    HoldsOfInput (IsLogBy remaining held contents errors s a follow l l' w w' e e' outcome)
+    i i' outcome
 
 -- how addresses are looked up that are asked for over these listings
 abbrev pub query_of : Sources → Lookup → Query
@@ -99,36 +114,36 @@ query_of s l =
 -- What is asked for over listings comes to this. A lookup that succeeds has status 0; of a log or
 -- of listings that are checked nothing is left to be noted. Only an annotation says something while
 -- it is done.
-abbrev pub IsOutcomeBy : {R W E : Type 0} → (R → Option (List ℕ)) → (W → Option (List ℕ))
+abbrev pub IsOutcomeBy : {R W E : Type 0} → (R → Option (List ℕ)) → Held → (W → Option (List ℕ))
     → (E → Option (List ℕ)) → Sources → Subcommand → ListingReaders R R R → ListingReaders R R R
     → Option (Counted R) → Option (Counted R) → Output W → Output W → Output E → Output E
     → Result Finished Fault → Type 0
-IsOutcomeBy remaining contents errors s (sub.Lookup lookup) l l' i i' w w' e e' outcome =
+IsOutcomeBy remaining held contents errors s (sub.Lookup lookup) l l' i i' w w' e e' outcome =
     Ends (IsLookedUpBy remaining contents (query_of s lookup) l l' i i' w w') with_status outcome
     × (e' ≡ e)
-IsOutcomeBy remaining contents errors s (sub.Run run) l l' i i' w w' e e' outcome =
+IsOutcomeBy remaining held contents errors s (sub.Run run) l l' i i' w w' e e' outcome =
     IsOutcomeOfRun remaining contents s run.readers l l' i i' w w' outcome × (e' ≡ e)
-IsOutcomeBy remaining contents errors s (sub.Annotate a) l l' i i' w w' e e' outcome =
-    IsOutcomeOfLog remaining contents errors s a a.follow l l' i i' w w' e e' outcome
-IsOutcomeBy remaining contents errors s sub.Check l l' i i' w w' e e' outcome =
+IsOutcomeBy remaining held contents errors s (sub.Annotate a) l l' i i' w w' e e' outcome =
+    IsOutcomeOfLog remaining held contents errors s a a.follow l l' i i' w w' e e' outcome
+IsOutcomeBy remaining held contents errors s sub.Check l l' i i' w w' e e' outcome =
     Ends (AnswersListings contents (IsChecked s.kernel s.files)
     (known_given remaining remaining remaining l) (listing_failures l l') w w')
     (with_notes no_notes) outcome × (e' ≡ e)
-IsOutcomeBy remaining contents errors s (sub.Address a) l l' i i' w w' e e' outcome =
-    Ends (AnswersListings contents (IsAddressed a.form s.kernel (map (λ n. n.now) a.names.items))
-    (known_given remaining remaining remaining l) (listing_failures l l') w w') with_status outcome
+IsOutcomeBy remaining held contents errors s (sub.Address a) l l' i i' w w' e e' outcome =
+    AnswersListings contents (IsAddressed a.form s.kernel (map (λ n. n.now) a.names.items))
+    (known_given remaining remaining remaining l) (listing_failures l l') w w' outcome
     × (e' ≡ e)
 
 -- The status or the fault of a job, over what its readers had. A trace that succeeds has status 0.
-abbrev pub IsOutcome : {R W E : Type 0} → (R → Option (List ℕ)) → (W → Option (List ℕ))
+abbrev pub IsOutcome : {R W E : Type 0} → (R → Option (List ℕ)) → Held → (W → Option (List ℕ))
     → (E → Option (List ℕ)) → OpenedJob R → OpenedJob R → Output W → Output W → Output E
     → Output E → Result Finished Fault → Type 0
-IsOutcome remaining contents errors (Trace r) (Trace r') w w' e e' outcome =
+IsOutcome remaining held contents errors (Trace r) (Trace r') w w' e e' outcome =
     Ends (AnswersTrace remaining contents r r' w w') (λ x. with_status (without_notes x)) outcome
     × (e' ≡ e)
-IsOutcome remaining contents errors (Steps r) (Steps r') w w' e e' outcome =
+IsOutcome remaining held contents errors (Steps r) (Steps r') w w' e e' outcome =
     Ends (AnswersSteps remaining contents r r' w w') (λ x. with_status (without_notes x)) outcome
     × (e' ≡ e)
-IsOutcome remaining contents errors (Request q l i) (Request _ l' i') w w' e e' outcome =
-    IsOutcomeBy remaining contents errors q.now.sources q.now.subcommand l l' i i' w w' e e' outcome
-IsOutcome remaining contents errors _ _ w w' e e' outcome = ⊥
+IsOutcome remaining held contents errors (Request q l i) (Request _ l' i') w w' e e' outcome =
+    IsOutcomeBy remaining held contents errors q.now.sources q.now.subcommand l l' i i' w w' e e' outcome
+IsOutcome remaining held contents errors _ _ w w' e e' outcome = ⊥

@@ -20,7 +20,7 @@ use Rattle.latchsym.specs.declared.requests.JobFault.TheVariants.{OutOfMemory}
 use Rattle.command_io.specs.declared.fault.Fault.{Fault}
 use Rattle.command_io.specs.declared.fault.Finished.{Finished}
 
--- the error behind what a job came to, if it failed
+-- the error that made a job fail, if it did
 abbrev pub error_of_outcome : {R : Type 0} → OpenedJob R → Option Error → Result Finished Fault
     → Option Error
 error_of_outcome job written (Ok finished) = None
@@ -28,12 +28,12 @@ error_of_outcome job written (Err fault) = error_behind job written fault
 
 -- The engine of a job came to this outcome over the readers of its files, and that was told, with
 -- the status that it means.
-pub record IsDoneOver {R W E : Type 0} (remaining : R → Option (List ℕ))
+pub record IsDoneOver {R W E : Type 0} (remaining : R → Option (List ℕ)) (held : Held)
     (contents : W → Option (List ℕ)) (errors : E → Option (List ℕ)) (job : Job)
     (opened done : OpenedJob R) (w w' : Output W) (e e' : Output E) (status : ℕ) : Type 0 where
   pub told : Output E
   pub outcome : Result Finished Fault
-  pub is_done : IsOutcome remaining contents errors opened done w w' e told outcome
+  pub is_done : IsOutcome remaining held contents errors opened done w w' e told outcome
   pub is_told : IsConcluded errors job (error_of_outcome done (error_in w') outcome) told e' outcome
       status
 
@@ -44,7 +44,7 @@ abbrev pub IsJobDone : {F W E : Type 0} → (F → Option (List ℕ)) → Held �
 IsJobDone {F} {W} {E} remaining held standard contents errors job w w' e e' status =
     (opened : OpenedJob F) × (done : OpenedJob F)
     × IsOpenedFor remaining held standard job opened
-    × IsDoneOver remaining contents errors job opened done w w' e e' status
+    × IsDoneOver remaining held contents errors job opened done w w' e e' status
 
 -- What comes of a job: it is done, or memory ran out before it was begun.
 abbrev pub ComesOf : {F W E : Type 0} → (F → Option (List ℕ)) → Held → Option (List ℕ)

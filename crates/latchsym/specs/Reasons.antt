@@ -27,6 +27,11 @@ error_of_request r input place =
     else if nat_eq place 3 then error_if_given input
     else None
 
+-- the error that the reader of a listing gave last, if the fault is about it
+abbrev pub error_of_listings : {R : Type 0} → ListingReaders R R R → Fault → Option Error
+error_of_listings r (Read place) = error_of_request r None place
+error_of_listings r _ = None
+
 -- the commands that tell what the system said
 abbrev pub does_tell : Subcommand → Bool
 does_tell (sub.Annotate annotate) = true

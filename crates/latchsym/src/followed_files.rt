@@ -1,8 +1,12 @@
 //! The files of a log that lasts and of its listings.
 
-use crate::jobs::{FileSource, open_files};
-use catalog_engines::{LOG_PLACE, LastingLog, ListingFiles};
+ghost use Rattle.std.specs.Prelude.{◌≡◌};
+ghost use Rattle.command_io.specs.declared.fault.Fault.TheVariants.{Refused};
+
+use crate::jobs::{FileSource, error_of_listings, open_files};
+use catalog_engines::{LOG_PLACE, LastingLog, ListingFiles, Unlisted};
 use command_io::{Fault, ListingReaders, ListingTexts, read_given};
+use order_laws::Refusal;
 use std::alloc::Global;
 use std::io::Read;
 use texts::Counted;
@@ -29,7 +33,10 @@ impl<'f, 'a, F: FileSource> FollowedFiles<'f, 'a, F> {
         listings: &'f mut ListingReaders<F::File, F::File, F::File>,
         log: &'f mut Counted<F::File>,
     ) -> FollowedFiles<'f, 'a, F>
+        ensures files { result.files.now ≡ files.now }
         ensures names { result.names.now ≡ names.now }
+        ensures listings { result.listings.now ≡ listings.entry.now }
+        ensures log { result.log.now ≡ log.entry.now }
         ensures unread { result.is_read ≡ false }
     {
         FollowedFiles {
@@ -43,9 +50,18 @@ impl<'f, 'a, F: FileSource> FollowedFiles<'f, 'a, F> {
 }
 
 impl<'f, 'a, F: FileSource> LastingLog for FollowedFiles<'f, 'a, F> {
-    ghost use Rattle.std.specs.Prelude.{None};
+    ghost use Rattle.std.specs.Prelude.{None, if◌then◌else◌};
+    ghost use Rattle.texts.specs.Counted.{device_of};
+    ghost use Rattle.command_io.specs.OpenedCatalogs.{known_given};
+    ghost use Rattle.latchsym.specs.Files.{held_given};
 
-    ghost events = { λ _. None };
+    ghost seen = { λ s. record {
+      events = None;
+      left = F.File.remaining (device_of s.log.now);
+      next = if s.is_read then held_given (F.held s.files.now) s.names.now
+          else known_given F.File.remaining F.File.remaining F.File.remaining s.listings.now;
+      later = held_given (F.held s.files.now) s.names.now;
+    } };
 
     fn read_block(&mut self, room: &mut [u8]) -> Result<usize, Fault> {
         match self.log.read(room) {
@@ -54,11 +70,30 @@ impl<'f, 'a, F: FileSource> LastingLog for FollowedFiles<'f, 'a, F> {
         }
     }
 
-    fn read_listings(&mut self, alloc: Global) -> Result<ListingTexts, Fault> {
+    fn read_listings(&mut self, alloc: Global) -> Result<ListingTexts, Unlisted> {
         if self.is_read {
-            *self.listings = open_files(self.files, self.names)?;
+            match open_files(self.files, self.names) {
+                Ok(listings) => *self.listings = listings,
+                Err(refusal) => return Err(refused(refusal)),
+            }
         }
         self.is_read = true;
-        read_given(alloc, self.listings)
+        match read_given(alloc, self.listings) {
+            Ok(texts) => Ok(texts),
+            Err(fault) => Err(Unlisted {
+                fault,
+                error: error_of_listings(self.listings, fault),
+            }),
+        }
+    }
+}
+
+/// That listings were not opened.
+fn refused(refusal: Refusal) -> Unlisted
+    ensures { result.fault ≡ Refused refusal }
+{
+    Unlisted {
+        fault: Fault::Refused(refusal),
+        error: None,
     }
 }

@@ -2,7 +2,6 @@
 //! answers over their readers.
 ghost use Rattle.std.specs.Prelude.{◌≡◌, IfOk, IfErr, List, ℕ, None, Option, map};
 ghost use Rattle.std.specs.Option.{option_map};
-ghost use Rattle.texts.specs.Counted.{device_of};
 ghost use Rattle.texts.specs.Output.{error_in};
 ghost use Rattle.command_io.specs.Faults.{with_notes, with_status};
 ghost use Rattle.command_io.specs.OpenedCatalogs.{known_given, listing_failures};
@@ -10,12 +9,14 @@ ghost use Rattle.listing.specs.ListingNotes.{no_notes};
 ghost use Rattle.catalog_engines.specs.Addresses.{IsAddressed};
 ghost use Rattle.catalog_engines.specs.Checks.{IsChecked};
 ghost use Rattle.catalog_engines.specs.Following.{FollowsLog};
+ghost use Rattle.catalog_engines.specs.LastingLogs.{Seen};
 ghost use Rattle.catalog_engines.specs.GivenAnswers.{AnswersListings};
-ghost use Rattle.latchsym.specs.Files.{AreListingFiles, IsOpened, IsOpenedFor, IsOpenedIfGiven};
+ghost use Rattle.latchsym.specs.Files.{AreListingFiles, IsNew, IsOpened, IsOpenedFor};
+ghost use Rattle.latchsym.specs.Files.{IsOpenedIfGiven};
 ghost use Rattle.latchsym.specs.Files.{or_standard};
 ghost use Rattle.latchsym.specs.Outcomes.{Ends, IsLookedUpBy, IsOutcome, IsOutcomeBy};
-ghost use Rattle.latchsym.specs.Outcomes.{IsOutcomeOfLog, IsOutcomeOfRun, query_of};
-ghost use Rattle.latchsym.specs.Reasons.{error_if_given, error_of_request};
+ghost use Rattle.latchsym.specs.Outcomes.{IsOutcomeOfLog, IsOutcomeOfRun, query_of, seen_first};
+ghost use Rattle.latchsym.specs.Reasons.{error_if_given, error_of_listings, error_of_request};
 
 use crate::followed_files::FollowedFiles;
 use crate::requests::{Address, Job, Lookup, Request, Run, Subcommand};
@@ -53,7 +54,7 @@ pub trait FileSource {
 
     /// A reader of the standard input.
     fn standard_input(&self) -> Counted<Self::File>
-        ensures { Self.File.remaining (device_of result) ≡ standard self.now };
+        ensures { IsNew Self.File.remaining (standard self.now) result };
 }
 
 /// A job with the readers of the files that it names.
@@ -100,7 +101,7 @@ pub fn do_job<T: Threads + Wait + Sync, F: FileSource, W: Write, E: Write>(
     writer: &mut Output<W>,
     errors: &mut Output<E>,
 ) -> Result<Finished, Fault>
-    ensures { IsOutcome F.File.remaining W.contents E.contents job.old job.new
+    ensures { IsOutcome F.File.remaining (F.held files.now) W.contents E.contents job.old job.new
         writer.old writer.new errors.old errors.new result }
 {
     match job {
@@ -129,7 +130,8 @@ fn do_request<T: Threads + Wait + Sync, F: FileSource, W: Write, E: Write>(
     writer: &mut Output<W>,
     errors: &mut Output<E>,
 ) -> Result<Finished, Fault>
-    ensures { IsOutcomeBy F.File.remaining W.contents E.contents request.now.sources
+    ensures { IsOutcomeBy F.File.remaining (F.held files.now) W.contents E.contents
+        request.now.sources
         request.now.subcommand listings.old listings.new input.old input.new
         writer.old writer.new errors.old errors.new result }
 {
@@ -206,7 +208,8 @@ fn do_annotate<F: FileSource, W: Write, E: Write>(
     writer: &mut Output<W>,
     errors: &mut Output<E>,
 ) -> Result<Finished, Fault>
-    ensures { IsOutcomeOfLog F.File.remaining W.contents E.contents sources.now job.now
+    ensures { IsOutcomeOfLog F.File.remaining (F.held files.now) W.contents E.contents sources.now
+        job.now
         job.now.follow listings.old listings.new log.old log.new writer.old writer.new
         errors.old errors.new result }
 {
@@ -220,7 +223,7 @@ fn do_annotate<F: FileSource, W: Write, E: Write>(
     with_notes(done, ListingNotes::none())
 }
 
-/// Annotates a log that lasts. Nothing is known of what its files and its listings have.
+/// Annotates a log that lasts. The files of its listings are opened again.
 fn do_follow<F: FileSource, W: Write, E: Write>(
     alloc: Global,
     files: &F,
@@ -231,7 +234,8 @@ fn do_follow<F: FileSource, W: Write, E: Write>(
     writer: &mut Output<W>,
     errors: &mut Output<E>,
 ) -> Result<Finished, Fault>
-    ensures { Ends (FollowsLog W.contents E.contents sources.now job.now None None
+    ensures { (after : Seen) × Ends (FollowsLog W.contents E.contents sources.now job.now
+        (seen_first F.File.remaining (F.held files.now) sources.now listings.old log.old) after
         writer.old writer.new errors.old errors.new) (with_notes no_notes) result }
 {
     let mut log = FollowedFiles::new(files, &sources.files, listings, log);
@@ -264,21 +268,20 @@ fn do_address<R: Read, W: Write>(
     listings: &mut ListingReaders<R, R, R>,
     writer: &mut Output<W>,
 ) -> Result<Finished, Fault>
-    ensures { Ends (AnswersListings W.contents (IsAddressed address.now.form sources.now.kernel
+    ensures { AnswersListings W.contents (IsAddressed address.now.form sources.now.kernel
         (map (λ n. n.now) address.now.names.items))
         (known_given R.remaining R.remaining R.remaining listings.old)
-        (listing_failures listings.old listings.new) writer.old writer.new) with_status result }
+        (listing_failures listings.old listings.new) writer.old writer.new result }
 {
     let kernel = sources.kernel.as_ref();
-    let done = address_engine(
+    address_engine(
         alloc,
         listings,
         address.form,
         kernel,
         &address.names,
         writer,
-    );
-    with_status(done)
+    )
 }
 
 impl<R> OpenedJob<'_, '_, R> {
@@ -317,6 +320,19 @@ impl<R> OpenedJob<'_, '_, R> {
             }
             OpenedJob::Request(..) | OpenedJob::Trace(_) | OpenedJob::Steps(_) => None,
         }
+    }
+}
+
+/// The error that the reader of a listing gave last, if the fault is about it.
+pub(crate) fn error_of_listings<R>(
+    listings: &ListingReaders<R, R, R>,
+    fault: Fault,
+) -> Option<io::Error>
+    ensures { result ≡ error_of_listings listings.now fault }
+{
+    match fault {
+        Fault::Read { place } => error_of_request(listings, &None, place),
+        _ => None,
     }
 }
 

@@ -103,7 +103,8 @@ fn do_opened<T: Threads + Wait + Sync, F: FileSource, W: Write, E: Write>(
     writer: &mut Output<W>,
     errors: &mut Output<E>,
 ) -> u8
-    ensures { IsDoneOver F.File.remaining W.contents E.contents job.now opened.old opened.new
+    ensures { IsDoneOver F.File.remaining (F.held files.now) W.contents E.contents job.now
+        opened.old opened.new
         writer.old writer.new errors.old errors.new result }
 {
     let outcome = do_job(threads, alloc, files, opened, writer, errors);
@@ -111,7 +112,7 @@ fn do_opened<T: Threads + Wait + Sync, F: FileSource, W: Write, E: Write>(
     conclude(outcome, job, error, errors)
 }
 
-/// The error behind what a job came to, if it failed.
+/// The error that made a job fail, if it did.
 fn error_of_outcome<R, W>(
     job: &OpenedJob<'_, '_, R>,
     writer: &Output<W>,

@@ -12,11 +12,9 @@ ghost use Rattle.latchsym.specs.JobNotes.{notes_text};
 
 use crate::job_notes::put_job_notes;
 use crate::requests::Job;
-use arrayvec::ArrayString;
-use command_io::{FAILED, Fault, Finished};
+use command_io::{FAILED, Fault, Finished, words_of};
 use engines::put_refused;
 use listing::ListingNotes;
-use std::fmt::Write as _;
 use std::io;
 use std::io::Write;
 use texts::Output;
@@ -69,19 +67,6 @@ fn report<W: Write>(
         None => put_fault(fault, file, None, writer),
     }
     FAILED
-}
-
-/// The most bytes that are told of what the system says.
-const LONGEST_WORDS: usize = 256;
-
-/// What the system says of an error, as `No space left on device`, without its number.
-fn words_of(error: &io::Error) -> ArrayString<LONGEST_WORDS> {
-    let mut words = ArrayString::new();
-    let _ = write!(words, "{error}");
-    if let Some(end) = words.find(" (os error ") {
-        words.truncate(end);
-    }
-    words
 }
 
 /// Writes the line of a fault that came before there was a job, and returns the program's status.

@@ -1,5 +1,5 @@
 -- What a view is laid out of. Assumes nothing.
-use Rattle.latchsym_ffi.proofs.Words.{◌≡◌, ℕ, zero, suc, ◌+◌, ◌-◌, ◌<◌, ◌≤◌, Bool, false, List, [], ◌∷◌, ◌++◌, length, get_or, map, take, Some, None, sym, ap, subst, ◌∙◌, arith, append-nil, All, slice_get, slice_set, get_or-map, length-append, length-map, map-append, take_more, take_more_set, IsStrictWeakOrder, flat_map, range_with_len, option_map_or, IsNonDecreasingBy, IsPermutation, IsSortedBy, All-append, All-permutation, IsPermutation-map, flat_map-append, slice_get_some, range-append_from_zero, module_of, CatalogEntries, ModuleEntry, SymbolEntry, item_of, items_at, items_below, items_of, one_number_more, comes_before, index_entries_of, IndexEntry, comes_before_weak, entry_at, length-entries_of, rising, AreListed, AreRowsOf, entry_of_row, symbol_of_row, symbols_at, symbols_below, symbols_of, ViewSymbol}
+use Rattle.latchsym_ffi.proofs.Words.{option_map, without_letter, ◌≡◌, ℕ, zero, suc, ◌+◌, ◌-◌, ◌<◌, ◌≤◌, Bool, false, List, [], ◌∷◌, ◌++◌, length, get_or, map, take, Some, None, sym, ap, subst, ◌∙◌, arith, append-nil, All, slice_get, slice_set, get_or-map, length-append, length-map, map-append, take_more, take_more_set, IsStrictWeakOrder, flat_map, range_with_len, option_map_or, IsNonDecreasingBy, IsPermutation, IsSortedBy, All-append, All-permutation, IsPermutation-map, flat_map-append, slice_get_some, range-append_from_zero, module_of, CatalogEntries, ModuleEntry, SymbolEntry, item_of, items_at, items_below, items_of, one_number_more, comes_before, index_entries_of, IndexEntry, comes_before_weak, entry_at, length-entries_of, rising, AreListed, AreRowsOf, entry_of_row, symbol_of_row, symbols_at, symbols_below, symbols_of, ViewSymbol}
 
 -- ---- rows that are written one after the other
 
@@ -52,7 +52,7 @@ indexed_rows symbols rows sorted listed moved rises addresses are =
         sorted = sorted_shown entry_of_row comes_before sorted rises;
         listed = subst (λ es. IsPermutation es (map entry_of_row sorted)) listed.entries (IsPermutation-map entry_of_row rows sorted moved);
       };
-      named = All-permutation (λ (r : ViewSymbol). slice_get symbols r.place ≡ Some (symbol_of_row r)) rows sorted moved listed.named;
+      named = All-permutation (λ (r : ViewSymbol). option_map without_letter (slice_get symbols r.place) ≡ Some (symbol_of_row r)) rows sorted moved listed.named;
       starts = are;
     }
 

@@ -1,5 +1,5 @@
 -- What a search of a view's rows finds. Assumes nothing.
-use Rattle.latchsym_ffi.proofs.Words.{◌≡◌, ℕ, ◌-◌, ◌<◌, ◌≤◌, List, [], length, get_or, map, Option, Some, None, refl, sym, ap, subst, ◌∙◌, arith, All, Contains, IfSome, slice_get, option_map, get_or-map, get_or_default, length-map, All-contains, get_or_from_slice_get, slice_get-map, slice_get_some, address_above, symbol_below, CatalogEntries, SymbolEntry, IsSplit, IsSplitBy, regions_of, item_of_address, items_of, all_regions, region_of, IsItemSplit, IndexEntry, above_at, last_below, none_below, last_ends_below, last_found, nothing_below, Item, AreRowsOf, IsRegionRow, IsViewOf, entry_of_row, item_of_row, symbol_of_row, ViewRegion, ViewSymbol, SeenRow}
+use Rattle.latchsym_ffi.proofs.Words.{◌≡◌, ℕ, ◌-◌, ◌<◌, ◌≤◌, List, [], length, get_or, map, Option, Some, None, refl, sym, ap, subst, ◌∙◌, arith, All, Contains, IfSome, slice_get, option_map, get_or-map, get_or_default, length-map, All-contains, get_or_from_slice_get, slice_get-map, slice_get_some, address_above, symbol_below, CatalogEntries, SymbolEntry, IsSplit, IsSplitBy, regions_of, item_of_address, items_of, all_regions, region_of, IsItemSplit, IndexEntry, above_at, last_below, none_below, last_ends_below, last_found, nothing_below, Item, AreRowsOf, IsRegionRow, IsViewOf, entry_of_row, item_of_row, symbol_of_row, without_letter, known_without_letter, unwrap_or, Known, known_code, IsNamed, CatalogSymbol, ViewRegion, ViewSymbol, SeenRow}
 
 -- a split of the measures of a list is one of the list
 pub split_of_measured : {X : Type 0} (f : X → ℕ) (xs : List X) (addr place : ℕ) → IsSplitBy (λ a. a) (map f xs) addr place → IsSplitBy f xs addr place
@@ -27,6 +27,28 @@ split_of_shown f measure xs addr place parts =
           subst (λ y. addr < measure y) (sym (get_or-map f xs k x d within)) (parts.above k x le within);
     }
 
+-- ---- symbols without their letters
+
+-- the symbol whose letter was left out
+pub with_letter : (o : Option SymbolEntry) (s : SymbolEntry) → option_map without_letter o ≡ Some s → (t : SymbolEntry) × (o ≡ Some t) × (without_letter t ≡ s)
+with_letter None s is = absurd (grind (arith, is))
+with_letter (Some t) s is = (t, refl, ap (λ o. unwrap_or o s) is)
+
+pub none_without : (o : Option SymbolEntry) → option_map without_letter o ≡ None → o ≡ None
+none_without None is = refl
+none_without (Some t) is = absurd (grind (arith, is))
+
+-- what is told names no letter
+pub told_without : (c : CatalogEntries) (k : Known) (s : CatalogSymbol) → IsNamed c (known_without_letter k) s → IsNamed c k s
+told_without c None s is = is
+told_without c (Some (i, None)) s is = is
+told_without c (Some (i, Some f)) s is = record { number = is.number; offset = is.offset; size = is.size; name = is.name; owner = is.owner }
+
+pub same_code : (k : Known) → known_code (known_without_letter k) ≡ known_code k
+same_code None = refl
+same_code (Some (i, None)) = refl
+same_code (Some (i, Some f)) = refl
+
 -- ---- the rows of a module's symbols
 
 module _ (symbols : List SymbolEntry) (rows : List ViewSymbol) (addresses : List ℕ) (are : AreRowsOf symbols rows addresses) (addr split : ℕ) (parts : IsSplitBy (λ a. a) addresses addr split) where
@@ -42,17 +64,20 @@ module _ (symbols : List SymbolEntry) (rows : List ViewSymbol) (addresses : List
   pub no_row_below : split ≡ 0 → symbol_below symbols addr ≡ None
   no_row_below e = none_below symbols index are.indexed addr (subst (λ n. IsSplit index addr n) e of_index)
 
-  pub row_below : 0 < split → option_map symbol_of_row (slice_get rows (split - 1)) ≡ symbol_below symbols addr
+  pub row_below : 0 < split → option_map symbol_of_row (slice_get rows (split - 1)) ≡ option_map without_letter (symbol_below symbols addr)
   row_below some =
       let within : split - 1 < length rows = let b = of_rows.bound in omega (arith, b, some) in
       let (r, at) = slice_get_some rows (split - 1) within in
-      let none : SymbolEntry = record { addr = 0; name = [] } in
+      let none : SymbolEntry = record { addr = 0; letter = 0; name = [] } in
       let is : get_or rows (split - 1) r ≡ r = get_or_from_slice_get rows (split - 1) r r at in
       let entry : entry_of_row r ≡ get_or index (split - 1) (entry_of_row r) = sym (get_or-map entry_of_row rows (split - 1) r (entry_of_row r) within ∙ ap entry_of_row is) in
-      let named : slice_get symbols r.place ≡ Some (symbol_of_row r) = subst (λ (x : ViewSymbol). slice_get symbols x.place ≡ Some (symbol_of_row x)) is (are.named (split - 1) r within) in
+      let named : option_map without_letter (slice_get symbols r.place) ≡ Some (symbol_of_row r) =
+      subst (λ (x : ViewSymbol). option_map without_letter (slice_get symbols x.place) ≡ Some (symbol_of_row x)) is (are.named (split - 1) r within) in
+      let (s, there, bare) = with_letter (slice_get symbols r.place) (symbol_of_row r) named in
       ap (option_map symbol_of_row) at
-      ∙ ap (λ (s : SymbolEntry). Some s) (sym (get_or_from_slice_get symbols r.place (symbol_of_row r) none named))
-      ∙ sym (last_below symbols index are.indexed addr split of_index some (entry_of_row r) entry none)
+      ∙ ap (λ (x : SymbolEntry). Some x) (sym bare)
+      ∙ ap (λ (x : SymbolEntry). Some (without_letter x)) (sym (get_or_from_slice_get symbols r.place s none there))
+      ∙ sym (ap (option_map without_letter) (last_below symbols index are.indexed addr split of_index some (entry_of_row r) entry none))
 
   same_address : (o : Option ViewSymbol) → option_map (λ r. r.addr) o ≡ option_map (λ e. e.addr) (option_map entry_of_row o)
   same_address None = refl

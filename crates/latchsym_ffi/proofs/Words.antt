@@ -29,7 +29,8 @@ pub use Rattle.latch_table.specs.declared.readers.Try.TheVariants.{Answered}
 pub use Rattle.latchsym_ffi.specs.Answers.{has_number}
 pub use Rattle.latchsym_ffi.specs.Batches.{told_at, told_of}
 pub use Rattle.latchsym_ffi.specs.Enlarging.{RefusesNodes}
-pub use Rattle.latchsym_ffi.specs.Finding.{known_at, known_code}
+pub use Rattle.latchsym_ffi.specs.Finding.{Known, known_at, known_call, known_code}
+pub use Rattle.latchsym_ffi.specs.declared.finding.CatalogSymbol.{CatalogSymbol}
 pub use Rattle.latchsym_ffi.specs.Flattening.{AreListed, AreRowsBelow}
 pub use Rattle.latchsym_ffi.specs.Handles.{HoldsReader}
 pub use Rattle.latchsym_ffi.specs.Kinds.{kind_in, reader_kind}
@@ -39,7 +40,7 @@ pub use Rattle.latchsym_ffi.specs.Replacing.{RefusesReplacingAs, item_told}
 pub use Rattle.latchsym_ffi.specs.Tables.{AreOpened, first_reader}
 pub use Rattle.latchsym_ffi.specs.Updates.{item_from}
 pub use Rattle.latchsym_ffi.specs.Viewing.{AreRooms}
-pub use Rattle.latchsym_ffi.specs.Views.{AreRowsOf, IsRegionRow, IsViewOf, entry_of_row, item_of_row, shown_row, symbol_of_row, symbols_at, symbols_below, symbols_of}
+pub use Rattle.latchsym_ffi.specs.Views.{AreRowsOf, IsRegionRow, IsViewOf, entry_of_row, found_without_letter, item_of_row, known_without_letter, shown_row, symbol_of_row, symbols_at, symbols_below, symbols_of, without_letter}
 pub use Rattle.latchsym_ffi.specs.declared.answers.Answer.TheVariants.{Done}
 pub use Rattle.latchsym_ffi.specs.declared.contents.Content.{Content}
 pub use Rattle.latchsym_ffi.specs.declared.contents.Content.TheVariants.{Catalog, Follower, Reader, Writer}

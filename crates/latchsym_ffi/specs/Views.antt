@@ -9,13 +9,25 @@ use Rattle.modules.specs.Found.{Found}
 use Rattle.modules.specs.Index.{IsIndex}
 use Rattle.modules.specs.RegionIndexes.{IsIndexOf}
 use Rattle.modules.specs.declared.symbols.IndexEntry.{IndexEntry}
+use Rattle.latchsym_ffi.specs.Finding.{Known}
 use Rattle.latchsym_ffi.specs.declared.view_rows.ViewRegion.{ViewRegion}
 use Rattle.latchsym_ffi.specs.declared.view_rows.ViewSymbol.{ViewSymbol}
 use Rattle.latchsym_ffi.specs.declared.views.FoundRow.{FoundRow}
 use Rattle.latchsym_ffi.specs.declared.views.SeenRow.{SeenRow}
 
+-- a symbol without its letter, for which the rows have no column
+abbrev pub without_letter : SymbolEntry → SymbolEntry
+without_letter s = record { addr = s.addr; letter = 0; name = s.name }
+
+abbrev pub found_without_letter : Found → Found
+found_without_letter f =
+    record { symbol = without_letter f.symbol; offset = f.offset; size = f.size }
+
+abbrev pub known_without_letter : Known → Known
+known_without_letter k = option_map (λ p. (p.0, option_map found_without_letter p.1)) k
+
 abbrev pub symbol_of_row : ViewSymbol → SymbolEntry
-symbol_of_row s = record { addr = s.addr; name = s.name.now }
+symbol_of_row s = record { addr = s.addr; letter = 0; name = s.name.now }
 
 abbrev pub entry_of_row : ViewSymbol → IndexEntry
 entry_of_row s = record { addr = s.addr; place = s.place }
@@ -34,7 +46,8 @@ known_row s = (item_of_row s.region.now, option_map shown_row s.found)
 pub record AreRowsOf (symbols : List SymbolEntry) (rows : List ViewSymbol)
     (addresses : List ℕ) : Type 0 where
   pub indexed : IsIndex symbols (map entry_of_row rows)
-  pub named : All (λ r. slice_get symbols r.place ≡ Some (symbol_of_row r)) rows
+  pub named : All
+      (λ r. option_map without_letter (slice_get symbols r.place) ≡ Some (symbol_of_row r)) rows
   pub starts : addresses ≡ map (λ r. r.addr) rows
 
 -- the region is one of the module of its number, with this module's name and symbols

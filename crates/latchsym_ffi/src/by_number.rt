@@ -104,7 +104,7 @@ fn tell_symbol(catalog: &Catalog<'static>, number: u64, place: usize, out: &mut 
     };
     *out = CatalogEntry {
         addr: symbol.addr,
-        name: symbol.name,
+        name: symbol.name(),
     };
     DONE
 }
@@ -114,7 +114,7 @@ fn position_named(symbols: &[Symbol<'static>], name: &[u8]) -> Option<usize>
     ensures place { result ≡ position (λ s. bytes_eq s.name name.now) symbols.now }
     ensures within { IfSome result (λ n. n < length symbols.now) }
 {
-    symbols.iter().position(|symbol| symbol.name == name)
+    symbols.iter().position(|symbol| symbol.name() == name)
 }
 
 /// The place of the first symbol from a place on that has this name.

@@ -149,7 +149,7 @@ pub(crate) fn description_of(
     let (code, symbol, offset, size) = match found {
         Some(found) => {
             let symbol = found.symbol;
-            (DONE, symbol.name, found.offset, found.size)
+            (DONE, symbol.name(), found.offset, found.size)
         }
         None => (NO_SYMBOL, b"".as_slice(), 0, 0),
     };

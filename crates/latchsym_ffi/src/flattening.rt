@@ -52,7 +52,7 @@ fn list(symbols: &[Symbol<'static>], rows: &mut [ViewSymbol])
         rows[place] = ViewSymbol {
             addr: symbol.addr,
             place,
-            name: symbol.name,
+            name: symbol.name(),
         };
     }
 }

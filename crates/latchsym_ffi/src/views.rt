@@ -13,6 +13,8 @@ ghost use Rattle.latchsym_ffi.specs.Finding.{known_at, known_call, known_code};
 ghost use Rattle.latchsym_ffi.specs.Named.{IsNamed};
 ghost use Rattle.latchsym_ffi.specs.Views.{AreRowsOf, IsRegionRow, IsViewOf, item_of_row};
 ghost use Rattle.latchsym_ffi.specs.Views.{known_row, shown_row, symbol_of_row};
+ghost use Rattle.latchsym_ffi.specs.Views.{found_without_letter, known_without_letter};
+ghost use Rattle.latchsym_ffi.specs.Views.{without_letter};
 
 use crate::answers::{DONE, NO_SYMBOL, NOTHING};
 use crate::finding::CatalogSymbol;
@@ -84,7 +86,8 @@ fn region_at<'c, 's>(view: &CatalogView<'c, 's>, addr: u64) -> Option<&'c ViewRe
 fn around<'s>(region: &ViewRegion<'s>, addr: u64) -> (Option<&'s ViewSymbol>, Option<u64>)
     ensures below { (symbols : List SymbolEntry)
         → AreRowsOf symbols region.now.symbols.now region.now.addresses.now
-        → option_map symbol_of_row (option_copied result.0) ≡ symbol_below symbols addr }
+        → option_map symbol_of_row (option_copied result.0)
+        ≡ option_map without_letter (symbol_below symbols addr) }
     ensures above { (symbols : List SymbolEntry)
         → AreRowsOf symbols region.now.symbols.now region.now.addresses.now
         → result.1 ≡ address_above symbols addr }
@@ -104,7 +107,8 @@ fn symbol_in_rows<'s>(region: &ViewRegion<'s>, addr: u64) -> Option<FoundRow<'s>
     ensures found { (symbols : List SymbolEntry)
         → AreRowsOf symbols region.now.symbols.now region.now.addresses.now
         → option_map shown_row result
-        ≡ found_in (symbols_from symbols region.now.a region.now.b) region.now.b addr }
+        ≡ option_map found_without_letter
+        (found_in (symbols_from symbols region.now.a region.now.b) region.now.b addr) }
     ensures low { IfSome result (λ f. f.offset ≤ addr) }
 {
     let (below, above) = around(region, addr);
@@ -123,7 +127,7 @@ fn symbol_in_rows<'s>(region: &ViewRegion<'s>, addr: u64) -> Option<FoundRow<'s>
 /// The region that the address lies in, and the symbol, the offset and the size if there is one.
 pub(crate) fn seek<'c, 's>(view: &CatalogView<'c, 's>, addr: u64) -> Option<SeenRow<'c, 's>>
     ensures known { (c : CatalogEntries) → IsViewOf c view.now.regions.now
-        → option_map known_row result ≡ known_at c addr }
+        → option_map known_row result ≡ known_without_letter (known_at c addr) }
     ensures listed { IfSome result (λ s. Contains view.now.regions.now s.region.now) }
     ensures low { IfSome result (λ s. IfSome s.found (λ f. f.offset ≤ addr)) }
 {
@@ -150,7 +154,7 @@ fn farther<'s>(found: FoundRow<'s>) -> FoundRow<'s>
 /// itself.
 pub(crate) fn seek_call<'c, 's>(view: &CatalogView<'c, 's>, addr: u64) -> Option<SeenRow<'c, 's>>
     ensures known { (c : CatalogEntries) → IsViewOf c view.now.regions.now
-        → option_map known_row result ≡ known_call c addr }
+        → option_map known_row result ≡ known_without_letter (known_call c addr) }
     ensures listed { IfSome result (λ s. Contains view.now.regions.now s.region.now) }
 {
     let SeenRow { region, found } = seek(view, addr.checked_sub(1)?)?;

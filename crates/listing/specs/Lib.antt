@@ -23,3 +23,5 @@ pub mod Opening
 pub mod Tallies
 -- what a file of addresses says
 pub mod Addresses
+-- what a listing of symbols shows, and where the kernel lies by it
+pub mod KernelLines

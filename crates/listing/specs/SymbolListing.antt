@@ -31,7 +31,7 @@ bracketed text =
 abbrev pub symbol_with : Option (List ℕ) → List ℕ → ℕ → Option ListedSymbol
 symbol_with owner (letter ∷ blank ∷ first ∷ name) addr =
     if not (is_gap letter) && blank == 32
-    then Some (record { addr = addr; name = first ∷ name; owner = owner })
+    then Some (record { addr = addr; letter = letter; name = first ∷ name; owner = owner })
     else None
 symbol_with owner _ addr = None
 

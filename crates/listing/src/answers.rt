@@ -160,7 +160,7 @@ fn put_symbol<W: Write>(writer: &mut Output<W>, found: &FoundSymbol)
     ensures { Says W.contents writer.old writer.new (symbol_text found.now) }
 {
     let symbol = found.symbol;
-    writer.put(symbol.name);
+    writer.put(symbol.name());
     writer.put(b"+");
     writer.put_hexadecimal(found.offset);
     writer.put(b"/");

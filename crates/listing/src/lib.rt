@@ -6,6 +6,7 @@ mod addresses;
 mod answers;
 mod causes;
 mod gaps;
+mod kernel_lines;
 mod laws;
 mod listing_notes;
 mod looks;
@@ -20,6 +21,7 @@ pub use address_rules::{AddressRule, Callers, LogRule};
 pub use addresses::{address_of_text, read_addresses};
 pub use answers::{Answer, answer_of, farther, put_answer, sought};
 pub use causes::{Cause, Counts, each_line_is_counted_once};
+pub use kernel_lines::{kernel_base, shows_symbol, without_modules};
 pub use laws::{
     addresses_by_their_lines, each_listed_line_is_counted_once, left_out_modules_overlap,
     regions_by_their_lines,

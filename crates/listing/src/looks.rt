@@ -227,8 +227,8 @@ impl KernelSymbols {
         }
         KernelSymbols {
             any: true,
-            start: self.start || symbol.name == names.start,
-            end: self.end || symbol.name == names.end,
+            start: self.start || symbol.name() == names.start,
+            end: self.end || symbol.name() == names.end,
         }
     }
 }

@@ -159,10 +159,10 @@ fn named_symbol<'a>(text: &'a [u8], owner: Option<&'a [u8]>) -> Option<SymbolLin
 {
     let (addr, rest) = cut_address(text)?;
     match rest {
-        [letter, b' ', name @ ..] if *letter != b' ' && *letter != b'\t' && !name.is_empty() => {
+        [letter, b' ', _, ..] if *letter != b' ' && *letter != b'\t' => {
             Some(SymbolLine {
                 addr,
-                name,
+                text: rest,
                 module: owner,
             })
         }
@@ -234,7 +234,7 @@ fn put_symbol<'a>(
     ensures { OnOk result
         (lines.new ≡ lines.old ++ symbols_with with_mapping (symbol.entry ∷ [])) }
 {
-    if with_mapping || !is_mapping(symbol.name) {
+    if with_mapping || !is_mapping(symbol.name()) {
         lines.push(symbol)?;
     }
     Ok(())

@@ -1,6 +1,6 @@
 -- The words that the proofs of this crate use, of whatever crate.
 pub use Rattle.std.proofs.Common.{◌≡◌, ◌∙◌, ℕ, ◌+◌, ◌<◌, ◌≤◌, inl, inr, List, [], ◌∷◌, ◌++◌, length, length-append, arith, refl, sym, ap, subst, Ok, Err, take, append_assoc, append-nil, Bool, true, false, cond, ◌||◌, ◌==◌, get_or, true≢false, zero, suc, not, ◌&&◌, Result, ◌⊎◌, length-drop}
-pub use Rattle.std.proofs.Math.Bool.{or-false, and_assoc}
+pub use Rattle.std.proofs.Math.Bool.{or-false, or-true, and_assoc}
 pub use Rattle.std.proofs.lemmas.Bool.{eqb-true, false_from_ne_true, lt-ltb, ltb-true, and_parts, eq-eqb, or_cases, or_parts, le-ltb, lt-leb, and_right, cond_both, ne_eqb, cond-false}
 pub use Rattle.std.proofs.lemmas.List.Folds.{list_any-append, list_any_at}
 pub use Rattle.std.proofs.lemmas.List.{take_more, reverse-append, take_all, drop_more, get_or-drop, length-take, take_rest, drop-drop, get_or-take}

@@ -12,3 +12,5 @@ pub mod PlaceLemmas
 pub mod WordLemmas
 -- what a failed write leaves
 pub mod PutLemmas
+-- which of the lines that end among bytes have an address word
+pub mod UnnamedLemmas

@@ -1,10 +1,10 @@
 -- The lines that bytes are, and what is put for them.
-use Rattle.logs.proofs.Definitions.{take_all, le-ltb, or_parts, list_any-append, ◌≡◌, ◌∙◌, ℕ, ◌+◌, ◌<◌, ◌≤◌, Bool, true, false, ◌==◌, List, [], ◌∷◌, ◌++◌, length, take, get_or, length-append, refl, sym, ap, append_assoc, append-nil, arith, cond-false, true≢false, onto_first, eqb-true, lt-ltb, ltb-true, take_more, Nowhere, is_byte, Answering, AreWhole, IsLine, has_end, is_long, lines, annotated_lines, held_over, Adds, Ended, Ends, IsOpen, Passes, held_in, kept_of, put_of, Annotator, LogContext}
+use Rattle.logs.proofs.Definitions.{list_any, or-true, ◌&&◌, ◌||◌, take_all, le-ltb, or_parts, list_any-append, ◌≡◌, ◌∙◌, ℕ, ◌+◌, ◌<◌, ◌≤◌, Bool, true, false, ◌==◌, List, [], ◌∷◌, ◌++◌, length, take, get_or, length-append, refl, sym, ap, append_assoc, append-nil, arith, cond-false, true≢false, onto_first, eqb-true, lt-ltb, ltb-true, take_more, Nowhere, is_byte, Answering, AreWhole, IsLine, has_end, is_long, lines, annotated_lines, held_over, Adds, Ended, Ends, IsOpen, Passes, held_in, kept_of, put_of, Annotator, LogContext}
 use Rattle.logs.proofs.TextLemmas.{none_up_to}
 use Rattle.memchr.specs.Find.{Passes as HasByte}
 use Rattle.logs.specs.AnnotatedLogs.{annotated_line, held_behind}
 
-no_end_behind : (xs ys : List ℕ) → has_end xs ≡ false → has_end ys ≡ false → has_end (xs ++ ys) ≡ false
+pub no_end_behind : (xs ys : List ℕ) → has_end xs ≡ false → has_end ys ≡ false → has_end (xs ++ ys) ≡ false
 no_end_behind xs ys p q = rw (list_any-append (λ b. b == 10) xs ys, p) q
 
 -- ---- lines
@@ -42,6 +42,23 @@ ended_line line (front, unended, is) = rw (is, first_line front [] unended)
 
 whole_line : (line : List ℕ) → IsLine line → AreWhole line
 whole_line line (front, unended, is) = λ rest. rw (is, append_assoc front (10 ∷ []) rest, first_line front rest unended, first_line front [] unended)
+
+-- a line that is open, and the bytes that end it
+pub opened_line : (line bytes : List ℕ) → has_end line ≡ false → IsLine bytes → IsLine (line ++ bytes)
+opened_line line bytes unended (front, none, is) =
+    (line ++ front, no_end_behind line front unended none, ap (λ l. line ++ l) is ∙ sym (append_assoc line front (10 ∷ [])))
+
+-- a line, and then others
+pub line_then : (line more : List ℕ) → IsLine line → lines (line ++ more) ≡ line ∷ lines more
+line_then line more is = whole_line line is more ∙ ap (λ l. l ++ lines more) (ended_line line is)
+
+pub line_has_end : (line : List ℕ) → IsLine line → has_end line ≡ true
+line_has_end line (front, unended, is) = ap has_end is ∙ list_any-append (λ b. b == 10) front (10 ∷ []) ∙ or-true (has_end front)
+
+-- of bytes in which no line ends no line passes that has to have an end
+pub none_ended : (p : List ℕ → Bool) (bytes : List ℕ) → has_end bytes ≡ false → list_any (λ l. has_end l && p l) (lines bytes) ≡ false
+none_ended p [] unended = refl
+none_ended p (b ∷ bytes) unended = ap (list_any (λ l. has_end l && p l)) (last_line b bytes unended) ∙ ap (λ e. (e && p (b ∷ bytes)) || false) unended
 
 pub whole_then : (xs ys : List ℕ) → AreWhole xs → AreWhole ys → AreWhole (xs ++ ys)
 whole_then xs ys first second = λ rest.
@@ -137,7 +154,7 @@ module _ (answer : Answering) where
       passes line is_open =
           let (none, held, same) = each line is_open in
           let whole = line ++ bytes in
-          let is_line : IsLine whole = (line ++ front, no_end_behind line front is_open.no_end unended, rw is (sym (append_assoc line front (10 ∷ [])))) in
+          let is_line : IsLine whole = opened_line line bytes is_open.no_end (front, unended, is) in
           let alone = ended_line whole is_line in
           record {
             passed = whole;

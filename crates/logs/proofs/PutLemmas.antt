@@ -23,3 +23,22 @@ puts contents P w w' text (Err e) holds written is begun = fault_puts contents (
 
 -- what is put and flushed is written, or a beginning of it
 pub ruleset put_through = (all_delivered, part_written, then_flushed)
+
+-- a text that was not put whole, as what is made of its value is returned with it
+pub puts_as : {W X Y : Type 0} (contents : W → Option (List ℕ)) (P : X → List ℕ → Type 0) (Q : Y → List ℕ → Type 0) (w w' : Output W) (other : X → Y) → ((x : X) (text : List ℕ) → P x text → Q (other x) text) → (f : LogFault)
+    → Puts contents P w w' (Err f) → Puts contents Q w w' (Err f)
+puts_as contents P Q w w' other less fault.OutOfMemory same = same
+puts_as contents P Q w w' other less fault.Read ((text, x, part, holds), is) = ((text, other x, part, less x text holds), is)
+puts_as contents P Q w w' other less fault.Write ((text, x, part, holds), is) = ((text, other x, part, less x text holds), is)
+puts_as contents P Q w w' other less fault.Closed ((text, x, part, holds), is) = ((text, other x, part, less x text holds), is)
+puts_as contents P Q w w' other less fault.TooLong ((text, x, part, holds), is) = ((text, other x, part, less x text holds), is)
+
+-- what holds less of what is put
+pub puts_less : {W X : Type 0} (contents : W → Option (List ℕ)) (P Q : X → List ℕ → Type 0) (w w' : Output W) → ((x : X) (text : List ℕ) → P x text → Q x text) → (put : Result X LogFault) → Puts contents P w w' put → Puts contents Q w w' put
+puts_less contents P Q w w' less (Ok x) (text, written, holds) = (text, written, less x text holds)
+puts_less contents P Q w w' less (Err f) puts = puts_as contents P Q w w' (λ x. x) less f puts
+
+-- the same with one value for all
+pub puts_failed : {W X Y : Type 0} (contents : W → Option (List ℕ)) (P : X → List ℕ → Type 0) (Q : Y → List ℕ → Type 0) (w w' : Output W) (y : Y) → ((x : X) (text : List ℕ) → P x text → Q y text) → (f : LogFault)
+    → Puts contents P w w' (Err f) → Puts contents Q w w' (Err f)
+puts_failed contents P Q w w' y less f puts = puts_as contents P Q w w' (λ x. y) less f puts

@@ -14,3 +14,5 @@ pub mod LogNames
 pub mod AnnotatedLogs
 -- what was read of a log, and what was written for it
 pub mod Annotation
+-- lines that nothing names, and which lines ask for names
+pub mod Unnamed

@@ -10,19 +10,21 @@
 //! ```
 //!
 //! So each line is named as a whole, by what answers when its end comes.
-ghost use Rattle.std.specs.Prelude.{◌≡◌, ◌<◌, ◌++◌, [], false, length};
+ghost use Rattle.std.specs.Prelude.{◌≡◌, ℕ, List, ◌<◌, ◌++◌, [], false, length};
 ghost use Rattle.std.specs.Prelude.{IfErr, IfNone, IfOk, IfSome, OnErr};
 ghost use Rattle.texts.specs.Output.{Delivered, WrotePart, error_in};
 ghost use Rattle.logs.specs.Answering.{Answering};
 ghost use Rattle.logs.specs.AnnotatedLogs.{first_held};
 ghost use Rattle.logs.specs.Annotation.{Adds, Ends, IsOpen, IsWriteFault, Passes, Puts, held_in};
 ghost use Rattle.logs.specs.Lines.{IsLine, has_end};
+ghost use Rattle.logs.specs.Unnamed.{EndsUnnamed, PassesUnnamed, ends_address, has_address};
 
 use crate::annotation::LogFault;
 use crate::answers::Answers;
 use crate::contexts::LogContext;
 use crate::line::{LONGEST, put_line};
 use crate::log_names::LogNames;
+use crate::unnamed::{Unanswered, ends_address, has_address};
 use memchr::memchr;
 use std::alloc::{AllocError, Global};
 use std::io;
@@ -71,15 +73,22 @@ impl Annotator {
         put_now(writer, &out)
     }
 
+    /// The names of the log so far.
+    pub fn names(&self) -> LogNames
+        ensures { result ≡ (held_in self.now).names }
+    {
+        self.held.names
+    }
+
     /// Writes the last line, which has no end, and returns the names of the log. The writer is
     /// flushed.
     pub fn end<A: Answers, W: Write>(
-        self,
+        &self,
         alloc: Global,
         answers: &A,
         writer: &mut Output<W>,
     ) -> Result<LogNames, LogFault>
-        ensures { Puts W.contents (Ends (A.answering answers.now) self)
+        ensures { Puts W.contents (Ends (A.answering answers.now) self.now)
             writer.old writer.new result }
     {
         let mut held = self.held;
@@ -87,6 +96,84 @@ impl Annotator {
         put_line(answers, &mut held, &self.begun, &mut out)?;
         put_now(writer, &out)?;
         Ok(held.names)
+    }
+
+    /// Takes a block in, and writes each line that has its end now, which nothing names. The writer
+    /// is flushed. What the lines say for later ones is carried on, but nothing is counted of names.
+    pub fn pass_unnamed<W: Write>(
+        &mut self,
+        alloc: Global,
+        is_narrow: bool,
+        bytes: &[u8],
+        writer: &mut Output<W>,
+    ) -> Result<(), LogFault>
+        ensures { Puts W.contents (λ _. PassesUnnamed is_narrow self.old self.new bytes.now)
+            writer.old writer.new result }
+    {
+        let names = self.held.names;
+        let put = self.pass(alloc, &Unanswered { is_narrow }, bytes, writer);
+        self.held.names = names;
+        put
+    }
+
+    /// Writes the last line, which has no end and which nothing names, and returns the names of the
+    /// log. The writer is flushed.
+    pub fn end_unnamed<W: Write>(
+        &self,
+        alloc: Global,
+        is_narrow: bool,
+        writer: &mut Output<W>,
+    ) -> Result<LogNames, LogFault>
+        ensures { Puts W.contents (EndsUnnamed is_narrow self.now)
+            writer.old writer.new result }
+    {
+        self.end(alloc, &Unanswered { is_narrow }, writer)?;
+        Ok(self.held.names)
+    }
+
+    /// Whether one of the lines that have their end in a block has an address word.
+    pub fn ends_address(
+        &self,
+        alloc: Global,
+        is_narrow: bool,
+        bytes: &[u8],
+    ) -> Result<bool, AllocError>
+        ensures { IfOk result (λ b. (line : List ℕ) → IsOpen self.now line
+            → b ≡ ends_address is_narrow (line ++ bytes.now)) }
+    {
+        match cut_line(bytes) {
+            Some((line, more)) => {
+                let here = self.ends_in_address(alloc, is_narrow, line)?;
+                Ok(here || ends_address(is_narrow, more))
+            }
+            None => Ok(false),
+        }
+    }
+
+    /// Whether the open line and these bytes, which end it, have an address word.
+    fn ends_in_address(
+        &self,
+        alloc: Global,
+        is_narrow: bool,
+        line: &[u8],
+    ) -> Result<bool, AllocError>
+        ensures { IfOk result (λ b. (begun : List ℕ) → IsOpen self.now begun
+            → b ≡ has_address is_narrow (begun ++ line.now)) }
+    {
+        if self.is_long {
+            return Ok(false);
+        }
+        let mut whole = Vec::with_capacity(alloc, self.begun.len().saturating_add(line.len()))?;
+        whole.extend_from_slice(&self.begun)?;
+        whole.extend_from_slice(line)?;
+        Ok(has_address(is_narrow, &whole))
+    }
+
+    /// Whether the line that is open has an address word.
+    pub fn has_address(&self, is_narrow: bool) -> bool
+        ensures { (line : List ℕ) → IsOpen self.now line → result ≡ has_address is_narrow line }
+    {
+        !self.is_long && has_address(is_narrow, &self.begun)
     }
 
     /// Takes bytes in, and puts each line that has its end now.
@@ -162,7 +249,7 @@ impl Annotator {
 
 /// Cuts off the first line of the bytes, with its end, if it has one.
 #[tactic(auto, using(crate::proofs::LineLemmas::line_found, crate::proofs::LineLemmas::none_ends))]
-fn cut_line(bytes: &[u8]) -> Option<(&[u8], &[u8])>
+pub(crate) fn cut_line(bytes: &[u8]) -> Option<(&[u8], &[u8])>
     ensures line { IfSome result (λ r. IsLine r.0.now) }
     ensures parts { IfSome result (λ r. bytes.now ≡ r.0.now ++ r.1.now) }
     ensures shorter { IfSome result (λ r. length r.1.now < length bytes.now) }

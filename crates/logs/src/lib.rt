@@ -9,6 +9,7 @@ mod contexts;
 mod line;
 mod log_names;
 mod places;
+mod unnamed;
 mod words;
 
 pub use address_words::{AddressWord, Place};

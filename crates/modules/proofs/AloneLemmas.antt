@@ -1,6 +1,6 @@
 -- The modules of symbols alone lie apart, and have distinct names.
 use Rattle.modules.proofs.Words.{◌≡◌, ◌≢◌, ℕ, count_by, sum_by, ◌-◌, ◌^◌, ◌<◌, Bool, true, false, ◌||◌, nat_le, nat_lt, cond, List, [], ◌∷◌, ◌++◌, length, get_or, map, Option, Some, None, refl, sym, ap, subst, ◌∙◌, arith, All, filter, fold, first_so, second_so, AllPairs, flat_map, list_any, option_to_list, bytes_eq, rules, common_steps, nat_tests}
-use Rattle.modules.proofs.Lemmas.{and_parts, cases_lt, le-leb, leb-false, leb-true, ltb-true, or_cases, or_left, or_parts, get_or-map, length-map, All-append, All-contains, All-filter, All-head, All-nil, All-cons, All-push, All-tail, filter_passes, list_any_at, AllPass-from_list_all, AllPairs-cons, AllPairs-few, count_by-either, find-has, find-passes}
+use Rattle.modules.proofs.Lemmas.{and_parts, cases_lt, le-leb, leb-true, ltb-true, or_cases, or_left, get_or-map, length-map, All-append, All-contains, All-filter, All-head, All-nil, All-cons, All-push, All-tail, filter_passes, list_any_at, AllPass-from_list_all, AllPairs-cons, AllPairs-few, count_by-either, find-has, find-passes}
 use Rattle.modules.proofs.Definitions.{Accepted, catalog_with, entries_of, is_kept, names_of, HasItsRegions, IsFromSymbols, is_kept_line, owner_names, with_name, AreDistinctNames, is_built_in, lies_in, HaveFirstLines, kernel_regions, BoundNames, ListedSymbol, is_nearest_line, is_outside, module_of_address, post_below, posts, is_core, IsPlaced, PlacedModule, AreSoundModules, AreApart, holds, is_apart, lies_in_any, Core}
 use Rattle.modules.proofs.KeptOrderLemmas.{first_lines}
 use Rattle.modules.proofs.SpacedLemmas.{is_of, Range, inside, pairs_first, pairs_rest, within}

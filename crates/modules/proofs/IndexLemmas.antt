@@ -30,7 +30,7 @@ pub each_entry : (symbols : List SymbolEntry) (index : List IndexEntry) → IsIn
 each_entry symbols index is =
     All-permutation (λ (e : IndexEntry). (e.place < length symbols) × ((s : SymbolEntry) → (get_or symbols e.place s).addr ≡ e.addr)) (index_entries_of symbols) index is.listed (λ j d lt.
     let within : j < length symbols = rw (← length-entries_of symbols) lt in
-    let none : SymbolEntry = record { addr = 0; name = [] } in
+    let none : SymbolEntry = record { addr = 0; letter = 0; name = [] } in
     let place_is : (get_or (index_entries_of symbols) j d).place ≡ j = ap (λ (e : IndexEntry). e.place) (entry_at symbols 0 j j d none within (omega arith)) in
     (omega arith, λ s. ap (λ k. (get_or symbols k s).addr) place_is ∙ sym (ap (λ (e : IndexEntry). e.addr) (entry_at symbols 0 j j d s within (omega arith)))))
 
@@ -82,7 +82,7 @@ last_below symbols index is addr split parts some e at s =
 
 pub first_above : (symbols : List SymbolEntry) (index : List IndexEntry) → IsIndex symbols index → (addr split : ℕ) → IsSplit index addr split → split < length index → (e : IndexEntry) → e ≡ get_or index split e → address_above symbols addr ≡ Some e.addr
 first_above symbols index is addr split parts within e at =
-    let s : SymbolEntry = record { addr = 0; name = [] } in
+    let s : SymbolEntry = record { addr = 0; letter = 0; name = [] } in
     let own = subst (λ (x : IndexEntry). (x.place < length symbols) × ((t : SymbolEntry) → (get_or symbols x.place t).addr ≡ x.addr)) (sym at) (each_entry symbols index is split e within) in
     let its : (get_or symbols e.place s).addr ≡ e.addr = own.1 s in
     let high : addr < e.addr = subst (λ (x : IndexEntry). addr < x.addr) (sym at) (parts.above split e (omega arith) within) in

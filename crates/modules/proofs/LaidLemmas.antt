@@ -1,5 +1,5 @@
 -- The region that an address lies in, among regions that are laid.
-use Rattle.modules.proofs.Words.{◌≡◌, ℕ, ◌-◌, ◌<◌, ◌≤◌, ◌⊎◌, true, false, nat_le, List, length, get_or, Option, Some, None, ap, sym, ◌∙◌, ⊎_elim, arith, Contains, IsNonDecreasingBy, IsPartitionPoint, common_steps, nat_tests}
+use Rattle.modules.proofs.Words.{◌≡◌, ℕ, ◌-◌, ◌<◌, ◌≤◌, ◌⊎◌, List, length, get_or, Option, Some, None, ap, ⊎_elim, arith, Contains, IsNonDecreasingBy, common_steps, nat_tests}
 use Rattle.modules.proofs.Lemmas.{cases_lt, get_or_default, Contains-get_or, begins, ends, equal_inside, look_is}
 use Rattle.modules.proofs.Definitions.{Item, half_open, IsLook, IsSplitBy, look, AreLaid}
 

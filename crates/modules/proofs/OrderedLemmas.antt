@@ -5,7 +5,7 @@ use Rattle.modules.proofs.Definitions.{IsSplitBy, address_above, symbol_below, S
 use Rattle.modules.proofs.IndexLemmas.{each_entry, first_above, last_below as last_entry_below, none_above, none_below as no_entry_below, rising as index_rises}
 
 abbrev no_symbol : SymbolEntry
-no_symbol = record { addr = 0; name = [] }
+no_symbol = record { addr = 0; letter = 0; name = [] }
 
 abbrev no_entry : IndexEntry
 no_entry = record { addr = 0; place = 0 }
@@ -46,7 +46,7 @@ module _ (symbols ordered : List SymbolEntry) (is : IsOrdered symbols ordered) w
         let e : IndexEntry = get_or is.index (split - 1) no_entry in
         slice_get-get_or ordered (split - 1) no_symbol (omega (arith, as_many, within))
         ∙ ap (λ (s : SymbolEntry). Some s) (symbol_at (split - 1) no_symbol no_entry within)
-        ∙ sym (last_entry_below symbols is.index is.is addr split of_index some e (get_or_default is.index (split - 1) no_entry e within) (record { addr = e.addr; name = [] }))
+        ∙ sym (last_entry_below symbols is.index is.is addr split of_index some e (get_or_default is.index (split - 1) no_entry e within) (record { addr = e.addr; letter = 0; name = [] }))
 
     pub above_at : option_map (λ s. s.addr) (slice_get ordered split) ≡ address_above symbols addr
     above_at =

@@ -1,5 +1,5 @@
 -- The region that an address lies in, of regions that rise.
-use Rattle.modules.proofs.Words.{◌≡◌, ℕ, ◌-◌, ◌<◌, ◌≤◌, true, false, List, length, get_or, refl, sym, subst, ⊎_elim, arith, IsNonDecreasingBy, common_steps}
+use Rattle.modules.proofs.Words.{◌≡◌, ℕ, ◌-◌, ◌<◌, true, false, List, length, get_or, refl, sym, subst, ⊎_elim, arith, IsNonDecreasingBy, common_steps}
 use Rattle.modules.proofs.Lemmas.{cases_lt, le-ltb, false_from_ne_true, get_or_default, list_any_at, list_any_none}
 use Rattle.modules.proofs.Definitions.{IsSplitBy, AreRising, holds, lies_in_any}
 use Rattle.modules.proofs.SpacedLemmas.{inside}

@@ -1,5 +1,5 @@
 -- Lines that have the name of their module by their run.
-use Rattle.modules.proofs.Words.{◌≡◌, ℕ, zero, suc, ◌<◌, true, false, ◌&&◌, List, [], ◌∷◌, ◌++◌, length, map, take, drop, get_or, Some, None, Option, refl, sym, ap, ◌∙◌, arith, append_assoc, find, is_none, is_some, Bor, option_copied, option_map, option_or, bytes_eq, common_steps, nat_tests}
+use Rattle.modules.proofs.Words.{◌≡◌, ℕ, zero, suc, ◌<◌, true, false, ◌&&◌, List, [], ◌∷◌, ◌++◌, length, map, take, drop, get_or, Some, None, Option, refl, sym, ap, ◌∙◌, arith, append_assoc, find, is_none, is_some, Bor, option_copied, option_map, option_or, bytes_eq, common_steps}
 use Rattle.modules.proofs.Lemmas.{map-append, append-nil, flat_map-append, find-append, take_more}
 use Rattle.modules.proofs.Definitions.{SymbolEntry, first_address, ListedSymbol, line_of, lines_of_run, lines_of_all, Run}
 

@@ -1,5 +1,5 @@
 -- The words that the proofs of this crate use, of whatever crate.
-pub use Rattle.std.proofs.Common.{Bool, Bor, Err, List, None, Ok, OnOk, Option, Result, Some, [], add-one, ap, append-nil, append_assoc, arith, cond, drop, drop-cons, false, flat_map, get_or, inl, inr, length, length-append, map, min, nat_eq, nat_le, nat_lt, not, refl, rules, subst, suc, sym, take, true, zero, zero-add, ℕ, ⊎_elim, ◌&&◌, ◌*◌, ◌++◌, ◌+◌, ◌-◌, ◌<◌, ◌==◌, ◌^◌, ◌||◌, ◌∙◌, ◌∷◌, ◌≡◌, ◌≢◌, ◌≤◌, ◌⊎◌}
+pub use Rattle.std.proofs.Common.{Bool, Bor, Err, List, None, Ok, OnOk, Option, Result, Some, [], add-one, ap, append-nil, append_assoc, arith, cond, drop, drop-cons, false, flat_map, get_or, inl, inr, length, length-append, map, min, nat_eq, nat_le, nat_lt, not, refl, rules, subst, suc, sym, take, true, zero, zero-add, ℕ, ⊎_elim, ◌&&◌, ◌*◌, ◌++◌, ◌+◌, ◌-◌, ◌<◌, ◌^◌, ◌||◌, ◌∙◌, ◌∷◌, ◌≡◌, ◌≢◌, ◌≤◌, ◌⊎◌}
 pub use Rattle.std.proofs.lemmas.Bool.Decides.{nat_tests}
 pub use Rattle.std.proofs.lemmas.Grind.{common_steps}
 pub use Rattle.std.proofs.lemmas.List.{nil_from_length, get_or_default}
@@ -18,7 +18,7 @@ pub use Rattle.std.specs.Str.{bytes_eq}
 pub use Rattle.std.specs.Vec.Iter.{into_iter_items}
 pub use Rattle.std.specs.declared.alloc.AllocError.{AllocError}
 pub use Rattle.std.specs.declared.cmp.Ordering.{Ordering}
-pub use Rattle.std.specs.declared.cmp.Ordering.TheVariants.{Equal, Greater, Less}
+pub use Rattle.std.specs.declared.cmp.Ordering.TheVariants.{Less}
 pub use Rattle.modules.specs.Entries.{SymbolEntry}
 pub use Rattle.modules.specs.LineMarks.{AreLeft, kept_numbers, modules_numbered, symbol_marks}
 pub use Rattle.modules.specs.Loads.{same_items, item_of}

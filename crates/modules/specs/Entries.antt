@@ -2,9 +2,10 @@
 use Rattle.std.specs.Prelude.{ℕ, List, Option}
 use Rattle.modules.specs.declared.lines.Part.{Part}
 
--- an address, and its name
+-- an address, the letter of its kind, and its name
 pub record SymbolEntry : Type 0 where
   pub addr : ℕ
+  pub letter : ℕ
   pub name : List ℕ
 
 -- a module's name, its regions in their order, the part that each of them is, and its symbols in

@@ -57,7 +57,8 @@ pub record IsFirstBorder {A : Type 0} (measure : A → ℕ) (xs : List A) (addr 
 
 -- the symbol that an entry of their index stands for
 abbrev pub symbol_of_entry : List SymbolEntry → IndexEntry → SymbolEntry
-symbol_of_entry symbols e = slice_index_or symbols e.place (record { addr = e.addr; name = [] })
+symbol_of_entry symbols e =
+    slice_index_or symbols e.place (record { addr = e.addr; letter = 0; name = [] })
 
 -- the symbols in the order of their index
 pub record IsOrdered (symbols ordered : List SymbolEntry) : Type 0 where

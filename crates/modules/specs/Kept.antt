@@ -13,9 +13,9 @@ use Rattle.modules.specs.Regions.{holds, lies_in_any}
 abbrev pub AreDistinctNames : List (List ℕ) → Type 0
 AreDistinctNames names = AllPairs (λ x y. x ≢ y) names
 
--- the symbol's address and name
+-- the symbol alone, without its module
 abbrev pub entry_of : ListedSymbol → SymbolEntry
-entry_of s = record { addr = s.addr; name = s.name }
+entry_of s = record { addr = s.addr; letter = s.letter; name = s.name }
 
 -- a symbol without a module that lies in a region of the kernel itself
 abbrev pub is_built_in : List (ℕ × ℕ) → ListedSymbol → Bool

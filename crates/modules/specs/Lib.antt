@@ -1,6 +1,8 @@
 -- The definitions of this crate, in the order in which to read them.
 -- what the lines of the listings say
 pub mod Listed
+-- what a listing says of a symbol after its address
+pub mod SymbolTexts
 -- the parts of a module
 pub mod Parts
 -- what the lines of the listings stand for

@@ -16,9 +16,10 @@ pub record ListedRegion : Type 0 where
   pub base : ℕ
   pub size : ℕ
 
--- an address, its name, and the name of its module, if it has one
+-- an address, the letter of its kind, its name, and the name of its module, if it has one
 pub record ListedSymbol : Type 0 where
   pub addr : ℕ
+  pub letter : ℕ
   pub name : List ℕ
   pub owner : Option (List ℕ)
 

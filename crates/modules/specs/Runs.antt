@@ -7,7 +7,8 @@ use Rattle.modules.specs.declared.symbol_lines.Run.{Run}
 
 -- the line of a symbol of this module, or of the kernel itself
 abbrev pub line_of : Option (List ℕ) → SymbolEntry → ListedSymbol
-line_of owner s = record { addr = s.addr; name = s.name; owner = owner }
+line_of owner s =
+    record { addr = s.addr; letter = s.letter; name = s.name; owner = owner }
 
 -- the lines of a run
 abbrev pub lines_of_run : Run → List ListedSymbol

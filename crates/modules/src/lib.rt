@@ -27,6 +27,7 @@ pub mod region_index;
 mod regions;
 pub mod symbol_lines;
 pub mod symbol_names;
+mod symbol_texts;
 pub mod symbols;
 
 pub use catalog::{ABSENT_MODULE, BuildCounts, Catalog, Held};

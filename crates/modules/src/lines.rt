@@ -6,6 +6,7 @@ ghost use Rattle.modules.specs.Lines.{is_region, start_bounds, text_bounds, usua
 ghost use Rattle.modules.specs.Parts.{is_core, is_init, is_of};
 
 use crate::regions::Region;
+use crate::symbol_texts::name_in;
 use std::marker::Model;
 
 /// Whether there is a region of `size` bytes at `base`: at least one byte, not at 0, and
@@ -131,8 +132,8 @@ impl<'a> RegionLine<'a> {
 pub struct SymbolLine<'a> {
     /// The symbol's address.
     pub addr: u64,
-    /// The symbol's name, any bytes of the text that was read.
-    pub name: &'a [u8],
+    /// What the listing says of the symbol after its address: a letter, a blank, and the name.
+    pub text: &'a [u8],
     /// The name of its module; none for a symbol of the kernel itself.
     pub module: Option<&'a [u8]>,
 }
@@ -141,14 +142,26 @@ impl<'a> Model for SymbolLine<'a> {
     ghost use Rattle.std.specs.Prelude.{Option};
     ghost use Rattle.std.specs.Option.{option_copied};
     ghost use Rattle.modules.specs.Listed.{ListedSymbol};
+    ghost use Rattle.modules.specs.SymbolTexts.{letter_in, name_in};
 
     ghost Value = { ListedSymbol };
 
     ghost view = { λ l. record {
       addr = l.addr;
-      name = l.name.now;
+      letter = letter_in l.text.now;
+      name = name_in l.text.now;
       owner = option_copied l.module;
     } };
+}
+
+impl<'a> SymbolLine<'a> {
+    /// The symbol's name, any bytes.
+    #[inline(always)]
+    pub fn name(&self) -> &'a [u8]
+        ensures { result.now ≡ self.now.name }
+    {
+        name_in(self.text)
+    }
 }
 
 /// The names of the two symbols that bound a region of the kernel itself.

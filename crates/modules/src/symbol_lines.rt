@@ -28,7 +28,7 @@ use std::mem;
 pub(crate) struct Run<'a> {
     /// The name of the module; none for the kernel itself.
     pub(crate) module: Option<&'a [u8]>,
-    /// The address and the name of each line.
+    /// The symbol of each line.
     pub(crate) symbols: Vec<Symbol<'a>>,
 }
 
@@ -85,7 +85,7 @@ fn first_named(symbols: &[Symbol], name: &[u8]) -> Option<u64>
 {
     symbols
         .iter()
-        .find(|symbol| symbol.name == name)
+        .find(|symbol| symbol.name() == name)
         .map(|symbol| symbol.addr)
 }
 
@@ -147,7 +147,7 @@ impl<'a> SymbolLines<'a> {
         };
         let symbol = Symbol {
             addr: line.addr,
-            name: line.name,
+            text: line.text,
         };
         put_line(&mut self.runs, &mut self.last, line.module, symbol)?;
         self.count = count;

@@ -72,7 +72,7 @@ fn push_symbols<'a>(
     for place in 0..symbols.len() {
         let symbol = &symbols[place];
         names.push(NamedSymbol {
-            name: symbol.name,
+            name: symbol.name(),
             number,
             place,
         })?;

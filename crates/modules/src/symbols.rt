@@ -26,24 +26,49 @@ ghost use Rattle.modules.specs.Index.{IsOrdered, symbol_of_entry};
 
 use crate::buckets::{Addressed, Buckets, address_at, is_first, split_at};
 use crate::presort::presort;
+use crate::symbol_texts::{letter_in, name_in};
 use std::alloc::{AllocError, Global};
 use std::marker::Model;
 
-/// An address that has a name.
+/// An address that has a name. Its letter and its name are kept as one part of the listing, so that
+/// the letter takes no memory of its own.
 #[derive(Debug, Drop)]
 pub struct Symbol<'a> {
     /// Where the symbol begins.
     pub addr: u64,
-    /// Any bytes.
-    pub name: &'a [u8],
+    /// What the listing says of the symbol after its address: a letter, a blank, and the name.
+    pub(crate) text: &'a [u8],
 }
 
 impl<'a> Model for Symbol<'a> {
     ghost use Rattle.modules.specs.Entries.{SymbolEntry};
+    ghost use Rattle.modules.specs.SymbolTexts.{letter_in, name_in};
 
     ghost Value = { SymbolEntry };
 
-    ghost view = { λ s. record { addr = s.addr; name = s.name.now } };
+    ghost view = { λ s. record {
+      addr = s.addr;
+      letter = letter_in s.text.now;
+      name = name_in s.text.now;
+    } };
+}
+
+impl<'a> Symbol<'a> {
+    /// The letter of its kind, as nm and /proc/kallsyms write it.
+    #[inline(always)]
+    pub fn letter(&self) -> u8
+        ensures { result ≡ self.now.letter }
+    {
+        letter_in(self.text)
+    }
+
+    /// Its name, any bytes.
+    #[inline(always)]
+    pub fn name(&self) -> &'a [u8]
+        ensures { result.now ≡ self.now.name }
+    {
+        name_in(self.text)
+    }
 }
 
 impl<'a> Addressed for Symbol<'a> {
@@ -105,7 +130,7 @@ fn copy_of<'a>(symbols: &[Symbol<'a>], entry: &IndexEntry) -> Symbol<'a>
     let symbol = &symbols[entry.place];
     Symbol {
         addr: symbol.addr,
-        name: symbol.name,
+        text: symbol.text,
     }
 }
 

@@ -1,6 +1,5 @@
 -- Where items stand in a table.
-use Rattle.order_laws.proofs.Words.{◌≡◌, ◌≢◌, ℕ, suc, ◌<◌, ◌≤◌, true, false, cond, List, [], ◌∷◌, length, refl, sym, ◌∙◌, ap, subst, arith, not, ◌||◌, ◌==◌, insert, remove, slice_get, AllByRecursion, eqb-true, ne_eqb, Item, Order, Precedes, IsLawful, IsTable, with_item, without, without_all, place_for, place_of, has}
-use Rattle.std.specs.Prelude.{Some}
+use Rattle.order_laws.proofs.Words.{◌≡◌, ◌≢◌, ℕ, suc, ◌≤◌, true, false, cond, List, [], ◌∷◌, length, refl, sym, ◌∙◌, ap, arith, not, ◌||◌, ◌==◌, insert, remove, AllByRecursion, eqb-true, ne_eqb, Item, Order, Precedes, IsLawful, IsTable, with_item, without, without_all, place_for, place_of, has}
 use Rattle.facts.proofs.Numbers.{eqb-flip}
 
 -- a table with one item more has it at its place

@@ -2,7 +2,7 @@
 pub use Rattle.std.proofs.Common.{◌≡◌, ℕ, false, List, [], ◌∷◌, ◌++◌, refl, sym, ap, subst, ⊎_elim, arith, ◌<◌, ◌≤◌, None, Option, true, ◌∙◌, cond, get_or, ◌≢◌, suc, length, inl, inr, ◌+◌, drop}
 pub use Rattle.std.proofs.lemmas.Bool.{ne_eqb, eqb-true, eq-eqb, cases_eq, or_parts}
 pub use Rattle.std.specs.List.{AllByRecursion, list_any}
-pub use Rattle.std.specs.Prelude.{◌==◌, ◌||◌, Contains, IfSome, not, ◌&&◌, insert, remove, slice_get, ◌⊎◌, ◌↔◌, filter}
+pub use Rattle.std.specs.Prelude.{◌==◌, ◌||◌, Contains, IfSome, not, ◌&&◌, insert, remove, ◌⊎◌, ◌↔◌, filter}
 pub use Rattle.std.specs.declared.cmp.Ordering.TheVariants.{Equal, Less, Greater}
 pub use Rattle.facts.proofs.Each.{all_at, all_right, all_filtered, all_left, all_weaker}
 pub use Rattle.facts.proofs.Members.{Contains-cons_cases, Contains-head, Contains-none, Contains-one, Contains-rest}

@@ -31,7 +31,7 @@ pub use Rattle.rb_trees.proofs.TurnLemmas.{moved_one, not_moved, relink_moved, r
 pub use Rattle.rb_trees.specs.Erased.{filled, fill_links, lowered, record_found_at, found, first_word_at}
 pub use Rattle.rb_trees.specs.Found.{items_of_records, meets_on_the_way}
 pub use Rattle.rb_trees.specs.Linked.{Lead}
-pub use Rattle.rb_trees.specs.Paths.{Above, joined, plugged, way_by, past_left, past_right, place_at, place_from, way_at, way_from, leaf_lies, apart_lies, first_place, first_way}
+pub use Rattle.rb_trees.specs.Paths.{Above, joined, plugged, way_by, past_left, past_right, place_at, place_from, way_at, leaf_lies, apart_lies, first_place, first_way}
 pub use Rattle.rb_trees.specs.Replaced.{Lost, Replaced, Nothing, Sound}
 pub use Rattle.rb_trees.specs.Sides.{sided, set_link, opposite}
 pub use Rattle.rb_trees.specs.Trees.{ColouredTree, tip, branch, shape, is_red, blackened, rows, HasNoClash, IsRedBlack, depth, coloured}

@@ -1,11 +1,11 @@
 -- The words that the proofs of this crate use, of whatever crate.
 pub use Rattle.std.proofs.Common.{Bool, ◌≡◌, ℕ, zero, suc, true, false, refl, ◌+◌, ◌*◌, ◌≤◌, ◌^◌, sym, subst, arith, length, ◌<◌, cond, List, [], ◌∷◌, ◌++◌, length-append, ◌∙◌, ap, inl, inr, append_assoc, append-nil, map, ⊎_elim, Some, ◌≢◌, length-set, Option, None}
 pub use Rattle.std.proofs.Math.Bool.{or-false, or-true}
-pub use Rattle.std.proofs.lemmas.Bool.{eq-eqb, eqb-true, or_cases, or_left, or_right, ne_eqb, ltb-true, ltb-false}
+pub use Rattle.std.proofs.lemmas.Bool.{eq-eqb, eqb-true, ne_eqb, ltb-true, ltb-false}
 pub use Rattle.std.proofs.lemmas.List.{map-append, length-map}
 pub use Rattle.std.proofs.lemmas.List.Elements.{Contains-append_left, Contains-append_right, Contains-append_cases}
 pub use Rattle.std.specs.List.{AllByRecursion, list_any}
-pub use Rattle.std.specs.Prelude.{not, ◌==◌, Contains, slice_set, ◌||◌, ◌↔◌, ◌&&◌, max, insert, remove, slice_get, ◌⊎◌, nat_lt, is_some}
+pub use Rattle.std.specs.Prelude.{not, ◌==◌, Contains, slice_set, ◌||◌, ◌&&◌, max, insert, remove, slice_get, ◌⊎◌, nat_lt, is_some}
 pub use Rattle.std.specs.declared.cmp.Ordering.{Ordering}
 pub use Rattle.std.specs.declared.cmp.Ordering.TheVariants.{Less, Equal, Greater}
 pub use Rattle.facts.proofs.Each.{all_append, all_left, all_right, all_weaker, all_at}

@@ -1,5 +1,5 @@
 -- What histories of updates, and updates that insert alone, leave in a table.
-use Rattle.table_updates.proofs.Words.{◌++◌, ◌+◌, ◌<◌, ◌∙◌, ◌∷◌, ◌≡◌, ◌≤◌, Bool, List, None, [], ap, arith, false, flat_map, get_or, inl, inr, length, length-append, refl, subst, sym, true, ℕ, ⊎_elim, ◌==◌, ◌||◌, ◌⊎◌, Contains, nat_lt, not, lt-ltb, replay, after, erased, first_that_holds, inserted, refusal_for, some_invalid, some_meet, with_items, none_meets, Order, half_open, meets, with_item, without_all, Item}
+use Rattle.table_updates.proofs.Words.{◌+◌, ◌<◌, ◌∙◌, ◌∷◌, ◌≡◌, ◌≤◌, Bool, List, None, [], ap, arith, false, flat_map, get_or, inl, inr, length, length-append, refl, subst, sym, true, ℕ, ⊎_elim, ◌==◌, ◌||◌, ◌⊎◌, Contains, nat_lt, not, lt-ltb, replay, after, erased, first_that_holds, inserted, refusal_for, some_invalid, some_meet, with_items, none_meets, Order, half_open, meets, with_item, without_all, Item}
 use Rattle.std.proofs.lemmas.Bool.Decides.{nat_tests}
 use Rattle.std.proofs.lemmas.List.Elements.{Contains-append_cases, Contains-append_left, Contains-append_right, Contains-get_or}
 use Rattle.std.proofs.lemmas.List.Folds.{list_any_none}

@@ -1,5 +1,5 @@
 -- Texts that are said one after the other.
-use Rattle.texts.proofs.Words.{◌≡◌, ◌∙◌, ℕ, List, [], ◌∷◌, ◌++◌, Option, Bool, true, false, refl, sym, ap, subst, append_assoc, append-nil, take, drop, length, ◌+◌, ◌-◌, ◌<◌, ◌≤◌, ◌⊎◌, flat_map, get_or, None, Some, take-append-drop, le_of_eq, arith, flat_map-append, take-append-add, take-append_seam, take_all, take_more, take-take, zip, Appends, Keeps, append_known, Appends-nil, Appends-trans, Keeps-refl, append_known-grown, append_known-moved, append_known-passed, error_kept, writer_in, Output, Awaits, Says, Delivered, Delivers, WrotePart, contents_of, error_in, has_failed, kept_back, writer_of}
+use Rattle.texts.proofs.Words.{◌≡◌, ◌∙◌, ℕ, List, [], ◌∷◌, ◌++◌, Option, Bool, true, false, refl, sym, ap, subst, append_assoc, append-nil, take, drop, length, ◌+◌, ◌-◌, ◌<◌, ◌≤◌, ◌⊎◌, flat_map, get_or, take-append-drop, le_of_eq, arith, flat_map-append, take-append-add, take-append_seam, take_all, take_more, take-take, zip, Appends, Keeps, append_known, Appends-nil, Appends-trans, Keeps-refl, append_known-grown, append_known-passed, error_kept, writer_in, Output, Awaits, Says, Delivered, Delivers, WrotePart, contents_of, error_in, has_failed, kept_back, writer_of}
 use Rattle.facts.proofs.Pairs.{flat_map-zip_more, zip-past}
 
 -- where nothing failed, what the writer took was said

@@ -1,6 +1,5 @@
 -- Entries that lines say one after another.
-use Rattle.texts.proofs.Words.{◌≡◌, ℕ, List, [], ◌∷◌, ◌++◌, Result, Ok, Err, refl, sym, ◌∙◌, ap, append_assoc, append-nil, LineFault, FaultsInGrammar, entries_after}
-use Rattle.texts.specs.declared.faults.LineFault.TheVariants as line
+use Rattle.texts.proofs.Words.{◌≡◌, ℕ, List, [], ◌∷◌, ◌++◌, Result, Ok, Err, refl, sym, ◌∙◌, ap, append_assoc, append-nil, entries_after}
 
 module _ {T : Type 0} where
   pub none_before : (said : Result (List T) ℕ) → entries_after [] said ≡ said

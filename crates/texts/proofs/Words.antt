@@ -1,6 +1,6 @@
 -- The words that the proofs of this crate use, of whatever crate.
 pub use Rattle.std.proofs.Common.{◌≡◌, ℕ, zero, suc, ◌+◌, ◌<◌, Bool, true, List, [], ◌∷◌, length, get_or, ap, ◌∙◌, arith, ◌&&◌, ◌==◌, Option, Some, None, false, refl, subst, append-nil, if◌then◌else◌, ◌-◌, ◌*◌, ◌/◌, ◌%◌, ◌^◌, ◌≤◌, cond, drop, set, sym, Bor, take, ◌++◌, length-append, drop-cons, append_assoc, ◌⊎◌, flat_map, take-append-drop, le_of_eq, Result, Ok, Err, IfSome, ◌≢◌, MatchResult, All, rules, drop_of_length-le, vec_len, map, nat_lt}
-pub use Rattle.std.proofs.KnownBytes.{Appends-nil, Appends-trans, Keeps-refl, append_known-grown, append_known-moved, append_known-passed}
+pub use Rattle.std.proofs.KnownBytes.{Appends-nil, Appends-trans, Keeps-refl, append_known-grown, append_known-passed}
 pub use Rattle.std.proofs.Math.Seq.{take-append-add, take-append_seam, take-add}
 pub use Rattle.std.proofs.lemmas.Bool.{and_parts, eqb-true, false_from_ne_true, lt-ltb}
 pub use Rattle.std.proofs.lemmas.Grind.{common_steps, flat_map-append}

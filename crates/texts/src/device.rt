@@ -1,11 +1,12 @@
-//! The calls of a writer, each of which tells what it came to.
+//! A writer whose calls return success or failure, and which keeps the failure.
 //!
 //! Whatever else is said to fail, or not to, rests on the three calls by themselves: `write` and
 //! `flush` here, and `read` of [`crate::Counted`]. A clause can say what becomes of the answer of
-//! such a call, but not that the answer is what the writer or the reader itself gave.
-ghost use Rattle.std.specs.Prelude.{◌≡◌, ◌<◌, ◌≤◌, None, Some, false, true, length, take, is_ok};
+//! such a call, but not that the answer is what the writer or the reader itself gave. So nothing
+//! else stands in this file, whose functions alone can say that a call failed.
+ghost use Rattle.std.specs.Prelude.{◌≡◌, ◌<◌, None, Some, false, true, length, is_ok};
 ghost use Rattle.std.specs.Io.{WritesAtMost};
-ghost use Rattle.std.specs.Io.KnownBytes.{Appends, Keeps, WriteAppends};
+ghost use Rattle.std.specs.Io.KnownBytes.{Keeps, WriteAppends};
 
 use std::io;
 use std::io::Write;
@@ -88,26 +89,6 @@ impl<W: Write> Device<W> {
             Err(error) => self.note(*error),
         }
         result
-    }
-
-    /// Calls the writer until it has taken all of these bytes or a call failed, and returns how many
-    /// it took.
-    pub fn write_all(&mut self, bytes: &[u8]) -> usize
-        requires sound { is_broken self.old ≡ false }
-        ensures bound { result ≤ length bytes.now }
-        ensures taken { Appends (W.contents (writer_in self.old))
-            (W.contents (writer_in self.new)) (take result bytes.now) }
-        ensures all { is_broken self.new ≡ false → result ≡ length bytes.now }
-        ensures error { is_broken self.new ≡ false → error_kept self.new ≡ error_kept self.old }
-    {
-        let mut taken = 0;
-        while taken < bytes.len() {
-            match self.write(&bytes[taken..]) {
-                Ok(more) if more > 0 => taken += more,
-                _ => return taken,
-            }
-        }
-        taken
     }
 
     /// Lets the writer keep nothing back, by one call, and returns what it answered.

@@ -1,5 +1,5 @@
-//! Text that goes to a writer, by blocks, until a call of it fails. What is said after that goes
-//! nowhere, so who says it need not ask, and what was written is a beginning of what was said:
+//! Text that goes to a writer, by blocks, until a call of it fails. After the first failure text is
+//! dropped, so callers need not check, and what was written is a beginning of what was said:
 //!
 //! ```text
 //!     said         0x2000 do_one+0x8/0x1f00⏎ 0x2008 do_one+0x10/0x1f00⏎ ..
@@ -11,7 +11,9 @@
 //!
 //! It takes no memory after it was opened.
 ghost use Rattle.std.specs.Prelude.{◌≡◌, ◌+◌, ◌≤◌, ◌++◌, [], IfOk, IfSome, IsTrue, decimal};
-ghost use Rattle.std.specs.Prelude.{drop, false, length, vec_capacity, vec_len};
+ghost use Rattle.std.specs.Prelude.{drop, false, length, take, vec_capacity, vec_len};
+ghost use Rattle.std.specs.Io.KnownBytes.{Appends};
+ghost use Rattle.texts.specs.Device.{error_kept, is_broken, writer_in};
 ghost use Rattle.texts.specs.Exact.{hexadecimal};
 
 use crate::device::Device;
@@ -120,7 +122,7 @@ impl<W: Write> Output<W> {
         if bytes.len() < self.kept.capacity() {
             append(&mut self.kept, bytes);
         } else {
-            self.device.write_all(bytes);
+            write_all(&mut self.device, bytes);
         }
     }
 
@@ -132,7 +134,7 @@ impl<W: Write> Output<W> {
         if self.has_failed() {
             return;
         }
-        let taken = self.device.write_all(self.kept.as_slice());
+        let taken = write_all(&mut self.device, self.kept.as_slice());
         remove_front(&mut self.kept, taken);
     }
 
@@ -184,6 +186,26 @@ impl<W: Write> Output<W> {
             self.put_through(&digits[start..MOST_DIGITS]);
         }
     }
+}
+
+/// Calls the writer until it has taken all of these bytes or a call failed, and returns how many it
+/// took. It stands apart from the device, so that no failure can be said here but by a call.
+fn write_all<W: Write>(device: &mut Device<W>, bytes: &[u8]) -> usize
+    requires sound { is_broken device.old ≡ false }
+    ensures bound { result ≤ length bytes.now }
+    ensures taken { Appends (W.contents (writer_in device.old))
+        (W.contents (writer_in device.new)) (take result bytes.now) }
+    ensures all { is_broken device.new ≡ false → result ≡ length bytes.now }
+    ensures error { is_broken device.new ≡ false → error_kept device.new ≡ error_kept device.old }
+{
+    let mut taken = 0;
+    while taken < bytes.len() {
+        match device.write(&bytes[taken..]) {
+            Ok(more) if more > 0 => taken += more,
+            _ => return taken,
+        }
+    }
+    taken
 }
 
 /// The most digits of a decimal number.

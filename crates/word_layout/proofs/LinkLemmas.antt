@@ -1,8 +1,7 @@
 -- Where link words lie, and what stores of links leave as it was.
-use Rattle.word_layout.proofs.Words.{◌+◌, ◌<◌, ◌∙◌, ◌≡◌, ◌≢◌, ◌≤◌, List, arith, inl, inr, refl, ℕ, All, AllByRecursion, All-from_recursion, all_weaker, AreLinkStores, IsItemWord, IsLinkWord, words_after_all, InUse, Reaches, a_word, at, b_word, by_left, by_right, by_root, item_at, left_word, right_word, root_word, tag_word, words_for, Store, ◌-◌, ◌++◌, length, length-drop, get_or, drop, subst}
+use Rattle.word_layout.proofs.Words.{◌+◌, ◌<◌, ◌∙◌, ◌≡◌, ◌≢◌, ◌≤◌, List, arith, inl, inr, refl, ℕ, All, AllByRecursion, All-from_recursion, all_weaker, AreLinkStores, IsItemWord, IsLinkWord, words_after_all, InUse, Reaches, a_word, at, b_word, by_left, by_right, by_root, item_at, left_word, right_word, root_word, tag_word, words_for, Store, ◌-◌}
 use Rattle.word_layout.proofs.StoreLemmas.{Agree, untouched}
 use Rattle.word_layout.proofs.WordLemmas.{IsCopyWord, in_copy, link_no_item, link_no_other, link_place}
-use Rattle.word_layout.specs.Limits.{most_nodes}
 
 pub left_in : (n c i : ℕ) → c ≤ 1 → i < n → left_word c i < words_for n
 left_in n c i small lt = omega arith

@@ -1,8 +1,6 @@
 -- A walk comes to the nodes of the tree and to no others.
-use Rattle.word_layout.proofs.Words.{◌≡◌, ℕ, suc, ◌<◌, ◌≤◌, List, ◌∷◌, sym, ◌∙◌, subst, inl, inr, ⊎_elim, arith, ◌⊎◌, Contains, AllByRecursion, Contains-append_left, Contains-append_right, Contains-append_cases, all_append, at, root_word, left_word, right_word, Nodes, none, fork, listed, Leads, Reaches, by_root, by_left, by_right, IsItemWord}
+use Rattle.word_layout.proofs.Words.{◌≡◌, ℕ, suc, ◌<◌, List, ◌∷◌, sym, ◌∙◌, subst, inl, inr, ⊎_elim, arith, ◌⊎◌, Contains, AllByRecursion, Contains-append_left, Contains-append_right, Contains-append_cases, all_append, at, root_word, left_word, right_word, Nodes, none, fork, listed, Leads, Reaches, by_root, by_left, by_right}
 use Rattle.facts.proofs.Members.{Contains-cons_cases, Contains-rest}
-use Rattle.word_layout.proofs.WordLemmas.{item_not_root, item_not_left, item_not_right}
-use Rattle.word_layout.proofs.StoreLemmas.{Agree}
 
 abbrev pub IsIn : Nodes → ℕ → Type 0
 IsIn none i = ⊥

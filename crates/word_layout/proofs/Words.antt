@@ -1,5 +1,5 @@
 -- The words that the proofs of this crate use, of whatever crate.
-pub use Rattle.std.proofs.Common.{◌≡◌, ◌≢◌, ℕ, suc, ◌+◌, ◌-◌, ◌<◌, List, [], ◌∷◌, ◌++◌, length, refl, sym, ◌∙◌, ap, subst, append_assoc, length-append, arith, inl, inr, get_or-set_other, get_or-set_same, ◌≤◌, length-drop, get_or, drop, ⊎_elim, length-set, take, ◌*◌, vec_len, vec_capacity}
+pub use Rattle.std.proofs.Common.{◌≡◌, ◌≢◌, ℕ, suc, ◌+◌, ◌-◌, ◌<◌, List, [], ◌∷◌, ◌++◌, length, refl, sym, ◌∙◌, ap, subst, append_assoc, length-append, arith, inl, inr, get_or-set_other, get_or-set_same, ◌≤◌, get_or, ⊎_elim, length-set, take, ◌*◌, vec_len, vec_capacity}
 pub use Rattle.std.proofs.lemmas.Bool.{cases_eq, cases_lt}
 pub use Rattle.std.proofs.lemmas.List.{set_past, length-take-le, take_more, get_or_append_left, get_or-append_right, get_or-replicate, length-replicate}
 pub use Rattle.std.proofs.lemmas.List.Elements.{All-from_recursion, Contains-append_left, Contains-append_right, Contains-append_cases}

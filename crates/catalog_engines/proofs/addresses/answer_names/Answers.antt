@@ -1,6 +1,6 @@
-use Rattle.catalog_engines.proofs.Words.{[], map, subst, sym, unwrap_or, option_copied, IsAddressed, words_text, AnswersGiven, IsSought, found_by, kept_symbols, catalog_opened, IsCatalogOf, texts_in, symbols_in, lines_of, then_flushed, handed_on}
+use Rattle.catalog_engines.proofs.Words.{[], ◌∙◌, ap, cond, map, subst, sym, unwrap_or, option_copied, IsAddressed, words_text, AnswersGiven, IsSought, found_by, kept_symbols, catalog_opened, IsCatalogOf, texts_in, symbols_in, lines_of, then_flushed, handed_on}
 use Rattle.catalog_engines.proofs.GivenLemmas.{not_opened, said_or_not}
-use Rattle.catalog_engines.proofs.SoughtLemmas.{text_by_map}
+use Rattle.catalog_engines.proofs.SoughtLemmas.{line_by_map, text_by_map}
 use Rattle.catalog_engines.proofs.addresses.answer_names.Goals as goal
 
 pub returns-in_err-opened : goal.returns-in_err-opened
@@ -25,6 +25,7 @@ returns g c =
     let kept = kept_symbols index (symbols_in (lines_of given.kallsyms)) in
     let says = subst (λ x. IsCatalogOf kernel given x notes) (sym c.in_ok-index.ensures) (catalog_opened kernel given c.in_ok-opened.opened c.in_ok-opened.ensures) in
     let has = subst (λ text. IsSought words (kept_symbols index (symbols_in (lines_of text))) m) c.deref.ensures.value c.in_ok-sought.ensures in
-    said_or_not g.W.Write.contents (IsAddressed a.form kernel words) given a.writer.now c.flush.new.self notes
-    (words_text a.form (λ name. unwrap_or (found_by m name) []) words) (index, says, text_by_map a.form words kept m has)
+    let status = c.status_of_found-status.ensures ∙ ap (λ b. cond b 0 1) (c.has_any_line.ensures ∙ line_by_map a.form words kept m has) in
+    said_or_not g.W.Write.contents (IsAddressed a.form kernel words) given a.writer.now c.flush.new.self (record { status = c.status_of_found-status.result; notes = notes })
+    (words_text a.form (λ name. unwrap_or (found_by m name) []) words) (index, says, text_by_map a.form words kept m has, status)
     (then_flushed c.put_words.ensures c.flush.ensures) c.unless_failed.result c.unless_failed.ensures

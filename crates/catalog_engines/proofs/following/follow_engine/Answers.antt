@@ -1,6 +1,25 @@
-use Rattle.catalog_engines.proofs.Words.{inr, texts_in}
+use Rattle.catalog_engines.proofs.Words.{◌∙◌, FollowsTurns, ap, inr, is_narrow, lines_of, subst, texts_in}
 use Rattle.catalog_engines.proofs.following.follow_engine.Goals as goal
 
 pub returns : goal.returns
 returns g c =
-    inr (inr (texts_in c.in_ok-texts.texts, g.L.LastingLog.events c.read_listings.new.self, c.in_ok-texts.ensures.event, inr (c.tell_notes.new.errors, c.in_ok-tell_notes.ensures, c.follow_blocks-end.result, c.follow_blocks-end.ensures, c.tell_end.ensures)))
+    let a = c.args in
+    let listings = c.in_ok-texts.ensures.listings in
+    let sized = c.is_narrow-is_narrow.ensures ∙ ap (λ t. is_narrow (lines_of t)) c.deref.ensures.value in
+    inr (inr (
+      texts_in c.in_ok-texts.texts,
+      g.L.LastingLog.seen c.read_listings.new.self,
+      listings.event,
+      listings.texts,
+      inr (
+        c.tell_notes.new.errors,
+        c.in_ok-tell_notes.ensures,
+        listings.left,
+        listings.later,
+        c.follow_blocks-end.new.errors,
+        c.follow_blocks-end.result,
+        subst (λ narrow. FollowsTurns g.W.Write.contents g.E.Write.contents a.sources.now a.job.now narrow (g.L.LastingLog.seen c.read_listings.new.self) (g.L.LastingLog.seen c.follow_blocks-end.new.log) a.writer.now c.follow_blocks-end.new.writer
+            c.tell_notes.new.errors c.follow_blocks-end.new.errors c.follow_blocks-end.result) sized c.follow_blocks-end.ensures,
+        c.tell_end.ensures,
+      ),
+    ))

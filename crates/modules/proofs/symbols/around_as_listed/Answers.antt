@@ -17,7 +17,7 @@ returns-clause-below c =
     let first : ℕ = c.first_of_equal-first.result in
     let parts = c.split_at-split.ensures in
     let some : 0 < split = omega arith in
-    let s : SymbolEntry = record { addr = 0; name = [] } in
+    let s : SymbolEntry = record { addr = 0; letter = 0; name = [] } in
     let is = c.first_of_equal-first.ensures s in
     c.symbol_at.ensures ∙ slice_get-get_or symbols first s (first_within symbols c.args.addr split first s c.requires parts some is) ∙ sym (first_below symbols c.args.addr split first s c.requires parts some is)
 

@@ -1,5 +1,5 @@
 use Rattle.texts.proofs.Words.{sym, ap, ◌∙◌, ◌++◌, take, arith, subst, length, take_rest, length-drop, take-add, Appends-trans, Appends}
-use Rattle.texts.proofs.device.Device.write_all.Goals as goal
+use Rattle.texts.proofs.output.write_all.Goals as goal
 
 pub loop-taken-preserved : goal.loop-taken-preserved
 loop-taken-preserved g c =

@@ -1,13 +1,13 @@
 use Rattle.texts.proofs.Words.{◌≡◌, ◌-◌, ◌≤◌, false, length, take, Appends, error_kept, is_broken, writer_in}
-use Rattle.texts.proofs.device.Device.write_all.Given as goal
+use Rattle.texts.proofs.output.write_all.Given as goal
 
 -- no call failed, and the writer took this many bytes
 abbrev pub invariant-loop-taken : goal.invariant-loop-taken
 invariant-loop-taken g l = record {
   within : l.taken ≤ length l.bytes;
-  sound : is_broken l.self ≡ false;
-  error : error_kept l.self ≡ error_kept l.fn.self;
-  took : Appends (g.W.Write.contents (writer_in l.fn.self)) (g.W.Write.contents (writer_in l.self)) (take l.taken l.bytes);
+  sound : is_broken l.device ≡ false;
+  error : error_kept l.device ≡ error_kept l.fn.device;
+  took : Appends (g.W.Write.contents (writer_in l.fn.device)) (g.W.Write.contents (writer_in l.device)) (take l.taken l.bytes);
 }
 
 abbrev pub decreases-loop-taken : goal.decreases-loop-taken

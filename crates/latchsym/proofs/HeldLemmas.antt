@@ -1,0 +1,30 @@
+-- What is known of a log before it is followed, by the readers that it is followed by.
+use Rattle.latchsym.proofs.Words.{◌≡◌, ◌∙◌, ap, Bool, false, List, ℕ, Option, None}
+use Rattle.std.specs.Prelude.{if◌then◌else◌}
+use Rattle.texts.specs.Counted.{device_of}
+use Rattle.texts.specs.declared.counted.Counted.{Counted}
+use Rattle.command_io.specs.OpenedCatalogs.{known_given}
+use Rattle.command_io.specs.declared.opened_catalogs.ListingReaders.{ListingReaders}
+use Rattle.catalog_engines.specs.LastingLogs.{Seen}
+use Rattle.catalog_engines.specs.declared.sources.ListingFiles.{ListingFiles}
+use Rattle.catalog_engines.specs.declared.sources.Sources.{Sources}
+use Rattle.latchsym.specs.Files.{Held, held_given}
+use Rattle.latchsym.specs.Outcomes.{seen_first}
+
+module _ {F : Type 0} (remaining : F → Option (List ℕ)) where
+  abbrev pub seen_by : Held → ListingFiles → ListingReaders F F F → Counted F → Bool → Seen
+  seen_by held names l r is_read = record {
+    events = None;
+    left = remaining (device_of r);
+    next = if is_read then held_given held names else known_given remaining remaining remaining l;
+    later = held_given held names;
+  }
+
+  -- the listings that are open were not read
+  pub first_is : (held : Held) (s : Sources) (names : ListingFiles) (l l' : ListingReaders F F F) (r r' : Counted F) (is_read : Bool) → names ≡ s.files → l' ≡ l → r' ≡ r → is_read ≡ false
+      → seen_by held names l' r' is_read ≡ seen_first remaining held s l r
+  first_is held s names l l' r r' is_read files listings log unread =
+      ap (λ n. seen_by held n l' r' is_read) files
+      ∙ ap (λ x. seen_by held s.files x r' is_read) listings
+      ∙ ap (λ x. seen_by held s.files l x is_read) log
+      ∙ ap (seen_by held s.files l r) unread
