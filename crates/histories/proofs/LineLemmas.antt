@@ -1,0 +1,47 @@
+-- Lines that are cut off.
+use Rattle.histories.proofs.Words.{◌≡◌, ◌∙◌, ℕ, zero, suc, ◌+◌, ◌<◌, List, [], ◌∷◌, ◌++◌, None, Some, length, take, drop, sym, ap, arith, cond, append_assoc, onto_first, take-add, drop-drop, lines, without_end, header_of, body_of, parts_of, time_text, later, Nowhere, Passes, is_byte}
+use Rattle.texts.proofs.LineCutLemmas.{first_fails}
+use Rattle.std.proofs.lemmas.List.{take_all, drop_all}
+
+pub first_line : (xs : List ℕ) (k : ℕ) → k < length xs → Passes (is_byte 10) xs k → Nowhere (Passes (is_byte 10) xs) 0 k → lines xs ≡ take (k + 1) xs ∷ lines (drop (k + 1) xs)
+first_line [] k h passes none = absurd (omega arith)
+first_line (x ∷ xs) zero h passes none = ap (λ b. cond b ((x ∷ []) ∷ lines xs) (onto_first x (lines xs))) passes
+first_line (x ∷ xs) (suc k) h passes none =
+    let shift : suc (k + 1) ≡ suc k + 1 = omega arith in
+    ap (λ b. cond b ((x ∷ []) ∷ lines xs) (onto_first x (lines xs))) (first_fails (is_byte 10) x xs (suc k) (omega arith) none)
+    ∙ ap (onto_first x) (first_line xs k (omega arith) passes (later (is_byte 10) x xs k none))
+    ∙ ap (λ n. take n (x ∷ xs) ∷ lines (drop n (x ∷ xs))) shift
+
+last_line : (xs : List ℕ) → 0 < length xs → Nowhere (Passes (is_byte 10) xs) 0 (length xs) → lines xs ≡ xs ∷ []
+last_line [] h none = absurd (omega arith)
+last_line (x ∷ []) h none = ap (λ b. cond b ((x ∷ []) ∷ []) ((x ∷ []) ∷ [])) (first_fails (is_byte 10) x [] 1 (omega arith) none)
+last_line (x ∷ y ∷ ys) h none =
+    ap (λ b. cond b ((x ∷ []) ∷ lines (y ∷ ys)) (onto_first x (lines (y ∷ ys)))) (first_fails (is_byte 10) x (y ∷ ys) (length (x ∷ y ∷ ys)) (omega arith) none)
+    ∙ ap (onto_first x) (last_line (y ∷ ys) (omega arith) (later (is_byte 10) x (y ∷ ys) (length (y ∷ ys)) none))
+
+pub sole_line : (xs : List ℕ) → 0 < length xs → Nowhere (Passes (is_byte 10) xs) 0 (length xs) → lines xs ≡ take (length xs) xs ∷ lines (drop (length xs) xs)
+sole_line xs h none = rw (take_all (length xs) xs (omega arith), drop_all (length xs) xs (omega arith)) (last_line xs h none)
+
+-- one line more that is no header
+body_here : (line : List ℕ) (ls : List (List ℕ)) → header_of (without_end line) ≡ None → body_of (line ∷ ls) ≡ line ++ body_of ls
+body_here line ls none = ap (λ h. elim h [ None ↦ line ++ body_of ls | Some header ↦ [] ]) none
+
+parts_here : (line : List ℕ) (ls : List (List ℕ)) → header_of (without_end line) ≡ None → parts_of (line ∷ ls) ≡ parts_of ls
+parts_here line ls none = ap (λ h. elim h [ None ↦ parts_of ls | Some header ↦ record { header = header; time_text = time_text (without_end line); text = body_of ls } ∷ parts_of ls ]) none
+
+pub body_more : (text rest : List ℕ) (i n : ℕ) → rest ≡ drop i text → lines rest ≡ take n rest ∷ lines (drop n rest) → header_of (without_end (take n rest)) ≡ None
+    → take (i + n) text ++ body_of (lines (drop (i + n) text)) ≡ take i text ++ body_of (lines (drop i text))
+body_more text rest i n here is none =
+    let line = take n rest in
+    let more = lines (drop n rest) in
+    let now : take (i + n) text ≡ take i text ++ line = take-add i n text ∙ ap (λ (r : List ℕ). take i text ++ take n r) (sym here) in
+    let then : lines (drop (i + n) text) ≡ more = ap lines (sym (drop-drop n i text) ∙ ap (drop n) (sym here)) in
+    rw (now, then) (append_assoc (take i text) line (body_of more))
+    ∙ ap (λ (r : List ℕ). take i text ++ r) (sym (body_here line more none) ∙ ap body_of (sym is) ∙ ap (λ (r : List ℕ). body_of (lines r)) here)
+
+pub parts_more : (text rest : List ℕ) (i n : ℕ) → rest ≡ drop i text → lines rest ≡ take n rest ∷ lines (drop n rest) → header_of (without_end (take n rest)) ≡ None
+    → parts_of (lines (drop (i + n) text)) ≡ parts_of (lines (drop i text))
+parts_more text rest i n here is none =
+    let more = lines (drop n rest) in
+    let then : lines (drop (i + n) text) ≡ more = ap lines (sym (drop-drop n i text) ∙ ap (drop n) (sym here)) in
+    ap parts_of then ∙ sym (parts_here (take n rest) more none) ∙ ap parts_of (sym is) ∙ ap (λ (r : List ℕ). parts_of (lines r)) here

@@ -1,0 +1,47 @@
+-- What a change makes of a listing.
+use Rattle.std.specs.Prelude.{ℕ, not, Bool, true, false, if◌then◌else◌}
+use Rattle.std.specs.Prelude.{List, [], ◌∷◌, ◌++◌, Option, Some, None, is_some}
+use Rattle.std.specs.List.{flat_map, list_any}
+use Rattle.std.specs.Option.{option_map_or, option_or}
+use Rattle.std.specs.Str.{bytes_eq}
+use Rattle.logs.specs.Lines.{lines}
+use Rattle.histories.specs.Grammar.{gone_of}
+use Rattle.histories.specs.ListingLines.{module_of, without_end}
+
+-- the module that a line of a change names: the one that is gone, or its own
+abbrev pub named_module : List ℕ → Option (List ℕ)
+named_module line = option_or (gone_of line) (module_of line)
+
+-- a change names a module, if one of its lines does
+abbrev pub is_named : List ℕ → List ℕ → Bool
+is_named change name =
+    list_any (λ line. option_map_or (λ n. bytes_eq n name) (named_module (without_end line)) false)
+    (lines change)
+
+-- a line is kept, unless it is one of a module that is named
+abbrev pub is_kept : (List ℕ → Bool) → List ℕ → Bool
+is_kept named line = option_map_or (λ m. not (named m)) (module_of (without_end line)) true
+
+abbrev pub kept_lines : (List ℕ → Bool) → List (List ℕ) → List ℕ
+kept_lines named listing = flat_map (λ line. if is_kept named line then line else []) listing
+
+-- the lines of a change that are lines of a listing: all but `gone NAME`
+abbrev pub added_lines : List (List ℕ) → List ℕ
+added_lines change =
+    flat_map (λ line. if is_some (gone_of (without_end line)) then [] else line) change
+
+-- a listing after a change: the lines that are kept, and then those that are added
+abbrev pub changed_by : List ℕ → List ℕ → List ℕ
+changed_by change listing =
+    kept_lines (is_named change) (lines listing) ++ added_lines (lines change)
+
+-- ---- names that are collected
+
+-- a name is one of these
+abbrev pub is_among : List (List ℕ) → List ℕ → Bool
+is_among names name = list_any (λ n. bytes_eq n name) names
+
+-- these names and one more, if there is one that is not among them
+abbrev pub with_name : List (List ℕ) → Option (List ℕ) → List (List ℕ)
+with_name names None = names
+with_name names (Some name) = if is_among names name then names else names ++ name ∷ []

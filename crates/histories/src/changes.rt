@@ -1,0 +1,133 @@
+//! What a change makes of a listing.
+//!
+//! ```text
+//!     listing              change               the listing after it
+//!
+//!     do_one               gone ext4            do_one               kept: of the kernel
+//!     ext4_a  [ext4]       xfs_b  [xfs]         nf_a    [nf]         kept: not named
+//!     xfs_a   [xfs]                             xfs_b   [xfs]        added
+//!     nf_a    [nf]         names: ext4, xfs
+//! ```
+//!
+//! The names are collected first, each once; then each line of the listing is looked at once.
+ghost use Rattle.std.specs.Prelude.{◌≡◌, ◌++◌, map, IfOk, OnOk};
+ghost use Rattle.std.specs.Option.{option_copied};
+ghost use Rattle.logs.specs.Lines.{lines};
+ghost use Rattle.histories.specs.Changes.{added_lines, changed_by, is_among, is_kept, kept_lines};
+ghost use Rattle.histories.specs.Changes.{is_named, named_module, with_name};
+
+use crate::grammar::gone_in;
+use crate::lines::{line_length, without_end};
+use crate::listing_lines::module_in;
+use std::alloc::{AllocError, Global};
+
+/// The module that a line of a change names, if it names one.
+fn named_module(line: &[u8]) -> Option<&[u8]>
+    ensures { option_copied result ≡ named_module line.now }
+{
+    match gone_in(line) {
+        Some(name) => Some(name),
+        None => module_in(line),
+    }
+}
+
+/// Whether a name is among these.
+fn is_among(names: &[&[u8]], name: &[u8]) -> bool
+    ensures { result ≡ is_among (map (λ n. n.now) names.now) name.now }
+{
+    let mut i = 0;
+    while i < names.len() {
+        if names[i] == name {
+            return true;
+        }
+        i += 1;
+    }
+    false
+}
+
+/// Puts a name after these, if there is one that is not among them.
+fn put_name<'a>(names: &mut Vec<&'a [u8]>, name: Option<&'a [u8]>) -> Result<(), AllocError>
+    ensures { OnOk result (map (λ n. n.now) names.new.items
+        ≡ with_name (map (λ n. n.now) names.old.items) (option_copied name.entry)) }
+{
+    if let Some(name) = name {
+        if !is_among(names, name) {
+            names.push(name)?;
+        }
+    }
+    Ok(())
+}
+
+/// The modules that a change names, each once.
+#[tactic(auto, using(crate::proofs::NameLemmas::collected))]
+fn names_in<'a>(alloc: Global, change: &'a [u8]) -> Result<Vec<&'a [u8]>, AllocError>
+    ensures { IfOk result
+        (λ names. is_among (map (λ n. n.now) names.items) ≡ is_named change.now) }
+{
+    let mut names = Vec::new(alloc);
+    let mut rest = change;
+    while !rest.is_empty() {
+        let end = line_length(rest);
+        put_name(&mut names, named_module(without_end(&rest[..end])))?;
+        rest = &rest[end..];
+    }
+    Ok(names)
+}
+
+/// Whether a line is kept under a change that names these modules.
+fn is_kept(names: &[&[u8]], line: &[u8]) -> bool
+    ensures { result ≡ is_kept (is_among (map (λ n. n.now) names.now)) line.now }
+{
+    match module_in(without_end(line)) {
+        Some(module) => !is_among(names, module),
+        None => true,
+    }
+}
+
+/// Puts the lines of a listing that are kept.
+fn put_kept(names: &[&[u8]], listing: &[u8], out: &mut Vec<u8>) -> Result<(), AllocError>
+    ensures { OnOk result (out.new.items ≡ out.old.items
+        ++ kept_lines (is_among (map (λ n. n.now) names.now)) (lines listing.now)) }
+{
+    let mut rest = listing;
+    while !rest.is_empty() {
+        let end = line_length(rest);
+        let line = &rest[..end];
+        if is_kept(names, line) {
+            out.extend_from_slice(line)?;
+        }
+        rest = &rest[end..];
+    }
+    Ok(())
+}
+
+/// Puts the lines of a change that are lines of a listing.
+fn put_added(change: &[u8], out: &mut Vec<u8>) -> Result<(), AllocError>
+    ensures { OnOk result (out.new.items ≡ out.old.items ++ added_lines (lines change.now)) }
+{
+    let mut rest = change;
+    while !rest.is_empty() {
+        let end = line_length(rest);
+        let line = &rest[..end];
+        if gone_in(without_end(line)).is_none() {
+            out.extend_from_slice(line)?;
+        }
+        rest = &rest[end..];
+    }
+    Ok(())
+}
+
+/// A listing after a change.
+pub(crate) fn changed_by(
+    alloc: Global,
+    change: &[u8],
+    listing: &[u8],
+) -> Result<Vec<u8>, AllocError>
+    ensures { IfOk result (λ text. text.items ≡ changed_by change.now listing.now) }
+{
+    let names = names_in(alloc, change)?;
+    let mut text = Vec::with_capacity(alloc, listing.len().saturating_add(change.len()))?;
+    put_kept(&names, listing, &mut text)?;
+    put_added(change, &mut text)?;
+    Ok(text)
+}
