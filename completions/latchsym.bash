@@ -40,7 +40,7 @@ _latchsym() {
     esac
     if [ "${COMP_WORDS[COMP_CWORD - 2]}" = --kernel ]; then
         mapfile -t COMPREPLY < <(compgen -W '_end _einittext _etext' -- "$word")
-    elif [[ $word = -* || ${COMP_WORDS[1]} = lookup || ${COMP_WORDS[1]} = address || ${COMP_WORDS[1]} = check ]]; then
+    elif [[ $word = -* || ${COMP_WORDS[1]} = lookup || ${COMP_WORDS[1]} = address ]]; then
         mapfile -t COMPREPLY < <(compgen -W "$options" -- "$word")
     else
         compopt -o default

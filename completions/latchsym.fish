@@ -27,6 +27,6 @@ complete -c latchsym -n '__fish_seen_subcommand_from lookup address' -l no-count
 complete -c latchsym -n '__fish_seen_subcommand_from address' -l offset -x -d 'Add N to each address'
 complete -c latchsym -n '__fish_seen_subcommand_from trace' -l steps -d 'Write what each step did, as JSON'
 complete -c latchsym -n '__fish_seen_subcommand_from run' -l readers -x -d 'How many readers there are, 1 to 64'
-complete -c latchsym -n '__fish_seen_subcommand_from annotate trace run' -F
+complete -c latchsym -n '__fish_seen_subcommand_from annotate check trace run' -F
 complete -c latchsym -n '__fish_seen_subcommand_from annotate lookup address check trace run' -s h -l help -d 'Print help'
 complete -c latchsym -n '__fish_seen_subcommand_from help' -a 'annotate lookup address check trace run help'

@@ -159,22 +159,23 @@ named() {
     shift
     printf '[<ffffffff81000108>] %s+0x8/0x1f00\n' "$@" | noted "$line"
 }
-other='latchsym: note: -: its own names disagree with the listing'
+other='latchsym: note: standard input: its own names disagree with the listing'
 named '' do_one a b c d
 named "$other (5 of 6); is the listing of this boot?" do_one a b c d e
 named "$other (6 of 11); is the listing of this boot?" do_one do_one a do_one b do_one c do_one d e f
 named '' do_one do_one a do_one b do_one c do_one d e
 named '' '? do_one' '(do_one' a '? do_one' b do_one c do_one d
 named "$other (5 of 5); is the listing of this boot?" '? a' '(b' c d e
-none='latchsym: note: -: none of its'
-printf 'ffffffff82000000 %s\n' 1 2 3 4 | noted ''
+none='latchsym: note: standard input: none of its'
+printf 'at 0000000000000018 ip 000055d0c1a2b1c9\n' | noted ''
+printf 'ffffffff82000000\n' | noted "$none 1 addresses has a name in the listing"
 printf 'ffffffff82000000 %s\n' 1 2 3 4 5 | noted "$none 5 addresses has a name in the listing"
-printf 'ffffffff82000000 %s\n' 1 2 3 4 'User PSW 00000000000000ff' | noted "$none 6 addresses has a name in the listing"
+printf 'ffffffff82000000 %s\n' 1 'User PSW ffffffff82000000' | noted "$none 3 addresses has a name in the listing"
 printf 'ffffffff82000000 %s\n' 1 2 3 4 5 ffffffff81000108 | noted ''
 printf '\377' | noted ''
 # a packed log and one in UTF-16, also where they come byte by byte; of no others, and nothing more
-gzip='latchsym: note: -: is compressed by gzip; unpack it first'
-wide='latchsym: note: -: is UTF-16; convert it first'
+gzip='latchsym: note: standard input: is compressed by gzip; unpack it first'
+wide='latchsym: note: standard input: is UTF-16; convert it first'
 # slowly BYTE..: these bytes, in octal, each in a block of its own
 slowly() {
     local byte

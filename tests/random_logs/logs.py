@@ -17,7 +17,9 @@ NEARLY = [
     b";", b"; ", b"a;b ", b"10:11:12 ; ", b"[1.2]; kernel:", b"kernel:10:11:12x y ", b"\t10:11:12\t",
 ]
 LEADS = [b" ", b"  ", b"\t", b" ? ", b" => ", b"#0  ", b" #12 ", b" <IRQ> ", b"[T123] ", b" [ C0 ] ", b"<4>", b"\r"]
-NO_LEADS = [b"#", b"# 1", b"<a b>", b"<>", b"[ abc ] ", b"[<1>] ", b"0 ", b"x", b"=", b"> ", b"[1", b"1]", b"#1x "]
+LEADS += [b"> ", b"> > ", b"</TASK> ", b"<#DF> ", b"\x1b[32m", b"\x1b[0m\x1b[1;33m ", b"\x1b[m", b"[<0>] "]
+NO_LEADS = [b"#", b"# 1", b"<a b>", b"<>", b"[ abc ] ", b"[<1>] ", b"0 ", b"x", b"=", b"[1", b"1]", b"#1x "]
+NO_LEADS += [b"\x1b", b"\x1b[", b"\x1b[3", b"\x1b[3:m", b"</>", b"[<0> ]", b"[<0>]\t"]
 MARKS = [b"", b"", b"[", b"[<", b"[<", b"([<", b"<", b"(", b"[<(", b"[ <", b"0x", b"0x"]
 LABELS = [
     b"ra ", b"lr : ", b"LR=", b"from [<", b" from ", b"LR is at ", b"ra is at: [", b"PC is at ", b"ra  is at ", b"at: ", b"at ",
@@ -25,12 +27,16 @@ LABELS = [
     b"RIP: 0010:", b"RIP: 0010:[<", b"EIP: ", b"NIP [", b"xRIP ", b"RIP_ ", b"(NIP)", b"Code: ", b"xCode:", b"Code :",
     b"User PSW : ", b"User  PSW ", b"XUser PSW ", b"User PSWs ", b"Krnl PSW : ", b"Krnl_ ", b"Call Trace: ", b"Call Tracex ",
     b"machine_kexec at ", b" do_one at [", b"] [", b"][", b"]\t[", b"], [", b"]: [",
+    b"MMIO ", b"mem : ", b"port:", b"Cause : ", b"Status: ", b"Config=", b"PrId  : ", b"xmem ", b"ACPI: ", b"ACPI ", b"cat;", b";", b"x@", b"@",
 ]
 JOINTS = [b"-", b"--", b"..", b"-0x", b"_", b"+", b" - ", b"->", b"<-"]
 CLOSERS = [b"", b"", b"", b">", b">]", b")", b"]", b"]>)"]
+ENDS = [b":", b": 00 ff ", b": 0g ff ", b":  00 ", b": 000 ", b";", b".x", b".1", b"."]
+HEADINGS = [b"x:", b"stack [", b"]", b"====", b"x: \t\r", b"", b"\r", b" ]", b"x", b"= ="]
 
 # what may stand behind a name that the log has itself
-OFFSETS = [b"+0x8/0x10"] * 8 + [b"+0xaF/0x1 [m]", b"+0x/0x10", b"+8/0x10", b"+0xg/0x10", b"+0x8/0x", b"+0x8/10", b"+0x8", b"/0x1", b""]
+OFFSETS = [b"+0x8/0x10"] * 8 + [b"+0xaF/0x1 [m]", b"+0x/0x10", b"+8/0x10", b"+0xg/0x10", b"+0x8/0x", b"+0x8/10", b"+0x8", b"/0x1", b"", b""]
+OFFSETS += [b"+0x%x" % offset for offset in (0, 1, 2, 16)] + [b"+0x%x/0x1" % offset for offset in (0, 1, 2, 16)]
 
 
 def own_name(draw):
@@ -57,7 +63,7 @@ def said(draw, plain, rule, address):
 
 def address_word(draw, plain, rule, addresses):
     address = min(draw.choice(addresses) + rule.offset, GREATEST)
-    text = draw.choice(MARKS) + shown(draw, address) + draw.choice(CLOSERS)
+    text = draw.choice(MARKS) + shown(draw, address) + (draw.choice(CLOSERS) if draw.randrange(6) else draw.choice(ENDS))
     kind = draw.randrange(8)
     if kind == 0:
         text += own_name(draw)
@@ -108,6 +114,8 @@ def random_log(draw, plain, rule, addresses):
     lines = []
     for _ in range(draw.randrange(12)):
         if addresses and draw.randrange(4) == 0:
+            lines.append(trace(draw, addresses, rule))
+            lines.append(draw.choice(HEADINGS) + b"\n")
             lines.append(trace(draw, addresses, rule))
         else:
             lines.append(line(draw, plain, rule, addresses) + draw.choice([b"\n", b"\n", b"\r\n"]))

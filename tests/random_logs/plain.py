@@ -3,6 +3,8 @@ with one of modules beside it; as they are, moved, and as those of callers."""
 
 from expected import LINE, LONGEST, Plain
 
+LETTERS_OF_DATA = b"bBdDrR"
+
 
 def is_narrow(listing):
     """Whether the listing is that of a 32-bit kernel."""
@@ -17,9 +19,19 @@ class BySymbols(Plain):
     def __init__(self, listing, bounds):
         super().__init__(listing, bounds)
         self.narrow = is_narrow(listing)
+        self.first = min([*(region.start for region in self.kernel), *self.starts()], default=None)
 
     def is_narrow(self):
         return self.narrow
+
+    def is_in_range(self, address):
+        """Whether the address is not below the first region."""
+        return self.first is not None and address >= self.first
+
+    def is_data(self, address):
+        """Whether data begins at the address: the first symbol listed there has such a letter."""
+        here = [s for s in self.kept if s.module == self.owner(address) and s.address == address]
+        return bool(here) and here[0].letter in LETTERS_OF_DATA
 
     def same(self, address):
         """The names of the symbols at the place of the answer's."""
@@ -39,6 +51,9 @@ class ByModules(BySymbols):
 
     def is_kept(self, symbol):
         return symbol.address in (self.region_of(symbol) or ())
+
+    def starts(self):
+        return [region.start for region in self.modules.values()]
 
     def region_of(self, symbol):
         return self.modules.get(symbol.module) if symbol.module else self.region_of_kernel(symbol.address)
@@ -70,6 +85,12 @@ class Rule:
         if lower < 0 or is_return and lower == 0:
             return b"-"
         return plain.answer(lower - is_return, lower)
+
+    def is_data(self, plain, address):
+        return address >= self.offset and plain.is_data(address - self.offset)
+
+    def is_in_range(self, plain, address):
+        return address >= self.offset and plain.is_in_range(address - self.offset)
 
     def agrees(self, plain, address, is_return, name):
         """Whether the name is that of the address's answer, or of another symbol where that one is."""

@@ -1,5 +1,5 @@
 """The rules of docs/FORMATS.md ("Annotated log") as a plain slow program, line by line: which words
-of a line are addresses, how each is taken, what is inserted behind it, and what is noted of the log.
+of a line are addresses, how each is taken, what is inserted after it, and what is noted of the log.
 """
 
 import re
@@ -13,18 +13,20 @@ CLOSERS = re.compile(rb"[>\])]*")
 MARKS = re.compile(rb"[(\[<]*\Z")
 
 # what ends a prefix; and what may stand between it and the first address word of a line
+RECORD = re.compile(rb"[^ \t;,]*,[^ \t;,]*,[^ \t;]*;")
 PREFIXES = [
     re.compile(rb"(?<![0-9A-Za-z_])kernel:"),
-    re.compile(rb";"),
     re.compile(rb"(?<![0-9:])[0-9][0-9]:[0-9][0-9]:[0-9][0-9](?!:)[^ \t]*"),
     re.compile(rb"\[[^\[\]]*[0-9][.:][0-9][^\[\]]*\]"),
 ]
-LEAD = re.compile(rb"(?:[ \t\r?]|=>|#[0-9]+|<[0-9A-Za-z_]+>|\[(?=[^\[\]<>]*[0-9])[^\[\]<>]*\])*")
+LEAD = re.compile(
+    rb"(?:[ \t\r?>]|\x1b\[[0-9;]*m|=>|#[0-9]+|<[0-9A-Za-z_/#]+>|\[(?=[^\[\]<>]*[0-9])[^\[\]<>]*\])*"
+)
 NUMBERED = re.compile(rb"[ \t]*#[0-9]")
 
 # what says that an address is a caller's
 LABEL = re.compile(
-    rb"(?:<-|(?<![0-9A-Za-z_])(?:(?:ra|lr|LR|from)(?: is at)?[ :=(\[<]+|(?:at|in):[ :=(\[<]*))\Z"
+    rb"(?:<-|\[<0>\] *|(?<![0-9A-Za-z_])(?:(?:ra|lr|LR|from)(?: is at)?[ :=(\[<]+|(?:at|in):[ :=(\[<]*))\Z"
 )
 AT = re.compile(rb"(?<![0-9A-Za-z_])at[ :=(\[<]+\Z")
 
@@ -32,6 +34,19 @@ USER, KERNEL, TRACE, PLACE = (
     re.compile(rb"(?<![0-9A-Za-z_])(?:%s)(?![0-9A-Za-z_])" % words)
     for words in (rb"User PSW", rb"Krnl", rb"Call Trace", rb"RIP|EIP|NIP")
 )
+
+# what is not of a 32-bit kernel: a label's value, and all behind some words
+BUS = re.compile(rb"(?<![0-9A-Za-z_])(?:MMIO|mem|port|Cause|Status|Config|PrId)[ :]*\Z")
+BEHIND = re.compile(rb"Code:|ACPI:")
+DUMP = re.compile(rb": [0-9a-fA-F]{2} ")
+
+# what ends a trace
+HEADING = re.compile(rb"(?:\].*|.*(?::|\[|==)|)\Z", re.DOTALL)
+
+# what the log itself says of an address, and its form; and the offset of an answer
+SAID = re.compile(rb" (?:\? |\(|(?!\? |\())([^\x00- ()]+)")
+FORM = re.compile(rb"([^+]+)(?:\+0x([0-9a-fA-F]{1,16})(?:/0x[0-9a-fA-F]+)?)?")
+OFFSET = re.compile(rb".*\+0x([0-9a-f]+)/0x", re.DOTALL)
 
 # a name that the log itself has behind an address
 OWN = re.compile(rb" (?:\? |\(|(?!\? |\())([^\x00- +]+)\+0x[0-9a-fA-F]+/0x[0-9a-fA-F]")
@@ -70,28 +85,31 @@ class Written:
     disagreeing: int = 0
 
 
-def is_joined(line, word):
-    """Whether one `-` joins the word to another one."""
+def is_glued(line, word):
+    """Whether one `-` joins the word to another one, or `@` or a suffix is glued to it."""
     before, behind = line[: word.start()], line[word.end() :]
-    return bool(re.search(rb"[0-9A-Za-z_]-\Z", before) or re.match(rb"-[0-9A-Za-z_]", behind))
+    return bool(re.search(rb"(?:[0-9A-Za-z_]-|@)\Z", before) or re.match(rb"-[0-9A-Za-z_]|\.[A-Za-z]", behind))
 
 
-def prefix_end(gap):
-    """Where the last prefix ends in these bytes, if one is there."""
-    return max((found.end() for form in PREFIXES for found in form.finditer(gap)), default=None)
+def prefix_end(gap, at_start):
+    """Where the last prefix ends in these bytes, which begin the line or not, if one is there."""
+    ends = [found.end() for form in PREFIXES for found in form.finditer(gap)]
+    if at_start and RECORD.match(gap):
+        ends.append(RECORD.match(gap).end())
+    return max(ends, default=None)
 
 
 def addresses_of(line, is_narrow, carried):
     """The address words of the line, with how each is taken."""
     found, is_numbered = [], False
     for word in WORD.finditer(line):
-        if not (NARROW if is_narrow else WIDE).fullmatch(word[0]) or is_joined(line, word):
+        if not (NARROW if is_narrow else WIDE).fullmatch(word[0]) or is_glued(line, word):
             continue
         before = line[: word.start()]
         marks = MARKS.search(before)[0]
         last = found[-1] if found else None
         gap = before[last.end if last else 0 : len(before) - len(marks)]
-        behind = prefix_end(gap)
+        behind = prefix_end(gap, last is None)
         if behind is not None or last is None:
             is_numbered = bool(NUMBERED.match(gap[behind or 0 :]))
         address = Address(word.start(), word.end(), int(word[0], 16), marks)
@@ -99,8 +117,10 @@ def addresses_of(line, is_narrow, carried):
             address.begins = bool(LEAD.fullmatch(gap[behind or 0 :]))
         is_trace = marks.endswith(b"[<") or before.endswith(b"\t") or word[0][:2] in (b"0x", b"0X")
         is_pair = last and last.begins and last.marks == marks == b"[" and re.fullmatch(rb"\] *", gap)
-        address.is_frame = bool(address.begins and is_trace or is_pair)
-        if LABEL.search(before) or is_numbered and AT.search(before):
+        is_row = line[word.end() : word.end() + 1] == b":"
+        address.is_frame = bool(address.begins and is_trace or is_pair) and not is_row
+        is_folded = before.endswith(b";") and line[word.end() : word.end() + 1] == b";"
+        if LABEL.search(before) or is_folded or is_numbered and AT.search(before):
             address.is_caller = True
         elif last and last.value == address.value and not re.search(rb"[:=]", before[last.end :]):
             address.is_caller = last.is_caller
@@ -113,7 +133,9 @@ def addresses_of(line, is_narrow, carried):
 def is_foreign(line, address, is_narrow, is_user):
     """Whether the address word is one of a program, or of a 32-bit kernel's code."""
     before = line[: address.start]
-    return is_user or bool(USER.search(before)) or is_narrow and b"Code:" in before
+    if is_user or USER.search(before) or DUMP.match(line[address.end :]):
+        return True
+    return bool(is_narrow and (BEHIND.search(before) or BUS.search(before)))
 
 
 def text_behind(rest, text):
@@ -122,32 +144,56 @@ def text_behind(rest, text):
     return b"" if rest.startswith((b" " + said, b" ? " + said, b" (" + said)) else b" " + text
 
 
+def own_reading(plain, rule, value, rest):
+    """Which readings have the name that the log has itself, and whether one has its offset too."""
+    said = SAID.match(rest)
+    form = said and FORM.fullmatch(said[1])
+    readings, has_offset = [], False
+    for is_caller in (False, True):
+        answer = rule.answer(plain, value, is_caller)
+        if form and answer != b"-" and rule.agrees(plain, value, is_caller, form[1]):
+            readings.append(is_caller)
+            offset = OFFSET.match(answer)
+            has_offset |= bool(form[2] and int(form[2], 16) == int(offset[1], 16))
+    return readings, has_offset
+
+
 def annotate_line(written, line, plain, rule, is_narrow, carried):
     """Writes the line with the answers behind its addresses, and returns what is carried on."""
     is_user = carried.is_user and not KERNEL.search(line) and not TRACE.search(line)
     addresses = addresses_of(line, is_narrow, carried)
     pieces, done = [], 0
     for address in addresses:
-        written.words += 1
+        written.words += rule.is_in_range(plain, address.value)
         if is_foreign(line, address, is_narrow, is_user):
             continue
-        is_caller = {"--callers": True, "--exact": False}.get(rule.callers, address.is_caller)
+        place = CLOSERS.match(line, address.end).end()
+        readings, is_told = own_reading(plain, rule, address.value, line[place:])
+        forced = {"--callers": True, "--exact": False}
+        address.is_caller = address.is_caller and not rule.is_data(plain, address.value)
+        by_place = rule.answer(plain, address.value, forced.get(rule.callers, address.is_caller))
+        if len(readings) == 1 and (by_place == b"-" or text_behind(line[place:], by_place)):
+            address.is_caller = readings[0]
+        is_caller = forced.get(rule.callers, address.is_caller)
         text = rule.answer(plain, address.value, is_caller)
         if text == b"-":
             continue
         written.answered += 1
-        place = CLOSERS.match(line, address.end).end()
         own = OWN.match(line[place:])
-        if own and rule.agrees(plain, address.value, is_caller, own[1]):
+        if own and any(
+            rule.answer(plain, address.value, r) != b"-" and rule.agrees(plain, address.value, r, own[1])
+            for r in {address.is_caller, is_caller}
+        ):
             written.agreeing += 1
         elif own:
             written.disagreeing += 1
-        pieces += [line[done:place], text_behind(line[place:], text)]
+        pieces += [line[done:place], b"" if is_told else text_behind(line[place:], text)]
         done = place
     written.lines.append(b"".join([*pieces, line[done:]]))
     has_frame = any(address.is_frame for address in addresses)
     had_place = not has_frame and (carried.had_place or bool(PLACE.search(line)))
-    return Carried(has_frame, had_place, is_user or bool(USER.search(line)))
+    goes_on = carried.had_frame and not had_place and not HEADING.fullmatch(line.rstrip(b" \t\r\n"))
+    return Carried(has_frame or goes_on, had_place, is_user or bool(USER.search(line)))
 
 
 def annotated(log, plain, rule):
@@ -172,6 +218,6 @@ def note_of(written):
         names = written.agreeing + written.disagreeing
         told = b"its own names disagree with the listing (%d of %d); is the listing of this boot?"
         return [b"latchsym: note: log: " + told % (written.disagreeing, names)]
-    if written.words >= 5 and written.answered == 0:
+    if written.words and not written.answered:
         return [b"latchsym: note: log: none of its %d addresses has a name in the listing" % written.words]
     return []

@@ -22,7 +22,7 @@ LONGEST = 4096
 MAPPING = (b"$", b".L", b"L0")
 LINE = re.compile(rb"([0-9a-fA-F]{1,16}) ([^ \t]) ([^\t]+)(\t\[([^\t]+)\])?", re.DOTALL)
 
-Symbol = collections.namedtuple("Symbol", "address name module")
+Symbol = collections.namedtuple("Symbol", "address letter name module")
 
 
 def read(text):
@@ -38,7 +38,7 @@ def read(text):
         elif int(said[1], 16) == 0:
             skipped["hidden"] += 1
         else:
-            symbols.append(Symbol(int(said[1], 16), said[3], said[5]))
+            symbols.append(Symbol(int(said[1], 16), said[2], said[3], said[5]))
     return symbols, skipped
 
 
@@ -150,6 +150,7 @@ BASES = [1, 4096, 2**40, 2**63 - REACH, GREATEST - 4 * REACH, GREATEST - REACH -
 MODULES = [None, None, None, b"ext4", b"nfs", b"bpf", b"-", b"a]", b"__builtin__ftrace"]
 STARTS = [b"_stext", b"_sinittext", b"_text", b"a"]
 ENDS = [b"_end", b"_einittext", b"_etext", b"b"]
+LETTERS = [b"t", b"T", b"\xff", b"t", b"T", b"W", b"d", b"D", b"r", b"R", b"b", b"B", b"v"]
 NAMES = [b"run", b"init", b"data", b"a b [c]", b"L", b".", b"x$", b"1.L"] * 3 + STARTS + ENDS
 NAMES += [b"$x", b"$d", b".L12", b"L0", b"$a.1", b"$", b"L0\x01", b".L"]
 HIDDEN = [b"0 t a", b"0 T _stext", b"0000000000000000 t a\t[ext4]"]
@@ -167,7 +168,7 @@ def random_lines(draw):
         if draw.randrange(30) == 0:
             address = GREATEST
         form = draw.choice([b"%x", b"%016x", b"%X"])
-        line = form % address + b" " + draw.choice([b"t", b"T", b"\xff"]) + b" " + draw.choice(NAMES)
+        line = form % address + b" " + draw.choice(LETTERS) + b" " + draw.choice(NAMES)
         module = draw.choice(MODULES)
         lines.append(line if module is None else line + b"\t[%s]" % module)
     return lines

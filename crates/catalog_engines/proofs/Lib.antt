@@ -2,10 +2,16 @@
 mod Words
 -- the texts of words
 mod WordLemmas
--- symbols that a search by address leaves out
+-- symbols that a search by address leaves out, and the one that is found
 mod AliasLemmas
+-- marks that are put, those that stay, and names without one
+mod FilterLemmas
+-- whether an address is below all regions of a catalog
+mod RangeLemmas
 -- from what came of a log to what the engine returns
 mod AnnotationLemmas
+-- which readers failed of a log that is read whole
+mod OwnOffsetLemmas
 -- blocks of a log that are read, with the listings behind each, and written
 mod FollowingLemmas
 -- the kept symbols of the names that words ask for, symbol by symbol

@@ -5,10 +5,14 @@ pub mod NoteTexts
 pub mod GivenAnswers
 -- how the addresses of a log are answered
 pub mod LogAnswers
--- what is known of the order of the symbols that a log is answered from
+-- which names symbols may have
+pub mod NameFilters
+-- what is known of the symbols that a log is answered from
 pub mod LogIndexes
 -- what is written for a log, and told of its listings
 pub mod Annotations
+-- a log that is annotated by the offset that it says itself
+pub mod OwnOffsets
 -- why listings that are read again give no names
 pub mod NoNames
 -- what is read of a log that lasts, and of its listings

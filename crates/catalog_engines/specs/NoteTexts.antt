@@ -87,8 +87,12 @@ log_message head names =
     option_map_or (λ note. message_of usual_bounds note ++ codes "\n") (note_of_head head)
     (if is_of_another_boot names then other_boot_line names else unnamed_line names)
 
+-- what notes call the log in this file, of which `-` is the standard input
+abbrev pub log_name : List ℕ → List ℕ
+log_name log = if bytes_eq log (codes "-") then codes "standard input" else log
+
 abbrev pub log_line : List ℕ → List ℕ → LogNames → List ℕ
-log_line log head names = note_head log ++ log_message head names
+log_line log head names = note_head (log_name log) ++ log_message head names
 
 -- the line of what may be noted of a file
 abbrev pub line_if_noted : BoundNames → List ℕ → Option ListingNote → List ℕ

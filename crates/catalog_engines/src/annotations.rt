@@ -23,13 +23,25 @@ use std::alloc::{AllocError, Global};
 use std::io::{Read, Write};
 use texts::{Counted, Output};
 
+/// How a log is read.
+#[derive(Clone, Copy, Debug, PartialEq, Eq, Drop)]
+pub enum LogReading {
+    /// Block by block, and named by the listings as they are at its beginning.
+    Blocks,
+    /// Block by block, and the listings again after blocks of it.
+    Followed,
+    /// As a whole, for the offset of its kernel, which it says itself.
+    Whole,
+}
+
 /// Which log is annotated.
 #[derive(Debug, Drop)]
 pub struct Annotate<'a> {
-    /// How the addresses of the log are taken.
+    /// How the addresses of the log are taken. The offset of a log that is read as a whole is its
+    /// own.
     pub rule: LogRule,
-    /// Whether the listings are read again after each block of the log.
-    pub follow: bool,
+    /// How the log is read.
+    pub reading: LogReading,
     /// The file of the log; `-` is the standard input.
     pub log: &'a str,
 }

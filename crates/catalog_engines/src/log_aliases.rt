@@ -1,5 +1,7 @@
-//! Whether an address of a log may have another name than that of its answer: that of a symbol at
-//! the address of the answer's.
+//! Whether an address of a log may have another name than its answer has: the name of another symbol
+//! at the address of the answer's.
+//!
+//! Mostly the name is the answer's, so it is compared with that first.
 ghost use Rattle.std.specs.Prelude.{◌≡◌, ◌≤◌, ◌<◌, ℕ, List, true};
 ghost use Rattle.modules.specs.Index.{IsRising};
 ghost use Rattle.catalog_engines.specs.LogAnswers.{is_alias_in, lists_symbol};
@@ -8,7 +10,8 @@ use crate::log_index::LogIndex;
 use modules::{Symbol, symbol_in};
 use order_laws::Item;
 
-/// Whether a symbol at the address of the one that the address belongs to has the name.
+/// Whether the symbol that the address belongs to, or another one at its address, has the name.
+#[tactic(auto, using(crate::proofs::AliasLemmas::found_is_listed))]
 pub fn is_alias_in(index: &LogIndex, item: Item, addr: u64, name: &[u8]) -> bool
     requires from { item.a ≤ addr }
     requires below { addr < item.b }
@@ -19,12 +22,22 @@ pub fn is_alias_in(index: &LogIndex, item: Item, addr: u64, name: &[u8]) -> bool
     };
     match symbol_in(module, item.a, item.b, addr) {
         Some(found) => {
-            let symbol = found.symbol;
             let rising = index.rises(item.tag);
-            lists_symbol(module.symbols(), rising, symbol.addr, name)
+            is_alias_of(module.symbols(), rising, found.symbol, name)
         }
         None => false,
     }
+}
+
+/// Whether one of the symbols, or another one at its address, has the name. They may be known to
+/// rise by address.
+#[tactic(auto, using(crate::proofs::AliasLemmas::named_so))]
+fn is_alias_of(symbols: &[Symbol], rising: bool, symbol: &Symbol, name: &[u8]) -> bool
+    requires rising { rising ≡ true → IsRising symbols.now }
+    requires listed { lists_symbol symbols.now symbol.now.addr symbol.now.name ≡ true }
+    ensures { result ≡ lists_symbol symbols.now symbol.now.addr name.now }
+{
+    symbol.name() == name || lists_symbol(symbols, rising, symbol.addr, name)
 }
 
 /// The symbols that are not below the address, of symbols by rising address.

@@ -3,13 +3,14 @@ ghost use Rattle.std.specs.Prelude.{◌≡◌, ◌++◌, codes, IfOk, option_and
 ghost use Rattle.modules.specs.Items.{item_of_address};
 ghost use Rattle.listing.specs.AddressRules.{place_of};
 ghost use Rattle.listing.specs.Answers.{text_of};
-ghost use Rattle.catalog_engines.specs.LogAnswers.{answered_by};
+ghost use Rattle.catalog_engines.specs.LogAnswers.{answered_by, asks_place, begins_data};
+ghost use Rattle.catalog_engines.specs.LogAnswers.{is_letter_of_data, reading_at};
 
 use crate::log_aliases::is_alias_in;
 use crate::log_index::LogIndex;
-use listing::{AddressRule, Answer, LogRule, answer_of, put_answer, sought};
+use listing::{AddressRule, Answer, Callers, LogRule, answer_of, put_answer, sought};
 use logs::Answers;
-use modules::IndexedCatalog;
+use modules::{FoundSymbol, IndexedCatalog};
 use order_laws::Item;
 use std::alloc::{AllocError, Global};
 use texts::Output;
@@ -43,12 +44,78 @@ impl<'i, 'c> Answers for CatalogAnswers<'i, 'c> {
         Ok(Some(written(self.alloc, &answer)?))
     }
 
+    #[tactic(auto, using(crate::proofs::FilterLemmas::no_alias))]
     fn is_alias(&self, is_caller: bool, addr: u64, name: &[u8]) -> bool {
-        let rule = self.rule.rule_at(is_caller);
+        if !self.index.may_be_name(name) {
+            return false;
+        }
+        let rule = reading_at(self.rule, is_caller);
         match sought(rule, self.item_of(rule, addr), addr) {
             Some((item, place)) => is_alias_in(&self.index, item, place, name),
             None => false,
         }
+    }
+
+    fn is_offset(&self, is_caller: bool, addr: u64, offset: u64) -> bool {
+        let rule = reading_at(self.rule, is_caller);
+        let item = self.item_of(rule, addr);
+        match answer_of(self.index.catalog(), rule, item, addr).found {
+            Some(found) => found.offset == offset,
+            None => false,
+        }
+    }
+
+    fn is_data(&self, addr: u64) -> bool {
+        if !asks_place(self.rule.callers) {
+            return false;
+        }
+        let rule = reading_at(self.rule, false);
+        let item = self.item_of(rule, addr);
+        match answer_of(self.index.catalog(), rule, item, addr).found {
+            Some(found) => begins_data(&found),
+            None => false,
+        }
+    }
+
+    fn is_in_range(&self, addr: u64) -> bool {
+        match reading_at(self.rule, false).place_of(addr) {
+            Some(place) => self.index.reaches(place),
+            None => false,
+        }
+    }
+}
+
+/// Whether the place of an address in its line is asked how it is taken.
+fn asks_place(callers: Callers) -> bool
+    ensures { result ≡ asks_place callers }
+{
+    match callers {
+        Callers::ByPlace => true,
+        Callers::Every | Callers::Never => false,
+    }
+}
+
+/// Whether a letter is one of data.
+fn is_letter_of_data(letter: u8) -> bool
+    ensures { result ≡ is_letter_of_data letter }
+{
+    matches!(letter, b'b' | b'B' | b'd' | b'D' | b'r' | b'R')
+}
+
+/// Whether an address is that of the symbol found, and this is data.
+fn begins_data(found: &FoundSymbol) -> bool
+    ensures { result ≡ begins_data found.now }
+{
+    found.offset == 0 && is_letter_of_data(found.symbol.letter())
+}
+
+/// How a reading of an address is looked up, that as a caller's or that as it is.
+fn reading_at(rule: LogRule, is_caller: bool) -> AddressRule
+    ensures { result ≡ reading_at rule is_caller }
+{
+    AddressRule {
+        callers: is_caller,
+        offset: rule.offset,
     }
 }
 
@@ -66,7 +133,7 @@ impl<'i, 'c> CatalogAnswers<'i, 'c> {
     {
         CatalogAnswers {
             alloc,
-            index: LogIndex::new(index),
+            index: LogIndex::new(alloc, index),
             rule,
             is_narrow,
         }

@@ -1,45 +1,52 @@
 //! The catalog that the addresses of a log are answered from.
 //!
-//! Each name that a log has itself after an address, and that is not the answer's, is sought among
-//! the symbols at the address. Those of the kernel itself are many, and mostly listed by rising
-//! address: whether they are is found once for a log, and then they are not gone through for each
-//! name.
-ghost use Rattle.std.specs.Prelude.{◌≡◌, true};
+//! Each word that a log has itself after an address, and that is not the answer's name, is sought
+//! among the symbols at the address. Two things are found once for a log, so that symbols are not
+//! gone through for each word: which names symbols may have, and whether the symbols of the kernel
+//! itself, which are many, are listed by rising address, as mostly.
+ghost use Rattle.std.specs.Prelude.{◌≡◌, false, true};
 ghost use Rattle.modules.specs.Items.{item_of_address};
+ghost use Rattle.catalog_engines.specs.LogAnswers.{is_reached};
 ghost use Rattle.catalog_engines.specs.LogIndexes.{DoesRise};
+ghost use Rattle.catalog_engines.specs.NameFilters.{IsNoName};
 
+use crate::name_filter::NameFilter;
 use modules::{Catalog, IndexedCatalog, is_rising};
 use order_laws::Item;
+use std::alloc::Global;
 use std::marker::Model;
 
-/// An indexed catalog, with what is known of the order of the kernel's symbols.
+/// An indexed catalog, with what is known of its symbols.
 #[derive(Drop)]
 pub(crate) struct LogIndex<'i, 'c> {
     index: &'i IndexedCatalog<'c>,
     /// Whether the symbols of the kernel itself are known to be by rising address.
     kernel_rises: bool,
+    /// Which names symbols may have, unless there was no memory for it.
+    names: Option<NameFilter>,
 }
 
 impl<'i, 'c> Model for LogIndex<'i, 'c> {
-    ghost use Rattle.std.specs.Prelude.{◌≡◌, true};
     ghost use Rattle.modules.specs.Entries.{CatalogEntries};
-    ghost use Rattle.catalog_engines.specs.LogIndexes.{DoesRise};
+    ghost use Rattle.catalog_engines.specs.LogIndexes.{IsKnown};
 
     ghost Value = { CatalogEntries };
 
     ghost view = { λ i. i.index.now };
 
-    ghost invariant = { λ i. i.kernel_rises ≡ true → DoesRise i.index.now 0 };
+    ghost invariant = { λ i. IsKnown i.index.now i.kernel_rises i.names };
 }
 
 impl<'i, 'c> LogIndex<'i, 'c> {
-    /// Goes through the symbols of the kernel itself once.
-    pub(crate) fn new(index: &'i IndexedCatalog<'c>) -> LogIndex<'i, 'c>
+    /// Goes through all symbols once.
+    pub(crate) fn new(alloc: Global, index: &'i IndexedCatalog<'c>) -> LogIndex<'i, 'c>
         ensures { result ≡ index.now }
     {
+        let catalog = index.catalog();
         LogIndex {
             index,
-            kernel_rises: does_kernel_rise(index.catalog()),
+            kernel_rises: does_kernel_rise(catalog),
+            names: NameFilter::of(alloc, catalog).ok(),
         }
     }
 
@@ -55,6 +62,29 @@ impl<'i, 'c> LogIndex<'i, 'c> {
         ensures { result ≡ item_of_address self.now addr }
     {
         self.index.find(addr)
+    }
+
+    /// Whether a symbol may have the name.
+    #[tactic(auto, using(crate::proofs::FilterLemmas::no_name))]
+    pub(crate) fn may_be_name(&self, name: &[u8]) -> bool
+        ensures { result ≡ false → IsNoName self.now name.now }
+    {
+        match &self.names {
+            Some(names) => names.has(name),
+            None => true,
+        }
+    }
+
+    /// Whether an address is not below the first region.
+    #[tactic(auto, using(crate::proofs::RangeLemmas::none_reached, crate::proofs::RangeLemmas::reached_by_first))]
+    pub(crate) fn reaches(&self, addr: u64) -> bool
+        ensures { result ≡ is_reached self.now addr }
+    {
+        let items = self.index.items();
+        if items.is_empty() {
+            return false;
+        }
+        items[0].a <= addr
     }
 
     /// Whether the symbols of the module of this number are known to be by rising address.

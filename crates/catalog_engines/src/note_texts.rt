@@ -3,7 +3,8 @@ ghost use Rattle.std.specs.Prelude.{◌≡◌};
 ghost use Rattle.texts.specs.Output.{Says};
 ghost use Rattle.catalog_engines.specs.NoteTexts.{line_if_noted, line_where, lines_by, log_line};
 ghost use Rattle.catalog_engines.specs.NoteTexts.{log_message, message_of, missing_text};
-ghost use Rattle.catalog_engines.specs.NoteTexts.{note_head, note_line, note_lines, note_of_head};
+ghost use Rattle.catalog_engines.specs.NoteTexts.{log_name, note_head, note_line, note_lines};
+ghost use Rattle.catalog_engines.specs.NoteTexts.{note_of_head};
 ghost use Rattle.catalog_engines.specs.NoteTexts.{other_boot_line, remedy_text, unnamed_line};
 
 use crate::sources::{ListingFiles, Sources};
@@ -102,8 +103,19 @@ pub(crate) fn put_note_head<W: Write>(writer: &mut Output<W>, file: &[u8])
 pub fn put_log_note<W: Write>(writer: &mut Output<W>, log: &str, head: &[u8], names: LogNames)
     ensures { Says W.contents writer.old writer.new (log_line log.now head.now names) }
 {
-    put_note_head(writer, log.as_bytes());
+    put_note_head(writer, log_name(log));
     put_log_message(writer, head, names);
+}
+
+/// What notes call the log in this file.
+fn log_name(log: &str) -> &[u8]
+    ensures { result.now ≡ log_name log.now }
+{
+    if log == "-" {
+        b"standard input"
+    } else {
+        log.as_bytes()
+    }
 }
 
 /// Writes it after the name of the file.

@@ -21,10 +21,12 @@ pub record Beside : Type 0 where
   pub other : Text
   pub message : Text
 
--- how an argument is read, the flag that excludes it, and the option that it needs
+-- how an argument is read, the flag that excludes it, the option that says the same, and the option
+-- that it needs
 pub record ArgumentRow : Type 0 where
   pub rule : Rule
   pub excluded_by : Option Beside
+  pub instead_of : Option Beside
   pub needs : Option Beside
 
 -- ---- a row of the program
@@ -45,6 +47,7 @@ row_of a = record {
       with_kind a.kind
       (record (new_rule a.name.now) { value_names = length a.values.now; required = a.is_required });
   excluded_by = option_map beside_of a.excluded_by;
+  instead_of = option_map beside_of a.instead_of;
   needs = option_map beside_of a.needs;
 }
 
@@ -55,6 +58,7 @@ abbrev pub plain : Kind → ℕ → Text → ArgumentRow
 plain kind values id = record {
   rule = with_kind kind (record (new_rule id) { value_names = values });
   excluded_by = None;
+  instead_of = None;
   needs = None;
 }
 
@@ -70,6 +74,10 @@ required row = record row { rule = record row.rule { required = true } }
 abbrev pub excluded_by : Text → Text → ArgumentRow → ArgumentRow
 excluded_by other message row =
     record row { excluded_by = Some (record { other = other; message = message }) }
+
+abbrev pub instead_of : Text → Text → ArgumentRow → ArgumentRow
+instead_of other message row =
+    record row { instead_of = Some (record { other = other; message = message }) }
 
 abbrev pub needing : Text → Text → ArgumentRow → ArgumentRow
 needing other message row =
@@ -110,7 +118,11 @@ annotate_rows =
     ∷ plain Operand 1 (codes "log") ∷ [])
 
 abbrev pub check_rows : List ArgumentRow
-check_rows = listed (codes "modules") ∷ option (codes "kallsyms") ∷ bounds_rows []
+check_rows =
+    listed (codes "modules") ∷ option (codes "kallsyms")
+    ∷ bounds_rows
+    (instead_of (codes "kallsyms") (codes "--kallsyms and FILE exclude each other")
+    (plain Operand 1 (codes "listing")) ∷ [])
 
 abbrev pub address_rows : List ArgumentRow
 address_rows =

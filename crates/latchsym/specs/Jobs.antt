@@ -21,11 +21,14 @@ use Rattle.modules.specs.Listed.{BoundNames}
 use Rattle.latchsym.specs.CommandLine.{ArgumentRow, Beside, arguments_of, latchsym_app}
 use Rattle.latchsym.specs.declared.requests.Address.{Address}
 use Rattle.catalog_engines.specs.declared.annotations.Annotate.{Annotate}
+use Rattle.catalog_engines.specs.declared.annotations.LogReading.{LogReading}
+use Rattle.catalog_engines.specs.declared.annotations.LogReading.TheVariants.{Blocks, Followed, Whole}
 use Rattle.latchsym.specs.declared.requests.Job.{Job}
 use Rattle.latchsym.specs.declared.requests.Job.TheVariants as job
 use Rattle.latchsym.specs.declared.requests.JobFault.{JobFault}
 use Rattle.latchsym.specs.declared.requests.JobFault.TheVariants.{BadAddress, BadEnd, BadOffset}
 use Rattle.latchsym.specs.declared.requests.JobFault.TheVariants.{BadReaders, Clash, CommandLine}
+use Rattle.latchsym.specs.declared.requests.JobFault.TheVariants.{FollowedByOwnOffset}
 use Rattle.latchsym.specs.declared.requests.JobFault.TheVariants.{NoAddress, NoJob, OutOfMemory}
 use Rattle.catalog_engines.specs.declared.sources.ListingFiles.{ListingFiles}
 use Rattle.latchsym.specs.declared.requests.Lookup.{Lookup}
@@ -62,12 +65,13 @@ said_if is_so None = None
 said_if is_so (Some b) = if is_so b.other then Some b.message else None
 
 -- what is wrong with the argument of the row, if it is given: the flag that excludes it is too, or
--- the option that it needs is not
+-- the option that says the same is, or the option that it needs is not
 abbrev pub clash_of : List Row → ArgumentRow → Option Text
 clash_of rows row =
     if is_present rows row
     then option_or (said_if (λ id. has_flag id rows) row.excluded_by)
-    (said_if (λ id. is_none (first_of id rows)) row.needs)
+    (option_or (said_if (λ id. is_some (first_of id rows)) row.instead_of)
+    (said_if (λ id. is_none (first_of id rows)) row.needs))
     else None
 
 -- the first of what is wrong with the options of the command of this name beside one another
@@ -81,11 +85,14 @@ IsClashIn name rows _ = ⊥
 
 -- ---- the listings
 
+-- the file that is named for the symbols, as a word of its own or as the value of an option
+abbrev pub symbols_in : List Row → Option Text
+symbols_in rows = option_or (first_of (codes "listing") rows) (first_of (codes "kallsyms") rows)
+
 -- the files of the listings; that of the symbols is the kernel's own if none is named
 pub record AreFilesIn (rows : List Row) (files : ListingFiles) : Type 0 where
   pub modules : option_map (λ f. f.now) files.modules ≡ first_of (codes "modules") rows
-  pub kallsyms : files.kallsyms.now
-      ≡ unwrap_or (first_of (codes "kallsyms") rows) (codes "/proc/kallsyms")
+  pub kallsyms : files.kallsyms.now ≡ unwrap_or (symbols_in rows) (codes "/proc/kallsyms")
   pub regions : option_map (λ f. f.now) files.regions ≡ first_of (codes "regions") rows
 
 -- the word looks like an address, and not like the name of a symbol
@@ -128,6 +135,17 @@ IsOffsetIn rows offset = offset_of (first_of (codes "offset") rows) ≡ Some off
 pub record HasBadOffset (rows : List Row) (word : Text) : Type 0 where
   pub given : first_of (codes "offset") rows ≡ Some word
   pub bad : number_of word ≡ None
+
+-- the offset that a log says itself is asked for
+abbrev pub is_own_offset : List Row → Bool
+is_own_offset rows =
+    option_map_or (λ word. bytes_eq word (codes "auto")) (first_of (codes "offset") rows) false
+
+-- this is the offset that is given for a log, or 0 in place of its own
+abbrev pub IsLogOffsetIn : List Row → ℕ → Type 0
+IsLogOffsetIn rows offset =
+    (if is_own_offset rows then Some 0 else offset_of (first_of (codes "offset") rows))
+    ≡ Some offset
 
 -- the form that these values ask for
 abbrev pub form_in : List Row → AnswerForm
@@ -184,12 +202,24 @@ callers_in rows =
     else if has_flag (codes "exact") rows then Never
     else ByPlace
 
--- the log, which is the standard input if none is named, how its addresses are taken, and whether
--- the listings are read again while it lasts
+-- how a log is read
+abbrev pub reading_in : List Row → LogReading
+reading_in rows =
+    if is_own_offset rows then Whole
+    else if has_flag (codes "follow") rows then Followed
+    else Blocks
+
+-- a log is followed that is read as a whole
+abbrev pub is_followed_whole : List Row → Bool
+is_followed_whole rows = is_own_offset rows && has_flag (codes "follow") rows
+
+-- the log, which is the standard input if none is named, how its addresses are taken, and how it is
+-- read
 pub record IsAnnotateIn (rows : List Row) (annotate : Annotate) : Type 0 where
   pub callers : annotate.rule.callers ≡ callers_in rows
-  pub lower : IsOffsetIn rows annotate.rule.offset
-  pub follow : annotate.follow ≡ has_flag (codes "follow") rows
+  pub lower : IsLogOffsetIn rows annotate.rule.offset
+  pub reading : annotate.reading ≡ reading_in rows
+  pub one : is_followed_whole rows ≡ false
   pub log : annotate.log.now ≡ unwrap_or (first_of (codes "log") rows) (codes "-")
 
 -- the names, and how their addresses are told
@@ -253,7 +283,11 @@ IsIncomplete name rows =
 abbrev pub HasBadValue : Text → List Row → JobFault → Type 0
 HasBadValue name rows OutOfMemory = Unit {0}
 HasBadValue name rows (BadEnd word) = HasBadEnd (values_in (codes "kernel") rows) word.now
-HasBadValue name rows (BadOffset word) = HasBadOffset rows word.now
+HasBadValue name rows (BadOffset word) =
+    HasBadOffset rows word.now
+    × ((bytes_eq name (codes "annotate") && is_own_offset rows) ≡ false)
+HasBadValue name rows FollowedByOwnOffset =
+    (name ≡ codes "annotate") × (is_followed_whole rows ≡ true)
 HasBadValue name rows NoAddress = (name ≡ codes "lookup") × (lacks_addresses rows ≡ true)
 HasBadValue name rows (BadAddress word) =
     (name ≡ codes "lookup")

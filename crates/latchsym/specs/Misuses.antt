@@ -15,7 +15,7 @@ use Rattle.latchsym.specs.declared.requests.JobFault.TheVariants.{OutOfMemory, C
 use Rattle.latchsym.specs.declared.requests.JobFault.TheVariants.{BadAddress, NoAddress}
 use Rattle.latchsym.specs.declared.requests.JobFault.TheVariants.{BadEnd, BadOffset}
 use Rattle.latchsym.specs.declared.requests.JobFault.TheVariants.{BadReaders, NoJob, NoText}
-use Rattle.latchsym.specs.declared.requests.JobFault.TheVariants.{Clash}
+use Rattle.latchsym.specs.declared.requests.JobFault.TheVariants.{Clash, FollowedByOwnOffset}
 use Rattle.command_io.specs.declared.fault.Fault.TheVariants.{Refused, Write}
 
 -- what is wrong with the command line, and with which word
@@ -78,6 +78,8 @@ IsNoJob contents errors w w' e e' (Clash message) status =
     IsMisusedAlone errors w w' e e' message.now [] status
 IsNoJob contents errors w w' e e' (BadOffset word) status =
     IsMisusedAlone errors w w' e e' (offset_message word.now) word.now status
+IsNoJob contents errors w w' e e' FollowedByOwnOffset status =
+    IsMisusedAlone errors w w' e e' (codes "--offset auto and --follow exclude each other") [] status
 IsNoJob contents errors w w' e e' (BadEnd word) status =
     IsMisusedAlone errors w w' e e' (codes "--kernel takes two names of symbols, and its END is ") word.now status
 IsNoJob contents errors w w' e e' (BadReaders word) status =

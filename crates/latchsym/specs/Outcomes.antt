@@ -9,6 +9,7 @@ use Rattle.catalog_engines.specs.Annotations.{AnnotatesLog}
 use Rattle.catalog_engines.specs.Checks.{IsChecked}
 use Rattle.catalog_engines.specs.Following.{FollowsLog}
 use Rattle.catalog_engines.specs.LastingLogs.{Seen}
+use Rattle.catalog_engines.specs.OwnOffsets.{WritesByOwnOffset, all_failures}
 use Rattle.latchsym.specs.Files.{Held, held_given}
 use Rattle.catalog_engines.specs.GivenAnswers.{AnswersListings}
 use Rattle.command_io.specs.Faults.{with_notes, with_status, without_notes}
@@ -31,6 +32,8 @@ use Rattle.engines.specs.LookupTexts.{Query}
 use Rattle.latchsym.specs.declared.jobs.OpenedJob.{OpenedJob}
 use Rattle.latchsym.specs.declared.jobs.OpenedJob.TheVariants.{Request, Trace, Steps}
 use Rattle.catalog_engines.specs.declared.annotations.Annotate.{Annotate}
+use Rattle.catalog_engines.specs.declared.annotations.LogReading.{LogReading}
+use Rattle.catalog_engines.specs.declared.annotations.LogReading.TheVariants.{Blocks, Followed, Whole}
 use Rattle.catalog_engines.specs.declared.sources.Sources.{Sources}
 use Rattle.latchsym.specs.declared.requests.Lookup.{Lookup}
 use Rattle.latchsym.specs.declared.requests.Subcommand.{Subcommand}
@@ -85,25 +88,30 @@ seen_first remaining held s l r = record {
   later = held_given held s.files;
 }
 
--- A log is followed, or annotated by the listings as they are at its beginning.
+-- A log is followed, or annotated by the listings as they are at its beginning, or read as a whole
+-- for the offset that it says.
 abbrev pub IsLogBy : {R W E : Type 0} → (R → Option (List ℕ)) → Held → (W → Option (List ℕ))
-    → (E → Option (List ℕ)) → Sources → Annotate → Bool → ListingReaders R R R
+    → (E → Option (List ℕ)) → Sources → Annotate → LogReading → ListingReaders R R R
     → ListingReaders R R R → Output W → Output W → Output E → Output E
     → Result Finished Fault → Counted R → Counted R → Type 0
-IsLogBy remaining held contents errors s a true l l' w w' e e' outcome r r' =
+IsLogBy remaining held contents errors s a Followed l l' w w' e e' outcome r r' =
     (after : Seen)
     × Ends (FollowsLog contents errors s a (seen_first remaining held s l r) after w w' e e')
     (with_notes no_notes) outcome
-IsLogBy remaining held contents errors s a false l l' w w' e e' outcome r r' =
+IsLogBy remaining held contents errors s a Blocks l l' w w' e e' outcome r r' =
     Ends (AnnotatesLog remaining contents errors s a (known_given remaining remaining remaining l)
     (listing_failures l l') r r' w w' e e') (with_notes no_notes) outcome
+IsLogBy remaining held contents errors s a Whole l l' w w' e e' outcome r r' =
+    Ends (WritesByOwnOffset contents errors s a w w' e e'
+    (known_given remaining remaining remaining l) (remaining (device_of r))
+    (all_failures (listing_failures l l') r r')) (with_notes no_notes) outcome
 
 abbrev pub IsOutcomeOfLog : {R W E : Type 0} → (R → Option (List ℕ)) → Held → (W → Option (List ℕ))
-    → (E → Option (List ℕ)) → Sources → Annotate → Bool → ListingReaders R R R
+    → (E → Option (List ℕ)) → Sources → Annotate → LogReading → ListingReaders R R R
     → ListingReaders R R R → Option (Counted R) → Option (Counted R) → Output W → Output W
     → Output E → Output E → Result Finished Fault → Type 0
-IsOutcomeOfLog remaining held contents errors s a follow l l' i i' w w' e e' outcome =
-    HoldsOfInput (IsLogBy remaining held contents errors s a follow l l' w w' e e' outcome)
+IsOutcomeOfLog remaining held contents errors s a reading l l' i i' w w' e e' outcome =
+    HoldsOfInput (IsLogBy remaining held contents errors s a reading l l' w w' e e' outcome)
     i i' outcome
 
 -- how addresses are looked up that are asked for over these listings
@@ -124,7 +132,7 @@ IsOutcomeBy remaining held contents errors s (sub.Lookup lookup) l l' i i' w w' 
 IsOutcomeBy remaining held contents errors s (sub.Run run) l l' i i' w w' e e' outcome =
     IsOutcomeOfRun remaining contents s run.readers l l' i i' w w' outcome × (e' ≡ e)
 IsOutcomeBy remaining held contents errors s (sub.Annotate a) l l' i i' w w' e e' outcome =
-    IsOutcomeOfLog remaining held contents errors s a a.follow l l' i i' w w' e e' outcome
+    IsOutcomeOfLog remaining held contents errors s a a.reading l l' i i' w w' e e' outcome
 IsOutcomeBy remaining held contents errors s sub.Check l l' i i' w w' e e' outcome =
     Ends (AnswersListings contents (IsChecked s.kernel s.files)
     (known_given remaining remaining remaining l) (listing_failures l l') w w')

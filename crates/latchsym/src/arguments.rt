@@ -1,18 +1,20 @@
 //! From the words of a command line to the job that they ask for.
-ghost use Rattle.std.specs.Prelude.{◌≡◌, ◌≢◌, List, codes, map, option_map, unwrap_or};
+ghost use Rattle.std.specs.Prelude.{◌≡◌, ◌≢◌, ◌&&◌, List, codes, false, map, option_map, unwrap_or};
+ghost use Rattle.std.specs.Str.{bytes_eq};
 ghost use Rattle.clap.specs.Words.{Row, Text, first_of, subcommand_rows_of};
 ghost use Rattle.latchsym.specs.CommandLine.{row_of};
 ghost use Rattle.latchsym.specs.Jobs.{AnswersMatches, AnswersSubcommand, AnswersWords, AreBoundsIn};
 ghost use Rattle.latchsym.specs.Jobs.{AreFilesIn, AreNumbersIn, Gives, IsAddressIn, IsAnnotateIn};
-ghost use Rattle.latchsym.specs.Jobs.{IsFaultOf, IsJobIn, IsLookupIn, IsOffsetIn, IsRequestIn};
+ghost use Rattle.latchsym.specs.Jobs.{IsFaultOf, IsJobIn, IsLogOffsetIn, IsLookupIn, IsOffsetIn};
+ghost use Rattle.latchsym.specs.Jobs.{IsRequestIn, is_followed_whole, is_own_offset, reading_in};
 ghost use Rattle.latchsym.specs.Jobs.{IsRunIn, IsSubcommandIn, callers_in, clash_in, clash_of};
 ghost use Rattle.latchsym.specs.Jobs.{form_in, has_flag, is_like_address, is_present, readers_of};
-ghost use Rattle.latchsym.specs.Jobs.{rows_in, values_in};
+ghost use Rattle.latchsym.specs.Jobs.{rows_in, symbols_in, values_in};
 
 use crate::command_line::latchsym_command;
 use crate::requests::{Address, Job, JobFault, Lookup, Request, Run, Subcommand};
 use crate::rows::{Argument, KALLSYMS, Kind, LOG, arguments_of};
-use catalog_engines::{AddressForm, Annotate, ListingFiles, Sources};
+use catalog_engines::{AddressForm, Annotate, ListingFiles, LogReading, Sources};
 use clap::error::ErrorKind;
 use clap::{ArgMatches, Error};
 use command_io::AnswerForm;
@@ -86,17 +88,18 @@ fn clash_in(name: &str, found: &ArgMatches<'_>) -> Option<&'static str>
     None
 }
 
-/// What is wrong if the argument of the row is given: a flag that excludes it is too, or the option
-/// that it needs is not.
+/// What is wrong if the argument of the row is given: a flag that excludes it is too, or an option
+/// that says the same is, or the option that it needs is not.
 fn clash_of(row: &Argument, found: &ArgMatches<'_>) -> Option<&'static str>
     ensures { option_map (λ m. m.now) result ≡ clash_of (rows_in found.now) (row_of row.now) }
 {
     if !is_present(row, found) {
         return None;
     }
-    match (row.excluded_by, row.needs) {
-        (Some(clash), _) if is_given(found, clash.other) => Some(clash.message),
-        (_, Some(clash)) if value_of(found, clash.other).is_none() => Some(clash.message),
+    match (row.excluded_by, row.instead_of, row.needs) {
+        (Some(clash), _, _) if is_given(found, clash.other) => Some(clash.message),
+        (_, Some(clash), _) if value_of(found, clash.other).is_some() => Some(clash.message),
+        (_, _, Some(clash)) if value_of(found, clash.other).is_none() => Some(clash.message),
         _ => None,
     }
 }
@@ -145,8 +148,20 @@ fn files_in<'a>(found: &ArgMatches<'a>) -> ListingFiles<'a>
 {
     ListingFiles {
         modules: value_of(found, "modules"),
-        kallsyms: value_or_default(found, &KALLSYMS),
+        kallsyms: symbols_in(found),
         regions: value_of(found, "regions"),
+    }
+}
+
+/// The file of the symbols: one that is named as a word of its own or as the value of an option, or
+/// else the kernel's own.
+fn symbols_in<'a>(found: &ArgMatches<'a>) -> &'a str
+    ensures { result.now
+        ≡ unwrap_or (symbols_in (rows_in found.now)) (codes "/proc/kallsyms") }
+{
+    match value_of(found, "listing") {
+        Some(file) => file,
+        None => value_or_default(found, &KALLSYMS),
     }
 }
 
@@ -268,20 +283,61 @@ fn readers_in(word: &str) -> Option<u32>
 fn annotate_in<'a>(found: &ArgMatches<'a>) -> Result<Annotate<'a>, JobFault<'a>>
     ensures { Gives IsAnnotateIn (codes "annotate") (rows_in found.now) result }
 {
-    let offset = offset_in(found)?;
+    if is_followed_whole(found) {
+        return Err(JobFault::FollowedByOwnOffset);
+    }
+    let offset = log_offset_in(found)?;
     Ok(annotate_with(found, offset))
+}
+
+/// Whether a log is to be followed that is read as a whole.
+fn is_followed_whole(found: &ArgMatches<'_>) -> bool
+    ensures { result ≡ is_followed_whole (rows_in found.now) }
+{
+    is_own_offset(found) && is_given(found, "follow")
+}
+
+/// Whether the offset is that which the log says itself.
+fn is_own_offset(found: &ArgMatches<'_>) -> bool
+    ensures { result ≡ is_own_offset (rows_in found.now) }
+{
+    value_of(found, "offset") == Some("auto")
+}
+
+/// By how many bytes the addresses of a log are moved: 0 in place of what it says itself.
+fn log_offset_in<'a>(found: &ArgMatches<'a>) -> Result<u64, JobFault<'a>>
+    ensures { Gives IsLogOffsetIn (codes "annotate") (rows_in found.now) result }
+{
+    if is_own_offset(found) {
+        return Ok(0);
+    }
+    offset_in(found)
+}
+
+/// How a log is read.
+fn reading_in(found: &ArgMatches<'_>) -> LogReading
+    ensures { result ≡ reading_in (rows_in found.now) }
+{
+    if is_own_offset(found) {
+        LogReading::Whole
+    } else if is_given(found, "follow") {
+        LogReading::Followed
+    } else {
+        LogReading::Blocks
+    }
 }
 
 /// The log that is annotated, by addresses that are moved by this offset.
 fn annotate_with<'a>(found: &ArgMatches<'a>, offset: u64) -> Annotate<'a>
-    ensures { IsOffsetIn (rows_in found.now) offset → IsAnnotateIn (rows_in found.now) result }
+    ensures { is_followed_whole (rows_in found.now) ≡ false
+        → IsLogOffsetIn (rows_in found.now) offset → IsAnnotateIn (rows_in found.now) result }
 {
     Annotate {
         rule: LogRule {
             callers: callers_in(found),
             offset,
         },
-        follow: is_given(found, "follow"),
+        reading: reading_in(found),
         log: value_or_default(found, &LOG),
     }
 }
@@ -316,7 +372,9 @@ fn address_in<'a>(alloc: Global, found: &ArgMatches<'a>) -> Result<Address<'a>, 
 
 /// By how many bytes the addresses are moved: none if no word says it.
 fn offset_in<'a>(found: &ArgMatches<'a>) -> Result<u64, JobFault<'a>>
-    ensures { (name : Text) → Gives IsOffsetIn name (rows_in found.now) result }
+    ensures { (name : Text)
+        → (bytes_eq name (codes "annotate") && is_own_offset (rows_in found.now)) ≡ false
+        → Gives IsOffsetIn name (rows_in found.now) result }
 {
     let Some(word) = value_of(found, "offset") else {
         return Ok(0);

@@ -21,7 +21,8 @@ ghost use Rattle.latchsym.specs.Reasons.{error_if_given, error_of_listings, erro
 use crate::followed_files::FollowedFiles;
 use crate::requests::{Address, Job, Lookup, Request, Run, Subcommand};
 use catalog_engines::{
-    Annotate, ListingFiles, Sources, address_engine, annotate_engine, check_engine, follow_engine,
+    Annotate, ListingFiles, LogReading, Sources, address_engine, annotate_engine, check_engine,
+    follow_engine, own_offset_engine,
 };
 use command_io::{Fault, Finished, ListingReaders, with_notes, with_status, without_notes};
 use engines::{LookupOptions, lookup_engine, run_engine, steps_engine, trace_engine};
@@ -197,7 +198,7 @@ fn do_run<T: Threads + Wait + Sync, R: Read, W: Write>(
     )
 }
 
-/// Annotates a log, or follows it.
+/// Annotates a log, or follows it, or reads it whole for the offset that it says.
 fn do_annotate<F: FileSource, W: Write, E: Write>(
     alloc: Global,
     files: &F,
@@ -210,17 +211,25 @@ fn do_annotate<F: FileSource, W: Write, E: Write>(
 ) -> Result<Finished, Fault>
     ensures { IsOutcomeOfLog F.File.remaining (F.held files.now) W.contents E.contents sources.now
         job.now
-        job.now.follow listings.old listings.new log.old log.new writer.old writer.new
+        job.now.reading listings.old listings.new log.old log.new writer.old writer.new
         errors.old errors.new result }
 {
     let Some(log) = log else {
         return Err(UNREAD);
     };
-    if job.follow {
-        return do_follow(alloc, files, sources, job, listings, log, writer, errors);
+    match job.reading {
+        LogReading::Blocks => {
+            let done = annotate_engine(alloc, listings, log, sources, job, errors, writer);
+            with_notes(done, ListingNotes::none())
+        }
+        LogReading::Followed => {
+            do_follow(alloc, files, sources, job, listings, log, writer, errors)
+        }
+        LogReading::Whole => {
+            let done = own_offset_engine(alloc, listings, log, sources, job, errors, writer);
+            with_notes(done, ListingNotes::none())
+        }
     }
-    let done = annotate_engine(alloc, listings, log, sources, job, errors, writer);
-    with_notes(done, ListingNotes::none())
 }
 
 /// Annotates a log that lasts. The files of its listings are opened again.

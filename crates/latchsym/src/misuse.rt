@@ -34,6 +34,9 @@ pub fn refuse<W: Write, E: Write>(
         JobFault::NoAddress => misused(b"no address is given", "", errors),
         JobFault::Clash(message) => misused(message.as_bytes(), "", errors),
         JobFault::BadOffset(word) => misused(offset_message(word), word, errors),
+        JobFault::FollowedByOwnOffset => {
+            misused(b"--offset auto and --follow exclude each other", "", errors)
+        }
         JobFault::BadEnd(word) => misused(
             b"--kernel takes two names of symbols, and its END is ",
             word,

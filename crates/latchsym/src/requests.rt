@@ -152,6 +152,8 @@ pub enum JobFault<'a> {
     Clash(&'static str),
     /// A value of `--offset` that is no NUMBER.
     BadOffset(&'a str),
+    /// The offset that a log says itself, of one that is followed.
+    FollowedByOwnOffset,
     /// An END of `--kernel` that begins with `0x`, as an address does.
     BadEnd(&'a str),
     /// A value of `--readers` that is no NUMBER from 1 to 64.

@@ -45,6 +45,8 @@ pub struct Argument {
     pub default: &'static str,
     /// The flag that may not be given beside it.
     pub excluded_by: Option<Clash>,
+    /// The option with a value that may not be given beside it, since it says the same.
+    pub instead_of: Option<Clash>,
     /// The option with a value that has to be given beside it.
     pub needs: Option<Clash>,
 }
@@ -58,6 +60,7 @@ const ANY: Argument = Argument {
     is_required: false,
     default: "",
     excluded_by: None,
+    instead_of: None,
     needs: None,
 };
 
@@ -85,6 +88,12 @@ const FROM_SYMBOLS: Option<Clash> = Some(Clash {
 const NEEDS_MODULES: Option<Clash> = Some(Clash {
     other: "modules",
     message: "--regions needs --modules",
+});
+
+/// A word that is no option names the listing of symbols.
+const INSTEAD_OF_KALLSYMS: Option<Clash> = Some(Clash {
+    other: "kallsyms",
+    message: "--kallsyms and FILE exclude each other",
 });
 
 const NOT_EXACT: Option<Clash> = Some(Clash {
@@ -150,13 +159,21 @@ const ANNOTATE: &[Argument] = &[
         "Take every address as a return address, not only where its place in the line says so",
         excluded_by: NOT_EXACT),
     row!(Flag "exact" []: "Take no address as a return address"),
-    OFFSET,
+    row!(Valued "offset" ["N"]: "\
+Subtract N from each address, as for a kernel moved up by N at boot; auto takes N from the log"),
     row!(Flag "follow" []:
         "Read the listings again as the log grows, for modules loaded meanwhile"),
     LOG,
 ];
 
-const CHECK: &[Argument] = &[MODULES, KALLSYMS, REGIONS, KERNEL];
+const CHECK: &[Argument] = &[
+    MODULES,
+    KALLSYMS,
+    REGIONS,
+    KERNEL,
+    row!(Operand "listing" ["FILE"]: "The symbols, as after --kallsyms",
+        instead_of: INSTEAD_OF_KALLSYMS),
+];
 
 const ADDRESS: &[Argument] = &[
     KALLSYMS,

@@ -1,5 +1,5 @@
 -- Blocks that are read and written one after the other.
-use Rattle.logs.proofs.Definitions.{◌≡◌, ◌∙◌, ℕ, ◌+◌, ◌<◌, ◌≤◌, inl, inr, List, [], ◌∷◌, ◌++◌, length, length-append, arith, refl, sym, ap, subst, Ok, Err, take, append_assoc, append-nil, ◌^◌, Appends, Consumes, IsAtEnd, Keeps, NoneFailed, Rose, device_of, failures_of, Output, WrotePart, contents_of, has_failed, Answering, lines, annotated, first_held, held_over, Annotates, Begins, Ends, IsCutOff, IsOpen, IsUpToDate, KeepsNothingBack, Passes, Puts, held_in, put_of, LogFault, Annotator}
+use Rattle.logs.proofs.Definitions.{◌≡◌, ◌∙◌, ℕ, ◌+◌, ◌<◌, ◌≤◌, inl, inr, List, [], ◌∷◌, ◌++◌, length, length-append, arith, refl, sym, ap, subst, Ok, Err, take, append_assoc, append-nil, ◌^◌, Appends, Consumes, IsAtEnd, Keeps, NoneFailed, Rose, device_of, failures_of, Output, WrotePart, contents_of, has_failed, Answering, lines, annotated, first_held, held_over, Annotates, Begins, Ends, IsCutOff, IsOpen, IsUpToDate, KeepsNothingBack, Passes, Puts, held_in, put_of, LogFault, Annotator, IsAnnotation}
 use Rattle.std.proofs.Common.{Option}
 use Rattle.std.specs.Prelude.{◌-◌}
 use Rattle.std.proofs.KnownBytes.{Appends-nil, Appends-trans, Consumes-kept, Consumes-nil, Consumes-trans}
@@ -210,3 +210,10 @@ module _ {R W : Type 0} {remaining : R → Option (List ℕ)} {contents : W → 
                 (at_end, is_annotated ∙ ap (annotated answer) same, are_names ∙ ap (λ l. (held_over answer first_held (lines l)).names) same, head ∙ on.head_is ∙ ap (take 2) same),
               ),
             )
+
+-- a log that is taken in at once, and its last line
+pub whole_log : (answer : Answering) (a a' : Annotator) (log written text out : List ℕ) (names : LogNames) → held_in a ≡ first_held → IsOpen a [] → Passes answer a a' log written → Ends answer a' names text → out ≡ written ++ text → IsAnnotation answer log out names
+whole_log answer a a' log written text out names first is_open passes ends parts =
+    let came : Came answer a' written log = record { first = a; is_open = is_open; held = first; passes = passes } in
+    let (is_annotated, are_names) = whole_at text names came ends in
+    record { is_annotated = parts ∙ is_annotated; are_names = are_names }

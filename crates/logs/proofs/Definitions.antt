@@ -8,12 +8,13 @@ pub use Rattle.std.specs.Io.KnownBytes.{Appends, Consumes, IsAtEnd, Keeps}
 pub use Rattle.std.specs.List.{onto_first, list_any, starts_with, list_all}
 pub use Rattle.std.specs.Prelude.{◌^◌, IfErr, IfOk, OnErr, codes, nat_eq, slice_index, Some, nat_le, reverse, slice_index_or}
 pub use Rattle.logs.specs.AnnotatedLogs.{annotated, annotated_lines, first_held, held_over, counted, woven, fewest, is_address_byte, is_begun, SameAddresses, framed, owed, tallied}
-pub use Rattle.logs.specs.Annotation.{Annotates, Begins, Ends, IsCutOff, IsOpen, IsUpToDate, KeepsNothingBack, Passes, Puts, held_in, put_of, Adds, Ended, kept_of, IsWriteFault}
+pub use Rattle.logs.specs.Annotation.{IsAnnotation, IsAnnotationOf, Annotates, Begins, Ends, IsCutOff, IsOpen, IsUpToDate, KeepsNothingBack, Passes, Puts, held_in, put_of, Adds, Ended, kept_of, IsWriteFault}
 pub use Rattle.logs.specs.Answering.{Answering}
+pub use Rattle.logs.specs.KernelOffsets.{kernel_offset_in}
 pub use Rattle.logs.specs.Lines.{lines, AreWhole, IsLine, has_end, is_long}
 pub use Rattle.logs.specs.Places.{ends_prefix, is_lead, is_of, last_of, lead_item, prefix_up_to, first_of, begins_like, has_point, has_time}
 pub use Rattle.logs.specs.TakenWords.{begins_user, has_words, tells_place, taken_among, taken_at, taken_in, has_code}
-pub use Rattle.logs.specs.Words.{run_of, is_word_byte, address_at, address_of_word, digits_between, begins_joint, has_prefix, words_behind, words_from, is_closer}
+pub use Rattle.logs.specs.Words.{run_of, is_word_byte, address_at, address_of_word, digits_between, is_glued, has_prefix, words_behind, words_from, is_closer}
 pub use Rattle.logs.specs.declared.annotation.LogFault.{LogFault}
 pub use Rattle.logs.specs.declared.annotator.Annotator.{Annotator}
 pub use Rattle.logs.specs.declared.contexts.LogContext.{LogContext}

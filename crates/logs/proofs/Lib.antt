@@ -6,6 +6,8 @@ pub mod LineLemmas
 pub mod AnnotationLemmas
 -- texts that begin bytes
 pub mod TextLemmas
+-- a log that does not say where its kernel lay
+pub mod KernelOffsetLemmas
 -- the things that begin a line
 pub mod PlaceLemmas
 -- words that are too short, and leaps over them

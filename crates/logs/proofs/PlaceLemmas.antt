@@ -1,5 +1,5 @@
 -- Bytes that are gone through from the last one to the first, and the things that begin a line.
-use Rattle.logs.proofs.Definitions.{take_rest, ne_eqb, ◌≡◌, ◌∙◌, ℕ, zero, suc, ◌+◌, ◌<◌, ◌≤◌, false, cond, not, ◌&&◌, ◌==◌, List, [], ◌∷◌, length, take, get_or, refl, ap, arith, reverse-append, take_more, ends_prefix, is_lead, is_of, last_of, lead_item, prefix_up_to}
+use Rattle.logs.proofs.Definitions.{take_rest, ne_eqb, ◌≡◌, ◌∙◌, ℕ, zero, suc, ◌+◌, ◌<◌, ◌≤◌, Bool, false, cond, not, ◌&&◌, ◌==◌, List, [], ◌∷◌, length, take, get_or, refl, ap, arith, reverse-append, take_more, ends_prefix, is_lead, is_of, last_of, lead_item, prefix_up_to}
 use Rattle.std.proofs.Common.{◌-◌, drop}
 use Rattle.logs.specs.declared.places.Kind.{Kind}
 
@@ -18,9 +18,9 @@ not_zero : (n : ℕ) → (suc n == 0) ≡ false
 not_zero n = ne_eqb (suc n) 0 (λ is. omega (arith, is))
 
 -- where the prefix ends
-pub prefix_at : (bytes : List ℕ) (p : ℕ) → 0 < p → prefix_up_to bytes p ≡ cond (ends_prefix (take p bytes) (drop p bytes)) p (prefix_up_to bytes (p - 1))
-prefix_at bytes zero some = absurd (omega arith)
-prefix_at bytes (suc p) some = rw (one_less p)
+pub prefix_at : (at_start : Bool) (bytes : List ℕ) (p : ℕ) → 0 < p → prefix_up_to at_start bytes p ≡ cond (ends_prefix at_start (take p bytes) (drop p bytes)) p (prefix_up_to at_start bytes (p - 1))
+prefix_at at_start bytes zero some = absurd (omega arith)
+prefix_at at_start bytes (suc p) some = rw (one_less p)
 
 -- what is skipped
 lead_skipped : (n : ℕ) (bytes : List ℕ) → n ≤ length bytes → is_lead n bytes ≡ is_lead 0 (drop n bytes)

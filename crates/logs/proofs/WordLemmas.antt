@@ -1,5 +1,5 @@
 -- Words that are no addresses, and the bytes that are leapt over.
-use Rattle.logs.proofs.Definitions.{get_or-take, and_parts, le-ltb, drop-drop, list_any_at, cond_both, lt-leb, ◌≡◌, ◌∙◌, ◌⊎◌, inl, inr, ℕ, zero, suc, ◌+◌, ◌<◌, ◌≤◌, Bool, true, false, cond, not, ◌&&◌, ◌||◌, List, [], ◌∷◌, length, take, get_or, refl, sym, ap, arith, true≢false, Some, nat_eq, nat_le, reverse, length-drop, list_all, list_any, eqb-true, lt-ltb, or_cases, drop_more, get_or-drop, length-take, fewest, is_address_byte, is_begun, taken_among, taken_at, address_at, address_of_word, digits_between, begins_joint, has_prefix, is_word_byte, run_of, words_behind, words_from, LogContext, AddressWord}
+use Rattle.logs.proofs.Definitions.{get_or-take, and_parts, le-ltb, drop-drop, list_any_at, cond_both, lt-leb, ◌≡◌, ◌∙◌, ◌⊎◌, inl, inr, ℕ, zero, suc, ◌+◌, ◌<◌, ◌≤◌, Bool, true, false, cond, not, ◌&&◌, List, [], ◌∷◌, length, take, get_or, refl, sym, ap, arith, true≢false, Some, nat_eq, nat_le, length-drop, list_all, list_any, eqb-true, lt-ltb, or_cases, drop_more, get_or-drop, length-take, fewest, is_address_byte, is_begun, taken_among, taken_at, address_at, address_of_word, digits_between, is_glued, has_prefix, is_word_byte, run_of, words_behind, words_from, LogContext, AddressWord}
 use Rattle.std.proofs.Common.{◌-◌, ⊎_elim}
 use Rattle.std.proofs.lemmas.Bool.{cases_lt}
 use Rattle.std.proofs.lemmas.Bool.Decides.{nat_tests}
@@ -51,9 +51,9 @@ any_at bytes n k below within other = list_any_at is_other (take n bytes) k 0 (o
 -- a word of this length, with such a byte or too short
 no_address : (narrow : Bool) (line : List ℕ) (at n : ℕ) → (n < fewest narrow) ⊎ (list_any is_other (take n (drop at line)) ≡ true) → address_at narrow line (record { start = at; end = at + n }) ≡ None
 no_address narrow line at n why =
-    let joined : Bool = begins_joint (reverse (take at line)) || begins_joint (drop (at + n) line) in
+    let glued : Bool = is_glued line (record { start = at; end = at + n }) in
     let all : (at + n) - at ≡ n = omega arith in
-    cond-None joined _ _ refl (ap (λ m. address_of_word narrow (take m (drop at line))) all ∙ no_word narrow (take n (drop at line)) (of_take why))
+    cond-None glued _ _ refl (ap (λ m. address_of_word narrow (take m (drop at line))) all ∙ no_word narrow (take n (drop at line)) (of_take why))
   where
     of_take : (n < fewest narrow) ⊎ (list_any is_other (take n (drop at line)) ≡ true) → (length (take n (drop at line)) < fewest narrow) ⊎ (list_any is_other (take n (drop at line)) ≡ true)
     of_take (inl few) = inl (omega (arith, length-take n (drop at line), few))

@@ -1,14 +1,16 @@
--- A log with the text of the answer behind each of its addresses, line by line.
-use Rattle.std.specs.Prelude.{◌≡◌, ℕ, ◌+◌, ◌-◌, ◌==◌, ◌||◌, ◌&&◌, Bool, false, if◌then◌else◌, nat_eq}
-use Rattle.std.specs.Prelude.{List, [], ◌∷◌, ◌++◌, length, take, drop, codes, Option, None, Some}
+-- A log with the text of the answer after each of its addresses, line by line.
+use Rattle.std.specs.Prelude.{◌≡◌, ℕ, ◌+◌, ◌-◌, ◌==◌, ◌||◌, ◌&&◌, Bool, false, if◌then◌else◌}
+use Rattle.std.specs.Prelude.{List, [], ◌∷◌, ◌++◌, drop, Option}
 use Rattle.std.specs.Prelude.{nat_lt, slice_index_or}
 use Rattle.std.specs.Char.{digit_value, is_digit}
-use Rattle.std.specs.List.{ends_with, list_any, starts_with}
+use Rattle.std.specs.List.{list_any}
 use Rattle.std.specs.Option.{option_map_or}
 use Rattle.logs.specs.Answering.{Answering}
 use Rattle.logs.specs.Lines.{is_long, lines}
 use Rattle.logs.specs.LogNames.{no_names, with_address}
-use Rattle.logs.specs.TakenWords.{begins_user, is_user_line, next_first, taken_among, taken_in, tells_place}
+use Rattle.logs.specs.OwnNames.{as_read, insertion, text_for}
+use Rattle.logs.specs.TakenWords.{begins_user, ends_trace, is_user_line, next_first}
+use Rattle.logs.specs.TakenWords.{taken_among, taken_in, tells_place}
 use Rattle.logs.specs.Words.{is_closer, is_word_byte, part, run_of}
 use Rattle.logs.specs.declared.contexts.LogContext.{LogContext}
 use Rattle.logs.specs.declared.contexts.First.TheVariants as first
@@ -21,63 +23,47 @@ use Rattle.logs.specs.declared.words.Word.{Word}
 abbrev pub first_held : LogContext
 first_held = record { first = first.Exact; is_user = false; names = no_names }
 
--- the bytes without a `]` at their end
-abbrev pub without_bracket : List ℕ → List ℕ
-without_bracket text =
-    if ends_with nat_eq text (codes "]") then take (length text - 1) text else text
+-- the place after the closers of a word
+abbrev pub place_after : List ℕ → AddressWord → ℕ
+place_after line t = t.word.end + run_of is_closer (drop t.word.end line)
 
--- the bytes begin with a blank, perhaps `? ` or `(`, and the text, up to a `]` at its end
-abbrev pub says_itself : List ℕ → List ℕ → Bool
-says_itself rest text =
-    let said = drop 1 (without_bracket text) in
-    starts_with nat_eq rest (codes " " ++ said) || starts_with nat_eq rest (codes " ? " ++ said)
-    || starts_with nat_eq rest (codes " (" ++ said)
-
--- the place behind the closers of a word
-abbrev pub place_behind : List ℕ → AddressWord → ℕ
-place_behind line t = t.word.end + run_of is_closer (drop t.word.end line)
-
--- the text, unless these bytes say it already
-abbrev pub unless_said : List ℕ → Option (List ℕ) → Option (List ℕ)
-unless_said rest None = None
-unless_said rest (Some text) = if says_itself rest text then None else Some text
-
--- the text of the answer, if it has one and the address is of this kernel
-abbrev pub text_for : Answering → AddressWord → Option (List ℕ)
-text_for answer t = if t.is_foreign then None else answer.text t.is_caller t.value
-
--- the line from a place on, with the texts behind its address words that it does not say itself
+-- the line from a place on, with the texts after its address words that it does not say itself
 abbrev pub woven : Answering → List ℕ → ℕ → List AddressWord → List ℕ
 woven answer line at [] = drop at line
 woven answer line at (t ∷ more) =
-    let place = place_behind line t in
+    let place = place_after line t in
+    let rest = drop place line in
     option_map_or (λ text. part line at place ++ text ++ woven answer line place more)
-    (unless_said (drop place line) (text_for answer t)) (woven answer line at more)
+    (insertion answer t.value rest (text_for answer (as_read answer rest t)))
+    (woven answer line at more)
 
--- what is counted, behind these address words more
+-- what is counted, with these address words more
 abbrev pub counted : Answering → List ℕ → LogNames → List AddressWord → LogNames
 counted answer line names [] = names
 counted answer line names (t ∷ more) =
-    counted answer line
-    (with_address answer t (drop (place_behind line t) line) (text_for answer t) names) more
+    let rest = drop (place_after line t) line in
+    let read = as_read answer rest t in
+    counted answer line (with_address answer read rest (text_for answer read) names) more
 
 -- A line with the texts of its answers. A long one stays as it is.
 unfoldable pub annotated_line : Answering → LogContext → List ℕ → List ℕ
 annotated_line answer held line =
     if is_long line then line else woven answer line 0 (taken_in answer.is_narrow held line)
 
--- what is carried on behind a line: nothing of a long one
+-- what is carried on after a line: nothing of a long one
 unfoldable pub held_behind : Answering → LogContext → List ℕ → LogContext
 held_behind answer held line =
     let taken = taken_in answer.is_narrow held line in
     if is_long line then held
     else record {
-      first = next_first held.first (list_any (λ t. t.is_frame) taken) (tells_place line);
+      first =
+          next_first held.first (list_any (λ t. t.is_frame) taken) (tells_place line)
+          (ends_trace line);
       is_user = is_user_line held line || begins_user line;
       names = counted answer line held.names taken;
     }
 
--- lines with their texts; and what is carried on behind them
+-- lines with their texts; and what is carried on after them
 abbrev pub annotated_lines : Answering → LogContext → List (List ℕ) → List ℕ
 annotated_lines answer held [] = []
 annotated_lines answer held (line ∷ more) =

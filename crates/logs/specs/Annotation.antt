@@ -23,7 +23,7 @@ put_of line = if is_long line then line else []
 abbrev pub kept_of : List ℕ → List ℕ
 kept_of line = if is_long line then [] else line
 
--- what is carried on behind the lines that were put
+-- what is carried on after the lines that were put
 abbrev pub held_in : Annotator → LogContext
 held_in a = a.held
 
@@ -33,8 +33,8 @@ pub record IsOpen (a : Annotator) (line : List ℕ) : Type 0 where
   pub long : a.is_long ≡ is_long line
   pub kept : a.begun.items ≡ kept_of line
 
--- With these bytes, behind an open line, the lines that have their end now are put, each annotated,
--- and what is put of the line that is open behind them.
+-- With these bytes, after an open line, the lines that have their end now are put, each annotated,
+-- and what is put of the line that is open after them.
 pub record Passed (answer : Answering) (a a' : Annotator) (line bytes text : List ℕ) : Type 0 where
   pub passed : List ℕ
   pub line' : List ℕ
@@ -48,7 +48,7 @@ abbrev pub Passes : Answering → Annotator → Annotator → List ℕ → List 
 Passes answer a a' bytes text =
     (line : List ℕ) → IsOpen a line → Passed answer a a' line bytes text
 
--- Where no more bytes come, the open line is put as the last one, and these are the names.
+-- If no more bytes come, the open line is put as the last one, and these are the names.
 pub record Ended (answer : Answering) (a : Annotator) (line : List ℕ) (names : LogNames)
     (text : List ℕ) : Type 0 where
   pub names_are : names ≡ (held_over answer (held_in a) (lines line)).names
@@ -56,6 +56,15 @@ pub record Ended (answer : Answering) (a : Annotator) (line : List ℕ) (names :
 
 abbrev pub Ends : Answering → Annotator → LogNames → List ℕ → Type 0
 Ends answer a names text = (line : List ℕ) → IsOpen a line → Ended answer a line names text
+
+-- the text and the names of an annotated log; and what was found of it besides
+pub record IsAnnotation (answer : Answering) (log text : List ℕ) (names : LogNames) : Type 0 where
+  pub is_annotated : text ≡ annotated answer log
+  pub are_names : names ≡ names_of answer log
+
+abbrev pub IsAnnotationOf : Answering → List ℕ → Findings → List ℕ → Type 0
+IsAnnotationOf answer log found text =
+    IsAnnotation answer log text found.names × (found.head.items ≡ take 2 log)
 
 -- A text was added to bytes, and this holds of it.
 abbrev pub Adds : List ℕ → List ℕ → (List ℕ → Type 0) → Type 0
@@ -78,12 +87,12 @@ module _ {W X : Type 0} (contents : W → Option (List ℕ)) (P : X → List ℕ
       ((text : List ℕ) × (x : X) × WrotePart contents w w' text × P x text)
       × IsWriteFault (error_in w') f
 
--- the annotated log begins with what was written, whatever comes behind what was read
+-- the annotated log begins with what was written, whatever comes after what was read
 abbrev pub Begins : Answering → List ℕ → List ℕ → Type 0
 Begins answer written read =
     (more : List ℕ) → (rest : List ℕ) × (annotated answer (read ++ more) ≡ written ++ rest)
 
--- What was written are the whole lines that were read, annotated, and the line behind them as far
+-- What was written are the whole lines that were read, annotated, and the line after them as far
 -- as it was read, if it is too long to be annotated.
 pub record IsUpToDate (answer : Answering) (written read : List ℕ) : Type 0 where
   pub passed : List ℕ

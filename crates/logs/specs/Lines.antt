@@ -2,7 +2,7 @@
 use Rattle.std.specs.Prelude.{◌≡◌, ℕ, Bool, List, [], ◌∷◌, ◌++◌, ◌==◌, if◌then◌else◌, false, length, nat_lt}
 use Rattle.std.specs.List.{list_any, onto_first}
 
--- A line has the byte 10 that ends it. The bytes behind the last end, if there are any, are a line
+-- A line has the byte 10 that ends it. The bytes after the last end, if there are any, are a line
 -- too.
 abbrev pub lines : List ℕ → List (List ℕ)
 lines [] = []
@@ -16,7 +16,7 @@ is_long line = nat_lt 65536 (length line)
 abbrev pub has_end : List ℕ → Bool
 has_end bytes = list_any (λ b. b == 10) bytes
 
--- The bytes are whole lines: what comes behind them is other lines.
+-- The bytes are whole lines: what comes after them is other lines.
 abbrev pub AreWhole : List ℕ → Type 0
 AreWhole bytes = (rest : List ℕ) → lines (bytes ++ rest) ≡ lines bytes ++ lines rest
 

@@ -16,6 +16,9 @@ unanswered narrow = record {
   is_narrow = narrow;
   text = λ caller addr. None;
   is_alias = λ caller addr name. false;
+  is_offset = λ caller addr offset. false;
+  is_data = λ addr. false;
+  is_in_range = λ addr. false;
 }
 
 -- what is counted of names is this

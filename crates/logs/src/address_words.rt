@@ -1,6 +1,6 @@
 //! How the address words of a line are taken.
 //!
-//! A word is taken by the gap before it, which begins behind the address word before, or with the
+//! A word is taken by the gap before it, which begins after the address word before, or with the
 //! line. So each byte is looked at once, however many addresses a line has:
 //!
 //! ```text
@@ -8,14 +8,17 @@
 //!     |----------|                                            prefix and marks: a frame
 //!                                   |------|                  a label: a caller's
 //! ```
-ghost use Rattle.std.specs.Prelude.{◌≡◌, ◌≤◌, ◌<◌, ◌||◌, ◌==◌, drop, false, length, reverse, take};
+ghost use Rattle.std.specs.Prelude.{◌≡◌, ◌≤◌, ◌<◌, ◌||◌, ◌==◌, drop, false, length, reverse};
 ghost use Rattle.std.specs.List.{list_any};
 ghost use Rattle.std.specs.Option.{option_map_or};
-ghost use Rattle.logs.specs.TakenWords.{begins_user, ends_pair, ends_user, gap_before, has_bracket};
-ghost use Rattle.logs.specs.TakenWords.{has_code, has_words, is_caller, is_exact, is_foreign};
-ghost use Rattle.logs.specs.TakenWords.{is_frame, is_marked, is_user_line, next_first, place_of};
+ghost use Rattle.logs.specs.TakenWords.{begins_dump, begins_pair, begins_user, continues_trace};
+ghost use Rattle.logs.specs.TakenWords.{ends_pair, ends_trace, ends_user};
+ghost use Rattle.logs.specs.TakenWords.{gap_before, has_bracket, has_bus_label, has_code};
+ghost use Rattle.logs.specs.TakenWords.{has_words, is_caller, is_exact, is_folded, is_foreign};
+ghost use Rattle.logs.specs.TakenWords.{is_frame, is_marked, is_outside, is_row, is_user_line};
+ghost use Rattle.logs.specs.TakenWords.{next_first, place_of};
 ghost use Rattle.logs.specs.TakenWords.{repeats, says_caller, taken_at, tells_place};
-ghost use Rattle.logs.specs.Words.{address_at, begins_joint, part};
+ghost use Rattle.logs.specs.Words.{address_at, begins_joint, begins_suffix, is_glued, part};
 
 use crate::contexts::{First, LogContext};
 use crate::places::{
@@ -23,13 +26,14 @@ use crate::places::{
 };
 use crate::words::{Word, address_of_word, has_prefix, is_word_byte};
 use memchr::{memchr, memmem};
+use texts::digit_of;
 
 /// The place of an address word in its line.
 #[derive(Clone, Copy, Debug, Drop)]
 pub struct Place {
     /// Whether only items that may begin a line come before it.
     pub begins_line: bool,
-    /// Whether the line's text behind the prefix begins with `#` and a digit.
+    /// Whether the line's text after the prefix begins with `#` and a digit.
     pub is_numbered: bool,
 }
 
@@ -45,7 +49,9 @@ pub struct AddressWord {
     pub is_frame: bool,
     /// Whether it is taken as a caller's.
     pub is_caller: bool,
-    /// Whether it is not of this kernel: one of a program, or a part of its code.
+    /// Whether from it on its line is not of this kernel: a program's, or a part of its code.
+    pub is_outside: bool,
+    /// Whether it is not of this kernel.
     pub is_foreign: bool,
 }
 
@@ -55,20 +61,34 @@ pub(crate) fn address_at(narrow: bool, line: &[u8], word: Word) -> Option<u64>
     requires within { word.end ≤ length line.now }
     ensures { result ≡ address_at narrow line.now word }
 {
-    if is_joined(line, word) {
+    if is_glued(line, word) {
         return None;
     }
     address_of_word(narrow, &line[word.start..word.end])
 }
 
-/// Whether one `-` joins the word to another one.
-fn is_joined(line: &[u8], word: Word) -> bool
+/// Whether one `-` joins the word to another one, `@` is directly before it, or `.` and a letter
+/// are directly after it.
+fn is_glued(line: &[u8], word: Word) -> bool
     requires word { word.start < word.end }
     requires within { word.end ≤ length line.now }
-    ensures { result ≡ (begins_joint (reverse (take word.start line.now))
-        || begins_joint (drop word.end line.now)) }
+    ensures { result ≡ is_glued line.now word }
 {
-    ends_in_joint(&line[..word.start]) || begins_joint(&line[word.end..])
+    let before = &line[..word.start];
+    let after = &line[word.end..];
+    ends_in_joint(before) || begins_joint(after) || before.ends_with(b"@") || begins_suffix(after)
+}
+
+/// Whether the bytes begin with a `.` and a letter.
+fn begins_suffix(bytes: &[u8]) -> bool
+    ensures { result ≡ begins_suffix bytes.now }
+{
+    match bytes {
+        [first, second, ..] => {
+            *first == b'.' && digit_of(*second) < 36 && !second.is_ascii_digit()
+        }
+        _ => false,
+    }
 }
 
 /// Whether the bytes begin with a `-` and one of a word.
@@ -91,7 +111,7 @@ fn ends_in_joint(bytes: &[u8]) -> bool
     }
 }
 
-/// How an address word is taken, behind another one or as the first of its line.
+/// How an address word is taken, after another one or as the first of its line.
 pub(crate) fn taken_at(
     narrow: bool,
     held: LogContext,
@@ -106,20 +126,24 @@ pub(crate) fn taken_at(
 {
     let gap = gap_before(line, last, word);
     let place = place_of(last, without_end(Kind::Mark, gap));
-    let is_frame = is_frame(place, last, gap, &line[word.start..word.end]);
-    let says = says_caller(place, gap);
+    let after = &line[word.end..];
+    let is_frame = is_frame(place, last, gap, &line[word.start..word.end], after);
+    let says = says_caller(place, gap, after);
+    let is_outside = is_outside(narrow, held, line, last, gap);
     AddressWord {
         word,
         value,
         place,
-        begins_pair: place.begins_line && has_bracket(gap),
+        begins_pair: begins_pair(place, gap),
         is_frame,
         is_caller: is_caller(held.first, last, gap, says, is_frame, value),
-        is_foreign: is_foreign(narrow, held, line, last, gap),
+        is_outside,
+        is_foreign: is_foreign(is_outside, narrow, gap, after),
     }
 }
 
 /// The bytes between the address word before, or the line's begin, and a word.
+#[tactic(auto, unfolding(crate::specs::TakenWords::gap_before))]
 fn gap_before(line: &[u8], last: Option<AddressWord>, word: Word) -> &[u8]
     requires { word.start ≤ length line.now }
     ensures { result.now ≡ gap_before line.now last word }
@@ -131,10 +155,11 @@ fn gap_before(line: &[u8], last: Option<AddressWord>, word: Word) -> &[u8]
 }
 
 /// The place of a word in its line, with these bytes before its marks.
+#[tactic(auto, unfolding(crate::specs::TakenWords::place_of))]
 fn place_of(last: Option<AddressWord>, head: &[u8]) -> Place
     ensures { result ≡ place_of last head.now }
 {
-    let end = prefix_end(head);
+    let end = prefix_end(last.is_none(), head);
     match last {
         Some(last) if end == 0 => Place {
             begins_line: false,
@@ -152,6 +177,13 @@ fn has_bracket(gap: &[u8]) -> bool
     ensures { result ≡ has_bracket gap.now }
 {
     end_of(Kind::Mark, gap) == b"[".as_slice()
+}
+
+/// Whether a word begins its line with the mark `[`.
+fn begins_pair(place: Place, gap: &[u8]) -> bool
+    ensures { result ≡ begins_pair place gap.now }
+{
+    place.begins_line && has_bracket(gap)
 }
 
 /// Whether a word has the mark `[<`, a tab directly before it, or `0x`.
@@ -175,23 +207,41 @@ fn ends_pair(last: Option<AddressWord>, gap: &[u8]) -> bool
     }
 }
 
-/// Whether a word is a frame.
-fn is_frame(place: Place, last: Option<AddressWord>, gap: &[u8], word: &[u8]) -> bool
-    ensures { result ≡ is_frame place last gap.now word.now }
+/// Whether a word with these bytes after it is a row of memory.
+fn is_row(after: &[u8]) -> bool
+    ensures { result ≡ is_row after.now }
 {
-    (place.begins_line && is_marked(gap, word)) || ends_pair(last, gap)
+    after.starts_with(b":")
 }
 
-/// Whether the bytes before a word say that it is a caller's.
-fn says_caller(place: Place, gap: &[u8]) -> bool
-    ensures { result ≡ says_caller place gap.now }
+/// Whether a word is a frame.
+#[tactic(auto, unfolding(crate::specs::TakenWords::is_frame))]
+fn is_frame(place: Place, last: Option<AddressWord>, gap: &[u8], word: &[u8], after: &[u8]) -> bool
+    ensures { result ≡ is_frame place last gap.now word.now after.now }
+{
+    !is_row(after) && ((place.begins_line && is_marked(gap, word)) || ends_pair(last, gap))
+}
+
+/// Whether a word has a `;` directly before it and directly after it.
+fn is_folded(gap: &[u8], after: &[u8]) -> bool
+    ensures { result ≡ is_folded gap.now after.now }
+{
+    gap.ends_with(b";") && after.starts_with(b";")
+}
+
+/// Whether the bytes before a word and after it say that it is a caller's.
+#[tactic(auto, unfolding(crate::specs::TakenWords::says_caller))]
+fn says_caller(place: Place, gap: &[u8], after: &[u8]) -> bool
+    ensures { result ≡ says_caller place gap.now after.now }
 {
     has_label(gap)
+        || is_folded(gap, after)
         || (place.is_numbered
             && end_of(Kind::Word, without_end(Kind::LabelGap, gap)) == b"at".as_slice())
 }
 
 /// Whether a word is taken as a caller's.
+#[tactic(auto, unfolding(crate::specs::TakenWords::is_caller))]
 fn is_caller(
     next: First,
     last: Option<AddressWord>,
@@ -207,7 +257,7 @@ fn is_caller(
     }
     match last {
         Some(last) if repeats(last, gap, value) => last.is_caller,
-        _ => is_frame && !is_exact(next),
+        _ => continues_trace(next, is_frame),
     }
 }
 
@@ -218,7 +268,7 @@ fn repeats(last: AddressWord, gap: &[u8], value: u64) -> bool
     last.value == value && !has_sign(gap)
 }
 
-/// The bytes from a place up to another one, or none if that is not behind it.
+/// The bytes from a place up to another one, or none if that is not after it.
 fn between(line: &[u8], start: usize, end: usize) -> &[u8]
     requires { end ≤ length line.now }
     ensures { result.now ≡ part line.now start end }
@@ -233,6 +283,13 @@ fn has_sign(bytes: &[u8]) -> bool
     bytes.iter().any(|byte| *byte == b':' || *byte == b'=')
 }
 
+/// Whether a word is a frame and not the first of its trace.
+fn continues_trace(next: First, is_frame: bool) -> bool
+    ensures { result ≡ continues_trace next is_frame }
+{
+    is_frame && !is_exact(next)
+}
+
 /// Whether a first frame is taken as it is.
 fn is_exact(first: First) -> bool
     ensures { result ≡ is_exact first }
@@ -243,27 +300,61 @@ fn is_exact(first: First) -> bool
     }
 }
 
-/// Whether a word is not of this kernel: one of a program, or a part of its code.
-fn is_foreign(
+/// Whether from a word on all of its line is not of this kernel: a program's, or a part of its
+/// code.
+#[tactic(auto, unfolding(crate::specs::TakenWords::is_outside))]
+fn is_outside(
     narrow: bool,
     held: LogContext,
     line: &[u8],
     last: Option<AddressWord>,
     gap: &[u8],
 ) -> bool
-    ensures { result ≡ is_foreign narrow held line.now last gap.now }
+    ensures { result ≡ is_outside narrow held line.now last gap.now }
 {
-    was_foreign(held, line, last) || begins_user(gap) || (narrow && has_code(gap))
+    was_outside(held, line, last) || begins_user(gap) || (narrow && has_code(gap))
 }
 
-/// Whether none before the word was of this kernel.
-fn was_foreign(held: LogContext, line: &[u8], last: Option<AddressWord>) -> bool
-    ensures { result ≡ option_map_or (λ t. t.is_foreign) last (is_user_line held line.now) }
+/// Whether that holds of the address word before already, or else of the line.
+fn was_outside(held: LogContext, line: &[u8], last: Option<AddressWord>) -> bool
+    ensures { result ≡ option_map_or (λ t. t.is_outside) last (is_user_line held line.now) }
 {
     match last {
         None => is_user_line(held, line),
-        Some(last) => last.is_foreign,
+        Some(last) => last.is_outside,
     }
+}
+
+/// Whether a word is not of this kernel: outside, a row of a dump, or, of 32 bits, after a label of
+/// a bus or a register.
+#[tactic(auto, unfolding(crate::specs::TakenWords::is_foreign))]
+fn is_foreign(outside: bool, narrow: bool, gap: &[u8], after: &[u8]) -> bool
+    ensures { result ≡ is_foreign outside narrow gap.now after.now }
+{
+    outside || begins_dump(after) || (narrow && has_bus_label(gap))
+}
+
+/// Whether a `:`, a blank, two hexadecimal digits and a blank begin the bytes.
+fn begins_dump(after: &[u8]) -> bool
+    ensures { result ≡ begins_dump after.now }
+{
+    after.starts_with(b": ")
+        && first_of(Kind::Hexadecimal, &after[2..]) == 2
+        && after[4..].starts_with(b" ")
+}
+
+/// Whether the last word is a label of a bus or a register.
+fn has_bus_label(gap: &[u8]) -> bool
+    ensures { result ≡ has_bus_label gap.now }
+{
+    let word = end_of(Kind::Word, without_end(Kind::ColonGap, gap));
+    word == b"MMIO".as_slice()
+        || word == b"mem".as_slice()
+        || word == b"port".as_slice()
+        || word == b"Cause".as_slice()
+        || word == b"Status".as_slice()
+        || word == b"Config".as_slice()
+        || word == b"PrId".as_slice()
 }
 
 /// Whether a program's registers were begun before the line, and it does not end them.
@@ -298,13 +389,13 @@ fn tells_place(line: &[u8]) -> bool
     has_words(b"RIP", line) || has_words(b"EIP", line) || has_words(b"NIP", line)
 }
 
-/// Whether the bytes have `Code:`.
+/// Whether the bytes have `Code:` or `ACPI:`.
 fn has_code(bytes: &[u8]) -> bool
     ensures { result ≡ has_code bytes.now }
 {
     let mut rest = bytes;
     while !rest.is_empty() {
-        if rest.starts_with(b"Code:") {
+        if rest.starts_with(b"Code:") || rest.starts_with(b"ACPI:") {
             return true;
         }
         rest = &rest[1..];
@@ -339,35 +430,56 @@ fn has_words_apart(words: &[u8], bytes: &[u8]) -> bool
     false
 }
 
-/// How the next first frame is taken, behind a line with a frame or without one.
-fn next_first(first: First, has_frame: bool, tells: bool) -> First
-    ensures { result ≡ next_first first has_frame tells }
+/// Whether the line ends a trace.
+fn ends_trace(line: &[u8]) -> bool
+    ensures { result ≡ ends_trace line.now }
+{
+    let text = without_end(Kind::Closing, line);
+    text.is_empty()
+        || text.ends_with(b":")
+        || text.ends_with(b"[")
+        || text.ends_with(b"==")
+        || text.starts_with(b"]")
+}
+
+/// How the next first frame is taken, after a line with a frame or without one.
+fn next_first(first: First, has_frame: bool, tells: bool, line: &[u8]) -> First
+    ensures { result ≡ next_first first has_frame tells (ends_trace line.now) }
 {
     if has_frame {
         return First::Frame;
     }
+    if tells {
+        return First::Kept;
+    }
     match first {
-        First::Kept => First::Kept,
-        First::Frame | First::Exact => { if tells { First::Kept } else { First::Exact } }
+        First::Frame => {
+            if ends_trace(line) {
+                First::Exact
+            } else {
+                First::Frame
+            }
+        }
+        First::Kept | First::Exact => first,
     }
 }
 
-/// Carries on behind a line with a frame or without one. Mostly the line has no `P` at all.
+/// Carries on after a line with a frame or without one. Mostly the line has no `P` at all.
 #[tactic(auto, using(crate::proofs::TextLemmas::no_place, crate::proofs::TextLemmas::no_user))]
 pub(crate) fn carry_on(held: &mut LogContext, line: &[u8], has_frame: bool)
     ensures first { held.new.first
-        ≡ next_first held.old.first has_frame (tells_place line.now) }
+        ≡ next_first held.old.first has_frame (tells_place line.now) (ends_trace line.now) }
     ensures user { held.new.is_user ≡ (is_user_line held.old line.now || begins_user line.now) }
     ensures names { held.new.names ≡ held.old.names }
 {
     match memchr(b'P', line) {
         Some(_) => {
             held.is_user = is_user_line(*held, line) || begins_user(line);
-            held.first = next_first(held.first, has_frame, tells_place(line));
+            held.first = next_first(held.first, has_frame, tells_place(line), line);
         }
         None => {
             held.is_user = is_user_line(*held, line);
-            held.first = next_first(held.first, has_frame, false);
+            held.first = next_first(held.first, has_frame, false, line);
         }
     }
 }

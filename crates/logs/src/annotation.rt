@@ -1,8 +1,8 @@
-//! A log that is written again with the text of the answer behind each address.
+//! A log that is written again with the text of the answer after each address.
 ghost use Rattle.std.specs.Prelude.{◌≡◌, ◌++◌, List, ℕ, IfOk, take};
-ghost use Rattle.logs.specs.Annotation.{Annotates};
+ghost use Rattle.logs.specs.Annotation.{Annotates, IsAnnotationOf, Puts};
 
-use crate::annotator::Annotator;
+use crate::annotator::{Annotator, put_now};
 use crate::answers::Answers;
 use crate::log_names::LogNames;
 use std::alloc::{AllocError, Global};
@@ -53,7 +53,7 @@ pub fn keep_head(head: &mut Vec<u8>, block: &[u8]) -> Result<(), AllocError>
     Ok(())
 }
 
-/// Writes a log again, with a blank and the text of the answer behind each address word and the
+/// Writes a log again, with a blank and the text of the answer after each address word and the
 /// closers that follow it, if the answer is not `-` and the log does not have it there already.
 /// Returns what was found of it.
 ///
@@ -87,4 +87,22 @@ pub fn annotate<A: Answers, R: Read, W: Write>(
         annotator.pass(alloc, answers, &block[..count], writer)?;
     }
     Err(LogFault::TooLong)
+}
+
+/// Writes a log that is in memory again as [`annotate`] does, in one piece, and flushes the writer.
+/// Nothing is written if memory runs out.
+pub fn annotate_text<A: Answers, W: Write>(
+    alloc: Global,
+    answers: &A,
+    log: &[u8],
+    writer: &mut Output<W>,
+) -> Result<Findings, LogFault>
+    ensures { Puts W.contents (IsAnnotationOf (A.answering answers.now) log.now)
+        writer.old writer.new result }
+{
+    let mut head = Vec::new(alloc);
+    keep_head(&mut head, log)?;
+    let (out, names) = Annotator::annotated(alloc, answers, log)?;
+    put_now(writer, &out)?;
+    Ok(Findings { names, head })
 }

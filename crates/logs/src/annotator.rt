@@ -15,7 +15,8 @@ ghost use Rattle.std.specs.Prelude.{IfErr, IfNone, IfOk, IfSome, OnErr};
 ghost use Rattle.texts.specs.Output.{Delivered, WrotePart, error_in};
 ghost use Rattle.logs.specs.Answering.{Answering};
 ghost use Rattle.logs.specs.AnnotatedLogs.{first_held};
-ghost use Rattle.logs.specs.Annotation.{Adds, Ends, IsOpen, IsWriteFault, Passes, Puts, held_in};
+ghost use Rattle.logs.specs.Annotation.{Adds, Ends, IsAnnotation, IsOpen, IsWriteFault, Passes};
+ghost use Rattle.logs.specs.Annotation.{Puts, held_in};
 ghost use Rattle.logs.specs.Lines.{IsLine, has_end};
 ghost use Rattle.logs.specs.Unnamed.{EndsUnnamed, PassesUnnamed, ends_address, has_address};
 
@@ -31,7 +32,7 @@ use std::io;
 use std::io::Write;
 use texts::Output;
 
-/// What is carried on behind the lines that were written, and the line behind them that has no end
+/// What is carried on after the lines that were written, and the line after them that has no end
 /// yet.
 #[derive(Drop)]
 pub struct Annotator {
@@ -176,6 +177,23 @@ impl Annotator {
         !self.is_long && has_address(is_narrow, &self.begun)
     }
 
+    /// A whole log with the texts of its answers, and its names.
+    pub(crate) fn annotated<A: Answers>(
+        alloc: Global,
+        answers: &A,
+        log: &[u8],
+    ) -> Result<(Vec<u8>, LogNames), AllocError>
+        ensures { IfOk result
+            (λ r. IsAnnotation (A.answering answers.now) log.now r.0.items r.1) }
+    {
+        let mut annotator = Annotator::new(alloc);
+        let mut out = Vec::with_capacity(alloc, log.len())?;
+        annotator.pass_bytes(answers, log, &mut out)?;
+        let mut held = annotator.held;
+        put_line(answers, &mut held, &annotator.begun, &mut out)?;
+        Ok((out, held.names))
+    }
+
     /// Takes bytes in, and puts each line that has its end now.
     fn pass_bytes<A: Answers>(
         &mut self,
@@ -263,7 +281,7 @@ pub(crate) fn cut_line(bytes: &[u8]) -> Option<(&[u8], &[u8])>
 
 /// Writes the bytes, and lets the writer keep nothing back.
 #[tactic(auto, using(crate::proofs::PutLemmas::put_through))]
-fn put_now<W: Write>(writer: &mut Output<W>, bytes: &[u8]) -> Result<(), LogFault>
+pub(crate) fn put_now<W: Write>(writer: &mut Output<W>, bytes: &[u8]) -> Result<(), LogFault>
     ensures written { IfOk result (λ _. Delivered W.contents writer.old writer.new bytes.now) }
     ensures fault { IfErr result (IsWriteFault (error_in writer.new)) }
     ensures begun { OnErr result (WrotePart W.contents writer.old writer.new bytes.now) }

@@ -5,6 +5,8 @@ ghost use Rattle.logs.specs.Answering.{Answering};
 use std::alloc::AllocError;
 
 /// What the addresses of a log are answered by.
+///
+/// An address has two readings: as a caller's, which is looked up one byte lower, and as it is.
 pub trait Answers {
     ghost answering: { Self → Answering };
 
@@ -12,12 +14,24 @@ pub trait Answers {
     fn is_narrow(&self) -> bool
         ensures { result ≡ (answering self.now).is_narrow };
 
-    /// The text that is inserted for an address, taken as a caller's or as it is, if one is.
+    /// The text that is inserted for an address, if one is, of which its place asks a reading.
     fn text_of(&self, is_caller: bool, addr: u64) -> Result<Option<Vec<u8>>, AllocError>
         ensures { IfOk result
             (λ o. option_map (λ v. v.items) o ≡ (answering self.now).text is_caller addr) };
 
-    /// Whether a symbol at the address of the one that the answer has is called so.
+    /// Whether the symbol of a reading, or another one at its address, has the name.
     fn is_alias(&self, is_caller: bool, addr: u64, name: &[u8]) -> bool
         ensures { result ≡ (answering self.now).is_alias is_caller addr name.now };
+
+    /// Whether a reading lies `offset` bytes above its symbol.
+    fn is_offset(&self, is_caller: bool, addr: u64, offset: u64) -> bool
+        ensures { result ≡ (answering self.now).is_offset is_caller addr offset };
+
+    /// Whether data begins at the address.
+    fn is_data(&self, addr: u64) -> bool
+        ensures { result ≡ (answering self.now).is_data addr };
+
+    /// Whether the address is not below all that the listing has.
+    fn is_in_range(&self, addr: u64) -> bool
+        ensures { result ≡ (answering self.now).is_in_range addr };
 }

@@ -1,4 +1,4 @@
-//! A log that is written again with the text of the answer behind each address, line by line.
+//! A log that is written again with the text of the answer after each address, line by line.
 #![tactic(auto)]
 
 mod address_words;
@@ -6,16 +6,20 @@ mod annotation;
 mod annotator;
 mod answers;
 mod contexts;
+mod kernel_offsets;
 mod line;
 mod log_names;
+mod own_names;
 mod places;
 mod unnamed;
 mod words;
 
 pub use address_words::{AddressWord, Place};
-pub use annotation::{Findings, LogFault, annotate, keep_head};
+pub use annotation::{Findings, LogFault, annotate, annotate_text, keep_head};
 pub use annotator::Annotator;
 pub use answers::Answers;
 pub use contexts::{First, LogContext};
+pub use kernel_offsets::{KernelOffset, kernel_offset_in};
 pub use log_names::LogNames;
+pub use own_names::NamedReadings;
 pub use words::Word;

@@ -8,19 +8,19 @@
 //!     |---------------------|                       put, and then ` do_one+0x8/0x1f00`
 //!                            |----------|           put at the end
 //! ```
-ghost use Rattle.std.specs.Prelude.{◌≡◌, ◌≤◌, ◌<◌, ◌++◌, ◌∷◌, length, option_map, IfOk};
+ghost use Rattle.std.specs.Prelude.{◌≡◌, ◌≤◌, ◌<◌, ◌++◌, ◌∷◌, length, IfOk};
 ghost use Rattle.std.specs.List.{list_any};
 ghost use Rattle.logs.specs.TakenWords.{taken_in};
 ghost use Rattle.logs.specs.AnnotatedLogs.{annotated_line, counted, framed, held_behind, owed};
-ghost use Rattle.logs.specs.AnnotatedLogs.{says_itself, tallied, text_for, unless_said};
-ghost use Rattle.logs.specs.AnnotatedLogs.{without_bracket, woven};
+ghost use Rattle.logs.specs.AnnotatedLogs.{tallied, woven};
 ghost use Rattle.logs.specs.Words.{words_behind};
 
 use crate::address_words::{AddressWord, address_at, carry_on, taken_at};
 use crate::answers::Answers;
 use crate::contexts::LogContext;
 use crate::log_names::LogNames;
-use crate::words::{Word, begins_with, behind_closers, next_candidate};
+use crate::own_names::read_word;
+use crate::words::{Word, behind_closers, next_candidate};
 use std::alloc::AllocError;
 
 /// The most bytes of a line that is annotated.
@@ -95,7 +95,7 @@ fn put_words<A: Answers>(
     }
 }
 
-/// Puts the bytes before a word, and the text that is inserted behind it, if there is one.
+/// Puts the bytes before a word, and the text that is inserted after it, if there is one.
 fn put_word<A: Answers>(
     answers: &A,
     held: LogContext,
@@ -132,14 +132,14 @@ fn put_word<A: Answers>(
     let taken = taken_at(narrow, held, line, progress.last, word, value);
     let place = behind_closers(line, word.end);
     let rest = &line[place..];
-    let text = text_for(answers, taken)?;
+    let reading = read_word(answers, rest, taken)?;
     progress.at = place;
     progress.last = Some(taken);
     progress.has_frame = progress.has_frame || taken.is_frame;
     progress.names = progress
         .names
-        .with_address(answers, taken, rest, text.as_deref());
-    match unless_said(rest, text) {
+        .with_address(answers, reading.word, rest, reading.text.as_deref());
+    match reading.insertion() {
         None => Ok(()),
         Some(text) => {
             out.extend_from_slice(&line[progress.put..place])?;
@@ -147,50 +147,5 @@ fn put_word<A: Answers>(
             progress.put = place;
             Ok(())
         }
-    }
-}
-
-/// The text of the answer, if it has one and the address is of this kernel.
-fn text_for<A: Answers>(answers: &A, taken: AddressWord) -> Result<Option<Vec<u8>>, AllocError>
-    ensures { IfOk result
-        (λ o. option_map (λ v. v.items) o ≡ text_for (A.answering answers.now) taken) }
-{
-    if taken.is_foreign {
-        return Ok(None);
-    }
-    answers.text_of(taken.is_caller, taken.value)
-}
-
-/// The text, unless these bytes say it already.
-fn unless_said(rest: &[u8], text: Option<Vec<u8>>) -> Option<Vec<u8>>
-    ensures { option_map (λ v. v.items) result
-        ≡ unless_said rest.now (option_map (λ v. v.items) text) }
-{
-    match text {
-        Some(text) if !says_itself(rest, &text) => Some(text),
-        _ => None,
-    }
-}
-
-/// Whether the bytes begin with a blank and the text, perhaps with `? ` or `(` between, up to a
-/// `]` at its end.
-fn says_itself(rest: &[u8], text: &[u8]) -> bool
-    ensures { result ≡ says_itself rest.now text.now }
-{
-    let text = without_bracket(text);
-    let said = if text.is_empty() { text } else { &text[1..] };
-    begins_with(rest, b" ", said)
-        || begins_with(rest, b" ? ", said)
-        || begins_with(rest, b" (", said)
-}
-
-/// The bytes without a `]` at their end.
-fn without_bracket(text: &[u8]) -> &[u8]
-    ensures { result.now ≡ without_bracket text.now }
-{
-    if text.ends_with(b"]") {
-        &text[..text.len() - 1]
-    } else {
-        text
     }
 }

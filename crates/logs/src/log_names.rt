@@ -1,7 +1,7 @@
-//! Names that a log has itself behind its addresses, as `NAME+0xOFF/0xSIZE`.
+//! Names that a log has itself after its addresses, as `NAME+0xOFF/0xSIZE`.
 //!
-//! The kernel that wrote the log knew its own symbols. So where many of its names are not those of
-//! the answers, the listing is one of another boot:
+//! The kernel that wrote the log knew its own symbols. So if many of its names are others than the
+//! answers have, the listing is one of another boot:
 //!
 //! ```text
 //! [<ffffffff81000108>] ? do_one+0x8/0x1f00
@@ -12,10 +12,11 @@ ghost use Rattle.std.specs.List.{starts_with};
 ghost use Rattle.std.specs.Option.{option_copied};
 ghost use Rattle.logs.specs.LogNames.{agrees, begins_offset, begins_size, begins_sized};
 ghost use Rattle.logs.specs.LogNames.{is_of_another_boot, is_unnamed, name_behind, name_in};
-ghost use Rattle.logs.specs.LogNames.{no_names, with_address, with_name, without_doubt};
+ghost use Rattle.logs.specs.LogNames.{no_names, with_address, with_name, with_one};
 
 use crate::address_words::AddressWord;
 use crate::answers::Answers;
+use crate::own_names::without_doubt;
 use crate::places::{Kind, first_of};
 use crate::words::begins_with;
 
@@ -23,13 +24,13 @@ use crate::words::begins_with;
 /// `u64`.
 #[derive(Clone, Copy, Debug, PartialEq, Eq, Drop)]
 pub struct LogNames {
-    /// The address words of the log.
+    /// The address words of the log that the listing could hold.
     pub addresses: u64,
-    /// Those that have an answer.
+    /// The address words that have an answer.
     pub named: u64,
-    /// Those that have one, and behind them in the log its symbol or another one at that address.
+    /// Those that have one, and after them in the log its symbol or another one at that address.
     pub agreeing: u64,
-    /// Those that have one, and behind them in the log another name.
+    /// Those that have one, and after them in the log another name.
     pub disagreeing: u64,
 }
 
@@ -54,11 +55,11 @@ impl LogNames {
         self.disagreeing >= 5 && self.disagreeing > self.agreeing
     }
 
-    /// Whether the log has five addresses or more, and none of them has a name.
+    /// Whether the log has addresses that the listing could hold, and none of them has a name.
     pub fn is_unnamed(self) -> bool
         ensures { result ≡ is_unnamed self }
     {
-        self.addresses >= 5 && self.named == 0
+        self.addresses > 0 && self.named == 0
     }
 
     /// One name more that agrees, or that does not.
@@ -78,6 +79,20 @@ impl LogNames {
         }
     }
 
+    /// One address more, if the listing could hold it.
+    fn with_one(self, is_in_range: bool) -> LogNames
+        ensures { result ≡ with_one is_in_range self }
+    {
+        if is_in_range {
+            LogNames {
+                addresses: self.addresses.saturating_add(1),
+                ..self
+            }
+        } else {
+            self
+        }
+    }
+
     /// One address more, with its answer's text if it has one, before the rest of its line.
     pub(crate) fn with_address<A: Answers>(
         self,
@@ -89,14 +104,13 @@ impl LogNames {
         ensures { result ≡ with_address (A.answering answers.now) taken rest.now
             (option_copied text.entry) self }
     {
-        let addresses = self.addresses.saturating_add(1);
+        let one = self.with_one(answers.is_in_range(taken.value));
         match text {
-            None => LogNames { addresses, ..self },
+            None => one,
             Some(text) => {
                 let names = LogNames {
-                    addresses,
-                    named: self.named.saturating_add(1),
-                    ..self
+                    named: one.named.saturating_add(1),
+                    ..one
                 };
                 match name_behind(rest) {
                     None => names,
@@ -122,26 +136,13 @@ fn tells(text: &[u8], name: &[u8]) -> bool
     text.starts_with(b" ") && begins_with(&text[1..], name, b"+")
 }
 
-/// The name that the log itself has before these bytes, at a place behind an address.
+/// The name that the log itself has at these bytes, which follow an address.
 pub(crate) fn name_behind(rest: &[u8]) -> Option<&[u8]>
     ensures { option_copied result ≡ name_behind rest.now }
 {
     match rest {
         [b' ', text @ ..] => name_in(without_doubt(text)),
         _ => None,
-    }
-}
-
-/// The text without a `? ` or `(` that it begins with.
-fn without_doubt(text: &[u8]) -> &[u8]
-    ensures { result.now ≡ without_doubt text.now }
-{
-    if text.starts_with(b"? ") {
-        &text[2..]
-    } else if text.starts_with(b"(") {
-        &text[1..]
-    } else {
-        text
     }
 }
 

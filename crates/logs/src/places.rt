@@ -4,13 +4,13 @@
 //! [   52.104290] [T123]  <IRQ>  [<ffffffff81000108>] ? do_one
 //! ~~~~~~~~~~~~~~===============^^                             prefix, lead, marks
 //! ```
-ghost use Rattle.std.specs.Prelude.{◌≡◌, ◌≤◌, ◌-◌, ◌==◌, false, if◌then◌else◌, length, take};
+ghost use Rattle.std.specs.Prelude.{◌≡◌, ◌≤◌, ◌-◌, ◌==◌, drop, false, if◌then◌else◌, length, take};
 ghost use Rattle.std.specs.List.{list_any};
 ghost use Rattle.std.specs.Char.{is_digit};
-ghost use Rattle.logs.specs.Places.{begins_blank, begins_like, begins_numbered, closed, end_of};
-ghost use Rattle.logs.specs.Places.{ends_in_label, ends_in_stamp, ends_prefix, first_of, has_label};
-ghost use Rattle.logs.specs.Places.{has_point, has_time, is_lead, is_of, last_of, lead_item};
-ghost use Rattle.logs.specs.Places.{prefix_end, without_end};
+ghost use Rattle.logs.specs.Places.{begins_blank, begins_like, begins_numbered, closed, colour};
+ghost use Rattle.logs.specs.Places.{end_of, ends_in_label, ends_in_stamp, ends_prefix, ends_record};
+ghost use Rattle.logs.specs.Places.{first_of, has_label, has_point, has_time, is_lead, is_of};
+ghost use Rattle.logs.specs.Places.{is_record, last_of, lead_item, prefix_end, without_end};
 
 use crate::words::is_word_byte;
 use texts::digit_of;
@@ -29,6 +29,19 @@ pub(crate) enum Kind {
     NoBlank,
     Space,
     NoBracket,
+    /// What may come at the end of a line after its text.
+    Closing,
+    /// A blank or `:`.
+    ColonGap,
+    /// A byte of the head of a record: no blank, tab or `;`.
+    Record,
+    NoComma,
+    /// A byte of a word, `/` or `#`.
+    Tag,
+    /// A digit or `;`.
+    Colour,
+    /// A byte of what a log says of an address: no blank, control byte or parenthesis.
+    Said,
     /// A byte of a group in brackets: no bracket, `<` or `>`.
     Group,
     /// A byte of a symbol's name, which `+` ends: no blank or control byte.
@@ -58,6 +71,13 @@ impl Kind {
             Kind::NoBlank => !(byte == b' ' || byte == b'\t'),
             Kind::Space => byte == b' ',
             Kind::NoBracket => !(byte == b'[' || byte == b']'),
+            Kind::Closing => byte == b' ' || byte == b'\t' || byte == b'\r' || byte == b'\n',
+            Kind::ColonGap => byte == b' ' || byte == b':',
+            Kind::Record => !(byte == b' ' || byte == b'\t' || byte == b';'),
+            Kind::NoComma => byte != b',',
+            Kind::Tag => is_word_byte(byte) || byte == b'/' || byte == b'#',
+            Kind::Colour => byte.is_ascii_digit() || byte == b';',
+            Kind::Said => byte > b' ' && !(byte == b'(' || byte == b')'),
             Kind::Group => { !(byte == b'[' || byte == b']' || byte == b'<' || byte == b'>') }
             Kind::Name => byte > b' ' && byte != b'+',
             Kind::Hexadecimal => digit_of(byte) < 16,
@@ -139,13 +159,14 @@ pub(crate) fn has_label(before: &[u8]) -> bool
     let head = without_end(Kind::LabelGap, before);
     let word = end_of(Kind::Word, head);
     before.ends_with(b"<-")
+        || without_end(Kind::Space, before).ends_with(b"[<0>]")
         || ends_in_label(head)
         || (head.ends_with(b" is at") && ends_in_label(&head[..head.len() - 6]))
         || ((word == b"at".as_slice() || word == b"in".as_slice())
             && before[head.len()..].starts_with(b":"))
 }
 
-/// Whether the bytes begin with a shape, in which `0` stands for any digit.
+/// Whether the bytes begin with a shape, in which `0` is any digit.
 fn begins_like(shape: &[u8], bytes: &[u8]) -> bool
     ensures { result ≡ begins_like shape.now bytes.now }
 {
@@ -164,7 +185,7 @@ fn begins_like(shape: &[u8], bytes: &[u8]) -> bool
     true
 }
 
-/// Whether the byte is the sign of a shape, or a digit where that is `0`.
+/// Whether the byte is the sign of a shape, or a digit if that is `0`.
 fn is_like(sign: u8, byte: u8) -> bool
     ensures { result ≡ (if sign == 48 then is_digit byte 10 else byte == sign) }
 {
@@ -189,7 +210,7 @@ fn has_point(bytes: &[u8]) -> bool
     false
 }
 
-/// Whether the bytes have a time of day with no digit or `:` before it and no `:` behind it.
+/// Whether the bytes have a time of day with no digit or `:` before it and no `:` after it.
 fn has_time(bytes: &[u8]) -> bool
     ensures { result ≡ has_time false bytes.now }
 {
@@ -225,26 +246,58 @@ fn begins_blank(bytes: &[u8]) -> bool
     }
 }
 
-/// Whether a prefix may end between these bytes.
-fn ends_prefix(front: &[u8], behind: &[u8]) -> bool
-    ensures { result ≡ ends_prefix front.now behind.now }
+/// Whether a comma is among the bytes.
+fn has_comma(bytes: &[u8]) -> bool
+    ensures { result ≡ list_any (λ b. b == 44) bytes.now }
 {
-    front.ends_with(b";")
+    bytes.iter().any(|byte| *byte == b',')
+}
+
+/// Whether a comma is among the bytes after the first one.
+fn has_later_comma(bytes: &[u8]) -> bool
+    ensures { result ≡ list_any (λ b. b == 44) (drop 1 bytes.now) }
+{
+    match bytes {
+        [] => false,
+        [_, more @ ..] => has_comma(more),
+    }
+}
+
+/// Whether the bytes have two commas, and no blank, tab or `;`.
+fn is_record(bytes: &[u8]) -> bool
+    ensures { result ≡ is_record bytes.now }
+{
+    last_of(Kind::Record, bytes) == bytes.len()
+        && has_later_comma(&bytes[first_of(Kind::NoComma, bytes)..])
+}
+
+/// Whether bytes, if they are from the line's start on, are the head of a record.
+fn ends_record(at_start: bool, bytes: &[u8]) -> bool
+    ensures { result ≡ ends_record at_start bytes.now }
+{
+    at_start && bytes.ends_with(b";") && is_record(without_last(bytes))
+}
+
+/// Whether a prefix may end between these bytes, which are from the line's start on or not.
+fn ends_prefix(at_start: bool, front: &[u8], after: &[u8]) -> bool
+    ensures { result ≡ ends_prefix at_start front.now after.now }
+{
+    ends_record(at_start, front)
         || (front.ends_with(b":")
             && end_of(Kind::Word, without_last(front)) == b"kernel".as_slice())
         || ends_in_stamp(front)
-        || (begins_blank(behind) && has_time(end_of(Kind::NoBlank, front)))
+        || (begins_blank(after) && has_time(end_of(Kind::NoBlank, front)))
 }
 
 /// The place of the prefix's end, or 0 without a prefix.
 #[tactic(auto, using(crate::proofs::PlaceLemmas::prefix_at, std::proofs::lemmas::List::take_rest))]
-pub(crate) fn prefix_end(bytes: &[u8]) -> usize
-    ensures is { result ≡ prefix_end bytes.now }
+pub(crate) fn prefix_end(at_start: bool, bytes: &[u8]) -> usize
+    ensures is { result ≡ prefix_end at_start bytes.now }
     ensures within { result ≤ length bytes.now }
 {
     let mut end = bytes.len();
     while end > 0 {
-        if ends_prefix(&bytes[..end], &bytes[end..]) {
+        if ends_prefix(at_start, &bytes[..end], &bytes[end..]) {
             return end;
         }
         end -= 1;
@@ -259,7 +312,7 @@ fn has_digit(bytes: &[u8]) -> bool
     bytes.iter().any(|byte| byte.is_ascii_digit())
 }
 
-/// How long a run of a kind is with the byte before it and the one that closes it, or 0 without these.
+/// How long a run of a kind is with a byte before it and the one that closes it, or 0 without them.
 fn closed(kind: Kind, close: &[u8], bytes: &[u8]) -> usize
     ensures { result ≡ closed kind close.now bytes.now }
 {
@@ -271,16 +324,34 @@ fn closed(kind: Kind, close: &[u8], bytes: &[u8]) -> usize
     }
 }
 
+/// How long an escape sequence of colours is that has these bytes after its ESC, or 0.
+fn colour(bytes: &[u8]) -> usize
+    ensures { result ≡ colour bytes.now }
+{
+    match bytes {
+        [b'[', more @ ..] => {
+            let n = first_of(Kind::Colour, more);
+            if more[n..].starts_with(b"m") {
+                n + 3
+            } else {
+                0
+            }
+        }
+        _ => 0,
+    }
+}
+
 /// The length of the item that the bytes begin with, if such items may begin a line, or 0.
 fn lead_item(bytes: &[u8]) -> usize
     ensures { result ≡ lead_item bytes.now }
 {
     match bytes {
         [] => 0,
-        [b' ' | b'\t' | b'\r' | b'?', ..] => 1,
+        [b' ' | b'\t' | b'\r' | b'?' | b'>', ..] => 1,
+        [b'\x1b', more @ ..] => colour(more),
         [b'=', more @ ..] if more.starts_with(b">") => 2,
         [b'#', more @ ..] if begins_like(b"0", more) => first_of(Kind::Digit, more) + 1,
-        [b'<', more @ ..] => closed(Kind::Word, b">", more),
+        [b'<', more @ ..] => closed(Kind::Tag, b">", more),
         [b'[', more @ ..] if has_digit(&more[..first_of(Kind::Group, more)]) => {
             closed(Kind::Group, b"]", more)
         }

@@ -34,6 +34,18 @@ impl Answers for Unanswered {
     fn is_alias(&self, _is_caller: bool, _addr: u64, _name: &[u8]) -> bool {
         false
     }
+
+    fn is_offset(&self, _is_caller: bool, _addr: u64, _offset: u64) -> bool {
+        false
+    }
+
+    fn is_data(&self, _addr: u64) -> bool {
+        false
+    }
+
+    fn is_in_range(&self, _addr: u64) -> bool {
+        false
+    }
 }
 
 /// Whether a line has an address word, and is not too long to be named.

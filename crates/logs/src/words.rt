@@ -2,16 +2,16 @@
 //!
 //! An address word has eleven bytes at least (eight in a log of a 32-bit kernel), and each is a
 //! hexadecimal digit or an `x`. So the bytes are passed in leaps of eleven: the last of them that
-//! is neither says that no address word has one before it, and the next leap begins behind it:
+//! is neither says that no address word has one before it, and the next leap begins after it:
 //!
 //! ```text
 //!     at 3 of 77 pages [<ffffffff81000108>] ? do_one
 //!      |---------|                                      up to the `p`
 //!                 |-----|                               up to the `<`
-//!                        |--------------|==             the word, and the closers behind it
+//!                        |--------------|==             the word, and the closers after it
 //! ```
 //!
-//! A word that is met behind one of its bytes is none.
+//! A word that is met after one of its bytes is none.
 ghost use Rattle.std.specs.Prelude.{◌≡◌, ◌≤◌, ◌<◌, ◌+◌, ◌++◌, ◌∷◌, [], false, true, length, drop};
 ghost use Rattle.std.specs.Prelude.{nat_eq, slice_index_or};
 ghost use Rattle.std.specs.List.{starts_with};
@@ -179,7 +179,7 @@ pub(crate) fn has_prefix(word: &[u8]) -> bool
 }
 
 /// The number that hexadecimal digits write, if there are as many as asked for.
-fn digits_between(least: usize, most: usize, digits: &[u8]) -> Option<u64>
+pub(crate) fn digits_between(least: usize, most: usize, digits: &[u8]) -> Option<u64>
     ensures { result ≡ digits_between least most digits.now }
 {
     if digits.len() < least || digits.len() > most {
@@ -188,7 +188,7 @@ fn digits_between(least: usize, most: usize, digits: &[u8]) -> Option<u64>
     hexadecimal(digits)
 }
 
-/// Whether the bytes begin with these, one behind the other.
+/// Whether the bytes begin with these, one after the other.
 #[tactic(auto, using(crate::proofs::TextLemmas::starts_with_both, std::proofs::lemmas::List::take_rest))]
 pub(crate) fn begins_with(bytes: &[u8], first: &[u8], second: &[u8]) -> bool
     ensures { result ≡ starts_with nat_eq bytes.now (first.now ++ second.now) }

@@ -16,7 +16,7 @@ returns-then-is_none c =
 pub returns-in_err-offset : goal.returns-in_err-offset
 returns-in_err-offset c =
     let rows = rows_of (found_of c.args.found.now) in
-    handed_on (Gives IsLookupIn (codes "lookup") rows) c.from_residual.result c.in_err-offset.field-0.0 c.from_residual.ensures.1 (c.in_err-offset.ensures (codes "lookup"))
+    handed_on (Gives IsLookupIn (codes "lookup") rows) c.from_residual.result c.in_err-offset.field-0.0 c.from_residual.ensures.1 (c.in_err-offset.ensures (codes "lookup") refl)
 
 pub returns-in_err-addresses : goal.returns-in_err-addresses
 returns-in_err-addresses c =
@@ -29,6 +29,6 @@ returns c = record {
   addresses = c.in_ok-addresses.ensures (rows_of (found_of c.args.found.now)) c.values_of-words.ensures;
   file = c.value_of-file.ensures;
   callers = c.is_given.ensures;
-  lower = c.in_ok-offset.ensures (codes "lookup");
+  lower = c.in_ok-offset.ensures (codes "lookup") refl;
   form = c.form_in.ensures;
 }

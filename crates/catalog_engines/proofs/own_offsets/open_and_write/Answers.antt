@@ -1,0 +1,43 @@
+use Rattle.catalog_engines.proofs.Words.{◌∙◌, ap, Err, inl, inr, refl, subst, sym, is_narrow, lines_of, catalog_opened, IsCatalogOf, OpensCatalog, texts_in, Refused, answered_by, handed_on, IsEndTold}
+use Rattle.logs.specs.Annotation.{IsAnnotationOf, Puts}
+use Rattle.catalog_engines.specs.OwnOffsets.{OpensAndWrites}
+use Rattle.order_laws.specs.declared.refusals.Refusal.TheVariants as refusal
+use Rattle.catalog_engines.proofs.own_offsets.open_and_write.Goals as goal
+
+pub returns-in_err-opened : goal.returns-in_err-opened
+returns-in_err-opened g c =
+    let a = c.args in
+    let given = texts_in a.texts.now in
+    let fault = c.in_err-opened.field-0.0 in
+    handed_on (OpensAndWrites g.W.Write.contents g.E.Write.contents a.sources.now a.job.now a.writer.now a.writer.now a.errors.now a.errors.now a.rule given a.log.now)
+    c.from_residual.result fault c.from_residual.ensures.1
+    (inl (fault, subst (λ k. OpensCatalog k given (Err fault)) c.as_ref.ensures.value c.in_err-opened.ensures, (refl, (refl, refl))))
+
+pub returns-in_err-index : goal.returns-in_err-index
+returns-in_err-index g c =
+    let a = c.args in
+    handed_on (OpensAndWrites g.W.Write.contents g.E.Write.contents a.sources.now a.job.now a.writer.now a.writer.now a.errors.now a.errors.now a.rule (texts_in a.texts.now) a.log.now)
+    c.from_residual-in_err-index.result (Refused refusal.OutOfMemory) c.from_residual-in_err-index.ensures.1 (inl (Refused refusal.OutOfMemory, tt, (refl, (refl, refl))))
+
+pub returns : goal.returns
+returns g c =
+    let a = c.args in
+    let given = texts_in a.texts.now in
+    let opened = c.in_ok-opened.opened in
+    let index = c.new-answers.result.index in
+    let narrow = c.new-answers.result.is_narrow in
+    inr (record {
+      catalog = index;
+      narrow = narrow;
+      notes = opened.notes;
+      noted = c.note_listings.new.writer;
+      sized = c.new-answers.ensures.narrow ∙ c.is_narrow.ensures ∙ ap (λ t. is_narrow (lines_of t)) c.deref.ensures.value;
+      said = subst (λ x. IsCatalogOf a.sources.now.kernel given x opened.notes) (sym (c.new-answers.ensures.index ∙ c.in_ok-index.ensures))
+          (subst (λ k. IsCatalogOf k given opened.catalog opened.notes) c.as_ref.ensures.value (catalog_opened _ given opened c.in_ok-opened.ensures));
+      told = c.note_listings.ensures;
+      holds = (
+        c.annotate_text.result,
+        subst (λ rule. Puts g.W.Write.contents (IsAnnotationOf (answered_by index rule narrow) a.log.now) a.writer.now c.annotate_text.new.writer c.annotate_text.result) c.new-answers.ensures.rule c.annotate_text.ensures,
+        subst (λ end. IsEndTold g.E.Write.contents a.job.now.log.now c.note_listings.new.writer c.tell_end.new.errors end c.tell_end.result) c.stopped-end.ensures c.tell_end.ensures,
+      );
+    })

@@ -1,0 +1,34 @@
+-- Which names symbols may have, by a number of each name.
+use Rattle.std.specs.Prelude.{◌≡◌, ℕ, ◌+◌, ◌-◌, ◌*◌, ◌%◌, Bool, true, false, List, [], ◌∷◌, length, drop}
+use Rattle.std.specs.Prelude.{All, IfSome, slice_index_or}
+use Rattle.modules.specs.Catalogs.{module_of}
+use Rattle.modules.specs.Entries.{CatalogEntries, SymbolEntry}
+use Rattle.catalog_engines.specs.LogAnswers.{lists_symbol}
+
+-- the number of bytes, after others that have this one
+abbrev pub number_after : ℕ → List ℕ → ℕ
+number_after n [] = n
+number_after n (b ∷ bytes) = number_after ((n * 31 + b) % 1048576) bytes
+
+-- the number of a name: that of its last eight bytes
+unfoldable pub number_of : List ℕ → ℕ
+number_of name = number_after 0 (drop (length name - 8) name)
+
+-- a name with a mark at its number
+abbrev pub has_mark : List Bool → List ℕ → Bool
+has_mark marks name = slice_index_or marks (number_of name) false
+
+-- each symbol's name has a mark
+abbrev pub HaveMarks : List Bool → List SymbolEntry → Type 0
+HaveMarks marks symbols = All (λ s. has_mark marks s.name ≡ true) symbols
+
+-- the names of all symbols of a catalog have marks
+abbrev pub HoldsNames : List Bool → CatalogEntries → Type 0
+HoldsNames marks c =
+    (number : ℕ) → IfSome (module_of c number) (λ m. HaveMarks marks m.symbols)
+
+-- a name is that of no symbol of a catalog
+abbrev pub IsNoName : CatalogEntries → List ℕ → Type 0
+IsNoName c name =
+    (number : ℕ)
+    → IfSome (module_of c number) (λ m. (addr : ℕ) → lists_symbol m.symbols addr name ≡ false)

@@ -1,0 +1,42 @@
+-- What a log says itself of where its kernel lay: `Kernel Offset: 0x1a600000 from 0xffffffff81000000`.
+use Rattle.std.specs.Prelude.{ℕ, ◌+◌, ◌%◌, ◌^◌, List, [], ◌∷◌, drop, take, codes, nat_eq}
+use Rattle.std.specs.Prelude.{Option, None, option_and_then, if◌then◌else◌}
+use Rattle.std.specs.List.{starts_with}
+use Rattle.std.specs.Option.{option_map, option_or}
+use Rattle.texts.specs.Numbers.{numeral}
+use Rattle.logs.specs.Places.{first_of}
+use Rattle.logs.specs.declared.places.Kind.TheVariants as kind
+use Rattle.logs.specs.declared.kernel_offsets.KernelOffset.{KernelOffset}
+
+-- how many hexadecimal digits begin a text
+abbrev pub digits_at : List ℕ → ℕ
+digits_at text = first_of kind.Hexadecimal text
+
+-- the number that they write, if they are 1 to 16
+abbrev pub number_at : List ℕ → Option ℕ
+number_at text = numeral 16 16 (take (digits_at text) text)
+
+-- ` from 0xB` begins the text, after an offset of A bytes
+abbrev pub from_at : ℕ → List ℕ → Option KernelOffset
+from_at offset text =
+    if starts_with nat_eq text (codes " from 0x")
+    then option_map (λ from. record { offset = offset; from = from }) (number_at (drop 8 text))
+    else None
+
+-- `Kernel Offset: 0xA from 0xB` begins the text
+abbrev pub kernel_offset_at : List ℕ → Option KernelOffset
+kernel_offset_at text =
+    if starts_with nat_eq text (codes "Kernel Offset: 0x")
+    then option_and_then
+    (λ offset. from_at offset (drop (digits_at (drop 17 text)) (drop 17 text)))
+    (number_at (drop 17 text))
+    else None
+
+-- the first place of a log that says so
+abbrev pub kernel_offset_in : List ℕ → Option KernelOffset
+kernel_offset_in [] = None
+kernel_offset_in (b ∷ log) = option_or (kernel_offset_at (b ∷ log)) (kernel_offset_in log)
+
+-- the address at which the kernel lay
+abbrev pub kernel_place : KernelOffset → ℕ
+kernel_place k = (k.from + k.offset) % 2 ^ 64
