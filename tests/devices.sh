@@ -1,11 +1,10 @@
 #!/usr/bin/env bash
 # Fails each read and each write of a run of the program in turn, and all writes from each one on, until
-# a run meets no failure. A
-# read that fails is told as that of its file, with status 1 and nothing on standard output, where a
-# beginning of an annotated log may stand; but where listings are read again it is a note, and the lines
-# have no names. A write that fails is told, and a beginning was written.
-# Calls fail with several errors: of a broken pipe `annotate` says nothing. A write that takes a few
-# bytes alone is no failed one. Then reads logs and listings a few bytes at a time.
+# a run meets no failure. A read that fails is told as that of its file, with status 1 and nothing on
+# standard output, where a beginning of an annotated log may stand; but where listings are read again it
+# is a note, and the lines have no names. A write that fails is told, and a beginning was written. Calls
+# fail with several errors: of a broken pipe `annotate` says nothing. A write that takes a few bytes
+# alone is no failed one. Each file is opened once. Then reads logs and listings a few bytes at a time.
 #
 # The program is linked to the C library dynamically, so a library in front of it can fail a call.
 # Needs a C compiler.
@@ -171,6 +170,22 @@ tried 9 1 check "${both[@]}"
 tried 3 1 check --kallsyms kallsyms
 tried 9 1 address "${both[@]}" a:a_run none
 tried 3 1 address --kallsyms kallsyms --json a_run
+
+# once_each ARGUMENT..: each file that the run opens it opens once, as a pipe by a name needs
+once_each() {
+    local again
+    rm -f opened
+    env OPENED_FILES="$work/opened" LD_PRELOAD="$work/fail.so" "$program" "$@" <input >out 2>err || fail "latchsym $*: $(cat err)"
+    [ -s opened ] || fail "latchsym $*: opens no file"
+    again=$(sort opened | uniq -d)
+    [ -z "$again" ] || fail "latchsym $*: opens twice: $again"
+}
+once_each trace trace
+once_each lookup "${both[@]}" --addresses asked
+once_each run "${both[@]}" --readers 1 script
+once_each annotate "${both[@]}" log
+once_each check "${both[@]}"
+once_each address "${both[@]}" a:a_run
 
 # portions ARGUMENT..: what is read a few bytes at a time is answered as in one piece
 portions() {

@@ -1,5 +1,5 @@
 /* Stands in front of the C library's read and write, and fails one call, or all writes from one on, of
- * a program that is linked to the C library dynamically.
+ * a program that is linked to the C library dynamically; and of its open, and lists what is opened.
  *
  *   FAILED_READ    the number of the read that fails, from 1 on; 0 or nothing fails none
  *   FAILED_WRITE   the number of the write to standard output that fails
@@ -8,10 +8,12 @@
  *   FAILURE        the number of the error that a call which fails says, EIO if there is none
  *   LONGEST_READ   the most bytes that a read gives
  *   LONGEST_WRITE  the most bytes that a write to standard output takes
+ *   OPENED_FILES   a file that gets the path of each file that is opened, one a line
  *
  * A call that fails does nothing else. */
 #include <errno.h>
 #include <fcntl.h>
+#include <stdarg.h>
 #include <stdio.h>
 #include <stdlib.h>
 #include <sys/syscall.h>
@@ -48,6 +50,20 @@ ssize_t write(int file, const void *bytes, size_t count) {
     if (call == failed_write || (failed_writes > 0 && call >= failed_writes)) return fail(file);
     if (longest_write > 0 && count > (size_t)longest_write) count = (size_t)longest_write;
     return syscall(SYS_write, file, bytes, count);
+}
+
+int open(const char *path, int flags, ...) {
+    va_list rest;
+    va_start(rest, flags);
+    int mode = va_arg(rest, int);
+    va_end(rest);
+    const char *opened = getenv("OPENED_FILES");
+    if (opened) {
+        int list = (int)syscall(SYS_openat, AT_FDCWD, opened, O_CREAT | O_APPEND | O_WRONLY, 0600);
+        dprintf(list, "%s\n", path);
+        close(list);
+    }
+    return (int)syscall(SYS_openat, AT_FDCWD, path, flags, mode);
 }
 
 __attribute__((constructor)) static void begin(void) {
