@@ -35,10 +35,11 @@ is_begun() {
     [ ! -s out ] || cmp -s -n "$(stat -c %s out)" out ample
 }
 
-# is_unnamed FILE: whether the log was copied without a name, and that FILE cannot be read again was told
+# is_unnamed FILE REASON: whether the log was copied without a name, and was told that FILE cannot be read
+# again, and why
 is_unnamed() {
     [ $status = 0 ] && cmp -s out log &&
-        [ "$(cat err)" = "latchsym: note: $1: cannot be read again (Input/output error); lines have no names until it can" ]
+        [ "$(cat err)" = "latchsym: note: $1: cannot be read again$2; lines have no names until it can" ]
 }
 
 # pieces ARGUMENT..: what goes out a few bytes at a time is what goes out in one piece
@@ -105,7 +106,7 @@ tried() {
         [ -e mark ] || break
         name=$(basename "$(cat mark)")
         [ "$name" != input ] || name=-
-        if [[ $* == *--follow* ]] && is_unnamed "$name"; then
+        if [[ $* == *--follow* ]] && is_unnamed "$name" "$reason"; then
             again=$((again + 1))
             continue
         fi

@@ -417,7 +417,7 @@ refused 1 "no_such: cannot be read" "${alone[@]}" --addresses no_such 1
 refused 1 "-: line 3 is not understood" "${alone[@]}" --addresses - <"$work/bad.addresses"
 refused 2 "" --modules basic.modules --kallsyms basic.kallsyms --modules basic.modules 1
 refused 2 "" --modules basic.modules --kallsyms basic.kallsyms --symbols x 1
-# a file is opened once, which a pipe by a name needs
+# a listing may be a pipe by a name (devices.sh shows that each file is opened once, which that needs)
 mkfifo "$work/pipe"
 cat basic.kallsyms >"$work/pipe" 2>"$work/err" &
 writer=$!
