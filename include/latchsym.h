@@ -85,7 +85,7 @@ enum {
     LATCHSYM_FORGOTTEN = 25, /* the follower has no listing of that moment */
     LATCHSYM_FLIP = 31,      /* a flip of the sequence. The second of an update shows it */
     LATCHSYM_STORE = 32,     /* a store of a word */
-    LATCHSYM_NOTE_GZIP = 41, /* is compressed by gzip; unpack it first. Up to 53: a listing's */
+    LATCHSYM_NOTE_GZIP = 41, /* is compressed by gzip; unpack it first. Up to 54: a listing's */
     LATCHSYM_NOTE_HIDDEN = 42,        /* every address is 0; read it as root (kernel.kptr_restrict) */
     LATCHSYM_NOTE_LIKE_SYMBOLS = 43,  /* looks like a listing of symbols. Noted of modules */
     LATCHSYM_NOTE_LIKE_MODULES = 44,  /* looks like a listing of modules. Noted of symbols */
@@ -100,6 +100,9 @@ enum {
                                          * their listing out. A symbol names one that is left out */
     LATCHSYM_NOTE_EMPTY = 52,  /* is empty. Noted of symbols where modules are not given */
     LATCHSYM_NOTE_UTF_16 = 53, /* is UTF-16; convert it first */
+    LATCHSYM_NOTE_UNLISTED_OWNER = 54, /* lists no module of some symbols, which are left out; give
+                                        * no modules. They are of bpf, __builtin__ftrace or
+                                        * __builtin__kprobes */
     LATCHSYM_BAD_HANDLE = 101, /* the handle does not hold what is wanted. It is closed where open is
                                 * wanted, the other way round, or of others */
     LATCHSYM_BAD_LENGTH = 102, /* the room is not for as many answers as there are addresses */

@@ -37,12 +37,12 @@ def compare(program, folder, words, plain, rule, log):
     listings = (b"latchsym: note: kallsyms: ", b"latchsym: note: modules: ")
     said = [line for line in done.stderr.splitlines() if not line.startswith(listings)]
     wanted, written = annotated(log, plain, rule)
-    if done.returncode == 0 and said == note_of(written) and done.stdout == wanted:
+    if done.returncode == 0 and said == note_of(written, plain, rule) and done.stdout == wanted:
         return wanted, said
     write(folder, wanted=wanted)
     at = next((i for i, (a, b) in enumerate(zip(wanted, done.stdout)) if a != b), min(len(wanted), len(done.stdout)))
     print(f"random_logs: {' '.join(map(repr, words[1:]))}: status {done.returncode}")
-    print(f"random_logs: {done.stderr[:300]!r} in place of {note_of(written)!r}")
+    print(f"random_logs: {done.stderr[:300]!r} in place of {note_of(written, plain, rule)!r}")
     print(f"random_logs: at byte {at}, {done.stdout[at:at + 80]!r} in place of {wanted[at:at + 80]!r}")
     sys.exit(1)
 

@@ -1,7 +1,7 @@
 """Random logs: of lines as kernels and tools write them, of lines that nearly are, and of anything."""
 
 from expected import GREATEST, NAMES
-from rules import LONGEST
+from rules import LONGEST, STEP
 
 # what stands before the text of a line: dmesg, `dmesg -T`, ISO times, journalctl, syslog, /dev/kmsg,
 # netconsole, a console of CI
@@ -75,7 +75,27 @@ def address_word(draw, plain, rule, addresses):
     return text
 
 
+def kernel_said(draw, plain, rule):
+    """Where the kernel of the log lay, as it says it or nearly so, mostly by the listing's."""
+    listed = plain.base() or 0xFFFFFFFF81000000
+    moved = draw.choice([0, 0x200000, 0x1A000000, 0x1000, 5])
+    start = (listed + draw.choice([rule.offset] * 3 + [0, STEP, 3 * STEP, 1])) % 2**64
+    form = draw.choice([b"Kernel Offset: 0x%x from 0x%x"] * 5 + [b"Kernel Offset: 0x%x from %x", b"Kernel Offset: %x from 0x%x"])
+    return form % (moved, start) + draw.choice([b"", b" ", b"0", b" (relocation range: "])
+
+
+def function_said(draw, plain):
+    """The name of a function with a size, mostly its own, as it stands in a trace."""
+    name = draw.choice(NAMES + [b"do_two", b"?"])
+    size = draw.choice([*plain.sizes(name), 1, 0x10])
+    return draw.choice([b" ", b":", b" ? ", b"x", b"\t"]) + name + b"+0x%x/0x%x" % (draw.randrange(9), size) + draw.choice([b"", b"", b" [m]", b" ["])
+
+
 def piece(draw, plain, rule, addresses):
+    if draw.randrange(24) == 0:
+        return kernel_said(draw, plain, rule)
+    if draw.randrange(12) == 0:
+        return function_said(draw, plain)
     kind = draw.randrange(16)
     if kind < 7 and addresses:
         return address_word(draw, plain, rule, addresses)

@@ -1,9 +1,12 @@
 """How the addresses of a log are answered, by plain slow programs: by a listing of symbols alone, or
 with one of modules beside it; as they are, moved, and as those of callers."""
 
-from expected import LINE, LONGEST, Plain
+import re
+
+from expected import LINE, LONGEST, Plain, read
 
 LETTERS_OF_DATA = b"bBdDrR"
+SIZE = re.compile(rb".*\+0x[0-9a-f]+/0x([0-9a-f]+)\Z", re.DOTALL)
 
 
 def is_narrow(listing):
@@ -19,6 +22,7 @@ class BySymbols(Plain):
     def __init__(self, listing, bounds):
         super().__init__(listing, bounds)
         self.narrow = is_narrow(listing)
+        self.listed = read(listing)[0]
         self.first = min([*(region.start for region in self.kernel), *self.starts()], default=None)
 
     def is_narrow(self):
@@ -32,6 +36,19 @@ class BySymbols(Plain):
         """Whether data begins at the address: the first symbol listed there has such a letter."""
         here = [s for s in self.kept if s.module == self.owner(address) and s.address == address]
         return bool(here) and here[0].letter in LETTERS_OF_DATA
+
+    def base(self):
+        """Where the kernel begins: at its first `_text`, or else `_stext`."""
+        for name in (b"_text", b"_stext"):
+            for symbol in self.listed:
+                if symbol.module is None and symbol.name == name:
+                    return symbol.address
+        return None
+
+    def sizes(self, name):
+        """The sizes of the kernel's own symbols of this name."""
+        own = [s for s in self.kept if s.module is None and s.name == name]
+        return {int(SIZE.match(self.answer(s.address))[1], 16) for s in own}
 
     def same(self, address):
         """The names of the symbols at the place of the answer's."""

@@ -45,11 +45,15 @@ HEADING = re.compile(rb"(?:\].*|.*(?::|\[|==)|)\Z", re.DOTALL)
 
 # what the log itself says of an address, and its form; and the offset of an answer
 SAID = re.compile(rb" (?:\? |\(|(?!\? |\())([^\x00- ()]+)")
-FORM = re.compile(rb"([^+]+)(?:\+0x([0-9a-fA-F]{1,16})(?:/0x[0-9a-fA-F]+)?)?")
+FORM = re.compile(rb"([^+]+)(?:\+0x([0-9a-fA-F]{1,16})(/0x[0-9a-fA-F]+)?)?")
 OFFSET = re.compile(rb".*\+0x([0-9a-f]+)/0x", re.DOTALL)
 
-# a name that the log itself has behind an address
-OWN = re.compile(rb" (?:\? |\(|(?!\? |\())([^\x00- +]+)\+0x[0-9a-fA-F]+/0x[0-9a-fA-F]")
+# what a line says of the kernel that wrote it: where it lay, and how long a function is
+LAY = re.compile(rb"Kernel Offset: 0x([0-9a-fA-F]{1,16}) from 0x([0-9a-fA-F]{1,16})(?![0-9a-fA-F])")
+FUNCTION = re.compile(rb"[0-9A-Za-z_.$]+\Z")
+SIZE = re.compile(rb"\+0x[0-9a-fA-F]+/0x([0-9a-fA-F]+)")
+MODULE = re.compile(rb" \[[0-9A-Za-z_]")
+STEP = 0x200000
 
 
 @dataclass
@@ -83,6 +87,9 @@ class Written:
     answered: int = 0
     agreeing: int = 0
     disagreeing: int = 0
+    functions: int = 0
+    resized: int = 0
+    lay: tuple = None
 
 
 def is_glued(line, word):
@@ -158,6 +165,20 @@ def own_reading(plain, rule, value, rest):
     return readings, has_offset
 
 
+def report_line(written, line, plain):
+    """Counts what the line says of the kernel that wrote the log."""
+    lay = LAY.search(line)
+    if lay and not written.lay:
+        written.lay = tuple(int(number, 16) for number in lay.groups())
+    for at in (i for i, byte in enumerate(line) if byte == ord("+")):
+        name, size = FUNCTION.search(line[:at]), SIZE.match(line[at:])
+        if not name or not size or len(size[1]) > 16 or MODULE.match(line[at + size.end() :]):
+            continue
+        sizes = plain.sizes(name[0])
+        written.functions += bool(sizes)
+        written.resized += bool(sizes) and int(size[1], 16) not in sizes
+
+
 def annotate_line(written, line, plain, rule, is_narrow, carried):
     """Writes the line with the answers behind its addresses, and returns what is carried on."""
     is_user = carried.is_user and not KERNEL.search(line) and not TRACE.search(line)
@@ -179,17 +200,19 @@ def annotate_line(written, line, plain, rule, is_narrow, carried):
         if text == b"-":
             continue
         written.answered += 1
-        own = OWN.match(line[place:])
-        if own and any(
-            rule.answer(plain, address.value, r) != b"-" and rule.agrees(plain, address.value, r, own[1])
-            for r in {address.is_caller, is_caller}
-        ):
-            written.agreeing += 1
-        elif own:
-            written.disagreeing += 1
+        said = SAID.match(line[place:])
+        own = said and FORM.fullmatch(said[1])
+        if own and own[3]:
+            agrees = any(
+                rule.answer(plain, address.value, r) != b"-" and rule.agrees(plain, address.value, r, own[1])
+                for r in {address.is_caller, is_caller}
+            )
+            written.agreeing += agrees
+            written.disagreeing += not agrees
         pieces += [line[done:place], b"" if is_told else text_behind(line[place:], text)]
         done = place
     written.lines.append(b"".join([*pieces, line[done:]]))
+    report_line(written, line, plain)
     has_frame = any(address.is_frame for address in addresses)
     had_place = not has_frame and (carried.had_place or bool(PLACE.search(line)))
     goes_on = carried.had_frame and not had_place and not HEADING.fullmatch(line.rstrip(b" \t\r\n"))
@@ -207,13 +230,33 @@ def annotated(log, plain, rule):
     return b"".join(written.lines), written
 
 
-def note_of(written):
+def note_of_place(lay, listed, offset):
+    """What is noted of where the kernel lay, by that of the listing."""
+    moved, start = lay
+    place, here = (start + moved) % 2**64, (listed + offset) % 2**64
+    if place == here or (place - here) % 2**64 % STEP:
+        return []
+    if here == start:
+        text = b"its kernel was moved by 0x%x; give --offset 0x%x" % (moved, (moved + offset) % 2**64)
+    else:
+        text = b"its kernel lay at 0x%x, that of the listing at 0x%x; the listing is of another boot" % (place, here)
+    return [b"latchsym: note: log: " + text]
+
+
+def note_of(written, plain, rule):
     """What is noted of the log behind it: the first that applies."""
     head = b"".join(written.lines)[:2]
     if head == b"\x1f\x8b":
         return [b"latchsym: note: log: is compressed by gzip; unpack it first"]
     if head in (b"\xff\xfe", b"\xfe\xff"):
         return [b"latchsym: note: log: is UTF-16; convert it first"]
+    if written.resized >= 2:
+        told = b"%d of %d functions in it have another size in the listing; the listing is of another build"
+        return [b"latchsym: note: log: " + told % (written.resized, written.functions)]
+    if written.lay and plain.base() is not None:
+        note = note_of_place(written.lay, plain.base(), rule.offset)
+        if note:
+            return note
     if written.disagreeing >= 5 and written.disagreeing > written.agreeing:
         names = written.agreeing + written.disagreeing
         told = b"its own names disagree with the listing (%d of %d); is the listing of this boot?"

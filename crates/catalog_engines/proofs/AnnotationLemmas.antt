@@ -1,5 +1,11 @@
 -- From what came of a log by the catalog of listings to what the engine returns.
-use Rattle.catalog_engines.proofs.Words.{◌≡◌, ℕ, List, [], Option, Some, Result, Ok, Err, refl, sym, subst, inl, inr, ⊎_elim, IfSome, Counted, Output, answered_by, AnnotatesBy, AnnotatesLog, IsTold, AreReadAs, Given, HasBadRegion, HasCrowdedRegions, IsCatalogOf, OpensCatalog, Failures, NoReaderFailed, Fault, Refused, BadLine, Read, TooLong, Write, ListingTexts, Annotate, Sources, is_narrow, lines_of, Findings, LogFault, IsEndTold, stopped}
+use Rattle.catalog_engines.specs.declared.log_notes.ListedKernel.{ListedKernel}
+use Rattle.catalog_engines.specs.declared.annotations.Stop.{Stop}
+use Rattle.catalog_engines.specs.declared.annotations.Stop.TheVariants as stop
+use Rattle.catalog_engines.specs.LogNotes.{IsLogNoted, note_of_log}
+use Rattle.logs.specs.declared.log_names.LogNames.{LogNames}
+use Rattle.std.proofs.Common.{None}
+use Rattle.catalog_engines.proofs.Words.{listed_kernel, ◌≡◌, ℕ, List, [], Option, Some, Result, Ok, Err, refl, sym, subst, inl, inr, ⊎_elim, IfSome, Counted, Output, answered_by, AnnotatesBy, AnnotatesLog, IsTold, AreReadAs, Given, HasBadRegion, HasCrowdedRegions, IsCatalogOf, OpensCatalog, Failures, NoReaderFailed, Fault, Refused, BadLine, Read, TooLong, Write, ListingTexts, Annotate, Sources, is_narrow, lines_of, Findings, LogFault, IsEndTold, stopped}
 use Rattle.logs.specs.declared.annotation.LogFault.TheVariants as log_fault
 use Rattle.order_laws.specs.declared.refusals.Refusal.TheVariants as refusal
 use Rattle.catalog_engines.proofs.GivenLemmas.{known_too}
@@ -29,17 +35,17 @@ module _ {L W E : Type 0} (remaining : L → Option (List ℕ)) (contents : W �
   IsOfLog (Err Write) = Unit {0}
   IsOfLog (Err _) = ⊥
 
-  of_log : (e e' : Output E) (end : Result Findings LogFault) (result : Result ℕ Fault) → IsEndTold errors a.log.now e e' (stopped end) result → IsOfLog result
-  of_log e e' (Ok found) result told = subst IsOfLog (sym told.0) tt
-  of_log e e' (Err log_fault.Closed) result told = subst IsOfLog (sym told.0) tt
-  of_log e e' (Err log_fault.OutOfMemory) result told = subst IsOfLog (sym told.0) tt
-  of_log e e' (Err log_fault.Read) result told = subst IsOfLog (sym told.0) tt
-  of_log e e' (Err log_fault.Write) result told = subst IsOfLog (sym told.0) tt
-  of_log e e' (Err log_fault.TooLong) result told = subst IsOfLog (sym told.0) tt
+  of_log : (listed : ListedKernel) (e e' : Output E) (end : Result Findings LogFault) (result : Result ℕ Fault) → IsEndTold errors a.log.now listed e e' (stopped end) result → IsOfLog result
+  of_log listed e e' (Ok found) result told = subst IsOfLog (sym told.0) tt
+  of_log listed e e' (Err log_fault.Closed) result told = subst IsOfLog (sym told.0) tt
+  of_log listed e e' (Err log_fault.OutOfMemory) result told = subst IsOfLog (sym told.0) tt
+  of_log listed e e' (Err log_fault.Read) result told = subst IsOfLog (sym told.0) tt
+  of_log listed e e' (Err log_fault.Write) result told = subst IsOfLog (sym told.0) tt
+  of_log listed e e' (Err log_fault.TooLong) result told = subst IsOfLog (sym told.0) tt
 
   module _ (l l' : Counted L) (w w' : Output W) (e e' : Output E) where
     abbrev Told : Option Given → Result ℕ Fault → Type 0
-    Told known r = IsTold errors q.kernel q.files known e (λ c narrow noted. AnnotatesBy remaining contents errors a.log.now (answered_by c a.rule narrow) l l' w w' noted e' r)
+    Told known r = IsTold errors q.kernel q.files a.rule.offset known e (λ c narrow listed noted. AnnotatesBy remaining contents errors a.log.now listed (answered_by c a.rule narrow) l l' w w' noted e' r)
 
     -- the notes were told, and this came of the log
     pub log_annotated : (known : Option Given) (result : Result ℕ Fault) → Told known result
@@ -49,7 +55,7 @@ module _ {L W E : Type 0} (remaining : L → Option (List ℕ)) (contents : W �
     log_annotated known (Err (Read place)) t = inr (tt, t)
     log_annotated known (Err (TooLong place)) t = (tt, t)
     log_annotated known (Err Write) t = (tt, t)
-    log_annotated known (Err f) t = absurd (of_log t.noted e' t.holds.0 (Err f) t.holds.2)
+    log_annotated known (Err f) t = absurd (of_log t.listed t.noted e' t.holds.0 (Err f) t.holds.2)
 
     -- the same where the texts come from readers that did not fail
     module _ (g : Given) (known : Option Given) (is : IfSome known (λ k. g ≡ k)) (counts : Failures) (none : NoReaderFailed counts) where
@@ -57,9 +63,11 @@ module _ {L W E : Type 0} (remaining : L → Option (List ℕ)) (contents : W �
       told_of r t = record {
         catalog = t.catalog;
         narrow = t.narrow;
+        listed = t.listed;
         notes = t.notes;
         noted = t.noted;
         sized = known_too (λ x. t.narrow ≡ is_narrow (lines_of x.kallsyms)) g known is t.sized;
+        lies = known_too (λ x. t.listed ≡ listed_kernel x.kallsyms a.rule.offset) g known is t.lies;
         said = known_too (λ x. IsCatalogOf q.kernel x t.catalog t.notes) g known is t.said;
         told = t.told;
         holds = t.holds;
@@ -75,3 +83,15 @@ module _ {L W E : Type 0} (remaining : L → Option (List ℕ)) (contents : W �
       readers_known (Err (TooLong place)) h = (none, told_of (Err (TooLong place)) h.1)
       readers_known (Err Write) h = (none, told_of (Err Write) h.1)
       readers_known (Err _) h = absurd h
+
+-- a log that does not say where its kernel lay is noted by any listing's
+pub unsaid : (head : List ℕ) (names : LogNames) (k k' : ListedKernel) → names.kernel.offset ≡ None → note_of_log head names k ≡ note_of_log head names k'
+unsaid head names k k' none = rw none refl
+
+-- what is told by one place of the kernel is told by another one, if the same is noted
+pub told_by : {E : Type 0} (errors : E → Option (List ℕ)) (log : List ℕ) (k k' : ListedKernel) (e e' : Output E) (end : Result Findings Stop) (result : Result ℕ Fault)
+    → ((found : Findings) → end ≡ Ok found → (head : List ℕ) → note_of_log head found.names k ≡ note_of_log head found.names k')
+    → IsEndTold errors log k e e' end result → IsEndTold errors log k' e e' end result
+told_by errors log k k' e e' (Ok found) result same told = (told.0, subst (IsLogNoted errors e e' log) (same found refl found.head.items) told.1)
+told_by errors log k k' e e' (Err stop.Closed) result same told = told
+told_by errors log k k' e e' (Err (stop.Failed f)) result same told = told

@@ -1,6 +1,6 @@
 -- Whether an address is below all regions of a catalog.
 use Rattle.catalog_engines.proofs.Words.{◌≡◌, ◌∙◌, ℕ, suc, ◌≤◌, Bool, true, false, ◌||◌, ◌==◌, eqb-true, nat_le, List, [], ◌∷◌, length, get_or, ap, sym, arith, list_any, ⊎_elim, leb-false, false_from_ne_true, CatalogEntries, Item}
-use Rattle.catalog_engines.proofs.AliasLemmas.{any_before}
+use Rattle.std.proofs.lemmas.List.Folds.{list_any_none}
 use Rattle.catalog_engines.specs.LogAnswers.{is_reached}
 use Rattle.modules.specs.Items.{items_of}
 use Rattle.modules.specs.RegionIndexes.{IsIndexOf}
@@ -22,7 +22,7 @@ module _ (c : CatalogEntries) (addr : ℕ) where
   reached_by_first (first ∷ more) d index some =
       ⊎_elim
       (λ yes. yes ∙ sym (ap (λ b. b || list_any test more) yes))
-      (λ over. over ∙ sym (ap (λ b. b || list_any test more) over ∙ any_before test more 0 (λ k e from low. higher (get_or more k e) over (index.rising 0 (suc k) e (omega arith) (omega (arith, low))))))
+      (λ over. over ∙ sym (ap (λ b. b || list_any test more) over ∙ list_any_none test more (λ k e low. higher (get_or more k e) over (index.rising 0 (suc k) e (omega arith) (omega (arith, low))))))
       (cases_Bool (nat_le first.a addr))
       ∙ by_items (first ∷ more) index
     where

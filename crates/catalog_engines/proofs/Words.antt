@@ -24,7 +24,7 @@ pub use Rattle.std.specs.Result.{result_ok}
 pub use Rattle.std.specs.Str.{bytes_eq}
 pub use Rattle.catalog_engines.specs.AddressTexts.{has_any_line, has_line, is_told, owner_member, owner_text, symbols_text, told_line, told_lines, word_text, words_text}
 pub use Rattle.catalog_engines.specs.Addresses.{IsAddressed}
-pub use Rattle.catalog_engines.specs.Annotations.{AnnotatesBy, AnnotatesLog, IsTold, IsEndTold, stopped}
+pub use Rattle.catalog_engines.specs.Annotations.{AnnotatesBy, AnnotatesLog, IsTold, IsEndTold, listed_kernel, stopped}
 pub use Rattle.catalog_engines.specs.AskedNames.{AskedSymbols, asked_of, cut_at_last, cut_before, distance_in, parted_by, without_last}
 pub use Rattle.catalog_engines.specs.Checks.{IsChecked, IsReport, lines_on_modules, modules_name, opened_report, report, report_by}
 pub use Rattle.catalog_engines.specs.Following.{AreAnswersOf, AreAsKnown, By, EndsBy, FollowsTurns, GivesCatalog, GoesOn, HasNoNames, IsAskedFor, IsCutOff, IsEnded, IsFollowed, IsNamed, IsNamedAtEnd, IsNamedIn, IsNamingAfter, IsNamingOf, IsNoCatalog, IsOutOfMemory, IsPutBy, IsStarved, IsTooLong, IsUnread, NamesAfter, NamesBlock, NamesLast, NamesPart, NamesSome, Naming, PassesBy, Point, PutsAs, PutsIfNamed, PutsNameless, PutsPart, ReadsOnce, TakesPart, Turn, Unnamed, answering_of, asks_for_names, carried_by, events_of, first_point, is_told_after, no_turn, one_more, point_after, read_in, told_once}
@@ -32,8 +32,9 @@ pub use Rattle.catalog_engines.specs.LastingLogs.{Block, Event, Failed, Happen, 
 pub use Rattle.catalog_engines.specs.declared.following.Followed.{Followed}
 pub use Rattle.catalog_engines.specs.GivenAnswers.{AnswersGiven, AnswersListings, IsTextWritten}
 pub use Rattle.catalog_engines.specs.KeptSymbols.{IsSought, Kept, end_of, found_by, is_owner, is_sought, kept_at_its_address, kept_in, kept_line, kept_symbol, kept_symbols, named, sought}
-pub use Rattle.catalog_engines.specs.LogAnswers.{answered_by, lists_symbol}
-pub use Rattle.catalog_engines.specs.NoteTexts.{IsNoted, applying_lines, line_if_noted, line_where, message_of, note_line, note_lines, lines_by, other_boot_line, unnamed_line, note_head, noted_bounds}
+pub use Rattle.catalog_engines.specs.LogAnswers.{answered_by}
+pub use Rattle.modules.specs.AtAddress.{lists_symbol}
+pub use Rattle.catalog_engines.specs.NoteTexts.{IsNoted, applying_lines, line_if_noted, line_where, message_of, note_line, note_lines, lines_by, note_head, noted_bounds}
 pub use Rattle.catalog_engines.specs.declared.address_texts.AddressForm.{AddressForm}
 pub use Rattle.catalog_engines.specs.declared.annotations.Annotate.{Annotate}
 pub use Rattle.catalog_engines.specs.declared.asked_names.Distance.{Distance}

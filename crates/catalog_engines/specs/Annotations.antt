@@ -12,7 +12,10 @@ use Rattle.order_laws.specs.declared.refusals.Refusal.TheVariants as refusal
 use Rattle.catalog_engines.specs.NoteTexts.{IsNoted}
 use Rattle.listing.specs.ListingNotes.{is_some_noted}
 use Rattle.catalog_engines.specs.LogAnswers.{answered_by}
-use Rattle.catalog_engines.specs.NoteTexts.{is_log_noted, log_line, note_lines}
+use Rattle.catalog_engines.specs.LogNotes.{IsLogNoted, note_of_log}
+use Rattle.catalog_engines.specs.NoteTexts.{note_lines}
+use Rattle.catalog_engines.specs.declared.log_notes.ListedKernel.{ListedKernel}
+use Rattle.listing.specs.KernelLines.{kernel_base}
 use Rattle.logs.specs.declared.annotation.Findings.{Findings}
 use Rattle.command_io.specs.OpenedCatalogs.{HasBadRegion, HasCrowdedRegions, IsCatalogOf}
 use Rattle.listing.specs.Opening.{Given}
@@ -43,37 +46,44 @@ stopped (Err fault) = Err (stop_of fault)
 -- How the end of the log in this file is told: if what was found of it tells that it is packed, or
 -- that the listing is another one, this is noted. A status of 1 stands for a reader of the output
 -- that is gone, of which nothing is said.
-abbrev pub IsEndTold : {E : Type 0} → (E → Option (List ℕ)) → List ℕ → Output E → Output E
-    → Result Findings Stop → Result ℕ Fault → Type 0
-IsEndTold errors log e e' (Ok found) result =
-    (result ≡ Ok 0) × IsNoted errors e e' (is_log_noted found.head.items found.names)
-    (log_line log found.head.items found.names)
-IsEndTold errors log e e' (Err stop.Closed) result = (result ≡ Ok 1) × (e' ≡ e)
-IsEndTold errors log e e' (Err (stop.Failed f)) result = (result ≡ Err f) × (e' ≡ e)
+abbrev pub IsEndTold : {E : Type 0} → (E → Option (List ℕ)) → List ℕ → ListedKernel → Output E
+    → Output E → Result Findings Stop → Result ℕ Fault → Type 0
+IsEndTold errors log kernel e e' (Ok found) result =
+    (result ≡ Ok 0)
+    × IsLogNoted errors e e' log (note_of_log found.head.items found.names kernel)
+IsEndTold errors log kernel e e' (Err stop.Closed) result = (result ≡ Ok 1) × (e' ≡ e)
+IsEndTold errors log kernel e e' (Err (stop.Failed f)) result = (result ≡ Err f) × (e' ≡ e)
 
 -- the log in this file was annotated to its end or not, and this was told
 abbrev pub AnnotatesBy : {L W E : Type 0} → (L → Option (List ℕ)) → (W → Option (List ℕ))
-    → (E → Option (List ℕ)) → List ℕ → Answering → Counted L → Counted L → Output W → Output W
-    → Output E → Output E → Result ℕ Fault → Type 0
-AnnotatesBy remaining contents errors log answer l l' w w' e e' result =
+    → (E → Option (List ℕ)) → List ℕ → ListedKernel → Answering → Counted L → Counted L → Output W
+    → Output W → Output E → Output E → Result ℕ Fault → Type 0
+AnnotatesBy remaining contents errors log kernel answer l l' w w' e e' result =
     (end : Result Findings LogFault) × Annotates remaining contents answer l l' w w' end
-    × IsEndTold errors log e e' (stopped end) result
+    × IsEndTold errors log kernel e e' (stopped end) result
+
+-- the place of the kernel by a listing of symbols with this text, for addresses that are looked up
+-- this many bytes lower
+abbrev pub listed_kernel : List ℕ → ℕ → ListedKernel
+listed_kernel kallsyms offset = record { base = kernel_base (lines_of kallsyms); offset = offset }
 
 -- There is a catalog of the listings, if these are known; what is noted of them was told; and
--- this holds of the catalog, of whether the listing of symbols is that of a 32-bit kernel, and of
--- what was told to after the notes.
+-- this holds of the catalog, of whether the listing of symbols is that of a 32-bit kernel, of the
+-- place of its kernel, and of what was told to after the notes.
 pub record IsTold {E : Type 0} (contents : E → Option (List ℕ)) (kernel : Option BoundNames)
-    (files : ListingFiles) (known : Option Given) (e : Output E)
-    (P : CatalogEntries → Bool → Output E → Type 0)
+    (files : ListingFiles) (offset : ℕ) (known : Option Given) (e : Output E)
+    (P : CatalogEntries → Bool → ListedKernel → Output E → Type 0)
     : Type 0 where
   pub catalog : CatalogEntries
   pub narrow : Bool
+  pub listed : ListedKernel
   pub notes : ListingNotes
   pub noted : Output E
   pub said : IfSome known (λ g. IsCatalogOf kernel g catalog notes)
   pub sized : IfSome known (λ g. narrow ≡ is_narrow (lines_of g.kallsyms))
+  pub lies : IfSome known (λ g. listed ≡ listed_kernel g.kallsyms offset)
   pub told : IsNoted contents e noted (is_some_noted notes) (note_lines kernel files notes)
-  pub holds : P catalog narrow noted
+  pub holds : P catalog narrow listed noted
 
 -- neither the log nor the writers were touched
 abbrev pub IsUntouched : {L W E : Type 0} → Counted L → Counted L → Output W → Output W
@@ -110,7 +120,7 @@ abbrev pub AnnotatesLog : {L W E : Type 0} → (L → Option (List ℕ)) → (W 
     → Result ℕ Fault → Type 0
 AnnotatesLog remaining contents errors q a known counts l l' w w' e e' result =
     AnnotatesAfter known counts (IsUntouched l l' w w' e e')
-    (λ r. IsTold errors q.kernel q.files known e
-    (λ c narrow noted. AnnotatesBy remaining contents errors a.log.now
+    (λ r. IsTold errors q.kernel q.files a.rule.offset known e
+    (λ c narrow listed noted. AnnotatesBy remaining contents errors a.log.now listed
     (answered_by c a.rule narrow) l l' w w' noted e' r))
     result

@@ -23,7 +23,7 @@ abbrev pub lines_on_modules : BoundNames → ListingFiles → Option (List ℕ) 
     → List ℕ
 lines_on_modules names files modules kallsyms c =
     option_map_or
-    (λ text. applying_lines names (modules_name files) (is_of_modules text kallsyms c)) modules []
+    (λ text. applying_lines names (modules_name files) (is_of_modules false text kallsyms c)) modules []
 
 -- The notes that apply to listings with these texts in these files, those of the modules first, and
 -- then where their lines went. These names bound the kernel, and so many symbols are kept.

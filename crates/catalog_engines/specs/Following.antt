@@ -29,7 +29,7 @@ use Rattle.command_io.specs.OpenedCatalogs.{IsCatalogOf, OpensCatalog}
 use Rattle.listing.specs.Opening.{Given}
 use Rattle.command_io.specs.declared.fault.Fault.{Fault}
 use Rattle.command_io.specs.declared.fault.Fault.TheVariants.{BadLine, Read, Refused, TooLong}
-use Rattle.catalog_engines.specs.Annotations.{IsEndTold, stop_of}
+use Rattle.catalog_engines.specs.Annotations.{IsEndTold, listed_kernel, stop_of}
 use Rattle.catalog_engines.specs.LastingLogs.{Block, Event, Failed, Happen, IsFaultOfListings, Listings, Seen}
 use Rattle.catalog_engines.specs.LogAnswers.{answered_by}
 use Rattle.catalog_engines.specs.NoNames.{TellsUnread}
@@ -455,4 +455,5 @@ module _ {W E : Type 0} (contents : W → Option (List ℕ)) (errors : E → Opt
       × (mid.left ≡ before.left) × (mid.later ≡ before.later)
       × (e1 : Output E) × (end : Result Findings Stop)
       × FollowsTurns (is_narrow (lines_of first.kallsyms)) mid after w w' told e1 end
-      × IsEndTold errors a.log.now e1 e' end result)))
+      × IsEndTold errors a.log.now (listed_kernel first.kallsyms a.rule.offset) e1 e' end
+      result)))

@@ -3,6 +3,8 @@
 pub mod NoteTexts
 -- what an engine returns that reads listings, and then writes a text about them
 pub mod GivenAnswers
+-- what is noted of a log after its end
+pub mod LogNotes
 -- how the addresses of a log are answered
 pub mod LogAnswers
 -- which names symbols may have

@@ -1,13 +1,14 @@
 -- How the addresses of a log are answered by the catalog of listings.
 use Rattle.std.specs.Prelude.{ℕ, ◌&&◌, ◌||◌, ◌==◌, Bool, true, false, if◌then◌else◌, List, ◌++◌}
-use Rattle.std.specs.Prelude.{codes, nat_eq, nat_le, Option, Some, None, option_and_then}
+use Rattle.std.specs.Prelude.{codes, nat_eq, nat_le, slice_get, Option, Some, None, option_and_then}
 use Rattle.std.specs.List.{list_any}
-use Rattle.std.specs.Option.{option_map_or}
-use Rattle.std.specs.Str.{bytes_eq}
+use Rattle.std.specs.Option.{option_map, option_map_or}
 use Rattle.order_laws.specs.declared.items.Item.{Item}
+use Rattle.modules.specs.AtAddress.{lists_symbol}
 use Rattle.modules.specs.Catalogs.{module_of}
-use Rattle.modules.specs.Entries.{CatalogEntries, ModuleEntry, SymbolEntry}
-use Rattle.modules.specs.Found.{Found, found_in, symbols_from}
+use Rattle.modules.specs.Entries.{CatalogEntries, ModuleEntry}
+use Rattle.modules.specs.Found.{Found, found_in, symbol_at, symbols_from}
+use Rattle.modules.specs.SymbolNames.{SymbolName, symbols_named}
 use Rattle.modules.specs.Items.{item_of_address, items_of}
 use Rattle.listing.specs.AddressRules.{place_of, rule_at}
 use Rattle.listing.specs.Answers.{Known, answer_of, is_nothing, sought, text_of}
@@ -30,11 +31,6 @@ behind_blank k = if is_nothing k then None else Some (codes " " ++ text_of k)
 -- caller's, or does not
 abbrev pub text_by : CatalogEntries → LogRule → Bool → ℕ → Option (List ℕ)
 text_by c rule says_so addr = behind_blank (answer_at c (rule_at rule says_so) addr)
-
--- one of the symbols has the address and the name
-abbrev pub lists_symbol : List SymbolEntry → ℕ → List ℕ → Bool
-lists_symbol symbols addr name =
-    list_any (λ s. nat_eq s.addr addr && bytes_eq s.name name) symbols
 
 -- a symbol at the address of the one that an address of the item belongs to has the name
 abbrev pub is_alias_of : ModuleEntry → Item → ℕ → List ℕ → Bool
@@ -83,6 +79,33 @@ is_data_by c rule addr =
     asks_place rule.callers
     && option_map_or begins_data (answer_at c (reading_at rule false) addr).found false
 
+-- the symbol that an address belongs to
+abbrev pub found_at : CatalogEntries → ℕ → Option Found
+found_at c addr = option_and_then (λ i. symbol_at c i addr) (item_of_address c addr)
+
+-- the address of a symbol of the kernel itself
+abbrev pub kernel_address : CatalogEntries → ℕ → Option ℕ
+kernel_address c place =
+    option_and_then (λ m. option_map (λ s. s.addr) (slice_get m.symbols place)) (module_of c 0)
+
+-- a symbol is one of the kernel itself; and one that has this size
+abbrev pub is_of_kernel : SymbolName → Bool
+is_of_kernel n = nat_eq n.number 0
+
+abbrev pub has_size_at : CatalogEntries → ℕ → ℕ → Bool
+has_size_at c size addr = option_map_or (λ f. nat_eq f.size size) (found_at c addr) false
+
+abbrev pub is_of_size : CatalogEntries → ℕ → SymbolName → Bool
+is_of_size c size n =
+    is_of_kernel n && option_map_or (has_size_at c size) (kernel_address c n.place) false
+
+-- Of the functions of the kernel itself with this name one has this size, or none; there is no
+-- answer if there is no such function.
+abbrev pub has_size_by : CatalogEntries → List ℕ → ℕ → Option Bool
+has_size_by c name size =
+    let named = symbols_named c name in
+    if list_any is_of_kernel named then Some (list_any (is_of_size c size) named) else None
+
 -- an address is not below the first region: one begins at or below it
 abbrev pub is_reached : CatalogEntries → ℕ → Bool
 is_reached c addr = list_any (λ i. nat_le i.a addr) (items_of c)
@@ -99,5 +122,6 @@ answered_by c rule is_narrow = record {
   is_alias = is_alias_by c rule;
   is_offset = is_offset_by c rule;
   is_data = is_data_by c rule;
+  has_size = has_size_by c;
   is_in_range = is_in_range_by c rule;
 }

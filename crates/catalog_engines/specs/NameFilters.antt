@@ -3,7 +3,7 @@ use Rattle.std.specs.Prelude.{◌≡◌, ℕ, ◌+◌, ◌-◌, ◌*◌, ◌%◌
 use Rattle.std.specs.Prelude.{All, IfSome, slice_index_or}
 use Rattle.modules.specs.Catalogs.{module_of}
 use Rattle.modules.specs.Entries.{CatalogEntries, SymbolEntry}
-use Rattle.catalog_engines.specs.LogAnswers.{lists_symbol}
+use Rattle.modules.specs.AtAddress.{lists_symbol}
 
 -- the number of bytes, after others that have this one
 abbrev pub number_after : ℕ → List ℕ → ℕ

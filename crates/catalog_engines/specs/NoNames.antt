@@ -1,10 +1,11 @@
 -- Why listings that are read again give no names, and how it is told.
-use Rattle.std.specs.Prelude.{◌≡◌, ℕ, zero, suc, List, [], ◌++◌, codes, decimal}
+use Rattle.std.specs.Prelude.{◌≡◌, ℕ, zero, suc, List, [], ◌++◌, decimal}
 use Rattle.std.specs.Option.{option_map_or}
 use Rattle.catalog_engines.specs.NoteTexts.{note_head}
 use Rattle.catalog_engines.specs.declared.no_names.NoNames.{NoNames}
 use Rattle.catalog_engines.specs.declared.no_names.NoNames.TheVariants as no
 use Rattle.catalog_engines.specs.declared.sources.ListingFiles.{ListingFiles}
+use Rattle.catalog_engines.specs.declared.no_names.TheConstants as text
 
 -- the file of listings at this place
 abbrev pub file_at : ListingFiles → ℕ → List ℕ
@@ -21,20 +22,20 @@ place_of no.TooManyRegions = 2
 
 -- that a line is not understood
 abbrev pub bad_line_words : ℕ → List ℕ
-bad_line_words line = codes "line " ++ decimal line ++ codes " is not understood"
+bad_line_words line = text.LINE.now ++ decimal line ++ text.NOT_UNDERSTOOD.now
 
 -- these words say why; what the system says is not known
 abbrev pub AreWords : NoNames → List ℕ → Type 0
 AreWords (no.Unread place error) words = Unit {0}
-AreWords no.NoSymbol words = words ≡ codes "no symbol"
+AreWords no.NoSymbol words = words ≡ text.NO_SYMBOL.now
 AreWords (no.BadLine place line) words = words ≡ bad_line_words line
-AreWords no.TooManyRegions words = words ≡ codes "a module has more than 7 regions"
+AreWords no.TooManyRegions words = words ≡ text.CROWDED.now
 
 -- the line that tells it
 abbrev pub unread_line : ListingFiles → NoNames → List ℕ → List ℕ
 unread_line files why words =
-    note_head (file_at files (place_of why)) ++ codes "cannot be read again (" ++ words
-    ++ codes "); lines have no names until it can\n"
+    note_head (file_at files (place_of why)) ++ text.UNREAD_AGAIN.now ++ words
+    ++ text.UNTIL_IT_CAN.now
 
 -- it is told so
 abbrev pub TellsUnread : ListingFiles → NoNames → List ℕ → Type 0

@@ -1,98 +1,56 @@
--- The lines that say what is noted of listings and of a log.
-use Rattle.std.specs.Prelude.{◌≡◌, ℕ, Bool, true, false, ◌||◌, List, [], ◌++◌, codes, flat_map, if◌then◌else◌, Option}
-use Rattle.std.specs.Prelude.{Some, None, unwrap_or, decimal, min, ◌+◌, ◌-◌, ◌^◌}
+-- The lines that say what is noted of listings.
+use Rattle.std.specs.Prelude.{◌≡◌, ℕ, Bool, true, false, List, [], ◌++◌, codes, flat_map, if◌then◌else◌, Option}
+use Rattle.std.specs.Prelude.{Some, None, unwrap_or}
 use Rattle.std.specs.Borrow.{Bor}
 use Rattle.std.specs.Option.{option_map_or}
 use Rattle.std.specs.Str.{bytes_eq}
 use Rattle.texts.specs.declared.output.Output.{Output}
 use Rattle.texts.specs.Output.{Says}
-use Rattle.modules.specs.Lines.{usual_bounds}
 use Rattle.modules.specs.Listed.{BoundNames}
 use Rattle.listing.specs.ListingNotes.{all_notes}
-use Rattle.listing.specs.Looks.{is_gzip, is_utf_16}
+use Rattle.listing.specs.NoteTexts.{plain_text}
+use Rattle.listing.specs.Owners.{owner_name}
+use Rattle.catalog_engines.specs.declared.note_texts.TheConstants.{END, ETEXT, LEFT_OUT}
+use Rattle.catalog_engines.specs.declared.note_texts.TheConstants.{MODULES_OVERLAP, NOTE, NO_MODULE}
+use Rattle.catalog_engines.specs.declared.note_texts.TheConstants.{NO_SYMBOL, STEXT, TRY_KERNEL}
 use Rattle.catalog_engines.specs.declared.sources.ListingFiles.{ListingFiles}
 use Rattle.listing.specs.declared.listing_notes.ListingNote.{ListingNote}
-use Rattle.listing.specs.declared.listing_notes.ListingNote.TheVariants.{Empty, Gzip, Utf16, AllHidden}
-use Rattle.listing.specs.declared.listing_notes.ListingNote.TheVariants.{LooksLikeSymbols}
-use Rattle.listing.specs.declared.listing_notes.ListingNote.TheVariants.{LooksLikeModules}
-use Rattle.listing.specs.declared.listing_notes.ListingNote.TheVariants.{LinesEndInCrLf, NoStart}
-use Rattle.listing.specs.declared.listing_notes.ListingNote.TheVariants.{NoEnd, OtherBoot}
-use Rattle.listing.specs.declared.listing_notes.ListingNote.TheVariants.{ModulesOverlap, NoModuleLine}
-use Rattle.listing.specs.declared.listing_notes.ListingNote.TheVariants.{NoSymbolLine}
+use Rattle.listing.specs.declared.listing_notes.ListingNote.TheVariants.{NoStart, NoEnd}
+use Rattle.listing.specs.declared.listing_notes.ListingNote.TheVariants.{ModulesOverlap}
+use Rattle.listing.specs.declared.listing_notes.ListingNote.TheVariants.{UnlistedOwner}
 use Rattle.listing.specs.declared.listing_notes.ListingNotes.{ListingNotes}
-use Rattle.logs.specs.LogNames.{is_of_another_boot, is_unnamed}
-use Rattle.logs.specs.declared.log_names.LogNames.{LogNames}
+use Rattle.listing.specs.declared.owners.Owner.{Owner}
 
 -- what to try if a name is missing: many kernels list no `_end`
 abbrev pub remedy_text : List ℕ → List ℕ
-remedy_text name =
-    if bytes_eq name (codes "_end") then codes "; try --kernel _stext _einittext" else []
+remedy_text name = if bytes_eq name END.now then TRY_KERNEL.now else []
 
 abbrev pub missing_text : List ℕ → List ℕ
-missing_text name = codes "has no symbol " ++ name ++ remedy_text name
+missing_text name = NO_SYMBOL.now ++ name ++ remedy_text name
 
--- what a note says, if these names bound the kernel
+-- that no listing of modules has an owner of symbols
+abbrev pub unlisted_text : Owner → List ℕ
+unlisted_text owner = NO_MODULE.now ++ owner_name owner ++ LEFT_OUT.now
+
+-- what a note says that names something, if these names bound the kernel
+abbrev pub naming_text : BoundNames → ListingNote → List ℕ
+naming_text names NoStart = missing_text names.start
+naming_text names NoEnd = missing_text names.end
+naming_text names ModulesOverlap = MODULES_OVERLAP.now
+naming_text names (UnlistedOwner owner) = unlisted_text owner
+naming_text names _ = []
+
+-- what a note says
 abbrev pub message_of : BoundNames → ListingNote → List ℕ
-message_of names Empty = codes "is empty"
-message_of names Gzip = codes "is compressed by gzip; unpack it first"
-message_of names Utf16 = codes "is UTF-16; convert it first"
-message_of names AllHidden = codes "every address is 0; read it as root (kernel.kptr_restrict)"
-message_of names LooksLikeSymbols = codes "looks like a listing of symbols"
-message_of names LooksLikeModules = codes "looks like a listing of modules"
-message_of names LinesEndInCrLf = codes "lines end in CR LF"
-message_of names NoStart = missing_text names.start
-message_of names NoEnd = missing_text names.end
-message_of names OtherBoot =
-    codes "no symbol lies in a listed module; are both listings of one boot?"
-message_of names ModulesOverlap =
-    codes "modules overlap, as sizes do from Linux 6.4 on; leave --modules out"
-message_of names NoModuleLine = codes "no line is of the form of /proc/modules"
-message_of names NoSymbolLine = codes "no line is of the form of /proc/kallsyms"
+message_of names note = unwrap_or (plain_text note) (naming_text names note)
 
 -- what a line of a note begins with
 abbrev pub note_head : List ℕ → List ℕ
-note_head file = codes "latchsym: note: " ++ file ++ codes ": "
+note_head file = NOTE.now ++ file ++ codes ": "
 
 -- the line of a note on the listing in this file
 abbrev pub note_line : BoundNames → List ℕ → ListingNote → List ℕ
 note_line names file note = note_head file ++ message_of names note ++ codes "\n"
-
--- that the names which the log in a file has itself are not those of the listing
-abbrev pub other_boot_line : LogNames → List ℕ
-other_boot_line names =
-    codes "its own names disagree with the listing (" ++ decimal names.disagreeing ++ codes " of "
-    ++ decimal (min (names.agreeing + names.disagreeing) (2 ^ 64 - 1))
-    ++ codes "); is the listing of this boot?\n"
-
--- that no address of the log in a file has a name
-abbrev pub unnamed_line : LogNames → List ℕ
-unnamed_line names =
-    codes "none of its " ++ decimal names.addresses
-    ++ codes " addresses has a name in the listing\n"
-
--- the first two bytes of a log tell that it is compressed or in UTF-16, or what was found of its
--- addresses tells that the listing is another one
-abbrev pub is_log_noted : List ℕ → LogNames → Bool
-is_log_noted head names =
-    is_gzip head || is_utf_16 head || is_of_another_boot names || is_unnamed names
-
--- what the first two bytes of a log tell of it
-abbrev pub note_of_head : List ℕ → Option ListingNote
-note_of_head head =
-    if is_gzip head then Some Gzip else if is_utf_16 head then Some Utf16 else None
-
--- the line that says so: the first that applies
-abbrev pub log_message : List ℕ → LogNames → List ℕ
-log_message head names =
-    option_map_or (λ note. message_of usual_bounds note ++ codes "\n") (note_of_head head)
-    (if is_of_another_boot names then other_boot_line names else unnamed_line names)
-
--- what notes call the log in this file, of which `-` is the standard input
-abbrev pub log_name : List ℕ → List ℕ
-log_name log = if bytes_eq log (codes "-") then codes "standard input" else log
-
-abbrev pub log_line : List ℕ → List ℕ → LogNames → List ℕ
-log_line log head names = note_head (log_name log) ++ log_message head names
 
 -- the line of what may be noted of a file
 abbrev pub line_if_noted : BoundNames → List ℕ → Option ListingNote → List ℕ
@@ -114,7 +72,7 @@ applying_lines names file applies =
 -- the names of the bounds that a listing of symbols may miss: those that are given, or else the
 -- last of the usual ones
 abbrev pub noted_bounds : Option BoundNames → BoundNames
-noted_bounds kernel = unwrap_or kernel (record { start = codes "_stext"; end = codes "_etext" })
+noted_bounds kernel = unwrap_or kernel (record { start = STEXT.now; end = ETEXT.now })
 
 -- the lines for files of listings, of which that of modules may be missing, if these names bound
 -- the kernel

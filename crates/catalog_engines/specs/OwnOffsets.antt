@@ -86,10 +86,10 @@ module _ {W E : Type 0} (contents : W → Option (List ℕ)) (errors : E → Opt
   -- beginning of it, by the answers of their catalog.
   abbrev pub WritesBy : LogRule → Given → List ℕ → Result ℕ Fault → Type 0
   WritesBy rule g log result =
-      IsTold errors q.kernel q.files (Some g) e
-      (λ c narrow noted. (end : Result Findings LogFault)
+      IsTold errors q.kernel q.files rule.offset (Some g) e
+      (λ c narrow listed noted. (end : Result Findings LogFault)
       × Puts contents (IsAnnotationOf (answered_by c rule narrow) log) w w' end
-      × IsEndTold errors a.log.now noted e' (stopped end) result)
+      × IsEndTold errors a.log.now listed noted e' (stopped end) result)
 
   -- the same, unless there is no catalog of the listings
   abbrev pub OpensAndWrites : LogRule → Given → List ℕ → Result ℕ Fault → Type 0

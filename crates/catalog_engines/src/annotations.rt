@@ -3,19 +3,22 @@
 //!
 //! The listings are read whole, and what is noted of them is told, before the log is begun: it may
 //! have no end. The log itself goes through line by line.
-ghost use Rattle.std.specs.Prelude.{◌≡◌, [], Some};
+ghost use Rattle.std.specs.Prelude.{◌≡◌, [], ℕ, List, Ok, Some};
+ghost use Rattle.logs.specs.declared.annotation.Findings.{Findings};
+ghost use Rattle.catalog_engines.specs.LogNotes.{note_of_log};
 ghost use Rattle.catalog_engines.specs.Annotations.{AnnotatesBy, AnnotatesLog, IsEndTold};
-ghost use Rattle.catalog_engines.specs.Annotations.{stop_of, stopped};
+ghost use Rattle.catalog_engines.specs.Annotations.{listed_kernel, stop_of, stopped};
 ghost use Rattle.catalog_engines.specs.LogAnswers.{answered_by};
 ghost use Rattle.command_io.specs.OpenedCatalogs.{known_given, listing_failures, texts_in};
 
 use crate::log_answers::CatalogAnswers;
-use crate::notes::{note_listings, note_log};
+use crate::log_notes::{ListedKernel, note_log};
+use crate::notes::note_listings;
 use crate::sources::Sources;
 use command_io::{
     FAILED, Fault, ListingReaders, ListingTexts, SUCCEEDED, open_catalog, read_given,
 };
-use listing::{LogRule, is_narrow};
+use listing::{LogRule, is_narrow, kernel_base};
 use logs::{Findings, LogFault, annotate};
 use modules::{ExpectedLookups, IndexedCatalog};
 use order_laws::Refusal;
@@ -130,25 +133,64 @@ fn annotate_over<L: Read, E: Write, W: Write>(
     let index = IndexedCatalog::new(alloc, opened.catalog)?;
     note_listings(&notes, sources, errors);
     let is_narrow = is_narrow(&texts.kallsyms);
-    let answers = CatalogAnswers::new(alloc, &index, job.rule, is_narrow);
-    annotate_by(alloc, &answers, job.log, errors, log, writer)
+    let mut answers = CatalogAnswers::new(alloc, &index, job.rule, is_narrow);
+    annotate_by(
+        alloc,
+        &mut answers,
+        &texts.kallsyms,
+        job,
+        errors,
+        log,
+        writer,
+    )
 }
 
 /// Writes the log again by these answers, and notes if it is packed, or tells of another listing.
 fn annotate_by<L: Read, E: Write, W: Write>(
     alloc: Global,
-    answers: &CatalogAnswers<'_, '_>,
-    name: &str,
+    answers: &mut CatalogAnswers<'_, '_>,
+    kallsyms: &[u8],
+    job: &Annotate<'_>,
     errors: &mut Output<E>,
     log: &mut Counted<L>,
     writer: &mut Output<W>,
 ) -> Result<u8, Fault>
-    ensures { AnnotatesBy L.remaining W.contents E.contents name.now
-        (answered_by answers.now.index answers.now.rule answers.now.is_narrow)
+    ensures { AnnotatesBy L.remaining W.contents E.contents job.now.log.now
+        (listed_kernel kallsyms.now job.now.rule.offset)
+        (answered_by answers.old.index answers.old.rule answers.old.is_narrow)
         log.old log.new writer.old writer.new errors.old errors.new result }
 {
     let end = stopped(annotate(alloc, answers, log, writer));
-    tell_end(end, name, errors)
+    let kernel = kernel_if_said(&end, kallsyms, job.rule.offset);
+    tell_end(end, job.log, kernel, errors)
+}
+
+/// The place of the kernel by a listing of symbols with this text, for addresses that are looked up
+/// this many bytes lower.
+pub(crate) fn listed_kernel(kallsyms: &[u8], offset: u64) -> ListedKernel
+    ensures { result ≡ listed_kernel kallsyms.now offset }
+{
+    ListedKernel {
+        base: kernel_base(kallsyms),
+        offset,
+    }
+}
+
+/// That place, sought only if the log says the place of its own kernel: nothing else is noted by it.
+#[tactic(auto, using(crate::proofs::AnnotationLemmas::unsaid))]
+pub(crate) fn kernel_if_said(
+    end: &Result<Findings, Stop>,
+    kallsyms: &[u8],
+    offset: u64,
+) -> ListedKernel
+    ensures { (found : Findings) → end.now ≡ Ok found → (head : List ℕ)
+        → note_of_log head found.names result
+        ≡ note_of_log head found.names (listed_kernel kallsyms.now offset) }
+{
+    match end {
+        Ok(found) if found.names.kernel.offset.is_some() => listed_kernel(kallsyms, offset),
+        _ => ListedKernel { base: None, offset },
+    }
 }
 
 /// What was put, or why a log is annotated no further.
@@ -179,13 +221,14 @@ fn stop_of(fault: LogFault) -> Stop
 pub(crate) fn tell_end<E: Write>(
     end: Result<Findings, Stop>,
     log: &str,
+    kernel: ListedKernel,
     errors: &mut Output<E>,
 ) -> Result<u8, Fault>
-    ensures { IsEndTold E.contents log.now errors.old errors.new end result }
+    ensures { IsEndTold E.contents log.now kernel errors.old errors.new end result }
 {
     match end {
         Ok(found) => {
-            note_log(&found, log, errors);
+            note_log(&found, log, kernel, errors);
             Ok(SUCCEEDED)
         }
         Err(Stop::Closed) => Ok(FAILED),

@@ -2,7 +2,7 @@
 //!
 //! A lookup tells of each listing the first note that applies; a check tells them all, and if
 //! they are its answer it writes them.
-ghost use Rattle.std.specs.Prelude.{◌≡◌, List, Some, true, ℕ};
+ghost use Rattle.std.specs.Prelude.{◌≡◌, List, Some, false, true, ℕ};
 ghost use Rattle.std.specs.Option.{option_copied};
 ghost use Rattle.texts.specs.Output.{Delivers, Says};
 ghost use Rattle.texts.specs.Lines.{lines_of};
@@ -11,6 +11,9 @@ ghost use Rattle.catalog_engines.specs.Checks.{IsChecked, lines_on_modules, modu
 ghost use Rattle.catalog_engines.specs.Checks.{status_of_kept};
 ghost use Rattle.catalog_engines.specs.GivenAnswers.{AnswersGiven, AnswersListings};
 ghost use Rattle.listing.specs.ListingNotes.{HasBounds, is_of_kallsyms, is_of_modules};
+ghost use Rattle.listing.specs.ModuleListing.{modules_in};
+ghost use Rattle.listing.specs.Opening.{symbols_of};
+ghost use Rattle.listing.specs.Owners.{unlisted_owner};
 ghost use Rattle.listing.specs.SymbolListing.{symbols_in};
 ghost use Rattle.catalog_engines.specs.NoteTexts.{applying_lines};
 ghost use Rattle.command_io.specs.OpenedCatalogs.{known_given, listing_failures, texts_in};
@@ -21,7 +24,8 @@ use command_io::{
     FAILED, Fault, ListingReaders, ListingTexts, SUCCEEDED, open_catalog, read_given, unless_failed,
 };
 use listing::{
-    ListingNote, OpenedCatalog, SymbolFacts, applies_to_kallsyms, applies_to_modules, put_counts,
+    ListingNote, ModuleFacts, OpenedCatalog, SymbolFacts, applies_to_kallsyms, applies_to_modules,
+    put_counts,
 };
 use modules::{Catalog, ExpectedLookups, KernelBounds};
 use std::alloc::Global;
@@ -84,6 +88,9 @@ fn put_report<W: Write>(
 )
     requires modules { (text : List ℕ) → (texts_in texts.now).modules ≡ Some text
         → opened.now.modules_hidden ≡ are_modules_hidden (lines_of text) }
+    requires unlisted { (text : List ℕ) → (texts_in texts.now).modules ≡ Some text
+        → opened.now.unlisted ≡ unlisted_owner (modules_in (lines_of text))
+        (symbols_of false (texts_in texts.now).kallsyms) }
     requires symbols { opened.now.symbols_hidden
         ≡ are_symbols_hidden (lines_of (texts_in texts.now).kallsyms) }
     ensures { Delivers W.contents writer.old writer.new
@@ -115,8 +122,11 @@ fn put_notes_if_listed<W: Write>(
     texts: &ListingTexts,
     opened: &OpenedCatalog,
 )
-    requires { (text : List ℕ) → (texts_in texts.now).modules ≡ Some text
+    requires modules { (text : List ℕ) → (texts_in texts.now).modules ≡ Some text
         → opened.now.modules_hidden ≡ are_modules_hidden (lines_of text) }
+    requires unlisted { (text : List ℕ) → (texts_in texts.now).modules ≡ Some text
+        → opened.now.unlisted ≡ unlisted_owner (modules_in (lines_of text))
+        (symbols_of false (texts_in texts.now).kallsyms) }
     ensures { Says W.contents writer.old writer.new (lines_on_modules names.now files.now
         (texts_in texts.now).modules (texts_in texts.now).kallsyms opened.now.catalog) }
 {
@@ -127,7 +137,11 @@ fn put_notes_if_listed<W: Write>(
             modules_name(files).as_bytes(),
             modules,
             &texts.kallsyms,
-            opened.modules_hidden,
+            ModuleFacts {
+                hidden: opened.modules_hidden,
+                with_mapping: false,
+                unlisted: opened.unlisted,
+            },
             &opened.catalog,
         ),
         None => {}
@@ -142,23 +156,25 @@ fn modules_name<'a>(files: &ListingFiles<'a>) -> &'a str
 }
 
 /// Writes the line of each note that applies to a listing of modules with this text beside one of
-/// symbols, if this catalog is built of both, and all its well-formed lines are hidden or not.
+/// symbols, if this catalog is built of both and this is known.
 fn put_module_notes<W: Write>(
     writer: &mut Output<W>,
     names: &KernelBounds,
     file: &[u8],
     text: &[u8],
     kallsyms: &[u8],
-    hidden: bool,
+    known: ModuleFacts,
     catalog: &Catalog,
 )
-    requires { hidden ≡ are_modules_hidden (lines_of text.now) }
-    ensures { Says W.contents writer.old writer.new
-        (applying_lines names.now file.now (is_of_modules text.now kallsyms.now catalog.now)) }
+    requires hidden { known.hidden ≡ are_modules_hidden (lines_of text.now) }
+    requires unlisted { known.unlisted ≡ unlisted_owner (modules_in (lines_of text.now))
+        (symbols_of known.with_mapping kallsyms.now) }
+    ensures { Says W.contents writer.old writer.new (applying_lines names.now file.now
+        (is_of_modules known.with_mapping text.now kallsyms.now catalog.now)) }
 {
     let notes = ListingNote::all();
     for note in notes {
-        let applies = applies_to_modules(*note, text, kallsyms, hidden, catalog);
+        let applies = applies_to_modules(*note, text, kallsyms, known, catalog);
         put_note_where(writer, names, file, *note, applies);
     }
 }

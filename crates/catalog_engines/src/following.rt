@@ -28,7 +28,7 @@ ghost use Rattle.catalog_engines.specs.LastingLogs.{Event, Listings};
 ghost use Rattle.catalog_engines.specs.NoNames.{TellsUnread};
 ghost use Rattle.catalog_engines.specs.declared.annotations.Stop.TheVariants.{Failed};
 
-use crate::annotations::{Annotate, LOG_PLACE, Stop, stopped, tell_end};
+use crate::annotations::{Annotate, LOG_PLACE, Stop, listed_kernel, stopped, tell_end};
 use crate::lasting_log::LastingLog;
 use crate::log_answers::CatalogAnswers;
 use crate::no_names::{NoNames, put_unread};
@@ -85,6 +85,7 @@ pub fn follow_engine<L: LastingLog, E: Write, W: Write>(
     let texts = log.read_listings(alloc)?;
     tell_notes(alloc, &texts, sources, errors)?;
     let is_narrow = is_narrow(&texts.kallsyms);
+    let kernel = listed_kernel(&texts.kallsyms, job.rule.offset);
     let followed = Followed {
         is_narrow,
         is_told: false,
@@ -92,7 +93,7 @@ pub fn follow_engine<L: LastingLog, E: Write, W: Write>(
     drop(texts);
     let room = room.as_mut_slice();
     let end = follow_blocks(alloc, log, followed, room, sources, job, errors, writer);
-    tell_end(end, job.log, errors)
+    tell_end(end, job.log, kernel, errors)
 }
 
 /// Tells what is noted of the listings with these texts.
@@ -331,8 +332,8 @@ fn put_named<W: Write>(
         Err(fault) => return Ok(Err(no_catalog(fault)?)),
     };
     let is_narrow = is_narrow(&texts.kallsyms);
-    let answers = CatalogAnswers::new(alloc, &index, job.rule, is_narrow);
-    let names = stopped(put_by(alloc, &answers, annotator, part, writer))?;
+    let mut answers = CatalogAnswers::new(alloc, &index, job.rule, is_narrow);
+    let names = stopped(put_by(alloc, &mut answers, annotator, part, writer))?;
     let is_told = followed.is_told;
     Ok(Ok((Followed { is_narrow, is_told }, names)))
 }
@@ -351,16 +352,17 @@ fn no_catalog(fault: Fault) -> Result<NoNames, Stop>
 /// Writes a part of a log, named by these answers, and returns the names of the log.
 fn put_by<A: Answers, W: Write>(
     alloc: Global,
-    answers: &A,
+    answers: &mut A,
     annotator: &mut Annotator,
     part: Part<'_>,
     writer: &mut Output<W>,
 ) -> Result<LogNames, LogFault>
     ensures { Puts W.contents (PutsPart part.entry annotator.old annotator.new
-        (By (A.answering answers.now))) writer.old writer.new result }
+        (By (A.answering answers.old))) writer.old writer.new result }
 {
     match part {
         Part::Lines(block) => {
+            answers.prepare(block)?;
             annotator.pass(alloc, answers, block, writer)?;
             Ok(annotator.names())
         }

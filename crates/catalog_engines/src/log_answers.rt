@@ -9,7 +9,8 @@ ghost use Rattle.catalog_engines.specs.LogAnswers.{is_letter_of_data, reading_at
 use crate::log_aliases::is_alias_in;
 use crate::log_index::LogIndex;
 use listing::{AddressRule, Answer, Callers, LogRule, answer_of, put_answer, sought};
-use logs::Answers;
+use logs::{Answers, NamedReadings};
+use memchr::memmem;
 use modules::{FoundSymbol, IndexedCatalog};
 use order_laws::Item;
 use std::alloc::{AllocError, Global};
@@ -34,6 +35,13 @@ impl<'i, 'c> Answers for CatalogAnswers<'i, 'c> {
         self.is_narrow
     }
 
+    fn prepare(&mut self, bytes: &[u8]) -> Result<(), AllocError> {
+        if memmem::find(bytes, b"/0x").is_some() {
+            self.index.sort_names(self.alloc)?;
+        }
+        Ok(())
+    }
+
     fn text_of(&self, is_caller: bool, addr: u64) -> Result<Option<Vec<u8>>, AllocError> {
         let rule = self.rule.rule_at(is_caller);
         let item = self.item_of(rule, addr);
@@ -45,13 +53,23 @@ impl<'i, 'c> Answers for CatalogAnswers<'i, 'c> {
     }
 
     #[tactic(auto, using(crate::proofs::FilterLemmas::no_alias))]
-    fn is_alias(&self, is_caller: bool, addr: u64, name: &[u8]) -> bool {
+    fn named_readings(&self, addr: u64, name: &[u8]) -> NamedReadings {
         if !self.index.may_be_name(name) {
-            return false;
+            return NamedReadings {
+                as_caller: false,
+                as_it_is: false,
+            };
         }
+        NamedReadings {
+            as_caller: self.is_alias(true, addr, name),
+            as_it_is: self.is_alias(false, addr, name),
+        }
+    }
+
+    fn is_alias(&self, is_caller: bool, addr: u64, name: &[u8]) -> bool {
         let rule = reading_at(self.rule, is_caller);
         match sought(rule, self.item_of(rule, addr), addr) {
-            Some((item, place)) => is_alias_in(&self.index, item, place, name),
+            Some((item, place)) => is_alias_in(self.index.catalog(), item, place, name),
             None => false,
         }
     }
@@ -75,6 +93,10 @@ impl<'i, 'c> Answers for CatalogAnswers<'i, 'c> {
             Some(found) => begins_data(&found),
             None => false,
         }
+    }
+
+    fn has_size(&self, name: &[u8], size: u64) -> Result<Option<bool>, AllocError> {
+        self.index.has_size(self.alloc, name, size)
     }
 
     fn is_in_range(&self, addr: u64) -> bool {

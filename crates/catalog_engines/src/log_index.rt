@@ -1,29 +1,31 @@
 //! The catalog that the addresses of a log are answered from.
 //!
 //! Each word that a log has itself after an address, and that is not the answer's name, is sought
-//! among the symbols at the address. Two things are found once for a log, so that symbols are not
-//! gone through for each word: which names symbols may have, and whether the symbols of the kernel
-//! itself, which are many, are listed by rising address, as mostly.
-ghost use Rattle.std.specs.Prelude.{◌≡◌, false, true};
+//! among the symbols at the address. So that symbols are not asked for each word, it is found once for
+//! a log which names they may have. The symbols are put in the order of their names only for a log
+//! that says the sizes of functions.
+ghost use Rattle.std.specs.Prelude.{◌≡◌, false, IfOk};
 ghost use Rattle.modules.specs.Items.{item_of_address};
-ghost use Rattle.catalog_engines.specs.LogAnswers.{is_reached};
-ghost use Rattle.catalog_engines.specs.LogIndexes.{DoesRise};
+ghost use Rattle.std.specs.List.{list_any};
+ghost use Rattle.modules.specs.SymbolNames.{IsNamesOf};
+ghost use Rattle.catalog_engines.specs.LogAnswers.{has_size_at, has_size_by, is_of_kernel};
+ghost use Rattle.catalog_engines.specs.LogAnswers.{is_of_size, is_reached, kernel_address};
 ghost use Rattle.catalog_engines.specs.NameFilters.{IsNoName};
 
 use crate::name_filter::NameFilter;
-use modules::{Catalog, IndexedCatalog, is_rising};
+use modules::{Catalog, IndexedCatalog, NamedSymbol, SymbolNames, symbol_of};
 use order_laws::Item;
-use std::alloc::Global;
+use std::alloc::{AllocError, Global};
 use std::marker::Model;
 
 /// An indexed catalog, with what is known of its symbols.
 #[derive(Drop)]
 pub(crate) struct LogIndex<'i, 'c> {
     index: &'i IndexedCatalog<'c>,
-    /// Whether the symbols of the kernel itself are known to be by rising address.
-    kernel_rises: bool,
     /// Which names symbols may have, unless there was no memory for it.
-    names: Option<NameFilter>,
+    filter: Option<NameFilter>,
+    /// The symbols in the order of their names, once a size was asked for.
+    names: Option<SymbolNames<'c>>,
 }
 
 impl<'i, 'c> Model for LogIndex<'i, 'c> {
@@ -34,7 +36,7 @@ impl<'i, 'c> Model for LogIndex<'i, 'c> {
 
     ghost view = { λ i. i.index.now };
 
-    ghost invariant = { λ i. IsKnown i.index.now i.kernel_rises i.names };
+    ghost invariant = { λ i. IsKnown i.index.now i.filter i.names };
 }
 
 impl<'i, 'c> LogIndex<'i, 'c> {
@@ -42,11 +44,10 @@ impl<'i, 'c> LogIndex<'i, 'c> {
     pub(crate) fn new(alloc: Global, index: &'i IndexedCatalog<'c>) -> LogIndex<'i, 'c>
         ensures { result ≡ index.now }
     {
-        let catalog = index.catalog();
         LogIndex {
             index,
-            kernel_rises: does_kernel_rise(catalog),
-            names: NameFilter::of(alloc, catalog).ok(),
+            filter: NameFilter::of(alloc, index.catalog()).ok(),
+            names: None,
         }
     }
 
@@ -69,38 +70,133 @@ impl<'i, 'c> LogIndex<'i, 'c> {
     pub(crate) fn may_be_name(&self, name: &[u8]) -> bool
         ensures { result ≡ false → IsNoName self.now name.now }
     {
-        match &self.names {
-            Some(names) => names.has(name),
+        match &self.filter {
+            Some(filter) => filter.has(name),
             None => true,
         }
     }
 
     /// Whether an address is not below the first region.
-    #[tactic(auto, using(crate::proofs::RangeLemmas::none_reached, crate::proofs::RangeLemmas::reached_by_first))]
     pub(crate) fn reaches(&self, addr: u64) -> bool
         ensures { result ≡ is_reached self.now addr }
     {
-        let items = self.index.items();
-        if items.is_empty() {
-            return false;
-        }
-        items[0].a <= addr
+        is_reached(self.index, addr)
     }
 
-    /// Whether the symbols of the module of this number are known to be by rising address.
-    pub(crate) fn rises(&self, number: u64) -> bool
-        ensures { result ≡ true → DoesRise self.now number }
+    /// Puts the symbols in the order of their names, unless they are. Nothing else changes.
+    pub(crate) fn sort_names(&mut self, alloc: Global) -> Result<(), AllocError>
+        ensures { self.new ≡ self.old }
     {
-        number == 0 && self.kernel_rises
+        if self.names.is_none() {
+            self.names = Some(SymbolNames::of(alloc, self.index.catalog())?);
+        }
+        Ok(())
+    }
+
+    /// Whether one of the functions of the kernel itself with this name has this size, if there is
+    /// one with this name. If the symbols are not in the order of their names they are put so for
+    /// this question alone.
+    pub(crate) fn has_size(
+        &self,
+        alloc: Global,
+        name: &[u8],
+        size: u64,
+    ) -> Result<Option<bool>, AllocError>
+        ensures { IfOk result (λ o. o ≡ has_size_by self.now name.now size) }
+    {
+        match &self.names {
+            Some(names) => Ok(has_size_in(self.index, names, name, size)),
+            None => {
+                let names = SymbolNames::of(alloc, self.index.catalog())?;
+                Ok(has_size_in(self.index, &names, name, size))
+            }
+        }
     }
 }
 
-/// Whether the catalog has the kernel itself, with symbols by rising address.
-fn does_kernel_rise(catalog: &Catalog) -> bool
-    ensures { result ≡ true → DoesRise catalog.now 0 }
+/// Whether an address is not below the first region of a catalog.
+#[tactic(auto, using(crate::proofs::RangeLemmas::none_reached, crate::proofs::RangeLemmas::reached_by_first))]
+fn is_reached(index: &IndexedCatalog<'_>, addr: u64) -> bool
+    ensures { result ≡ is_reached index.now addr }
 {
-    match catalog.module(0) {
-        Some(kernel) => is_rising(kernel.symbols()),
+    let items = index.items();
+    if items.is_empty() {
+        return false;
+    }
+    items[0].a <= addr
+}
+
+/// Whether one of the functions of the kernel itself with this name has this size, if there is one
+/// with this name, by the names of the catalog.
+fn has_size_in(
+    index: &IndexedCatalog<'_>,
+    names: &SymbolNames<'_>,
+    name: &[u8],
+    size: u64,
+) -> Option<bool>
+    requires { IsNamesOf index.now names.now }
+    ensures { result ≡ has_size_by index.now name.now size }
+{
+    let named = names.named(name);
+    if has_kernel_symbol(named) {
+        Some(has_kernel_size(index, size, named))
+    } else {
+        None
+    }
+}
+
+/// Whether one of the symbols is one of the kernel itself.
+fn has_kernel_symbol(named: &[NamedSymbol<'_>]) -> bool
+    ensures { result ≡ list_any is_of_kernel named.now }
+{
+    named.iter().any(|symbol| is_of_kernel(symbol))
+}
+
+/// Whether one of the symbols is one of the kernel itself that has this size.
+fn has_kernel_size(index: &IndexedCatalog<'_>, size: u64, named: &[NamedSymbol<'_>]) -> bool
+    ensures { result ≡ list_any (is_of_size index.now size) named.now }
+{
+    named.iter().any(|symbol| is_of_size(index, size, symbol))
+}
+
+/// Whether a symbol is one of the kernel itself.
+fn is_of_kernel(symbol: &NamedSymbol<'_>) -> bool
+    ensures { result ≡ is_of_kernel symbol.now }
+{
+    symbol.number == 0
+}
+
+/// Whether a symbol is one of the kernel itself that has this size.
+fn is_of_size(index: &IndexedCatalog<'_>, size: u64, symbol: &NamedSymbol<'_>) -> bool
+    ensures { result ≡ is_of_size index.now size symbol.now }
+{
+    if !is_of_kernel(symbol) {
+        return false;
+    }
+    match kernel_address(index.catalog(), symbol.place) {
+        Some(addr) => has_size_at(index, size, addr),
+        None => false,
+    }
+}
+
+/// The address of the symbol of the kernel itself at a place.
+fn kernel_address(catalog: &Catalog<'_>, place: usize) -> Option<u64>
+    ensures { result ≡ kernel_address catalog.now place }
+{
+    let kernel = catalog.module(0)?;
+    let symbol = kernel.symbols().get(place)?;
+    Some(symbol.addr)
+}
+
+/// Whether the symbol that an address belongs to has this size.
+fn has_size_at(index: &IndexedCatalog<'_>, size: u64, addr: u64) -> bool
+    ensures { result ≡ has_size_at index.now size addr }
+{
+    let Some(item) = index.find(addr) else {
+        return false;
+    };
+    match symbol_of(index.catalog(), item, addr) {
+        Some(found) => found.size == size,
         None => false,
     }
 }

@@ -11,6 +11,19 @@ use std::io;
 use std::io::Write;
 use texts::Output;
 
+// what the note says beside the name of the file
+const UNREAD_AGAIN: &[u8] = b"cannot be read again (";
+
+const UNTIL_IT_CAN: &[u8] = b"); lines have no names until it can\n";
+
+const NO_SYMBOL: &[u8] = b"no symbol";
+
+const CROWDED: &[u8] = b"a module has more than 7 regions";
+
+const LINE: &[u8] = b"line ";
+
+const NOT_UNDERSTOOD: &[u8] = b" is not understood";
+
 /// Why listings give no names.
 #[derive(Clone, Copy, Debug, Drop)]
 pub enum NoNames {
@@ -61,9 +74,9 @@ pub(crate) fn put_unread<W: Write>(writer: &mut Output<W>, files: &ListingFiles<
         × Says W.contents writer.old writer.new note }
 {
     put_note_head(writer, file_at(files, why.place()));
-    writer.put(b"cannot be read again (");
+    writer.put(UNREAD_AGAIN);
     put_words(writer, why);
-    writer.put(b"); lines have no names until it can\n");
+    writer.put(UNTIL_IT_CAN);
 }
 
 /// Writes the words that say why.
@@ -77,9 +90,9 @@ fn put_words<W: Write>(writer: &mut Output<W>, why: &NoNames)
             ..
         } => writer.put(words_of(error).as_bytes()),
         NoNames::Unread { error: None, .. } => writer.put(b"no reason is known"),
-        NoNames::NoSymbol => writer.put(b"no symbol"),
+        NoNames::NoSymbol => writer.put(NO_SYMBOL),
         NoNames::BadLine { line, .. } => put_bad_line(writer, *line),
-        NoNames::TooManyRegions => writer.put(b"a module has more than 7 regions"),
+        NoNames::TooManyRegions => writer.put(CROWDED),
     }
 }
 
@@ -87,7 +100,7 @@ fn put_words<W: Write>(writer: &mut Output<W>, why: &NoNames)
 fn put_bad_line<W: Write>(writer: &mut Output<W>, line: u64)
     ensures { Says W.contents writer.old writer.new (bad_line_words line) }
 {
-    writer.put(b"line ");
+    writer.put(LINE);
     writer.put_decimal(line);
-    writer.put(b" is not understood");
+    writer.put(NOT_UNDERSTOOD);
 }

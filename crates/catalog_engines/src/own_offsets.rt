@@ -19,7 +19,7 @@ ghost use Rattle.catalog_engines.specs.OwnOffsets.{OpensAndWrites, WritesByOffse
 ghost use Rattle.catalog_engines.specs.OwnOffsets.{WritesByOwnOffset, all_failures, asked_by};
 ghost use Rattle.catalog_engines.specs.OwnOffsets.{by_offset, no_offset_line, own_offset};
 
-use crate::annotations::{Annotate, LOG_PLACE, stopped, tell_end};
+use crate::annotations::{Annotate, LOG_PLACE, kernel_if_said, stopped, tell_end};
 use crate::log_answers::CatalogAnswers;
 use crate::notes::note_listings;
 use crate::sources::Sources;
@@ -171,7 +171,8 @@ fn open_and_write<E: Write, W: Write>(
     let opened = open_catalog(alloc, texts, sources.kernel.as_ref(), ExpectedLookups::Any)?;
     let index = IndexedCatalog::new(alloc, opened.catalog)?;
     note_listings(&opened.notes, sources, errors);
-    let answers = CatalogAnswers::new(alloc, &index, rule, is_narrow(&texts.kallsyms));
-    let end = stopped(annotate_text(alloc, &answers, log, writer));
-    tell_end(end, job.log, errors)
+    let mut answers = CatalogAnswers::new(alloc, &index, rule, is_narrow(&texts.kallsyms));
+    let end = stopped(annotate_text(alloc, &mut answers, log, writer));
+    let kernel = kernel_if_said(&end, &texts.kallsyms, rule.offset);
+    tell_end(end, job.log, kernel, errors)
 }

@@ -2,6 +2,7 @@
 use Rattle.std.specs.Prelude.{ℕ, zero, suc, ◌+◌, ◌/◌, ◌%◌, nat_eq, nat_lt, if◌then◌else◌}
 use Rattle.std.specs.Prelude.{List, [], ◌∷◌, ◌++◌, length, take, drop, flat_map, codes, decimal}
 use Rattle.std.specs.Str.Lossy.{utf8_valid_len, replacement_bytes}
+use Rattle.command_io.specs.declared.json.TheConstants as text
 
 -- the bytes with U+FFFD in place of each that is no part of a character, for so many of them
 abbrev pub text_within : ℕ → List ℕ → List ℕ
@@ -23,10 +24,10 @@ hexadecimal_digit n = if nat_lt n 10 then 48 + n else 87 + n
 -- by its number
 abbrev pub escaped : ℕ → List ℕ
 escaped byte =
-    if nat_eq byte 34 then codes "\\\""
-    else if nat_eq byte 92 then codes "\\\\"
+    if nat_eq byte 34 then text.QUOTE.now
+    else if nat_eq byte 92 then text.BACKSLASH.now
     else if nat_lt byte 32 then
-    codes "\\u00" ++ hexadecimal_digit (byte / 16) ∷ hexadecimal_digit (byte % 16) ∷ []
+    text.BY_NUMBER.now ++ hexadecimal_digit (byte / 16) ∷ hexadecimal_digit (byte % 16) ∷ []
     else byte ∷ []
 
 -- the text that bytes are, between quotes

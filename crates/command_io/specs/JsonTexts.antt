@@ -7,20 +7,21 @@ use Rattle.listing.specs.Answers.{Known}
 use Rattle.listing.specs.Tallies.{Tallies, Tally}
 use Rattle.modules.specs.Found.{Found}
 use Rattle.command_io.specs.Json.{json_number, json_string}
+use Rattle.command_io.specs.declared.json_texts.TheConstants as text
 
 -- the address, with which an object begins
 abbrev pub address_member : ℕ → List ℕ
-address_member addr = codes "{\"address\":\"" ++ hexadecimal addr ++ codes "\""
+address_member addr = text.ADDRESS.now ++ hexadecimal addr ++ codes "\""
 
 -- a symbol, and how far an address lies above it
 unfoldable pub offset_members : List ℕ → ℕ → List ℕ
 offset_members name offset =
-    codes "\"symbol\":" ++ json_string name ++ codes ",\"offset\":" ++ json_number offset
+    text.SYMBOL.now ++ json_string name ++ text.OFFSET.now ++ json_number offset
 
 -- a symbol, how far an address lies above it, and how far it reaches
 unfoldable pub symbol_members : List ℕ → ℕ → ℕ → List ℕ
 symbol_members name offset size =
-    codes "," ++ offset_members name offset ++ codes ",\"size\":" ++ json_number size
+    codes "," ++ offset_members name offset ++ text.SIZE.now ++ json_number size
 
 -- of a symbol that was found
 abbrev pub found_members : Found → List ℕ
@@ -28,7 +29,7 @@ found_members f = symbol_members f.symbol.name f.offset f.size
 
 -- a module of this name
 abbrev pub named_module : List ℕ → List ℕ
-named_module name = codes ",\"module\":" ++ json_string name
+named_module name = text.MODULE.now ++ json_string name
 
 -- what is known of an address: the symbol and the module, as far as they are
 abbrev pub answer_members : Known → List ℕ
@@ -49,7 +50,7 @@ row_member row = codes ",\"" ++ row.0 ++ json_count (codes "\":") row.1
 -- `"TITLE":{"kept":KEPT`, and each row, after this text
 unfoldable pub tally_member : List ℕ → Tally → List ℕ
 tally_member before t =
-    before ++ codes "\"" ++ t.title ++ json_count (codes "\":{\"kept\":") t.kept
+    before ++ codes "\"" ++ t.title ++ json_count text.KEPT.now t.kept
     ++ flat_map row_member t.rows ++ codes "}"
 
 -- the object of the counts of listings

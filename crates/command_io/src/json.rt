@@ -7,6 +7,13 @@ ghost use Rattle.command_io.specs.Json.{text_of};
 use std::io::Write;
 use texts::Output;
 
+// bytes that a string has otherwise
+const QUOTE: &[u8] = b"\\\"";
+
+const BACKSLASH: &[u8] = b"\\\\";
+
+const BY_NUMBER: &[u8] = b"\\u00";
+
 /// U+FFFD, which stands for a byte that is no part of UTF-8.
 const REPLACEMENT: &[u8] = b"\xef\xbf\xbd";
 
@@ -53,10 +60,10 @@ fn put_byte<W: Write>(writer: &mut Output<W>, byte: u8)
     ensures { Says W.contents writer.old writer.new (escaped byte) }
 {
     match byte {
-        b'"' => writer.put(b"\\\""),
-        b'\\' => writer.put(b"\\\\"),
+        b'"' => writer.put(QUOTE),
+        b'\\' => writer.put(BACKSLASH),
         0..32 => {
-            writer.put(b"\\u00");
+            writer.put(BY_NUMBER);
             writer.put(&[digit(byte / 16), digit(byte % 16)])
         }
         _ => writer.put(&[byte]),

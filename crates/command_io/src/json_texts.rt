@@ -14,6 +14,19 @@ use modules::FoundSymbol;
 use std::io::Write;
 use texts::Output;
 
+// the names of members
+const ADDRESS: &[u8] = b"{\"address\":\"";
+
+const SIZE: &[u8] = b",\"size\":";
+
+const SYMBOL: &[u8] = b"\"symbol\":";
+
+const OFFSET: &[u8] = b",\"offset\":";
+
+const MODULE: &[u8] = b",\"module\":";
+
+const KEPT: &[u8] = b"\":{\"kept\":";
+
 /// Writes the object of an address with this answer.
 #[tactic(auto, unfolding(crate::specs::JsonTexts::json_line))]
 pub fn put_json_line<W: Write>(writer: &mut Output<W>, addr: u64, answer: &Answer)
@@ -48,7 +61,7 @@ fn put_owner<W: Write>(writer: &mut Output<W>, owner: Option<&[u8]>)
 pub fn put_address_member<W: Write>(writer: &mut Output<W>, addr: u64)
     ensures { Says W.contents writer.old writer.new (address_member addr) }
 {
-    writer.put(b"{\"address\":\"");
+    writer.put(ADDRESS);
     writer.put_hexadecimal(addr);
     writer.put(b"\"");
 }
@@ -69,7 +82,7 @@ pub fn put_symbol_members<W: Write>(writer: &mut Output<W>, name: &[u8], offset:
 {
     writer.put(b",");
     put_offset_members(writer, name, offset);
-    writer.put(b",\"size\":");
+    writer.put(SIZE);
     put_json_number(writer, size);
 }
 
@@ -78,9 +91,9 @@ pub fn put_symbol_members<W: Write>(writer: &mut Output<W>, name: &[u8], offset:
 pub fn put_offset_members<W: Write>(writer: &mut Output<W>, name: &[u8], offset: u64)
     ensures { Says W.contents writer.old writer.new (offset_members name.now offset) }
 {
-    writer.put(b"\"symbol\":");
+    writer.put(SYMBOL);
     put_json_string(writer, name);
-    writer.put(b",\"offset\":");
+    writer.put(OFFSET);
     put_json_number(writer, offset);
 }
 
@@ -88,7 +101,7 @@ pub fn put_offset_members<W: Write>(writer: &mut Output<W>, name: &[u8], offset:
 pub fn put_named_module<W: Write>(writer: &mut Output<W>, name: &[u8])
     ensures { Says W.contents writer.old writer.new (named_module name.now) }
 {
-    writer.put(b",\"module\":");
+    writer.put(MODULE);
     put_json_string(writer, name);
 }
 
@@ -113,7 +126,7 @@ fn put_tally<W: Write>(writer: &mut Output<W>, before: &[u8], tally: &LineTally)
     writer.put(before);
     writer.put(b"\"");
     writer.put(tally.title.as_bytes());
-    put_json_count(writer, b"\":{\"kept\":", tally.kept);
+    put_json_count(writer, KEPT, tally.kept);
     put_rows(writer, &tally.rows);
     writer.put(b"}");
 }

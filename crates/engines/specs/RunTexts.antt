@@ -12,12 +12,13 @@ use Rattle.shared_lookup.specs.declared.served.Served.{Served}
 use Rattle.listing.specs.AddressRules.{as_given}
 use Rattle.listing.specs.Answers.{answer_text_by}
 use Rattle.engines.specs.LookupTexts.{count_text}
+use Rattle.engines.specs.declared.run_texts.TheConstants as text
 
 -- `refused W N NAME` for a change that was refused, nothing for one that was accepted
 unfoldable pub change_text : ℕ → List ℕ × ChangeOutcome → List ℕ
 change_text writer (name, Ok generation) = []
 change_text writer (name, Err refusal) =
-    count_text (codes "refused ") writer ++ count_text (codes " ") (refusal_number refusal)
+    count_text text.REFUSED.now writer ++ count_text (codes " ") (refusal_number refusal)
     ++ codes " " ++ name ++ codes "\n"
 
 -- the changes of a writer, of modules of these names
@@ -36,8 +37,8 @@ refusals_text names outcomes =
 -- `R ADDR -> TEXT gen J`
 unfoldable pub answered_text : CatalogEntries → Answer → List ℕ
 answered_text c a =
-    decimal (a.reader + 1) ++ codes " " ++ hexadecimal a.key ++ codes " -> "
-    ++ answer_text_by c as_given a.item a.key ++ count_text (codes " gen ") a.generation ++ codes "\n"
+    decimal (a.reader + 1) ++ codes " " ++ hexadecimal a.key ++ text.ARROW.now
+    ++ answer_text_by c as_given a.item a.key ++ count_text text.GENERATION.now a.generation ++ codes "\n"
 
 -- the answers of a reader
 abbrev pub answers_text : CatalogEntries → Vec Answer → List ℕ
@@ -54,9 +55,9 @@ count_of_answers answers = min (sum_by (λ list. length list.items) answers) gre
 -- `checked C wrong D seq K gen J`: the sequence is twice the number of updates
 unfoldable pub totals_text : ℕ → ℕ → ℕ → List ℕ
 totals_text checked wrong updates =
-    count_text (codes "checked ") checked ++ count_text (codes " wrong ") wrong
-    ++ count_text (codes " seq ") (min (updates * 2) greatest_count)
-    ++ count_text (codes " gen ") updates ++ codes "\n"
+    count_text text.CHECKED.now checked ++ count_text text.WRONG.now wrong
+    ++ count_text text.SEQUENCE.now (min (updates * 2) greatest_count)
+    ++ count_text text.GENERATION.now updates ++ codes "\n"
 
 -- the refused changes of each writer, the answers of each reader, and how many there are
 abbrev pub run_text : CatalogEntries → List (Vec (List ℕ)) → Served → List ℕ

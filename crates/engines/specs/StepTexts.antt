@@ -26,6 +26,7 @@ use Rattle.run_files.specs.declared.header.Version.{Version}
 use Rattle.run_files.specs.declared.header.Version.TheVariants.{First, Second, Third}
 use Rattle.command_io.specs.Json.{json_number}
 use Rattle.command_io.specs.JsonTexts.{json_count}
+use Rattle.engines.specs.declared.step_texts.TheConstants as text
 
 -- a list of values
 abbrev pub json_list : {T : Type 0} → (T → List ℕ) → List T → List ℕ
@@ -35,24 +36,24 @@ json_list value (x ∷ xs) =
 
 unfoldable pub json_item : Item → List ℕ
 json_item item =
-    json_count (codes "{\"a\":") item.a ++ json_count (codes ",\"b\":") item.b
-    ++ json_count (codes ",\"tag\":") item.tag ++ codes "}"
+    json_count text.ITEM_A.now item.a ++ json_count text.ITEM_B.now item.b
+    ++ json_count text.TAG.now item.tag ++ codes "}"
 
 -- what an update erases, and what it inserts
 unfoldable pub update_members : Update → List ℕ
 update_members u =
-    codes ",\"erase\":" ++ json_list json_number (erased u)
-    ++ codes ",\"insert\":" ++ json_list json_item (inserted u)
+    text.ERASE.now ++ json_list json_number (erased u)
+    ++ text.INSERT.now ++ json_list json_item (inserted u)
 
 -- a reader, and the key of its lookup
 unfoldable pub reader_members : ℕ → ℕ → List ℕ
 reader_members r key =
-    json_count (codes ",\"reader\":") r ++ codes ",\"address\":\"" ++ hexadecimal key ++ codes "\""
+    json_count text.READER.now r ++ text.ADDRESS.now ++ hexadecimal key ++ codes "\""
 
 -- a word and what it holds
 abbrev pub word_members : ℕ → ℕ → List ℕ
 word_members word value =
-    json_count (codes ",\"word\":") word ++ json_count (codes ",\"value\":") value
+    json_count text.WORD.now word ++ json_count text.VALUE.now value
 
 -- what a reader loads, if it may load something
 abbrev pub loaded_word : Option (NextLoad ℕ) → List ℕ
@@ -60,14 +61,14 @@ loaded_word load = option_map_or (λ l. word_members l.word l.value) load []
 
 -- a load after which its attempt goes on
 unfoldable pub plain_load_members : ℕ → Option (NextLoad ℕ) → List ℕ
-plain_load_members r load = json_count (codes "\"load\",\"reader\":") r ++ loaded_word load
+plain_load_members r load = json_count text.LOAD.now r ++ loaded_word load
 
 -- the last load of an attempt: its lookup, what it loads, and how many loads and attempts
 -- these are
 unfoldable pub load_members : ℕ → NextLoad ℕ → List ℕ
 load_members r load =
     reader_members r load.key ++ word_members load.word load.value
-    ++ json_count (codes ",\"loads\":") load.loads ++ json_count (codes ",\"tries\":") load.attempts
+    ++ json_count text.LOADS.now load.loads ++ json_count text.TRIES.now load.attempts
 
 -- the next load of a reader, if it has one
 abbrev pub loaded_members : ℕ → Option (NextLoad ℕ) → List ℕ
@@ -75,50 +76,50 @@ loaded_members r load = option_map_or (load_members r) load []
 
 -- the tag of the item that was found, or `null`
 abbrev pub json_tag : Option Item → List ℕ
-json_tag answer = option_map_or (λ item. json_number item.tag) answer (codes "null")
+json_tag answer = option_map_or (λ item. json_number item.tag) answer text.NULL.now
 
 -- what a lookup found, and its generation
 unfoldable pub answer_members : Returned ℕ → List ℕ
 answer_members x =
-    codes ",\"tag\":" ++ json_tag x.answer ++ json_count (codes ",\"generation\":") x.generation
+    text.TAG.now ++ json_tag x.answer ++ json_count text.GENERATION.now x.generation
 
 -- a refusal
 unfoldable pub refused_member : Refusal → List ℕ
-refused_member why = json_count (codes ",\"refused\":") (refusal_number why)
+refused_member why = json_count text.REFUSED.now (refusal_number why)
 
 -- what the writer began
 abbrev pub begun_members : Update → Reply ℕ → List ℕ
 begun_members u (Begun left) =
-    codes "\"begin\"" ++ update_members u ++ json_count (codes ",\"steps\":") left
+    text.BEGIN.now ++ update_members u ++ json_count text.STEPS.now left
 begun_members u (Refused why) =
-    codes "\"refusal\",\"of\":\"begin\"" ++ update_members u ++ refused_member why
-begun_members u _ = codes "null"
+    text.REFUSED_BEGIN.now ++ update_members u ++ refused_member why
+begun_members u _ = text.NULL.now
 
 -- what it stored
 unfoldable pub stored_members : Store → List ℕ
 stored_members s =
-    (if s.word == 0 then codes "\"flip\"" else codes "\"store\"") ++ word_members s.word s.value
+    (if s.word == 0 then text.FLIP.now else text.STORED.now) ++ word_members s.word s.value
 
 abbrev pub written_members : Reply ℕ → List ℕ
 written_members (Wrote s) = stored_members s
-written_members _ = codes "null"
+written_members _ = text.NULL.now
 
 -- what a reader began
 abbrev pub started_members : ℕ → ℕ → Reply ℕ → List ℕ
-started_members r key Started = codes "\"start\"" ++ reader_members r key
+started_members r key Started = text.START.now ++ reader_members r key
 started_members r key (Refused why) =
-    codes "\"refusal\",\"of\":\"start\"" ++ reader_members r key ++ refused_member why
-started_members r key _ = codes "null"
+    text.REFUSED_START.now ++ reader_members r key ++ refused_member why
+started_members r key _ = text.NULL.now
 
 -- what it loaded, and what this came to
 abbrev pub read_members : ℕ → Option (NextLoad ℕ) → Reply ℕ → List ℕ
 read_members r load Loaded = plain_load_members r load
-read_members r load Retried = codes "\"retry\"" ++ loaded_members r load
+read_members r load Retried = text.RETRY.now ++ loaded_members r load
 read_members r load (ReturnedReply x) =
-    codes "\"return\"" ++ loaded_members r load ++ answer_members x
+    text.RETURN.now ++ loaded_members r load ++ answer_members x
 read_members r load (Refused why) =
-    json_count (codes "\"refusal\",\"of\":\"load\",\"reader\":") r ++ refused_member why
-read_members r load _ = codes "null"
+    json_count text.REFUSED_LOAD.now r ++ refused_member why
+read_members r load _ = text.NULL.now
 
 -- what was done, from its kind on; `null` if no run has such a reply
 abbrev pub done_members : Option (NextLoad ℕ) → Event ℕ → Reply ℕ → List ℕ
@@ -129,13 +130,13 @@ done_members load (Read r) reply = read_members r load reply
 
 -- the end of a line
 abbrev pub line_end : ℕ → List ℕ
-line_end sequence = json_count (codes ",\"sequence\":") sequence ++ codes "}\n"
+line_end sequence = json_count text.SEQUENCE.now sequence ++ codes "}\n"
 
 -- the line of an event that a command on this line of the trace asked for
 unfoldable pub event_text : ℕ → Event ℕ → Outcome ℕ → List ℕ
 event_text line e x =
-    json_count (codes "{\"event\":") x.number ++ json_count (codes ",\"line\":") line
-    ++ codes ",\"kind\":" ++ done_members x.load e x.reply ++ line_end x.sequence
+    json_count text.EVENT_NUMBER.now x.number ++ json_count text.LINE.now line
+    ++ text.KIND.now ++ done_members x.load e x.reply ++ line_end x.sequence
 
 -- the line of an event that was done at a moment
 abbrev pub step_text : Order ℕ → ℕ → ℕ → Moment ℕ → Done ℕ → List ℕ
@@ -153,13 +154,13 @@ version_number Second = 2
 version_number Third = 3
 
 abbrev pub order_text : Bool → List ℕ
-order_text closed = if closed then codes "\"closed\"" else codes "\"halfopen\""
+order_text closed = if closed then text.CLOSED.now else text.HALF_OPEN.now
 
 -- the first line: the opening, as event 0
 unfoldable pub opening_text : Header → List ℕ
 opening_text h =
-    json_count (codes "{\"event\":0,\"line\":1,\"kind\":\"open\",\"version\":")
+    json_count text.OPENING.now
     (version_number h.version)
-    ++ codes ",\"order\":" ++ order_text h.closed
-    ++ json_count (codes ",\"capacity\":") h.capacity
-    ++ json_count (codes ",\"sequence\":") h.start ++ codes "}\n"
+    ++ text.ORDER.now ++ order_text h.closed
+    ++ json_count text.CAPACITY.now h.capacity
+    ++ json_count text.SEQUENCE.now h.start ++ codes "}\n"

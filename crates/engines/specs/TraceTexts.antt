@@ -7,6 +7,7 @@ use Rattle.order_laws.specs.Refusals.{refusal_number}
 use Rattle.latch_steps.specs.declared.replies.Note.{Note}
 use Rattle.latch_steps.specs.declared.replies.Note.TheVariants.{Returned as ReturnedNote, Refused}
 use Rattle.latch_steps.specs.declared.replies.Returned.{Returned}
+use Rattle.engines.specs.declared.trace_texts.TheConstants as text
 
 -- the tag of the item that was found, or `-`
 abbrev pub tag_text : Option Item → List ℕ
@@ -15,13 +16,13 @@ tag_text answer = option_map_or (λ item. decimal item.tag) answer (codes "-")
 -- R ADDR -> TAG
 abbrev pub found_text : ℕ → ℕ → Option Item → List ℕ
 found_text reader key answer =
-    decimal reader ++ codes " " ++ hexadecimal key ++ codes " -> " ++ tag_text answer
+    decimal reader ++ codes " " ++ hexadecimal key ++ text.ARROW.now ++ tag_text answer
 
 -- gen J loads S tries T, after a blank
 abbrev pub load_counts_text : ℕ → ℕ → ℕ → List ℕ
 load_counts_text generation loads attempts =
-    codes " gen " ++ decimal generation ++ codes " loads " ++ decimal loads
-    ++ codes " tries " ++ decimal attempts
+    text.GENERATION.now ++ decimal generation ++ text.LOADS.now ++ decimal loads
+    ++ text.TRIES.now ++ decimal attempts
 
 abbrev pub returned_text : Returned ℕ → List ℕ
 returned_text r =
@@ -29,7 +30,7 @@ returned_text r =
     ++ codes "\n"
 
 abbrev pub refused_text : ℕ → List ℕ
-refused_text n = codes "refused " ++ decimal n ++ codes "\n"
+refused_text n = text.REFUSED.now ++ decimal n ++ codes "\n"
 
 abbrev pub note_text : Note ℕ → List ℕ
 note_text (ReturnedNote returned) = returned_text returned
@@ -38,4 +39,4 @@ note_text (Refused refusal) = refused_text (refusal_number refusal)
 -- the last line: the sequence, and the generation, which is half of it
 abbrev pub end_text : ℕ → List ℕ
 end_text sequence =
-    codes "seq " ++ decimal sequence ++ codes " gen " ++ decimal (sequence / 2) ++ codes "\n"
+    text.SEQUENCE.now ++ decimal sequence ++ text.GENERATION.now ++ decimal (sequence / 2) ++ codes "\n"

@@ -16,6 +16,19 @@ use shared_lookup::{Answer, Served};
 use std::io::Write;
 use texts::Output;
 
+// what is between the numbers of a line
+const REFUSED: &[u8] = b"refused ";
+
+const ARROW: &[u8] = b" -> ";
+
+const GENERATION: &[u8] = b" gen ";
+
+const CHECKED: &[u8] = b"checked ";
+
+const WRONG: &[u8] = b" wrong ";
+
+const SEQUENCE: &[u8] = b" seq ";
+
 /// Writes what came back from the writers, whose changes are of modules of these names, and from
 /// the readers; and lets the writer keep nothing back.
 pub fn put_run<W: Write>(
@@ -76,7 +89,7 @@ fn put_change<W: Write>(
     let Err(refusal) = outcome else {
         return;
     };
-    put_count(writer, b"refused ", number);
+    put_count(writer, REFUSED, number);
     put_count(writer, b" ", u64::from(refusal.number()));
     writer.put(b" ");
     writer.put(name.bytes);
@@ -111,10 +124,10 @@ fn put_answered<W: Write>(writer: &mut Output<W>, catalog: &Catalog<'_>, answer:
     writer.put_decimal(u64::from(answer.reader) + 1);
     writer.put(b" ");
     writer.put_hexadecimal(answer.key);
-    writer.put(b" -> ");
+    writer.put(ARROW);
     let known = answer_of(catalog, AddressRule::AS_GIVEN, answer.item, answer.key);
     put_answer(writer, &known);
-    put_count(writer, b" gen ", answer.generation);
+    put_count(writer, GENERATION, answer.generation);
     writer.put(b"\n");
 }
 
@@ -134,9 +147,9 @@ fn checked_in(answers: &[Vec<Answer>]) -> u64
 fn put_totals<W: Write>(writer: &mut Output<W>, checked: u64, wrong: u64, updates: u64)
     ensures { Says W.contents writer.old writer.new (totals_text checked wrong updates) }
 {
-    put_count(writer, b"checked ", checked);
-    put_count(writer, b" wrong ", wrong);
-    put_count(writer, b" seq ", updates.saturating_mul(2));
-    put_count(writer, b" gen ", updates);
+    put_count(writer, CHECKED, checked);
+    put_count(writer, WRONG, wrong);
+    put_count(writer, SEQUENCE, updates.saturating_mul(2));
+    put_count(writer, GENERATION, updates);
     writer.put(b"\n");
 }

@@ -21,18 +21,86 @@ use table_updates::Update;
 use texts::Output;
 use word_layout::Store;
 
+// the names of members, and the values that are texts
+const OPENING: &[u8] = b"{\"event\":0,\"line\":1,\"kind\":\"open\",\"version\":";
+
+const ORDER: &[u8] = b",\"order\":";
+
+const CAPACITY: &[u8] = b",\"capacity\":";
+
+const SEQUENCE: &[u8] = b",\"sequence\":";
+
+const CLOSED: &[u8] = b"\"closed\"";
+
+const HALF_OPEN: &[u8] = b"\"halfopen\"";
+
+const NULL: &[u8] = b"null";
+
+const EVENT_NUMBER: &[u8] = b"{\"event\":";
+
+const LINE: &[u8] = b",\"line\":";
+
+const KIND: &[u8] = b",\"kind\":";
+
+const BEGIN: &[u8] = b"\"begin\"";
+
+const STEPS: &[u8] = b",\"steps\":";
+
+const REFUSED_BEGIN: &[u8] = b"\"refusal\",\"of\":\"begin\"";
+
+const ERASE: &[u8] = b",\"erase\":";
+
+const INSERT: &[u8] = b",\"insert\":";
+
+const ITEM_A: &[u8] = b"{\"a\":";
+
+const ITEM_B: &[u8] = b",\"b\":";
+
+const TAG: &[u8] = b",\"tag\":";
+
+const FLIP: &[u8] = b"\"flip\"";
+
+const STORED: &[u8] = b"\"store\"";
+
+const WORD: &[u8] = b",\"word\":";
+
+const VALUE: &[u8] = b",\"value\":";
+
+const START: &[u8] = b"\"start\"";
+
+const REFUSED_START: &[u8] = b"\"refusal\",\"of\":\"start\"";
+
+const READER: &[u8] = b",\"reader\":";
+
+const ADDRESS: &[u8] = b",\"address\":\"";
+
+const RETRY: &[u8] = b"\"retry\"";
+
+const RETURN: &[u8] = b"\"return\"";
+
+const REFUSED_LOAD: &[u8] = b"\"refusal\",\"of\":\"load\",\"reader\":";
+
+const LOAD: &[u8] = b"\"load\",\"reader\":";
+
+const LOADS: &[u8] = b",\"loads\":";
+
+const TRIES: &[u8] = b",\"tries\":";
+
+const GENERATION: &[u8] = b",\"generation\":";
+
+const REFUSED: &[u8] = b",\"refused\":";
+
 /// Writes the line of the opening.
 #[tactic(auto, unfolding(crate::specs::StepTexts::opening_text))]
 pub fn put_opening<W: Write>(writer: &mut Output<W>, header: &Header)
     ensures { Says W.contents writer.old writer.new (opening_text header.now) }
 {
     let version = version_number(header.version);
-    let before = b"{\"event\":0,\"line\":1,\"kind\":\"open\",\"version\":";
-    put_json_count(writer, before, version);
-    writer.put(b",\"order\":");
+    put_json_count(writer, OPENING, version);
+    writer.put(ORDER);
     writer.put(order_text(header.closed));
-    put_json_count(writer, b",\"capacity\":", u64::from(header.capacity));
-    put_json_count(writer, b",\"sequence\":", header.start);
+    put_json_count(writer, CAPACITY, u64::from(header.capacity));
+    put_json_count(writer, SEQUENCE, header.start);
     writer.put(b"}\n");
 }
 
@@ -49,15 +117,8 @@ fn version_number(version: Version) -> u64
 fn order_text(closed: bool) -> &'static [u8]
     ensures { result.now ≡ order_text closed }
 {
-    if closed {
-        b"\"closed\""
-    } else {
-        b"\"halfopen\""
-    }
+    if closed { CLOSED } else { HALF_OPEN }
 }
-
-/// No event has such a reply.
-const NO_REPLY: &[u8] = b"null";
 
 /// Writes the line of an event that a command on this line of the trace asked for.
 #[tactic(auto, unfolding(crate::specs::StepTexts::event_text))]
@@ -69,11 +130,11 @@ pub fn put_event<W: Write>(
 )
     ensures { Says W.contents writer.old writer.new (event_text line event.now outcome.now) }
 {
-    put_json_count(writer, b"{\"event\":", outcome.number);
-    put_json_count(writer, b",\"line\":", line);
-    writer.put(b",\"kind\":");
+    put_json_count(writer, EVENT_NUMBER, outcome.number);
+    put_json_count(writer, LINE, line);
+    writer.put(KIND);
     put_done(writer, outcome.load, event, &outcome.reply);
-    put_json_count(writer, b",\"sequence\":", outcome.sequence);
+    put_json_count(writer, SEQUENCE, outcome.sequence);
     writer.put(b"}\n");
 }
 
@@ -100,16 +161,16 @@ fn put_begun<W: Write>(writer: &mut Output<W>, update: &Update, reply: &Reply<u6
 {
     match reply {
         Reply::Begun(left) => {
-            writer.put(b"\"begin\"");
+            writer.put(BEGIN);
             put_update(writer, update);
-            put_json_count(writer, b",\"steps\":", *left);
+            put_json_count(writer, STEPS, *left);
         }
         Reply::Refused(why) => {
-            writer.put(b"\"refusal\",\"of\":\"begin\"");
+            writer.put(REFUSED_BEGIN);
             put_update(writer, update);
             put_refused(writer, *why);
         }
-        _ => writer.put(NO_REPLY),
+        _ => writer.put(NULL),
     }
 }
 
@@ -128,12 +189,12 @@ fn put_update<W: Write>(writer: &mut Output<W>, update: &Update)
 /// Writes these first words as erased, and these items as inserted.
 fn put_lists<W: Write>(writer: &mut Output<W>, erased: &[u64], inserted: &[Item])
     ensures { Says W.contents writer.old writer.new
-        (codes ",\"erase\":" ++ json_list json_number erased.now
-        ++ codes ",\"insert\":" ++ json_list json_item inserted.now) }
+        (ERASE.now ++ json_list json_number erased.now
+        ++ INSERT.now ++ json_list json_item inserted.now) }
 {
-    writer.put(b",\"erase\":");
+    writer.put(ERASE);
     put_list(writer, erased);
-    writer.put(b",\"insert\":");
+    writer.put(INSERT);
     put_list(writer, inserted);
 }
 
@@ -194,9 +255,9 @@ fn put_further<T: Json, W: Write>(writer: &mut Output<W>, values: &[T])
 fn put_item<W: Write>(writer: &mut Output<W>, item: Item)
     ensures { Says W.contents writer.old writer.new (json_item item) }
 {
-    put_json_count(writer, b"{\"a\":", item.a);
-    put_json_count(writer, b",\"b\":", item.b);
-    put_json_count(writer, b",\"tag\":", item.tag);
+    put_json_count(writer, ITEM_A, item.a);
+    put_json_count(writer, ITEM_B, item.b);
+    put_json_count(writer, TAG, item.tag);
     writer.put(b"}");
 }
 
@@ -206,7 +267,7 @@ fn put_written<W: Write>(writer: &mut Output<W>, reply: &Reply<u64>)
 {
     match reply {
         Reply::Wrote(store) => put_stored(writer, *store),
-        _ => writer.put(NO_REPLY),
+        _ => writer.put(NULL),
     }
 }
 
@@ -220,21 +281,17 @@ fn put_stored<W: Write>(writer: &mut Output<W>, store: Store)
 
 /// A store to word 0 is a flip.
 fn store_kind(store: Store) -> &'static [u8]
-    ensures { result.now ≡ (if store.word == 0 then codes "\"flip\"" else codes "\"store\"") }
+    ensures { result.now ≡ (if store.word == 0 then FLIP.now else STORED.now) }
 {
-    if store.word == 0 {
-        b"\"flip\""
-    } else {
-        b"\"store\""
-    }
+    if store.word == 0 { FLIP } else { STORED }
 }
 
 /// Writes a word and what it holds.
 fn put_word<W: Write>(writer: &mut Output<W>, word: usize, value: u64)
     ensures { Says W.contents writer.old writer.new (word_members word value) }
 {
-    put_json_count(writer, b",\"word\":", word as u64);
-    put_json_count(writer, b",\"value\":", value);
+    put_json_count(writer, WORD, word as u64);
+    put_json_count(writer, VALUE, value);
 }
 
 /// Writes what a reader began.
@@ -243,15 +300,15 @@ fn put_started<W: Write>(writer: &mut Output<W>, reader: u32, key: u64, reply: &
 {
     match reply {
         Reply::Started => {
-            writer.put(b"\"start\"");
+            writer.put(START);
             put_reader(writer, reader, key);
         }
         Reply::Refused(why) => {
-            writer.put(b"\"refusal\",\"of\":\"start\"");
+            writer.put(REFUSED_START);
             put_reader(writer, reader, key);
             put_refused(writer, *why);
         }
-        _ => writer.put(NO_REPLY),
+        _ => writer.put(NULL),
     }
 }
 
@@ -260,8 +317,8 @@ fn put_started<W: Write>(writer: &mut Output<W>, reader: u32, key: u64, reply: &
 fn put_reader<W: Write>(writer: &mut Output<W>, reader: u32, key: u64)
     ensures { Says W.contents writer.old writer.new (reader_members reader key) }
 {
-    put_json_count(writer, b",\"reader\":", u64::from(reader));
-    writer.put(b",\"address\":\"");
+    put_json_count(writer, READER, u64::from(reader));
+    writer.put(ADDRESS);
     writer.put_hexadecimal(key);
     writer.put(b"\"");
 }
@@ -278,23 +335,19 @@ fn put_read<W: Write>(
     match reply {
         Reply::Loaded => put_plain_load(writer, reader, load),
         Reply::Retried => {
-            writer.put(b"\"retry\"");
+            writer.put(RETRY);
             put_load(writer, reader, load);
         }
         Reply::Returned(returned) => {
-            writer.put(b"\"return\"");
+            writer.put(RETURN);
             put_load(writer, reader, load);
             put_answer(writer, returned);
         }
         Reply::Refused(why) => {
-            put_json_count(
-                writer,
-                b"\"refusal\",\"of\":\"load\",\"reader\":",
-                u64::from(reader),
-            );
+            put_json_count(writer, REFUSED_LOAD, u64::from(reader));
             put_refused(writer, *why);
         }
-        _ => writer.put(NO_REPLY),
+        _ => writer.put(NULL),
     }
 }
 
@@ -303,7 +356,7 @@ fn put_read<W: Write>(
 fn put_plain_load<W: Write>(writer: &mut Output<W>, reader: u32, load: Option<NextLoad<u64>>)
     ensures { Says W.contents writer.old writer.new (plain_load_members reader load) }
 {
-    put_json_count(writer, b"\"load\",\"reader\":", u64::from(reader));
+    put_json_count(writer, LOAD, u64::from(reader));
     put_loaded_word(writer, load);
 }
 
@@ -331,8 +384,8 @@ fn put_next_load<W: Write>(writer: &mut Output<W>, reader: u32, load: NextLoad<u
 {
     put_reader(writer, reader, load.key);
     put_word(writer, load.word, load.value);
-    put_json_count(writer, b",\"loads\":", load.loads);
-    put_json_count(writer, b",\"tries\":", load.attempts);
+    put_json_count(writer, LOADS, load.loads);
+    put_json_count(writer, TRIES, load.attempts);
 }
 
 /// Writes what a lookup found, and its generation.
@@ -340,9 +393,9 @@ fn put_next_load<W: Write>(writer: &mut Output<W>, reader: u32, load: NextLoad<u
 fn put_answer<W: Write>(writer: &mut Output<W>, returned: &Returned<u64>)
     ensures { Says W.contents writer.old writer.new (answer_members returned.now) }
 {
-    writer.put(b",\"tag\":");
+    writer.put(TAG);
     put_tag(writer, returned.answer);
-    put_json_count(writer, b",\"generation\":", returned.generation);
+    put_json_count(writer, GENERATION, returned.generation);
 }
 
 fn put_tag<W: Write>(writer: &mut Output<W>, answer: Option<Item>)
@@ -350,7 +403,7 @@ fn put_tag<W: Write>(writer: &mut Output<W>, answer: Option<Item>)
 {
     match answer {
         Some(item) => put_json_number(writer, item.tag),
-        None => writer.put(b"null"),
+        None => writer.put(NULL),
     }
 }
 
@@ -359,5 +412,5 @@ fn put_tag<W: Write>(writer: &mut Output<W>, answer: Option<Item>)
 fn put_refused<W: Write>(writer: &mut Output<W>, why: Refusal)
     ensures { Says W.contents writer.old writer.new (refused_member why) }
 {
-    put_json_count(writer, b",\"refused\":", u64::from(why.number()));
+    put_json_count(writer, REFUSED, u64::from(why.number()));
 }

@@ -10,6 +10,19 @@ use order_laws::{Item, Refusal};
 use std::io::Write;
 use texts::Output;
 
+// what is between the numbers of a line
+const ARROW: &[u8] = b" -> ";
+
+const GENERATION: &[u8] = b" gen ";
+
+const LOADS: &[u8] = b" loads ";
+
+const TRIES: &[u8] = b" tries ";
+
+const REFUSED: &[u8] = b"refused ";
+
+const SEQUENCE: &[u8] = b"seq ";
+
 /// Writes the lines of notes.
 pub fn put_notes<W: Write>(writer: &mut Output<W>, notes: &[Note<u64>])
     ensures { Says W.contents writer.old writer.new (flat_map note_text notes.now) }
@@ -37,13 +50,13 @@ fn put_returned<W: Write>(writer: &mut Output<W>, returned: &Returned<u64>)
     writer.put_decimal(u64::from(returned.reader));
     writer.put(b" ");
     writer.put_hexadecimal(returned.key);
-    writer.put(b" -> ");
+    writer.put(ARROW);
     put_tag(writer, returned.answer);
-    writer.put(b" gen ");
+    writer.put(GENERATION);
     writer.put_decimal(returned.generation);
-    writer.put(b" loads ");
+    writer.put(LOADS);
     writer.put_decimal(returned.loads);
-    writer.put(b" tries ");
+    writer.put(TRIES);
     writer.put_decimal(returned.attempts);
     writer.put(b"\n");
 }
@@ -63,7 +76,7 @@ pub fn put_refused<W: Write>(writer: &mut Output<W>, refusal: Refusal)
     ensures { Says W.contents writer.old writer.new
         (refused_text (refusal_number refusal)) }
 {
-    writer.put(b"refused ");
+    writer.put(REFUSED);
     writer.put_decimal(u64::from(refusal.number()));
     writer.put(b"\n");
 }
@@ -72,9 +85,9 @@ pub fn put_refused<W: Write>(writer: &mut Output<W>, refusal: Refusal)
 pub fn put_end<W: Write>(writer: &mut Output<W>, sequence: u64)
     ensures { Says W.contents writer.old writer.new (end_text sequence) }
 {
-    writer.put(b"seq ");
+    writer.put(SEQUENCE);
     writer.put_decimal(sequence);
-    writer.put(b" gen ");
+    writer.put(GENERATION);
     writer.put_decimal(sequence / 2);
     writer.put(b"\n");
 }

@@ -2,6 +2,14 @@
 use Rattle.histories.proofs.Words.{◌≡◌, ◌∙◌, ℕ, zero, suc, ◌+◌, ◌<◌, List, [], ◌∷◌, ◌++◌, None, Some, length, take, drop, sym, ap, arith, cond, append_assoc, onto_first, take-add, drop-drop, lines, without_end, header_of, body_of, parts_of, time_text, later, Nowhere, Passes, is_byte}
 use Rattle.texts.proofs.LineCutLemmas.{first_fails}
 use Rattle.std.proofs.lemmas.List.{take_all, drop_all}
+use Rattle.std.proofs.Common.{Bool, true, false, ◌&&◌, ◌==◌, not, nat_lt, Option, refl}
+use Rattle.std.specs.Option.{option_and_then, option_map}
+use Rattle.modules.specs.Listed.{ListedSymbol}
+use Rattle.texts.specs.Lines.{longest_line}
+use Rattle.listing.specs.ModuleListing.{is_gap}
+use Rattle.listing.specs.SymbolListing.{address_in, owner_in_line, symbol_before, symbol_of_text, symbol_with}
+use Rattle.listing.proofs.SymbolLineLemmas.{cut_nowhere}
+use Rattle.histories.specs.ListingLines.{module_of}
 
 pub first_line : (xs : List ℕ) (k : ℕ) → k < length xs → Passes (is_byte 10) xs k → Nowhere (Passes (is_byte 10) xs) 0 k → lines xs ≡ take (k + 1) xs ∷ lines (drop (k + 1) xs)
 first_line [] k h passes none = absurd (omega arith)
@@ -45,3 +53,28 @@ parts_more text rest i n here is none =
     let more = lines (drop n rest) in
     let then : lines (drop (i + n) text) ≡ more = ap lines (sym (drop-drop n i text) ∙ ap (drop n) (sym here)) in
     ap parts_of then ∙ sym (parts_here (take n rest) more none) ∙ ap parts_of (sym is) ∙ ap (λ (r : List ℕ). parts_of (lines r)) here
+
+-- ---- a line without a tab is of no module
+
+of_kernel : (rest : List ℕ) (addr : ℕ) → option_and_then (λ owner. owner) (option_map (λ (s : ListedSymbol). s.owner) (symbol_with None rest addr)) ≡ None
+of_kernel [] addr = refl
+of_kernel (letter ∷ []) addr = refl
+of_kernel (letter ∷ blank ∷ []) addr = refl
+of_kernel (letter ∷ blank ∷ first ∷ name) addr =
+    elim (not (is_gap letter) && blank == 32) as (λ b. option_and_then (λ owner. owner) (option_map (λ (s : ListedSymbol). s.owner) (cond b (Some (record { addr = addr; letter = letter; name = first ∷ name; owner = None })) None)) ≡ None)
+    [ true ↦ refl | false ↦ refl ]
+
+no_owner : (found : Option (ℕ × List ℕ)) → option_and_then (λ owner. owner) (option_map (λ (s : ListedSymbol). s.owner) (option_and_then (λ p. symbol_with None p.1 p.0) found)) ≡ None
+no_owner None = refl
+no_owner (Some p) = of_kernel p.1 p.0
+
+pub without_tab : (line : List ℕ) → Nowhere (Passes (is_byte 9) line) 0 (length line) → None ≡ module_of line
+without_tab line none =
+    let found : Option (Option (List ℕ)) = option_map (λ (s : ListedSymbol). s.owner) (symbol_of_text None line) in
+    let same : owner_in_line line ≡ cond (nat_lt longest_line (length line)) None found =
+    ap (λ parts. cond (nat_lt longest_line (length line)) None (option_map (λ (s : ListedSymbol). s.owner) (symbol_before parts line))) (cut_nowhere 9 line none) in
+    sym (ap (option_and_then (λ owner. owner)) same ∙ by (nat_lt longest_line (length line)) found (no_owner (address_in line)))
+  where
+    by : (b : Bool) (found : Option (Option (List ℕ))) → option_and_then (λ owner. owner) found ≡ None → option_and_then (λ owner. owner) (cond b None found) ≡ None
+    by true found none = refl
+    by false found none = none

@@ -1,9 +1,10 @@
 -- What a change makes of a listing.
 use Rattle.std.specs.Prelude.{ℕ, not, Bool, true, false, if◌then◌else◌}
-use Rattle.std.specs.Prelude.{List, [], ◌∷◌, ◌++◌, Option, Some, None, is_some}
+use Rattle.std.specs.Prelude.{List, [], ◌++◌, Option, is_some}
 use Rattle.std.specs.List.{flat_map, list_any}
 use Rattle.std.specs.Option.{option_map_or, option_or}
 use Rattle.std.specs.Str.{bytes_eq}
+use Rattle.modules.specs.Names.{with_name}
 use Rattle.logs.specs.Lines.{lines}
 use Rattle.histories.specs.Grammar.{gone_of}
 use Rattle.histories.specs.ListingLines.{module_of, without_end}
@@ -15,7 +16,7 @@ named_module line = option_or (gone_of line) (module_of line)
 -- a change names a module, if one of its lines does
 abbrev pub is_named : List ℕ → List ℕ → Bool
 is_named change name =
-    list_any (λ line. option_map_or (λ n. bytes_eq n name) (named_module (without_end line)) false)
+    list_any (λ line. option_map_or (bytes_eq name) (named_module (without_end line)) false)
     (lines change)
 
 -- a line is kept, unless it is one of a module that is named
@@ -39,9 +40,8 @@ changed_by change listing =
 
 -- a name is one of these
 abbrev pub is_among : List (List ℕ) → List ℕ → Bool
-is_among names name = list_any (λ n. bytes_eq n name) names
+is_among names name = list_any (bytes_eq name) names
 
 -- these names and one more, if there is one that is not among them
-abbrev pub with_name : List (List ℕ) → Option (List ℕ) → List (List ℕ)
-with_name names None = names
-with_name names (Some name) = if is_among names name then names else names ++ name ∷ []
+abbrev pub with_named : List (List ℕ) → Option (List ℕ) → List (List ℕ)
+with_named names name = option_map_or (with_name names) name names

@@ -10,15 +10,16 @@
 //! ```
 //!
 //! The names are collected first, each once; then each line of the listing is looked at once.
-ghost use Rattle.std.specs.Prelude.{◌≡◌, ◌++◌, map, IfOk, OnOk};
+ghost use Rattle.std.specs.Prelude.{◌≡◌, ◌++◌, IfOk, OnOk};
 ghost use Rattle.std.specs.Option.{option_copied};
 ghost use Rattle.logs.specs.Lines.{lines};
 ghost use Rattle.histories.specs.Changes.{added_lines, changed_by, is_among, is_kept, kept_lines};
-ghost use Rattle.histories.specs.Changes.{is_named, named_module, with_name};
+ghost use Rattle.histories.specs.Changes.{is_named, named_module, with_named};
 
 use crate::grammar::gone_in;
 use crate::lines::{line_length, without_end};
 use crate::listing_lines::module_in;
+use modules::Names;
 use std::alloc::{AllocError, Global};
 
 /// The module that a line of a change names, if it names one.
@@ -31,40 +32,22 @@ fn named_module(line: &[u8]) -> Option<&[u8]>
     }
 }
 
-/// Whether a name is among these.
-fn is_among(names: &[&[u8]], name: &[u8]) -> bool
-    ensures { result ≡ is_among (map (λ n. n.now) names.now) name.now }
-{
-    let mut i = 0;
-    while i < names.len() {
-        if names[i] == name {
-            return true;
-        }
-        i += 1;
-    }
-    false
-}
-
 /// Puts a name after these, if there is one that is not among them.
-fn put_name<'a>(names: &mut Vec<&'a [u8]>, name: Option<&'a [u8]>) -> Result<(), AllocError>
-    ensures { OnOk result (map (λ n. n.now) names.new.items
-        ≡ with_name (map (λ n. n.now) names.old.items) (option_copied name.entry)) }
+fn put_name<'a>(names: &mut Names<'a>, name: Option<&'a [u8]>) -> Result<(), AllocError>
+    ensures { OnOk result (names.new ≡ with_named names.old (option_copied name.entry)) }
 {
-    if let Some(name) = name {
-        if !is_among(names, name) {
-            names.push(name)?;
-        }
+    match name {
+        Some(name) => names.put(name),
+        None => Ok(()),
     }
-    Ok(())
 }
 
 /// The modules that a change names, each once.
 #[tactic(auto, using(crate::proofs::NameLemmas::collected))]
-fn names_in<'a>(alloc: Global, change: &'a [u8]) -> Result<Vec<&'a [u8]>, AllocError>
-    ensures { IfOk result
-        (λ names. is_among (map (λ n. n.now) names.items) ≡ is_named change.now) }
+fn names_in<'a>(alloc: Global, change: &'a [u8]) -> Result<Names<'a>, AllocError>
+    ensures { IfOk result (λ names. is_among names ≡ is_named change.now) }
 {
-    let mut names = Vec::new(alloc);
+    let mut names = Names::new(alloc);
     let mut rest = change;
     while !rest.is_empty() {
         let end = line_length(rest);
@@ -75,19 +58,19 @@ fn names_in<'a>(alloc: Global, change: &'a [u8]) -> Result<Vec<&'a [u8]>, AllocE
 }
 
 /// Whether a line is kept under a change that names these modules.
-fn is_kept(names: &[&[u8]], line: &[u8]) -> bool
-    ensures { result ≡ is_kept (is_among (map (λ n. n.now) names.now)) line.now }
+fn is_kept(names: &Names, line: &[u8]) -> bool
+    ensures { result ≡ is_kept (is_among names.now) line.now }
 {
     match module_in(without_end(line)) {
-        Some(module) => !is_among(names, module),
+        Some(module) => !names.has(module),
         None => true,
     }
 }
 
 /// Puts the lines of a listing that are kept.
-fn put_kept(names: &[&[u8]], listing: &[u8], out: &mut Vec<u8>) -> Result<(), AllocError>
+fn put_kept(names: &Names, listing: &[u8], out: &mut Vec<u8>) -> Result<(), AllocError>
     ensures { OnOk result (out.new.items ≡ out.old.items
-        ++ kept_lines (is_among (map (λ n. n.now) names.now)) (lines listing.now)) }
+        ++ kept_lines (is_among names.now) (lines listing.now)) }
 {
     let mut rest = listing;
     while !rest.is_empty() {

@@ -1,5 +1,5 @@
 -- The lines that say what is noted of the listings of a job.
-use Rattle.std.specs.Prelude.{ℕ, Bool, true, false, List, [], ◌++◌, codes, if◌then◌else◌, Option}
+use Rattle.std.specs.Prelude.{ℕ, Bool, true, false, List, [], ◌++◌, if◌then◌else◌, Option}
 use Rattle.std.specs.Prelude.{Some, None, unwrap_or}
 use Rattle.std.specs.Borrow.{Bor}
 use Rattle.std.specs.Option.{option_map_or}
@@ -9,8 +9,10 @@ use Rattle.modules.specs.Listed.{BoundNames}
 use Rattle.listing.specs.declared.listing_notes.ListingNote.{ListingNote}
 use Rattle.listing.specs.declared.listing_notes.ListingNote.TheVariants.{ModulesOverlap}
 use Rattle.listing.specs.declared.listing_notes.ListingNotes.{ListingNotes}
-use Rattle.catalog_engines.specs.NoteTexts.{line_if_noted, lines_by, note_lines, noted_bounds}
+use Rattle.catalog_engines.specs.NoteTexts.{line_if_noted, lines_by, note_head, note_lines}
+use Rattle.catalog_engines.specs.NoteTexts.{noted_bounds}
 use Rattle.catalog_engines.specs.declared.sources.Sources.{Sources}
+use Rattle.latchsym.specs.declared.job_notes.TheConstants.{GIVE_REGIONS}
 use Rattle.latchsym.specs.declared.requests.Job.{Job}
 use Rattle.latchsym.specs.declared.requests.Job.TheVariants as job
 use Rattle.latchsym.specs.declared.requests.Request.{Request}
@@ -36,9 +38,7 @@ is_overlap _ = false
 
 -- the line that says so
 abbrev pub overlap_line : Text → List ℕ
-overlap_line modules =
-    codes "latchsym: note: " ++ modules
-    ++ codes ": modules overlap, as sizes do from Linux 6.4 on; give --regions\n"
+overlap_line modules = note_head modules ++ GIVE_REGIONS.now
 
 -- the line of what may be noted of that listing
 abbrev pub run_line : BoundNames → Text → Option ListingNote → List ℕ

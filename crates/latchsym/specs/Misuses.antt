@@ -17,16 +17,17 @@ use Rattle.latchsym.specs.declared.requests.JobFault.TheVariants.{BadEnd, BadOff
 use Rattle.latchsym.specs.declared.requests.JobFault.TheVariants.{BadReaders, NoJob, NoText}
 use Rattle.latchsym.specs.declared.requests.JobFault.TheVariants.{Clash, FollowedByOwnOffset}
 use Rattle.command_io.specs.declared.fault.Fault.TheVariants.{Refused, Write}
+use Rattle.latchsym.specs.declared.misuse.TheConstants as text
 
 -- what is wrong with the command line, and with which word
 abbrev pub misuse_text : List ℕ → Text → List ℕ
-misuse_text message word = codes "latchsym: " ++ message ++ word ++ codes "\n"
+misuse_text message word = text.PROGRAM.now ++ message ++ word ++ codes "\n"
 
 -- what is wrong with an offset: it may be a hexadecimal number that lacks its prefix
 abbrev pub offset_message : Text → List ℕ
 offset_message word =
-    if is_some (numeral 16 16 word) then codes "bad offset, 0x is missing before "
-    else codes "bad offset "
+    if is_some (numeral 16 16 word) then text.OFFSET_WITHOUT_PREFIX.now
+    else text.BAD_OFFSET.now
 
 -- what is wrong was said, and the status is that of a misuse
 abbrev pub IsMisused : {D : Type 0} → (D → Option (List ℕ)) → Output D → Output D
@@ -71,20 +72,20 @@ IsNoJob contents errors w w' e e' OutOfMemory status =
 IsNoJob contents errors w w' e e' (CommandLine error) status =
     IsExplained contents errors w w' e e' error status
 IsNoJob contents errors w w' e e' (BadAddress word) status =
-    IsMisusedAlone errors w w' e e' (codes "bad address ") word.now status
+    IsMisusedAlone errors w w' e e' text.BAD_ADDRESS.now word.now status
 IsNoJob contents errors w w' e e' NoAddress status =
-    IsMisusedAlone errors w w' e e' (codes "no address is given") [] status
+    IsMisusedAlone errors w w' e e' text.NO_ADDRESS.now [] status
 IsNoJob contents errors w w' e e' (Clash message) status =
     IsMisusedAlone errors w w' e e' message.now [] status
 IsNoJob contents errors w w' e e' (BadOffset word) status =
     IsMisusedAlone errors w w' e e' (offset_message word.now) word.now status
 IsNoJob contents errors w w' e e' FollowedByOwnOffset status =
-    IsMisusedAlone errors w w' e e' (codes "--offset auto and --follow exclude each other") [] status
+    IsMisusedAlone errors w w' e e' text.FOLLOWED_OFFSET.now [] status
 IsNoJob contents errors w w' e e' (BadEnd word) status =
-    IsMisusedAlone errors w w' e e' (codes "--kernel takes two names of symbols, and its END is ") word.now status
+    IsMisusedAlone errors w w' e e' text.BAD_BOUND.now word.now status
 IsNoJob contents errors w w' e e' (BadReaders word) status =
-    IsMisusedAlone errors w w' e e' (codes "bad number of readers ") word.now status
+    IsMisusedAlone errors w w' e e' text.BAD_READERS.now word.now status
 IsNoJob contents errors w w' e e' NoJob status =
-    IsMisusedAlone errors w w' e e' (codes "no command") [] status
+    IsMisusedAlone errors w w' e e' text.NO_COMMAND.now [] status
 IsNoJob contents errors w w' e e' NoText status =
-    IsMisusedAlone errors w w' e e' (codes "an argument is not valid UTF-8") [] status
+    IsMisusedAlone errors w w' e e' text.NO_TEXT.now [] status

@@ -1,5 +1,5 @@
 -- What comes of a job: that of its engine over the job's own readers.
-use Rattle.std.specs.Prelude.{◌≡◌, ℕ, Bool, true, false, List, map, Option, Some, None, Result, Err}
+use Rattle.std.specs.Prelude.{◌≡◌, ℕ, List, map, Option, Some, None, Result, Err}
 use Rattle.std.specs.Prelude.{unwrap_or}
 use Rattle.texts.specs.Counted.{device_of, failures_of}
 use Rattle.texts.specs.declared.counted.Counted.{Counted}

@@ -17,9 +17,10 @@ use Rattle.command_io.specs.declared.fault.Fault.{Fault}
 use Rattle.command_io.specs.declared.fault.Finished.{Finished}
 use Rattle.command_io.specs.declared.fault.Fault.TheVariants.{Refused, BadLine, Read, TooLong, Write}
 use Rattle.command_io.specs.Faults.{fault_place}
+use Rattle.latchsym.specs.declared.reports.TheConstants as text
 
 abbrev pub bad_line_text : Text → ℕ → List ℕ
-bad_line_text file line = file ++ codes ": line " ++ decimal line ++ codes " is not understood\n"
+bad_line_text file line = file ++ text.LINE.now ++ decimal line ++ text.NOT_UNDERSTOOD.now
 
 -- what failed with a file, and what the system says of it
 abbrev pub failed_text : Text → List ℕ → Option (List ℕ) → List ℕ
@@ -30,13 +31,13 @@ failed_text file what words = file ++ what ++ reason_text words ++ codes "\n"
 abbrev pub message_text : Text → Option (List ℕ) → Fault → List ℕ
 message_text file words (Refused refusal) = refused_text (refusal_number refusal)
 message_text file words (BadLine place line) = bad_line_text file line
-message_text file words (Read place) = failed_text file (codes ": cannot be read") words
-message_text file words (TooLong place) = file ++ codes ": is too long\n"
-message_text file words Write = failed_text [] (codes "cannot write") words
+message_text file words (Read place) = failed_text file text.UNREAD.now words
+message_text file words (TooLong place) = file ++ text.TOO_LONG.now
+message_text file words Write = failed_text [] text.UNWRITTEN.now words
 
 -- the line on the standard error
 abbrev pub fault_text : Text → Option (List ℕ) → Fault → List ℕ
-fault_text file words fault = codes "latchsym: " ++ message_text file words fault
+fault_text file words fault = text.PROGRAM.now ++ message_text file words fault
 
 -- the file of the job that the fault is about
 abbrev pub file_of : Job → Fault → Text

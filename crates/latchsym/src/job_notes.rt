@@ -5,11 +5,14 @@ ghost use Rattle.latchsym.specs.JobNotes.{is_overlap, lines_asked, lines_of_look
 ghost use Rattle.latchsym.specs.JobNotes.{notes_text, overlap_line, run_line, run_lines};
 
 use crate::requests::{Job, Request, Subcommand};
-use catalog_engines::{Sources, put_if_noted, put_listing_notes, put_notes_of};
+use catalog_engines::{Sources, put_if_noted, put_listing_notes, put_note_head, put_notes_of};
 use listing::{ListingNote, ListingNotes};
 use modules::KernelBounds;
 use std::io::Write;
 use texts::Output;
+
+/// What a run says of modules that overlap.
+const GIVE_REGIONS: &[u8] = b"modules overlap, as sizes do from Linux 6.4 on; give --regions\n";
 
 /// Writes the lines of what is noted of the listings of a job, by the names of its files.
 pub fn put_job_notes<W: Write>(writer: &mut Output<W>, job: &Job<'_>, notes: &ListingNotes)
@@ -98,7 +101,8 @@ fn is_overlap(note: Option<ListingNote>) -> bool
             | ListingNote::NoEnd
             | ListingNote::OtherBoot
             | ListingNote::NoModuleLine
-            | ListingNote::NoSymbolLine,
+            | ListingNote::NoSymbolLine
+            | ListingNote::UnlistedOwner(_),
         ) => false,
     }
 }
@@ -107,9 +111,8 @@ fn is_overlap(note: Option<ListingNote>) -> bool
 fn put_overlap<W: Write>(writer: &mut Output<W>, file: &[u8])
     ensures { Says W.contents writer.old writer.new (overlap_line file.now) }
 {
-    writer.put(b"latchsym: note: ");
-    writer.put(file);
-    writer.put(b": modules overlap, as sizes do from Linux 6.4 on; give --regions\n");
+    put_note_head(writer, file);
+    writer.put(GIVE_REGIONS);
 }
 
 /// Writes what is noted of the listings of a lookup. If modules are listed, the kernel lies between

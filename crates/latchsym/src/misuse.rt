@@ -13,6 +13,27 @@ use std::alloc::Global;
 use std::io::Write;
 use texts::{Output, hexadecimal};
 
+// what messages say before the word that they are about
+const BAD_ADDRESS: &[u8] = b"bad address ";
+
+const NO_ADDRESS: &[u8] = b"no address is given";
+
+const FOLLOWED_OFFSET: &[u8] = b"--offset auto and --follow exclude each other";
+
+const BAD_BOUND: &[u8] = b"--kernel takes two names of symbols, and its END is ";
+
+const BAD_READERS: &[u8] = b"bad number of readers ";
+
+const NO_COMMAND: &[u8] = b"no command";
+
+const NO_TEXT: &[u8] = b"an argument is not valid UTF-8";
+
+const OFFSET_WITHOUT_PREFIX: &[u8] = b"bad offset, 0x is missing before ";
+
+const BAD_OFFSET: &[u8] = b"bad offset ";
+
+const PROGRAM: &[u8] = b"latchsym: ";
+
 /// The program's status if the command line is at fault.
 const MISUSED: u8 = 2;
 
@@ -30,21 +51,15 @@ pub fn refuse<W: Write, E: Write>(
     match fault {
         JobFault::OutOfMemory => report_before_job(&Fault::Refused(Refusal::OutOfMemory), errors),
         JobFault::CommandLine(error) => explain(alloc, &error, writer, errors),
-        JobFault::BadAddress(word) => misused(b"bad address ", word, errors),
-        JobFault::NoAddress => misused(b"no address is given", "", errors),
+        JobFault::BadAddress(word) => misused(BAD_ADDRESS, word, errors),
+        JobFault::NoAddress => misused(NO_ADDRESS, "", errors),
         JobFault::Clash(message) => misused(message.as_bytes(), "", errors),
         JobFault::BadOffset(word) => misused(offset_message(word), word, errors),
-        JobFault::FollowedByOwnOffset => {
-            misused(b"--offset auto and --follow exclude each other", "", errors)
-        }
-        JobFault::BadEnd(word) => misused(
-            b"--kernel takes two names of symbols, and its END is ",
-            word,
-            errors,
-        ),
-        JobFault::BadReaders(word) => misused(b"bad number of readers ", word, errors),
-        JobFault::NoJob => misused(b"no command", "", errors),
-        JobFault::NoText => misused(b"an argument is not valid UTF-8", "", errors),
+        JobFault::FollowedByOwnOffset => { misused(FOLLOWED_OFFSET, "", errors) }
+        JobFault::BadEnd(word) => misused(BAD_BOUND, word, errors),
+        JobFault::BadReaders(word) => misused(BAD_READERS, word, errors),
+        JobFault::NoJob => misused(NO_COMMAND, "", errors),
+        JobFault::NoText => misused(NO_TEXT, "", errors),
     }
 }
 
@@ -54,9 +69,9 @@ fn offset_message(word: &str) -> &'static [u8]
     ensures { result.now ≡ offset_message word.now }
 {
     if hexadecimal(word.as_bytes()).is_some() {
-        b"bad offset, 0x is missing before "
+        OFFSET_WITHOUT_PREFIX
     } else {
-        b"bad offset "
+        BAD_OFFSET
     }
 }
 
@@ -106,7 +121,7 @@ fn misused<E: Write>(message: &[u8], word: &str, errors: &mut Output<E>) -> u8
 fn put_misuse<E: Write>(message: &[u8], word: &str, writer: &mut Output<E>)
     ensures { Says E.contents writer.old writer.new (misuse_text message.now word.now) }
 {
-    writer.put(b"latchsym: ");
+    writer.put(PROGRAM);
     writer.put(message);
     writer.put(word.as_bytes());
     writer.put(b"\n");

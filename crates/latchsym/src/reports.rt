@@ -19,6 +19,19 @@ use std::io;
 use std::io::Write;
 use texts::Output;
 
+// what messages say beside the names of files and the numbers of lines
+const UNREAD: &[u8] = b": cannot be read";
+
+const TOO_LONG: &[u8] = b": is too long\n";
+
+const UNWRITTEN: &[u8] = b"cannot write";
+
+const LINE: &[u8] = b": line ";
+
+const NOT_UNDERSTOOD: &[u8] = b" is not understood\n";
+
+const PROGRAM: &[u8] = b"latchsym: ";
+
 /// Ends a job: returns the program's status, which is the job's own if it came to one. Writes
 /// what is noted of its listings, or, if it failed, the line that says why, with what the system
 /// said of the error behind it.
@@ -94,7 +107,7 @@ fn put_fault<W: Write>(fault: &Fault, file: &[u8], words: Option<&str>, writer: 
     ensures { Says W.contents writer.old writer.new
         (fault_text file.now (option_copied words.entry) fault.now) }
 {
-    writer.put(b"latchsym: ");
+    writer.put(PROGRAM);
     put_message(fault, file, words, writer);
 }
 
@@ -105,9 +118,9 @@ fn put_message<W: Write>(fault: &Fault, file: &[u8], words: Option<&str>, writer
     match fault {
         Fault::Refused(refusal) => put_refused(writer, *refusal),
         Fault::BadLine { line, .. } => put_bad_line(writer, file, *line),
-        Fault::Read { .. } => put_failed(writer, file, b": cannot be read", words),
-        Fault::TooLong { .. } => put_of_file(writer, file, b": is too long\n"),
-        Fault::Write => put_failed(writer, b"", b"cannot write", words),
+        Fault::Read { .. } => put_failed(writer, file, UNREAD, words),
+        Fault::TooLong { .. } => put_of_file(writer, file, TOO_LONG),
+        Fault::Write => put_failed(writer, b"", UNWRITTEN, words),
     }
 }
 
@@ -115,9 +128,9 @@ fn put_bad_line<W: Write>(writer: &mut Output<W>, file: &[u8], line: u64)
     ensures { Says W.contents writer.old writer.new (bad_line_text file.now line) }
 {
     writer.put(file);
-    writer.put(b": line ");
+    writer.put(LINE);
     writer.put_decimal(line);
-    writer.put(b" is not understood\n");
+    writer.put(NOT_UNDERSTOOD);
 }
 
 /// Writes what is said of a file.

@@ -17,13 +17,13 @@ use Rattle.latchsym_ffi.specs.Tables.{IsWide}
 abbrev pub AreItsReaders : WriterState → List Handle → Type 0
 AreItsReaders w handles = (length handles ≡ w.readers) × All (λ h. h.kind ≡ reader_kind) handles
 
--- the writer goes on with so many nodes, and with these readers
+-- the writer goes on with this many nodes, and with these readers
 pub record IsMoved (nodes : ℕ) (w w' : WriterState) (readers : List ReaderState) : Type 0 where
   pub layout : Layout
   pub wide : IsWide nodes layout
   pub enlarges : Enlarges w layout w' readers
 
--- the writer goes on with so many nodes, and each of the handles holds one of its readers
+-- the writer goes on with this many nodes, and each of the handles holds one of its readers
 pub record IsEnlarged (nodes : ℕ) (w w' : WriterState) (handles : List Handle) : Type 0 where
   pub readers : List ReaderState
   pub moved : IsMoved nodes w w' readers
@@ -35,7 +35,7 @@ RefusesMoving nodes w e =
     ((e ≡ BadCapacity) × ((0 < nodes) × (nodes ≤ most_nodes) → ⊥))
     ⊎ ((l : Layout) × IsWide nodes l × RefusesEnlarging w l e)
 
--- the handles are not those of its readers, or else the number is that of such a refusal
+-- the handles hold other readers, or else the number is of such a refusal
 abbrev pub RefusesNodes : ℕ → WriterState → List Handle → ℕ → Type 0
 RefusesNodes nodes w handles result =
     ((result ≡ 101) × (AreItsReaders w handles → ⊥))

@@ -13,6 +13,8 @@ use Rattle.latchsym_ffi.specs.declared.answers.Answer.TheVariants.{Done, NoSymbo
 use Rattle.latchsym_ffi.specs.declared.finding.CatalogAnswer.{CatalogAnswer}
 use Rattle.latchsym_ffi.specs.declared.finding.RegionAndSymbol.{RegionAndSymbol}
 use Rattle.latchsym_ffi.specs.declared.finding.Description.{Description}
+use Rattle.latchsym_ffi.specs.declared.finding.Taken.{Taken}
+use Rattle.latchsym_ffi.specs.declared.finding.Taken.TheVariants.{AsItIs, AsReturn}
 
 -- the item of the region that an address lies in, if any, and the symbol that it belongs to there,
 -- if any
@@ -29,6 +31,11 @@ known_call c addr =
     option_and_then
     (λ place. option_map (λ k. (k.0, option_map (farther 1) k.1)) (known_at c place))
     (lower_by 1 addr)
+
+-- what is known of an address, looked up so
+abbrev pub known_as : Taken → CatalogEntries → ℕ → Known
+known_as AsItIs = known_at
+known_as AsReturn = known_call
 
 -- what is known of an address in the item that a table has for it
 abbrev pub known_in : CatalogEntries → ℕ → Option Item → Known

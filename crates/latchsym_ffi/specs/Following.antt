@@ -10,38 +10,47 @@ use Rattle.follower.specs.declared.follower.NotShown.{NotShown}
 use Rattle.follower.specs.declared.follower.NotShown.TheVariants.{Refused, StampFalls}
 use Rattle.latchsym_ffi.specs.Answers.{answer_number}
 use Rattle.latchsym_ffi.specs.Finding.{Known}
-use Rattle.latchsym_ffi.specs.Handles.{HoldsFollower}
+use Rattle.latchsym_ffi.specs.Handles.{FollowerGoes, HoldsFollower, RefusesOther, Stays}
+use Rattle.latchsym_ffi.specs.Kinds.{follower_kind}
 use Rattle.latchsym_ffi.specs.Named.{IsTold}
 use Rattle.latchsym_ffi.specs.declared.answers.Answer.TheVariants.{BadStamp, Done, Forgotten}
 use Rattle.latchsym_ffi.specs.declared.answers.Answer.TheVariants.{Nothing}
 use Rattle.latchsym_ffi.specs.declared.finding.CatalogSymbol.{CatalogSymbol}
 use Rattle.latchsym_ffi.specs.declared.handles.Handle.{Handle}
 
--- the number of what stands against showing a catalog
+-- the number that says why a catalog is not shown
 abbrev pub not_shown_number : NotShown → ℕ
 not_shown_number StampFalls = answer_number BadStamp
 not_shown_number (Refused why) = refusal_number why
 
--- the number is that of what stands against it
+-- the number says why it is not
 pub record RefusesShowing (c : CatalogEntries) (since : ℕ) (f : Followed) (result : ℕ)
     : Type 0 where
   pub why : NotShown
   pub number : result ≡ not_shown_number why
   pub refuses : RefusesToShow c since f.writer f.catalogs why
 
--- what is known is told by the catalog that stands, and nothing if none does
+-- what is known is told by the catalog that is current, and nothing if none is
 abbrev pub TellsStanding : Option DatedCatalog → (CatalogEntries → Known) → ℕ → CatalogSymbol
     → CatalogSymbol → Type 0
 TellsStanding None known result old new = (result ≡ answer_number Forgotten) × (new ≡ old)
 TellsStanding (Some d) known result old new = IsTold d.catalog (known d.catalog) result new
 
--- what is known of an address is told by the catalog that stands at a moment, of those that the
--- handle's follower has
+-- what is known of an address is told by the current one of the catalogs that the handle's follower
+-- has at a moment
 abbrev pub TellsAt : Moment → (CatalogEntries → ℕ → Known) → ℕ → Handle → ℕ → CatalogSymbol
     → CatalogSymbol → Type 0
 TellsAt moment known addr h result old new =
     (f : Followed) → HoldsFollower f h
     → TellsStanding (standing_at f.catalogs moment) (λ c. known c addr) result old new
+
+-- it is told by a follower, which stays as it was; another handle is a bad one
+pub record FindsAt (moment : Moment) (known : CatalogEntries → ℕ → Known) (addr : ℕ)
+    (h h' : Handle) (result : ℕ) (old new : CatalogSymbol)
+    : Type 0 where
+  pub stays : Stays h h'
+  pub told : TellsAt moment known addr h result old new
+  pub other : RefusesOther follower_kind h h' old new result
 
 -- the number and the tag that tell of a catalog which is gone, or of none
 abbrev pub TellsTag : Option ℕ → ℕ → ℕ → ℕ → Type 0
@@ -53,3 +62,8 @@ abbrev pub ForgetsAt : Moment → ℕ → ℕ → ℕ → Followed → Followed 
 ForgetsAt moment result old new f f' =
     (tag : Option ℕ) × Forgets moment f.catalogs f'.catalogs tag × (f'.writer ≡ f.writer)
     × TellsTag tag result old new
+
+-- so does a follower; another handle is a bad one
+pub record ForgetsBy (moment : Moment) (h h' : Handle) (result old new : ℕ) : Type 0 where
+  pub forgotten : FollowerGoes (ForgetsAt moment result old new) h h'
+  pub other : RefusesOther follower_kind h h' old new result

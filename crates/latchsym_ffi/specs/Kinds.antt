@@ -21,7 +21,7 @@ kind_of (Writer w) = writer_kind
 kind_of (Reader r) = reader_kind
 kind_of (Follower f) = follower_kind
 
--- that of a handle, which is 0 if it is closed
+-- the kind of a handle, which is 0 if it is closed
 abbrev pub kind_in : Option Content → ℕ
 kind_in None = 0
 kind_in (Some content) = kind_of content

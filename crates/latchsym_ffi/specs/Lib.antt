@@ -1,6 +1,8 @@
 -- The definitions of this crate, in the order in which to read them.
 -- the numbers that calls return, and the texts of these
 pub mod Answers
+-- and their texts
+pub mod AnswerTexts
 -- the numbers of the kinds of content
 pub mod Kinds
 -- what a handle owns

@@ -40,7 +40,7 @@ abbrev pub Shows : Try → TableAnswer → TableAnswer → Type 0
 Shows (Answered x g) old new = new ≡ answer_from x g
 Shows Retry old new = new ≡ old
 
--- the number of a lookup with a name: that of what is known, or that another is to be made
+-- the number of a lookup with a name: of what is known, or that another is to be made
 abbrev pub name_code : CatalogEntries → ℕ → Try → ℕ
 name_code c addr (Answered x g) = known_code (known_in c addr x)
 name_code c addr Retry = answer_number answer.Retry

@@ -68,7 +68,7 @@ abbrev pub IsCounted : Option BoundNames → CatalogEntries → CatalogCounts �
 IsCounted kernel c counts l =
     (n : BuildCounts) × Say kernel false l c n × (counts ≡ counts_with kernel l c n)
 
--- they are those of what C gives
+-- they are of what C gives
 abbrev pub AreRead : CatalogListings → CatalogEntries → CatalogCounts → Type 0
 AreRead given c counts = IsOkAnd (listings_of (texts_in given)) (IsCounted (kernel_in given) c counts)
 

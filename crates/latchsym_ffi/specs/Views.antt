@@ -67,10 +67,10 @@ pub record IsViewOf (c : CatalogEntries) (regions : List ViewRegion) : Type 0 wh
 abbrev pub symbols_at : CatalogEntries → ℕ → List SymbolEntry
 symbols_at c number = option_map_or (λ m. m.symbols) (module_of c number) []
 
--- those of the modules whose numbers are below this one
+-- the rows of the modules whose numbers are below this one
 abbrev pub symbols_below : CatalogEntries → ℕ → List SymbolEntry
 symbols_below c number = flat_map (symbols_at c) (range_with_len 0 number)
 
--- those of all modules, of the kernel itself first
+-- the rows of all modules, of the kernel itself first
 abbrev pub symbols_of : CatalogEntries → List SymbolEntry
 symbols_of c = symbols_below c (length c.modules + 1)

@@ -1,12 +1,13 @@
-//! The numbers that calls return, each of which means one thing whatever call returns it.
+//! The numbers that calls return. Each means one thing, whatever call returns it.
 
 ghost use Rattle.std.specs.Prelude.{◌≡◌, ◌++◌, [], ◌∷◌, Some, find};
 ghost use Rattle.latchsym_ffi.specs.declared.answers.Answer.{Answer as Told};
-ghost use Rattle.latchsym_ffi.specs.Answers.{answer_number, answer_text, answer_with};
-ghost use Rattle.latchsym_ffi.specs.Answers.{has_number, note_number, note_text, number_if_noted};
-ghost use Rattle.latchsym_ffi.specs.Answers.{refusal_text, text_with};
+ghost use Rattle.latchsym_ffi.specs.AnswerTexts.{text_with};
+ghost use Rattle.latchsym_ffi.specs.Answers.{answer_number, answer_with, has_number, note_number};
+ghost use Rattle.latchsym_ffi.specs.Answers.{number_if_noted, of_any_owner};
 
-use listing::ListingNote;
+use crate::answer_texts::{text_of_answer, text_of_none};
+use listing::{ListingNote, Owner};
 use order_laws::Refusal;
 
 /// The call did what it was asked for: of a search, something was found; of a step, no update is
@@ -70,7 +71,7 @@ pub enum Answer {
 }
 
 /// All that a call returns, of the crates below, of this one and of the header, by rising number.
-const ALL: [Answer; 41] = [
+const ALL: [Answer; 42] = [
     Answer::Done,
     Answer::Refused(Refusal::BadItem),
     Answer::Refused(Refusal::Overlap),
@@ -108,6 +109,7 @@ const ALL: [Answer; 41] = [
     Answer::Noted(ListingNote::ModulesOverlap),
     Answer::Noted(ListingNote::Empty),
     Answer::Noted(ListingNote::Utf16),
+    Answer::Noted(ListingNote::UnlistedOwner(Owner::Bpf)),
     Answer::BadHandle,
     Answer::BadLength,
     Answer::BadListings,
@@ -164,52 +166,6 @@ impl Answer {
     {
         first_with(&ALL, number)
     }
-
-    /// Its text, with a 0 at the end.
-    fn text(self) -> &'static [u8]
-        ensures { result.now ≡ answer_text self ++ 0 ∷ [] }
-    {
-        match self {
-            Answer::Done => b"done\0",
-            Answer::Refused(refusal) => text_of_refusal(refusal),
-            Answer::BadLine => b"a line of the listing of regions is not one\0",
-            Answer::NoSymbol => b"no symbol of the region is at or below the address\0",
-            Answer::Nothing => b"nothing is there\0",
-            Answer::Retry => b"the writer flipped meanwhile: try again\0",
-            Answer::Busy => b"other calls have all readers of the pool: try again\0",
-            Answer::Forgotten => b"the follower has no listing of that moment\0",
-            Answer::Flip => b"a flip of the sequence\0",
-            Answer::Store => b"a store of a word\0",
-            Answer::Noted(note) => text_of_note(note),
-            Answer::BadHandle => b"the handle does not hold what is wanted\0",
-            Answer::BadLength => b"the room is not for as many answers as there are addresses\0",
-            Answer::BadListings => b"the listings are not as this version has them\0",
-            Answer::BadStamp => b"the stamp lies below that of a listing shown before\0",
-        }
-    }
-}
-
-/// The text of a refusal, with a 0 at the end.
-fn text_of_refusal(refusal: Refusal) -> &'static [u8]
-    ensures { result.now ≡ refusal_text refusal ++ 0 ∷ [] }
-{
-    match refusal {
-        Refusal::BadItem => b"the item is empty\0",
-        Refusal::Overlap => b"the item overlaps one of the table\0",
-        Refusal::NoSuchItem => b"no item of the table begins there\0",
-        Refusal::Full => b"the table has as many items as nodes\0",
-        Refusal::UpdateInHand => b"an update is pending\0",
-        Refusal::SequenceSpent => b"the sequence is spent\0",
-        Refusal::OutOfMemory => b"out of memory\0",
-        Refusal::ReaderBusy => b"the reader has a pending lookup\0",
-        Refusal::ReaderIdle => b"the reader has no pending lookup\0",
-        Refusal::BadCapacity => b"the number of nodes or of readers is out of its range\0",
-        Refusal::UnknownModule => b"the catalog has no such module\0",
-        Refusal::AlreadyLoaded => b"the module is in the table\0",
-        Refusal::NotLoaded => b"the module is not in the table\0",
-        Refusal::TooManyRegions => b"more than 7 region lines have one name\0",
-        Refusal::NoInit => b"the table has no init region of the module\0",
-    }
 }
 
 /// The number of a note on a listing.
@@ -230,6 +186,7 @@ fn number_of_note(note: ListingNote) -> u32
         ListingNote::ModulesOverlap => 51,
         ListingNote::Empty => 52,
         ListingNote::Utf16 => 53,
+        ListingNote::UnlistedOwner(_) => 54,
     }
 }
 
@@ -243,45 +200,18 @@ pub(crate) fn number_if_noted(note: Option<ListingNote>) -> u32
     }
 }
 
-/// The text of a note, with a 0 at the end.
-fn text_of_note(note: ListingNote) -> &'static [u8]
-    ensures { result.now ≡ note_text note ++ 0 ∷ [] }
-{
-    match note {
-        ListingNote::Empty => b"is empty\0",
-        ListingNote::Gzip => b"is compressed by gzip; unpack it first\0",
-        ListingNote::Utf16 => b"is UTF-16; convert it first\0",
-        ListingNote::AllHidden => {
-            b"every address is 0; read it as root (kernel.kptr_restrict)\0"
-        }
-        ListingNote::LooksLikeSymbols => b"looks like a listing of symbols\0",
-        ListingNote::LooksLikeModules => b"looks like a listing of modules\0",
-        ListingNote::LinesEndInCrLf => b"lines end in CR LF\0",
-        ListingNote::NoStart => b"has no symbol at the kernel's first address\0",
-        ListingNote::NoEnd => b"has no symbol at the kernel's end; try the end _einittext\0",
-        ListingNote::OtherBoot => {
-            b"no symbol lies in a listed module; are both listings of one boot?\0"
-        }
-        ListingNote::ModulesOverlap => {
-            b"modules overlap, as sizes do from Linux 6.4 on; leave their listing out\0"
-        }
-        ListingNote::NoModuleLine => b"no line is of the form of /proc/modules\0",
-        ListingNote::NoSymbolLine => b"no line is of the form of /proc/kallsyms\0",
-    }
-}
-
 /// The text of a number, with a 0 at the end.
 pub(crate) fn text_of(number: u32) -> &'static [u8]
     ensures { result.now ≡ text_with number ++ 0 ∷ [] }
 {
     match Answer::with_number(number) {
-        Some(answer) => answer.text(),
-        None => b"no number of this library\0",
+        Some(answer) => text_of_answer(answer),
+        None => text_of_none(),
     }
 }
 
-/// A number means one thing: no two answers have it.
+/// A number means one thing: no two answers have it that differ in more than the owner of a note.
 #[tactic(auto, unfolding(crate::specs::Answers::has_number))]
 fn numbers_mean_one_thing()
-    ensures { (a : Told) → answer_with (answer_number a) ≡ Some a }
+    ensures { (a : Told) → answer_with (answer_number a) ≡ Some (of_any_owner a) }
 {}

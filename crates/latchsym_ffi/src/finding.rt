@@ -4,7 +4,7 @@ ghost use Rattle.std.specs.Prelude.{◌≡◌, ◌≤◌, ◌<◌, IfSome};
 ghost use Rattle.std.specs.Option.{option_map};
 ghost use Rattle.latchsym_ffi.specs.Finding.{Describes, answer_of, copied, known_at, known_code};
 ghost use Rattle.latchsym_ffi.specs.Finding.{known_in, module_name, owner_named, shown_seen};
-ghost use Rattle.latchsym_ffi.specs.Finding.{known_call, symbol_named};
+ghost use Rattle.latchsym_ffi.specs.Finding.{known_as, known_call, symbol_named};
 ghost use Rattle.latchsym_ffi.specs.Named.{IsTold};
 
 use crate::answers::{DONE, NO_SYMBOL, NOTHING};
@@ -122,6 +122,30 @@ pub(crate) fn seek_call<'c>(
         None => None,
     };
     Some(RegionAndSymbol { item, found })
+}
+
+/// How an address is looked up.
+#[derive(Clone, Copy, Drop)]
+pub(crate) enum Taken {
+    /// As it is.
+    AsItIs,
+    /// As a return address.
+    AsReturn,
+}
+
+/// The region and the symbol of an address, looked up so.
+#[inline(always)]
+pub(crate) fn seek_as<'c>(
+    taken: Taken,
+    catalog: &'c IndexedCatalog<'static>,
+    addr: u64,
+) -> Option<RegionAndSymbol<'c>>
+    ensures { option_map shown_seen result ≡ known_as taken catalog.now addr }
+{
+    match taken {
+        Taken::AsItIs => seek(catalog, addr),
+        Taken::AsReturn => seek_call(catalog, addr),
+    }
 }
 
 /// The answer for what a search found.

@@ -92,8 +92,7 @@ fn rows_of<'s>(
     ModuleRows { symbols, addresses }
 }
 
-/// Puts the regions of a module after the others, of which there are so many, and tells how many
-/// there are then.
+/// Puts the regions of a module at the places from `from` on, and returns the place after them.
 fn put_regions<'s>(
     owner: &Module<'static>,
     number: u64,

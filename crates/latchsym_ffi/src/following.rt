@@ -5,15 +5,15 @@ ghost use Rattle.follower.specs.declared.catalogs.Moment.TheVariants.{Generation
 ghost use Rattle.follower.specs.Catalogs.{DropsOldest, standing_at};
 ghost use Rattle.follower.specs.Following.{Followed, Shows};
 ghost use Rattle.modules.specs.Entries.{CatalogEntries};
-ghost use Rattle.latchsym_ffi.specs.Finding.{known_at, known_call};
-ghost use Rattle.latchsym_ffi.specs.Following.{ForgetsAt, RefusesShowing, TellsAt, TellsTag};
+ghost use Rattle.latchsym_ffi.specs.Finding.{known_as, known_at, known_call};
+ghost use Rattle.latchsym_ffi.specs.Following.{FindsAt, ForgetsBy, RefusesShowing, TellsTag};
 ghost use Rattle.latchsym_ffi.specs.Handles.{FollowerGoes, HoldsCatalog, HoldsFollower};
 ghost use Rattle.latchsym_ffi.specs.Handles.{RefusesOther, Stays};
 ghost use Rattle.latchsym_ffi.specs.Kinds.{catalog_kind, follower_kind};
 
 use crate::answers::{BAD_STAMP, DONE, FORGOTTEN, NOTHING};
 use crate::calls::{with_catalog, with_follower};
-use crate::finding::{CatalogSymbol, name_places, seek, seek_call};
+use crate::finding::{CatalogSymbol, Taken, name_places, seek_as};
 use crate::handles::Handle;
 use follower::{Follower, Moment, NotShown, SharedCatalog};
 
@@ -92,17 +92,25 @@ pub extern "C" fn latchsym_follower_show(
     result
 }
 
-/// Tells what `seek` or `seek_call` finds in the catalog that is current at a moment.
-macro_rules! tell_standing {
-    ($follower:ident, $moment:expr, $seek:ident, $addr:ident, $out:ident) => {
-        with_follower!($follower, |open| match open.catalog_at($moment) {
-            Some(dated) => {
-                let catalog = dated.catalog.indexed();
-                name_places(catalog.catalog(), $seek(catalog, $addr), $out)
-            }
-            None => FORGOTTEN,
-        })
-    };
+/// Tells of an address, looked up so, by the catalog that is current at a moment.
+#[inline(always)]
+fn find_at(
+    follower: &mut Handle,
+    moment: Moment,
+    taken: Taken,
+    addr: u64,
+    out: &mut CatalogSymbol,
+) -> u32
+    ensures { FindsAt moment (known_as taken) addr follower.old follower.new result
+        out.old out.new }
+{
+    with_follower!(follower, |open| match open.catalog_at(moment) {
+        Some(dated) => {
+            let catalog = dated.catalog.indexed();
+            name_places(catalog.catalog(), seek_as(taken, catalog, addr), out)
+        }
+        None => FORGOTTEN,
+    })
 }
 
 /// Tells of an address by the catalog that is current at a generation.
@@ -113,12 +121,16 @@ pub extern "C" fn latchsym_follower_find(
     addr: u64,
     out: &mut CatalogSymbol,
 ) -> u32
-    ensures stays { Stays follower.old follower.new }
-    ensures told { TellsAt (Generation generation) known_at addr follower.old result
+    ensures { FindsAt (Generation generation) known_at addr follower.old follower.new result
         out.old out.new }
-    ensures other { RefusesOther follower_kind follower.old follower.new out.old out.new result }
 {
-    tell_standing!(follower, Moment::Generation(generation), seek, addr, out)
+    find_at(
+        follower,
+        Moment::Generation(generation),
+        Taken::AsItIs,
+        addr,
+        out,
+    )
 }
 
 /// Tells of a return address by the catalog that is current at a generation.
@@ -129,17 +141,15 @@ pub extern "C" fn latchsym_follower_find_caller(
     addr: u64,
     out: &mut CatalogSymbol,
 ) -> u32
-    ensures stays { Stays follower.old follower.new }
-    ensures told { TellsAt (Generation generation) known_call addr follower.old result
+    ensures { FindsAt (Generation generation) known_call addr follower.old follower.new result
         out.old out.new }
-    ensures other { RefusesOther follower_kind follower.old follower.new out.old out.new result }
 {
-    tell_standing!(
+    find_at(
         follower,
         Moment::Generation(generation),
-        seek_call,
+        Taken::AsReturn,
         addr,
-        out
+        out,
     )
 }
 
@@ -151,11 +161,10 @@ pub extern "C" fn latchsym_follower_find_since(
     addr: u64,
     out: &mut CatalogSymbol,
 ) -> u32
-    ensures stays { Stays follower.old follower.new }
-    ensures told { TellsAt (Stamp at) known_at addr follower.old result out.old out.new }
-    ensures other { RefusesOther follower_kind follower.old follower.new out.old out.new result }
+    ensures { FindsAt (Stamp at) known_at addr follower.old follower.new result
+        out.old out.new }
 {
-    tell_standing!(follower, Moment::Stamp(at), seek, addr, out)
+    find_at(follower, Moment::Stamp(at), Taken::AsItIs, addr, out)
 }
 
 /// Tells of a return address by the catalog that is current at a stamp.
@@ -166,11 +175,10 @@ pub extern "C" fn latchsym_follower_find_caller_since(
     addr: u64,
     out: &mut CatalogSymbol,
 ) -> u32
-    ensures stays { Stays follower.old follower.new }
-    ensures told { TellsAt (Stamp at) known_call addr follower.old result out.old out.new }
-    ensures other { RefusesOther follower_kind follower.old follower.new out.old out.new result }
+    ensures { FindsAt (Stamp at) known_call addr follower.old follower.new result
+        out.old out.new }
 {
-    tell_standing!(follower, Moment::Stamp(at), seek_call, addr, out)
+    find_at(follower, Moment::Stamp(at), Taken::AsReturn, addr, out)
 }
 
 /// Tells the tag of a catalog that is gone, or that none is.
@@ -186,6 +194,13 @@ fn tell_tag(gone: Option<u64>, tag: &mut u64) -> u32
     }
 }
 
+/// Forgets the oldest catalog, if the next one was shown at or before a moment, and tells its tag.
+fn forget_at(follower: &mut Handle, moment: Moment, tag: &mut u64) -> u32
+    ensures { ForgetsBy moment follower.old follower.new result tag.old tag.new }
+{
+    with_follower!(follower, |open| tell_tag(open.forget(moment), tag))
+}
+
 /// Forgets the oldest catalog, if the next one was shown at or before a generation, and tells its
 /// tag.
 #[unsafe(no_mangle)]
@@ -194,31 +209,22 @@ pub extern "C" fn latchsym_follower_forget(
     generation: u64,
     tag: &mut u64,
 ) -> u32
-    ensures forgotten { FollowerGoes (ForgetsAt (Generation generation) result tag.old tag.new)
-        follower.old follower.new }
-    ensures other { RefusesOther follower_kind follower.old follower.new tag.old tag.new result }
+    ensures { ForgetsBy (Generation generation) follower.old follower.new result tag.old tag.new }
 {
-    with_follower!(
-        follower,
-        |open| tell_tag(open.forget(Moment::Generation(generation)), tag)
-    )
+    forget_at(follower, Moment::Generation(generation), tag)
 }
 
-/// Forgets the oldest catalog, if the next one was shown at or before a stamp, and tells its tag.
+/// Forgets the oldest catalog, if the next one was shown at or before a stamp, and tells its
+/// tag.
 #[unsafe(no_mangle)]
 pub extern "C" fn latchsym_follower_forget_since(
     follower: &mut Handle,
     at: u64,
     tag: &mut u64,
 ) -> u32
-    ensures forgotten { FollowerGoes (ForgetsAt (Stamp at) result tag.old tag.new)
-        follower.old follower.new }
-    ensures other { RefusesOther follower_kind follower.old follower.new tag.old tag.new result }
+    ensures { ForgetsBy (Stamp at) follower.old follower.new result tag.old tag.new }
 {
-    with_follower!(
-        follower,
-        |open| tell_tag(open.forget(Moment::Stamp(at)), tag)
-    )
+    forget_at(follower, Moment::Stamp(at), tag)
 }
 
 /// Drops the oldest catalog, and tells its tag; closes the handle if there is none.

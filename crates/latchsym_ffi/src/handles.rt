@@ -20,7 +20,7 @@ pub struct Handle {
     ghost tied: { kind ≡ kind_in pointer.content },
 }
 
-/// Keeps the stores before it in front of those behind it, as a signal handler of this thread sees
+/// Keeps each store before it ahead of the stores after it, as a signal handler of this thread sees
 /// them. It costs no instruction but a load of the stack: the compiler moves nothing across a step
 /// on an atomic word.
 #[inline(always)]

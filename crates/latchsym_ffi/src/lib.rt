@@ -18,6 +18,7 @@
 #![tactic(auto)]
 
 mod adding;
+mod answer_texts;
 mod answers;
 mod batches;
 mod by_number;

@@ -1,7 +1,7 @@
 //! What C calls, of the library itself.
 
 ghost use Rattle.std.specs.Prelude.{◌≡◌, ◌++◌, [], ◌∷◌};
-ghost use Rattle.latchsym_ffi.specs.Answers.{text_with};
+ghost use Rattle.latchsym_ffi.specs.AnswerTexts.{text_with};
 
 use crate::answers::text_of;
 

@@ -6,12 +6,13 @@ ghost use Rattle.order_laws.specs.declared.refusals.Refusal.TheVariants.{BadCapa
 ghost use Rattle.order_laws.specs.Refusals.{refusal_number};
 ghost use Rattle.latch_table.specs.Limits.{most_readers};
 ghost use Rattle.latch_table.specs.Readers.{ReaderState};
-ghost use Rattle.latch_table.specs.Writers.{WriterState};
+ghost use Rattle.latch_table.specs.Writers.{MayOpenWith, RefusesOpening, WriterState};
 ghost use Rattle.latchsym_ffi.specs.declared.contents.Content.{Content as Held};
 ghost use Rattle.latchsym_ffi.specs.declared.contents.Content.TheVariants as content;
 ghost use Rattle.latchsym_ffi.specs.Handles.{HoldsReader};
-ghost use Rattle.latchsym_ffi.specs.Tables.{AreClosed, AreInRange, AreOpened, IsOpenedTable};
-ghost use Rattle.latchsym_ffi.specs.Tables.{RefusesHandles, RefusesTable, first_follower};
+ghost use Rattle.latchsym_ffi.specs.Tables.{AreClosed, AreInRange, AreOpened, IsEmptyTable};
+ghost use Rattle.latchsym_ffi.specs.Tables.{IsOpenedTable, OpensTable, RefusesTable};
+ghost use Rattle.latchsym_ffi.specs.Tables.{first_content, first_follower};
 
 use crate::answers::{BAD_HANDLE, DONE};
 use crate::contents::{CLOSED, Content};
@@ -72,28 +73,49 @@ fn counted(readers: usize) -> Result<u32, Refusal>
     }
 }
 
-/// A table, in boxes.
-fn open_boxes(alloc: Global, nodes: u32, readers: usize) -> Result<Boxes, Refusal>
-    ensures opened { IfOk result (AreOpened content.Writer nodes readers) }
-    ensures may { IfOk result (λ _. AreInRange nodes readers) }
-    ensures refused { IfErr result (λ e. RefusesTable nodes readers (refusal_number e)) }
-{
-    let layout = Layout::wide(nodes)?;
-    let count = counted(readers)?;
-    let (inner, all) = open::<HalfOpen>(alloc, layout, 0, count)?;
-    Ok(in_boxes(alloc, Content::Writer(inner), all)?)
+/// What changes a table.
+#[derive(Clone, Copy, Drop)]
+pub(crate) enum Owner {
+    /// A writer.
+    Writer,
+    /// A follower.
+    Follower,
 }
 
-/// A table that a follower changes, in boxes.
-fn open_follower_boxes(alloc: Global, nodes: u32, readers: usize) -> Result<Boxes, Refusal>
-    ensures opened { IfOk result (AreOpened first_follower nodes readers) }
+/// An empty table: what changes it, and its readers.
+fn open_owned(
+    alloc: Global,
+    owner: Owner,
+    layout: Layout,
+    readers: u32,
+) -> Result<(Content, Vec<Reader<HalfOpen>>), Refusal>
+    ensures may { IfOk result (λ _. MayOpenWith layout 0 readers) }
+    ensures opened { IfOk result
+        (λ r. IsEmptyTable (first_content owner) layout readers r.0 r.1) }
+    ensures refused { IfErr result (RefusesOpening layout 0 readers) }
+{
+    match owner {
+        Owner::Writer => {
+            let (writer, all) = open::<HalfOpen>(alloc, layout, 0, readers)?;
+            Ok((Content::Writer(writer), all))
+        }
+        Owner::Follower => {
+            let (follower, all) = Follower::open(alloc, layout, 0, readers)?;
+            Ok((Content::Follower(follower), all))
+        }
+    }
+}
+
+/// A table, in boxes.
+fn open_boxes(alloc: Global, owner: Owner, nodes: u32, readers: usize) -> Result<Boxes, Refusal>
+    ensures opened { IfOk result (AreOpened (first_content owner) nodes readers) }
     ensures may { IfOk result (λ _. AreInRange nodes readers) }
     ensures refused { IfErr result (λ e. RefusesTable nodes readers (refusal_number e)) }
 {
     let layout = Layout::wide(nodes)?;
     let count = counted(readers)?;
-    let (follower, all) = Follower::open(alloc, layout, 0, count)?;
-    Ok(in_boxes(alloc, Content::Follower(follower), all)?)
+    let (content, all) = open_owned(alloc, owner, layout, count)?;
+    Ok(in_boxes(alloc, content, all)?)
 }
 
 /// Opens each handle with a reader of these.
@@ -156,6 +178,24 @@ fn put_boxes(
     }
 }
 
+/// Opens an empty table in closed handles: what changes it in one, and a reader in each other.
+fn open_table(
+    alloc: Global,
+    owner: Owner,
+    nodes: u32,
+    handle: &mut Handle,
+    readers: &mut [Handle],
+) -> u32
+    ensures { OpensTable (first_content owner) nodes handle.old readers.old handle.new readers.new
+        result }
+{
+    if !are_closed(handle, readers) {
+        return BAD_HANDLE;
+    }
+    let opened = open_boxes(alloc, owner, nodes, readers.len());
+    put_boxes(alloc, opened, handle, readers)
+}
+
 /// Opens an empty table of 1 to 65536 nodes: its writer, and a reader in each of 1 to 64 handles.
 #[unsafe(no_mangle)]
 pub extern "C" fn latchsym_table_open_nonnull(
@@ -164,18 +204,9 @@ pub extern "C" fn latchsym_table_open_nonnull(
     writer: &mut Handle,
     readers: &mut [Handle],
 ) -> u32
-    ensures opened { result ≡ 0 → IsOpenedTable content.Writer nodes writer.new readers.new }
-    ensures count { length readers.new ≡ length readers.old }
-    ensures may { result ≡ 0 → AreClosed writer.old readers.old
-        × AreInRange nodes (length readers.old) }
-    ensures refused { result ≢ 0 → (writer.new ≡ writer.old) × (readers.new ≡ readers.old) }
-    ensures why { result ≢ 0 → RefusesHandles nodes writer.old readers.old result }
+    ensures { OpensTable content.Writer nodes writer.old readers.old writer.new readers.new result }
 {
-    if !are_closed(writer, readers) {
-        return BAD_HANDLE;
-    }
-    let opened = open_boxes(alloc, nodes, readers.len());
-    put_boxes(alloc, opened, writer, readers)
+    open_table(alloc, Owner::Writer, nodes, writer, readers)
 }
 
 /// Opens an empty table of 1 to 65536 nodes: a follower without a catalog, and a reader in each of
@@ -187,16 +218,8 @@ pub extern "C" fn latchsym_follower_open_nonnull(
     follower: &mut Handle,
     readers: &mut [Handle],
 ) -> u32
-    ensures opened { result ≡ 0 → IsOpenedTable first_follower nodes follower.new readers.new }
-    ensures count { length readers.new ≡ length readers.old }
-    ensures may { result ≡ 0 → AreClosed follower.old readers.old
-        × AreInRange nodes (length readers.old) }
-    ensures refused { result ≢ 0 → (follower.new ≡ follower.old) × (readers.new ≡ readers.old) }
-    ensures why { result ≢ 0 → RefusesHandles nodes follower.old readers.old result }
+    ensures { OpensTable first_follower nodes follower.old readers.old follower.new readers.new
+        result }
 {
-    if !are_closed(follower, readers) {
-        return BAD_HANDLE;
-    }
-    let opened = open_follower_boxes(alloc, nodes, readers.len());
-    put_boxes(alloc, opened, follower, readers)
+    open_table(alloc, Owner::Follower, nodes, follower, readers)
 }

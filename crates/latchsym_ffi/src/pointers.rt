@@ -1,4 +1,4 @@
-//! A box of content behind a plain pointer.
+//! A box of content by a plain pointer.
 //!
 //! A struct that crosses to C holds no box. This one holds the box's pointer, and says in its model
 //! that it owns what the box would.

@@ -17,6 +17,7 @@ pub use Rattle.listing.specs.Looks.{is_kernel_symbol, are_modules_hidden, are_sy
 pub use Rattle.listing.specs.ModuleListing.{module_of_line, module_place, modules_in, checked_module, module_of_words, runs_of, module_causes, module_counts}
 pub use Rattle.listing.specs.Opening.{AreBy, AreByModules, listed_in, notes_of, symbols_of}
 pub use Rattle.listing.specs.Overlaps.{do_modules_overlap, has_module, has_name, is_left_out, is_listed_name, names_left_out}
+pub use Rattle.listing.specs.Owners.{is_owner, is_unlisted, owner_called, unlisted_owner}
 pub use Rattle.listing.specs.Skipping.{is_skipped_for, skipped_for, counts_by, one_more_at, taken_by}
 pub use Rattle.listing.specs.SymbolListing.{is_mapping, symbols_with, symbol_of, symbol_place, symbols_in, address_in, cut_at, symbol_causes, bracketed, symbol_before, symbol_of_text}
 pub use Rattle.listing.specs.Tallies.{rows_of, row_text}

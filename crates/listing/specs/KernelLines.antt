@@ -1,11 +1,12 @@
 -- What the text of a listing of symbols shows, where the kernel lies by it, and its own lines alone.
-use Rattle.std.specs.Prelude.{ℕ, Bool, false, not, codes, filter, flat_map, is_some, List, [], ◌∷◌, ◌++◌}
+use Rattle.std.specs.Prelude.{ℕ, Bool, false, not, filter, flat_map, is_some, List, [], ◌∷◌, ◌++◌}
 use Rattle.std.specs.Prelude.{Option, Result, Ok, Err}
 use Rattle.std.specs.List.{list_any}
 use Rattle.std.specs.Option.{option_or}
 use Rattle.modules.specs.Lines.{first_address}
 use Rattle.modules.specs.Listed.{ListedSymbol}
 use Rattle.listing.specs.Looks.{is_shown_symbol}
+use Rattle.listing.specs.declared.kernel_lines.TheConstants.{STEXT, TEXT}
 use Rattle.listing.specs.SymbolListing.{symbol_of, symbols_in}
 use Rattle.listing.specs.declared.symbol_listing.SkippedSymbol.{SkippedSymbol}
 
@@ -16,8 +17,8 @@ shows_symbol lines = list_any (λ l. is_shown_symbol (symbol_of l)) lines
 -- where the kernel lies: at its first symbol that is called `_text`, or else `_stext`
 abbrev pub kernel_base : List (List ℕ) → Option ℕ
 kernel_base lines =
-    option_or (first_address (codes "_text") (symbols_in lines))
-    (first_address (codes "_stext") (symbols_in lines))
+    option_or (first_address TEXT.now (symbols_in lines))
+    (first_address STEXT.now (symbols_in lines))
 
 -- a symbol of a module
 abbrev pub is_of_module : Result ListedSymbol SkippedSymbol → Bool

@@ -13,8 +13,12 @@ pub mod SymbolListing
 pub mod Looks
 -- listed modules that are not in the catalog
 pub mod Overlaps
+-- names that symbols have in the place of a module's
+pub mod Owners
 -- what is noted of such a listing
 pub mod ListingNotes
+-- what notes say that name nothing
+pub mod NoteTexts
 -- what a listing of regions says
 pub mod RegionListing
 -- what listings say: a catalog, how many of their lines went where, and what is noted of them

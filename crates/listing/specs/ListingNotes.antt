@@ -8,8 +8,9 @@ use Rattle.listing.specs.Looks.{are_modules_hidden, are_symbols_hidden, first_en
 use Rattle.listing.specs.Looks.{is_utf_16, is_kernel_symbol, is_module_line, is_of_kernel}
 use Rattle.listing.specs.Looks.{is_symbol_line, lacks_lines, looks_like_modules, looks_like_symbols}
 use Rattle.listing.specs.ModuleListing.{modules_in}
+use Rattle.listing.specs.Owners.{is_owner, unlisted_owner}
 use Rattle.listing.specs.Overlaps.{do_modules_overlap}
-use Rattle.listing.specs.SymbolListing.{symbols_in}
+use Rattle.listing.specs.SymbolListing.{symbols_in, symbols_with}
 use Rattle.modules.specs.Entries.{CatalogEntries, ModuleEntry}
 use Rattle.modules.specs.Listed.{BoundNames, ListedSymbol}
 use Rattle.listing.specs.declared.listing_notes.ListingNote.{ListingNote}
@@ -19,14 +20,16 @@ use Rattle.listing.specs.declared.listing_notes.ListingNote.TheVariants.{LooksLi
 use Rattle.listing.specs.declared.listing_notes.ListingNote.TheVariants.{LinesEndInCrLf, NoStart}
 use Rattle.listing.specs.declared.listing_notes.ListingNote.TheVariants.{NoEnd, OtherBoot}
 use Rattle.listing.specs.declared.listing_notes.ListingNote.TheVariants.{ModulesOverlap, NoModuleLine}
-use Rattle.listing.specs.declared.listing_notes.ListingNote.TheVariants.{NoSymbolLine}
+use Rattle.listing.specs.declared.listing_notes.ListingNote.TheVariants.{NoSymbolLine, UnlistedOwner}
 use Rattle.listing.specs.declared.listing_notes.ListingNotes.{ListingNotes}
+use Rattle.listing.specs.declared.owners.Owner.TheVariants.{Bpf, Ftrace, Kprobes}
 
 -- the notes, in the order in which the first that applies is sought
 abbrev pub all_notes : List ListingNote
 all_notes =
     Empty ∷ Gzip ∷ Utf16 ∷ AllHidden ∷ LooksLikeSymbols ∷ LooksLikeModules ∷ LinesEndInCrLf ∷ NoStart
-    ∷ NoEnd ∷ OtherBoot ∷ ModulesOverlap ∷ NoModuleLine ∷ NoSymbolLine ∷ []
+    ∷ NoEnd ∷ OtherBoot ∷ ModulesOverlap ∷ NoModuleLine ∷ NoSymbolLine ∷ UnlistedOwner Bpf
+    ∷ UnlistedOwner Ftrace ∷ UnlistedOwner Kprobes ∷ []
 
 -- no line of the listing of modules is accepted
 abbrev pub has_no_module : CatalogEntries → Bool
@@ -51,20 +54,23 @@ HasBounds names symbols =
     (list_any (is_kernel_symbol names.start) symbols ≡ true)
     × (list_any (is_kernel_symbol names.end) symbols ≡ true)
 
--- what is noted of a listing of modules with this text, if the listing of symbols has that one
--- and the catalog of both is this
-abbrev pub is_of_modules : List ℕ → List ℕ → CatalogEntries → ListingNote → Bool
-is_of_modules text kallsyms c Gzip = is_gzip text
-is_of_modules text kallsyms c Utf16 = is_utf_16 text
-is_of_modules text kallsyms c AllHidden = are_modules_hidden (lines_of text)
-is_of_modules text kallsyms c LooksLikeSymbols =
+-- what is noted of a listing of modules with this text, if the listing of symbols has that one and
+-- the catalog of both is this, which mapping symbols may be in or not
+abbrev pub is_of_modules : Bool → List ℕ → List ℕ → CatalogEntries → ListingNote → Bool
+is_of_modules mapping text kallsyms c Gzip = is_gzip text
+is_of_modules mapping text kallsyms c Utf16 = is_utf_16 text
+is_of_modules mapping text kallsyms c AllHidden = are_modules_hidden (lines_of text)
+is_of_modules mapping text kallsyms c LooksLikeSymbols =
     has_no_module c && looks_like_symbols (lines_of text)
-is_of_modules text kallsyms c LinesEndInCrLf = has_no_module c && first_ends_in_cr (lines_of text)
-is_of_modules text kallsyms c OtherBoot = lacks_symbols c
-is_of_modules text kallsyms c ModulesOverlap =
+is_of_modules mapping text kallsyms c LinesEndInCrLf = has_no_module c && first_ends_in_cr (lines_of text)
+is_of_modules mapping text kallsyms c OtherBoot = lacks_symbols c
+is_of_modules mapping text kallsyms c ModulesOverlap =
     do_modules_overlap (modules_in (lines_of text)) (symbols_in (lines_of kallsyms)) c
-is_of_modules text kallsyms c NoModuleLine = has_no_module c && lacks_lines is_module_line text
-is_of_modules text kallsyms c _ = false
+is_of_modules mapping text kallsyms c NoModuleLine = has_no_module c && lacks_lines is_module_line text
+is_of_modules mapping text kallsyms c (UnlistedOwner owner) =
+    is_owner owner
+    (unlisted_owner (modules_in (lines_of text)) (symbols_with mapping (symbols_in (lines_of kallsyms))))
+is_of_modules mapping text kallsyms c _ = false
 
 -- what is noted of a listing of symbols with this text, of which so many are kept, if these
 -- names bound the kernel; it is alone if there is no listing of modules

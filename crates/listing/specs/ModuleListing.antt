@@ -7,6 +7,7 @@ use Rattle.modules.specs.Listed.{ListedModule}
 use Rattle.texts.specs.Lines.{longest_line}
 use Rattle.texts.specs.Numbers.{numeral}
 use Rattle.listing.specs.Skipping.{counts_by, taken_by}
+use Rattle.listing.specs.declared.causes.TheConstants.{EMPTY, HIDDEN, LONG, MALFORMED, WRAPS}
 use Rattle.listing.specs.declared.module_listing.SkippedModule.{SkippedModule}
 use Rattle.listing.specs.declared.module_listing.SkippedModule.TheVariants.{Hidden, Empty, Wraps}
 use Rattle.listing.specs.declared.module_listing.SkippedModule.TheVariants.{Long, Malformed}
@@ -67,11 +68,11 @@ module_place Malformed = 4
 
 -- what a cause is called
 abbrev pub module_cause_name : SkippedModule → List ℕ
-module_cause_name Hidden = codes "hidden"
-module_cause_name Empty = codes "empty"
-module_cause_name Wraps = codes "wraps"
-module_cause_name Long = codes "long"
-module_cause_name Malformed = codes "malformed"
+module_cause_name Hidden = HIDDEN.now
+module_cause_name Empty = EMPTY.now
+module_cause_name Wraps = WRAPS.now
+module_cause_name Long = LONG.now
+module_cause_name Malformed = MALFORMED.now
 
 -- the modules that the lines are, in their order
 abbrev pub modules_in : List (List ℕ) → List ListedModule

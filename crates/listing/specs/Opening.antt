@@ -14,10 +14,12 @@ use Rattle.modules.specs.declared.catalog.BuildCounts.{BuildCounts}
 use Rattle.listing.specs.ListingNotes.{all_notes, is_of_kallsyms, is_of_modules}
 use Rattle.listing.specs.Looks.{are_modules_hidden, are_symbols_hidden}
 use Rattle.listing.specs.ModuleListing.{module_counts, modules_in}
+use Rattle.listing.specs.Owners.{unlisted_owner}
 use Rattle.listing.specs.RegionListing.{regions_of_text}
 use Rattle.listing.specs.SymbolListing.{symbol_counts, symbols_in, symbols_with}
 use Rattle.listing.specs.declared.listing_notes.ListingNote.{ListingNote}
 use Rattle.listing.specs.declared.listing_notes.ListingNotes.{ListingNotes}
+use Rattle.listing.specs.declared.owners.Owner.{Owner}
 use Rattle.listing.specs.declared.opening.BuiltCatalog.{BuiltCatalog}
 use Rattle.listing.specs.declared.opening.Listings.{Listings}
 use Rattle.listing.specs.declared.opening.OpenedCatalog.{OpenedCatalog}
@@ -116,9 +118,9 @@ pub record Say (kernel : Option BoundNames) (mapping : Bool) (l : Listed) (c : C
 -- ---- what is noted
 
 -- the first note that applies to a listing of modules, if there is one beside that of symbols
-abbrev pub note_on_modules : Listed → CatalogEntries → Option ListingNote
-note_on_modules l c =
-    option_and_then (λ text. find (is_of_modules text l.kallsyms c) all_notes) l.modules
+abbrev pub note_on_modules : Bool → Listed → CatalogEntries → Option ListingNote
+note_on_modules mapping l c =
+    option_and_then (λ text. find (is_of_modules mapping text l.kallsyms c) all_notes) l.modules
 
 -- the first note that applies to a listing of symbols, of which so many lines are kept
 abbrev pub note_on_symbols : Option BoundNames → Bool → Listed → ℕ → Option ListingNote
@@ -130,7 +132,7 @@ note_on_symbols kernel mapping l kept =
 abbrev pub notes_of : Option BoundNames → Bool → Listed → CatalogEntries → BuildCounts
     → ListingNotes
 notes_of kernel mapping l c n = record {
-  modules = note_on_modules l c;
+  modules = note_on_modules mapping l c;
   kallsyms = note_on_symbols kernel mapping l n.symbols;
 }
 
@@ -140,17 +142,25 @@ notes_of kernel mapping l c n = record {
 abbrev pub hides_modules : Listed → Bool
 hides_modules l = option_map_or (λ text. are_modules_hidden (lines_of text)) l.modules false
 
+-- the owner of the first symbol that no listing of modules has, if there is one beside that of
+-- symbols
+abbrev pub unlisted_in : Bool → Listed → Option Owner
+unlisted_in mapping l =
+    option_and_then
+    (λ text. unlisted_owner (modules_in (lines_of text)) (symbols_of mapping l.kallsyms)) l.modules
+
 -- how many lines of the listing of modules are skipped, by cause, if there is one
 abbrev pub skipped_modules_of : Listed → Option (List ℕ)
 skipped_modules_of l = option_map (λ text. module_counts (lines_of text)) l.modules
 
 -- what was built, of symbols that may be kept, is what listings say
-pub record AreBuilt (kernel : Option BoundNames) (l : Listed) (symbols : List ListedSymbol)
-    (b : BuiltCatalog) : Type 0 where
+pub record AreBuilt (kernel : Option BoundNames) (mapping : Bool) (l : Listed)
+    (symbols : List ListedSymbol) (b : BuiltCatalog) : Type 0 where
   pub said : AreBy kernel l symbols l.modules b.catalog b.counts
   pub skipped : option_map (λ k. k.by_place) b.skipped ≡ skipped_modules_of l
   pub hidden : b.hidden ≡ hides_modules l
-  pub note : b.note ≡ note_on_modules l b.catalog
+  pub unlisted : b.unlisted ≡ unlisted_in mapping l
+  pub note : b.note ≡ note_on_modules mapping l b.catalog
 
 -- what was opened is what listings say
 pub record IsOpened (kernel : Option BoundNames) (mapping : Bool) (l : Listed) (o : OpenedCatalog)
@@ -160,6 +170,7 @@ pub record IsOpened (kernel : Option BoundNames) (mapping : Bool) (l : Listed) (
   pub skipped_symbols : o.skipped_symbols.by_place ≡ symbol_counts (lines_of l.kallsyms)
   pub has_regions : o.has_regions ≡ has_regions l
   pub modules_hidden : o.modules_hidden ≡ hides_modules l
+  pub unlisted : o.unlisted ≡ unlisted_in mapping l
   pub symbols_hidden : o.symbols_hidden ≡ are_symbols_hidden (lines_of l.kallsyms)
   pub usual : o.usual ≡ usual_bounds_of (symbols_of mapping l.kallsyms)
   pub notes : o.notes ≡ notes_of kernel mapping l o.catalog o.built

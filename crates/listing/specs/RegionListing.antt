@@ -1,12 +1,13 @@
 -- What a listing of regions says: the regions, or the number of the first line that is not in the
 -- grammar.
 use Rattle.std.specs.Prelude.{◌≡◌, ◌⊎◌, ℕ, Bool, true, false, nat_lt, if◌then◌else◌, List, [], ◌∷◌}
-use Rattle.std.specs.Prelude.{length, codes, Option, Some, None, Result, Err}
+use Rattle.std.specs.Prelude.{length, Option, Some, None, Result, Err}
 use Rattle.std.specs.Str.{bytes_eq}
 use Rattle.modules.specs.Lines.{region_fits}
 use Rattle.modules.specs.Listed.{ListedRegion}
 use Rattle.modules.specs.declared.lines.Part.{Part}
 use Rattle.modules.specs.declared.lines.Part.TheVariants.{Core, Init}
+use Rattle.listing.specs.declared.region_listing.TheConstants.{CORE, HEADER, INIT}
 use Rattle.texts.specs.Lines.{lines_of, words_of}
 use Rattle.texts.specs.Numbers.{number_of}
 use Rattle.texts.specs.Said.{entries_from}
@@ -15,8 +16,8 @@ use Rattle.texts.specs.Understood.{AreSaidBy, IsFirstBadFrom}
 -- the part of a module that a word names
 abbrev pub part_of : List ℕ → Option Part
 part_of word =
-    if bytes_eq word (codes "core") then Some Core
-    else if bytes_eq word (codes "init") then Some Init
+    if bytes_eq word CORE.now then Some Core
+    else if bytes_eq word INIT.now then Some Init
     else None
 
 -- a region, if there is one of so many bytes at this address
@@ -47,7 +48,7 @@ region_by line = region_of_words (words_of line)
 
 -- the first line of a listing of regions
 abbrev pub is_regions_header : List ℕ → Bool
-is_regions_header line = bytes_eq line (codes "latchregions 1")
+is_regions_header line = bytes_eq line HEADER.now
 
 -- line 1 is the header, even if there is no line
 abbrev pub regions_of_lines : List (List ℕ) → Result (List ListedRegion) ℕ

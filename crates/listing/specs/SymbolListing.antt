@@ -9,6 +9,7 @@ use Rattle.texts.specs.Lines.{longest_line}
 use Rattle.listing.specs.ModuleListing.{is_gap}
 use Rattle.texts.specs.Numbers.{numeral}
 use Rattle.listing.specs.Skipping.{counts_by, taken_by}
+use Rattle.listing.specs.declared.causes.TheConstants.{HIDDEN, LONG, MALFORMED}
 use Rattle.listing.specs.declared.symbol_listing.SkippedSymbol.{SkippedSymbol}
 use Rattle.listing.specs.declared.symbol_listing.SkippedSymbol.TheVariants.{Hidden, Long, Malformed}
 
@@ -63,6 +64,13 @@ symbol_of line =
     if nat_lt longest_line (length line) then Err Long
     else checked_symbol (symbol_before (cut_at 9 line) line)
 
+-- the module of a line, or none where it is of the kernel itself, if the line is well formed, with
+-- its address shown or hidden
+abbrev pub owner_in_line : List ℕ → Option (Option (List ℕ))
+owner_in_line line =
+    if nat_lt longest_line (length line) then None
+    else option_map (λ s. s.owner) (symbol_before (cut_at 9 line) line)
+
 -- the causes, in the order in which their counts are written
 abbrev pub symbol_causes : List SkippedSymbol
 symbol_causes = Hidden ∷ Long ∷ Malformed ∷ []
@@ -75,9 +83,9 @@ symbol_place Malformed = 2
 
 -- what a cause is called
 abbrev pub symbol_cause_name : SkippedSymbol → List ℕ
-symbol_cause_name Hidden = codes "hidden"
-symbol_cause_name Long = codes "long"
-symbol_cause_name Malformed = codes "malformed"
+symbol_cause_name Hidden = HIDDEN.now
+symbol_cause_name Long = LONG.now
+symbol_cause_name Malformed = MALFORMED.now
 
 -- the name is one of a mapping symbol, which marks code or data within a function: it begins with
 -- `$`, `.L` or `L0` (is_mapping_symbol of Linux 6.1)

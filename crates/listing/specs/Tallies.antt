@@ -9,6 +9,8 @@ use Rattle.listing.specs.SymbolListing.{symbol_cause_name, symbol_causes, symbol
 use Rattle.listing.specs.declared.module_listing.SkippedModule.TheVariants as module_cause
 use Rattle.listing.specs.declared.opening.OpenedCatalog.{OpenedCatalog}
 use Rattle.listing.specs.declared.symbol_listing.SkippedSymbol.TheVariants as symbol_cause
+use Rattle.listing.specs.declared.tallies.TheConstants.{DOUBLE, MODULES, OVERLAP, REGIONS, STRAY}
+use Rattle.listing.specs.declared.tallies.TheConstants.{SYMBOLS}
 use Rattle.modules.specs.declared.catalog.BuildCounts.{BuildCounts}
 
 -- what is listed, how much of it is kept, and what else is counted, each with its name
@@ -31,12 +33,12 @@ rows_of place name counts causes = map (λ c. (name c, slice_index counts (place
 -- form, which is that it is long
 abbrev pub modules_tally : List ℕ → BuildCounts → Tally
 modules_tally skipped built = record {
-  title = codes "modules";
+  title = MODULES.now;
   kept = built.modules;
   rows =
       rows_of module_place module_cause_name skipped
       (take (module_place module_cause.Long) module_causes)
-      ++ (codes "overlap", built.overlap) ∷ (codes "double", built.double)
+      ++ (OVERLAP.now, built.overlap) ∷ (DOUBLE.now, built.double)
       ∷ rows_of module_place module_cause_name skipped
       (drop (module_place module_cause.Long) module_causes);
 }
@@ -44,12 +46,12 @@ modules_tally skipped built = record {
 -- of a listing of symbols, of which so many are kept or stray
 abbrev pub symbols_tally : List ℕ → ℕ → ℕ → Tally
 symbols_tally skipped kept stray = record {
-  title = codes "symbols";
+  title = SYMBOLS.now;
   kept = kept;
   rows =
       rows_of symbol_place symbol_cause_name skipped
       (take (symbol_place symbol_cause.Long) symbol_causes)
-      ++ (codes "stray", stray)
+      ++ (STRAY.now, stray)
       ∷ rows_of symbol_place symbol_cause_name skipped
       (drop (symbol_place symbol_cause.Long) symbol_causes);
 }
@@ -57,17 +59,17 @@ symbols_tally skipped kept stray = record {
 -- of a listing of regions: how many lines a module has its regions from, and how many none has
 abbrev pub regions_tally : BuildCounts → Tally
 regions_tally built = record {
-  title = codes "regions";
+  title = REGIONS.now;
   kept = built.regions;
-  rows = (codes "stray", built.stray_regions) ∷ [];
+  rows = (STRAY.now, built.stray_regions) ∷ [];
 }
 
 -- how many modules a listing of symbols alone has, and how many regions these have
 abbrev pub found_tally : BuildCounts → Tally
 found_tally built = record {
-  title = codes "modules";
+  title = MODULES.now;
   kept = built.modules;
-  rows = (codes "regions", built.regions) ∷ [];
+  rows = (REGIONS.now, built.regions) ∷ [];
 }
 
 -- of a listing of modules, of which so many lines are skipped, or of symbols alone, and of one of

@@ -5,6 +5,17 @@ ghost use Rattle.listing.specs.Skipping.{counts_by, one_more_at, taken_by};
 
 use std::marker::PhantomData;
 
+// what causes are called
+pub(crate) const HIDDEN: &str = "hidden";
+
+pub(crate) const EMPTY: &str = "empty";
+
+pub(crate) const WRAPS: &str = "wraps";
+
+pub(crate) const LONG: &str = "long";
+
+pub(crate) const MALFORMED: &str = "malformed";
+
 /// A cause for which a line of a listing is skipped, one of N.
 pub trait Cause<const N: usize>: Copy {
     ghost use Rattle.std.specs.Prelude.{◌≡◌, ℕ, ◌<◌, List, Some, map, slice_get};

@@ -11,6 +11,11 @@ ghost use Rattle.listing.specs.SymbolListing.{symbol_of, symbols_in};
 use crate::symbol_listing::{cut_tabbed_line, symbol_of_line};
 use std::alloc::{AllocError, Global};
 
+// the symbols that may be at the kernel's first address
+const TEXT: &[u8] = b"_text";
+
+const STEXT: &[u8] = b"_stext";
+
 /// Whether a listing has a symbol whose address is not hidden. It is read up to the first.
 pub fn shows_symbol(text: &[u8]) -> bool
     ensures { result ≡ shows_symbol (lines_of text.now) }
@@ -39,9 +44,9 @@ fn is_shown(line: &[u8], tab: Option<usize>) -> bool
 pub fn kernel_base(text: &[u8]) -> Option<u64>
     ensures { result ≡ kernel_base (lines_of text.now) }
 {
-    match first_address(text, b"_text") {
+    match first_address(text, TEXT) {
         Some(addr) => Some(addr),
-        None => first_address(text, b"_stext"),
+        None => first_address(text, STEXT),
     }
 }
 

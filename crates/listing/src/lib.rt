@@ -11,8 +11,10 @@ mod laws;
 mod listing_notes;
 mod looks;
 mod module_listing;
+mod note_texts;
 mod opening;
 mod overlaps;
+mod owners;
 mod region_listing;
 mod symbol_listing;
 mod tallies;
@@ -27,13 +29,16 @@ pub use laws::{
     regions_by_their_lines,
 };
 pub use listing_notes::{
-    ListingNote, ListingNotes, SymbolFacts, applies_to_kallsyms, applies_to_modules,
+    ListingNote, ListingNotes, ModuleFacts, SymbolFacts, applies_to_kallsyms, applies_to_modules,
 };
 pub use looks::{are_modules_hidden, are_symbols_hidden, is_gzip, is_narrow, is_utf_16};
 pub use module_listing::{ModuleCounts, SkippedModule, read_modules};
+pub use note_texts::{ended_text, plain_text};
 pub use opening::{Listings, OpenedCatalog, open};
+pub use owners::Owner;
 pub use region_listing::read_regions;
 pub use symbol_listing::{
-    SkippedSymbol, SymbolCounts, cut, cut_tabbed_line, is_mapping, read_kallsyms, symbol_of_line,
+    SkippedSymbol, SymbolCounts, cut, cut_tabbed_line, is_mapping, module_of_line, read_kallsyms,
+    symbol_of_line,
 };
 pub use tallies::{LineTallies, LineTally, Row, put_counts};

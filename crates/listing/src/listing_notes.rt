@@ -7,7 +7,9 @@ ghost use Rattle.std.specs.Prelude.{◌≡◌, find, true};
 ghost use Rattle.std.specs.Option.{option_copied};
 ghost use Rattle.texts.specs.Lines.{lines_of};
 ghost use Rattle.listing.specs.Looks.{are_modules_hidden, are_symbols_hidden};
-ghost use Rattle.listing.specs.SymbolListing.{symbols_in};
+ghost use Rattle.listing.specs.ModuleListing.{modules_in};
+ghost use Rattle.listing.specs.Owners.{unlisted_owner};
+ghost use Rattle.listing.specs.SymbolListing.{symbols_in, symbols_with};
 ghost use Rattle.listing.specs.ListingNotes.{all_notes, has_symbols, HasBounds};
 ghost use Rattle.listing.specs.ListingNotes.{is_of_kallsyms, is_of_modules, is_some_noted};
 ghost use Rattle.listing.specs.ListingNotes.{lacks_symbol, lacks_symbols, no_notes};
@@ -17,6 +19,7 @@ use crate::looks::{
     lacks_symbol_lines, looks_like_modules, looks_like_symbols,
 };
 use crate::overlaps::do_modules_overlap;
+use crate::owners::Owner;
 use modules::{Catalog, KernelBounds, Module};
 
 /// What is noted of a listing. The notes are in the order in which the first that applies to a
@@ -49,6 +52,8 @@ pub enum ListingNote {
     NoModuleLine,
     /// There are bytes, and no line is well formed in a listing of symbols.
     NoSymbolLine,
+    /// A symbol is of what no listing of modules has; the first such is of this owner.
+    UnlistedOwner(Owner),
 }
 
 /// The first note that applies to each listing, if one does.
@@ -59,7 +64,7 @@ pub struct ListingNotes {
 }
 
 /// All notes, in the order in which the first that applies to a listing is sought.
-const ALL: [ListingNote; 13] = [
+const ALL: [ListingNote; 16] = [
     ListingNote::Empty,
     ListingNote::Gzip,
     ListingNote::Utf16,
@@ -73,6 +78,9 @@ const ALL: [ListingNote; 13] = [
     ListingNote::ModulesOverlap,
     ListingNote::NoModuleLine,
     ListingNote::NoSymbolLine,
+    ListingNote::UnlistedOwner(Owner::Bpf),
+    ListingNote::UnlistedOwner(Owner::Ftrace),
+    ListingNote::UnlistedOwner(Owner::Kprobes),
 ];
 
 impl ListingNote {
@@ -127,28 +135,42 @@ fn has_symbols(found: Option<&Module>) -> bool
     }
 }
 
+/// What is known of a listing of modules once it is read.
+#[derive(Clone, Copy, Drop)]
+pub struct ModuleFacts {
+    /// All well-formed lines are hidden, and there is one.
+    pub hidden: bool,
+    /// Mapping symbols may be kept.
+    pub with_mapping: bool,
+    /// The owner of the first symbol that may be kept and is of what no listing of modules has.
+    pub unlisted: Option<Owner>,
+}
+
 /// Whether a note applies to a listing of modules with this text beside one of symbols, if this
-/// catalog is built of both, and all its well-formed lines are hidden or not.
+/// catalog is built of both and this is known.
 pub fn applies_to_modules(
     note: ListingNote,
     text: &[u8],
     kallsyms: &[u8],
-    hidden: bool,
+    known: ModuleFacts,
     catalog: &Catalog,
 ) -> bool
-    requires { hidden ≡ are_modules_hidden (lines_of text.now) }
-    ensures { result ≡ is_of_modules text.now kallsyms.now catalog.now note }
+    requires hidden { known.hidden ≡ are_modules_hidden (lines_of text.now) }
+    requires unlisted { known.unlisted ≡ unlisted_owner (modules_in (lines_of text.now))
+        (symbols_with known.with_mapping (symbols_in (lines_of kallsyms.now))) }
+    ensures { result ≡ is_of_modules known.with_mapping text.now kallsyms.now catalog.now note }
 {
     let none = catalog.len() == 0;
     match note {
         ListingNote::Gzip => is_gzip(text),
         ListingNote::Utf16 => is_utf_16(text),
-        ListingNote::AllHidden => hidden,
+        ListingNote::AllHidden => known.hidden,
         ListingNote::LooksLikeSymbols => none && looks_like_symbols(text),
         ListingNote::LinesEndInCrLf => none && first_line_ends_in_cr(text),
         ListingNote::OtherBoot => lacks_symbols(catalog),
         ListingNote::ModulesOverlap => do_modules_overlap(text, kallsyms, catalog),
         ListingNote::NoModuleLine => none && lacks_module_lines(text),
+        ListingNote::UnlistedOwner(owner) => owner.is(known.unlisted),
         ListingNote::Empty
         | ListingNote::LooksLikeModules
         | ListingNote::NoStart
@@ -161,14 +183,17 @@ pub fn applies_to_modules(
 pub fn note_of_modules(
     text: &[u8],
     kallsyms: &[u8],
-    hidden: bool,
+    known: ModuleFacts,
     catalog: &Catalog,
 ) -> Option<ListingNote>
-    requires { hidden ≡ are_modules_hidden (lines_of text.now) }
-    ensures { result ≡ find (is_of_modules text.now kallsyms.now catalog.now) all_notes }
+    requires hidden { known.hidden ≡ are_modules_hidden (lines_of text.now) }
+    requires unlisted { known.unlisted ≡ unlisted_owner (modules_in (lines_of text.now))
+        (symbols_with known.with_mapping (symbols_in (lines_of kallsyms.now))) }
+    ensures { result
+        ≡ find (is_of_modules known.with_mapping text.now kallsyms.now catalog.now) all_notes }
 {
     ListingNote::all().iter().copied().find(|note| applies_to_modules(
-        *note, text, kallsyms, hidden, catalog,
+        *note, text, kallsyms, known, catalog,
     ))
 }
 
@@ -213,7 +238,8 @@ pub fn applies_to_kallsyms(
         ListingNote::LooksLikeSymbols
         | ListingNote::OtherBoot
         | ListingNote::ModulesOverlap
-        | ListingNote::NoModuleLine => false,
+        | ListingNote::NoModuleLine
+        | ListingNote::UnlistedOwner(_) => false,
     }
 }
 

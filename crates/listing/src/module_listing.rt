@@ -18,7 +18,7 @@ ghost use Rattle.listing.specs.declared.module_listing.SkippedModule.TheVariants
 ghost use Rattle.listing.specs.declared.module_listing.SkippedModule.TheVariants.{Malformed};
 ghost use Rattle.modules.specs.Lines.{fits};
 
-use crate::causes::{Cause, Counts};
+use crate::causes::{Cause, Counts, EMPTY, HIDDEN, LONG, MALFORMED, WRAPS};
 use crate::gaps::first_words;
 use modules::ModuleLine;
 use std::alloc::{AllocError, Global};
@@ -66,11 +66,11 @@ impl Cause<5> for SkippedModule {
 
     fn name(self) -> &'static str {
         match self {
-            SkippedModule::Hidden => "hidden",
-            SkippedModule::Empty => "empty",
-            SkippedModule::Wraps => "wraps",
-            SkippedModule::Long => "long",
-            SkippedModule::Malformed => "malformed",
+            SkippedModule::Hidden => HIDDEN,
+            SkippedModule::Empty => EMPTY,
+            SkippedModule::Wraps => WRAPS,
+            SkippedModule::Long => LONG,
+            SkippedModule::Malformed => MALFORMED,
         }
     }
 

@@ -16,12 +16,14 @@ ghost use Rattle.texts.specs.Said.{GivesInGrammar};
 ghost use Rattle.modules.specs.Catalogs.{IsBuildRefusal};
 ghost use Rattle.modules.specs.Lines.{region_fits};
 ghost use Rattle.listing.specs.Opening.{AreBuilt, IsOpened, lines_beside, listed_in, listings_of};
+ghost use Rattle.listing.specs.Opening.{symbols_of};
 
 use crate::listing_notes::{
-    ListingNote, ListingNotes, SymbolFacts, note_of_kallsyms, note_of_modules,
+    ListingNote, ListingNotes, ModuleFacts, SymbolFacts, note_of_kallsyms, note_of_modules,
 };
 use crate::looks::{are_modules_hidden, are_symbols_hidden};
 use crate::module_listing::{ModuleCounts, read_modules};
+use crate::owners::{Owner, unlisted_owner};
 use crate::region_listing::read_regions;
 use crate::symbol_listing::{SymbolCounts, read_kallsyms};
 use modules::{BuildCounts, Catalog, ExpectedLookups, KernelBounds, RegionLine, SymbolLines};
@@ -94,6 +96,9 @@ pub struct OpenedCatalog<'a> {
     pub has_regions: bool,
     /// There is a well-formed line of a listing of modules, and all of them are hidden.
     pub modules_hidden: bool,
+    /// The owner of the first symbol that may be kept and is of what no listing of modules has, if
+    /// there is such a listing.
+    pub unlisted: Option<Owner>,
     /// There is a well-formed line of the listing of symbols, and all of them are hidden.
     pub symbols_hidden: bool,
     /// The usual names of both bounds of the kernel, as far as the listing of symbols has them.
@@ -109,6 +114,7 @@ struct BuiltCatalog<'a> {
     counts: BuildCounts,
     skipped: Option<ModuleCounts>,
     hidden: bool,
+    unlisted: Option<Owner>,
     note: Option<ListingNote>,
 }
 
@@ -122,17 +128,21 @@ fn lines_in<'i, 'a>(listings: &'i Listings<'a>) -> &'i [RegionLine<'a>]
     }
 }
 
-/// Builds the catalog that the listings say, of whose symbols these may be kept.
+/// Builds the catalog that the listings say, of whose symbols these may be kept, with mapping symbols
+/// or without.
 fn build<'a>(
     alloc: Global,
     listings: &Listings<'a>,
     kernel: Option<&KernelBounds>,
     symbols: SymbolLines<'a>,
+    with_mapping: bool,
     asked: ExpectedLookups<'_>,
 ) -> Result<BuiltCatalog<'a>, Refusal>
-    requires { All (λ r. region_fits r ≡ true) (unwrap_or (listed_in listings.now).regions []) }
-    ensures built { IfOk result
-        (AreBuilt (option_copied kernel.entry) (listed_in listings.now) symbols.entry) }
+    requires fit { All (λ r. region_fits r ≡ true)
+        (unwrap_or (listed_in listings.now).regions []) }
+    requires kept { symbols ≡ symbols_of with_mapping listings.now.kallsyms.now }
+    ensures built { IfOk result (AreBuilt (option_copied kernel.entry) with_mapping
+        (listed_in listings.now) symbols.entry) }
     ensures refusal { IfErr result (IsBuildRefusal (lines_beside (listed_in listings.now))) }
 {
     let Some(text) = listings.modules else {
@@ -142,19 +152,25 @@ fn build<'a>(
             counts,
             skipped: None,
             hidden: false,
+            unlisted: None,
             note: None,
         });
     };
     let (lines, skipped) = read_modules(alloc, text)?;
-    let hidden = are_modules_hidden(lines.len(), &skipped);
+    let facts = ModuleFacts {
+        hidden: are_modules_hidden(lines.len(), &skipped),
+        with_mapping,
+        unlisted: unlisted_owner(text, &symbols),
+    };
     let regions = lines_in(listings);
     let (catalog, counts) = Catalog::build(alloc, kernel, &lines, regions, symbols, asked)?;
-    let note = note_of_modules(text, listings.kallsyms, hidden, &catalog);
+    let note = note_of_modules(text, listings.kallsyms, facts, &catalog);
     Ok(BuiltCatalog {
         catalog,
         counts,
         skipped: Some(skipped),
-        hidden,
+        hidden: facts.hidden,
+        unlisted: facts.unlisted,
         note,
     })
 }
@@ -179,7 +195,7 @@ pub fn open<'a>(
     let usual = symbols.lines.usual_bounds();
     let names = kernel.unwrap_or(&usual);
     let has_kernel = symbols.lines.has_region(names);
-    let built = build(alloc, listings, kernel, symbols.lines, asked)?;
+    let built = build(alloc, listings, kernel, symbols.lines, with_mapping, asked)?;
     let counts = built.counts.of_listed(symbols.listed);
     let facts = SymbolFacts {
         is_alone: listings.modules.is_none(),
@@ -198,6 +214,7 @@ pub fn open<'a>(
         skipped_symbols: symbols.skipped,
         has_regions: listings.has_regions(),
         modules_hidden: built.hidden,
+        unlisted: built.unlisted,
         symbols_hidden: facts.hidden,
         usual,
         notes,

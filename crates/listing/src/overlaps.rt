@@ -72,7 +72,7 @@ fn names_left_out(text: &[u8], catalog: &Catalog, symbol: &SymbolLine) -> bool
 }
 
 /// Whether a listed module has the name.
-fn is_listed_name(text: &[u8], name: &[u8]) -> bool
+pub(crate) fn is_listed_name(text: &[u8], name: &[u8]) -> bool
     ensures { result ≡ is_listed_name (modules_in (lines_of text.now)) name.now }
 {
     let mut rest = text;

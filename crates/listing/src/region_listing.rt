@@ -20,13 +20,21 @@ use modules::{Part, RegionLine};
 use std::alloc::{AllocError, Global};
 use texts::{Form, LineFault, cut_line, entries_in, number, words_in};
 
+/// The first line.
+const HEADER: &[u8] = b"latchregions 1";
+
+// the parts of a module
+const CORE: &[u8] = b"core";
+
+const INIT: &[u8] = b"init";
+
 /// The part of a module that a word names.
 fn part_named(word: &[u8]) -> Option<Part>
     ensures { result ≡ part_of word.now }
 {
-    if word == b"core".as_slice() {
+    if word == CORE {
         Some(Part::Core)
-    } else if word == b"init".as_slice() {
+    } else if word == INIT {
         Some(Part::Init)
     } else {
         None
@@ -97,7 +105,7 @@ pub fn read_regions<'a>(alloc: Global, text: &'a [u8]) -> Result<Vec<RegionLine<
         return Err(LineFault::BadLine(1));
     }
     let (first, rest) = cut_line(text);
-    if first != b"latchregions 1".as_slice() {
+    if first != HEADER {
         return Err(LineFault::BadLine(1));
     }
     entries_in(alloc, &RegionForm, 2, rest)

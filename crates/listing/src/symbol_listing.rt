@@ -14,13 +14,13 @@ ghost use Rattle.memchr.specs.Find.{IsFirst, IsFirstByte, Passes, is_byte};
 ghost use Rattle.std.specs.Option.{option_copied, option_map};
 ghost use Rattle.texts.specs.Lines.{lines_of};
 ghost use Rattle.listing.specs.SymbolListing.{address_in, bracketed, cut_at, is_mapping};
-ghost use Rattle.listing.specs.SymbolListing.{symbol_before, symbol_cause_name, symbol_causes};
+ghost use Rattle.listing.specs.SymbolListing.{owner_in_line, symbol_before, symbol_cause_name, symbol_causes};
 ghost use Rattle.listing.specs.SymbolListing.{symbol_counts, symbol_of, symbol_of_text};
 ghost use Rattle.listing.specs.SymbolListing.{symbol_place, symbols_in, symbols_with};
 ghost use Rattle.listing.specs.declared.symbol_listing.SkippedSymbol.TheVariants.{Hidden, Long};
 ghost use Rattle.listing.specs.declared.symbol_listing.SkippedSymbol.TheVariants.{Malformed};
 
-use crate::causes::{Cause, Counts};
+use crate::causes::{Cause, Counts, HIDDEN, LONG, MALFORMED};
 use memchr::{memchr, memchr2};
 use modules::{SymbolLine, SymbolLines};
 use std::alloc::{AllocError, Global};
@@ -62,9 +62,9 @@ impl Cause<3> for SkippedSymbol {
 
     fn name(self) -> &'static str {
         match self {
-            SkippedSymbol::Hidden => "hidden",
-            SkippedSymbol::Long => "long",
-            SkippedSymbol::Malformed => "malformed",
+            SkippedSymbol::Hidden => HIDDEN,
+            SkippedSymbol::Long => LONG,
+            SkippedSymbol::Malformed => MALFORMED,
         }
     }
 
@@ -202,6 +202,19 @@ pub fn symbol_of_line<'a>(
         Err(SkippedSymbol::Hidden)
     } else {
         Ok(symbol)
+    }
+}
+
+/// The module of a line whose first tab is at this place, or none if it is one of the kernel itself;
+/// of a line that is well formed, with its address shown or hidden.
+pub fn module_of_line<'a>(line: &'a [u8], tab: Option<usize>) -> Option<Option<&'a [u8]>>
+    requires { IsFirstByte (is_byte 9) line.now tab }
+    ensures { option_map (λ m. option_copied m) result ≡ owner_in_line line.now }
+{
+    if line.len() <= LONGEST_LINE {
+        Some(symbol_in_form(line, tab)?.module)
+    } else {
+        None
     }
 }
 

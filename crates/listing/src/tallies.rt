@@ -15,6 +15,19 @@ use std::io::Write;
 use std::marker::Model;
 use texts::Output;
 
+// what is listed, and what else is counted
+const MODULES: &str = "modules";
+
+const SYMBOLS: &str = "symbols";
+
+const REGIONS: &str = "regions";
+
+const OVERLAP: &str = "overlap";
+
+const DOUBLE: &str = "double";
+
+const STRAY: &str = "stray";
+
 /// The most rows of a tally: those of a listing of modules.
 const MOST_ROWS: usize = 7;
 
@@ -138,10 +151,10 @@ fn modules_tally(skipped: &ModuleCounts, built: &BuildCounts) -> LineTally
     ensures { result ≡ modules_tally skipped.now.by_place built.now }
 {
     let (of_content, of_form) = SkippedModule::all().split_at(SkippedModule::Long.place());
-    let mut tally = LineTally::new("modules", built.modules);
+    let mut tally = LineTally::new(MODULES, built.modules);
     tally.add_causes(of_content, skipped);
-    tally.add("overlap", built.overlap);
-    tally.add("double", built.double);
+    tally.add(OVERLAP, built.overlap);
+    tally.add(DOUBLE, built.double);
     tally.add_causes(of_form, skipped);
     tally
 }
@@ -151,9 +164,9 @@ fn symbols_tally(skipped: &SymbolCounts, kept: u64, stray: u64) -> LineTally
     ensures { result ≡ symbols_tally skipped.now.by_place kept stray }
 {
     let (of_content, of_form) = SkippedSymbol::all().split_at(SkippedSymbol::Long.place());
-    let mut tally = LineTally::new("symbols", kept);
+    let mut tally = LineTally::new(SYMBOLS, kept);
     tally.add_causes(of_content, skipped);
-    tally.add("stray", stray);
+    tally.add(STRAY, stray);
     tally.add_causes(of_form, skipped);
     tally
 }
@@ -162,8 +175,8 @@ fn symbols_tally(skipped: &SymbolCounts, kept: u64, stray: u64) -> LineTally
 fn regions_tally(built: &BuildCounts) -> LineTally
     ensures { result ≡ regions_tally built.now }
 {
-    let mut tally = LineTally::new("regions", built.regions);
-    tally.add("stray", built.stray_regions);
+    let mut tally = LineTally::new(REGIONS, built.regions);
+    tally.add(STRAY, built.stray_regions);
     tally
 }
 
@@ -171,8 +184,8 @@ fn regions_tally(built: &BuildCounts) -> LineTally
 fn found_tally(built: &BuildCounts) -> LineTally
     ensures { result ≡ found_tally built.now }
 {
-    let mut tally = LineTally::new("modules", built.modules);
-    tally.add("regions", built.regions);
+    let mut tally = LineTally::new(MODULES, built.modules);
+    tally.add(REGIONS, built.regions);
     tally
 }
 

@@ -9,7 +9,7 @@ use Rattle.logs.proofs.TextLemmas.{later_occurs, no_begin}
 abbrev head : List ℕ
 head = codes "Kernel Offset: 0x"
 
-never_said : (log : List ℕ) → ((k : ℕ) → OccursAt log head k → ⊥) → kernel_offset_in log ≡ None
+pub never_said : (log : List ℕ) → ((k : ℕ) → OccursAt log head k → ⊥) → kernel_offset_in log ≡ None
 never_said [] none = refl
 never_said (b ∷ log) none = rw (no_begin (b ∷ log) head none, never_said log (λ k at. none (suc k) (later_occurs b log head k at))) refl
 

@@ -8,6 +8,10 @@ pub mod AnnotationLemmas
 pub mod TextLemmas
 -- a log that does not say where its kernel lay
 pub mod KernelOffsetLemmas
+-- a line in which a text is inserted
+pub mod InsertionLemmas
+-- a line that says nothing of its kernel
+pub mod KernelReportLemmas
 -- the things that begin a line
 pub mod PlaceLemmas
 -- words that are too short, and leaps over them

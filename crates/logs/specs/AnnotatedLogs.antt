@@ -7,7 +7,7 @@ use Rattle.std.specs.List.{list_any}
 use Rattle.std.specs.Option.{option_map_or}
 use Rattle.logs.specs.Answering.{Answering}
 use Rattle.logs.specs.Lines.{is_long, lines}
-use Rattle.logs.specs.LogNames.{no_names, with_address}
+use Rattle.logs.specs.LogNames.{no_names, with_address, with_line}
 use Rattle.logs.specs.OwnNames.{as_read, insertion, text_for}
 use Rattle.logs.specs.TakenWords.{begins_user, ends_trace, is_user_line, next_first}
 use Rattle.logs.specs.TakenWords.{taken_among, taken_in, tells_place}
@@ -60,7 +60,7 @@ held_behind answer held line =
           next_first held.first (list_any (λ t. t.is_frame) taken) (tells_place line)
           (ends_trace line);
       is_user = is_user_line held line || begins_user line;
-      names = counted answer line held.names taken;
+      names = with_line answer line (counted answer line held.names taken);
     }
 
 -- lines with their texts; and what is carried on after them

@@ -14,5 +14,8 @@ pub record Answering : Type 0 where
   pub is_offset : Bool → ℕ → ℕ → Bool
   -- data begins at an address
   pub is_data : ℕ → Bool
+  -- Of the functions of the kernel itself with this name, one has this size; or there is none with
+  -- this name.
+  pub has_size : List ℕ → ℕ → Option Bool
   -- an address is not below all that the listing has
   pub is_in_range : ℕ → Bool

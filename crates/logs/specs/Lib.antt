@@ -8,14 +8,18 @@ pub mod Words
 pub mod Places
 -- how the address words of a line are taken
 pub mod TakenWords
--- what a log says itself of its addresses
+-- the name that a log says of an address, after it
+pub mod SaidNames
+-- which reading of an address the log names, and what is inserted
 pub mod OwnNames
+-- what a log says itself of where its kernel lay
+pub mod KernelOffsets
+-- what it says of the kernel that wrote it: where it lay, and the sizes of its functions
+pub mod KernelReports
 -- the names that a log has itself, and how many there are
 pub mod LogNames
 -- what is carried from line to line, and a log with the answers' texts, put word by word
 pub mod AnnotatedLogs
--- what a log says itself of where its kernel lay
-pub mod KernelOffsets
 -- what was read of a log, and what was written for it
 pub mod Annotation
 -- lines that nothing names, and which lines ask for names

@@ -1,5 +1,6 @@
 -- The lines of a log.
 use Rattle.std.specs.Prelude.{◌≡◌, ℕ, Bool, List, [], ◌∷◌, ◌++◌, ◌==◌, if◌then◌else◌, false, length, nat_lt}
+use Rattle.std.specs.Prelude.{Option, Some, None}
 use Rattle.std.specs.List.{list_any, onto_first}
 
 -- A line has the byte 10 that ends it. The bytes after the last end, if there are any, are a line
@@ -11,6 +12,10 @@ lines (b ∷ bytes) = if b == 10 then (b ∷ []) ∷ lines bytes else onto_first
 -- a line has more bytes than one that is annotated
 abbrev pub is_long : List ℕ → Bool
 is_long line = nat_lt 65536 (length line)
+
+-- a line, unless it is such a one
+abbrev pub unless_long : List ℕ → Option (List ℕ)
+unless_long line = if is_long line then None else Some line
 
 -- whether a line ends among the bytes
 abbrev pub has_end : List ℕ → Bool

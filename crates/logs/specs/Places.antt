@@ -28,8 +28,9 @@ is_of kind.Tag b = is_word_byte b || b == 47 || b == 35
 is_of kind.Colour b = is_digit b 10 || b == 59
 is_of kind.Said b = nat_lt 32 b && not (b == 40 || b == 41)
 is_of kind.Group b = not (b == 91 || b == 93 || b == 60 || b == 62)
-is_of kind.Name b = nat_lt 32 b && not (b == 43)
+is_of kind.Name b = nat_lt 32 b && not (b == 40 || b == 41 || b == 43)
 is_of kind.Hexadecimal b = is_digit b 16
+is_of kind.Function b = is_word_byte b || b == 46 || b == 36
 
 -- how many bytes of a kind the bytes begin with, and how many they end in
 abbrev pub first_of : Kind → List ℕ → ℕ

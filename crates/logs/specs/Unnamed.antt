@@ -18,6 +18,7 @@ unanswered narrow = record {
   is_alias = λ caller addr name. false;
   is_offset = λ caller addr offset. false;
   is_data = λ addr. false;
+  has_size = λ name size. None;
   is_in_range = λ addr. false;
 }
 

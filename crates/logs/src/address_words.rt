@@ -11,6 +11,7 @@
 ghost use Rattle.std.specs.Prelude.{◌≡◌, ◌≤◌, ◌<◌, ◌||◌, ◌==◌, drop, false, length, reverse};
 ghost use Rattle.std.specs.List.{list_any};
 ghost use Rattle.std.specs.Option.{option_map_or};
+ghost use Rattle.memchr.specs.Find.{IsFirstByte, is_byte3};
 ghost use Rattle.logs.specs.TakenWords.{begins_dump, begins_pair, begins_user, continues_trace};
 ghost use Rattle.logs.specs.TakenWords.{ends_pair, ends_trace, ends_user};
 ghost use Rattle.logs.specs.TakenWords.{gap_before, has_bracket, has_bus_label, has_code};
@@ -464,15 +465,17 @@ fn next_first(first: First, has_frame: bool, tells: bool, line: &[u8]) -> First
     }
 }
 
-/// Carries on after a line with a frame or without one. Mostly the line has no `P` at all.
-#[tactic(auto, using(crate::proofs::TextLemmas::no_place, crate::proofs::TextLemmas::no_user))]
-pub(crate) fn carry_on(held: &mut LogContext, line: &[u8], has_frame: bool)
+/// Carries on after a line with a frame or without one. Mostly the line has no `P`, and no other of
+/// the bytes that were sought in it.
+#[tactic(auto, using(crate::proofs::TextLemmas::no_place, crate::proofs::TextLemmas::no_begin_of_user))]
+pub(crate) fn carry_on(held: &mut LogContext, line: &[u8], mark: Option<usize>, has_frame: bool)
+    requires { IsFirstByte (is_byte3 80 75 43) line.now mark }
     ensures first { held.new.first
         ≡ next_first held.old.first has_frame (tells_place line.now) (ends_trace line.now) }
     ensures user { held.new.is_user ≡ (is_user_line held.old line.now || begins_user line.now) }
     ensures names { held.new.names ≡ held.old.names }
 {
-    match memchr(b'P', line) {
+    match mark {
         Some(_) => {
             held.is_user = is_user_line(*held, line) || begins_user(line);
             held.first = next_first(held.first, has_frame, tells_place(line), line);

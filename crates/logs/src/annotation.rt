@@ -63,11 +63,11 @@ pub fn keep_head(head: &mut Vec<u8>, block: &[u8]) -> Result<(), AllocError>
 /// the annotated log.
 pub fn annotate<A: Answers, R: Read, W: Write>(
     alloc: Global,
-    answers: &A,
+    answers: &mut A,
     reader: &mut Counted<R>,
     writer: &mut Output<W>,
 ) -> Result<Findings, LogFault>
-    ensures { Annotates R.remaining W.contents (A.answering answers.now)
+    ensures { Annotates R.remaining W.contents (A.answering answers.old)
         reader.old reader.new writer.old writer.new result }
 {
     let mut room = Vec::new(alloc);
@@ -84,6 +84,7 @@ pub fn annotate<A: Answers, R: Read, W: Write>(
             return Ok(Findings { names, head });
         }
         keep_head(&mut head, &block[..count])?;
+        answers.prepare(&block[..count])?;
         annotator.pass(alloc, answers, &block[..count], writer)?;
     }
     Err(LogFault::TooLong)
@@ -93,15 +94,16 @@ pub fn annotate<A: Answers, R: Read, W: Write>(
 /// Nothing is written if memory runs out.
 pub fn annotate_text<A: Answers, W: Write>(
     alloc: Global,
-    answers: &A,
+    answers: &mut A,
     log: &[u8],
     writer: &mut Output<W>,
 ) -> Result<Findings, LogFault>
-    ensures { Puts W.contents (IsAnnotationOf (A.answering answers.now) log.now)
+    ensures { Puts W.contents (IsAnnotationOf (A.answering answers.old) log.now)
         writer.old writer.new result }
 {
     let mut head = Vec::new(alloc);
     keep_head(&mut head, log)?;
+    answers.prepare(log)?;
     let (out, names) = Annotator::annotated(alloc, answers, log)?;
     put_now(writer, &out)?;
     Ok(Findings { names, head })

@@ -11,13 +11,14 @@
 //!
 //! So each line is named as a whole, by what answers when its end comes.
 ghost use Rattle.std.specs.Prelude.{◌≡◌, ℕ, List, ◌<◌, ◌++◌, [], false, length};
-ghost use Rattle.std.specs.Prelude.{IfErr, IfNone, IfOk, IfSome, OnErr};
+ghost use Rattle.std.specs.Prelude.{IfErr, IfNone, IfOk, IfSome, OnErr, option_map};
+ghost use Rattle.std.specs.Cow.{cow_slice_items};
 ghost use Rattle.texts.specs.Output.{Delivered, WrotePart, error_in};
 ghost use Rattle.logs.specs.Answering.{Answering};
 ghost use Rattle.logs.specs.AnnotatedLogs.{first_held};
 ghost use Rattle.logs.specs.Annotation.{Adds, Ends, IsAnnotation, IsOpen, IsWriteFault, Passes};
 ghost use Rattle.logs.specs.Annotation.{Puts, held_in};
-ghost use Rattle.logs.specs.Lines.{IsLine, has_end};
+ghost use Rattle.logs.specs.Lines.{IsLine, has_end, unless_long};
 ghost use Rattle.logs.specs.Unnamed.{EndsUnnamed, PassesUnnamed, ends_address, has_address};
 
 use crate::annotation::LogFault;
@@ -28,6 +29,7 @@ use crate::log_names::LogNames;
 use crate::unnamed::{Unanswered, ends_address, has_address};
 use memchr::memchr;
 use std::alloc::{AllocError, Global};
+use std::borrow::CowSlice;
 use std::io;
 use std::io::Write;
 use texts::Output;
@@ -170,6 +172,30 @@ impl Annotator {
         Ok(has_address(is_narrow, &whole))
     }
 
+    /// The line that these bytes end, from its beginning on, unless it is too long to be annotated.
+    pub fn ended_line<'l>(
+        &self,
+        alloc: Global,
+        line: &'l [u8],
+    ) -> Result<Option<CowSlice<'l, u8>>, AllocError>
+        ensures { IfOk result (λ whole. (begun : List ℕ) → IsOpen self.now begun
+            → option_map cow_slice_items whole ≡ unless_long (begun ++ line.now)) }
+    {
+        if self.is_long {
+            return Ok(None);
+        }
+        if self.begun.is_empty() && line.len() <= LONGEST {
+            return Ok(Some(CowSlice::Borrowed(line)));
+        }
+        let mut whole = Vec::with_capacity(alloc, self.begun.len().saturating_add(line.len()))?;
+        whole.extend_from_slice(&self.begun)?;
+        whole.extend_from_slice(line)?;
+        if whole.len() > LONGEST {
+            return Ok(None);
+        }
+        Ok(Some(CowSlice::Owned(whole)))
+    }
+
     /// Whether the line that is open has an address word.
     pub fn has_address(&self, is_narrow: bool) -> bool
         ensures { (line : List ℕ) → IsOpen self.now line → result ≡ has_address is_narrow line }
@@ -195,7 +221,7 @@ impl Annotator {
     }
 
     /// Takes bytes in, and puts each line that has its end now.
-    fn pass_bytes<A: Answers>(
+    pub fn pass_bytes<A: Answers>(
         &mut self,
         answers: &A,
         bytes: &[u8],
@@ -267,7 +293,7 @@ impl Annotator {
 
 /// Cuts off the first line of the bytes, with its end, if it has one.
 #[tactic(auto, using(crate::proofs::LineLemmas::line_found, crate::proofs::LineLemmas::none_ends))]
-pub(crate) fn cut_line(bytes: &[u8]) -> Option<(&[u8], &[u8])>
+pub fn cut_line(bytes: &[u8]) -> Option<(&[u8], &[u8])>
     ensures line { IfSome result (λ r. IsLine r.0.now) }
     ensures parts { IfSome result (λ r. bytes.now ≡ r.0.now ++ r.1.now) }
     ensures shorter { IfSome result (λ r. length r.1.now < length bytes.now) }
@@ -281,7 +307,7 @@ pub(crate) fn cut_line(bytes: &[u8]) -> Option<(&[u8], &[u8])>
 
 /// Writes the bytes, and lets the writer keep nothing back.
 #[tactic(auto, using(crate::proofs::PutLemmas::put_through))]
-pub(crate) fn put_now<W: Write>(writer: &mut Output<W>, bytes: &[u8]) -> Result<(), LogFault>
+pub fn put_now<W: Write>(writer: &mut Output<W>, bytes: &[u8]) -> Result<(), LogFault>
     ensures written { IfOk result (λ _. Delivered W.contents writer.old writer.new bytes.now) }
     ensures fault { IfErr result (IsWriteFault (error_in writer.new)) }
     ensures begun { OnErr result (WrotePart W.contents writer.old writer.new bytes.now) }

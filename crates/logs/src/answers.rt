@@ -1,7 +1,8 @@
 //! What a log's addresses are answered by.
-ghost use Rattle.std.specs.Prelude.{◌≡◌, IfOk, option_map};
+ghost use Rattle.std.specs.Prelude.{◌≡◌, false, true, IfOk, option_map};
 ghost use Rattle.logs.specs.Answering.{Answering};
 
+use crate::own_names::NamedReadings;
 use std::alloc::AllocError;
 
 /// What the addresses of a log are answered by.
@@ -14,10 +15,19 @@ pub trait Answers {
     fn is_narrow(&self) -> bool
         ensures { result ≡ (answering self.now).is_narrow };
 
+    /// Makes ready what these bytes of a log may ask for. The answers stay the same.
+    fn prepare(&mut self, bytes: &[u8]) -> Result<(), AllocError>
+        ensures { answering self.new ≡ answering self.old };
+
     /// The text that is inserted for an address, if one is, of which its place asks a reading.
     fn text_of(&self, is_caller: bool, addr: u64) -> Result<Option<Vec<u8>>, AllocError>
         ensures { IfOk result
             (λ o. option_map (λ v. v.items) o ≡ (answering self.now).text is_caller addr) };
+
+    /// Which readings have the name: that of their symbol, or of another one at its address.
+    fn named_readings(&self, addr: u64, name: &[u8]) -> NamedReadings
+        ensures caller { result.as_caller ≡ (answering self.now).is_alias true addr name.now }
+        ensures exact { result.as_it_is ≡ (answering self.now).is_alias false addr name.now };
 
     /// Whether the symbol of a reading, or another one at its address, has the name.
     fn is_alias(&self, is_caller: bool, addr: u64, name: &[u8]) -> bool
@@ -30,6 +40,11 @@ pub trait Answers {
     /// Whether data begins at the address.
     fn is_data(&self, addr: u64) -> bool
         ensures { result ≡ (answering self.now).is_data addr };
+
+    /// Whether one of the functions of the kernel itself with this name has this size, if there is
+    /// one with this name.
+    fn has_size(&self, name: &[u8], size: u64) -> Result<Option<bool>, AllocError>
+        ensures { IfOk result (λ o. o ≡ (answering self.now).has_size name.now size) };
 
     /// Whether the address is not below all that the listing has.
     fn is_in_range(&self, addr: u64) -> bool

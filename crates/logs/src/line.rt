@@ -13,7 +13,7 @@ ghost use Rattle.std.specs.List.{list_any};
 ghost use Rattle.logs.specs.TakenWords.{taken_in};
 ghost use Rattle.logs.specs.AnnotatedLogs.{annotated_line, counted, framed, held_behind, owed};
 ghost use Rattle.logs.specs.AnnotatedLogs.{tallied, woven};
-ghost use Rattle.logs.specs.Words.{words_behind};
+ghost use Rattle.logs.specs.Words.{part, words_behind};
 
 use crate::address_words::{AddressWord, address_at, carry_on, taken_at};
 use crate::answers::Answers;
@@ -21,6 +21,7 @@ use crate::contexts::LogContext;
 use crate::log_names::LogNames;
 use crate::own_names::read_word;
 use crate::words::{Word, behind_closers, next_candidate};
+use memchr::memchr3;
 use std::alloc::AllocError;
 
 /// The most bytes of a line that is annotated.
@@ -40,7 +41,7 @@ pub(crate) struct Progress {
 }
 
 /// Puts a line with the texts of its answers.
-#[tactic(auto, unfolding(crate::specs::AnnotatedLogs::annotated_line, crate::specs::AnnotatedLogs::held_behind))]
+#[tactic(auto, using(crate::proofs::KernelReportLemmas::nothing_reported), unfolding(crate::specs::AnnotatedLogs::annotated_line, crate::specs::AnnotatedLogs::held_behind))]
 pub(crate) fn put_line<A: Answers>(
     answers: &A,
     held: &mut LogContext,
@@ -56,8 +57,12 @@ pub(crate) fn put_line<A: Answers>(
         return out.extend_from_slice(line);
     }
     let progress = put_words(answers, *held, line, out)?;
-    held.names = progress.names;
-    carry_on(held, line, progress.has_frame);
+    let mark = memchr3(b'P', b'K', b'+', line);
+    held.names = match mark {
+        Some(_) => progress.names.with_line(answers, line)?,
+        None => progress.names,
+    };
+    carry_on(held, line, mark, progress.has_frame);
     Ok(())
 }
 
@@ -136,16 +141,38 @@ fn put_word<A: Answers>(
     progress.at = place;
     progress.last = Some(taken);
     progress.has_frame = progress.has_frame || taken.is_frame;
-    progress.names = progress
-        .names
-        .with_address(answers, reading.word, rest, reading.text.as_deref());
+    progress.names = progress.names.with_address(
+        answers,
+        reading.word,
+        rest,
+        reading.said.as_ref(),
+        reading.text.as_deref(),
+    );
     match reading.insertion() {
         None => Ok(()),
         Some(text) => {
-            out.extend_from_slice(&line[progress.put..place])?;
-            out.extend_from_slice(&text)?;
-            progress.put = place;
+            put_insertion(line, progress, place, &text, out)?;
             Ok(())
         }
     }
+}
+
+/// Puts the bytes up to a place, and the text that is inserted there.
+fn put_insertion(
+    line: &[u8],
+    progress: &mut Progress,
+    place: usize,
+    text: &[u8],
+    out: &mut Vec<u8>,
+) -> Result<(), AllocError>
+    requires from { progress.old.put ≤ place }
+    requires within { place ≤ length line.now }
+    ensures text { IfOk result (λ _. out.new.items
+        ≡ out.old.items ++ part line.now progress.old.put place ++ text.now) }
+    ensures put { IfOk result (λ _. progress.new ≡ record progress.old { put = place }) }
+{
+    out.extend_from_slice(&line[progress.put..place])?;
+    out.extend_from_slice(text)?;
+    progress.put = place;
+    Ok(())
 }

@@ -7,18 +7,19 @@
 //! [<ffffffff81000108>] ? do_one+0x8/0x1f00
 //!                     ~~~^^^^^^
 //! ```
-ghost use Rattle.std.specs.Prelude.{◌≡◌, ◌++◌, codes, nat_eq};
+ghost use Rattle.std.specs.Prelude.{◌≡◌, ◌++◌, codes, nat_eq, IfOk};
 ghost use Rattle.std.specs.List.{starts_with};
 ghost use Rattle.std.specs.Option.{option_copied};
-ghost use Rattle.logs.specs.LogNames.{agrees, begins_offset, begins_size, begins_sized};
-ghost use Rattle.logs.specs.LogNames.{is_of_another_boot, is_unnamed, name_behind, name_in};
-ghost use Rattle.logs.specs.LogNames.{no_names, with_address, with_name, with_one};
+ghost use Rattle.logs.specs.LogNames.{agrees, is_of_another_boot, is_unnamed, no_names};
+ghost use Rattle.logs.specs.LogNames.{with_address, with_line, with_name, with_one};
+ghost use Rattle.logs.specs.SaidNames.{name_said};
 
 use crate::address_words::AddressWord;
 use crate::answers::Answers;
-use crate::own_names::without_doubt;
-use crate::places::{Kind, first_of};
+use crate::kernel_reports::KernelReport;
+use crate::said_names::SaidName;
 use crate::words::begins_with;
+use std::alloc::AllocError;
 
 /// How many addresses a log has, and what was found of them. Each count stays at the greatest
 /// `u64`.
@@ -32,6 +33,8 @@ pub struct LogNames {
     pub agreeing: u64,
     /// Those that have one, and after them in the log another name.
     pub disagreeing: u64,
+    /// What it says of its kernel.
+    pub kernel: KernelReport,
 }
 
 impl LogNames {
@@ -44,6 +47,7 @@ impl LogNames {
             named: 0,
             agreeing: 0,
             disagreeing: 0,
+            kernel: KernelReport::none(),
         }
     }
 
@@ -93,14 +97,30 @@ impl LogNames {
         }
     }
 
-    /// One address more, with its answer's text if it has one, before the rest of its line.
+    /// What a line says of its kernel more.
+    pub(crate) fn with_line<A: Answers>(
+        self,
+        answers: &A,
+        line: &[u8],
+    ) -> Result<LogNames, AllocError>
+        ensures { IfOk result
+            (λ names. names ≡ with_line (A.answering answers.now) line.now self) }
+    {
+        let kernel = self.kernel.with_line(answers, line)?;
+        Ok(LogNames { kernel, ..self })
+    }
+
+    /// One address more, with its answer's text if it has one, and what the log
+    /// says of it itself.
     pub(crate) fn with_address<A: Answers>(
         self,
         answers: &A,
         taken: AddressWord,
         rest: &[u8],
+        said: Option<&SaidName<'_>>,
         text: Option<&[u8]>,
     ) -> LogNames
+        requires { option_copied said ≡ name_said rest.now }
         ensures { result ≡ with_address (A.answering answers.now) taken rest.now
             (option_copied text.entry) self }
     {
@@ -112,9 +132,11 @@ impl LogNames {
                     named: one.named.saturating_add(1),
                     ..one
                 };
-                match name_behind(rest) {
-                    None => names,
-                    Some(name) => names.with_name(agrees(answers, taken, text, name)),
+                match said {
+                    Some(said) if said.distance.has_size => {
+                        names.with_name(agrees(answers, taken, text, said.name))
+                    }
+                    _ => names,
                 }
             }
         }
@@ -134,48 +156,4 @@ fn tells(text: &[u8], name: &[u8]) -> bool
     ensures { result ≡ starts_with nat_eq text.now (codes " " ++ name.now ++ codes "+") }
 {
     text.starts_with(b" ") && begins_with(&text[1..], name, b"+")
-}
-
-/// The name that the log itself has at these bytes, which follow an address.
-pub(crate) fn name_behind(rest: &[u8]) -> Option<&[u8]>
-    ensures { option_copied result ≡ name_behind rest.now }
-{
-    match rest {
-        [b' ', text @ ..] => name_in(without_doubt(text)),
-        _ => None,
-    }
-}
-
-/// The name of a text that begins with `NAME+0xOFF/0xSIZE`.
-fn name_in(text: &[u8]) -> Option<&[u8]>
-    ensures { option_copied result ≡ name_in text.now }
-{
-    let length = first_of(Kind::Name, text);
-    if length > 0 && begins_offset(&text[length..]) {
-        Some(&text[..length])
-    } else {
-        None
-    }
-}
-
-/// Whether the text begins with `+0xOFF/0xSIZE`.
-fn begins_offset(text: &[u8]) -> bool
-    ensures { result ≡ begins_offset text.now }
-{
-    text.starts_with(b"+0x") && begins_sized(&text[3..])
-}
-
-/// Whether the text begins with hexadecimal digits and `/0xSIZE`.
-fn begins_sized(text: &[u8]) -> bool
-    ensures { result ≡ begins_sized text.now }
-{
-    let count = first_of(Kind::Hexadecimal, text);
-    count > 0 && begins_size(&text[count..])
-}
-
-/// Whether the text begins with `/0xSIZE`.
-fn begins_size(text: &[u8]) -> bool
-    ensures { result ≡ begins_size text.now }
-{
-    text.starts_with(b"/0x") && first_of(Kind::Hexadecimal, &text[3..]) > 0
 }

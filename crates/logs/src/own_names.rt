@@ -1,4 +1,4 @@
-//! What a log says itself of its addresses, and which reading of an address it names.
+//! Which reading of an address the log itself names, and whether it says the answer already.
 //!
 //! The log knows better than the place in the line whether an address is a return address. The byte
 //! after a function is another one's first:
@@ -7,17 +7,16 @@
 //! [<ffffffff81000110>] do_one+0x10/0x10
 //!                      ^^^^^^ ~~~~        a caller's has this name, and this offset
 //! ```
-ghost use Rattle.std.specs.Prelude.{◌≡◌, IfOk, if◌then◌else◌, None, option_map};
+ghost use Rattle.std.specs.Prelude.{◌≡◌, false, IfOk, if◌then◌else◌, None, option_map};
 ghost use Rattle.std.specs.Option.{option_copied};
 ghost use Rattle.logs.specs.OwnNames.{as_read, by_data, by_name, chosen, has_offset, insertion};
-ghost use Rattle.logs.specs.OwnNames.{is_missing, is_size, named_readings, offset_in, offset_of};
-ghost use Rattle.logs.specs.OwnNames.{own_name, own_offset, own_text, says_itself, says_place};
-ghost use Rattle.logs.specs.OwnNames.{says_text, text_for, without_bracket, without_doubt};
+ghost use Rattle.logs.specs.OwnNames.{begins_so, is_missing, named_readings, says_itself};
+ghost use Rattle.logs.specs.OwnNames.{says_place, says_text, text_for, without_bracket};
+ghost use Rattle.logs.specs.SaidNames.{name_said};
 
 use crate::address_words::AddressWord;
 use crate::answers::Answers;
-use crate::places::{Kind, first_of};
-use crate::words::{begins_with, digits_between};
+use crate::said_names::{SaidName, name_said};
 use std::alloc::AllocError;
 
 /// Which readings of an address have the name that the log says.
@@ -31,19 +30,21 @@ pub struct NamedReadings {
 
 /// An address word as it is read, and what is to be said of it.
 #[derive(Drop)]
-pub(crate) struct Reading {
+pub(crate) struct Reading<'a> {
     pub(crate) word: AddressWord,
     /// The text of the answer.
     pub(crate) text: Option<Vec<u8>>,
+    /// The name that the log says itself.
+    pub(crate) said: Option<SaidName<'a>>,
     /// Whether there is a text, and the log does not say it itself.
     is_missing: bool,
 }
 
-impl Reading {
+impl Reading<'_> {
     /// The text that is inserted, if one is.
     pub(crate) fn insertion(self) -> Option<Vec<u8>>
         ensures { option_map (λ v. v.items) result
-            ≡ (if self.is_missing then option_map (λ v. v.items) self.text else None) }
+            ≡ (if self.entry.is_missing then option_map (λ v. v.items) self.entry.text else None) }
     {
         if self.is_missing { self.text } else { None }
     }
@@ -56,9 +57,24 @@ fn says_itself(rest: &[u8], text: &[u8]) -> bool
 {
     let text = without_bracket(text);
     let said = if text.is_empty() { text } else { &text[1..] };
-    begins_with(rest, b" ", said)
-        || begins_with(rest, b" ? ", said)
-        || begins_with(rest, b" (", said)
+    match rest {
+        [b' ', more @ ..] => {
+            begins_so(more, said)
+                || (more.starts_with(b"? ") && begins_so(&more[2..], said))
+                || (more.starts_with(b"(") && begins_so(&more[1..], said))
+        }
+        _ => false,
+    }
+}
+
+/// Whether the bytes begin with a text. Mostly they differ in the first one.
+fn begins_so(bytes: &[u8], text: &[u8]) -> bool
+    ensures { result ≡ begins_so bytes.now text.now }
+{
+    match (bytes, text) {
+        ([first, ..], [other, ..]) if first != other => false,
+        _ => bytes.starts_with(text),
+    }
 }
 
 /// The bytes without a `]` at their end.
@@ -82,108 +98,17 @@ fn says_text(rest: &[u8], text: Option<&[u8]>) -> bool
     }
 }
 
-/// The text without a `? ` or `(` that it begins with.
-pub(crate) fn without_doubt(text: &[u8]) -> &[u8]
-    ensures { result.now ≡ without_doubt text.now }
+/// Which readings of an address have the name that a log says, if it says one.
+fn named_readings<A: Answers>(answers: &A, said: Option<&SaidName<'_>>, value: u64) -> NamedReadings
+    ensures { result
+        ≡ named_readings (A.answering answers.now) (option_copied said.entry) value }
 {
-    if text.starts_with(b"? ") {
-        &text[2..]
-    } else if text.starts_with(b"(") {
-        &text[1..]
-    } else {
-        text
-    }
-}
-
-/// What the log says at these bytes, which follow an address.
-#[tactic(auto, unfolding(crate::specs::OwnNames::own_text))]
-fn own_text(rest: &[u8]) -> &[u8]
-    ensures { result.now ≡ own_text rest.now }
-{
-    match rest {
-        [b' ', more @ ..] => {
-            let text = without_doubt(more);
-            &text[..first_of(Kind::Said, text)]
-        }
-        _ => &[],
-    }
-}
-
-/// Whether the bytes are nothing, or `/0xSIZE`.
-#[tactic(auto, unfolding(crate::specs::OwnNames::is_size))]
-fn is_size(text: &[u8]) -> bool
-    ensures { result ≡ is_size text.now }
-{
-    if text.is_empty() {
-        return true;
-    }
-    if !text.starts_with(b"/0x") {
-        return false;
-    }
-    let digits = &text[3..];
-    !digits.is_empty() && first_of(Kind::Hexadecimal, digits) == digits.len()
-}
-
-/// The offset that OFF is, or `OFF/0xSIZE`.
-#[tactic(auto, unfolding(crate::specs::OwnNames::offset_of))]
-fn offset_of(text: &[u8]) -> Option<u64>
-    ensures { result ≡ offset_of text.now }
-{
-    let n = first_of(Kind::Hexadecimal, text);
-    if is_size(&text[n..]) {
-        digits_between(1, 16, &text[..n])
-    } else {
-        None
-    }
-}
-
-/// The offset that `+0xOFF` is, or `+0xOFF/0xSIZE`.
-#[tactic(auto, unfolding(crate::specs::OwnNames::offset_in))]
-fn offset_in(text: &[u8]) -> Option<u64>
-    ensures { result ≡ offset_in text.now }
-{
-    if text.starts_with(b"+0x") {
-        offset_of(&text[3..])
-    } else {
-        None
-    }
-}
-
-/// The offset that a text has after its name.
-fn own_offset(text: &[u8]) -> Option<u64>
-    ensures { result ≡ own_offset text.now }
-{
-    offset_in(&text[first_of(Kind::Name, text)..])
-}
-
-/// The name of a text, and no bytes of one that has another form.
-#[tactic(auto, unfolding(crate::specs::OwnNames::own_name))]
-fn own_name(text: &[u8]) -> &[u8]
-    ensures { result.now ≡ own_name text.now }
-{
-    let n = first_of(Kind::Name, text);
-    if n == text.len() || own_offset(text).is_some() {
-        &text[..n]
-    } else {
-        &[]
-    }
-}
-
-/// Which readings of an address have the name of a text.
-#[tactic(auto, unfolding(crate::specs::OwnNames::named_readings))]
-fn named_readings<A: Answers>(answers: &A, text: &[u8], value: u64) -> NamedReadings
-    ensures { result ≡ named_readings (A.answering answers.now) text.now value }
-{
-    let name = own_name(text);
-    if name.is_empty() {
-        return NamedReadings {
+    match said {
+        Some(said) => answers.named_readings(value, said.name),
+        None => NamedReadings {
             as_caller: false,
             as_it_is: false,
-        };
-    }
-    NamedReadings {
-        as_caller: answers.is_alias(true, value, name),
-        as_it_is: answers.is_alias(false, value, name),
+        },
     }
 }
 
@@ -196,17 +121,23 @@ fn has_offset<A: Answers>(answers: &A, named: NamedReadings, value: u64, offset:
         || (named.as_caller && answers.is_offset(true, value, offset))
 }
 
-/// Whether a reading of an address has the name of a text, as these readings have, and its offset.
+/// Whether a reading of an address has the name that a log says, as these readings have, and its
+/// offset.
 #[tactic(auto, unfolding(crate::specs::OwnNames::says_place, crate::specs::OwnNames::has_offset))]
-fn says_place<A: Answers>(answers: &A, named: NamedReadings, text: &[u8], value: u64) -> bool
-    requires { named ≡ named_readings (A.answering answers.now) text.now value }
-    ensures { result ≡ says_place (A.answering answers.now) text.now value }
+fn says_place<A: Answers>(
+    answers: &A,
+    named: NamedReadings,
+    said: Option<&SaidName<'_>>,
+    value: u64,
+) -> bool
+    requires { named ≡ named_readings (A.answering answers.now) (option_copied said) value }
+    ensures { result ≡ says_place (A.answering answers.now) (option_copied said.entry) value }
 {
-    if !named.as_caller && !named.as_it_is {
-        return false;
-    }
-    match own_offset(text) {
-        Some(offset) => has_offset(answers, named, value, offset),
+    match said {
+        Some(said) => match said.distance.offset {
+            Some(offset) => has_offset(answers, named, value, offset),
+            None => false,
+        },
         None => false,
     }
 }
@@ -253,45 +184,55 @@ fn by_name(named: NamedReadings, taken: AddressWord) -> AddressWord
     }
 }
 
-/// Whether there is a text, and these bytes neither say it nor name the address with its offset.
-fn is_missing<A: Answers>(
+/// The text of an address word as the log names it, and whether these bytes say it, if the text of
+/// the word as it is placed is there, and they do not say that.
+fn text_by_name<A: Answers>(
     answers: &A,
-    named: NamedReadings,
-    value: u64,
     rest: &[u8],
-    text: Option<&[u8]>,
-) -> bool
-    requires { named ≡ named_readings (A.answering answers.now) (own_text rest.now) value }
-    ensures { result
-        ≡ is_missing (A.answering answers.now) value rest.now (option_copied text.entry) }
+    placed: AddressWord,
+    text: Option<Vec<u8>>,
+    word: AddressWord,
+) -> Result<(Option<Vec<u8>>, bool), AllocError>
+    requires text { option_map (λ v. v.items) text
+        ≡ text_for (A.answering answers.now) placed }
+    requires unsaid { says_text rest.now (text_for (A.answering answers.now) placed) ≡ false }
+    requires word { word ≡ record placed { is_caller = word.is_caller } }
+    ensures text { IfOk result (λ r. option_map (λ v. v.items) r.0
+        ≡ text_for (A.answering answers.now) word) }
+    ensures said { IfOk result (λ r. r.1
+        ≡ says_text rest.now (text_for (A.answering answers.now) word)) }
 {
-    match text {
-        Some(text) => {
-            !(says_itself(rest, text) || says_place(answers, named, own_text(rest), value))
-        }
-        None => false,
+    if word.is_caller == placed.is_caller {
+        return Ok((text, false));
     }
+    let text = text_for(answers, word)?;
+    let is_said = says_text(rest, text.as_deref());
+    Ok((text, is_said))
 }
 
 /// The address word as it is read, before the rest of its line, and the text of the answer. Mostly
 /// the log has no name there, or that text itself; then the address is looked up once.
 #[tactic(auto, unfolding(crate::specs::OwnNames::as_read))]
-pub(crate) fn read_word<A: Answers>(
+pub(crate) fn read_word<'a, A: Answers>(
     answers: &A,
-    rest: &[u8],
+    rest: &'a [u8],
     taken: AddressWord,
-) -> Result<Reading, AllocError>
+) -> Result<Reading<'a>, AllocError>
     ensures word { IfOk result (λ r. r.word ≡ as_read (A.answering answers.now) rest.now taken) }
     ensures text { IfOk result (λ r. option_map (λ v. v.items) r.text
         ≡ text_for (A.answering answers.now) (as_read (A.answering answers.now) rest.now taken)) }
-    ensures missing { IfOk result (λ r. r.is_missing
-        ≡ is_missing (A.answering answers.now) taken.value rest.now
+    ensures said { IfOk result (λ r. r.said ≡ name_said rest.now) }
+    ensures inserted { IfOk result
+        (λ r. (if r.is_missing then option_map (λ v. v.items) r.text else None)
+        ≡ insertion (A.answering answers.now) taken.value rest.now
         (text_for (A.answering answers.now) (as_read (A.answering answers.now) rest.now taken))) }
 {
+    let said = name_said(rest);
     if taken.is_foreign {
         return Ok(Reading {
             word: taken,
             text: None,
+            said,
             is_missing: false,
         });
     }
@@ -301,20 +242,19 @@ pub(crate) fn read_word<A: Answers>(
         return Ok(Reading {
             word: placed,
             text,
+            said,
             is_missing: false,
         });
     }
-    let named = named_readings(answers, own_text(rest), taken.value);
+    let named = named_readings(answers, said.as_ref(), taken.value);
     let word = by_name(named, placed);
-    let text = if word.is_caller == placed.is_caller {
-        text
-    } else {
-        text_for(answers, word)?
-    };
-    let is_missing = is_missing(answers, named, taken.value, rest, text.as_deref());
+    let (text, is_said) = text_by_name(answers, rest, placed, text, word)?;
+    let is_missing = text.is_some()
+        && !(is_said || says_place(answers, named, said.as_ref(), taken.value));
     Ok(Reading {
         word,
         text,
+        said,
         is_missing,
     })
 }

@@ -44,15 +44,17 @@ pub(crate) enum Kind {
     Said,
     /// A byte of a group in brackets: no bracket, `<` or `>`.
     Group,
-    /// A byte of a symbol's name, which `+` ends: no blank or control byte.
+    /// A byte of a name that a log says, which `+` ends: one that it says.
     Name,
     Hexadecimal,
+    /// A byte of a function's name: one of a word, `.` or `$`.
+    Function,
 }
 
 impl Kind {
     /// Whether a byte is of the kind.
     #[inline]
-    fn has(self, byte: u8) -> bool
+    pub(crate) fn has(self, byte: u8) -> bool
         ensures { result ≡ is_of self byte }
     {
         match self {
@@ -79,8 +81,9 @@ impl Kind {
             Kind::Colour => byte.is_ascii_digit() || byte == b';',
             Kind::Said => byte > b' ' && !(byte == b'(' || byte == b')'),
             Kind::Group => { !(byte == b'[' || byte == b']' || byte == b'<' || byte == b'>') }
-            Kind::Name => byte > b' ' && byte != b'+',
+            Kind::Name => byte > b' ' && !(byte == b'(' || byte == b')' || byte == b'+'),
             Kind::Hexadecimal => digit_of(byte) < 16,
+            Kind::Function => is_word_byte(byte) || byte == b'.' || byte == b'$',
         }
     }
 }

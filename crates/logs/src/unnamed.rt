@@ -8,14 +8,15 @@ use crate::address_words::address_at;
 use crate::annotator::cut_line;
 use crate::answers::Answers;
 use crate::line::LONGEST;
+use crate::own_names::NamedReadings;
 use crate::words::next_candidate;
 use std::alloc::AllocError;
 
 /// What no address is answered by.
 #[derive(Drop)]
-pub(crate) struct Unanswered {
+pub struct Unanswered {
     /// Whether the log is of a 32-bit kernel.
-    pub(crate) is_narrow: bool,
+    pub is_narrow: bool,
 }
 
 impl Answers for Unanswered {
@@ -27,8 +28,19 @@ impl Answers for Unanswered {
         self.is_narrow
     }
 
+    fn prepare(&mut self, _bytes: &[u8]) -> Result<(), AllocError> {
+        Ok(())
+    }
+
     fn text_of(&self, _is_caller: bool, _addr: u64) -> Result<Option<Vec<u8>>, AllocError> {
         Ok(None)
+    }
+
+    fn named_readings(&self, _addr: u64, _name: &[u8]) -> NamedReadings {
+        NamedReadings {
+            as_caller: false,
+            as_it_is: false,
+        }
     }
 
     fn is_alias(&self, _is_caller: bool, _addr: u64, _name: &[u8]) -> bool {
@@ -43,13 +55,17 @@ impl Answers for Unanswered {
         false
     }
 
+    fn has_size(&self, _name: &[u8], _size: u64) -> Result<Option<bool>, AllocError> {
+        Ok(None)
+    }
+
     fn is_in_range(&self, _addr: u64) -> bool {
         false
     }
 }
 
 /// Whether a line has an address word, and is not too long to be named.
-pub(crate) fn has_address(is_narrow: bool, line: &[u8]) -> bool
+pub fn has_address(is_narrow: bool, line: &[u8]) -> bool
     ensures { result ≡ has_address is_narrow line.now }
 {
     line.len() <= LONGEST && has_address_word(is_narrow, line)

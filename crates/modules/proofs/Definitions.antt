@@ -6,7 +6,7 @@ pub use Rattle.modules.specs.Building.{AreModules, EachMade, built_in_with, kern
 pub use Rattle.modules.specs.Catalogs.{IsNoneAbsent, IsSoundCatalog, built_in_of, catalog_of, catalog_with, counts_of, counts_with, entries_of, entry_for, kept_counts, module_of, regions_of}
 pub use Rattle.modules.specs.Entries.{CatalogEntries, ModuleEntry, SymbolEntry}
 pub use Rattle.modules.specs.Found.{Found, IsFound, ReachesUpTo, found_in, symbol_at, symbol_found_at, symbols_from}
-pub use Rattle.modules.specs.FromSymbols.{HasItsRegions, IsFromSymbols, is_kept_line, owner_names, with_name}
+pub use Rattle.modules.specs.FromSymbols.{HasItsRegions, IsFromSymbols, is_kept_line, owner_names}
 pub use Rattle.modules.specs.Gathering.{Gathers, HasRoom, Keeps, KeepsRun, lies_for, owner_for}
 pub use Rattle.modules.specs.ByName.{IsCut, IsSortedByName, comes_first}
 pub use Rattle.modules.specs.Grouped.{lines_at}
@@ -14,13 +14,13 @@ pub use Rattle.modules.specs.Index.{IsBorder, IsFirstBorder, IsFirstOf, IsIndex,
 pub use Rattle.modules.specs.Items.{item_of_address, items_at, items_below, items_of}
 pub use Rattle.modules.specs.Kept.{AreDistinctNames, belongs, entry_of, is_built_in, is_kept, is_used, lies_in, symbols_that}
 pub use Rattle.modules.specs.LineMarks.{AreLeft, AreNamed, HasFirstLine, HaveFirstLines, is_kept_mark, kept_numbers, kernel_marks, line_marks, mark_of, marks_of, modules_numbered, name_of, number_for, number_in, symbol_marks, with_number, with_owner}
-pub use Rattle.modules.specs.Lines.{built_in_region, first_address, fits, is_region, kernel_regions, module_line_region, region_fits, region_line_region, with_apart}
+pub use Rattle.modules.specs.Lines.{built_in_region, first_address, first_owner, fits, is_region, kernel_regions, module_line_region, region_fits, region_line_region, with_apart}
 pub use Rattle.modules.specs.Listed.{BoundNames, ListedModule, ListedRegion, ListedSymbol}
 pub use Rattle.modules.specs.Loads.{GivesOrLacksMemory, GivesSome, TakesMemory, drop_init_update, has_no_items, is_erasing, is_inserting, is_item_of, item_of, load_of, load_update, only_of, same_items, unload_update, update_of}
 pub use Rattle.modules.specs.MarkedModules.{StandsFor, numbered_module, ranges_of}
 pub use Rattle.modules.specs.Marks.{AreLaid, AreRegions, Follows, GoesOn, HoldsFor, IsFirstMark, IsNearestMark, IsNextMark, Owns}
 pub use Rattle.modules.specs.Modules.{module_view}
-pub use Rattle.modules.specs.Names.{names_in}
+pub use Rattle.modules.specs.Names.{names_in, with_name}
 pub use Rattle.modules.specs.FoundNames.{names_at}
 pub use Rattle.modules.specs.Owners.{goes_on, is_in_page, is_nearest_line, is_next_line, is_of_one_module, is_outside, module_of_address, post_above, post_below, posts, reach}
 pub use Rattle.modules.specs.Parts.{is_core, is_init, is_of}

@@ -25,6 +25,7 @@ pub mod RegionIndexLemmas
 pub mod NearestLemmas
 pub mod WithinLemmas
 pub mod FindLemmas
+pub mod AtAddressLemmas
 pub mod SweepLemmas
 pub mod MarkOrderLemmas
 pub mod LaidLemmas

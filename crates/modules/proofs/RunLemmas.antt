@@ -1,7 +1,7 @@
 -- Lines that have the name of their module by their run.
-use Rattle.modules.proofs.Words.{◌≡◌, ℕ, zero, suc, ◌<◌, true, false, ◌&&◌, List, [], ◌∷◌, ◌++◌, length, map, take, drop, get_or, Some, None, Option, refl, sym, ap, ◌∙◌, arith, append_assoc, find, is_none, is_some, Bor, option_copied, option_map, option_or, bytes_eq, common_steps}
-use Rattle.modules.proofs.Lemmas.{map-append, append-nil, flat_map-append, find-append, take_more}
-use Rattle.modules.proofs.Definitions.{SymbolEntry, first_address, ListedSymbol, line_of, lines_of_run, lines_of_all, Run}
+use Rattle.modules.proofs.Words.{◌≡◌, ℕ, zero, suc, ◌<◌, Bool, true, false, ◌&&◌, cond, List, [], ◌∷◌, ◌++◌, length, map, take, drop, get_or, Some, None, Option, refl, sym, ap, ◌∙◌, arith, append_assoc, find, is_none, is_some, Bor, option_and_then, option_copied, option_map, option_map_or, option_or, bytes_eq, common_steps}
+use Rattle.modules.proofs.Lemmas.{false≢true, map-append, append-nil, flat_map-append, find-append, take_more}
+use Rattle.modules.proofs.Definitions.{SymbolEntry, first_address, first_owner, ListedSymbol, line_of, lines_of_run, lines_of_all, Run}
 
 -- the lines of all runs, and those of the last
 pub lines_of_all-last : (runs : List Run) (r : Run) → lines_of_all (runs ++ r ∷ []) ≡ lines_of_all runs ++ lines_of_run r
@@ -44,6 +44,54 @@ lines_of-more m n ss ts s same more = grind (arith, map-append)
 -- the first line of a name, in all runs but the last or in the last
 pub first_in_runs : (runs : List Run) (last : Run) (name : List ℕ) → first_address name (lines_of_all (runs ++ last ∷ [])) ≡ option_or (first_address name (lines_of_all runs)) (first_address name (lines_of_run last))
 first_in_runs runs last name = ap (first_address name) (lines_of_all-last runs last) ∙ first_address-append name (lines_of_all runs) (lines_of_run last)
+
+-- ---- the first line of a module whose name passes
+
+-- that of a line and others after it
+owner_first : (passes : List ℕ → Bool) (l : ListedSymbol) (ls : List ListedSymbol) (b : Bool) → option_map_or passes l.owner false ≡ b → first_owner passes (l ∷ ls) ≡ cond b l.owner (first_owner passes ls)
+owner_first passes l ls true pass = ap (λ b. option_and_then (λ (m : ListedSymbol). m.owner) (cond b (Some l) (find (λ m. option_map_or passes m.owner false) ls))) pass
+owner_first passes l ls false fail = ap (λ b. option_and_then (λ (m : ListedSymbol). m.owner) (cond b (Some l) (find (λ m. option_map_or passes m.owner false) ls))) fail
+
+owner_or : (passes : List ℕ → Bool) (owner rest : Option (List ℕ)) → option_map_or passes owner false ≡ true → owner ≡ option_or owner rest
+owner_or passes None rest pass = absurd (false≢true pass)
+owner_or passes (Some name) rest pass = refl
+
+one_more : (passes : List ℕ → Bool) (l : ListedSymbol) (ls ys : List ListedSymbol) (b : Bool) → option_map_or passes l.owner false ≡ b → first_owner passes (ls ++ ys) ≡ option_or (first_owner passes ls) (first_owner passes ys) → first_owner passes (l ∷ (ls ++ ys)) ≡ option_or (first_owner passes (l ∷ ls)) (first_owner passes ys)
+one_more passes l ls ys true pass rest =
+    owner_first passes l (ls ++ ys) true pass
+    ∙ owner_or passes l.owner (first_owner passes ys) pass
+    ∙ ap (λ o. option_or o (first_owner passes ys)) (sym (owner_first passes l ls true pass))
+one_more passes l ls ys false fail rest =
+    owner_first passes l (ls ++ ys) false fail
+    ∙ rest
+    ∙ ap (λ o. option_or o (first_owner passes ys)) (sym (owner_first passes l ls false fail))
+
+pub first_owner-append : (passes : List ℕ → Bool) (xs ys : List ListedSymbol) → first_owner passes (xs ++ ys) ≡ option_or (first_owner passes xs) (first_owner passes ys)
+first_owner-append passes [] ys = refl
+first_owner-append passes (l ∷ ls) ys =
+    one_more passes l ls ys (option_map_or passes l.owner false) refl (first_owner-append passes ls ys)
+
+-- of a run none of whose lines passes, and of one whose lines do
+pub no_owner : (passes : List ℕ → Bool) (owner : Option (List ℕ)) (ss : List SymbolEntry) → option_map_or passes owner false ≡ false → None ≡ first_owner passes (map (line_of owner) ss)
+no_owner passes owner [] fail = refl
+no_owner passes owner (s ∷ ss) fail =
+    no_owner passes owner ss fail ∙ sym (owner_first passes (line_of owner s) (map (line_of owner) ss) false fail)
+
+pub its_owner : (passes : List ℕ → Bool) (owner : List ℕ) (ss : List SymbolEntry) → 0 < length ss → passes owner ≡ true → Some owner ≡ first_owner passes (map (line_of (Some owner)) ss)
+its_owner passes owner [] some pass = absurd (omega arith)
+its_owner passes owner (s ∷ ss) some pass = sym (owner_first passes (line_of (Some owner) s) (map (line_of (Some owner)) ss) true pass)
+
+pub no_lines : (passes : List ℕ → Bool) (owner : Option (List ℕ)) (ss : List SymbolEntry) → length ss ≡ 0 → None ≡ first_owner passes (map (line_of owner) ss)
+no_lines passes owner [] none = refl
+no_lines passes owner (s ∷ ss) none = absurd (omega arith)
+
+-- of all runs but the last or of the last
+pub last_owner : (runs : List Run) (last : Run) (passes : List ℕ → Bool) → first_owner passes (lines_of_all (runs ++ last ∷ [])) ≡ option_or (first_owner passes (lines_of_all runs)) (first_owner passes (lines_of_run last))
+last_owner runs last passes = ap (first_owner passes) (lines_of_all-last runs last) ∙ first_owner-append passes (lines_of_all runs) (lines_of_run last)
+
+pub ruleset owner_of_run = (common_steps, no_owner, its_owner, no_lines)
+
+pub ruleset owner_by_run = (common_steps, take_more, last_owner, first_owner-append)
 
 -- run by run
 pub ruleset run_by_run = (common_steps, take_more, first_in_runs)

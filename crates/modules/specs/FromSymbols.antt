@@ -1,13 +1,14 @@
 -- The modules of a listing of symbols alone, and their regions.
-use Rattle.std.specs.Prelude.{◌≡◌, ℕ, ◌-◌, ◌<◌, ◌^◌, ◌↔◌, Bool, true, false, if◌then◌else◌, All}
-use Rattle.std.specs.Prelude.{List, [], ◌∷◌, ◌++◌, map, fold, filter, Option, Some}
-use Rattle.std.specs.List.{AllPairs, list_any, flat_map}
+use Rattle.std.specs.Prelude.{◌≡◌, ℕ, ◌-◌, ◌<◌, ◌^◌, ◌↔◌, Bool, true, false, All}
+use Rattle.std.specs.Prelude.{List, [], map, fold, filter, Option, Some}
+use Rattle.std.specs.List.{AllPairs, flat_map}
 use Rattle.std.specs.Option.{option_map_or, option_to_list}
 use Rattle.std.specs.Str.{bytes_eq}
 use Rattle.modules.specs.Accepted.{Accepted, names_of}
 use Rattle.modules.specs.Kept.{lies_in}
 use Rattle.modules.specs.Lines.{kernel_regions}
 use Rattle.modules.specs.Listed.{BoundNames, ListedSymbol}
+use Rattle.modules.specs.Names.{with_name}
 use Rattle.modules.specs.Owners.{module_of_address, posts}
 use Rattle.modules.specs.Placed.{PlacedModule}
 use Rattle.modules.specs.declared.lines.Part.TheVariants.{Core}
@@ -18,10 +19,6 @@ is_kept_line lines l =
     option_map_or
     (λ name. option_map_or (bytes_eq name) (module_of_address lines l.addr) false)
     l.owner false
-
--- the names with this one after them, if it is not among them
-abbrev pub with_name : List (List ℕ) → List ℕ → List (List ℕ)
-with_name names name = if list_any (bytes_eq name) names then names else names ++ name ∷ []
 
 -- the names of the modules in the order of their first kept lines
 abbrev pub owner_names : List ListedSymbol → List (List ℕ)

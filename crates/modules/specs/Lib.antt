@@ -19,12 +19,14 @@ pub mod Entries
 pub mod Kept
 -- modules made of their places and lists of symbols
 pub mod Building
--- modules by name
+-- names of modules
 pub mod Names
 -- the catalog of the listings, and what is asked of it
 pub mod Catalogs
 -- the symbols around an address, in a list that is in no order
 pub mod Around
+-- symbols by their address and their name
+pub mod AtAddress
 -- the symbol that an address belongs to
 pub mod Found
 -- whose an address is, by a listing of symbols alone

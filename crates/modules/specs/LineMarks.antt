@@ -10,9 +10,9 @@ use Rattle.order_laws.specs.declared.items.Item.{Item}
 use Rattle.order_laws.specs.Orders.{half_open}
 use Rattle.order_laws.specs.Tables.{look}
 use Rattle.modules.specs.Entries.{SymbolEntry}
-use Rattle.modules.specs.FromSymbols.{with_name}
 use Rattle.modules.specs.Listed.{ListedSymbol}
 use Rattle.modules.specs.MarkedModules.{numbered_module, ranges_of}
+use Rattle.modules.specs.Names.{with_name}
 use Rattle.modules.specs.Owners.{is_outside}
 use Rattle.modules.specs.Placed.{PlacedModule}
 use Rattle.modules.specs.Regions.{lies_in_any}

@@ -1,5 +1,5 @@
 -- What the lines of the listings stand for.
-use Rattle.std.specs.Prelude.{ℕ, ◌+◌, ◌^◌, Bool, not, ◌&&◌, nat_lt, nat_eq, is_none, is_some}
+use Rattle.std.specs.Prelude.{ℕ, ◌+◌, ◌^◌, Bool, false, not, ◌&&◌, nat_lt, nat_eq, is_none, is_some}
 use Rattle.std.specs.Prelude.{if◌then◌else◌, List, [], ◌∷◌, ◌++◌, find, Option, Some, None, codes}
 use Rattle.std.specs.List.{list_all}
 use Rattle.std.specs.Option.{option_map, option_map_or, option_and_then, option_to_list}
@@ -30,6 +30,11 @@ region_line_region l = (l.base, l.base + l.size)
 abbrev pub first_address : List ℕ → List ListedSymbol → Option ℕ
 first_address name lines =
     option_map (λ l. l.addr) (find (λ l. is_none l.owner && bytes_eq l.name name) lines)
+
+-- the module of the first line that is of one whose name passes
+abbrev pub first_owner : (List ℕ → Bool) → List ListedSymbol → Option (List ℕ)
+first_owner passes lines =
+    option_and_then (λ l. l.owner) (find (λ l. option_map_or passes l.owner false) lines)
 
 -- from the first symbol of the one name up to the first of the other, where both are there in this
 -- order

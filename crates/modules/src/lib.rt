@@ -3,6 +3,7 @@
 #![tactic(auto)]
 
 mod admission;
+mod at_address;
 mod buckets;
 mod build;
 mod by_name;
@@ -19,7 +20,7 @@ pub mod lines;
 mod loads;
 mod marks;
 pub mod module;
-mod names;
+pub mod names;
 mod placed_modules;
 mod placing;
 mod presort;
@@ -36,8 +37,9 @@ pub use finder::{Finder, MOST_EXPECTED};
 pub use found_symbols::{FoundSymbol, symbol_in, symbol_of};
 pub use lines::{KernelBounds, ModuleLine, Part, RegionLine, SymbolLine};
 pub use module::{MOST_REGIONS, Module};
+pub use names::Names;
 pub use region_index::IndexedCatalog;
 pub use regions::Region;
-pub use symbol_lines::SymbolLines;
+pub use symbol_lines::{NameTest, SymbolLines};
 pub use symbol_names::{NamedSymbol, SymbolNames};
 pub use symbols::{IndexEntry, Symbol, is_rising};

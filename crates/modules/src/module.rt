@@ -4,6 +4,7 @@ ghost use Rattle.std.specs.Prelude.{◌≡◌, [], position, IfOk, Ok};
 ghost use Rattle.std.specs.List.{list_any};
 ghost use Rattle.std.specs.Option.{option_copied};
 ghost use Rattle.modules.specs.Around.{symbol_below, address_above};
+ghost use Rattle.modules.specs.AtAddress.{lists_symbol};
 ghost use Rattle.modules.specs.Index.{HasOrdered};
 ghost use Rattle.modules.specs.Building.{module_with, placed_module_of};
 ghost use Rattle.modules.specs.Loads.{GivesOrLacksMemory, is_erasing, update_of};
@@ -11,6 +12,7 @@ ghost use Rattle.modules.specs.Parts.{is_core, is_init};
 ghost use Rattle.modules.specs.Placed.{IsPlaced};
 ghost use Rattle.modules.specs.Starts.{first_start, start_at, start_where, starts_of};
 
+use crate::at_address::{lists_in_any_order, lists_in_order};
 use crate::buckets::{Buckets, place_near};
 use crate::expected_lookups::ExpectedLookups;
 use crate::lines::Part;
@@ -231,6 +233,20 @@ impl<'a> Module<'a> {
         ensures { result.now ≡ self.now.symbols }
     {
         self.symbols.as_slice()
+    }
+
+    /// Whether one of the symbols has this address and this name. If they rise, or have copies
+    /// that do, only those at the address are gone through.
+    pub fn lists(&self, addr: u64, name: &[u8]) -> bool
+        ensures { result ≡ lists_symbol self.now.symbols addr name.now }
+    {
+        match &self.by_address {
+            Some(ordered) => lists_in_order(ordered.as_slice(), self.place_of(addr), addr, name),
+            None if self.rising => {
+                lists_in_order(self.symbols.as_slice(), self.place_of(addr), addr, name)
+            }
+            None => lists_in_any_order(self.symbols.as_slice(), addr, name),
+        }
     }
 
     /// The symbol of the greatest address that is not above `addr`, the first listed among equal

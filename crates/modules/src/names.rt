@@ -1,5 +1,5 @@
 //! Names that are found: those of the modules of a catalog, and of the modules that a listing of
-//! symbols has lines of.
+//! symbols or a change of one has lines of.
 //!
 //! In a listing of symbols the modules are numbered from 1 on by their first lines; 0 is the kernel
 //! itself:
@@ -15,6 +15,7 @@ ghost use Rattle.std.specs.List.{list_any, position_from};
 ghost use Rattle.std.specs.Option.{option_copied};
 ghost use Rattle.std.specs.Str.{bytes_eq};
 ghost use Rattle.modules.specs.LineMarks.{AreNamed, name_of, number_for, with_owner};
+ghost use Rattle.modules.specs.Names.{with_name};
 ghost use Rattle.modules.specs.Runs.{lines_of_all};
 
 use crate::symbol_lines::Run;
@@ -24,7 +25,7 @@ use std::marker::Model;
 
 /// Names in their order, and the place of each. A contract sees the list of the names.
 #[derive(Drop)]
-pub(crate) struct Names<'a> {
+pub struct Names<'a> {
     listed: Vec<&'a [u8]>,
     places: BTreeMap<&'a [u8], usize>,
 }
@@ -42,7 +43,7 @@ impl<'a> Model for Names<'a> {
 
 impl<'a> Names<'a> {
     /// No names.
-    pub(crate) fn new(alloc: Global) -> Names<'a>
+    pub fn new(alloc: Global) -> Names<'a>
         ensures { result ≡ [] }
     {
         Names {
@@ -76,7 +77,7 @@ impl<'a> Names<'a> {
     }
 
     /// Whether a name is among these.
-    pub(crate) fn has(&self, name: &[u8]) -> bool
+    pub fn has(&self, name: &[u8]) -> bool
         ensures { result ≡ list_any (bytes_eq name.now) self.now }
     {
         self.places.contains_key(name)
@@ -94,13 +95,24 @@ impl<'a> Names<'a> {
         Ok(())
     }
 
-    /// Takes the name of the module of a run, if it is of a module and not among these.
+    /// Puts a name after the others, unless it is among them. An error leaves these as they were.
+    pub fn put(&mut self, name: &'a [u8]) -> Result<(), AllocError>
+        ensures put { OnOk result (self.new ≡ with_name self.old name.now) }
+        ensures err { OnErr result (self.new ≡ self.old) }
+    {
+        if self.has(name) {
+            return Ok(());
+        }
+        self.push(name)
+    }
+
+    /// Puts the name of the module of a run, if it is of a module.
     fn take(&mut self, owner: Option<&'a [u8]>) -> Result<(), AllocError>
         ensures { OnOk result (self.new ≡ with_owner self.old (option_copied owner.entry)) }
     {
         match owner {
-            Some(name) if !self.has(name) => self.push(name),
-            _ => Ok(()),
+            Some(name) => self.put(name),
+            None => Ok(()),
         }
     }
 

@@ -9,8 +9,8 @@
 //! ```
 
 ghost use Rattle.std.specs.Prelude.{◌≡◌, ◌++◌, ◌∷◌, [], length, find, is_some, IfOk, OnOk};
-ghost use Rattle.std.specs.Prelude.{OnErr, None};
-ghost use Rattle.modules.specs.Lines.{first_address, built_in_region, code_regions};
+ghost use Rattle.std.specs.Prelude.{ℕ, Bool, List, OnErr, None};
+ghost use Rattle.modules.specs.Lines.{first_address, first_owner, built_in_region, code_regions};
 ghost use Rattle.modules.specs.Lines.{kernel_regions, usual_bounds_of, usual_end, with_apart};
 ghost use Rattle.std.specs.Option.{option_copied, option_map, option_to_list};
 ghost use Rattle.std.specs.Str.{bytes_eq};
@@ -56,6 +56,16 @@ impl<'a> Model for SymbolLines<'a> {
     ghost invariant = { λ l. length (lines_of_all (l.runs.items ++ l.last ∷ [])) ≡ l.count };
 }
 
+/// Which names of modules pass.
+pub trait NameTest {
+    /// Whether a name does, as contracts see it.
+    ghost passes: { Self → List ℕ → Bool };
+
+    /// Whether a name does.
+    fn passes(&self, name: &[u8]) -> bool
+        ensures { result ≡ passes self.now name.now };
+}
+
 impl<'a> Run<'a> {
     /// A run of one line.
     fn of(alloc: Global, owner: Option<&'a [u8]>, symbol: Symbol<'a>) -> Result<Run<'a>, AllocError>
@@ -76,6 +86,19 @@ impl<'a> Run<'a> {
             return None;
         }
         first_named(self.symbols.as_slice(), name)
+    }
+
+    /// The name of its module, if it has lines and the name passes.
+    #[tactic(auto, using(crate::proofs::RunLemmas::owner_of_run))]
+    fn owner_if<T: NameTest>(&self, test: &T) -> Option<&'a [u8]>
+        ensures { option_copied result
+            ≡ first_owner (T.passes test.now) (lines_of_run self.now) }
+    {
+        if self.symbols.is_empty() {
+            return None;
+        }
+        let name = self.module?;
+        if test.passes(name) { Some(name) } else { None }
     }
 }
 
@@ -180,6 +203,18 @@ impl<'a> SymbolLines<'a> {
         built_in_region(self, names).is_some()
     }
 
+    /// The module of the first line that is of one whose name passes. Of lines of one module that
+    /// lie side by side only the first is looked at.
+    #[tactic(auto, using(crate::proofs::RunLemmas::owner_by_run))]
+    pub fn first_owner<T: NameTest>(&self, test: &T) -> Option<&'a [u8]>
+        ensures { option_copied result ≡ first_owner (T.passes test.now) self.now }
+    {
+        match first_owner_in(self.runs.as_slice(), test) {
+            None => self.last.owner_if(test),
+            found => found,
+        }
+    }
+
     /// The names of both ends of the usual regions, one of which a listing may lack: `_stext`, and
     /// `_end` if it is listed or else `_etext`.
     pub fn usual_bounds(&self) -> KernelBounds<'static>
@@ -200,6 +235,19 @@ fn first_in_runs(runs: &[Run], name: &[u8]) -> Option<u64>
     for run in runs {
         if let Some(addr) = run.first_address(name) {
             return Some(addr);
+        }
+    }
+    None
+}
+
+/// The module of the first line that is of one whose name passes, of lines in runs.
+#[tactic(auto, using(crate::proofs::RunLemmas::owner_by_run))]
+fn first_owner_in<'a, T: NameTest>(runs: &[Run<'a>], test: &T) -> Option<&'a [u8]>
+    ensures { option_copied result ≡ first_owner (T.passes test.now) (lines_of_all runs.now) }
+{
+    for run in runs {
+        if let Some(name) = run.owner_if(test) {
+            return Some(name);
         }
     }
     None

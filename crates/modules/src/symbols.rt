@@ -241,7 +241,7 @@ fn first_far(symbols: &[Symbol], place: usize, addr: u64) -> usize
 
 /// The same, where the one at a place has it, and mostly none before it or just one.
 #[inline(always)]
-fn first_back(symbols: &[Symbol], place: usize, addr: u64) -> usize
+pub(crate) fn first_back(symbols: &[Symbol], place: usize, addr: u64) -> usize
     requires { IsRising symbols.now }
     ensures { IsFirstOf symbols.now addr result }
 {

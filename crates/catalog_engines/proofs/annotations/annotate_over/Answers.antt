@@ -1,4 +1,4 @@
-use Rattle.catalog_engines.proofs.Words.{[], ◌∙◌, ap, Err, Some, inl, refl, subst, sym, is_narrow, lines_of, catalog_opened, IsCatalogOf, OpensCatalog, texts_in, Refused, AnnotatesBy, AnnotatesLog, answered_by, handed_on}
+use Rattle.catalog_engines.proofs.Words.{[], ◌∙◌, ap, Err, Some, inl, refl, subst, sym, is_narrow, lines_of, listed_kernel, catalog_opened, IsCatalogOf, OpensCatalog, texts_in, Refused, AnnotatesBy, AnnotatesLog, answered_by, handed_on}
 use Rattle.order_laws.specs.declared.refusals.Refusal.TheVariants as refusal
 use Rattle.catalog_engines.proofs.AnnotationLemmas.{log_annotated, not_opened}
 use Rattle.catalog_engines.proofs.annotations.annotate_over.Goals as goal
@@ -28,15 +28,22 @@ returns g c =
     (Some given) c.annotate_by.result (record {
       catalog = c.new-answers.result.index;
       narrow = c.new-answers.result.is_narrow;
+      listed = listed_kernel given.kallsyms a.job.now.rule.offset;
       notes = opened.notes;
       noted = c.note_listings.new.writer;
       sized = c.new-answers.ensures.narrow ∙ c.is_narrow-is_narrow.ensures ∙ ap (λ t. is_narrow (lines_of t)) c.deref.ensures.value;
+      lies = refl;
       said = subst (λ x. IsCatalogOf a.sources.now.kernel given x opened.notes) (sym (c.new-answers.ensures.index ∙ c.in_ok-index.ensures))
           (subst (λ k. IsCatalogOf k given opened.catalog opened.notes) c.as_ref.ensures.value (catalog_opened _ given opened c.in_ok-opened.ensures));
       told = c.note_listings.ensures;
       holds = subst
-          (λ rule. AnnotatesBy g.L.Read.remaining g.W.Write.contents g.E.Write.contents a.job.now.log.now
+          (λ rule. AnnotatesBy g.L.Read.remaining g.W.Write.contents g.E.Write.contents a.job.now.log.now (listed_kernel given.kallsyms a.job.now.rule.offset)
           (answered_by c.new-answers.result.index rule c.new-answers.result.is_narrow)
           a.log.now c.annotate_by.new.log a.writer.now c.annotate_by.new.writer c.note_listings.new.writer c.annotate_by.new.errors c.annotate_by.result)
-          c.new-answers.ensures.rule c.annotate_by.ensures;
+          c.new-answers.ensures.rule
+          (subst
+          (λ t. AnnotatesBy g.L.Read.remaining g.W.Write.contents g.E.Write.contents a.job.now.log.now (listed_kernel t a.job.now.rule.offset)
+          (answered_by c.new-answers.result.index c.new-answers.result.rule c.new-answers.result.is_narrow)
+          a.log.now c.annotate_by.new.log a.writer.now c.annotate_by.new.writer c.note_listings.new.writer c.annotate_by.new.errors c.annotate_by.result)
+          c.deref-2.ensures.value c.annotate_by.ensures);
     })

@@ -1,4 +1,7 @@
 use Rattle.catalog_engines.proofs.Words.{◌≡◌, ◌∙◌, ℕ, List, Option, ap, false, subst, sym, option_copied, lines_of, texts_in, bounds_are, bounds_for, BoundNames, HoldsOf, IsOpened, Tallies, are_modules_hidden, are_symbols_hidden, holds_at, listings_of, same_texts, symbols_of, tallies_of, tallies_said, IsChecked, IsReport, opened_report, report, report_by, AnswersGiven, option_map_or, handed_on}
+use Rattle.listing.specs.ModuleListing.{modules_in}
+use Rattle.listing.specs.Owners.{unlisted_owner}
+use Rattle.std.specs.Option.{option_and_then}
 use Rattle.catalog_engines.proofs.GivenLemmas.{not_opened, said_or_not}
 use Rattle.catalog_engines.proofs.checks.check_given.Goals as goal
 
@@ -17,6 +20,15 @@ put_report-requires-clause-modules g c = λ text listed.
     let given = texts_in c.args.texts.now in
     let (l, at, is) = holds_at (λ x. IsOpened (option_copied c.args.kernel) false x c.in_ok-opened.opened) (listings_of given) c.in_ok-opened.ensures in
     is.modules_hidden ∙ ap (λ m. option_map_or (λ t. are_modules_hidden (lines_of t)) m false) ((same_texts given l at).0 ∙ listed)
+
+pub put_report-requires-clause-unlisted : goal.put_report-requires-clause-unlisted
+put_report-requires-clause-unlisted g c = λ text listed.
+    let given = texts_in c.args.texts.now in
+    let (l, at, is) = holds_at (λ x. IsOpened (option_copied c.args.kernel) false x c.in_ok-opened.opened) (listings_of given) c.in_ok-opened.ensures in
+    let (modules, kallsyms) = same_texts given l at in
+    is.unlisted
+    ∙ ap (option_and_then (λ t. unlisted_owner (modules_in (lines_of t)) (symbols_of false l.kallsyms))) (modules ∙ listed)
+    ∙ ap (λ k. unlisted_owner (modules_in (lines_of text)) (symbols_of false k)) kallsyms
 
 pub put_report-requires-clause-symbols : goal.put_report-requires-clause-symbols
 put_report-requires-clause-symbols g c =

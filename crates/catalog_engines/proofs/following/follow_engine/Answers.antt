@@ -1,4 +1,4 @@
-use Rattle.catalog_engines.proofs.Words.{◌∙◌, FollowsTurns, ap, inr, is_narrow, lines_of, subst, texts_in}
+use Rattle.catalog_engines.proofs.Words.{◌∙◌, FollowsTurns, IsEndTold, listed_kernel, ap, inr, is_narrow, lines_of, subst, texts_in}
 use Rattle.catalog_engines.proofs.following.follow_engine.Goals as goal
 
 pub returns : goal.returns
@@ -20,6 +20,7 @@ returns g c =
         c.follow_blocks-end.result,
         subst (λ narrow. FollowsTurns g.W.Write.contents g.E.Write.contents a.sources.now a.job.now narrow (g.L.LastingLog.seen c.read_listings.new.self) (g.L.LastingLog.seen c.follow_blocks-end.new.log) a.writer.now c.follow_blocks-end.new.writer
             c.tell_notes.new.errors c.follow_blocks-end.new.errors c.follow_blocks-end.result) sized c.follow_blocks-end.ensures,
-        c.tell_end.ensures,
+        subst (λ kernel. IsEndTold g.E.Write.contents a.job.now.log.now kernel c.follow_blocks-end.new.errors c.tell_end.new.errors c.follow_blocks-end.result c.tell_end.result)
+            (c.listed_kernel-kernel.ensures ∙ ap (λ t. listed_kernel t a.job.now.rule.offset) c.deref-2.ensures.value) c.tell_end.ensures,
       ),
     ))

@@ -1,9 +1,9 @@
-use Rattle.histories.proofs.Words.{◌≡◌, ◌++◌, map, length, lines, is_among, kept_lines}
+use Rattle.histories.proofs.Words.{◌≡◌, ◌++◌, length, lines, is_among, kept_lines}
 use Rattle.histories.proofs.changes.put_kept.Given as goal
 
 abbrev pub invariant-loop-rest : goal.invariant-loop-rest
 invariant-loop-rest l =
-    let named = is_among (map (λ n. n.now) l.names) in
+    let named = is_among l.names in
     l.out.items ++ kept_lines named (lines l.rest) ≡ l.fn.out.items ++ kept_lines named (lines l.listing)
 
 abbrev pub decreases-loop-rest : goal.decreases-loop-rest

@@ -37,6 +37,7 @@ returns-clause-opened c =
       skipped_symbols = c.in_ok-symbols.ensures.skipped;
       has_regions = c.has_regions.ensures;
       modules_hidden = built.hidden;
+      unlisted = built.unlisted;
       symbols_hidden = c.are_symbols_hidden.ensures (lines_of l.kallsyms) c.in_ok-symbols.ensures.listed c.in_ok-symbols.ensures.skipped;
       usual = c.usual_bounds-usual.ensures ∙ ap usual_bounds_of symbols;
       notes = ap with_modules built.note ∙ ap with_kallsyms noted;

@@ -1,0 +1,206 @@
+//! What a log says itself of the kernel that wrote it: where it lay, and how long its functions are.
+//!
+//! ```text
+//! RIP: 0010:do_one+0x8/0x1f00        do_one has 0x1f00 bytes
+//!           ~~~~~~    ~~~~~~
+//! ext4_a+0x18/0x30 [ext4]            a function of a module: it counts for nothing
+//! ```
+//!
+//! If functions have other sizes in a listing, it is one of another build.
+ghost use Rattle.std.specs.Prelude.{◌≡◌, ◌≤◌, length, option_map, IfOk};
+ghost use Rattle.logs.specs.KernelReports.{begins_module, function_at, is_of_another_build};
+ghost use Rattle.logs.specs.KernelReports.{nothing_said, reported, size_behind, size_behind_digits};
+ghost use Rattle.logs.specs.KernelReports.{size_in, with_function, with_functions, with_place};
+ghost use Rattle.logs.specs.KernelReports.{with_size};
+
+use crate::answers::Answers;
+use crate::kernel_offsets::{KernelOffset, kernel_offset_in};
+use crate::places::{Kind, end_of, first_of};
+use crate::words::digits_between;
+use memchr::memchr_iter;
+use std::alloc::AllocError;
+use std::marker::Model;
+
+/// The name and the size of a function, as a log says them.
+#[derive(Debug, Drop)]
+pub(crate) struct FunctionSize<'a> {
+    pub(crate) name: &'a [u8],
+    pub(crate) size: u64,
+}
+
+impl<'a> Model for FunctionSize<'a> {
+    ghost use Rattle.logs.specs.KernelReports.{SizeOfFunction};
+
+    ghost Value = { SizeOfFunction };
+
+    ghost view = { λ f. record { name = f.name.now; size = f.size } };
+}
+
+/// What a log says of its kernel. Each count stays at the greatest `u64`.
+#[derive(Clone, Copy, Debug, PartialEq, Eq, Drop)]
+pub struct KernelReport {
+    /// Where it lay, by the first line that says so.
+    pub offset: Option<KernelOffset>,
+    /// The texts with the name and the size of a function that the listing has.
+    pub functions: u64,
+    /// Those of which the listing has no function of that name and that size.
+    pub resized: u64,
+}
+
+impl KernelReport {
+    /// Nothing is said.
+    pub(crate) fn none() -> KernelReport
+        ensures { result ≡ nothing_said }
+    {
+        KernelReport {
+            offset: None,
+            functions: 0,
+            resized: 0,
+        }
+    }
+
+    /// Whether the listing is one of another build: two functions or more have another size.
+    pub fn is_of_another_build(self) -> bool
+        ensures { result ≡ is_of_another_build self }
+    {
+        self.resized >= 2
+    }
+
+    /// One function more that the listing has, of the same size or of another one.
+    fn with_size(self, is_same: bool) -> KernelReport
+        ensures { result ≡ with_size is_same self }
+    {
+        let functions = self.functions.saturating_add(1);
+        if is_same {
+            KernelReport { functions, ..self }
+        } else {
+            KernelReport {
+                functions,
+                resized: self.resized.saturating_add(1),
+                ..self
+            }
+        }
+    }
+
+    /// One function more, if the listing has it.
+    fn with_function<A: Answers>(
+        self,
+        answers: &A,
+        function: FunctionSize<'_>,
+    ) -> Result<KernelReport, AllocError>
+        ensures { IfOk result
+            (λ r. r ≡ with_function (A.answering answers.now) self function.entry) }
+    {
+        match answers.has_size(function.name, function.size)? {
+            Some(is_same) => Ok(self.with_size(is_same)),
+            None => Ok(self),
+        }
+    }
+
+    /// The function more whose name ends at a place of a line, if one does.
+    fn with_place<A: Answers>(
+        self,
+        answers: &A,
+        line: &[u8],
+        place: usize,
+    ) -> Result<KernelReport, AllocError>
+        ensures { IfOk result
+            (λ r. r ≡ with_place (A.answering answers.now) line.now self place) }
+    {
+        match function_at(line, place) {
+            Some(function) => self.with_function(answers, function),
+            None => Ok(self),
+        }
+    }
+
+    /// The functions of a line more.
+    #[tactic(auto, using(crate::proofs::KernelReportLemmas::places_then, std::proofs::Common::append_assoc))]
+    fn with_functions<A: Answers>(
+        self,
+        answers: &A,
+        line: &[u8],
+    ) -> Result<KernelReport, AllocError>
+        ensures { IfOk result
+            (λ r. r ≡ with_functions (A.answering answers.now) line.now self) }
+    {
+        let mut report = self;
+        for place in memchr_iter(b'+', line) {
+            report = report.with_place(answers, line, place)?;
+        }
+        Ok(report)
+    }
+
+    /// What a line says more.
+    pub(crate) fn with_line<A: Answers>(
+        self,
+        answers: &A,
+        line: &[u8],
+    ) -> Result<KernelReport, AllocError>
+        ensures { IfOk result
+            (λ r. r ≡ reported (A.answering answers.now) line.now self) }
+    {
+        let offset = match self.offset {
+            None => kernel_offset_in(line),
+            first => first,
+        };
+        KernelReport { offset, ..self }.with_functions(answers, line)
+    }
+}
+
+/// The function whose name ends at a place of a line, if its size is said there.
+#[tactic(auto, using(crate::proofs::KernelReportLemmas::none_behind))]
+fn function_at(line: &[u8], place: usize) -> Option<FunctionSize<'_>>
+    ensures { result ≡ function_at line.now place }
+{
+    if place > line.len() {
+        return None;
+    }
+    let name = end_of(Kind::Function, &line[..place]);
+    if name.is_empty() {
+        return None;
+    }
+    let size = size_behind(&line[place..])?;
+    Some(FunctionSize { name, size })
+}
+
+/// The size of a text that begins with `+0xOFF/0xSIZE`.
+fn size_behind(text: &[u8]) -> Option<u64>
+    ensures { result ≡ size_behind text.now }
+{
+    if text.starts_with(b"+0x") {
+        size_behind_digits(&text[3..])
+    } else {
+        None
+    }
+}
+
+/// The size of a text that begins with the digits of an offset and `/0xSIZE`.
+fn size_behind_digits(text: &[u8]) -> Option<u64>
+    ensures { result ≡ size_behind_digits text.now }
+{
+    let count = first_of(Kind::Hexadecimal, text);
+    if count > 0 && text[count..].starts_with(b"/0x") {
+        size_in(&text[count + 3..])
+    } else {
+        None
+    }
+}
+
+/// The size that the digits write which begin a text, unless it is that of a module's function.
+fn size_in(text: &[u8]) -> Option<u64>
+    ensures { result ≡ size_in text.now }
+{
+    let count = first_of(Kind::Hexadecimal, text);
+    if begins_module(&text[count..]) {
+        None
+    } else {
+        digits_between(1, 16, &text[..count])
+    }
+}
+
+/// Whether ` [MODULE]` begins a text.
+fn begins_module(text: &[u8]) -> bool
+    ensures { result ≡ begins_module text.now }
+{
+    text.starts_with(b" [") && first_of(Kind::Word, &text[2..]) > 0
+}
