@@ -10,6 +10,7 @@ both have to begin at one address.
 import os, pathlib, random, subprocess, sys, tempfile
 
 COUNT = 10000
+MAPPING = ("$", ".L", "L0")  # names of no code (is_mapping_symbol, Linux 6.x)
 KERNEL = [f"ffffffff8100{place:02x}00 T {name}\n" for place, name in enumerate(("_stext", "one", "two", "_end"))]
 MODULE, OTHER = (f"ffffffffc0000010 t {name}\t[m]\nffffffffc0000020 t last_of_{name}\t[m]" for name in ("old", "new"))
 
@@ -26,7 +27,7 @@ def listed():
     for addr, kind, name, *module in lines:
         addr = int(addr, 16)
         owners = module or [name_of for start, end, name_of in bounds if start <= addr < end]
-        if owners and addr and name[0] not in "$.":
+        if owners and addr and not name.startswith(MAPPING):
             rows.append((addr, kind, name, owners[0]))
     return sorted(rows, key=lambda row: row[0])
 
