@@ -36,7 +36,7 @@ use crate::notes::note_listings;
 use crate::sources::{ListingFiles, Sources};
 use command_io::{Fault, ListingTexts, open_catalog};
 use listing::{is_narrow, shows_symbol};
-use logs::{Annotator, Answers, Findings, LogFault, LogNames, keep_head};
+use logs::{Annotator, Answers, Findings, LogFault, LogNames, keep_head, says_nothing};
 use modules::{ExpectedLookups, IndexedCatalog};
 use order_laws::Refusal;
 use std::alloc::Global;
@@ -362,8 +362,9 @@ fn put_by<A: Answers, W: Write>(
 {
     match part {
         Part::Lines(block) => {
-            answers.prepare(block)?;
-            annotator.pass(alloc, answers, block, writer)?;
+            let is_silent = says_nothing(block);
+            answers.prepare(is_silent)?;
+            annotator.pass(alloc, answers, block, is_silent, writer)?;
             Ok(annotator.names())
         }
         Part::Last => annotator.end(alloc, answers, writer),

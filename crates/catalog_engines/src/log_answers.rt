@@ -10,8 +10,7 @@ use crate::log_aliases::is_alias_in;
 use crate::log_index::LogIndex;
 use listing::{AddressRule, Answer, Callers, LogRule, answer_of, put_answer, sought};
 use logs::{Answers, NamedReadings};
-use memchr::memmem;
-use modules::{FoundSymbol, IndexedCatalog};
+use modules::{FoundSymbol, IndexedCatalog, symbol_of};
 use order_laws::Item;
 use std::alloc::{AllocError, Global};
 use texts::Output;
@@ -35,8 +34,8 @@ impl<'i, 'c> Answers for CatalogAnswers<'i, 'c> {
         self.is_narrow
     }
 
-    fn prepare(&mut self, bytes: &[u8]) -> Result<(), AllocError> {
-        if memmem::find(bytes, b"/0x").is_some() {
+    fn prepare(&mut self, is_silent: bool) -> Result<(), AllocError> {
+        if !is_silent {
             self.index.sort_names(self.alloc)?;
         }
         Ok(())
@@ -88,9 +87,11 @@ impl<'i, 'c> Answers for CatalogAnswers<'i, 'c> {
             return false;
         }
         let rule = reading_at(self.rule, false);
-        let item = self.item_of(rule, addr);
-        match answer_of(self.index.catalog(), rule, item, addr).found {
-            Some(found) => begins_data(&found),
+        match sought(rule, self.item_of(rule, addr), addr) {
+            Some((item, place)) => match symbol_of(self.index.catalog(), item, place) {
+                Some(found) => begins_data(&found),
+                None => false,
+            },
             None => false,
         }
     }

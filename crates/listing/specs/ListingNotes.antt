@@ -68,7 +68,8 @@ is_of_modules mapping text kallsyms c ModulesOverlap =
     do_modules_overlap (modules_in (lines_of text)) (symbols_in (lines_of kallsyms)) c
 is_of_modules mapping text kallsyms c NoModuleLine = has_no_module c && lacks_lines is_module_line text
 is_of_modules mapping text kallsyms c (UnlistedOwner owner) =
-    is_owner owner
+    not mapping
+    && is_owner owner
     (unlisted_owner (modules_in (lines_of text)) (symbols_with mapping (symbols_in (lines_of kallsyms))))
 is_of_modules mapping text kallsyms c _ = false
 

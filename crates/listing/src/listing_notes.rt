@@ -170,7 +170,7 @@ pub fn applies_to_modules(
         ListingNote::OtherBoot => lacks_symbols(catalog),
         ListingNote::ModulesOverlap => do_modules_overlap(text, kallsyms, catalog),
         ListingNote::NoModuleLine => none && lacks_module_lines(text),
-        ListingNote::UnlistedOwner(owner) => owner.is(known.unlisted),
+        ListingNote::UnlistedOwner(owner) => !known.with_mapping && owner.is(known.unlisted),
         ListingNote::Empty
         | ListingNote::LooksLikeModules
         | ListingNote::NoStart

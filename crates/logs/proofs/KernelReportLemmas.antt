@@ -1,36 +1,29 @@
 -- A line that says nothing of its kernel.
-use Rattle.logs.proofs.Definitions.{◌≡◌, ◌+◌, ◌<◌, ℕ, zero, suc, Bool, false, List, [], length, arith, refl, Some, codes, Nowhere, is_byte, slice_index}
-use Rattle.std.proofs.Common.{Option, None}
-use Rattle.std.proofs.lemmas.Bool.{eqb-true, false_from_ne_true}
-use Rattle.std.specs.Prelude.{◌-◌}
+use Rattle.logs.proofs.Definitions.{◌≡◌, ◌+◌, ◌<◌, ℕ, zero, suc, Bool, false, List, [], length, arith, refl, Some, codes, is_byte, nat_eq, starts_with, and_right}
+use Rattle.std.proofs.Common.{Option, None, drop}
+use Rattle.std.specs.Prelude.{nat_lt}
 use Rattle.std.proofs.Common.{◌∷◌, ◌++◌, ◌==◌, cond, take, true}
 use Rattle.std.proofs.lemmas.List.{drop_all}
 use Rattle.std.specs.Option.{option_or}
-use Rattle.logs.specs.KernelReports.{SizeOfFunction, function_at, with_place, with_places}
-use Rattle.logs.specs.Places.{end_of}
+use Rattle.logs.specs.KernelReports.{Lacks, SaysNothing, SizeOfFunction, function_at, size_behind_digits, with_place, with_places}
+use Rattle.logs.specs.Places.{end_of, first_of}
 use Rattle.logs.specs.declared.kernel_reports.KernelReport.{KernelReport}
 use Rattle.logs.specs.declared.places.Kind.TheVariants as kind
-use Rattle.memchr.specs.Find.{Passes as HasByte, is_byte3, places_from}
+use Rattle.memchr.specs.Find.{places}
 use Rattle.logs.specs.Answering.{Answering}
 use Rattle.logs.specs.LogNames.{with_line}
 use Rattle.logs.specs.declared.kernel_offsets.KernelOffset.{KernelOffset}
 use Rattle.logs.specs.declared.log_names.LogNames.{LogNames}
 use Rattle.logs.proofs.KernelOffsetLemmas.{never_said}
-use Rattle.logs.proofs.TextLemmas.{never_there}
+use Rattle.logs.proofs.TextLemmas.{behind_occurs, dropped_occurs, front_occurs, no_begin}
 
-none_in : (test : ℕ → Bool) (hay : List ℕ) (i n : ℕ) → Nowhere (HasByte test hay) i (i + n) → places_from test hay i n ≡ []
-unfolding places_from
-none_in test hay i zero none = refl
-none_in test hay i (suc n) none =
-    rw (false_from_ne_true (test (slice_index hay i)) (none i (omega arith) (omega arith)), none_in test hay (i + 1) n (λ k low high. none k (omega arith) (omega arith))) refl
+all_none : (b : Bool) → ◌≡◌ {A = Option SizeOfFunction} (cond b None None) None
+all_none true = refl
+all_none false = refl
 
 -- a place behind a line
 pub none_behind : (line : List ℕ) (place : ℕ) → length line < place → function_at line place ≡ None
 none_behind line place behind = rw (drop_all place line (omega arith)) (all_none (length (end_of kind.Function (take place line)) == 0))
-  where
-    all_none : (b : Bool) → ◌≡◌ {A = Option SizeOfFunction} (cond b None None) None
-    all_none true = refl
-    all_none false = refl
 
 -- places, and one more after them
 pub places_then : (answer : Answering) (line : List ℕ) (r : KernelReport) (ps : List ℕ) (p : ℕ) → with_places answer line r (ps ++ p ∷ []) ≡ with_place answer line (with_places answer line r ps) p
@@ -41,13 +34,46 @@ or_none : (o : Option KernelOffset) → option_or o None ≡ o
 or_none None = refl
 or_none (Some k) = refl
 
-pub nothing_reported : (answer : Answering) (line : List ℕ) (names : LogNames) → Nowhere (HasByte (is_byte3 80 75 43) line) 0 (length line) → with_line answer line names ≡ names
-nothing_reported answer line names none =
-    rw (
-      never_said line (never_there (is_byte3 80 75 43) (codes "Kernel Offset: 0x") 0 line (omega arith) refl none),
-      or_none names.kernel.offset,
-      none_in (is_byte 43) line 0 (length line - 0) (λ k low high is. none k low (omega (arith, high)) (plus _ is)),
-    ) refl
+-- ---- bytes that say nothing
+
+-- a part of such bytes
+pub front_silent : (xs after : List ℕ) → SaysNothing (xs ++ after) → SaysNothing xs
+front_silent xs after (size, offset) = (λ k at. size k (front_occurs xs after _ k at), λ k at. offset k (front_occurs xs after _ k at))
+
+pub rest_silent : (front xs : List ℕ) → SaysNothing (front ++ xs) → SaysNothing xs
+rest_silent front xs (size, offset) = (absent _ size, absent _ offset)
   where
-    plus : (b : ℕ) → is_byte 43 b ≡ true → is_byte3 80 75 43 b ≡ true
-    plus b is = rw (eqb-true b 43 is) refl
+    absent : (text : List ℕ) → Lacks (front ++ xs) text → Lacks xs text
+    absent text none k at = let (m, there) = behind_occurs front xs text k at in none m there
+
+either : (b : Bool) (o : Option ℕ) → o ≡ None → cond b o None ≡ None
+either true o none = none
+either false o none = refl
+
+-- no size is said there, nor a function
+no_size_behind : (text : List ℕ) → Lacks text (codes "/0x") → size_behind_digits text ≡ None
+no_size_behind text none =
+    let n = first_of kind.Hexadecimal text in
+    rw (no_begin (drop n text) (codes "/0x") (λ k at. let (m, there) = dropped_occurs n text (codes "/0x") k at in none m there), and_right (nat_lt 0 n) false refl) refl
+
+no_function : (line : List ℕ) (place : ℕ) → Lacks line (codes "/0x") → function_at line place ≡ None
+no_function line place none =
+    rw (either (starts_with nat_eq (drop place line) (codes "+0x")) (size_behind_digits (drop 3 (drop place line))) (no_size_behind (drop 3 (drop place line)) later)) (all_none (length (end_of kind.Function (take place line)) == 0))
+  where
+    later : Lacks (drop 3 (drop place line)) (codes "/0x")
+    later k at =
+        let (m, there) = dropped_occurs 3 (drop place line) (codes "/0x") k at in
+        let (n, here) = dropped_occurs place line (codes "/0x") m there in
+        none n here
+
+no_functions : (answer : Answering) (line : List ℕ) → Lacks line (codes "/0x") → (r : KernelReport) (ps : List ℕ) → with_places answer line r ps ≡ r
+no_functions answer line none r [] = refl
+no_functions answer line none r (p ∷ ps) = rw (no_function line p none) (no_functions answer line none r ps)
+
+pub nothing_reported : (answer : Answering) (line : List ℕ) (names : LogNames) → SaysNothing line → with_line answer line names ≡ names
+nothing_reported answer line names (size, offset) =
+    rw (never_said line offset, or_none names.kernel.offset, no_functions answer line size names.kernel (places (is_byte 43) line)) refl
+
+-- no bytes
+pub nothing_there : SaysNothing []
+nothing_there = (λ k at. absurd (omega (arith, at.fits)), λ k at. absurd (omega (arith, at.fits)))

@@ -1,6 +1,6 @@
 -- The lines that bytes are, and what is put for them.
 use Rattle.logs.proofs.Definitions.{list_any, or-true, ◌&&◌, ◌||◌, take_all, le-ltb, or_parts, list_any-append, ◌≡◌, ◌∙◌, ℕ, ◌+◌, ◌<◌, ◌≤◌, Bool, true, false, ◌==◌, List, [], ◌∷◌, ◌++◌, length, take, get_or, length-append, refl, sym, ap, append_assoc, append-nil, arith, cond-false, true≢false, onto_first, eqb-true, lt-ltb, ltb-true, take_more, Nowhere, is_byte, Answering, AreWhole, IsLine, has_end, is_long, lines, annotated_lines, held_over, Adds, Ended, Ends, IsOpen, Passes, held_in, kept_of, put_of, Annotator, LogContext}
-use Rattle.logs.proofs.KernelReportLemmas.{nothing_reported}
+use Rattle.logs.proofs.KernelReportLemmas.{nothing_reported, nothing_there}
 use Rattle.logs.proofs.TextLemmas.{none_up_to}
 use Rattle.memchr.specs.Find.{Passes as HasByte}
 use Rattle.logs.specs.AnnotatedLogs.{annotated_line, held_behind}
@@ -238,7 +238,7 @@ module _ (answer : Answering) where
   -- nothing is put for no bytes
   nothing_put : (held : LogContext) → (annotated_line answer held [] ≡ []) × ((held_behind answer held []).names ≡ held.names)
   unfolding annotated_line held_behind
-  nothing_put held = (refl, nothing_reported answer [] held.names (λ k low high. absurd (omega arith)))
+  nothing_put held = (refl, nothing_reported answer [] held.names nothing_there)
 
   -- no more bytes come
   pub last_is_put : (a : Annotator) (held : LogContext) (begun text : List ℕ) → begun ≡ a.begun.items → held ≡ held_behind answer a.held begun → text ≡ annotated_line answer a.held begun → Ends answer a held.names text

@@ -1,6 +1,8 @@
 -- Bytes that are gone through from the last one to the first, and the things that begin a line.
-use Rattle.logs.proofs.Definitions.{take_rest, ne_eqb, ◌≡◌, ◌∙◌, ℕ, zero, suc, ◌+◌, ◌<◌, ◌≤◌, Bool, false, cond, not, ◌&&◌, ◌==◌, List, [], ◌∷◌, length, take, get_or, refl, ap, arith, reverse-append, take_more, ends_prefix, is_lead, is_of, last_of, lead_item, prefix_up_to}
+use Rattle.logs.proofs.Definitions.{take_rest, ne_eqb, ◌≡◌, ◌∙◌, ℕ, zero, suc, ◌+◌, ◌<◌, ◌≤◌, Bool, false, cond, not, ◌&&◌, ◌==◌, List, [], ◌∷◌, length, length-drop, take, get_or, get_or-drop, refl, sym, ap, arith, false_from_ne_true, nat_eq, reverse-append, take_more, ends_prefix, is_lead, is_of, last_of, lead_item, prefix_up_to}
 use Rattle.std.proofs.Common.{◌-◌, drop}
+use Rattle.std.proofs.lemmas.Slice.Eq.{bytes_eq-Decides}
+use Rattle.std.specs.List.{ends_with}
 use Rattle.logs.specs.declared.places.Kind.{Kind}
 
 -- one byte more at the end
@@ -54,3 +56,16 @@ lead_over (b ∷ bytes) (suc n) is past some = lead_rest b bytes n is ∙ lead_p
 
 -- one thing more, or none, or one that is too long
 pub ruleset leads = (lead_step, lead_none, lead_over, take_rest)
+
+-- bytes whose last one is another than a text's do not end in it
+pub other_end : (bytes text : List ℕ) → 1 ≤ length bytes → 1 ≤ length text → (get_or bytes (length bytes - 1) 0 ≡ get_or text (length text - 1) 0 → ⊥) → false ≡ ends_with nat_eq bytes text
+other_end bytes text some one other =
+    sym (false_from_ne_true (ends_with nat_eq bytes text) (λ is. other (same ((bytes_eq-Decides text (drop n bytes)).0 is))))
+  where
+    n : ℕ
+    n = length bytes - length text
+
+    same : text ≡ drop n bytes → get_or bytes (length bytes - 1) 0 ≡ get_or text (length text - 1) 0
+    same is =
+        let last : n + (length (drop n bytes) - 1) ≡ length bytes - 1 = omega (arith, length-drop n bytes, some, one) in
+        sym (ap (λ l. get_or l (length l - 1) 0) is ∙ get_or-drop n bytes (length (drop n bytes) - 1) 0 ∙ ap (λ i. get_or bytes i 0) last)

@@ -5,7 +5,7 @@ use Rattle.std.specs.Prelude.{if◌then◌else◌, List, [], ◌∷◌, length, 
 use Rattle.std.specs.Prelude.{Option, None, option_map}
 use Rattle.std.specs.List.{starts_with}
 use Rattle.std.specs.Option.{option_map_or, option_or}
-use Rattle.memchr.specs.Find.{is_byte, places}
+use Rattle.memchr.specs.Find.{OccursAt, is_byte, places}
 use Rattle.logs.specs.Answering.{Answering}
 use Rattle.logs.specs.KernelOffsets.{kernel_offset_in}
 use Rattle.logs.specs.Places.{end_of, first_of}
@@ -87,6 +87,14 @@ abbrev pub reported : Answering → List ℕ → KernelReport → KernelReport
 reported answer line r =
     with_functions answer line
     (record r { offset = option_or r.offset (kernel_offset_in line) })
+
+-- a text occurs nowhere in the bytes
+abbrev pub Lacks : List ℕ → List ℕ → Type 0
+Lacks bytes text = (k : ℕ) → OccursAt bytes text k → ⊥
+
+-- No text in the bytes may be the size of a function, or where the kernel lay.
+abbrev pub SaysNothing : List ℕ → Type 0
+SaysNothing bytes = Lacks bytes (codes "/0x") × Lacks bytes (codes "Kernel Offset: 0x")
 
 -- The listing is one of another build: two functions or more have another size.
 abbrev pub is_of_another_build : KernelReport → Bool

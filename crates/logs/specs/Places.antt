@@ -64,8 +64,8 @@ has_label before =
     || ends_with nat_eq (without_end kind.Space before) (codes "[<0>]")
     || ends_in_label head
     || (ends_with nat_eq head (codes " is at") && ends_in_label (take (length head - 6) head))
-    || ((bytes_eq word (codes "at") || bytes_eq word (codes "in"))
-    && starts_with nat_eq (drop (length head) before) (codes ":"))
+    || (starts_with nat_eq (drop (length head) before) (codes ":")
+    && (bytes_eq word (codes "at") || bytes_eq word (codes "in")))
 
 -- the bytes begin with a shape, in which `0` is any digit
 abbrev pub begins_like : List ℕ → List ℕ → Bool

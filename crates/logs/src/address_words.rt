@@ -11,7 +11,6 @@
 ghost use Rattle.std.specs.Prelude.{◌≡◌, ◌≤◌, ◌<◌, ◌||◌, ◌==◌, drop, false, length, reverse};
 ghost use Rattle.std.specs.List.{list_any};
 ghost use Rattle.std.specs.Option.{option_map_or};
-ghost use Rattle.memchr.specs.Find.{IsFirstByte, is_byte3};
 ghost use Rattle.logs.specs.TakenWords.{begins_dump, begins_pair, begins_user, continues_trace};
 ghost use Rattle.logs.specs.TakenWords.{ends_pair, ends_trace, ends_user};
 ghost use Rattle.logs.specs.TakenWords.{gap_before, has_bracket, has_bus_label, has_code};
@@ -372,15 +371,19 @@ fn ends_user(line: &[u8]) -> bool
     has_words(b"Krnl", line) || has_words(b"Call Trace", line)
 }
 
-/// Whether the bytes begin the registers of a program. Mostly they have no `P` at all.
+/// Whether the bytes begin the registers of a program. Mostly they are few, and have no `P` at all.
 #[tactic(auto, using(crate::proofs::TextLemmas::no_user))]
 fn begins_user(bytes: &[u8]) -> bool
     ensures { result ≡ begins_user bytes.now }
 {
-    match memchr(b'P', bytes) {
-        Some(_) => has_words(b"User PSW", bytes),
-        None => false,
-    }
+    has_p(bytes) && has_words(b"User PSW", bytes)
+}
+
+/// Whether a `P` is among the bytes.
+fn has_p(bytes: &[u8]) -> bool
+    ensures { result ≡ list_any (λ b. b == 80) bytes.now }
+{
+    bytes.iter().any(|byte| *byte == b'P')
 }
 
 /// Whether the line has the word `RIP`, `EIP` or `NIP`.
@@ -465,17 +468,15 @@ fn next_first(first: First, has_frame: bool, tells: bool, line: &[u8]) -> First
     }
 }
 
-/// Carries on after a line with a frame or without one. Mostly the line has no `P`, and no other of
-/// the bytes that were sought in it.
+/// Carries on after a line with a frame or without one. Mostly the line has no `P`.
 #[tactic(auto, using(crate::proofs::TextLemmas::no_place, crate::proofs::TextLemmas::no_begin_of_user))]
-pub(crate) fn carry_on(held: &mut LogContext, line: &[u8], mark: Option<usize>, has_frame: bool)
-    requires { IsFirstByte (is_byte3 80 75 43) line.now mark }
+pub(crate) fn carry_on(held: &mut LogContext, line: &[u8], has_frame: bool)
     ensures first { held.new.first
         ≡ next_first held.old.first has_frame (tells_place line.now) (ends_trace line.now) }
     ensures user { held.new.is_user ≡ (is_user_line held.old line.now || begins_user line.now) }
     ensures names { held.new.names ≡ held.old.names }
 {
-    match mark {
+    match memchr(b'P', line) {
         Some(_) => {
             held.is_user = is_user_line(*held, line) || begins_user(line);
             held.first = next_first(held.first, has_frame, tells_place(line), line);

@@ -4,6 +4,7 @@ ghost use Rattle.logs.specs.Annotation.{Annotates, IsAnnotationOf, Puts};
 
 use crate::annotator::{Annotator, put_now};
 use crate::answers::Answers;
+use crate::kernel_reports::says_nothing;
 use crate::log_names::LogNames;
 use std::alloc::{AllocError, Global};
 use std::io::{Read, Write};
@@ -84,8 +85,9 @@ pub fn annotate<A: Answers, R: Read, W: Write>(
             return Ok(Findings { names, head });
         }
         keep_head(&mut head, &block[..count])?;
-        answers.prepare(&block[..count])?;
-        annotator.pass(alloc, answers, &block[..count], writer)?;
+        let is_silent = says_nothing(&block[..count]);
+        answers.prepare(is_silent)?;
+        annotator.pass(alloc, answers, &block[..count], is_silent, writer)?;
     }
     Err(LogFault::TooLong)
 }
@@ -103,8 +105,9 @@ pub fn annotate_text<A: Answers, W: Write>(
 {
     let mut head = Vec::new(alloc);
     keep_head(&mut head, log)?;
-    answers.prepare(log)?;
-    let (out, names) = Annotator::annotated(alloc, answers, log)?;
+    let is_silent = says_nothing(log);
+    answers.prepare(is_silent)?;
+    let (out, names) = Annotator::annotated(alloc, answers, log, is_silent)?;
     put_now(writer, &out)?;
     Ok(Findings { names, head })
 }

@@ -11,13 +11,14 @@
 //!
 //! So each line is named as a whole, by what answers when its end comes.
 ghost use Rattle.std.specs.Prelude.{◌≡◌, ℕ, List, ◌<◌, ◌++◌, [], false, length};
-ghost use Rattle.std.specs.Prelude.{IfErr, IfNone, IfOk, IfSome, OnErr, option_map};
+ghost use Rattle.std.specs.Prelude.{IfErr, IfNone, IfOk, IfSome, IsTrue, OnErr, option_map};
 ghost use Rattle.std.specs.Cow.{cow_slice_items};
 ghost use Rattle.texts.specs.Output.{Delivered, WrotePart, error_in};
 ghost use Rattle.logs.specs.Answering.{Answering};
 ghost use Rattle.logs.specs.AnnotatedLogs.{first_held};
 ghost use Rattle.logs.specs.Annotation.{Adds, Ends, IsAnnotation, IsOpen, IsWriteFault, Passes};
 ghost use Rattle.logs.specs.Annotation.{Puts, held_in};
+ghost use Rattle.logs.specs.KernelReports.{SaysNothing};
 ghost use Rattle.logs.specs.Lines.{IsLine, has_end, unless_long};
 ghost use Rattle.logs.specs.Unnamed.{EndsUnnamed, PassesUnnamed, ends_address, has_address};
 
@@ -58,21 +59,24 @@ impl Annotator {
     }
 
     /// Takes a block in, and writes each line that has its end now, named by these answers. The
-    /// writer is flushed.
+    /// writer is flushed. What lines say of their kernel is not sought in a block that is known to be
+    /// silent on it.
     pub fn pass<A: Answers, W: Write>(
         &mut self,
         alloc: Global,
         answers: &A,
         bytes: &[u8],
+        is_silent: bool,
         writer: &mut Output<W>,
     ) -> Result<(), LogFault>
+        requires { IsTrue is_silent → SaysNothing bytes.now }
         ensures { Puts W.contents
             (λ _. Passes (A.answering answers.now) self.old self.new bytes.now)
             writer.old writer.new result }
     {
         let room = self.begun.len().saturating_add(bytes.len());
         let mut out = Vec::with_capacity(alloc, room)?;
-        self.pass_bytes(answers, bytes, &mut out)?;
+        self.pass_bytes(answers, bytes, is_silent, &mut out)?;
         put_now(writer, &out)
     }
 
@@ -96,7 +100,7 @@ impl Annotator {
     {
         let mut held = self.held;
         let mut out = Vec::new(alloc);
-        put_line(answers, &mut held, &self.begun, &mut out)?;
+        put_line(answers, &mut held, &self.begun, false, &mut out)?;
         put_now(writer, &out)?;
         Ok(held.names)
     }
@@ -114,7 +118,7 @@ impl Annotator {
             writer.old writer.new result }
     {
         let names = self.held.names;
-        let put = self.pass(alloc, &Unanswered { is_narrow }, bytes, writer);
+        let put = self.pass(alloc, &Unanswered { is_narrow }, bytes, false, writer);
         self.held.names = names;
         put
     }
@@ -208,25 +212,30 @@ impl Annotator {
         alloc: Global,
         answers: &A,
         log: &[u8],
+        is_silent: bool,
     ) -> Result<(Vec<u8>, LogNames), AllocError>
+        requires { IsTrue is_silent → SaysNothing log.now }
         ensures { IfOk result
             (λ r. IsAnnotation (A.answering answers.now) log.now r.0.items r.1) }
     {
         let mut annotator = Annotator::new(alloc);
         let mut out = Vec::with_capacity(alloc, log.len())?;
-        annotator.pass_bytes(answers, log, &mut out)?;
+        annotator.pass_bytes(answers, log, is_silent, &mut out)?;
         let mut held = annotator.held;
-        put_line(answers, &mut held, &annotator.begun, &mut out)?;
+        put_line(answers, &mut held, &annotator.begun, false, &mut out)?;
         Ok((out, held.names))
     }
 
-    /// Takes bytes in, and puts each line that has its end now.
+    /// Takes bytes in, and puts each line that has its end now. If the bytes are silent on their
+    /// kernel, so is each line that begins in them.
     pub fn pass_bytes<A: Answers>(
         &mut self,
         answers: &A,
         bytes: &[u8],
+        is_silent: bool,
         out: &mut Vec<u8>,
     ) -> Result<(), AllocError>
+        requires { IsTrue is_silent → SaysNothing bytes.now }
         ensures { IfOk result (λ _. Adds out.old.items out.new.items
             (Passes (A.answering answers.now) self.old self.new bytes.now)) }
     {
@@ -234,7 +243,7 @@ impl Annotator {
         loop {
             match cut_line(rest) {
                 Some((line, more)) => {
-                    self.pass_line(answers, line, out)?;
+                    self.pass_line(answers, line, is_silent, out)?;
                     rest = more;
                 }
                 None => {
@@ -250,9 +259,11 @@ impl Annotator {
         &mut self,
         answers: &A,
         line: &[u8],
+        is_silent: bool,
         out: &mut Vec<u8>,
     ) -> Result<(), AllocError>
-        requires { IsLine line.now }
+        requires line { IsLine line.now }
+        requires silent { IsTrue is_silent → SaysNothing line.now }
         ensures { IfOk result (λ _. Adds out.old.items out.new.items
             (Passes (A.answering answers.now) self.old self.new line.now)) }
     {
@@ -262,11 +273,11 @@ impl Annotator {
             return Ok(());
         }
         if self.begun.is_empty() {
-            put_line(answers, &mut self.held, line, out)?;
+            put_line(answers, &mut self.held, line, is_silent, out)?;
             return Ok(());
         }
         self.begun.extend_from_slice(line)?;
-        put_line(answers, &mut self.held, &self.begun, out)?;
+        put_line(answers, &mut self.held, &self.begun, false, out)?;
         self.begun.clear();
         Ok(())
     }
@@ -312,8 +323,7 @@ pub fn put_now<W: Write>(writer: &mut Output<W>, bytes: &[u8]) -> Result<(), Log
     ensures fault { IfErr result (IsWriteFault (error_in writer.new)) }
     ensures begun { OnErr result (WrotePart W.contents writer.old writer.new bytes.now) }
 {
-    writer.put(bytes);
-    writer.flush();
+    writer.deliver(bytes);
     if writer.has_failed() {
         return Err(fault_of(writer.error()));
     }

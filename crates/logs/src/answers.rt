@@ -15,8 +15,9 @@ pub trait Answers {
     fn is_narrow(&self) -> bool
         ensures { result ≡ (answering self.now).is_narrow };
 
-    /// Makes ready what these bytes of a log may ask for. The answers stay the same.
-    fn prepare(&mut self, bytes: &[u8]) -> Result<(), AllocError>
+    /// Makes ready what bytes of a log may ask for, unless they say nothing of the kernel that wrote
+    /// it. The answers stay the same.
+    fn prepare(&mut self, is_silent: bool) -> Result<(), AllocError>
         ensures { answering self.new ≡ answering self.old };
 
     /// The text that is inserted for an address, if one is, of which its place asks a reading.

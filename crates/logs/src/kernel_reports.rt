@@ -7,8 +7,8 @@
 //! ```
 //!
 //! If functions have other sizes in a listing, it is one of another build.
-ghost use Rattle.std.specs.Prelude.{◌≡◌, ◌≤◌, length, option_map, IfOk};
-ghost use Rattle.logs.specs.KernelReports.{begins_module, function_at, is_of_another_build};
+ghost use Rattle.std.specs.Prelude.{◌≡◌, ◌≤◌, length, option_map, IfOk, IsTrue};
+ghost use Rattle.logs.specs.KernelReports.{Lacks, SaysNothing, begins_module, function_at, is_of_another_build};
 ghost use Rattle.logs.specs.KernelReports.{nothing_said, reported, size_behind, size_behind_digits};
 ghost use Rattle.logs.specs.KernelReports.{size_in, with_function, with_functions, with_place};
 ghost use Rattle.logs.specs.KernelReports.{with_size};
@@ -17,7 +17,7 @@ use crate::answers::Answers;
 use crate::kernel_offsets::{KernelOffset, kernel_offset_in};
 use crate::places::{Kind, end_of, first_of};
 use crate::words::digits_between;
-use memchr::memchr_iter;
+use memchr::{memchr_iter, memmem};
 use std::alloc::AllocError;
 use std::marker::Model;
 
@@ -144,6 +144,24 @@ impl KernelReport {
             first => first,
         };
         KernelReport { offset, ..self }.with_functions(answers, line)
+    }
+}
+
+/// Whether it is plain that no line of these bytes says where its kernel lay or how long a function
+/// is.
+pub fn says_nothing(bytes: &[u8]) -> bool
+    ensures { IsTrue result → SaysNothing bytes.now }
+{
+    lacks(bytes, b"/0x") && lacks(bytes, b"Kernel Offset: 0x")
+}
+
+/// Whether a text occurs nowhere in the bytes.
+fn lacks(bytes: &[u8], text: &[u8]) -> bool
+    ensures { IsTrue result → Lacks bytes.now text.now }
+{
+    match memmem::find(bytes, text) {
+        Some(_) => false,
+        None => true,
     }
 }
 

@@ -22,7 +22,7 @@ pub use annotator::{Annotator, cut_line, put_now};
 pub use answers::Answers;
 pub use contexts::{First, LogContext};
 pub use kernel_offsets::{KernelOffset, kernel_offset_in};
-pub use kernel_reports::KernelReport;
+pub use kernel_reports::{KernelReport, says_nothing};
 pub use log_names::LogNames;
 pub use own_names::NamedReadings;
 pub use unnamed::{Unanswered, has_address};

@@ -8,11 +8,12 @@
 //!     |---------------------|                       put, and then ` do_one+0x8/0x1f00`
 //!                            |----------|           put at the end
 //! ```
-ghost use Rattle.std.specs.Prelude.{◌≡◌, ◌≤◌, ◌<◌, ◌++◌, ◌∷◌, length, IfOk};
+ghost use Rattle.std.specs.Prelude.{◌≡◌, ◌≤◌, ◌<◌, ◌++◌, ◌∷◌, length, IfOk, IsTrue};
 ghost use Rattle.std.specs.List.{list_any};
 ghost use Rattle.logs.specs.TakenWords.{taken_in};
 ghost use Rattle.logs.specs.AnnotatedLogs.{annotated_line, counted, framed, held_behind, owed};
 ghost use Rattle.logs.specs.AnnotatedLogs.{tallied, woven};
+ghost use Rattle.logs.specs.KernelReports.{SaysNothing};
 ghost use Rattle.logs.specs.Words.{part, words_behind};
 
 use crate::address_words::{AddressWord, address_at, carry_on, taken_at};
@@ -21,7 +22,6 @@ use crate::contexts::LogContext;
 use crate::log_names::LogNames;
 use crate::own_names::read_word;
 use crate::words::{Word, behind_closers, next_candidate};
-use memchr::memchr3;
 use std::alloc::AllocError;
 
 /// The most bytes of a line that is annotated.
@@ -40,14 +40,17 @@ pub(crate) struct Progress {
     pub(crate) names: LogNames,
 }
 
-/// Puts a line with the texts of its answers.
+/// Puts a line with the texts of its answers. If it is known that it says nothing of its kernel, that
+/// is not sought in it.
 #[tactic(auto, using(crate::proofs::KernelReportLemmas::nothing_reported), unfolding(crate::specs::AnnotatedLogs::annotated_line, crate::specs::AnnotatedLogs::held_behind))]
 pub(crate) fn put_line<A: Answers>(
     answers: &A,
     held: &mut LogContext,
     line: &[u8],
+    is_silent: bool,
     out: &mut Vec<u8>,
 ) -> Result<(), AllocError>
+    requires { IsTrue is_silent → SaysNothing line.now }
     ensures text { IfOk result (λ _. out.new.items
         ≡ out.old.items ++ annotated_line (A.answering answers.now) held.old line.now) }
     ensures held { IfOk result (λ _. held.new
@@ -57,12 +60,12 @@ pub(crate) fn put_line<A: Answers>(
         return out.extend_from_slice(line);
     }
     let progress = put_words(answers, *held, line, out)?;
-    let mark = memchr3(b'P', b'K', b'+', line);
-    held.names = match mark {
-        Some(_) => progress.names.with_line(answers, line)?,
-        None => progress.names,
+    held.names = if is_silent {
+        progress.names
+    } else {
+        progress.names.with_line(answers, line)?
     };
-    carry_on(held, line, mark, progress.has_frame);
+    carry_on(held, line, progress.has_frame);
     Ok(())
 }
 

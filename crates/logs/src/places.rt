@@ -4,8 +4,9 @@
 //! [   52.104290] [T123]  <IRQ>  [<ffffffff81000108>] ? do_one
 //! ~~~~~~~~~~~~~~===============^^                             prefix, lead, marks
 //! ```
-ghost use Rattle.std.specs.Prelude.{◌≡◌, ◌≤◌, ◌-◌, ◌==◌, drop, false, if◌then◌else◌, length, take};
-ghost use Rattle.std.specs.List.{list_any};
+ghost use Rattle.std.specs.Prelude.{◌≡◌, ◌≤◌, ◌-◌, ◌==◌, ◌||◌, codes, drop, false, if◌then◌else◌};
+ghost use Rattle.std.specs.Prelude.{length, nat_eq, take};
+ghost use Rattle.std.specs.List.{ends_with, list_any};
 ghost use Rattle.std.specs.Char.{is_digit};
 ghost use Rattle.logs.specs.Places.{begins_blank, begins_like, begins_numbered, closed, colour};
 ghost use Rattle.logs.specs.Places.{end_of, ends_in_label, ends_in_stamp, ends_prefix, ends_record};
@@ -133,6 +134,14 @@ pub(crate) fn end_of(kind: Kind, bytes: &[u8]) -> &[u8]
     &bytes[bytes.len() - last_of(kind, bytes)..]
 }
 
+/// The bytes without those of a kind that they end in, and these.
+fn cut_end(kind: Kind, bytes: &[u8]) -> (&[u8], &[u8])
+    ensures front { result.0.now ≡ without_end kind bytes.now }
+    ensures end { result.1.now ≡ end_of kind bytes.now }
+{
+    bytes.split_at(bytes.len() - last_of(kind, bytes))
+}
+
 /// The bytes without the last one.
 fn without_last(bytes: &[u8]) -> &[u8]
     ensures { result.now ≡ take (length bytes.now - 1) bytes.now }
@@ -149,10 +158,23 @@ fn ends_in_label(bytes: &[u8]) -> bool
     ensures { result ≡ ends_in_label bytes.now }
 {
     let word = end_of(Kind::Word, bytes);
+    if word.is_empty() {
+        return false;
+    }
     word == b"ra".as_slice()
         || word == b"lr".as_slice()
         || word == b"LR".as_slice()
         || word == b"from".as_slice()
+}
+
+/// Whether the bytes end in a text. Mostly they differ in the last one.
+fn ends_so(bytes: &[u8], text: &[u8]) -> bool
+    ensures { result ≡ ends_with nat_eq bytes.now text.now }
+{
+    match (bytes, text) {
+        ([.., last], [.., other]) if last != other => false,
+        _ => bytes.ends_with(text),
+    }
 }
 
 /// Whether these bytes before an address end in a label.
@@ -161,12 +183,12 @@ pub(crate) fn has_label(before: &[u8]) -> bool
 {
     let head = without_end(Kind::LabelGap, before);
     let word = end_of(Kind::Word, head);
-    before.ends_with(b"<-")
-        || without_end(Kind::Space, before).ends_with(b"[<0>]")
+    ends_so(before, b"<-")
+        || ends_so(without_end(Kind::Space, before), b"[<0>]")
         || ends_in_label(head)
-        || (head.ends_with(b" is at") && ends_in_label(&head[..head.len() - 6]))
-        || ((word == b"at".as_slice() || word == b"in".as_slice())
-            && before[head.len()..].starts_with(b":"))
+        || (ends_so(head, b" is at") && ends_in_label(&head[..head.len() - 6]))
+        || (before[head.len()..].starts_with(b":")
+            && (word == b"at".as_slice() || word == b"in".as_slice()))
 }
 
 /// Whether the bytes begin with a shape, in which `0` is any digit.
@@ -199,13 +221,24 @@ fn is_like(sign: u8, byte: u8) -> bool
     }
 }
 
+/// Whether a digit, `.` or `:`, and a digit begin the bytes. Mostly no digit does.
+fn begins_point(bytes: &[u8]) -> bool
+    ensures { result
+        ≡ (begins_like (codes "0.0") bytes.now || begins_like (codes "0:0") bytes.now) }
+{
+    match bytes {
+        [first, ..] if !first.is_ascii_digit() => false,
+        _ => begins_like(b"0.0", bytes) || begins_like(b"0:0", bytes),
+    }
+}
+
 /// Whether a digit, `.` or `:`, and a digit follow each other in the bytes.
 fn has_point(bytes: &[u8]) -> bool
     ensures { result ≡ has_point bytes.now }
 {
     let mut rest = bytes;
     while !rest.is_empty() {
-        if begins_like(b"0.0", rest) || begins_like(b"0:0", rest) {
+        if begins_point(rest) {
             return true;
         }
         rest = &rest[1..];
@@ -233,10 +266,11 @@ fn has_time(bytes: &[u8]) -> bool
 fn ends_in_stamp(bytes: &[u8]) -> bool
     ensures { result ≡ ends_in_stamp bytes.now }
 {
-    let head = without_last(bytes);
-    bytes.ends_with(b"]")
-        && without_end(Kind::NoBracket, head).ends_with(b"[")
-        && has_point(end_of(Kind::NoBracket, head))
+    if !bytes.ends_with(b"]") {
+        return false;
+    }
+    let (front, group) = cut_end(Kind::NoBracket, without_last(bytes));
+    front.ends_with(b"[") && has_point(group)
 }
 
 /// Whether the bytes are nothing, or begin with a blank or a tab.

@@ -28,7 +28,7 @@ impl Answers for Unanswered {
         self.is_narrow
     }
 
-    fn prepare(&mut self, _bytes: &[u8]) -> Result<(), AllocError> {
+    fn prepare(&mut self, _is_silent: bool) -> Result<(), AllocError> {
         Ok(())
     }
 

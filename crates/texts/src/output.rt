@@ -115,27 +115,48 @@ impl<W: Write> Output<W> {
     fn put_through(&mut self, bytes: &[u8])
         ensures { Says W.contents self.old self.new bytes.now }
     {
+        if bytes.len() >= self.kept.capacity() {
+            self.put_past(bytes);
+            return;
+        }
         self.write_kept();
         if self.has_failed() {
             return;
         }
-        if bytes.len() < self.kept.capacity() {
-            append(&mut self.kept, bytes);
-        } else {
-            write_all(&mut self.device, bytes);
+        append(&mut self.kept, bytes);
+    }
+
+    /// Says bytes, none of which is kept back.
+    fn put_past(&mut self, bytes: &[u8])
+        ensures { Says W.contents self.old self.new bytes.now }
+    {
+        self.write_kept();
+        if self.has_failed() {
+            return;
         }
+        write_all(&mut self.device, bytes);
     }
 
     /// Gives the writer what is kept back.
     fn write_kept(&mut self)
         ensures said { Says W.contents self.old self.new [] }
         ensures empty { has_failed self.new ≡ false → kept_back self.new ≡ [] }
+        ensures room { vec_capacity self.new.kept ≡ vec_capacity self.old.kept }
     {
-        if self.has_failed() {
+        if self.kept.is_empty() || self.has_failed() {
             return;
         }
         let taken = write_all(&mut self.device, self.kept.as_slice());
         remove_front(&mut self.kept, taken);
+    }
+
+    /// Says bytes, keeps nothing back, and lets the writer keep nothing back. They go to the writer as
+    /// they are, so that a long text is not copied.
+    pub fn deliver(&mut self, bytes: &[u8])
+        ensures { Delivers W.contents self.old self.new bytes.now }
+    {
+        self.put_past(bytes);
+        self.flush();
     }
 
     /// Keeps nothing back, and lets the writer keep nothing back.
@@ -225,7 +246,8 @@ fn append(kept: &mut Vec<u8>, bytes: &[u8])
 /// Removes the first `count` bytes.
 fn remove_front(kept: &mut Vec<u8>, count: usize)
     requires { count ≤ vec_len kept.old }
-    ensures { kept.new.items ≡ drop count kept.old.items }
+    ensures items { kept.new.items ≡ drop count kept.old.items }
+    ensures room { vec_capacity kept.new ≡ vec_capacity kept.old }
 {
     let len = kept.len();
     kept.as_mut_slice().copy_within(count..len, 0);

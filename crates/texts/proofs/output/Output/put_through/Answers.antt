@@ -1,16 +1,10 @@
 use Rattle.texts.proofs.Words.{sym, ◌∙◌}
-use Rattle.texts.proofs.OutputLemmas.{kept_is_said, lost_is_said, then, written_is_said}
+use Rattle.texts.proofs.OutputLemmas.{kept_is_said, lost_is_said, then}
 use Rattle.texts.proofs.output.Output.put_through.Goals as goal
 
 pub returns-then-has_failed : goal.returns-then-has_failed
 returns-then-has_failed g c = lost_is_said c.args.bytes.now (sym c.has_failed.ensures ∙ c.if-has_failed.true) c.write_kept.ensures.said
 
-pub returns-then-bytes-capacity : goal.returns-then-bytes-capacity
-returns-then-bytes-capacity g c =
+pub returns : goal.returns
+returns g c =
     then c.write_kept.ensures.said (kept_is_said (sym c.has_failed.ensures ∙ c.if-has_failed.false) (λ _. c.write_kept.new.self.device) c.append.ensures)
-
-pub returns-else-bytes-capacity : goal.returns-else-bytes-capacity
-returns-else-bytes-capacity g c =
-    let sound = sym c.has_failed.ensures ∙ c.if-has_failed.false in
-    let wrote = c.write_all.ensures in
-    then c.write_kept.ensures.said (written_is_said c.write_all.result c.args.bytes.now sound wrote.error wrote.all (c.write_kept.ensures.empty sound) (λ _. c.write_kept.new.self.kept.items) wrote.taken)
