@@ -49,7 +49,7 @@ build_unproved() {
     program=$top/tests/out/$1
     if [ ! -x "$program" ] || is_older "$program" "$top"/crates/*/src "$top/tests/crates"; then
         mkdir -p "$top/tests/out"
-        echo "${0##*/}: building $1 without a proof, in a minute and a half" >&2
+        echo "${0##*/}: building $1 without a proof, in three minutes" >&2
         "$top/tests/build.py" build "$1" "$program.new" >&2 || exit 1
         mv "$program.new" "$program"
     fi
