@@ -3,8 +3,8 @@
 # what is drawn after each step is compared with a plain replay of the steps (tests/steps/replay.py).
 # Tries keys, files, addresses and words, and in a frame of 390 x 844 that a phone has both trees in
 # sight of its buttons. The examples in the page are those of examples/traces. With --pictures it also
-# makes the pictures of docs/watch/ again. Debian's chromium is installed if it is missing and this is
-# root; if no browser can be had, one line says that it is passed over.
+# makes the pictures of docs/watch/ again. Without Debian's chromium it is skipped, with a line that
+# says so (tools.sh).
 set -eu
 top=$(cd "$(dirname "$0")/.." && pwd)
 work=$(mktemp -d)
