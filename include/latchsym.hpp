@@ -7,10 +7,11 @@
  *     latchsym::catalog catalog(listings);
  *     if (auto found = catalog.find(0xffffffffc0000018)) std::cout << found->name << '\n';
  *
- * An object is for one thread at a time, also for what only looks: no member that calls the library
- * is const, but those of a view, in which any number of threads find at once. It may go to another thread between two calls. One that was moved from may be assigned
- * or destroyed, and nothing else. In a signal handler use the calls of latchsym.h that are marked
- * "handler", with the handle that get() gives: members may throw, and some take memory. */
+ * Use an object on one thread at a time, also to look up: no member that calls the library is
+ * const, except those of a view, which any number of threads search at once. Between two calls an
+ * object may go to another thread. One that was moved from may only be assigned or destroyed. In a
+ * signal handler use the calls of latchsym.h that are marked "handler", with the handle that get()
+ * gives: members may throw, and some take memory. */
 #ifndef LATCHSYM_HPP
 #define LATCHSYM_HPP
 #include <latchsym.h>
