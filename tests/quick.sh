@@ -10,6 +10,10 @@
 set -euo pipefail
 cd "$(dirname "$0")/.."
 . tests/needs_kit.sh
+if [ "$*" = --help ]; then
+    sed -n '2,/^set /s/^# \{0,1\}//p' "$0"
+    exit
+fi
 if [ $# -gt 0 ]; then
     cases=() crates=() scripts=()
     for name; do
