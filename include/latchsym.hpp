@@ -138,7 +138,7 @@ struct entry {
 
 namespace detail {
 
-/* What a search tells of these words by its number, and behind them; none where nothing is. */
+/* The answer of a call with these words; none if nothing is there. */
 template <class Call, class... Words>
 std::optional<symbol> symbol_by(Call call, Words... words) {
     latchsym_symbol out = LATCHSYM_SYMBOL_INIT;

@@ -26,7 +26,7 @@ build() {
     fi
 }
 
-# crates_as_they_go: copies its input to the file $work/build, and names each crate of which it tells
+# crates_as_they_go: copies its input to the file $work/build, and names each crate of which it says
 # that something is proved
 crates_as_they_go() {
     tee "$work/build" | awk -v script="${0##*/}" '
