@@ -144,7 +144,7 @@ pub enum JobFault<'a> {
     /// Help that was asked for, or words that the command line does not have. The error holds the
     /// text for the user.
     CommandLine(Error),
-    /// The first address that is none.
+    /// The first ADDR that is no number.
     BadAddress(&'a str),
     /// A lookup without an address.
     NoAddress,

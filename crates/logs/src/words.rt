@@ -11,7 +11,7 @@
 //!                        |--------------|==             the word, and the closers after it
 //! ```
 //!
-//! A word that is met after one of its bytes is none.
+//! A match that begins inside a word does not count.
 ghost use Rattle.std.specs.Prelude.{◌≡◌, ◌≤◌, ◌<◌, ◌+◌, ◌++◌, ◌∷◌, [], false, true, length, drop};
 ghost use Rattle.std.specs.Prelude.{nat_eq, slice_index_or};
 ghost use Rattle.std.specs.List.{starts_with};
