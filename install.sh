@@ -2,6 +2,10 @@
 # SPDX-License-Identifier: MIT OR Apache-2.0
 # Installs, as its `--help` says. It is the same in the repository, where it builds first, and in a
 # release, which has all files where they are to be under PREFIX.
+if [ -z "${BASH_VERSION:-}" ]; then
+    echo 'install.sh: this is a script of bash: ./install.sh PREFIX, or bash install.sh PREFIX' >&2
+    exit 2
+fi
 set -euo pipefail
 
 usage='usage: install.sh [--static] [--target PROCESSOR] [--uninstall] PREFIX
@@ -10,13 +14,14 @@ Puts the program latchsym and the library for C and C++ under PREFIX: bin/latchs
 include, liblatchsym.a and liblatchsym.so in lib with latchsym.pc for pkg-config and a package for
 CMake; and the man pages and the completions for bash, zsh and fish, each in its folder of share. In
 the repository it builds them, which takes the Rattle kit and gcc; a release has them.
-All are copied before the first is renamed to its name, so a program that runs goes on
-with the files that it has, and a copy that fails leaves them as they are.
+All files are copied first and then renamed, so running programs keep the old files, and a
+copy that fails changes nothing.
 
 --static      links the program without shared libraries, as that of a release is
 --target P    builds for the processor P, x86_64 or aarch64; the program is as with --static, and
               aarch64 takes Debian'"'"'s gcc-aarch64-linux-gnu. A release is of one processor
---uninstall   takes these files away again, and leaves the folders
+--uninstall   takes these files away again, and leaves the folders; with the LIBDIR that they were
+              installed with, if one was set. What is left of other ones or versions is named
 --help        this text
 
 Where DESTDIR is set, it stands before PREFIX, and latchsym.pc does not name it. Where LIBDIR is
@@ -78,7 +83,11 @@ all=("${files[@]}" "${!links[@]}")
 
 if [ -n "$uninstall" ]; then
     rm -f "${all[@]/#/"$to/"}"
-    exit
+    shopt -s nullglob
+    left=("$to"/lib*/liblatchsym.{a,so*} "$to"/lib*/*/liblatchsym.{a,so*})
+    [ ${#left[@]} -gt 0 ] || exit 0
+    printf 'install.sh: left, of another LIBDIR or version: %s\n' "${left[@]}" >&2
+    exit 1
 fi
 
 # source_of FILE: where the file is that goes to FILE under PREFIX, in the repository

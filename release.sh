@@ -40,8 +40,8 @@ tree=$work/$name
 DESTDIR=$tree LIBDIR=lib "$top/install.sh" --static --target "$processor" / >"$work/installed"
 rm -r "$tree/lib/pkgconfig" # which install.sh writes for each prefix
 cp "$top"/{VERSION,LICENSE-MIT,LICENSE-APACHE,CHANGELOG.md,SECURITY.md,install.sh} "$tree"
-# the pages, with a first one of the archive's own
-cp "$top/packaging/archive.md" "$tree/README.md"
+# the pages, with a first one of the archive's own, whose links lead from the top
+sed -E 's,\]\(\.\./,](,g; s,\]\(LGPL,](licences/glibc/LGPL,' "$top/packaging/archive.md" >"$tree/README.md"
 mkdir -p "$tree/docs/watch"
 cp "$top"/docs/*.{md,txt} "$tree/docs"
 cp "$top"/docs/watch/*.{html,png} "$tree/docs/watch"

@@ -20,7 +20,7 @@ static u64 *words, items;
 
 static u64 load(u64 word) { return __atomic_load_n(&words[word], __ATOMIC_SEQ_CST); }
 
-/* Whether the key is in an item, whose tag it tells; counts the loads. */
+/* Whether the key is in an item, whose tag it returns; counts the loads. */
 static inline int find(u64 key, u64 *tag, u64 *loads) {
     for (;;) {
         u64 sequence = load(0), copy = sequence & 1, link = load(1 + copy), visits = 0;

@@ -1,39 +1,46 @@
 /* SPDX-License-Identifier: MIT OR Apache-2.0 */
-/* latchsym: a catalog of the kernel's symbols, and a latched table of address ranges that readers
- * search while one writer changes it.
+/* latchsym: the names of a kernel's addresses, and a latched table of address ranges, which
+ * readers search without waiting while one writer changes it.
  *
- * Link with `pkg-config --cflags --libs latchsym`. docs/C_LIBRARY.md says what is proved of each
- * call.
+ * Link with `pkg-config --cflags --libs latchsym`. docs/C_LIBRARY.md has a program to begin with,
+ * and says what is proved of each call. What follows is up to the caller: nothing checks it.
  *
- * What the caller upholds, since nothing checks it:
- * - A handle is a struct of the caller's. It is all bytes 0 (`= {0}`), which is a closed handle, or
- *   as a call of the library left it. It is never written to, and never copied so that both are
- *   used. Between two calls an open one may be moved: its bytes to where it lies from then on.
- * - A handle is given to one call at a time, a pool of readers to any number, and two arguments of a
- *   call are not one handle or overlap. Between two calls any handle may go to another thread, over a
- *   lock, the start or the join of a thread, or a sequentially consistent atomic.
- * - The bytes of the listings lie where they are, unchanged, until the last handle of their catalog
- *   is closed.
- * - A pointer is not null but where a length of 0 stands beside it, and where a handle is closed.
- *   What it points to is alive and aligned, and initialised where it is read.
- * - malloc, realloc and free are those of one allocator, and align as C says.
- * - Calls that are not marked "handler" are not made in the forked child of a process with threads.
+ * Handles. A catalog, a writer, a reader and a follower are structs of the caller's, each a
+ * handle.
+ * - Initialise a handle with `= {0}`, which is a closed one. From then on only the library writes
+ *   to it. Never use two copies of one; between two calls its bytes may be moved.
+ * - Pass a handle to one call at a time, and only once to a call. (A pool of readers goes to any
+ *   number of calls at once.)
+ * - Between two calls a handle may go to another thread by a lock, by the start or the join of a
+ *   thread, or by a sequentially consistent atomic.
  *
- * A closed handle where an open one is wanted is no fault: the call returns LATCHSYM_BAD_HANDLE.
- * It returns the same for an open handle where a closed one is wanted and, past a cast, for a handle
- * of another kind. A second close does nothing. A call that is refused changes nothing but what is
- * said of it here. Where several refusals apply, LATCHSYM_BAD_HANDLE comes first, then the others in
- * the order in which the call lists them, and LATCHSYM_OUT_OF_MEMORY last: but the calls that open a
- * catalog and that begin a batch or a replacement take memory before they have looked at all.
+ * Memory.
+ * - Keep the bytes of the listings where they are, unchanged, until the last handle of their
+ *   catalog is closed: names are places in them.
+ * - A pointer may be null only if the length beside it is 0, or in a call that closes a handle.
+ *   What it points to is alive, aligned, and initialised if the call reads it. Arguments do not
+ *   overlap.
+ * - malloc, realloc and free belong to one allocator, and align as C says.
  *
- * From a signal handler only the calls marked "handler" may be made: they take no memory. To one a
- * handle is closed while a call has it which the signal interrupts, and so is, to one in a forked
- * child, a handle that a call of another thread had. It is proved that they return rightly where
- * the signal comes between two calls on the table (block the signal during the writer's calls). A
- * handler inside a running call is tested, and not proved; a forked child is tested on x86-64. The
- * child has a copy of each table, in which what the parent's writer does from then on is not seen.
- * What is closed to it stays so: it opens no handle again, and goes on to exec. A writer whose
- * thread ended inside a call is closed to all for good, and its readers answer on.
+ * Results. Most calls return a number of the list below, of which latchsym_text gives the text.
+ * - 0 (LATCHSYM_DONE) is success. A refused call changes nothing, except as its comment says.
+ * - LATCHSYM_BAD_HANDLE: a handle is closed that should be open, or open that should be closed, or
+ *   of another kind (past a cast). To close a closed handle does nothing.
+ * - If several refusals apply, LATCHSYM_BAD_HANDLE comes first, then the others in the order in
+ *   which the call lists them, and LATCHSYM_OUT_OF_MEMORY last. But opening a catalog and
+ *   beginning a batch or a replacement take memory before all is checked.
+ *
+ * Signal handlers, and children by fork.
+ * - A signal handler may make only the calls marked "handler". They take no memory.
+ * - In a handler, a handle that the interrupted call is using counts as closed. In a forked child,
+ *   so does every handle that another thread was using at the fork, for good.
+ * - That these calls give the right answers is proved if the signal comes between two calls on the
+ *   table: block it during the writer's calls. A handler inside a running call is only tested, and
+ *   so is a forked child, on x86-64.
+ * - The forked child of a process with threads may make only the calls marked "handler", too. It
+ *   opens no handle, and goes on to exec. It has a copy of each table, in which it does not see
+ *   what the parent's writer does.
+ * - A writer whose thread ended inside a call stays closed. Its readers go on.
  */
 #ifndef LATCHSYM_H
 #define LATCHSYM_H
@@ -45,8 +52,8 @@
 extern "C" {
 #endif
 
-/* What a handle holds is the library's own. The library has one type of handle; its four names
- * here let the compiler tell a catalog, a writer, a reader and a follower apart. */
+/* What a handle holds is the library's own. The library has one type of handle; its names here let
+ * the compiler tell a catalog, a writer, a reader and a follower apart. */
 struct latchsym_handle { uint32_t kind; void *at; };
 struct latchsym_catalog { struct latchsym_handle handle; };
 struct latchsym_writer { struct latchsym_handle handle; };
@@ -59,12 +66,13 @@ static_assert(sizeof(struct latchsym_reader) == sizeof(struct latchsym_handle), 
 static_assert(sizeof(struct latchsym_follower) == sizeof(struct latchsym_handle), "one handle");
 #endif
 
-/* The version of this header: 10000 of each major, 100 of each minor and 1 of each patch number.
- * What a program of one major version was compiled with, each later minor version gives it too. */
+/* The version of this header: 10000 times the major, 100 times the minor and once the patch
+ * number. Each later minor version gives what a program of the same major version was compiled
+ * with. */
 #define LATCHSYM_VERSION 10200
 
-/* What calls return. A number means one thing, whatever call returns it. Those below 20 are
- * refusals, and are the numbers that the program prints. Each comment begins with the number's text,
+/* What calls return. A number means the same, whichever call returns it. Those below 20 are
+ * refusals, with the numbers that the program prints. Each comment begins with the number's text,
  * up to its first full stop. */
 enum {
     LATCHSYM_DONE = 0,     /* done. Of a search: found; of a step: no update is pending */
@@ -77,7 +85,7 @@ enum {
     LATCHSYM_OUT_OF_MEMORY = 7,  /* out of memory */
     LATCHSYM_BAD_CAPACITY = 10,  /* the number of nodes or of readers is out of its range */
     LATCHSYM_TOO_MANY_REGIONS = 14, /* more than 7 region lines have one name */
-    LATCHSYM_BAD_LINE = 15, /* a line of the listing of regions is not one. Its number is told */
+    LATCHSYM_BAD_LINE = 15, /* a line of the listing of regions is not one. Its number is given */
     LATCHSYM_NO_SYMBOL = 21, /* no symbol of the region is at or below the address */
     LATCHSYM_NOTHING = 22,   /* nothing is there */
     LATCHSYM_RETRY = 23,     /* the writer flipped meanwhile: try again */
@@ -103,20 +111,22 @@ enum {
     LATCHSYM_NOTE_UNLISTED_OWNER = 54, /* lists no module of some symbols, which are left out; give
                                         * no modules. They are of bpf, __builtin__ftrace or
                                         * __builtin__kprobes */
-    LATCHSYM_BAD_HANDLE = 101, /* the handle does not hold what is wanted. It is closed where open is
-                                * wanted, the other way round, or of others */
+    LATCHSYM_BAD_HANDLE = 101, /* the handle does not hold what is wanted. It is closed and should be
+                                * open, or open and should be closed, or of another kind */
     LATCHSYM_BAD_LENGTH = 102, /* the room is not for as many answers as there are addresses */
     LATCHSYM_BAD_LISTINGS = 103, /* the listings are not as this version has them. Or there are bytes
                                   * of modules or of regions, and has_modules is 0 */
     LATCHSYM_BAD_STAMP = 104     /* the stamp lies below that of a listing shown before */
 };
 
-/* How many lines of each listing went where, as `latchsym lookup` prints them, but that mapping
- * symbols are stray with a listing of modules too, and the kernel's bounds are those given below.
- * Without a listing of modules: how many modules and regions of these the symbols have, and 0 of
- * what is said of lines of modules and of regions. And what `latchsym lookup` would note of each
- * listing by these counts, so that one of which nothing is of use does not look like a success: the
- * number of a note, whose text is read after the listing's name, or LATCHSYM_NOTHING. */
+/* How many lines of each listing were used or skipped, and why, as `latchsym lookup` prints them;
+ * but mapping symbols are stray beside a listing of modules too, and the kernel's bounds are those
+ * given below. Without a listing of modules: how many modules the symbols name, and how many
+ * regions these have; the other counts of modules and regions are 0.
+ *
+ * The two notes say why a listing was of no use: LATCHSYM_NOTE_.., or LATCHSYM_NOTHING. They are
+ * what `latchsym lookup` would note by these counts. Print the file's name and then
+ * latchsym_text(note). */
 struct latchsym_counts {
     uint64_t modules, modules_hidden, modules_empty, modules_wraps, modules_overlap, modules_double,
         modules_long, modules_malformed;
@@ -125,47 +135,47 @@ struct latchsym_counts {
     uint32_t modules_note, symbols_note;
 };
 
-/* Where bytes lie, and how many they are. One that is handed in may be null where it has no byte.
- * One that a call writes is never null, also before that: a struct with such places begins as its
- * LATCHSYM_.._INIT says, and once more so where the bytes of a place in it are gone. */
+/* A place: where bytes are, and how many. `at` may be null in an argument without a byte. A place
+ * that a call writes must not have null in `at` before, either: initialise a struct with places by
+ * its LATCHSYM_.._INIT, and again once the memory that a place points to is freed. */
 struct latchsym_place { const uint8_t *at; size_t len; };
 #define LATCHSYM_PLACE_INIT { (const uint8_t *)"", 0 }
 
-/* What is known of an address: the module's number (0 is the kernel itself, named `-`), how far the
- * address lies above the symbol and how far the symbol reaches, both in bytes, and the two names.
- * These are where they lie in the caller's listings, without a 0 byte at the end. */
+/* What is known of an address: the module's number (0 is the kernel itself, named `-`), the
+ * distance from the symbol to the address and the symbol's size, both in bytes, and the two names.
+ * The names are places in the caller's listings, without a 0 byte at the end. */
 struct latchsym_symbol {
     uint64_t module_number, offset, size;
     struct latchsym_place name, module;
 };
 #define LATCHSYM_SYMBOL_INIT { 0, 0, 0, LATCHSYM_PLACE_INIT, LATCHSYM_PLACE_INIT }
 
-/* The same with the lengths of the names alone: those of the whole names, which may be more than
- * there was room for. */
+/* The same with the lengths of the names alone. They are those of the whole names, of which less
+ * may have been copied. */
 struct latchsym_answer {
     uint64_t module_number, offset, size;
     size_t name_len, module_len;
 };
 
-/* What is told of one of several addresses, and the number that a search for it alone returns. */
+/* The answer for one of several addresses, and the number that a search for it alone returns. */
 struct latchsym_told { struct latchsym_answer answer; uint32_t code; };
 #define LATCHSYM_TOLD_INIT { { 0, 0, 0, 0, 0 }, 0 }
 
-/* Addresses from a up to b, which is excluded, and a number of the caller's. */
+/* Addresses from a up to, but not including, b, and a number of the caller's. */
 struct latchsym_item { uint64_t a, b, tag; };
 
-/* The item that was found (0, 0, 0 where none was), and the generation: how many updates were
- * shown. */
+/* The item that was found (all 0 if none was), and the generation: the number of updates that
+ * readers see. */
 struct latchsym_found { uint64_t a, b, tag, generation; };
 
-/* Calls that take a pointer with a length, or close a handle, are functions of the header's own:
- * they let pointers be null where no byte of them is asked for, and call the library's, whose names
- * end in _nonnull and whose pointers are not. A caller in another language calls those. */
+/* Some calls are functions of this header: they let a pointer be null if its length is 0, or if it
+ * is a handle to close. They call the library's functions, whose names end in _nonnull and which
+ * take no null pointer. From another language call those. */
 
 /* ---- numbers ---- */
 
-/* Where the text of a number lies, with a 0 at its end, which the length counts. It stays there. A
- * number that no call returns has a text that says so. Handler. */
+/* Where the text of a number is, for as long as the library is loaded. The length counts the 0
+ * byte at its end. A number that no call returns has a text that says so. Handler. */
 void latchsym_place_of_text(uint32_t number, struct latchsym_place *out);
 
 /* The text of a number, as a string of C. Handler. */
@@ -175,13 +185,13 @@ static inline const char *latchsym_text(uint32_t number) {
     return (const char *)place.at;
 }
 
-/* The version of the library that runs, where LATCHSYM_VERSION is that of the header. Handler. */
+/* The version of the running library; LATCHSYM_VERSION is that of the header. Handler. */
 uint32_t latchsym_version(void);
 
 /* ---- the catalog ---- */
 
-/* The listings that a catalog is opened of. It begins as LATCHSYM_LISTINGS_INIT says, which gives
- * none, and a later version of the library may have further fields at its end. */
+/* The listings that a catalog is opened with. Initialise it with LATCHSYM_LISTINGS_INIT, which
+ * gives none. A later version of the library may add fields at the end. */
 struct latchsym_listings {
     size_t size;                    /* of this struct */
     struct latchsym_place kallsyms; /* in the form of /proc/kallsyms */
@@ -195,22 +205,22 @@ struct latchsym_listings {
     { sizeof(struct latchsym_listings), LATCHSYM_PLACE_INIT, LATCHSYM_PLACE_INIT,                  \
       LATCHSYM_PLACE_INIT, LATCHSYM_PLACE_INIT, LATCHSYM_PLACE_INIT, 0 }
 
-/* Opens the catalog of listings in a closed handle.
+/* Opens a catalog of the listings in a closed handle.
  *
- * Without a listing of modules these are the owners that the symbols name, [bpf] and the like among
- * them, and an address is a module's where the symbol below it is and lies in the same page of 4096
- * bytes, or the symbol above it is that module's too and less than 1 MiB above the one below. A
- * listing of modules says less well where they lie, since from Linux 6.4 on it gives the start of
- * one memory and the size of all.
+ * Without a listing of modules, the modules are the owners that the symbols name, such as [ext4]
+ * and [bpf]. An address is a module's if the symbol below it is, and lies in the same page of 4096
+ * bytes; or if the symbol above it is that module's too, less than 1 MiB above the one below. A
+ * listing of modules knows less well where they are: from Linux 6.4 on it gives the start of one
+ * memory area of a module and the size of all.
  *
- * The kernel itself lies from `start` up to `end`. Where neither is given it lies from _stext up to
- * _end or, where these are not listed in this order, from _stext up to _etext and from _sinittext up
- * to _einittext.
+ * The kernel itself reaches from `start` up to `end`. If neither is given, it reaches from _stext
+ * up to _end or, if these are not listed in this order, from _stext up to _etext and from
+ * _sinittext up to _einittext.
  *
- * 0, LATCHSYM_BAD_HANDLE, or LATCHSYM_BAD_LISTINGS where the size is not that of this version, or
- * there are bytes of modules or of regions and has_modules is 0; of a listing of regions also
- * LATCHSYM_BAD_LINE with the number of the first line that is not one, which is written then alone,
- * and LATCHSYM_TOO_MANY_REGIONS; or LATCHSYM_OUT_OF_MEMORY. Counts are written at 0 alone. */
+ * Returns 0, LATCHSYM_BAD_HANDLE, or LATCHSYM_BAD_LISTINGS if the size is not that of this
+ * version, or if has_modules is 0 and there are bytes of modules or of regions. Of a listing of
+ * regions also LATCHSYM_BAD_LINE, with the number of the first bad line in bad_line, and
+ * LATCHSYM_TOO_MANY_REGIONS. Or LATCHSYM_OUT_OF_MEMORY. Counts are written only with 0. */
 uint32_t latchsym_catalog_open_nonnull(const struct latchsym_listings *,
                                        struct latchsym_catalog *out,
                                        struct latchsym_counts *counts, uint64_t *bad_line);
@@ -230,24 +240,23 @@ static inline uint32_t latchsym_catalog_open(const struct latchsym_listings *lis
     return latchsym_catalog_open_nonnull(&given, out, counts, bad_line);
 }
 
-/* The symbol of an address, as `latchsym lookup` prints it; nothing is copied. 0,
- * LATCHSYM_NO_SYMBOL (the module alone is told), LATCHSYM_NOTHING (all numbers are 0, and no name
- * has a byte) or LATCHSYM_BAD_HANDLE (nothing is written). The time is logarithmic in regions and
+/* The symbol of an address, as `latchsym lookup` prints it, without a copy. Returns 0,
+ * LATCHSYM_NO_SYMBOL (only the module is known), LATCHSYM_NOTHING (all numbers are 0 and all names
+ * empty) or LATCHSYM_BAD_HANDLE (nothing is written). Takes time logarithmic in regions and
  * symbols. Handler. */
 uint32_t latchsym_catalog_find(struct latchsym_catalog *, uint64_t addr,
                                struct latchsym_symbol *out);
 
-/* The same of a return address, as `latchsym lookup --callers` prints it. The call before it may be
- * the last instruction of its function: so the symbol is that of the address one byte lower, and
- * the offset is that of the return address, which may equal the size. Handler. */
+/* The same for a return address, as `latchsym lookup --callers` prints it. The call before it may
+ * be the last instruction of its function. So the symbol is that of the address one byte lower,
+ * and the offset is counted to the return address; it may equal the size. Handler. */
 uint32_t latchsym_catalog_find_caller(struct latchsym_catalog *, uint64_t addr,
                                       struct latchsym_symbol *out);
 
-/* The same of many addresses in one call, in any order: out[i] is told of addresses[i]. 0,
- * LATCHSYM_BAD_HANDLE or, where there are not as many rooms as addresses, LATCHSYM_BAD_LENGTH; each
- * but 0 writes nothing. For the names call latchsym_catalog_find once more for those that are
- * shown: the addresses of one symbol are those with one `addresses[i] - out[i].answer.offset`.
- * Handler. */
+/* The same for many addresses, in any order, in one call: out[i] is about addresses[i]. Returns 0,
+ * LATCHSYM_BAD_HANDLE, or LATCHSYM_BAD_LENGTH if the two arrays differ in length; only 0 writes
+ * anything. For names call latchsym_catalog_find for the addresses that you show. Addresses with
+ * the same `addresses[i] - out[i].answer.offset` have the same symbol. Handler. */
 uint32_t latchsym_catalog_find_many_nonnull(struct latchsym_catalog *, const uint64_t *addresses,
                                             size_t addresses_len, struct latchsym_told *out,
                                             size_t out_len);
@@ -261,8 +270,8 @@ static inline uint32_t latchsym_catalog_find_many(struct latchsym_catalog *catal
 }
 
 /* The symbol of an address, with copies of the names: as many bytes of each as there is room for,
- * without a 0 byte at the end. Read no more of a name than its room has. Rooms of 512 bytes hold
- * every name of a kernel. The numbers are those of latchsym_catalog_find. Handler. */
+ * without a 0 byte at the end. Read no more of a name than its room. Rooms of 512 bytes hold every
+ * name of a kernel. The numbers are those of latchsym_catalog_find. Handler. */
 uint32_t latchsym_catalog_name_nonnull(struct latchsym_catalog *, uint64_t addr,
                                        struct latchsym_answer *out, uint8_t *name,
                                        size_t name_room, uint8_t *module, size_t module_room);
@@ -275,26 +284,26 @@ static inline uint32_t latchsym_catalog_name(struct latchsym_catalog *catalog, u
                                          module_room ? module : &none, module_room);
 }
 
-/* How many modules the catalog has. They have the numbers from 1 on, in the order of their lines,
- * or of their first symbols where no listing of modules was given; the kernel itself is number 0,
- * where it has a region. 0 or LATCHSYM_BAD_HANDLE. Handler. */
+/* The number of modules in the catalog. Modules are numbered from 1, in the order of their lines,
+ * or of their first symbols if no listing of modules was given. Number 0 is the kernel itself, if
+ * it has a region. Returns 0 or LATCHSYM_BAD_HANDLE. Handler. */
 uint32_t latchsym_catalog_modules(struct latchsym_catalog *, uint64_t *count);
 
-/* A module: its name (`-` is the kernel's), and how many regions and symbols it has. */
+/* A module: its name (`-` for the kernel), and how many regions and symbols it has. */
 struct latchsym_module { struct latchsym_place name; size_t regions, symbols; };
 #define LATCHSYM_MODULE_INIT { LATCHSYM_PLACE_INIT, 0, 0 }
 
-/* Addresses from a up to b, which is excluded; is_init is 1 where only the start of the module
- * needs them, and else 0. */
+/* Addresses from a up to, but not including, b. is_init is 1 if only the start of the module needs
+ * them, and else 0. */
 struct latchsym_region { uint64_t a, b; uint32_t is_init; };
 
 /* A symbol of a module. */
 struct latchsym_entry { uint64_t addr; struct latchsym_place name; };
 #define LATCHSYM_ENTRY_INIT { 0, LATCHSYM_PLACE_INIT }
 
-/* The module of a number; the region of it at a place from 0 on, in the order of the listing that
- * has them; and the symbol of it at a place, in the order listed. 0, LATCHSYM_NOTHING where there
- * is none (nothing is written), or LATCHSYM_BAD_HANDLE. Handler. */
+/* A module by its number; a region or a symbol of it by its place, from 0, in the order listed.
+ * Returns 0, LATCHSYM_NOTHING if there is none (nothing is written), or LATCHSYM_BAD_HANDLE.
+ * Handler. */
 uint32_t latchsym_catalog_module(struct latchsym_catalog *, uint64_t number,
                                  struct latchsym_module *out);
 uint32_t latchsym_catalog_region(struct latchsym_catalog *, uint64_t number, size_t place,
@@ -302,9 +311,9 @@ uint32_t latchsym_catalog_region(struct latchsym_catalog *, uint64_t number, siz
 uint32_t latchsym_catalog_symbol(struct latchsym_catalog *, uint64_t number, size_t place,
                                  struct latchsym_entry *out);
 
-/* From a name to addresses: the place of the first symbol of a module, from a place on, that has
- * this name. Ask again from the place behind it for the next of the name. The symbols are gone
- * through one by one. 0, LATCHSYM_NOTHING (nothing is written) or LATCHSYM_BAD_HANDLE. Handler. */
+/* The place of the first symbol in a module, from the place `from` on, that has this name. For the
+ * next symbol of the name ask again from the place after it. Looks at one symbol after another.
+ * Returns 0, LATCHSYM_NOTHING (nothing is written) or LATCHSYM_BAD_HANDLE. Handler. */
 uint32_t latchsym_catalog_place_of_name_nonnull(struct latchsym_catalog *, uint64_t number,
                                                 const uint8_t *name, size_t name_len, size_t from,
                                                 size_t *place);
@@ -317,11 +326,11 @@ static inline uint32_t latchsym_catalog_place_of_name(struct latchsym_catalog *c
                                                   name_len, from, place);
 }
 
-/* The same over all modules: the number of the module and the place in it of the symbol that `from`
- * others of this name come before, by rising number of the module and then in the order listed. Ask
- * with 0, 1, 2 .. for one after the other. The first call with a handle sorts the symbols by name, for
- * which it takes memory; later ones are logarithmic. 0, LATCHSYM_NOTHING, LATCHSYM_OUT_OF_MEMORY or
- * LATCHSYM_BAD_HANDLE; each but 0 writes nothing. Since 1.2. */
+/* The symbol number `from`, counted from 0, of this name in all modules: its module, and its place
+ * there. Symbols are counted by rising number of the module, and then in the order listed. The
+ * first call with a handle sorts the symbols by name, which takes memory; later ones take
+ * logarithmic time. Returns 0, LATCHSYM_NOTHING, LATCHSYM_OUT_OF_MEMORY or LATCHSYM_BAD_HANDLE;
+ * only 0 writes anything. Since 1.2. */
 uint32_t latchsym_catalog_find_name_nonnull(struct latchsym_catalog *, const uint8_t *name,
                                             size_t name_len, size_t from, uint64_t *number,
                                             size_t *place);
@@ -335,18 +344,18 @@ static inline uint32_t latchsym_catalog_find_name(struct latchsym_catalog *catal
 
 /* ---- a view of the catalog ---- */
 
-/* A catalog in plain memory of the caller's, in which any number of threads find at once, also while
- * they fork or are interrupted. The memory and the bytes of the listings stay, and stay as they are,
- * while a view of them is used; the catalog itself may be closed. A view may be copied. The rows are
- * what a search reads, and may be read by the caller too. */
+/* A catalog in plain memory of the caller's. Any number of threads search it at once, also while
+ * they fork or are interrupted. Keep the memory and the bytes of the listings unchanged while a
+ * view of them is used; the catalog may be closed. A view may be copied, and its rows may be read.
+ */
 
 /* A symbol of a module, and its place in the order listed. */
 struct latchsym_view_symbol { uint64_t addr; size_t place; struct latchsym_place name; };
 #define LATCHSYM_VIEW_SYMBOL_INIT { 0, 0, LATCHSYM_PLACE_INIT }
 
-/* Addresses from a up to b, which is excluded, and the number and the name of their module; all
+/* Addresses from a up to, but not including, b; the number and the name of their module; all
  * symbols of this module by rising address, those of one address by falling place; and the
- * addresses of these alone. */
+ * addresses of these symbols alone. */
 struct latchsym_view_region {
     uint64_t a, b, module_number;
     struct latchsym_place module;
@@ -356,18 +365,18 @@ struct latchsym_view_region {
     size_t addresses_len;
 };
 
-/* The regions of all modules by rising address. One that latchsym_catalog_flatten has written. */
+/* The regions of all modules by rising address, as latchsym_catalog_flatten wrote them. */
 struct latchsym_view { const struct latchsym_view_region *regions; size_t regions_len; };
 
-/* How many rows a view of the catalog has: of regions, and of symbols, each of which has an address
- * besides. 0, LATCHSYM_OUT_OF_MEMORY where no memory could have so many, or LATCHSYM_BAD_HANDLE;
- * each but 0 writes nothing. Handler. */
+/* The number of rows that a view of the catalog has: of regions, and of symbols, with as many
+ * addresses. Returns 0, LATCHSYM_OUT_OF_MEMORY if no memory could hold so many, or
+ * LATCHSYM_BAD_HANDLE; only 0 writes anything. Handler. */
 struct latchsym_sizes { size_t regions, symbols; };
 uint32_t latchsym_catalog_sizes(struct latchsym_catalog *, struct latchsym_sizes *out);
 
-/* Writes the rows of the catalog into these rooms, and a view of them. The rooms have as many rows
- * as latchsym_catalog_sizes tells. 0, LATCHSYM_BAD_LENGTH where they have not, or
- * LATCHSYM_BAD_HANDLE; each but 0 writes nothing. Takes no memory. */
+/* Writes the rows of the catalog to the caller's arrays, and a view of them. The arrays have the
+ * lengths of latchsym_catalog_sizes. Returns 0, LATCHSYM_BAD_LENGTH if they have others, or
+ * LATCHSYM_BAD_HANDLE; only 0 writes anything. Takes no memory. */
 uint32_t latchsym_catalog_flatten_nonnull(struct latchsym_catalog *,
                                           struct latchsym_view_region *regions,
                                           size_t regions_len,
@@ -401,21 +410,21 @@ static inline uint32_t latchsym_catalog_flatten(struct latchsym_catalog *catalog
     return answer;
 }
 
-/* The symbol of an address, as latchsym_catalog_find tells it, by any number of threads at once. 0,
- * LATCHSYM_NO_SYMBOL or LATCHSYM_NOTHING. Handler. */
+/* The symbol of an address, as latchsym_catalog_find gives it, for any number of threads at once.
+ * Returns 0, LATCHSYM_NO_SYMBOL or LATCHSYM_NOTHING. Handler. */
 uint32_t latchsym_view_find(const struct latchsym_view *, uint64_t addr,
                             struct latchsym_symbol *out);
 
-/* The same of a return address, as latchsym_catalog_find_caller tells it. Handler. */
+/* The same for a return address, as latchsym_catalog_find_caller gives it. Handler. */
 uint32_t latchsym_view_find_caller(const struct latchsym_view *, uint64_t addr,
                                    struct latchsym_symbol *out);
 
-/* Opens another handle of the same catalog, for another thread. 0, LATCHSYM_OUT_OF_MEMORY or
- * LATCHSYM_BAD_HANDLE. */
+/* Opens another handle of the same catalog, for another thread. Returns 0, LATCHSYM_OUT_OF_MEMORY
+ * or LATCHSYM_BAD_HANDLE. */
 uint32_t latchsym_catalog_share(struct latchsym_catalog *, struct latchsym_catalog *out);
 
-/* Closes a handle; the catalog is freed with its last one. A null pointer closes nothing, here and
- * where the other handles are closed. */
+/* Closes a handle. The catalog is freed with its last one. A null pointer closes nothing, here and
+ * in the other closing calls. */
 void latchsym_catalog_close_nonnull(struct latchsym_catalog *);
 static inline void latchsym_catalog_close(struct latchsym_catalog *catalog) {
     if (catalog) latchsym_catalog_close_nonnull(catalog);
@@ -424,8 +433,8 @@ static inline void latchsym_catalog_close(struct latchsym_catalog *catalog) {
 /* ---- the table ---- */
 
 /* Opens an empty table of 1 to 65536 nodes: its writer, and a reader in each of 1 to 64 closed
- * handles; all of them or none. 0, LATCHSYM_BAD_HANDLE where a handle is open, else
- * LATCHSYM_BAD_CAPACITY where nodes or readers are not so many, or LATCHSYM_OUT_OF_MEMORY. */
+ * handles; all of them or none. Returns 0, LATCHSYM_BAD_HANDLE if a handle is open,
+ * LATCHSYM_BAD_CAPACITY for another number of nodes or readers, or LATCHSYM_OUT_OF_MEMORY. */
 uint32_t latchsym_table_open_nonnull(uint32_t nodes, struct latchsym_writer *,
                                      struct latchsym_reader *readers, size_t count);
 static inline uint32_t latchsym_table_open(uint32_t nodes, struct latchsym_writer *writer,
@@ -434,20 +443,20 @@ static inline uint32_t latchsym_table_open(uint32_t nodes, struct latchsym_write
     return latchsym_table_open_nonnull(nodes, writer, count ? readers : &none, count);
 }
 
-/* Opens one more reader of the writer's table in a closed handle, also amid an update: it finds
- * what the others find. 0, LATCHSYM_BAD_HANDLE, LATCHSYM_BAD_CAPACITY where the table has 65536
- * readers already, or LATCHSYM_OUT_OF_MEMORY. A reader that is closed still counts for this and for
- * latchsym_table_enlarge: give it to latchsym_writer_take_reader instead. */
+/* Opens one more reader of the writer's table in a closed handle, also in the middle of an update:
+ * it finds what the others find. Returns 0, LATCHSYM_BAD_HANDLE, LATCHSYM_BAD_CAPACITY if the
+ * table has 65536 readers already, or LATCHSYM_OUT_OF_MEMORY. A closed reader still counts here
+ * and for latchsym_table_enlarge: give it to latchsym_writer_take_reader instead. */
 uint32_t latchsym_writer_add_reader(struct latchsym_writer *, struct latchsym_reader *out);
 
-/* Closes a reader and frees its place in the writer's table, also amid an update: the table then has
- * one reader fewer for latchsym_writer_add_reader and latchsym_table_enlarge. It is not checked
- * whether it is a reader of this table. 0, LATCHSYM_BAD_HANDLE where one of the two is closed, or
- * LATCHSYM_BAD_CAPACITY where the table has no reader. Since 1.1. */
+/* Closes a reader and frees its place in the writer's table, also in the middle of an update:
+ * latchsym_writer_add_reader and latchsym_table_enlarge then count one reader fewer. Whether it is
+ * a reader of this table is not checked. Returns 0, LATCHSYM_BAD_HANDLE if one of the two is
+ * closed, or LATCHSYM_BAD_CAPACITY if the table has no reader. Since 1.1. */
 uint32_t latchsym_writer_take_reader(struct latchsym_writer *, struct latchsym_reader *);
 
-/* Begin an update: put an item in, take the item out that begins at a, or do several of
- * both at once. Readers see it from its second flip on, whole. 0, LATCHSYM_BAD_HANDLE,
+/* Begin an update: insert an item, erase the item that begins at `a`, or several of both at once.
+ * Readers see all of it from its second flip on. Return 0, LATCHSYM_BAD_HANDLE,
  * LATCHSYM_UPDATE_IN_HAND, LATCHSYM_BAD_ITEM, LATCHSYM_NO_SUCH_ITEM, LATCHSYM_OVERLAP,
  * LATCHSYM_FULL, LATCHSYM_SEQUENCE_SPENT or LATCHSYM_OUT_OF_MEMORY. */
 uint32_t latchsym_writer_begin_insert(struct latchsym_writer *, const struct latchsym_item *);
@@ -465,11 +474,12 @@ static inline uint32_t latchsym_writer_begin_batch(struct latchsym_writer *write
                                                insert_len ? insert : &no_item, insert_len);
 }
 
-/* Begins the update after which the table has just these items: it takes the others out and puts the
- * new ones in, at once, and leaves those alone that the table has already. Takes memory for a copy of
- * all items first, and then for what differs. 0, LATCHSYM_BAD_HANDLE, LATCHSYM_UPDATE_IN_HAND,
- * LATCHSYM_OVERLAP where one does not lie below the next, LATCHSYM_BAD_ITEM, LATCHSYM_FULL,
- * LATCHSYM_SEQUENCE_SPENT or LATCHSYM_OUT_OF_MEMORY. Since 1.1. */
+/* Begins the update after which the table has just these items: at once it erases the others and
+ * inserts the new ones, and leaves alone what the table has already. Takes memory for a copy of
+ * all items first, and then for the difference. Returns 0, LATCHSYM_BAD_HANDLE,
+ * LATCHSYM_UPDATE_IN_HAND, LATCHSYM_OVERLAP if an item does not lie below the next,
+ * LATCHSYM_BAD_ITEM, LATCHSYM_FULL, LATCHSYM_SEQUENCE_SPENT or LATCHSYM_OUT_OF_MEMORY. Since 1.1.
+ */
 uint32_t latchsym_writer_begin_replace_nonnull(struct latchsym_writer *,
                                                const struct latchsym_item *items, size_t items_len);
 static inline uint32_t latchsym_writer_begin_replace(struct latchsym_writer *writer,
@@ -479,10 +489,10 @@ static inline uint32_t latchsym_writer_begin_replace(struct latchsym_writer *wri
     return latchsym_writer_begin_replace_nonnull(writer, items_len ? items : &no_item, items_len);
 }
 
-/* Writes an item for each region of the catalog, each below the next, with the number of its module
- * as the tag: what latchsym_writer_begin_replace takes. There are to be as many rooms as
- * latchsym_catalog_sizes tells regions. 0, LATCHSYM_BAD_LENGTH or LATCHSYM_BAD_HANDLE; each but 0
- * writes nothing. Takes no memory. Since 1.1. */
+/* Writes an item for each region of the catalog, by rising address, with the number of its module
+ * as the tag: what latchsym_writer_begin_replace takes. The array has the number of regions of
+ * latchsym_catalog_sizes. Returns 0, LATCHSYM_BAD_LENGTH or LATCHSYM_BAD_HANDLE; only 0 writes
+ * anything. Takes no memory. Since 1.1. */
 uint32_t latchsym_catalog_items_nonnull(struct latchsym_catalog *, struct latchsym_item *out,
                                         size_t out_len);
 static inline uint32_t latchsym_catalog_items(struct latchsym_catalog *catalog,
@@ -491,22 +501,24 @@ static inline uint32_t latchsym_catalog_items(struct latchsym_catalog *catalog,
     return latchsym_catalog_items_nonnull(catalog, out_len ? out : &no_item, out_len);
 }
 
-/* One step of the pending update: LATCHSYM_FLIP or LATCHSYM_STORE; 0 where no update is pending, or
- * it is at its end; or LATCHSYM_BAD_HANDLE. Handler, where no other call on the writer runs. */
+/* Takes one step of the pending update. Returns LATCHSYM_FLIP or LATCHSYM_STORE; 0 if no update is
+ * pending, or it is complete; or LATCHSYM_BAD_HANDLE. Handler, unless another call on the writer
+ * is running. */
 uint32_t latchsym_writer_step(struct latchsym_writer *);
 
-/* The steps that are left, and the generation after them. 0 or LATCHSYM_BAD_HANDLE. */
+/* Takes the remaining steps, and gives the generation after them. Returns 0 or
+ * LATCHSYM_BAD_HANDLE. */
 uint32_t latchsym_writer_finish(struct latchsym_writer *, uint64_t *generation);
 
-/* Goes on with so many nodes, no fewer than before and at most 65536, in new words: the items and
- * the generation stay. Takes a handle for each reader that the table was opened with or that was
- * added to it and not taken back, all open; they go on in the new words. 0, LATCHSYM_BAD_HANDLE
- * where one of the handles is closed, or they are not as many as the readers are,
- * LATCHSYM_BAD_CAPACITY where no table has so many nodes, LATCHSYM_UPDATE_IN_HAND,
- * LATCHSYM_BAD_CAPACITY where it had more nodes before, or LATCHSYM_OUT_OF_MEMORY.
+/* Gives the table room for `nodes` nodes, at least as many as before and at most 65536, in new
+ * memory. The items and the generation stay. Takes all readers of the table: those that it was
+ * opened with or that were added, less those that were taken back. All are open, and go on in the
+ * new memory. Returns 0, LATCHSYM_BAD_HANDLE if a handle is closed or the number of readers is
+ * another, LATCHSYM_BAD_CAPACITY if no table has so many nodes, LATCHSYM_UPDATE_IN_HAND,
+ * LATCHSYM_BAD_CAPACITY if it had more nodes before, or LATCHSYM_OUT_OF_MEMORY.
  *
- * It is not checked whether a reader is one of this table. One of another table goes over to this
- * one, and one of this table that is not given keeps the table as it was. */
+ * Whether a reader is one of this table is not checked. One of another table becomes a reader of
+ * this one, and one of this table that is left out keeps the table as it was. */
 uint32_t latchsym_table_enlarge_nonnull(uint32_t nodes, struct latchsym_writer *,
                                         struct latchsym_reader *readers, size_t count);
 static inline uint32_t latchsym_table_enlarge(uint32_t nodes, struct latchsym_writer *writer,
@@ -515,25 +527,26 @@ static inline uint32_t latchsym_table_enlarge(uint32_t nodes, struct latchsym_wr
     return latchsym_table_enlarge_nonnull(nodes, writer, count ? readers : &none, count);
 }
 
-/* What readers find now, also amid an update. 0, LATCHSYM_NOTHING or LATCHSYM_BAD_HANDLE. */
+/* What readers find now, also in the middle of an update. Returns 0, LATCHSYM_NOTHING or
+ * LATCHSYM_BAD_HANDLE. */
 uint32_t latchsym_writer_find(struct latchsym_writer *, uint64_t addr, struct latchsym_found *out);
 
-/* Closes the writer. Readers that are open keep the table as it is. */
+/* Closes the writer. Open readers keep the table as it is. */
 void latchsym_writer_close_nonnull(struct latchsym_writer *);
 static inline void latchsym_writer_close(struct latchsym_writer *writer) {
     if (writer) latchsym_writer_close_nonnull(writer);
 }
 
-/* The item of an address: from memory where the reader found it last and no update was shown since,
- * else by one attempt. 0, LATCHSYM_NOTHING, LATCHSYM_RETRY (nothing is written) or
+/* The item of an address: from memory if the reader found it last and no update was shown since,
+ * else by one attempt. Returns 0, LATCHSYM_NOTHING, LATCHSYM_RETRY (nothing is written) or
  * LATCHSYM_BAD_HANDLE. It is never LATCHSYM_RETRY beside a writer at rest; beside one that never
  * rests no lookup was seen to take more than 6 attempts. Handler. */
 uint32_t latchsym_reader_try_find(struct latchsym_reader *, uint64_t addr,
                                   struct latchsym_found *out);
 
-/* The same, and the symbol in the item that was found, whose tag is taken as the number of a
- * module of the catalog. Also LATCHSYM_NO_SYMBOL. Where a handle is closed nothing is looked up.
- * Handler. */
+/* The same, and the symbol in the item found, whose tag is taken as the number of a module of the
+ * catalog. Returns LATCHSYM_NO_SYMBOL, too. If a handle is closed, nothing is looked up. Handler.
+ */
 uint32_t latchsym_reader_find_name_nonnull(struct latchsym_reader *, struct latchsym_catalog *,
                                            uint64_t addr, struct latchsym_found *item,
                                            struct latchsym_answer *out, uint8_t *name,
@@ -550,7 +563,7 @@ static inline uint32_t latchsym_reader_find_name(struct latchsym_reader *reader,
                                              module_room ? module : &none, module_room);
 }
 
-/* Closes a reader. Its place in the table is not free for another: latchsym_writer_take_reader. */
+/* Closes a reader. Its place in the table stays taken; latchsym_writer_take_reader frees it. */
 void latchsym_reader_close_nonnull(struct latchsym_reader *);
 static inline void latchsym_reader_close(struct latchsym_reader *reader) {
     if (reader) latchsym_reader_close_nonnull(reader);
@@ -558,21 +571,21 @@ static inline void latchsym_reader_close(struct latchsym_reader *reader) {
 
 /* ---- a pool of readers ---- */
 
-/* Readers of one table that any number of threads, signal handlers and calls inside calls share, in
- * a slot each. A call claims a free one without waiting for it, and has given it back when it
- * returns. A pool is some 4 KB large and begins as all bytes 0 (`= {0}`), which is a closed one.
- * Its type is aligned to 64 bytes: on the heap take aligned_alloc. The calls here alone write to
- * it, and none of them runs while it is moved, opened, or freed.
+/* A pool has readers of one table, each in a slot, for any number of threads, signal handlers and
+ * calls inside calls. A call claims a free slot without waiting for it, and gives it back before
+ * it returns. A pool takes some 4 KB. Initialise it with `= {0}`, which is a closed pool. Its type
+ * is aligned to 64 bytes: on the heap use aligned_alloc. Only the calls here write to a pool, and
+ * none may run while it is moved, opened or freed.
  *
- * It needs a slot for each call that may run at once: two for a thread that looks up both in a
- * handler and outside of it. A handler bounds how often it asks while it is told LATCHSYM_BUSY:
- * inside the call that enlarges the table it would be told so for ever.
+ * A pool needs a slot for each call that may run at once: two for a thread that looks up both in a
+ * handler and outside of it. A handler must bound how often it asks again after LATCHSYM_BUSY:
+ * inside the call that enlarges the table the answer stays the same.
  *
  * A slot stays claimed for good if a handler leaves the lookup that it interrupted, by siglongjmp
- * or pthread_exit; and in a forked child, if a call of another thread had it at the fork. Once all
- * are, or if one just wanted all, each call returns LATCHSYM_BUSY. */
+ * or pthread_exit; and in a forked child, if another thread's call had it at the fork. Once all
+ * are claimed so, or if a call wanted all at the fork, each call returns LATCHSYM_BUSY. */
 enum { LATCHSYM_POOL_MOST = 64 };
-/* How often an enlarging or a close looks for free slots before it is told LATCHSYM_BUSY. */
+/* How often an enlarging or a close looks for free slots before it returns LATCHSYM_BUSY. */
 #ifndef LATCHSYM_POOL_LOOKS
 #define LATCHSYM_POOL_LOOKS 1000
 #endif
@@ -588,27 +601,27 @@ struct __attribute__((aligned(64))) latchsym_pool {
     struct latchsym_pool_slot slots[LATCHSYM_POOL_MOST];
 };
 
-/* How many slots a pool has, 0 once it is closed. */
+/* The number of slots of a pool, 0 once it is closed. */
 static inline uint32_t latchsym_pool_len(const struct latchsym_pool *pool) {
     return __atomic_load_n(&pool->slots_len, __ATOMIC_RELAXED);
 }
 
-/* Claims a slot, if it is free. */
+/* Claims a slot if it is free, and returns whether it was. */
 static inline int latchsym_pool_claim_slot(struct latchsym_pool_slot *slot) {
     return !(__atomic_load_n(&slot->claims, __ATOMIC_RELAXED) & 1) &&
            !(__atomic_fetch_or(&slot->claims, 1, __ATOMIC_SEQ_CST) & 1);
 }
 
-/* Gives a slot back, which only the call that has claimed it does. */
+/* Gives back a slot that the call has claimed. */
 static inline void latchsym_pool_give_back(struct latchsym_pool_slot *slot) {
     const uint64_t claims = __atomic_load_n(&slot->claims, __ATOMIC_RELAXED);
     __atomic_store_n(&slot->claims, claims + 1, __ATOMIC_RELEASE);
 }
 
-/* Claims a free slot of a pool; null where a call wants all, or all were claimed at one moment.
- * Claims only rise, so two rounds with one sum met the same claims, all of which held between the
- * rounds. Most threads begin at a slot of their own, where there are enough, since their stacks lie
- * apart, mostly by 2^23. */
+/* Claims a free slot of a pool. Returns null if a call wants all slots, or if all were claimed at
+ * one moment. Claim counters never fall: if two rounds give the same sum, none changed, so between
+ * the rounds every slot was taken. Threads have stacks far apart, mostly by 2^23, so most begin at
+ * different slots, if there are enough. */
 static inline struct latchsym_pool_slot *latchsym_pool_claim(const struct latchsym_pool *pool) {
     const char here = 0;
     const uint64_t at = (uint64_t)(uintptr_t)&here;
@@ -635,8 +648,7 @@ static inline uint64_t latchsym_pool_all(uint32_t len) {
     return UINT64_MAX >> (LATCHSYM_POOL_MOST - len);
 }
 
-/* Claims those slots that are free, beside those that the call has, and returns all that it has
- * then. */
+/* Claims the free slots beside those that the call has, and returns all that it has then. */
 static inline uint64_t latchsym_pool_claim_more(struct latchsym_pool *pool, uint32_t len,
                                                 uint64_t mine) {
     uint32_t i;
@@ -650,11 +662,11 @@ static inline void latchsym_pool_give_back_all(struct latchsym_pool *pool, uint6
     for (; mine; mine &= mine - 1) latchsym_pool_give_back(&pool->slots[__builtin_ctzll(mine)]);
 }
 
-/* Claims all slots of a pool that had `len`, 1 or more: one call at a time, so that no two wait for
- * each other. It keeps what it has while it looks for the others, and lets their threads run at
- * last. 0; LATCHSYM_BUSY where another call has a slot or wants all, or LATCHSYM_BAD_HANDLE where
- * the pool was closed meanwhile: then it has none. Only a call that has all slots closes a pool, so
- * that it stays open until this one gives them back. */
+/* Claims all slots of a pool that had `len`, 1 or more. One call at a time does, so that no two
+ * wait for each other. It keeps the slots that it has while it looks for the others, and at last
+ * lets their threads run. Returns 0; LATCHSYM_BUSY if another call keeps a slot or wants all; or
+ * LATCHSYM_BAD_HANDLE if the pool was closed meanwhile. Unless it returns 0 it has no slot. Only a
+ * call that has all slots closes a pool, so the pool stays open until this call gives them back. */
 static inline uint32_t latchsym_pool_claim_all(struct latchsym_pool *pool, uint32_t len) {
     const uint64_t all = latchsym_pool_all(len);
     uint64_t mine = 0;
@@ -670,8 +682,8 @@ static inline uint32_t latchsym_pool_claim_all(struct latchsym_pool *pool, uint3
     return mine != all ? LATCHSYM_BUSY : is_open ? LATCHSYM_DONE : LATCHSYM_BAD_HANDLE;
 }
 
-/* Opens a closed pool with readers, 1 to 64, whose handles are no handles then. 0,
- * LATCHSYM_BAD_HANDLE where the pool is open, or LATCHSYM_BAD_CAPACITY for another number. */
+/* Opens a closed pool with 1 to 64 readers, whose handles are then the pool's. Returns 0,
+ * LATCHSYM_BAD_HANDLE if the pool is open, or LATCHSYM_BAD_CAPACITY for another number. */
 static inline uint32_t latchsym_pool_fill(struct latchsym_pool *pool,
                                           const struct latchsym_reader *readers, size_t slots) {
     uint32_t i;
@@ -683,9 +695,10 @@ static inline uint32_t latchsym_pool_fill(struct latchsym_pool *pool,
     return LATCHSYM_DONE;
 }
 
-/* Opens an empty table of 1 to 65536 nodes: its writer, and a pool with so many of its readers, 1
- * to 64; both or neither. Refused as latchsym_table_open is, by LATCHSYM_BAD_HANDLE also where the
- * pool is open. (A pool of a follower's readers: latchsym_follower_open and latchsym_pool_fill.) */
+/* Opens an empty table of 1 to 65536 nodes: its writer, and a pool with 1 to 64 of its readers;
+ * both or neither. Refuses what latchsym_table_open refuses, and with LATCHSYM_BAD_HANDLE a pool
+ * that is open. (For a pool of a follower's readers use latchsym_follower_open and
+ * latchsym_pool_fill.) */
 static inline uint32_t latchsym_pool_open(uint32_t nodes, size_t slots,
                                           struct latchsym_writer *writer,
                                           struct latchsym_pool *pool) {
@@ -696,12 +709,12 @@ static inline uint32_t latchsym_pool_open(uint32_t nodes, size_t slots,
     return answer ? answer : latchsym_pool_fill(pool, readers, slots);
 }
 
-/* The item of an address, as latchsym_reader_try_find tells it. Any number of threads call it with
- * one pool at once, and so do handlers inside such calls. 0, LATCHSYM_NOTHING, LATCHSYM_RETRY,
- * LATCHSYM_BUSY where other calls had all readers at one moment, or one wants all (nothing is
- * written), or LATCHSYM_BAD_HANDLE. It is never LATCHSYM_BUSY where at most as many calls run at
- * once as there are slots and none enlarges or closes the pool. Of two calls one after the other
- * the second tells no lower generation, whichever readers they had. Handler. */
+/* The item of an address, as latchsym_reader_try_find gives it. Any number of threads may call it
+ * with one pool at once, and so may handlers inside such calls. Returns 0, LATCHSYM_NOTHING,
+ * LATCHSYM_RETRY, LATCHSYM_BAD_HANDLE, or LATCHSYM_BUSY if other calls had all readers at one
+ * moment, or one wants all (nothing is written). It is never LATCHSYM_BUSY if at most as many
+ * calls run at once as there are slots, and none of them enlarges or closes the pool. Of two
+ * calls, the later one never gives a lower generation, whichever readers they had. Handler. */
 static inline uint32_t latchsym_pool_try_find(const struct latchsym_pool *pool, uint64_t addr,
                                               struct latchsym_found *out) {
     struct latchsym_pool_slot *slot = latchsym_pool_claim(pool);
@@ -712,11 +725,11 @@ static inline uint32_t latchsym_pool_try_find(const struct latchsym_pool *pool, 
     return answer;
 }
 
-/* Goes on with so many nodes in new words, as latchsym_table_enlarge does, with the readers of the
- * pool, which are to be all that the table has. Threads and handlers may look up meanwhile, and
- * threads close the pool: they are told LATCHSYM_BUSY. 0, LATCHSYM_BAD_HANDLE where the pool is
- * closed, LATCHSYM_BUSY where a call has one of the slots or wants all, so ask again, and else what
- * latchsym_table_enlarge refuses. */
+/* Gives the table room for `nodes` nodes, as latchsym_table_enlarge does, with the readers of the
+ * pool, which must be all that the table has. Meanwhile threads and handlers may look up, and
+ * threads may close the pool: these calls return LATCHSYM_BUSY. Returns 0, LATCHSYM_BAD_HANDLE if
+ * the pool is closed, LATCHSYM_BUSY if a call keeps one of the slots or wants all (ask again), or
+ * what latchsym_table_enlarge refuses. */
 static inline uint32_t latchsym_pool_enlarge(uint32_t nodes, struct latchsym_writer *writer,
                                              struct latchsym_pool *pool) {
     struct latchsym_reader readers[LATCHSYM_POOL_MOST];
@@ -731,8 +744,8 @@ static inline uint32_t latchsym_pool_enlarge(uint32_t nodes, struct latchsym_wri
 }
 
 /* Closes a pool with its readers, so that calls return LATCHSYM_BAD_HANDLE; also beside calls of
- * other threads that look up, enlarge the table or close it. 0, or LATCHSYM_BUSY where a call has
- * one of the slots or wants all, and then this one did nothing: ask again. */
+ * other threads that look up, enlarge the table or close it. Returns 0, or LATCHSYM_BUSY if a call
+ * keeps one of the slots or wants all: nothing is closed then, so ask again. */
 static inline uint32_t latchsym_pool_close(struct latchsym_pool *pool) {
     const uint32_t len = pool ? latchsym_pool_len(pool) : 0;
     uint32_t i, answer = len ? latchsym_pool_claim_all(pool, len) : (uint32_t)LATCHSYM_BAD_HANDLE;
@@ -746,15 +759,15 @@ static inline uint32_t latchsym_pool_close(struct latchsym_pool *pool) {
 
 /* ---- a table that follows a listing, since 1.2 ---- */
 
-/* A follower changes a table of its own, so that it has the regions of the catalog that was shown
- * last, and keeps each catalog with the generation of its update and a stamp of the caller's, any
- * number that does not fall (of CLOCK_MONOTONIC, as perf has it). So the address of a sample is named
- * by the listing that stood then: by the generation that a reader gave with it, or by its stamp. The
- * bytes of a catalog's listings stay until its tag is told. */
+/* A follower has a table of its own, which always has the regions of the catalog shown last. It
+ * keeps each catalog with the generation of its update and with a stamp of the caller's: any
+ * number that does not fall, as a time of CLOCK_MONOTONIC. So a sample is named by the listing of
+ * its moment: by the generation that a reader gave with it, or by its stamp. Keep the bytes of a
+ * catalog's listings until a call gives its tag back. */
 
-/* Opens a follower without a catalog over an empty table of 1 to 65536 nodes, and a reader of it in
- * each of 1 to 64 closed handles. Refused as latchsym_table_open is. New regions take nodes beside
- * those that they replace. */
+/* Opens a follower without a catalog, over an empty table of 1 to 65536 nodes, and a reader of it
+ * in each of 1 to 64 closed handles. Refuses what latchsym_table_open refuses. Until an update is
+ * complete, new regions take nodes beside those that they replace. */
 uint32_t latchsym_follower_open_nonnull(uint32_t nodes, struct latchsym_follower *,
                                         struct latchsym_reader *readers, size_t count);
 static inline uint32_t latchsym_follower_open(uint32_t nodes, struct latchsym_follower *follower,
@@ -766,17 +779,17 @@ static inline uint32_t latchsym_follower_open(uint32_t nodes, struct latchsym_fo
 /* Opens one more reader of the table in a closed handle, as latchsym_writer_add_reader does. */
 uint32_t latchsym_follower_add_reader(struct latchsym_follower *, struct latchsym_reader *out);
 
-/* Takes the catalog over out of its handle, which is closed then, and shows its regions in one whole
- * update. Readers give this generation from then on; the catalog is found by it before they can. The
- * tag is a number of the caller's, as the address of the listings. 0, LATCHSYM_BAD_HANDLE,
- * LATCHSYM_BAD_STAMP, what latchsym_writer_begin_replace refuses, or LATCHSYM_OUT_OF_MEMORY: each but
- * 0 leaves both handles as they were. */
+/* Takes the catalog out of its handle, which is then closed, and shows its regions in one update.
+ * Readers give this generation from then on, and the catalog is found by it before they can. The
+ * tag is a number of the caller's, such as the address of the listings. Returns 0,
+ * LATCHSYM_BAD_HANDLE, LATCHSYM_BAD_STAMP, what latchsym_writer_begin_replace refuses, or
+ * LATCHSYM_OUT_OF_MEMORY. Unless it is 0, both handles are as they were. */
 uint32_t latchsym_follower_show(struct latchsym_follower *, struct latchsym_catalog *,
                                 uint64_t since, uint64_t tag, uint64_t *generation);
 
-/* The symbol of an address, or of a return address, by the last catalog that was shown at or before a
- * generation, or a stamp. Numbers are those of latchsym_catalog_find, or LATCHSYM_FORGOTTEN where the
- * follower has no such catalog: nothing is written. */
+/* The symbol of an address, or of a return address, by the last catalog shown at or before a
+ * generation, or a stamp. The numbers are those of latchsym_catalog_find, and LATCHSYM_FORGOTTEN
+ * if the follower has no such catalog: then nothing is written. */
 uint32_t latchsym_follower_find(struct latchsym_follower *, uint64_t generation, uint64_t addr,
                                 struct latchsym_symbol *out);
 uint32_t latchsym_follower_find_caller(struct latchsym_follower *, uint64_t generation,
@@ -786,15 +799,16 @@ uint32_t latchsym_follower_find_since(struct latchsym_follower *, uint64_t at, u
 uint32_t latchsym_follower_find_caller_since(struct latchsym_follower *, uint64_t at, uint64_t addr,
                                              struct latchsym_symbol *out);
 
-/* Forgets the oldest catalog, if the next one was shown at or before a generation, or a stamp, and
- * tells its tag: no sample from then on needs it. The newest stays. 0; LATCHSYM_NOTHING where none is
- * to be forgotten, and LATCHSYM_BAD_HANDLE: these write nothing. Ask until it is LATCHSYM_NOTHING. */
+/* Forgets the oldest catalog if the next one was shown at or before a generation, or a stamp, so
+ * that no sample from then on needs it, and gives its tag back. The newest stays. Returns 0;
+ * LATCHSYM_NOTHING if none is to be forgotten, or LATCHSYM_BAD_HANDLE: these write nothing. Ask
+ * until it is LATCHSYM_NOTHING. */
 uint32_t latchsym_follower_forget(struct latchsym_follower *, uint64_t generation, uint64_t *tag);
 uint32_t latchsym_follower_forget_since(struct latchsym_follower *, uint64_t at, uint64_t *tag);
 
-/* Drops the oldest catalog and tells its tag: 0. Where there is none it closes the follower:
- * LATCHSYM_NOTHING. Ask until then. LATCHSYM_BAD_HANDLE where it is closed. Readers that are open keep
- * the table as it is. */
+/* Drops the oldest catalog, gives its tag back and returns 0. If there is none, closes the
+ * follower and returns LATCHSYM_NOTHING: ask until then. LATCHSYM_BAD_HANDLE if it is closed. Open
+ * readers keep the table as it is. */
 uint32_t latchsym_follower_close(struct latchsym_follower *, uint64_t *tag);
 
 #ifdef __cplusplus

@@ -7,10 +7,11 @@
  *     latchsym::catalog catalog(listings);
  *     if (auto found = catalog.find(0xffffffffc0000018)) std::cout << found->name << '\n';
  *
- * An object is for one thread at a time, also for what only looks: no member that calls the library
- * is const, but those of a view, in which any number of threads find at once. It may go to another thread between two calls. One that was moved from may be assigned
- * or destroyed, and nothing else. In a signal handler use the calls of latchsym.h that are marked
- * "handler", with the handle that get() gives: members may throw, and some take memory. */
+ * Use an object on one thread at a time, also to look up: no member that calls the library is
+ * const, except those of a view, which any number of threads search at once. Between two calls an
+ * object may go to another thread. One that was moved from may only be assigned or destroyed. In a
+ * signal handler use the calls of latchsym.h that are marked "handler", with the handle that get()
+ * gives: members may throw, and some take memory. */
 #ifndef LATCHSYM_HPP
 #define LATCHSYM_HPP
 #include <latchsym.h>
@@ -44,7 +45,7 @@ private:
     std::uint32_t number_;
 };
 
-/* A line of the listing of regions is not one: the first such has this number. */
+/* A line of the listing of regions is bad: line() has the number of the first. */
 class bad_line : public error {
 public:
     explicit bad_line(std::uint64_t line)
@@ -63,7 +64,7 @@ inline void check(std::uint32_t number) {
     if (number != LATCHSYM_DONE) throw error(number);
 }
 
-/* Whether something was written; each number but 0 and that of nothing is thrown. */
+/* Returns whether something was written; throws each number but 0 and LATCHSYM_NOTHING. */
 inline bool is_there(std::uint32_t number) {
     if (number != LATCHSYM_NOTHING) check(number);
     return number == LATCHSYM_DONE;
@@ -99,23 +100,23 @@ owned<Handle> closed() {
 
 } // namespace detail
 
-/* The version of the library that runs, where LATCHSYM_VERSION is that of the header. */
+/* The version of the running library; LATCHSYM_VERSION is that of the header. */
 inline std::uint32_t version() noexcept { return latchsym_version(); }
 
 /* ---- the catalog ---- */
 
-/* The listings that a catalog is opened of, as latchsym.h says of each. Without modules these, and
- * where they lie, come from the symbols alone. */
+/* The listings that a catalog is opened with, as in latchsym.h. Without a listing of modules the
+ * symbols say which there are, and where. */
 struct listings {
     std::string_view kallsyms;
     std::optional<std::string_view> modules;
     std::string_view regions, start, end;
 };
 
-/* What is known of an address. The names lie in the caller's listings, and may be read for as long
- * as these stay. */
+/* What is known of an address. The names are in the caller's listings, and can be read as long
+ * as these are kept. */
 struct symbol {
-    std::string_view name;   /* empty where the module has no symbol at or below the address */
+    std::string_view name;   /* empty if the module has no symbol at or below the address */
     std::string_view module; /* `-` is the kernel itself */
     std::uint64_t offset, size, module_number;
     bool has_name;
@@ -137,7 +138,7 @@ struct entry {
 
 namespace detail {
 
-/* What a search tells of these words by its number, and behind them; none where nothing is. */
+/* The answer of a call with these words; none if nothing is there. */
 template <class Call, class... Words>
 std::optional<symbol> symbol_by(Call call, Words... words) {
     latchsym_symbol out = LATCHSYM_SYMBOL_INIT;
@@ -153,7 +154,8 @@ std::optional<symbol> symbol_by(Call call, Words... words) {
 
 class catalog {
 public:
-    /* Opens the catalog of listings. Their bytes stay while it, or one that shares it, is open. */
+    /* Opens a catalog of the listings. Keep their bytes while it, or one that shares it, is
+     * open. */
     explicit catalog(const listings &from) : handle_(detail::closed<latchsym_catalog>()) {
         latchsym_listings given = LATCHSYM_LISTINGS_INIT;
         given.kallsyms = detail::place(from.kallsyms);
@@ -175,27 +177,27 @@ public:
         return other;
     }
 
-    /* How many lines of each listing went where. */
+    /* How many lines of each listing were used, and how many skipped, for each reason. */
     const latchsym::counts &counts() const noexcept { return counts_; }
 
     latchsym_catalog *get() noexcept { return handle_.get(); }
 
-    /* The symbol of an address, or none where nothing is. */
+    /* The symbol of an address, or none. */
     std::optional<symbol> find(std::uint64_t addr) {
         return detail::symbol_by(latchsym_catalog_find, get(), addr);
     }
 
-    /* The same of a return address: that of the call before it. */
+    /* The symbol of a return address: of the call before it. */
     std::optional<symbol> find_caller(std::uint64_t addr) {
         return detail::symbol_by(latchsym_catalog_find_caller, get(), addr);
     }
 
-    /* What is told of so many addresses, in numbers alone, into as many rooms. */
+    /* The numbers for many addresses, written to as many places. */
     void find_many(const std::uint64_t *addresses, std::size_t count, told *out) {
         detail::check(latchsym_catalog_find_many(get(), addresses, count, out, count));
     }
 
-    /* The same of a container whose numbers lie in one row, as std::vector and std::array. */
+    /* The same for a container whose numbers lie in one row, such as std::vector or std::array. */
     template <class Addresses>
     std::vector<told> find_many(const Addresses &addresses) {
         using number = std::remove_cv_t<std::remove_pointer_t<decltype(std::data(addresses))>>;
@@ -205,14 +207,14 @@ public:
         return out;
     }
 
-    /* How many modules there are. They have the numbers from 1 on; the kernel itself is 0. */
+    /* The number of modules. They are numbered from 1; the kernel itself is 0. */
     std::uint64_t modules() {
         std::uint64_t count = 0;
         detail::check(latchsym_catalog_modules(get(), &count));
         return count;
     }
 
-    /* An item for each region, each below the next, with the number of its module as the tag. */
+    /* An item for each region, by rising address, with the number of its module as the tag. */
     std::vector<latchsym_item> items() {
         latchsym_sizes sizes{};
         detail::check(latchsym_catalog_sizes(get(), &sizes));
@@ -241,7 +243,7 @@ public:
         return entry{out.addr, detail::text(out.name)};
     }
 
-    /* The place of the first symbol of a module, from a place on, that has this name. */
+    /* The place of the first symbol of a name in a module, from a place on. */
     std::optional<std::size_t> place_of_name(std::uint64_t number, std::string_view name,
                                              std::size_t from = 0) {
         const latchsym_place bytes = detail::place(name);
@@ -252,8 +254,8 @@ public:
         return out;
     }
 
-    /* The number of the module and the place in it of the symbol that `from` others of this name come
-     * before, by rising number of the module. The first call sorts the symbols by name. */
+    /* The symbol number `from`, counted from 0, of a name in all modules: its module, and its
+     * place there. The first call sorts the symbols by name. */
     std::optional<std::pair<std::uint64_t, std::size_t>> find_name(std::string_view name,
                                                                    std::size_t from = 0) {
         const latchsym_place bytes = detail::place(name);
@@ -272,8 +274,8 @@ private:
     latchsym::counts counts_{};
 };
 
-/* A catalog in memory of its own, in which any number of threads find at once. The bytes of the
- * listings stay while it is there; the catalog may be closed. */
+/* A catalog in memory of its own, which any number of threads search at once. Keep the bytes of
+ * the listings as long; the catalog may be closed. */
 class view {
 public:
     explicit view(catalog &from) {
@@ -287,7 +289,7 @@ public:
                                                addresses_.data(), addresses_.size(), &view_));
     }
 
-    /* Its rows stay where they are when it is moved; a copy would have them twice. */
+    /* Its rows stay in place when it is moved; a copy would have them twice. */
     view(view &&) = default;
     view &operator=(view &&) = default;
     view(const view &) = delete;
@@ -295,12 +297,12 @@ public:
 
     const latchsym_view *get() const noexcept { return &view_; }
 
-    /* The symbol of an address, or none where nothing is. */
+    /* The symbol of an address, or none. */
     std::optional<symbol> find(std::uint64_t addr) const {
         return detail::symbol_by(latchsym_view_find, get(), addr);
     }
 
-    /* The same of a return address: that of the call before it. */
+    /* The symbol of a return address: of the call before it. */
     std::optional<symbol> find_caller(std::uint64_t addr) const {
         return detail::symbol_by(latchsym_view_find_caller, get(), addr);
     }
@@ -316,19 +318,19 @@ private:
 
 using item = latchsym_item;
 
-/* What lies at an address, if something does, and how many updates were shown. */
+/* The item at an address, if there is one, and the number of updates that were shown. */
 struct found {
     std::optional<latchsym::item> item;
     std::uint64_t generation;
 };
 
-/* The same, and what is told of the symbol in the item. */
+/* The same, and the numbers for the symbol in the item. */
 struct named {
     latchsym::found found;
     latchsym::told told;
 };
 
-/* What a step of an update did: nothing where none is pending. */
+/* What a step of an update did: nothing if none is pending. */
 enum class step : std::uint32_t {
     end = LATCHSYM_DONE,
     flip = LATCHSYM_FLIP,
@@ -345,8 +347,8 @@ inline found found_of(std::uint32_t number, const latchsym_found &out) {
 /* How often a lookup is tried before its refusal is thrown. */
 constexpr int most_tries = 1000000;
 
-/* The first answer of a call that may be told to try again; where others have all readers, other
- * threads run before that. */
+/* The first answer of a call that may have to be tried again. If other calls have all readers,
+ * other threads run between two tries. */
 template <class Call>
 found first_answer(Call call) {
     latchsym_found out{};
@@ -363,14 +365,14 @@ found first_answer(Call call) {
 
 } // namespace detail
 
-/* One of the readers of a table, which is there as long as its `readers` are. */
+/* One of the readers of a table, which exists as long as its `readers` do. */
 class reader {
 public:
     explicit reader(latchsym_reader *handle) noexcept : handle_(handle) {}
 
     latchsym_reader *get() noexcept { return handle_; }
 
-    /* One attempt: none where the writer flipped meanwhile. */
+    /* One attempt: none if the writer flipped meanwhile. */
     std::optional<found> try_find(std::uint64_t addr) {
         latchsym_found out{};
         const std::uint32_t number = latchsym_reader_try_find(get(), addr, &out);
@@ -378,15 +380,16 @@ public:
         return detail::found_of(number, out);
     }
 
-    /* Attempts until one answers. Beside a writer that rests, also amid an update, that is the
-     * first; beside another an error with LATCHSYM_RETRY comes after 1,000,000, which nobody saw. */
+    /* Attempts until one answers. Beside a writer at rest, also in the middle of an update, the
+     * first one does. Beside another, an error with LATCHSYM_RETRY comes after 1,000,000
+     * attempts, which was never seen. */
     found find(std::uint64_t addr) {
         return detail::first_answer(
             [&](latchsym_found *out) { return latchsym_reader_try_find(get(), addr, out); });
     }
 
-    /* One attempt, and the symbol in the item that was found, whose tag is taken as the number of a
-     * module of the catalog. As many bytes of its names are copied as there is room for; the answer
+    /* One attempt, and the symbol in the item found, whose tag is taken as the number of a
+     * module of the catalog. Copies as many bytes of its names as there is room for; the answer
      * has the lengths of the whole names. */
     std::optional<named> try_find_name(catalog &catalog, std::uint64_t addr, char *name,
                                        std::size_t name_room, char *module,
@@ -403,14 +406,14 @@ public:
         return named{detail::found_of(number, out), {answer, number}};
     }
 
-    /* Closes this reader, which is then of no further use. */
+    /* Closes this reader, which is of no further use. */
     void close() noexcept { latchsym_reader_close(get()); }
 
 private:
     latchsym_reader *handle_;
 };
 
-/* The readers of a table. Their handles lie in one row, where enlarging the table finds them. */
+/* The readers of a table. Their handles lie in one row, for the call that enlarges the table. */
 class readers {
 public:
     readers(readers &&) noexcept = default;
@@ -434,7 +437,7 @@ private:
     friend struct table;
     friend struct followed_table;
 
-    /* Opens one more by a call, where there is room. */
+    /* Opens one more by a call, if there is room. */
     template <class Call>
     reader add(Call call) {
         if (count_ == room_) throw error(LATCHSYM_BAD_CAPACITY);
@@ -451,8 +454,8 @@ private:
     std::size_t room_, count_;
 };
 
-/* Readers of one table that threads, signal handlers and calls inside calls share. It is closed with
- * its table, while no call on it runs. */
+/* Readers of one table that threads, signal handlers and calls inside calls share. It is closed
+ * with its table, while no call on it runs. */
 class pool {
 public:
     pool(pool &&) noexcept = default;
@@ -464,7 +467,7 @@ public:
 
     latchsym_pool *get() const noexcept { return pool_.get(); }
 
-    /* One attempt: none where the writer flipped meanwhile, or other calls had all readers. */
+    /* One attempt: none if the writer flipped meanwhile, or if other calls had all readers. */
     std::optional<found> try_find(std::uint64_t addr) const {
         latchsym_found out{};
         const std::uint32_t number = latchsym_pool_try_find(get(), addr, &out);
@@ -472,8 +475,8 @@ public:
         return detail::found_of(number, out);
     }
 
-    /* Attempts until one answers, at most 1,000,000, between which other threads may run: then an
-     * error with LATCHSYM_BUSY, as where no reader is ever given back. */
+    /* Attempts until one answers; other threads may run between them. After 1,000,000
+     * an error with LATCHSYM_BUSY comes, as if no reader is ever given back. */
     found find(std::uint64_t addr) const {
         return detail::first_answer(
             [&](latchsym_found *out) { return latchsym_pool_try_find(get(), addr, out); });
@@ -504,14 +507,15 @@ public:
         return finish();
     }
 
-    /* Gives the table just these items, each below the next; those that it has stay as they are. */
+    /* Gives the table just these items, by rising address; those that it has already stay as
+     * they are. */
     std::uint64_t replace(const std::vector<item> &items) {
         begin_replace(items);
         return finish();
     }
 
-    /* The same, with the steps left to step() and finish(). Readers see an update from its second
-     * flip on, whole. */
+    /* The same, with the steps left to step() and finish(). Readers see a whole update from its
+     * second flip on. */
     void begin_insert(const item &added) {
         detail::check(latchsym_writer_begin_insert(get(), &added));
     }
@@ -531,40 +535,41 @@ public:
         return static_cast<latchsym::step>(number);
     }
 
-    /* Takes the steps that are left, and returns the generation after them. */
+    /* Takes the remaining steps, and returns the generation after them. */
     std::uint64_t finish() {
         std::uint64_t generation = 0;
         detail::check(latchsym_writer_finish(get(), &generation));
         return generation;
     }
 
-    /* What readers find now, also amid an update. */
+    /* What readers find now, also in the middle of an update. */
     found find(std::uint64_t addr) {
         latchsym_found out{};
         const std::uint32_t number = latchsym_writer_find(get(), addr, &out);
         return detail::found_of(number, out);
     }
 
-    /* One more reader of this table among its readers, where there is room; also amid an update. */
+    /* Adds a reader of this table to its readers, if there is room; also in the middle of an
+     * update. */
     reader add_reader(readers &readers) {
         return readers.add([this](latchsym_reader *out) { return latchsym_writer_add_reader(get(), out); });
     }
 
-    /* Takes the last of its readers back, which is then closed and leaves room for another. */
+    /* Takes the last of its readers back, which closes it and leaves room for another. */
     void take_reader(readers &readers) {
         if (!readers.count_) throw error(LATCHSYM_BAD_CAPACITY);
         detail::check(latchsym_writer_take_reader(get(), &readers.handles_[readers.count_ - 1]));
         readers.count_--;
     }
 
-    /* Goes on with so many nodes, with all readers of this table: no other thread uses one
-     * meanwhile, and none is closed. Items and generation stay. */
+    /* Gives the table room for `nodes` nodes, with all its readers: no other thread uses or
+     * closes one meanwhile. Items and generation stay. */
     void enlarge(std::uint32_t nodes, readers &readers) {
         detail::check(latchsym_table_enlarge(nodes, get(), readers.handles_.get(), readers.count_));
     }
 
-    /* The same with the readers of its pool, while other calls look up; false where one of these has
-     * a reader just now, and then nothing has changed: ask again. */
+    /* The same with the readers of its pool, while other calls look up. Returns false, and
+     * changes nothing, if one of these has a reader just now: ask again. */
     bool enlarge(std::uint32_t nodes, pool &pool) {
         const std::uint32_t number = latchsym_pool_enlarge(nodes, get(), pool.get());
         if (number == LATCHSYM_BUSY) return false;
@@ -580,8 +585,9 @@ private:
     detail::owned<latchsym_writer> handle_;
 };
 
-/* The two ends of a table of 1 to 65536 nodes, which may go apart: `auto [writer, readers] =
- * latchsym::table(64, 2)`. There is room for `most_readers`, which add_reader adds one by one. */
+/* The two ends of a table of 1 to 65536 nodes, which may go to different threads: `auto [writer,
+ * readers] = latchsym::table(64, 2)`. There is room for `most_readers`, which add_reader adds
+ * one by one. */
 struct table {
     latchsym::writer writer;
     latchsym::readers readers;
@@ -594,8 +600,8 @@ struct table {
     }
 };
 
-/* A table that follows a listing as it changes, and the catalogs that it showed. The bytes of their
- * listings stay until forget or forget_since gives the tag. */
+/* A table that follows a listing as it changes, and the catalogs that it showed. Keep the bytes
+ * of their listings until forget or forget_since gives the tag back. */
 class follower {
 public:
     follower(follower &&) noexcept = default;
@@ -610,16 +616,16 @@ public:
 
     latchsym_follower *get() noexcept { return handle_.get(); }
 
-    /* Shows the regions of a catalog in one update, and takes it over: it is closed then. The stamp
-     * does not fall. Returns the generation from which it stands. */
+    /* Shows the regions of a catalog in one update, and takes the catalog over: it is closed
+     * then. Stamps must not fall. Returns the generation from which on it is current. */
     std::uint64_t show(catalog &shown, std::uint64_t since, std::uint64_t tag = 0) {
         std::uint64_t generation = 0;
         detail::check(latchsym_follower_show(get(), shown.get(), since, tag, &generation));
         return generation;
     }
 
-    /* The symbol of an address, or of a return address, by the listing that stood at a generation or
-     * at a stamp; an error with LATCHSYM_FORGOTTEN where it is gone. */
+    /* The symbol of an address, or of a return address, by the listing that was current at a
+     * generation or at a stamp; an error with LATCHSYM_FORGOTTEN if it is gone. */
     std::optional<symbol> find(std::uint64_t generation, std::uint64_t addr) {
         return detail::symbol_by(latchsym_follower_find, get(), generation, addr);
     }
@@ -633,8 +639,8 @@ public:
         return detail::symbol_by(latchsym_follower_find_caller_since, get(), at, addr);
     }
 
-    /* Forgets the oldest catalog if no sample of this generation, or stamp, or a later one needs it, and
-     * gives its tag; none where none is to be forgotten. */
+    /* Forgets the oldest catalog if no sample of this generation, or stamp, or a later one needs
+     * it, and returns its tag; none if nothing is to be forgotten. */
     std::optional<std::uint64_t> forget(std::uint64_t generation) {
         return gone(latchsym_follower_forget, generation);
     }
@@ -642,7 +648,7 @@ public:
         return gone(latchsym_follower_forget_since, at);
     }
 
-    /* One more reader of this table among its readers, where there is room. */
+    /* Adds a reader of this table to its readers, if there is room. */
     reader add_reader(latchsym::readers &readers) {
         return readers.add([this](latchsym_reader *out) { return latchsym_follower_add_reader(get(), out); });
     }
@@ -661,8 +667,8 @@ private:
     std::unique_ptr<latchsym_follower> handle_;
 };
 
-/* A follower without a catalog over an empty table of 1 to 65536 nodes, and its readers, with room for
- * `most_readers`. */
+/* A follower without a catalog over an empty table of 1 to 65536 nodes, and its readers, with
+ * room for `most_readers`. */
 struct followed_table {
     latchsym::follower follower;
     latchsym::readers readers;

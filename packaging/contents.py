@@ -2,11 +2,11 @@
 # SPDX-License-Identifier: MIT OR Apache-2.0
 """contents.py PROCESSOR EPOCH FOLDER: says what a release has linked in.
 
-Writes FOLDER/latchsym.spdx.json, which lists the kit's crates on which the program and the library
-stand with versions and licences, and what is linked from the C library and from gcc (SPDX 2.3); and
-copies the licence texts of the kit's crates, and that of glibc, to FOLDER/licences. The kit says in
-the READMEs of its crates what they are ports of. A crate that is the kit's own has no licence text there, and none is
-claimed here.
+Writes FOLDER/latchsym.spdx.json (SPDX 2.3). It has the program and both libraries with their
+checksums, and what is linked into each: the kit's crates with versions and licences, and what comes
+from the C library and from gcc. Copies the licence texts of the kit's crates, and that of glibc, to
+FOLDER/licences. The kit says in the READMEs of its crates what they are ports of. A crate that the
+kit has without a licence text is declared to have none (NONE), and nothing is concluded.
 """
 import datetime
 import hashlib
@@ -20,6 +20,8 @@ import sys
 import crates
 from crates import TOP
 NOBODY_SAYS = "NOASSERTION"
+NONE = "NONE"
+NOTICE = "Permission is hereby granted, free of charge"
 
 
 def read(path):
@@ -55,12 +57,40 @@ def package(name, version, licence, copyright=NOBODY_SAYS, **more):
     }
 
 
+def built(folder, path, licence, copyright):
+    """A file of the release with its checksums."""
+    with open(f"{folder}/{path}", "rb") as file:
+        content = file.read()
+    return {
+        "SPDXID": f"SPDXRef-{path.replace('/', '-')}",
+        "fileName": f"./{path}",
+        "fileTypes": ["BINARY"],
+        "checksums": [
+            {"algorithm": name.upper(), "checksumValue": hashlib.new(name, content).hexdigest()}
+            for name in ("sha1", "sha256")
+        ],
+        "licenseConcluded": licence,
+        "licenseInfoInFiles": [NOBODY_SAYS],
+        "copyrightText": copyright,
+    }
+
+
+def own_package(folder, name, line):
+    """A crate that the kit has without a licence text."""
+    paths = [f"{at}/{it}" for at, _, files in sorted(os.walk(f"{folder}/src")) for it in sorted(files)]
+    noted = [os.path.relpath(it, folder) for it in paths if NOTICE in read(it)]
+    nothing = NOBODY_SAYS if noted else NONE
+    about = f"a crate of {line}, which has no licence text for it; its licence is for the makers of the kit to name"
+    about += "".join(f"; {it} has a notice of the MIT licence" for it in noted)
+    return package(name, line, nothing, nothing, licenseConcluded=NOBODY_SAYS, comment=about)
+
+
 def kit_package(kit, name, line, licences):
     """A crate of the kit's; its licence texts are copied."""
     folder = f"{kit}/rattle/{name}"
     texts = sorted(it for it in os.listdir(folder) if it.startswith("LICENSE"))
     if not texts:
-        return package(name, line, NOBODY_SAYS, comment=f"a crate of {line} of its own")
+        return own_package(folder, name, line)
     readme = read(f"{folder}/README.md")
     # (clap's README names what it is compared with)
     version = re.search(rf"\b{name}(?:_builder)?`? (\d[\d.]*\d)", readme)[1]
@@ -68,13 +98,13 @@ def kit_package(kit, name, line, licences):
         licence = "MIT OR Apache-2.0"
     else:
         licence = "MIT"
-        assert "Permission is hereby granted, free of charge" in read(f"{folder}/{texts[0]}"), name
+        assert NOTICE in read(f"{folder}/{texts[0]}"), name
     os.makedirs(f"{licences}/{name}")
     for it in texts:
         shutil.copyfile(f"{folder}/{it}", f"{licences}/{name}/{it}")
-    holders = re.findall(r"^Copyright.*$", "\n".join(read(f"{folder}/{it}") for it in texts), re.M)
-    holder = holders[-1] if holders else NOBODY_SAYS
-    return package(name, version, licence, holder, comment=f"a port in Rattle, of {line}")
+    # (the last text is that of MIT; the text of Apache 2.0 has a template of such a line)
+    holders = "\n".join(re.findall(r"^Copyright.*$", read(f"{folder}/{texts[-1]}"), re.M))
+    return package(name, version, licence, holders or NONE, comment=f"a port in Rattle, of {line}")
 
 
 def distributed_glibc(processor):
@@ -96,20 +126,29 @@ def main(processor, epoch, folder):
     macros = said(gcc, "-E", "-dM", "-")
     numbers = [re.search(rf"#define {it} (\d+)", macros)[1] for it in ("__GLIBC__", "__GLIBC_MINOR__")]
     glibc = ".".join(numbers)
-    whole = package("latchsym", version, "MIT OR Apache-2.0", "Copyright the latchsym authors")
-    crates = kit_crates(kit, ["latchsym", "latchsym_ffi"])
-    parts = [kit_package(kit, it, line, f"{folder}/licences") for it in crates]
+    holder = "Copyright the latchsym authors"
+    whole = package("latchsym", version, "MIT OR Apache-2.0", holder)
+    names = {it: kit_crates(kit, [it]) for it in ("latchsym", "latchsym_ffi")}
+    crates = sorted({*names["latchsym"], *names["latchsym_ffi"]})
+    parts = {it: kit_package(kit, it, line, f"{folder}/licences") for it in crates}
     os.makedirs(f"{folder}/licences/glibc")
     shutil.copyfile(f"{TOP}/packaging/LGPL-2.1", f"{folder}/licences/glibc/LGPL-2.1")
     of_gcc = "GPL-3.0-or-later WITH GCC-exception-3.1"
     where = f"linked into the program alone{distributed_glibc(processor)}"
-    parts += [
-        package("glibc", glibc, "LGPL-2.1-or-later", comment=where),
-        package("libgcc", said(gcc, "-dumpfullversion").strip(), of_gcc),
+    parts["glibc"] = package("glibc", glibc, "LGPL-2.1-or-later", comment=where)
+    parts["libgcc"] = package("libgcc", said(gcc, "-dumpfullversion").strip(), of_gcc)
+    linked = {"bin/latchsym": [*names["latchsym"], "glibc", "libgcc"]}
+    for it in ("lib/liblatchsym.a", f"lib/liblatchsym.so.{version}"):
+        linked[it] = names["latchsym_ffi"]
+    files = {it: built(folder, it, NOBODY_SAYS, holder) for it in linked}
+    links = [("SPDXRef-DOCUMENT", "DESCRIBES", it["SPDXID"]) for it in (whole, *files.values())]
+    links += [(whole["SPDXID"], "STATIC_LINK", it["SPDXID"]) for it in parts.values()]
+    links += [
+        (files[file]["SPDXID"], "STATIC_LINK", parts[it]["SPDXID"])
+        for file in linked for it in linked[file]
     ]
-    links = [("SPDXRef-DOCUMENT", "DESCRIBES", whole["SPDXID"])]
-    links += [(whole["SPDXID"], "STATIC_LINK", it["SPDXID"]) for it in parts]
-    digest = hashlib.sha256(json.dumps([processor, whole, parts]).encode()).hexdigest()
+    parts, files = [*parts.values()], [*files.values()]
+    digest = hashlib.sha256(json.dumps([processor, whole, parts, files]).encode()).hexdigest()
     name = f"latchsym-{version}-{processor}"
     made = datetime.datetime.fromtimestamp(int(epoch), datetime.timezone.utc)
     document = {
@@ -123,6 +162,7 @@ def main(processor, epoch, folder):
             "creators": ["Tool: latchsym packaging/contents.py"],
         },
         "packages": [whole, *parts],
+        "files": files,
         "relationships": [
             {"spdxElementId": a, "relationshipType": kind, "relatedSpdxElement": b}
             for a, kind, b in links

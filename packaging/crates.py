@@ -30,7 +30,7 @@ def uses_of_kit_crate(kit, name):
 
 
 def below(names, uses):
-    """These crates and all that they stand on, where uses tells what one uses."""
+    """These crates and all that they stand on, where uses returns what one uses."""
     found = list(dict.fromkeys(names))
     for name in found:
         found += [it for it in uses(name) if it not in found]

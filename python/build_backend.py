@@ -20,7 +20,7 @@ import tarfile
 import zipfile
 
 HERE = pathlib.Path(__file__).parent
-EPOCH = (1980, 1, 1, 0, 0, 0)  # the first time that a zip can tell
+EPOCH = (1980, 1, 1, 0, 0, 0)  # the first time that a zip can have
 LICENCES = ("LICENSE-APACHE", "LICENSE-MIT")
 LIBRARY = "liblatchsym.so.1"
 PROCESSORS = {62: "x86_64", 183: "aarch64"}  # by the number in an ELF file

@@ -4,8 +4,8 @@
 # an emulator of that processor: the programs of tests/c and examples/c, so numbers, finds of each
 # kind over the listings of examples/, the table on threads and beside signals; the tests of traces
 # and of annotated logs, over the program; and what a release for arm64 has, its wheel and the
-# packages for Debian among it. Looks at the order of the atomic steps in the machine code. Installs
-# from Debian's packages what is not there, by root, or else ends with a line that says so.
+# packages for Debian among it. Looks at the order of the atomic steps in the machine code. What needs
+# a tool that is not there is skipped, with a line that says so (tools.sh).
 #
 # The program is proved anew for this processor, which takes minutes: with --share it is looked at on
 # every seventh day, and on the others the library alone.

@@ -2,8 +2,8 @@
 # Tests what stands on the library for C: the package for Python, with its examples, installed by
 # pip without a network; the header for C++, under the sanitizers too; the crate for Rust; their
 # example programs, over a listing of examples/ as `latchsym lookup` answers; what README.md has in
-# each language; and the example for many machines on a cluster of two workers. What is not there is installed from Debian's packages,
-# by root, or else passed over with a line that says so. Needs g++ and python3.
+# each language; and the example for many machines on a cluster of two workers. What needs a tool that is
+# not there is skipped, with a line that says so (tools.sh). Needs g++ and python3.
 set -euo pipefail
 . "$(dirname "$0")/program.sh"
 . "$top/tests/library.sh"

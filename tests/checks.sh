@@ -1,5 +1,5 @@
 #!/usr/bin/env bash
-# Checks the listings of examples/listings/: each note that a lookup tells of them is written, and
+# Checks the listings of examples/listings/: each note that a lookup writes of them is written, and
 # then the counts of the lookup, where both have the same bounds of the kernel; tries the statuses, more regions than a table has, and the faults.
 set -euo pipefail
 . "$(dirname "$0")/program.sh"
@@ -34,7 +34,7 @@ for modules in *.modules; do
     [ "$kept" != 0 ] || status=1
     checked $status --modules "$modules" --kallsyms "$name.kallsyms" "${regions[@]}" --kernel _stext _end
     grep -v '^0x' "$name.expected" | cmp -s - <(grep -v '^latchsym: note: ' "$work/out") || fail "$name: other counts"
-    # what a lookup tells of a listing is among what is written of it
+    # what a lookup notes of a listing is among what is written of it
     if [ -e "$name.notes" ] && grep -Fxvf "$work/out" "$name.notes"; then
         fail "$name: a note is missing"
     fi

@@ -8,10 +8,11 @@
 # `latchsym lookup` answers, its logs as `latchsym annotate` writes them, and addresses of this
 # machine's kernel as libbcc answers; under valgrind and sanitizers where these are there, and names of
 # 700 bytes under gcc's own for addresses. Looks at the object code that a call for signal handlers
-# takes no memory. Needs gcc.
+# takes no memory, and runs it on the oldest x86-64 where there is an emulator. Needs gcc.
 set -euo pipefail
 . "$(dirname "$0")/program.sh"
 . "$top/tests/library.sh"
+. "$top/tests/tools.sh"
 build_library
 
 # compile NAME OPTION..: the program NAME.c of tests/c, with the static library
@@ -25,6 +26,11 @@ for name in numbers nulls order find view table adding placements claims pool st
 done
 compile read
 "$work/read" "$work/file"
+if has 'command -v qemu-x86_64' qemu-user; then
+    for name in find view adding replace; do
+        qemu-x86_64 -cpu qemu64,-sse3 "$work/$name"
+    done
+fi
 # is_right HEADERS NAME OPTION..: whether the program NAME.c of tests/c passes with the headers of this folder
 is_right() {
     gcc -std=gnu11 -w -O2 -I"$1" "$top/tests/c/$2.c" "$library" -lpthread -o "$1/$2" "${@:3}" || exit 1
@@ -46,7 +52,7 @@ if compile claims -g -fsanitize=thread 2>/dev/null; then
         fi
     done
 fi
-if command -v valgrind >/dev/null; then
+if has 'command -v valgrind' valgrind; then
     for name in nulls view refused; do
         valgrind -q --error-exitcode=1 --leak-check=full "$work/$name"
     done

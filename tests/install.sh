@@ -3,8 +3,8 @@
 # them again while program and library are in use, behind a DESTDIR, below a prefix with blanks, with
 # a program without shared libraries, and where a folder cannot be made; and takes them away again.
 # Looks at what the shared library shows and asks for, and builds a project of CMake's in C and one in
-# C++. Needs gcc and binutils; pkg-config and CMake are installed from Debian's packages where they are
-# not there, by root, or else passed over.
+# C++. Needs gcc and binutils; What needs pkg-config or CMake is skipped if they are not there, with a
+# line that says so (tools.sh).
 set -euo pipefail
 . "$(dirname "$0")/program.sh"
 . "$top/tests/tools.sh"
@@ -36,6 +36,13 @@ for words in '' '--prefix' 'a b' '--target' '--target arm64 a'; do
     run $words
     [ $status = 2 ] && [ ! -s "$work/out" ] && [ -s "$work/err" ] || fail "install.sh $words: status $status"
 done
+
+# (sh is another shell on Debian)
+# shellcheck disable=SC2016
+[ -n "$(sh -c 'echo "${BASH_VERSION:-}"')" ] || {
+    sh "$top/install.sh" "$work/prefix" 2>"$work/err" && fail 'sh: status 0'
+    grep -q 'a script of bash' "$work/err" || fail "sh: $(cat "$work/err")"
+}
 
 prefix=$work/prefix
 run "$prefix"
@@ -136,6 +143,9 @@ if command -v pkg-config >/dev/null; then
 fi
 [ ! -d "$work/project" ] || { by_cmake "$work/system/usr" C "$top/tests/c/waits.c" '' && "$built" /dev/null; } ||
     fail "LIBDIR: CMake: $(cat "$work/out")"
+LIBDIR='' DESTDIR=$work/system run --uninstall /usr
+[ $status = 1 ] && [ "$(grep -c "^install.sh: left, .*: $work/system/usr/$LIBDIR/liblatchsym" "$work/err")" = 4 ] ||
+    fail "another LIBDIR: status $status, $(cat "$work/err")"
 DESTDIR=$work/system run --uninstall /usr
 [ $status = 0 ] && [ -z "$(installed "$work/system")" ] || fail "LIBDIR: left: $(installed "$work/system")"
 for LIBDIR in /usr/lib64 ../lib lib/../..; do

@@ -8,7 +8,7 @@ import pathlib
 import re
 import sys
 
-PASSED_OVER = {".git", "out", "target", "tests", "packaging"}
+PASSED_OVER = {".git", "out", "target", "tests"}
 IN_PAGE = re.compile(r"\]\(([^()\s]+)\)")
 IN_HTML = re.compile(r"<(?:a|img|script|link|iframe)\b[^>]*?\b(?:href|src)=\"([^\"]+)\"")
 

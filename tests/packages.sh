@@ -3,8 +3,8 @@
 # of the package for Python, by pip in an environment of its own where PATH has no compiler; the
 # crate that has it, built from what `cargo package` makes; and the packages for Debian, built by
 # dpkg-buildpackage, looked through by lintian, and installed, used and removed in a Debian by
-# debootstrap, or else unpacked. Looks at which versions of glibc the library asks for. What is not
-# there is installed from Debian's packages, by root, or else passed over with a line that says so.
+# debootstrap, or else unpacked. Looks at which versions of glibc the library asks for. What needs
+# a tool that is not there is skipped, with a line that says so (tools.sh).
 # Needs gcc, binutils and python3.
 set -euo pipefail
 . "$(dirname "$0")/program.sh"

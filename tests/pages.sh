@@ -8,6 +8,7 @@
 # the examples gcc, binutils and gzip.
 set -euo pipefail
 . "$(dirname "$0")/program.sh"
+. "$top/tests/tools.sh"
 for tool in man groff; do
     command -v $tool >/dev/null || { echo "pages: $tool is not installed (Debian: apt-get install man-db groff-base)"; exit 1; }
 done
@@ -132,7 +133,7 @@ mkdir "$work/tools"
 for tool in bash cat cp cut date dirname find grep mktemp realpath rm sed tr; do
     ln -s "$(command -v $tool)" "$work/tools"
 done
-for script in "bash install.sh $work/prefix" "bash "tests/{cases,quick,try,linear,bindings,unproved_library,first_change}.sh \
+for script in "bash .ci/run" "bash install.sh $work/prefix" "bash "tests/{cases,quick,try,linear,bindings,unproved_library,first_change}.sh \
     "$(python3 -c 'import sys; print(sys.executable)') tests/wrong_bodies.py --all"; do
     status=0
     # shellcheck disable=SC2086
@@ -171,11 +172,11 @@ offers '' run --readers ''
 offers _stext lookup --kernel ''
 offers _end lookup --kernel _stext _en
 shells=bash
-if command -v zsh >/dev/null; then
+if has 'command -v zsh' zsh; then
     zsh -n "$completions/_latchsym" || fail "zsh does not read its completion"
     shells+=" zsh"
 fi
-if command -v fish >/dev/null; then
+if has 'command -v fish' fish; then
     in_shell() { fish --no-config -c 'source $argv[1]; complete -C $argv[2]' "$completions/latchsym.fish" "$1" | cut -f 1 | sort; }
     same "the commands that fish offers" "$(sort <<<"$commands")" "$(in_shell 'latchsym ')"
     same "the options that fish offers for trace" $'--help\n--steps' "$(in_shell 'latchsym trace --')"

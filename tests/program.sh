@@ -26,6 +26,16 @@ build() {
     fi
 }
 
+# crates_as_they_go: copies its input to the file $work/build, and names each crate of which it says
+# that something is proved
+crates_as_they_go() {
+    tee "$work/build" | awk -v script="${0##*/}" '
+        /^[a-z]+ [a-z_0-9]+::.*: proved$/ {
+            split($2, path, "::")
+            if (path[1] != crate) { crate = path[1]; print script ": proving: " crate; fflush() }
+        }' >&2
+}
+
 # build_proved CRATE: makes the crate's proved program `program`, and proves and builds it if it is
 # missing or older than a source; one of tests/crates over what `rt ci` has proved on this machine
 build_proved() {
@@ -39,7 +49,9 @@ build_proved() {
         fi
     elif [ ! -x "$program" ] || is_older "$program" "$top"/crates/*/src; then
         echo "${0##*/}: proving $1" >&2
-        (cd "$top/crates/$1" && rt run -- --help) >"$work/build" 2>&1 || { cat "$work/build" >&2; exit 1; }
+        # (not every script has pipefail)
+        { (cd "$top/crates/$1" && rt run -- --help) 2>&1 || echo 'rt run has failed'; } | crates_as_they_go
+        [ "$(tail -n 1 "$work/build")" != 'rt run has failed' ] || { cat "$work/build" >&2; exit 1; }
     fi
 }
 
@@ -49,7 +61,7 @@ build_unproved() {
     program=$top/tests/out/$1
     if [ ! -x "$program" ] || is_older "$program" "$top"/crates/*/src "$top/tests/crates"; then
         mkdir -p "$top/tests/out"
-        echo "${0##*/}: building $1 without a proof, in a minute and a half" >&2
+        echo "${0##*/}: building $1 without a proof, in three minutes" >&2
         "$top/tests/build.py" build "$1" "$program.new" >&2 || exit 1
         mv "$program.new" "$program"
     fi

@@ -43,6 +43,7 @@ lookup=(lookup --modules /basic.modules --kallsyms /basic.kallsyms --addresses /
 (cd "$work/$name" && eval "$(sed -n 's/^    \(gcc -static-pie .*\)/\1/p' README.md)")
 "$work/$name/latchsym" "${lookup[@]/#\//$top/examples/listings/}" | cmp - "$top/examples/listings/basic.expected" ||
     fail 'the program linked again'
+cmp "$work/$name/latchsym" "$work/$name/bin/latchsym" || fail 'the program linked again is another'
 rm "$work/$name/latchsym"
 
 if ! in_root / true 2>/dev/null; then

@@ -1,12 +1,13 @@
 # Read after program.sh by the scripts that use what a machine may lack.
 
-# has TEST PACKAGE..: whether the test holds, once Debian's packages are there, if they can be had;
-# a line says what is installed, by root, or what is passed over. Of scripts that run side by side one
+# has TEST PACKAGE..: whether the test holds. If it does not, a line says what is skipped for want of
+# Debian's packages, and so does one of the file SKIPPED, if that is set. Where INSTALL=yes is set, as
+# .ci/run does if CI=true is, root has them installed first; of scripts that run side by side one
 # installs at a time
 has() {
     local name=${0##*/}
     name=${name%.sh}
-    if ! eval "$1" >/dev/null 2>&1 && [ "$(id -u)" = 0 ] && command -v apt-get >/dev/null; then
+    if ! eval "$1" >/dev/null 2>&1 && [ "${INSTALL:-}" = yes ] && [ "$(id -u)" = 0 ] && command -v apt-get >/dev/null; then
         echo "$name: installing ${*:2}"
         (
             flock 9
@@ -16,7 +17,7 @@ has() {
         ) 9>"${TMPDIR:-/tmp}/latchsym-installs"
     fi
     eval "$1" >/dev/null 2>&1 || {
-        echo "$name: passed over, since Debian's ${*:2} are not there"
+        echo "$name: skips what needs ${*:2} (Debian: apt-get install ${*:2})" | tee -a "${SKIPPED:-/dev/null}"
         return 1
     }
 }

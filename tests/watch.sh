@@ -1,10 +1,10 @@
 #!/usr/bin/env bash
 # Plays docs/watch/index.html in a real browser: each example from end to end, forward and back, and
 # what is drawn after each step is compared with a plain replay of the steps (tests/steps/replay.py).
-# Tries keys, files, addresses and words, and in a frame of 390 x 844 that a phone has both trees in
-# sight of its buttons. The examples in the page are those of examples/traces. With --pictures it also
-# makes the pictures of docs/watch/ again. Debian's chromium is installed if it is missing and this is
-# root; if no browser can be had, one line says that it is passed over.
+# Tries keys, files, addresses and words; in a frame of 390 x 844, that a phone has both trees in
+# sight of its buttons; and in one of 1280 x 900, that the page opens with all in sight. The examples in the page are those of examples/traces. With --pictures it also
+# makes the pictures of docs/watch/ again. Without Debian's chromium it is skipped, with a line that
+# says so (tools.sh).
 set -eu
 top=$(cd "$(dirname "$0")/.." && pwd)
 work=$(mktemp -d)
@@ -27,16 +27,21 @@ sed '/^<\/body>$/d; /^<\/html>$/d' "$top/docs/watch/index.html" >"$work/page.htm
 browse --virtual-time-budget=600000 --dump-dom "file://$work/page.html" >"$work/dom" || { cat "$work/browser"; exit 1; }
 python3 "$top/tests/watch/compare.py" "$work/dom" "$top/examples/traces"
 
-# a phone: the page in a frame of its size, since no window is so narrow
-sed '/^<\/body>$/d; /^<\/html>$/d' "$top/docs/watch/index.html" >"$work/framed.html"
-{ echo "<script>"; cat "$top/tests/watch/phone.js"; echo "</script></body></html>"; } >>"$work/framed.html"
-cat >"$work/phone.html" <<'END'
+# framed NAME WIDTH HEIGHT: looks at the page in a frame of this size, as tests/watch/NAME.js does
+framed() {
+    sed '/^<\/body>$/d; /^<\/html>$/d' "$top/docs/watch/index.html" >"$work/framed.html"
+    { echo "<script>"; cat "$top/tests/watch/$1.js"; echo "</script></body></html>"; } >>"$work/framed.html"
+    cat >"$work/frame.html" <<END
 <!DOCTYPE html>
-<iframe src="framed.html" width="390" height="844" style="border: 0"></iframe>
-<script>addEventListener("message", (it) => { document.body.innerHTML = `<pre>seen ${it.data.length} ${it.data.join("\n")}</pre>`; });</script>
+<iframe src="framed.html" width="$2" height="$3" style="border: 0"></iframe>
+<script>addEventListener("message", (it) => { document.body.innerHTML = \`<pre>seen \${it.data.length} \${it.data.join("\n")}</pre>\`; });</script>
 END
-browse --virtual-time-budget=60000 --dump-dom "file://$work/phone.html" >"$work/dom" || { cat "$work/browser"; exit 1; }
-grep -q '<pre>seen 0 ' "$work/dom" || { echo "watch: on a phone:"; sed -n '/<pre>/,/<\/pre>/p' "$work/dom" | head -20; exit 1; }
+    browse --virtual-time-budget=60000 --dump-dom "file://$work/frame.html" >"$work/dom" || { cat "$work/browser"; exit 1; }
+    grep -q '<pre>seen 0 ' "$work/dom" || { echo "watch: at $2 x $3:"; sed -n '/<pre>/,/<\/pre>/p' "$work/dom" | head -20; exit 1; }
+}
+# (no window is so narrow as a phone)
+framed phone 390 844
+framed opening 1280 900
 
 # picture NAME EXAMPLE EVENT THEME: that moment, as a file beside the page
 picture() {

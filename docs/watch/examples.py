@@ -10,7 +10,7 @@ HERE = pathlib.Path(__file__).resolve().parent
 TRACES = HERE.parent.parent / "examples" / "traces"
 BEGIN, END = "<!-- examples -->\n", "<!-- end of examples -->\n"
 # in which order to watch them; the others follow by name
-FIRST = ["one_insert", "first_half", "second_half", "second_attempt_old", "slept_through", "torn_item", "every_stop"]
+FIRST = ["one_insert", "several_nodes", "first_half", "second_half", "second_attempt_old", "slept_through", "torn_item", "every_stop"]
 
 
 def names():

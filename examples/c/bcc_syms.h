@@ -3,7 +3,7 @@
  * this in place of <bcc/bcc_syms.h>. It does what libbcc does, except that
  * - bcc_symcache_refresh reads /proc/kallsyms again. Where it has changed, names that were told before are gone; where
  *   something is noted of it that was not before, as where rights are lost, it is not taken;
- * - of the symbols of one address the one listed first is told, where libbcc tells one of the last;
+ * - of the symbols of one address the one listed first is returned; libbcc returns one of the last;
  * - a symbol of data is told too, and an address outside the kernel and its modules has none;
  * - a cache is for one call at a time, and is of the kernel alone.
  * cc program.c $(pkg-config --cflags --libs latchsym) -o program */

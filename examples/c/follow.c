@@ -80,7 +80,7 @@ static void *work(void *thread) {
 
 static void free_listing(struct listing *old) { free((void *)old->bytes[0].at), free((void *)old->bytes[1].at), free(old); }
 
-/* Shows the catalog to all readers, in one update. The follower keeps it, and tells the listing once it is gone. */
+/* Shows the catalog to all readers, in one update. The follower keeps it, and returns the listing once it is gone. */
 static void show(struct listing *new, struct latchsym_catalog *catalog) {
     static struct latchsym_item items[NODES];
     struct latchsym_sizes sizes;
@@ -101,7 +101,7 @@ static void show(struct listing *new, struct latchsym_catalog *catalog) {
     fflush(stdout);
 }
 
-/* Reads the files, and tells whether their listing is to be shown: the first one, and each that is another than the one
+/* Reads the files, and returns whether their listing is to be shown: the first one, and each that is another than the one
  * shown and of which nothing more is noted, which is told. Its catalog is open then. */
 static int is_to_be_shown(struct listing *new, struct latchsym_catalog *catalog) {
     struct latchsym_listings given = LATCHSYM_LISTINGS_INIT;

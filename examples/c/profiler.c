@@ -35,7 +35,7 @@ struct part { const char *name; unsigned (*run)(unsigned); uint64_t start, end; 
 /* What the tag of a range points to while the range is in the table. */
 struct loaded { const struct part *part; atomic_long samples; uint64_t gone; struct loaded *next; };
 
-/* Each thread tells how far its handler has come. */
+/* Each thread says how far its handler has come. */
 struct thread {
     pthread_t id;
     atomic_long round;     /* the round that it works in */

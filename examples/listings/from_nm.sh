@@ -1,8 +1,8 @@
 #!/usr/bin/env bash
-# Writes a listing of symbols in the form of /proc/kallsyms where only the files of a kernel's build
-# are at hand: those of System.map, and of each module the ones of its text, from where that was
-# loaded (the address in the last word of its line of /proc/modules, or in
-# /sys/module/NAME/sections/.text). A kernel that was moved at boot is told by OFFSET.
+# Writes a listing of symbols in the form of /proc/kallsyms from the files of a kernel's build: the
+# symbols of System.map, and those of each module's text, at the address that it was loaded to. That is
+# in the last word of its line of /proc/modules, or in /sys/module/NAME/sections/.text. OFFSET is how
+# far the kernel was moved at boot.
 #
 #     from_nm.sh [--offset OFFSET] SYSTEM.MAP [MODULE.ko ADDRESS]..
 #

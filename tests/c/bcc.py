@@ -1,4 +1,4 @@
-"""Looks at what examples/c/bcc_syms.h tells of addresses, beside libbcc where that is given.
+"""Compares the answers of examples/c/bcc_syms.h with those of libbcc, if that is given.
 
     bcc.py LIVE OF_FILE [LIBBCC]
 

@@ -38,7 +38,7 @@ class Listing:
             for module, (page, load) in self.loaded.items() for place in range(SYMBOLS))
 
     def text(self, version):
-        """The listing, with a length that tells its version."""
+        """The listing, with a length that is its version."""
         lines = "".join(f"{addr:016x} t {name}\t[m{module}]\n" for addr, name, module in self.symbols())
         return lines + "#" * ((version - len(lines)) % MARK)
 
@@ -52,7 +52,7 @@ class Follower:
             [program, file, modules], stdin=subprocess.PIPE, stdout=subprocess.PIPE, text=True, **pipes)
 
     def hear(self, line):
-        """Takes a line; the version that it tells of, if it is one of a listing."""
+        """Takes a line; the version that it names, if it is one of a listing."""
         words = line.split()
         if words[0] == "listing":
             generation, version = int(words[1].rstrip(":")), int(words[5]) % MARK

@@ -31,8 +31,12 @@ def counts_lines(counts, has_regions):
         out.append(f"regions {counts.regions} stray {counts.regions_stray}")
     return out
 
-NOTES = {text_of(number): number for number in range(41, 49)}
-BOUNDS = {"has no symbol _stext": 46, "has no symbol _end; try --kernel _stext _einittext": 47}
+NOTES = {text_of(number): number for number in range(41, 55)}
+NAMED = {
+    "has no symbol _stext": 46,
+    "has no symbol _end; try --kernel _stext _einittext": 47,
+    "lists no module bpf, whose symbols are left out; leave --modules out": 54,
+}
 
 def noted(folder, name):
     """What the program notes of both listings, as numbers."""
@@ -40,7 +44,7 @@ def noted(folder, name):
     path = folder / f"{name}.notes"
     for note in path.read_text().splitlines() if path.exists() else []:
         file, text = note.removeprefix("latchsym: note: ").split(": ", 1)
-        notes[file.split(".")[1]] = BOUNDS.get(text) or NOTES[text]
+        notes[file.split(".")[1]] = NAMED.get(text) or NOTES[text]
     return notes["modules"], notes["kallsyms"]
 
 def compare(folder, name):

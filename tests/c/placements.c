@@ -5,9 +5,9 @@
  * A call runs on a stack of its own, and stops before each step. A placement is a list of which call goes on:
  *
  *     start --A--> --A--> --B--> ..      each state with its ways on is looked at once: a state is the pool, and
- *              \--B--> --A--> ..         what each call has read so far, which tells where in its code it is
+ *              \--B--> --A--> ..         what each call has read so far, which shows where in its code it is
  *
- * Claims and gives are those of the header, in the order of their steps (sequentially consistent): claims.c tells whether
+ * Claims and gives are those of the header, in the order of their steps (sequentially consistent): claims.c shows whether
  * weaker orders suffice. With an argument it also tries a lookup beside two others on two slots, in a minute. */
 #define _GNU_SOURCE
 #include <stddef.h>

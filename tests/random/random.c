@@ -3,7 +3,7 @@
  *   random PROGRAM FOLDER RUNS SEED EXAMPLE..
  *
  * FOLDER is where inputs lie. Each EXAMPLE is a file whose lines inputs are made from: its name's
- * end tells what it is (.trace, .modules, .kallsyms, .regions, .addresses, .script). Of a run that
+ * end says what it is (.trace, .modules, .kallsyms, .regions, .addresses, .script). Of a run that
  * breaks a promise the input stays in FOLDER, and the status is 1.
  *
  * The promises: a run ends within SECONDS, by itself, with status 0 or 1; with 0 nothing is on
@@ -165,7 +165,7 @@ static int opened(const char *name) {
     return open(path, O_CREAT | O_TRUNC | O_WRONLY, 0600);
 }
 
-/* Runs the program in FOLDER; its status as wait tells it. */
+/* Runs the program in FOLDER; its status as wait gives it. */
 static int run(char *const *arguments) {
     int status = 0;
     pid_t child = fork();

@@ -160,7 +160,7 @@ class Replay:
         return step
 
     def end(self, step):
-        """After a step: the sequence that it tells is word 0."""
+        """After a step: the sequence that it has is word 0."""
         if step["sequence"] != written(self.machine.word(0)):
             self.say("another sequence")
         readers = {r: dict(look, values=list(look["values"])) for r, look in self.machine.readers.items()}

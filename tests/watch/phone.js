@@ -1,4 +1,4 @@
-// Looks at the page in a frame of 390 x 844, as a phone shows it, and tells the page around the frame
+// Looks at the page in a frame of 390 x 844, as a phone shows it, and sends the page around the frame
 // what is wrong. Appended to a copy of the page, for tests/watch.sh.
 "use strict";
 
@@ -29,6 +29,7 @@ async function look() {
         const [text, view] = [label, label.closest(".view")].map((it) => it.getBoundingClientRect());
         expect(text.left >= view.left && text.right <= view.right, `${name}, event ${event}: "${label.textContent}" is cut`);
       }
+      for (const view of document.querySelectorAll(".view")) expect(view.offsetHeight === view.clientHeight, `${name}: a scroll bar inside a copy`);
       expect($("copy1").getBoundingClientRect().top === $("copy0").getBoundingClientRect().top, `${name}: the copies are not side by side`);
       expect(document.documentElement.scrollWidth <= innerWidth, `${name}: it scrolls sideways`);
     }

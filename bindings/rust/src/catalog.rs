@@ -119,7 +119,7 @@ impl fmt::Display for Symbol<'_> {
     }
 }
 
-/// What [`Catalog::find_many`] tells of one address: numbers alone.
+/// The answer of [`Catalog::find_many`] for one address: only numbers.
 #[repr(C)]
 #[derive(Clone, Copy, Debug, Default, PartialEq, Eq)]
 pub struct Answer {

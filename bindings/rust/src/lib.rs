@@ -18,7 +18,7 @@
 //!   `Sync`. [`Catalog::share`] gives another thread its own, and [`Catalog::view`] is for any
 //!   number of threads: [`View`] is `Sync`. So is [`Pool`], whose calls claim a reader each.
 //! - The bytes of listings stay unchanged while a catalog is open: it borrows them, and so do the
-//!   names that it tells, which may be read after it is closed.
+//!   names that it returns, which may be read after it is closed.
 //!
 //! A thread cannot have the catalog of another one:
 //!

@@ -25,14 +25,14 @@ is_of (Some name) (Some owner) = not (bytes_eq name (codes "-")) && bytes_eq own
 abbrev pub size_of : Kept → ℕ
 size_of k = k.end - k.addr
 
--- the offset is below the size; if a size is said this is it, and the offset may equal it, as
--- that of a return address does
+-- the offset is below the size; if a size is given this is it, and the offset may equal it, as for
+-- a return address
 abbrev pub is_within : Distance → ℕ → Bool
 is_within above size =
     option_map_or (λ said. nat_eq said size && nat_le above.offset size) above.size
     (nat_lt above.offset size)
 
--- the address that is told of a symbol, so many bytes higher than the listing has it
+-- the address that is written for a symbol: the listing's, raised by the offset
 abbrev pub told_address : AddressForm → AskedSymbols → Kept → ℕ
 told_address form a k = k.addr + a.above.offset + form.higher
 
@@ -64,12 +64,12 @@ address_object form a k =
     address_member (told_address form a k) ++ symbol_members k.name a.above.offset (size_of k)
     ++ owner_member k.owner ++ codes "}\n"
 
--- the line of a symbol that is told, as JSON or as text
+-- the line of a symbol that is written, as JSON or as text
 unfoldable pub told_line : AddressForm → List ℕ → AskedSymbols → Kept → List ℕ
 told_line form word a k =
     if form.json then address_object form a k else address_line form word a k
 
--- the lines of those of these symbols that are told
+-- the lines of these symbols, as far as they are written
 abbrev pub told_lines : AddressForm → List ℕ → AskedSymbols → List Kept → List ℕ
 told_lines form word a symbols =
     flat_map (λ k. line_where (is_told form a k) (told_line form word a k)) symbols
@@ -88,11 +88,11 @@ unfoldable pub asked_object : AskedSymbols → List ℕ
 asked_object a =
     codes "{" ++ offset_members a.symbol a.above.offset ++ asked_member a.owner ++ codes "}\n"
 
--- the line of a word for which no symbol is told, as JSON or as text
+-- the line of a word without a symbol, as JSON or as text
 unfoldable pub untold_line : AddressForm → List ℕ → AskedSymbols → List ℕ
 untold_line form word a = if form.json then asked_object a else no_address word
 
--- what is written for a word, where the symbols of its name are these
+-- what is written for a word, if these are the symbols of its name
 abbrev pub symbols_text : AddressForm → List ℕ → AskedSymbols → List Kept → List ℕ
 symbols_text form word a symbols =
     if list_any (is_told form a) symbols then told_lines form word a symbols

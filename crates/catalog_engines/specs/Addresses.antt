@@ -1,4 +1,4 @@
--- What is written where names are asked for.
+-- What is written for names that are asked for.
 use Rattle.std.specs.Prelude.{◌≡◌, List, ℕ, Option}
 use Rattle.modules.specs.Entries.{CatalogEntries}
 use Rattle.modules.specs.Listed.{BoundNames}

@@ -1,4 +1,4 @@
--- What is written for a log, and told of the listings that say what its addresses are.
+-- What is written for a log, and noted of the listings that name its addresses.
 use Rattle.std.specs.Prelude.{◌≡◌, ◌⊎◌, ℕ, Bool, List, Option, Result, Ok, Err, IfSome}
 use Rattle.logs.specs.declared.annotation.LogFault.{LogFault}
 use Rattle.logs.specs.declared.annotation.LogFault.TheVariants as log_fault
@@ -43,9 +43,8 @@ abbrev pub stopped : {X : Type 0} → Result X LogFault → Result X Stop
 stopped (Ok x) = Ok x
 stopped (Err fault) = Err (stop_of fault)
 
--- How the end of the log in this file is told: if what was found of it tells that it is packed, or
--- that the listing is another one, this is noted. A status of 1 stands for a reader of the output
--- that is gone, of which nothing is said.
+-- What is said at the end of the log in this file: a note if the log is packed, or if the listing
+-- is another one. The status 1 means that the reader of the output is gone; then nothing is said.
 abbrev pub IsEndTold : {E : Type 0} → (E → Option (List ℕ)) → List ℕ → ListedKernel → Output E
     → Output E → Result Findings Stop → Result ℕ Fault → Type 0
 IsEndTold errors log kernel e e' (Ok found) result =
@@ -54,7 +53,7 @@ IsEndTold errors log kernel e e' (Ok found) result =
 IsEndTold errors log kernel e e' (Err stop.Closed) result = (result ≡ Ok 1) × (e' ≡ e)
 IsEndTold errors log kernel e e' (Err (stop.Failed f)) result = (result ≡ Err f) × (e' ≡ e)
 
--- the log in this file was annotated to its end or not, and this was told
+-- the log in this file was annotated to its end or not, and this was said
 abbrev pub AnnotatesBy : {L W E : Type 0} → (L → Option (List ℕ)) → (W → Option (List ℕ))
     → (E → Option (List ℕ)) → List ℕ → ListedKernel → Answering → Counted L → Counted L → Output W
     → Output W → Output E → Output E → Result ℕ Fault → Type 0
@@ -67,9 +66,9 @@ AnnotatesBy remaining contents errors log kernel answer l l' w w' e e' result =
 abbrev pub listed_kernel : List ℕ → ℕ → ListedKernel
 listed_kernel kallsyms offset = record { base = kernel_base (lines_of kallsyms); offset = offset }
 
--- There is a catalog of the listings, if these are known; what is noted of them was told; and
--- this holds of the catalog, of whether the listing of symbols is that of a 32-bit kernel, of the
--- place of its kernel, and of what was told to after the notes.
+-- There is a catalog of the listings, if these are known; their notes were written; and this holds
+-- of the catalog, of whether the symbols are of a 32-bit kernel, of the place of its kernel, and of
+-- the output for errors after the notes.
 pub record IsTold {E : Type 0} (contents : E → Option (List ℕ)) (kernel : Option BoundNames)
     (files : ListingFiles) (offset : ℕ) (known : Option Given) (e : Output E)
     (P : CatalogEntries → Bool → ListedKernel → Output E → Type 0)
@@ -91,7 +90,7 @@ abbrev pub IsUntouched : {L W E : Type 0} → Counted L → Counted L → Output
 IsUntouched l l' w w' e e' = (l' ≡ l) × (w' ≡ w) × (e' ≡ e)
 
 -- What is returned after listings were read, whose texts may be known: before anything else was
--- touched, or after the notes were told, where `Told` says what came of the log. A call of a
+-- touched, or after the notes were written; then `Told` says what came of the log. A call of a
 -- listing's reader failed if the answer says so, and else none.
 abbrev pub AnnotatesAfter : Option Given → Failures → Type 0 → (Result ℕ Fault → Type 0)
     → Result ℕ Fault → Type 0
@@ -112,8 +111,8 @@ AnnotatesAfter known counts Untouched Told (Err Write) =
     NoReaderFailed counts × Told (Err Write)
 AnnotatesAfter known counts Untouched Told (Err _) = ⊥
 
--- What the engine returns. Once it told what is noted of the listings, the log is annotated by the
--- answers of their catalog.
+-- What the engine returns. After the notes on the listings, the log is annotated by the answers of
+-- their catalog.
 abbrev pub AnnotatesLog : {L W E : Type 0} → (L → Option (List ℕ)) → (W → Option (List ℕ))
     → (E → Option (List ℕ)) → Sources → Annotate → Option Given → Failures
     → Counted L → Counted L → Output W → Output W → Output E → Output E

@@ -7,15 +7,15 @@ use Rattle.texts.specs.Numbers.{number_of}
 use Rattle.listing.specs.SymbolListing.{cut_at}
 use Rattle.catalog_engines.specs.declared.asked_names.Distance.{Distance}
 
--- the symbols of one name, how far above them, and how long they are, if that is said: those of
--- the module of a name, `-` for the kernel itself, or of any if no module is named
+-- the symbols of one name, the offset into them, and their size, if it is given: in the named
+-- module, `-` for the kernel itself, or in any if no module is named
 pub record AskedSymbols : Type 0 where
   pub owner : Option (List ℕ)
   pub symbol : List ℕ
   pub above : Distance
 
--- the parts before and after a byte after which none of it stands, if these are those of the
--- rest of the text, and the byte is it or is not
+-- the parts before and after the last such byte of a text, if the rest is split so, and its first
+-- byte is such a one or not
 abbrev pub cut_before : ℕ → ℕ → List ℕ → Option (List ℕ × List ℕ) → Option (List ℕ × List ℕ)
 cut_before b x xs (Some p) = Some (x ∷ p.0, p.1)
 cut_before b x xs None = if x == b then Some ([], xs) else None
@@ -68,7 +68,7 @@ abbrev pub asked_by : List ℕ → Option (List ℕ × List ℕ) → AskedSymbol
 asked_by word None = asked_in None word
 asked_by word (Some p) = asked_in (Some p.0) p.1
 
--- the text without this last byte, where it ends in it
+-- the text without this last byte, if it ends in it
 abbrev pub without_last : ℕ → List ℕ → Option (List ℕ)
 without_last b text =
     if ends_with nat_eq text (b ∷ []) then Some (take (length text - 1) text) else None

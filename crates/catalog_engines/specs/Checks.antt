@@ -18,15 +18,15 @@ use Rattle.catalog_engines.specs.declared.sources.ListingFiles.{ListingFiles}
 abbrev pub modules_name : ListingFiles → List ℕ
 modules_name files = unwrap_or (option_map (λ f. f.now) files.modules) []
 
--- the notes that apply to a listing of modules, if there is one beside that of symbols
+-- the notes that apply to a listing of modules, if there is one
 abbrev pub lines_on_modules : BoundNames → ListingFiles → Option (List ℕ) → List ℕ → CatalogEntries
     → List ℕ
 lines_on_modules names files modules kallsyms c =
     option_map_or
     (λ text. applying_lines names (modules_name files) (is_of_modules false text kallsyms c)) modules []
 
--- The notes that apply to listings with these texts in these files, those of the modules first, and
--- then where their lines went. These names bound the kernel, and so many symbols are kept.
+-- The notes that apply to listings with these texts in these files, first on the modules, and then
+-- the counts of their lines. These names bound the kernel, and this number of symbols is kept.
 abbrev pub report_by : BoundNames → ListingFiles → Option (List ℕ) → List ℕ → CatalogEntries → ℕ
     → Tallies → List ℕ
 report_by names files modules kallsyms c kept tallies =

@@ -135,11 +135,11 @@ IsNamingOf q a narrow (Some event) n note = IsNamingAfter q a narrow event n not
 IsNamingOf q a narrow None (Unnamed n) note = (n ≡ narrow) × (note ≡ [])
 IsNamingOf q a narrow None (By answer) note = ⊥
 
--- what is noted is told once
+-- each note is written once
 abbrev pub told_once : Bool → List ℕ → List ℕ
 told_once told note = if told then [] else note
 
--- it was told, before or now
+-- it was noted, before or now
 abbrev pub is_told_after : Bool → Option Event → Naming → Bool
 is_told_after told reading n = told || (is_some reading && is_unnamed n)
 
@@ -169,8 +169,9 @@ pub record NamesLast (held : LogContext) (line : List ℕ) (n : Naming) (names :
   pub names_are : names ≡ (carried_by n held (lines line)).names
   pub put : put_of line ++ text ≡ annotated_lines (answering_of n) held (lines line)
 
--- How far a log was followed: whether it is of a 32-bit kernel, by the listings that gave names last;
--- whether it was told that listings give none; what is carried on; and the line that is open.
+-- How far a log was followed: whether it is of a 32-bit kernel, by the listings that gave names
+-- last; whether it was noted that listings give none; what is carried on; and the line that is
+-- open.
 pub record Point : Type 0 where
   pub narrow : Bool
   pub told : Bool
@@ -200,8 +201,9 @@ point_after p t n held' line' = record {
   line = line';
 }
 
--- After these turns the log was followed to this point, and this text was put, each line of it named
--- by the listings as they were read after the block in which it ends, and these notes were told.
+-- After these turns the log was followed to this point, and this text was put, each line of it
+-- named by the listings as they were read after the block in which it ends, and these notes were
+-- written.
 pub data IsNamed (q : Sources) (a : Annotate) (first : Bool)
     : List Turn → Point → List ℕ → List ℕ → Type 0 where
   no_turn : IsNamed q a first [] (first_point first) [] []
@@ -258,7 +260,7 @@ PutsAs contents P w w' (Ok x) = Puts contents P w w' (Ok x)
 PutsAs {W} {X} contents P w w' (Err why) =
     (f : LogFault) × (why ≡ stop_of f) × Puts {X = X} contents P w w' (Err f)
 
--- there is no memory, and nothing was written or told
+-- there is no memory, and nothing was written, also no note
 abbrev pub IsStarved : {W E X : Type 0} → Output W → Output W → Output E → Output E
     → Result X Stop → Type 0
 IsStarved w w' e e' (Ok x) = ⊥
@@ -288,7 +290,7 @@ GoesOn s reading n s' =
     (s'.is_narrow ≡ (answering_of n).is_narrow)
     × (s'.is_told ≡ is_told_after s.is_told reading n)
 
--- What is noted of listings with these texts was told, or they say no catalog.
+-- The notes on listings with these texts were written, or they say no catalog.
 abbrev pub NotesTold : {E : Type 0} → (E → Option (List ℕ)) → Sources → Given → Output E → Output E
     → Result (Unit {0}) Fault → Type 0
 NotesTold errors q g e e' (Ok _) =
@@ -324,8 +326,8 @@ module _ {W : Type 0} (contents : W → Option (List ℕ)) (q : Sources) (a : An
 
 module _ {W E : Type 0} (contents : W → Option (List ℕ)) (errors : E → Option (List ℕ))
     (q : Sources) (a : Annotate) where
-  -- After the listings were read with this result, what is noted of it was told, and the part was
-  -- put, named by it; or there is no memory.
+  -- After the listings were read with this result, its note was written, and the part was put,
+  -- named by it; or there is no memory.
   abbrev pub NamesAfter : Part → Followed → Annotator → Annotator → Event → Output W → Output W
       → Output E → Output E → Result (Followed × LogNames) Stop → Type 0
   NamesAfter p s b b' event w w' e e' result =
@@ -335,7 +337,7 @@ module _ {W E : Type 0} (contents : W → Option (List ℕ)) (errors : E → Opt
       × PutsAs contents
       (λ x text. GoesOn s (Some event) n x.0 × PutsPart p b b' n x.1 text) w w' result)
 
-  -- This was read of the listings, what is noted of it was told, and the part was put, named by it.
+  -- This was read of the listings, its note was written, and the part was put, named by it.
   abbrev pub NamesPart : Part → Followed → Annotator → Annotator → Option Event → Output W → Output W
       → Output E → Output E → Result (Followed × LogNames) Stop → Type 0
   NamesPart p s b b' reading w w' e e' result =
@@ -354,7 +356,7 @@ module _ {W E : Type 0} (contents : W → Option (List ℕ)) (errors : E → Opt
   -- ---- a log that lasts
 
   -- The log was followed through these turns to this point: what is put for them was written, and
-  -- what is noted was told.
+  -- so were the notes.
   pub record IsFollowed (first : Bool) (turns : List Turn) (p : Point) (before after : Seen)
       (w w' : Output W) (e e' : Output E)
       : Type 0 where
@@ -432,14 +434,14 @@ module _ {W E : Type 0} (contents : W → Option (List ℕ)) (errors : E → Opt
       ⊎ IsEnded turns p mid after w1 w' e1 e' result
       ⊎ IsTooLong turns mid after w1 w' e1 e' result)
 
-  -- ---- with what is told beside it
+  -- ---- with the notes beside it
 
-  -- nothing was written or told, and this fault is returned
+  -- nothing was written, also no note, and this fault is returned
   abbrev pub IsRefused : Output W → Output W → Output E → Output E → Fault → Result ℕ Fault → Type 0
   IsRefused w w' e e' f result = (w' ≡ w) × (e' ≡ e) × (result ≡ Err f)
 
   -- What the engine returns. There is no memory; or the listings cannot be read; or they were read
-  -- before the log was begun, and say no catalog, or what is noted of them was told, and the log was
+  -- before the log was begun, and say no catalog, or their notes were written, and the log was
   -- followed.
   abbrev pub FollowsLog : Seen → Seen → Output W → Output W → Output E → Output E
       → Result ℕ Fault → Type 0

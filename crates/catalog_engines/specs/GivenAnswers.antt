@@ -13,9 +13,9 @@ use Rattle.command_io.specs.declared.fault.Fault.TheVariants.{Refused, BadLine, 
 abbrev pub IsTextWritten : {V : Type 0} → (List ℕ → Type 0) → (List ℕ → V → Type 0) → V → Type 0
 IsTextWritten Wrote Is v = (text : List ℕ) × Is text v × Wrote text
 
--- What is returned for listings that were read, from one state of the writer to another, where `Is`
--- says which text goes with which value. Every fault but a failed write leaves the writer as it
--- was, and a call of it failed then alone.
+-- What is returned for listings that were read, from one state of the writer to another; `Is` says
+-- which text goes with which value. Every fault but a failed write leaves the writer as it was, and
+-- only then a call of it failed.
 abbrev pub AnswersGiven : {V W : Type 0} → (W → Option (List ℕ)) → (Given → List ℕ → V → Type 0)
     → Given → Output W → Output W → Result V Fault → Type 0
 AnswersGiven contents Is g w w' (Ok v) = IsTextWritten (Delivered contents w w') (Is g) v

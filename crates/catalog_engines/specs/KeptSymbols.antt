@@ -1,4 +1,4 @@
--- The symbols of a listing that a catalog keeps, with where they end.
+-- The symbols of a listing that a catalog keeps, with their ends.
 use Rattle.std.specs.Prelude.{◌≡◌, ℕ, ◌+◌, Bool, false, ◌&&◌, not, nat_eq, if◌then◌else◌}
 use Rattle.std.specs.Prelude.{List, Option, Some, None, filter, option_and_then}
 use Rattle.std.specs.BTreeMap.{BTreeMap, get_by}
@@ -19,7 +19,7 @@ use Rattle.modules.specs.Items.{item_of_address}
 use Rattle.modules.specs.Listed.{ListedSymbol}
 use Rattle.catalog_engines.specs.AskedNames.{asked_of}
 
--- a symbol at an address, where it ends, and the name of its module, if it has one
+-- a symbol at an address, its end, and the name of its module, if it has one
 pub record Kept : Type 0 where
   pub addr : ℕ
   pub end : ℕ
@@ -32,7 +32,7 @@ is_owner c number None = nat_eq number 0
 is_owner c number (Some name) =
     not (nat_eq number 0) && option_map_or (λ m. bytes_eq m.name name) (module_of c number) false
 
--- where the symbol ends that an address belongs to
+-- the end of the symbol that an address belongs to
 abbrev pub end_of : Found → ℕ
 end_of f = f.symbol.addr + f.size
 
@@ -60,7 +60,7 @@ kept_line c line = option_and_then (kept_symbol c) (result_ok (symbol_of line))
 abbrev pub kept_symbols : CatalogEntries → List ListedSymbol → List Kept
 kept_symbols c symbols = filter_map (kept_symbol c) symbols
 
--- those of a name
+-- the symbols of a name
 abbrev pub named : List Kept → List ℕ → List Kept
 named kept name = filter (λ k. bytes_eq name k.name) kept
 
@@ -68,7 +68,7 @@ named kept name = filter (λ k. bytes_eq name k.name) kept
 abbrev pub is_sought : List (List ℕ) → List ℕ → Bool
 is_sought words name = list_any (λ w. bytes_eq name (asked_of w).symbol) words
 
--- those of a name that a word asks for
+-- the symbols that a word asks for
 abbrev pub sought : List (List ℕ) → List Kept → List ℕ → Option (List Kept)
 sought words kept name = if is_sought words name then Some (named kept name) else None
 

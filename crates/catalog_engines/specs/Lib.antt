@@ -11,7 +11,7 @@ pub mod LogAnswers
 pub mod NameFilters
 -- what is known of the symbols that a log is answered from
 pub mod LogIndexes
--- what is written for a log, and told of its listings
+-- what is written for a log, and noted of its listings
 pub mod Annotations
 -- a log that is annotated by the offset that it says itself
 pub mod OwnOffsets
@@ -25,9 +25,9 @@ pub mod Following
 pub mod Checks
 -- what the names of a command line ask for
 pub mod AskedNames
--- the symbols of a listing that a catalog keeps, with where they end
+-- the symbols of a listing that a catalog keeps, with their ends
 pub mod KeptSymbols
 -- the lines that are written for names
 pub mod AddressTexts
--- what is written where names are asked for
+-- what is written for names that are asked for
 pub mod Addresses

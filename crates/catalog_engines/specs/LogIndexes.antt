@@ -4,7 +4,7 @@ use Rattle.modules.specs.Entries.{CatalogEntries}
 use Rattle.modules.specs.SymbolNames.{IsNamesOf, SymbolName}
 use Rattle.catalog_engines.specs.NameFilters.{HoldsNames}
 
--- the marks are those of its names, and the names are its own
+-- the marks are of its names, and the names are its own
 pub record IsKnown (c : CatalogEntries) (marks : Option (List Bool))
     (names : Option (List SymbolName)) : Type 0 where
   pub marked : IfSome marks (λ m. HoldsNames m c)

@@ -116,7 +116,7 @@ log_message (OtherPlace place listed) = other_boot_line place listed
 log_message (OtherNames names) = other_names_line names
 log_message (Unnamed names) = unnamed_line names
 
--- what notes call the log in this file, of which `-` is the standard input
+-- what notes call the log in this file; `-` is the standard input
 abbrev pub log_name : List ℕ → List ℕ
 log_name log = if bytes_eq log (codes "-") then STANDARD_INPUT.now else log
 

@@ -10,7 +10,7 @@ abbrev pub number_after : ℕ → List ℕ → ℕ
 number_after n [] = n
 number_after n (b ∷ bytes) = number_after ((n * 31 + b) % 1048576) bytes
 
--- the number of a name: that of its last eight bytes
+-- the number of a name, from its last eight bytes
 unfoldable pub number_of : List ℕ → ℕ
 number_of name = number_after 0 (drop (length name - 8) name)
 
@@ -27,7 +27,7 @@ abbrev pub HoldsNames : List Bool → CatalogEntries → Type 0
 HoldsNames marks c =
     (number : ℕ) → IfSome (module_of c number) (λ m. HaveMarks marks m.symbols)
 
--- a name is that of no symbol of a catalog
+-- no symbol of a catalog has this name
 abbrev pub IsNoName : CatalogEntries → List ℕ → Type 0
 IsNoName c name =
     (number : ℕ)

@@ -1,4 +1,4 @@
--- Why listings that are read again give no names, and how it is told.
+-- Why listings that are read again give no names, and the note on that.
 use Rattle.std.specs.Prelude.{◌≡◌, ℕ, zero, suc, List, [], ◌++◌, decimal}
 use Rattle.std.specs.Option.{option_map_or}
 use Rattle.catalog_engines.specs.NoteTexts.{note_head}
@@ -31,13 +31,13 @@ AreWords no.NoSymbol words = words ≡ text.NO_SYMBOL.now
 AreWords (no.BadLine place line) words = words ≡ bad_line_words line
 AreWords no.TooManyRegions words = words ≡ text.CROWDED.now
 
--- the line that tells it
+-- the line of the note
 abbrev pub unread_line : ListingFiles → NoNames → List ℕ → List ℕ
 unread_line files why words =
     note_head (file_at files (place_of why)) ++ text.UNREAD_AGAIN.now ++ words
     ++ text.UNTIL_IT_CAN.now
 
--- it is told so
+-- it is noted so
 abbrev pub TellsUnread : ListingFiles → NoNames → List ℕ → Type 0
 TellsUnread files why note =
     (words : List ℕ) × AreWords why words × (note ≡ unread_line files why words)

@@ -74,8 +74,7 @@ applying_lines names file applies =
 abbrev pub noted_bounds : Option BoundNames → BoundNames
 noted_bounds kernel = unwrap_or kernel (record { start = STEXT.now; end = ETEXT.now })
 
--- the lines for files of listings, of which that of modules may be missing, if these names bound
--- the kernel
+-- the lines for files of listings, perhaps without one of modules, if these names bound the kernel
 abbrev pub lines_by : BoundNames → Option (Bor (List ℕ)) → List ℕ → ListingNotes → List ℕ
 lines_by names (Some modules) kallsyms notes = lines_for names modules.now kallsyms notes
 lines_by names None kallsyms notes = line_if_noted names kallsyms notes.kallsyms
@@ -85,7 +84,7 @@ abbrev pub note_lines : Option BoundNames → ListingFiles → ListingNotes → 
 note_lines kernel files notes =
     lines_by (noted_bounds kernel) files.modules files.kallsyms.now notes
 
--- ---- told, or not
+-- ---- written, or not
 
 -- if something is noted these lines were said, and else nothing was
 abbrev pub IsNoted : {D : Type 0} → (D → Option (List ℕ)) → Output D → Output D → Bool

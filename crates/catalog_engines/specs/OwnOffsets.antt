@@ -32,17 +32,17 @@ use Rattle.catalog_engines.specs.declared.sources.Sources.{Sources}
 abbrev pub moved_from : ℕ → KernelOffset → ℕ
 moved_from base k = (kernel_place k + 2 ^ 64 - base) % 2 ^ 64
 
--- the same by a listing that may not say where its kernel begins
+-- this by a listing that may lack the place of its kernel
 abbrev pub offset_by : Option ℕ → KernelOffset → Result ℕ NoOffset
 offset_by None k = Err NoBase
 offset_by (Some base) k = Ok (moved_from base k)
 
--- the same of a log that may not say where its kernel lay
+-- this of a log that may lack the place of its kernel
 abbrev pub offset_of : Option KernelOffset → Option ℕ → Result ℕ NoOffset
 offset_of None base = Err Unsaid
 offset_of (Some k) base = offset_by base k
 
--- the same of their texts
+-- this of their texts
 abbrev pub own_offset : List ℕ → List ℕ → Result ℕ NoOffset
 own_offset log kallsyms = offset_of (kernel_offset_in log) (kernel_base (lines_of kallsyms))
 
@@ -55,8 +55,8 @@ no_offset_line q a NoBase =
 
 -- ---- what is asked
 
--- The listings that are asked if the kernel was moved so. Modules are moved on their own, so those
--- of a listing that is not of the same boot are left out.
+-- The listings that are asked if the kernel was moved so. Modules are moved on their own, so the
+-- modules of a listing of another boot are left out.
 abbrev pub asked_by : ℕ → Given → Given
 asked_by offset g =
     if offset == 0 then g
@@ -74,7 +74,7 @@ by_offset offset rule = record rule { offset = offset }
 
 module _ {W E : Type 0} (contents : W → Option (List ℕ)) (errors : E → Option (List ℕ))
     (q : Sources) (a : Annotate) (w w' : Output W) (e e' : Output E) where
-  -- nothing was written or told
+  -- nothing was written, also no note
   abbrev pub IsUnwritten : Type 0
   IsUnwritten = (w' ≡ w) × (e' ≡ e)
 
@@ -82,7 +82,7 @@ module _ {W E : Type 0} (contents : W → Option (List ℕ)) (errors : E → Opt
   abbrev pub FailsBy : Fault → Result ℕ Fault → Type 0
   FailsBy fault result = (result ≡ Err fault) × IsUnwritten
 
-  -- What is noted of the listings was told, and the log with this text was written again, or a
+  -- The notes on the listings were written, and the log with this text was written again, or a
   -- beginning of it, by the answers of their catalog.
   abbrev pub WritesBy : LogRule → Given → List ℕ → Result ℕ Fault → Type 0
   WritesBy rule g log result =
@@ -91,18 +91,18 @@ module _ {W E : Type 0} (contents : W → Option (List ℕ)) (errors : E → Opt
       × Puts contents (IsAnnotationOf (answered_by c rule narrow) log) w w' end
       × IsEndTold errors a.log.now listed noted e' (stopped end) result)
 
-  -- the same, unless there is no catalog of the listings
+  -- this, unless there is no catalog of the listings
   abbrev pub OpensAndWrites : LogRule → Given → List ℕ → Result ℕ Fault → Type 0
   OpensAndWrites rule g log result =
       ((fault : Fault) × OpensCatalog q.kernel g (Err fault) × FailsBy fault result)
       ⊎ WritesBy rule g log result
 
-  -- why there is no offset was told, and nothing written; that is status 1
+  -- why there is no offset was said, and nothing written; that is status 1
   abbrev pub TellsNoOffset : NoOffset → Result ℕ Fault → Type 0
   TellsNoOffset why result =
       (result ≡ Ok 1) × (w' ≡ w) × Says errors e e' (no_offset_line q a why)
 
-  -- the same by this offset, if there is one
+  -- this by the offset, if there is one
   abbrev pub WritesByOffset : Given → List ℕ → Result ℕ NoOffset → Result ℕ Fault → Type 0
   WritesByOffset g log (Err why) result = TellsNoOffset why result
   WritesByOffset g log (Ok offset) result =
@@ -120,7 +120,7 @@ module _ {W E : Type 0} (contents : W → Option (List ℕ)) (errors : E → Opt
     pub read : NoReaderFailed counts
     pub writes : WritesByOffset given log (own_offset log given.kallsyms) result
 
-  -- the same, unless they could not be read
+  -- this, unless they could not be read
   abbrev pub WritesByOwnOffset : Option Given → Option (List ℕ) → Failures → Result ℕ Fault → Type 0
   WritesByOwnOffset known text counts result =
       ((fault : Fault) × AreReadAs {A = ℕ} counts (Err fault) × FailsBy fault result)

@@ -18,7 +18,7 @@ use command_io::{put_address_member, put_named_module, put_offset_members, put_s
 use std::io::Write;
 use texts::Output;
 
-/// How the addresses of names are told.
+/// How the addresses of names are written.
 #[derive(Clone, Copy, Debug, Drop)]
 pub struct AddressForm {
     /// Objects of JSON are written, in place of lines of text.
@@ -27,7 +27,7 @@ pub struct AddressForm {
     pub higher: u64,
 }
 
-/// A word, what it asks for, and how that is told.
+/// A word, what it asks for, and how that is written.
 #[derive(Drop)]
 struct AskedWord<'a> {
     form: AddressForm,
@@ -108,14 +108,14 @@ fn put_symbols<W: Write>(writer: &mut Output<W>, it: &AskedWord<'_>, symbols: &[
     }
 }
 
-/// Whether one of these symbols is told.
+/// Whether one of these symbols is written.
 fn is_any_told(it: &AskedWord<'_>, symbols: &[KeptSymbol]) -> bool
     ensures { result ≡ list_any (is_told it.now.form it.now.asked) symbols.now }
 {
     symbols.iter().any(|symbol| is_told(it, symbol))
 }
 
-/// Writes the line of a word for which no symbol is told.
+/// Writes the line of a word without a symbol.
 #[tactic(auto, unfolding(crate::specs::AddressTexts::untold_line))]
 fn put_untold<W: Write>(writer: &mut Output<W>, it: &AskedWord<'_>)
     ensures { Says W.contents writer.old writer.new
@@ -158,7 +158,7 @@ fn put_asked_member<W: Write>(writer: &mut Output<W>, asked: Option<&[u8]>)
     }
 }
 
-/// Writes a line for each of these symbols that is told.
+/// Writes a line for each of these symbols that has one.
 fn put_all_told<W: Write>(writer: &mut Output<W>, it: &AskedWord<'_>, symbols: &[KeptSymbol])
     ensures { Says W.contents writer.old writer.new
         (told_lines it.now.form it.now.word.now it.now.asked symbols.now) }
@@ -178,7 +178,7 @@ fn put_if_told<W: Write>(writer: &mut Output<W>, it: &AskedWord<'_>, symbol: &Ke
     }
 }
 
-/// Writes the line of a symbol that is told.
+/// Writes the line of a symbol that has one.
 #[tactic(auto, unfolding(crate::specs::AddressTexts::told_line))]
 fn put_told<W: Write>(writer: &mut Output<W>, it: &AskedWord<'_>, symbol: &KeptSymbol)
     requires { is_told it.now.form it.now.asked symbol.now ≡ true }
@@ -244,7 +244,7 @@ fn put_owner<W: Write>(writer: &mut Output<W>, owner: Option<&[u8]>)
     writer.put(b"]");
 }
 
-/// The address that is told of a symbol.
+/// The address that is written for a symbol.
 fn told_address(it: &AskedWord<'_>, symbol: &KeptSymbol) -> u64
     requires { is_told it.now.form it.now.asked symbol.now ≡ true }
     ensures { result ≡ told_address it.now.form it.now.asked symbol.now }
@@ -252,8 +252,7 @@ fn told_address(it: &AskedWord<'_>, symbol: &KeptSymbol) -> u64
     symbol.addr + it.asked.above.offset + it.form.higher
 }
 
-/// Whether the symbol is one of those asked for, the offset lies within it, and what is told is an
-/// address.
+/// Whether the symbol is asked for, the offset lies within it, and the sum is an address.
 fn is_told(it: &AskedWord<'_>, symbol: &KeptSymbol) -> bool
     ensures { result ≡ is_told it.now.form it.now.asked symbol.now }
 {

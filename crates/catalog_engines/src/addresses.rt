@@ -1,4 +1,4 @@
-//! From the bytes of listings and from names to the lines that say where the symbols are.
+//! From the bytes of listings and from names to the lines with the places of the symbols.
 ghost use Rattle.std.specs.Prelude.{◌≡◌, if◌then◌else◌, map};
 ghost use Rattle.std.specs.Option.{option_copied};
 ghost use Rattle.catalog_engines.specs.Addresses.{IsAddressed};
@@ -39,7 +39,7 @@ pub fn address_engine<M: Read, K: Read, R: Read, W: Write>(
     answer_names(alloc, &texts, form, kernel, words, writer)
 }
 
-/// Writes where they are in the listings that these texts are.
+/// Writes their places in the listings with these texts.
 fn answer_names<W: Write>(
     alloc: Global,
     texts: &ListingTexts,

@@ -1,8 +1,8 @@
 //! From the bytes of the listings and of a log to the log with the text of the answer after each
 //! address.
 //!
-//! The listings are read whole, and what is noted of them is told, before the log is begun: it may
-//! have no end. The log itself goes through line by line.
+//! The listings are read whole, and their notes written, before the log is begun: it may have no
+//! end. The log itself goes through line by line.
 ghost use Rattle.std.specs.Prelude.{◌≡◌, [], ℕ, List, Ok, Some};
 ghost use Rattle.logs.specs.declared.annotation.Findings.{Findings};
 ghost use Rattle.catalog_engines.specs.LogNotes.{note_of_log};
@@ -87,7 +87,7 @@ pub const LOG_PLACE: u64 = 3;
 /// The sources say between which symbols the kernel itself lies, and the job how the addresses are
 /// taken; the listing of symbols says whether the log is of a 32-bit kernel.
 ///
-/// What is noted of the listings is told to `errors` before the log is begun. Every fault that
+/// The notes on the listings are written to `errors` before the log is begun. Every fault that
 /// comes before that leaves the log, the writer and `errors` as they were. Each line of the log is
 /// written, and the writer flushed, after the block that its end is in was read; so whatever ends
 /// it, what was written is a beginning of the annotated log. The status is 1 if nobody reads any
@@ -113,8 +113,7 @@ pub fn annotate_engine<M: Read, K: Read, R: Read, L: Read, E: Write, W: Write>(
     annotate_over(alloc, &texts, sources, job, errors, log, writer)
 }
 
-/// Writes the log again by the catalog that these texts say, and tells before it what is noted of
-/// them.
+/// Writes the notes on the listings with these texts, and then the log again by their catalog.
 fn annotate_over<L: Read, E: Write, W: Write>(
     alloc: Global,
     texts: &ListingTexts,
@@ -145,7 +144,8 @@ fn annotate_over<L: Read, E: Write, W: Write>(
     )
 }
 
-/// Writes the log again by these answers, and notes if it is packed, or tells of another listing.
+/// Writes the log again by these answers, and notes if it is packed, or if the listing is another
+/// one.
 fn annotate_by<L: Read, E: Write, W: Write>(
     alloc: Global,
     answers: &mut CatalogAnswers<'_, '_>,
@@ -216,8 +216,8 @@ fn stop_of(fault: LogFault) -> Stop
     }
 }
 
-/// Tells the end of the log in this file: what is noted of one that was annotated to its end, or
-/// the fault. Returns the program's status, which is 1 if nobody reads any more what is written.
+/// Writes the note on the log in this file if it was annotated to its end, or else the fault.
+/// Returns the program's status, which is 1 if nobody reads the output any more.
 pub(crate) fn tell_end<E: Write>(
     end: Result<Findings, Stop>,
     log: &str,

@@ -86,7 +86,7 @@ fn name_and_module(word: &[u8]) -> Option<(&[u8], &[u8])>
     Some((name, owner))
 }
 
-/// The text without this last byte, where it ends in it.
+/// The text without this last byte, if it ends in it.
 fn without_last(byte: u8, text: &[u8]) -> Option<&[u8]>
     ensures { option_map (λ t. t.now) result ≡ without_last byte text.now }
 {
@@ -97,8 +97,8 @@ fn without_last(byte: u8, text: &[u8]) -> Option<&[u8]>
     }
 }
 
-/// What `SYMBOL`, or such a text with its distance, asks for of the symbols of a module. If no
-/// distance stands at the end it is all the name of a symbol.
+/// What `SYMBOL`, or such a text with an offset, asks for in a module. Without an offset at its
+/// end, all of it is the name of a symbol.
 fn asked_in<'a>(owner: Option<&'a [u8]>, text: &'a [u8]) -> AskedName<'a>
     ensures { result ≡ asked_in (option_copied owner.entry) text.now }
 {

@@ -1,7 +1,7 @@
-//! All that is noted of listings, and how many of their lines went where.
+//! All notes on listings, and the counts of their lines.
 //!
-//! A lookup tells of each listing the first note that applies; a check tells them all, and if
-//! they are its answer it writes them.
+//! A lookup writes for each listing the first note that applies; a check writes all of them, as its
+//! answer.
 ghost use Rattle.std.specs.Prelude.{◌≡◌, List, Some, false, true, ℕ};
 ghost use Rattle.std.specs.Option.{option_copied};
 ghost use Rattle.texts.specs.Output.{Delivers, Says};
@@ -32,9 +32,8 @@ use std::alloc::Global;
 use std::io::{Read, Write};
 use texts::Output;
 
-/// Writes a line for each note that applies to the listings in these files, and then how many of
-/// their lines went where. Returns the program's status: 1 if no symbol is
-/// kept.
+/// Writes a line for each note that applies to the listings in these files, and then the counts of
+/// their lines. Returns the program's status: 1 if no symbol is kept.
 ///
 /// All is read, and the catalog is there, before the first byte is written; so every fault but a
 /// failed write leaves the writer as it was. No table is loaded, so any number of regions will do.
@@ -77,8 +76,8 @@ fn status_of_kept(kept: u64) -> u8
     if kept == 0 { FAILED } else { SUCCEEDED }
 }
 
-/// Writes what applies to the listings with these texts, if these names bound the kernel, and where
-/// their lines went, and lets the writer keep nothing back.
+/// Writes what applies to the listings with these texts, if these names bound the kernel, and the
+/// counts of their lines, and lets the writer keep nothing back.
 fn put_report<W: Write>(
     writer: &mut Output<W>,
     names: &KernelBounds,
@@ -179,8 +178,8 @@ fn put_module_notes<W: Write>(
     }
 }
 
-/// Writes the line of each note that applies to a listing of symbols with this text, of which these
-/// facts are known.
+/// Writes the line of each note that applies to a listing of symbols with this text and these
+/// facts.
 fn put_symbol_notes<W: Write>(
     writer: &mut Output<W>,
     names: &KernelBounds,

@@ -48,7 +48,7 @@ use texts::{BLOCK, Output};
 pub struct Followed {
     /// Whether the listings that gave names last are of a 32-bit kernel.
     pub is_narrow: bool,
-    /// Whether it was told that listings give none.
+    /// Whether it was noted that listings give none.
     pub is_told: bool,
 }
 
@@ -64,11 +64,11 @@ pub enum Part<'b> {
 /// Writes a log that lasts again, with the text of the answer after each address in it that the
 /// listings have.
 ///
-/// The listings are read before the log is begun, and again after each block in which a line with an
-/// address ends: these name the lines that end in it. What is noted of them is told to `errors` once,
-/// as they are before the log is begun. If they cannot be read later, or show no symbol, the lines
-/// that they were read for are written without names, and the first time this is told. Else it is
-/// as `annotate_engine` does it.
+/// The listings are read before the log is begun, and again after each block in which a line with
+/// an address ends: these name the lines that end in it. The notes on the first reading are written
+/// to `errors` before the log is begun. If a later one fails, or shows no symbol, the lines that it
+/// is for are written without names, which is noted the first time. All else is as in
+/// `annotate_engine`.
 pub fn follow_engine<L: LastingLog, E: Write, W: Write>(
     alloc: Global,
     log: &mut L,
@@ -96,7 +96,7 @@ pub fn follow_engine<L: LastingLog, E: Write, W: Write>(
     tell_end(end, job.log, kernel, errors)
 }
 
-/// Tells what is noted of the listings with these texts.
+/// Writes the notes on the listings with these texts.
 fn tell_notes<E: Write>(
     alloc: Global,
     texts: &ListingTexts,
@@ -190,8 +190,8 @@ fn put_part<L: LastingLog, E: Write, W: Write>(
     Ok((followed, names))
 }
 
-/// Reads the listings again, and writes a part of a log, named by them or, if they give no names, by
-/// nothing, which is told once.
+/// Reads the listings again, and writes a part of a log, named by them. If they give no names it
+/// has none, which is noted once.
 fn put_after_reading<L: LastingLog, E: Write, W: Write>(
     alloc: Global,
     log: &mut L,
@@ -234,7 +234,7 @@ fn put_nameless<W: Write>(
     Ok((Followed { is_narrow, is_told }, names))
 }
 
-/// Tells why listings give no names, unless it was told.
+/// Writes why listings give no names, unless it was noted before.
 fn tell_once<E: Write>(
     errors: &mut Output<E>,
     files: &ListingFiles<'_>,

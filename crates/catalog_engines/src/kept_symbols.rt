@@ -91,8 +91,8 @@ fn names_sought<'n, 'a>(
     Ok(sought)
 }
 
-/// Puts the symbol that a line is, whose first tab is at this place, after those of its name,
-/// if that is sought and the symbol is kept.
+/// Appends the symbol of a line, whose first tab is at this place, to the symbols of its name, if
+/// that is sought and the symbol is kept.
 fn take_line<'a>(
     sought: &mut SoughtSymbols<'_, 'a>,
     index: &IndexedCatalog<'_>,

@@ -1,8 +1,8 @@
 //! What the commands of the program do that need no table: a log is annotated, listings are
 //! checked, and names are looked for, each from the bytes of its files to the bytes that it writes.
 //!
-//! An engine is generic over its readers and its writers. It knows no word of a command line; of
-//! the names of files it has those of the listings and of the log, for what is noted of them.
+//! An engine is generic over its readers and its writers. It knows no word of a command line, and
+//! the names of the listings and of the log only for notes.
 #![tactic(auto)]
 
 mod address_texts;

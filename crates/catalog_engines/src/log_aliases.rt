@@ -1,5 +1,5 @@
-//! Whether an address of a log may have another name than its answer has: the name of another symbol
-//! at the address of the answer's.
+//! Whether an address of a log may also go by the name of another symbol at the address of its
+//! answer's symbol.
 //!
 //! Mostly the name is the answer's, so it is compared with that first.
 ghost use Rattle.std.specs.Prelude.{◌≡◌, ◌≤◌, ◌<◌, true};

@@ -125,7 +125,7 @@ fn is_letter_of_data(letter: u8) -> bool
     matches!(letter, b'b' | b'B' | b'd' | b'D' | b'r' | b'R')
 }
 
-/// Whether an address is that of the symbol found, and this is data.
+/// Whether the symbol found begins at an address, and is data.
 fn begins_data(found: &FoundSymbol) -> bool
     ensures { result ≡ begins_data found.now }
 {

@@ -95,7 +95,7 @@ impl NameFilter {
         self.marks[number_of(name)] = true;
     }
 
-    /// Whether a name has a mark. If not, it is that of no symbol.
+    /// Whether a name has a mark. If not, no symbol has it.
     pub(crate) fn has(&self, name: &[u8]) -> bool
         ensures { result ≡ has_mark self.now name.now }
     {

@@ -10,7 +10,7 @@
 //!                it lies 0x1a600000 lower there
 //! ```
 //!
-//! Modules are moved on their own, so those of such a listing are left out.
+//! Modules are moved on their own, so the modules of such a listing are left out.
 ghost use Rattle.std.specs.Prelude.{◌≡◌, ◌++◌, IfOk, codes};
 ghost use Rattle.texts.specs.Counted.{device_of};
 ghost use Rattle.texts.specs.Output.{Says};
@@ -34,9 +34,9 @@ use texts::{Counted, Output};
 /// Writes a log again as [`annotate_engine`](crate::annotate_engine) does, by the offset that the
 /// log itself says in place of the job's. The log is read whole first, and written in one piece.
 ///
-/// If it does not say where its kernel lay, or the listing not where its own begins, that is told
-/// to `errors`, nothing is written, and the status is 1. docs/FORMATS.md says which texts of a log
-/// count.
+/// If the log does not give the place of its kernel, or the listing not that of its own, `errors`
+/// gets the reason, nothing is written, and the status is 1. docs/FORMATS.md says which texts of a
+/// log count.
 pub fn own_offset_engine<M: Read, K: Read, R: Read, L: Read, E: Write, W: Write>(
     alloc: Global,
     listings: &mut ListingReaders<M, K, R>,
@@ -83,13 +83,13 @@ fn write_by_own_offset<E: Write, W: Write>(
 /// Why a log cannot be annotated by the offset that it says itself.
 #[derive(Clone, Copy, Debug, PartialEq, Eq, Drop)]
 pub enum NoOffset {
-    /// It does not say where its kernel lay.
+    /// It does not give the place of its kernel.
     Unsaid,
-    /// The listing of symbols does not say where its kernel begins.
+    /// The listing of symbols lacks the place of its kernel.
     NoBase,
 }
 
-/// Tells why there is no offset, and returns the program's status.
+/// Writes why there is no offset, and returns the program's status.
 fn tell_no_offset<E: Write>(
     why: NoOffset,
     sources: &Sources<'_>,
@@ -121,7 +121,7 @@ fn put_failure<E: Write>(writer: &mut Output<E>, file: &str, message: &[u8])
     writer.put(message);
 }
 
-/// The offset that a log says, by which its kernel lay higher than that of the listing.
+/// How much higher the log's kernel lay than the listing's, by what the log says.
 fn own_offset(log: &[u8], kallsyms: &[u8]) -> Result<u64, NoOffset>
     ensures { result ≡ own_offset log.now kallsyms.now }
 {
@@ -132,7 +132,7 @@ fn own_offset(log: &[u8], kallsyms: &[u8]) -> Result<u64, NoOffset>
     }
 }
 
-/// The listings that are asked if the kernel was moved by so many bytes.
+/// The listings that are asked if the kernel was moved by this offset.
 fn asked_by(alloc: Global, offset: u64, texts: ListingTexts) -> Result<ListingTexts, AllocError>
     ensures { IfOk result (λ asked. texts_in asked ≡ asked_by offset (texts_in texts)) }
 {
@@ -153,8 +153,7 @@ fn by_offset(offset: u64, rule: LogRule) -> LogRule
     LogRule { offset, ..rule }
 }
 
-/// Writes a log with this text again by the catalog of these listings, and tells before it what is
-/// noted of them.
+/// Writes the notes on these listings, and then a log with this text again by their catalog.
 fn open_and_write<E: Write, W: Write>(
     alloc: Global,
     texts: &ListingTexts,

@@ -13,10 +13,10 @@ pub struct Sources<'a> {
 /// The files of listings.
 #[derive(Debug, Drop)]
 pub struct ListingFiles<'a> {
-    /// That of the listing of modules; if there is none, the symbols say where modules lie.
+    /// The listing of modules; if there is none, the symbols say where modules are.
     pub modules: Option<&'a str>,
-    /// That of the listing of symbols.
+    /// The listing of symbols.
     pub kallsyms: &'a str,
-    /// That of the listing of regions, if there is one beside that of modules.
+    /// The listing of regions, if there is one.
     pub regions: Option<&'a str>,
 }

@@ -32,7 +32,7 @@ line_of (Read place) = None
 line_of (TooLong place) = None
 line_of Write = None
 
--- the fault of the program for that of a file at this place whose lines all have to be understood
+-- the program's fault if a line of the file at this place is not understood, or another fault of it
 abbrev pub IsLineFault : ℕ → LineFault → Fault → Type 0
 IsLineFault place line.OutOfMemory fault = fault ≡ Refused refusal.OutOfMemory
 IsLineFault place line.Read fault = fault ≡ Read place

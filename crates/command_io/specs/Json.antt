@@ -4,7 +4,7 @@ use Rattle.std.specs.Prelude.{List, [], ◌∷◌, ◌++◌, length, take, drop,
 use Rattle.std.specs.Str.Lossy.{utf8_valid_len, replacement_bytes}
 use Rattle.command_io.specs.declared.json.TheConstants as text
 
--- the bytes with U+FFFD in place of each that is no part of a character, for so many of them
+-- the bytes with U+FFFD in place of each of the first n that is no part of a character
 abbrev pub text_within : ℕ → List ℕ → List ℕ
 text_within zero bytes = bytes
 text_within (suc most) bytes =

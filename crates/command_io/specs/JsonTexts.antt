@@ -1,5 +1,5 @@
--- The lines that are written as JSON, an object each: those of a lookup of addresses, and the
--- members that those of names share with them.
+-- The lines that are written as JSON, an object each: the lines of a lookup, and the members that
+-- lines of names share with them.
 use Rattle.std.specs.Prelude.{ℕ, List, [], ◌++◌, codes, flat_map}
 use Rattle.std.specs.Option.{option_map_or}
 use Rattle.texts.specs.Exact.{hexadecimal}

@@ -5,7 +5,7 @@ pub mod Faults
 pub mod Json
 -- the lines that are written as JSON
 pub mod JsonTexts
--- what is returned where files are read one after the other
+-- what is returned if files are read one after the other
 pub mod Readings
 -- the catalog that listings say, and what is noted of them
 pub mod OpenedCatalogs

@@ -73,13 +73,13 @@ GivesListings g (Err (Refused refusal.OutOfMemory)) = Unit {0}
 GivesListings g (Err (BadLine place n)) = (place ≡ 2) × HasBadRegion n g
 GivesListings g (Err _) = ⊥
 
--- The catalog and the notes are those of listings, without mapping symbols. The kernel lies between
--- the names that are given, or else in its usual regions.
+-- The catalog and the notes of listings, without mapping symbols. The kernel lies between the names
+-- that are given, or else in its usual regions.
 abbrev pub IsCatalogBy : Option BoundNames → CatalogEntries → ListingNotes → Listed → Type 0
 IsCatalogBy kernel c notes l =
     (n : BuildCounts) × Say kernel false l c n × (notes ≡ notes_of kernel false l c n)
 
--- they are those of listings with these texts
+-- they are of listings with these texts
 abbrev pub IsCatalogOf : Option BoundNames → Given → CatalogEntries → ListingNotes → Type 0
 IsCatalogOf kernel g c notes = HoldsOf (IsCatalogBy kernel c notes) (listings_of g)
 

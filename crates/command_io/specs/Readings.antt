@@ -1,4 +1,4 @@
--- What is returned where files are read one after the other, and which of the readers failed.
+-- What is returned if files are read one after the other, and which of the readers failed.
 use Rattle.std.specs.Prelude.{◌≡◌, ◌⊎◌, ℕ, zero, suc, List, [], ◌∷◌, Option, Some, None, Result, Ok, Err}
 use Rattle.std.specs.Prelude.{IfSome, true, false}
 use Rattle.std.specs.Option.{option_map, option_map_or}

@@ -19,8 +19,8 @@ pub const FAILED: u8 = 1;
 
 /// Why a run of the program failed.
 ///
-/// A `place` is that of a file among those that the job reads, in the order in which it reads them,
-/// the first being 0. Lines count from 1.
+/// A `place` is the number of a file in the order in which the job reads them, from 0. Lines count
+/// from 1.
 #[derive(Clone, Copy, Debug, PartialEq, Eq, Drop, Error)]
 pub enum Fault {
     /// The run as a whole was refused.
@@ -41,8 +41,8 @@ pub enum Fault {
 }
 
 impl Fault {
-    /// The fault of the program for that of the file at this place, whose lines all have to be
-    /// understood.
+    /// The program's fault if a line of the file at this place is not understood, or for another
+    /// fault of it.
     pub fn of_lines(place: u64, fault: LineFault) -> Fault
         ensures { IsLineFault place fault result }
     {
@@ -53,9 +53,9 @@ impl Fault {
         }
     }
 
-    /// The number of the fault: that of the refusal, 15 for a bad line, 16 if a
-    /// reader or the writer failed, 17 for a file that is too long. The program writes texts; who
-    /// runs an engine has the number.
+    /// The number of the fault: the refusal's, 15 for a bad line, 16 if a reader or the writer
+    /// failed, 17 for a file that is too long. The program writes texts; callers of an engine have
+    /// the number.
     pub fn number(&self) -> u32
         ensures { result ≡ fault_number self.now }
     {

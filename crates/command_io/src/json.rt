@@ -14,7 +14,7 @@ const BACKSLASH: &[u8] = b"\\\\";
 
 const BY_NUMBER: &[u8] = b"\\u00";
 
-/// U+FFFD, which stands for a byte that is no part of UTF-8.
+/// U+FFFD, in place of a byte that is no part of UTF-8.
 const REPLACEMENT: &[u8] = b"\xef\xbf\xbd";
 
 /// The least number that a reader of JSON may round.

@@ -1,5 +1,5 @@
-//! The lines that are written as JSON, byte for byte, with no memory taken: those of a lookup of
-//! addresses, and the members that those of names share with them.
+//! The lines that are written as JSON, byte for byte, without taking memory: the lines of a lookup,
+//! and the members that lines of names share with them.
 ghost use Rattle.std.specs.Prelude.{[], flat_map};
 ghost use Rattle.std.specs.Option.{option_copied, option_map_or};
 ghost use Rattle.texts.specs.Output.{Says};

@@ -21,7 +21,7 @@ pub struct ListingReaders<M, K, R> {
     pub modules: Option<Counted<M>>,
     /// The listing of symbols.
     pub kallsyms: Counted<K>,
-    /// The listing of regions, if there is one beside that of modules.
+    /// The listing of regions, if there is one.
     pub regions: Option<Counted<R>>,
 }
 
@@ -36,7 +36,7 @@ pub struct ListingTexts {
 impl ListingTexts {
     ghost use Rattle.command_io.specs.OpenedCatalogs.{GivesListings};
 
-    /// The listings with these texts, with the lines of that of regions.
+    /// The listings with these texts, with the lines of the listing of regions.
     pub fn listings(&self, alloc: Global) -> Result<Listings<'_>, Fault>
         ensures listings { GivesListings (texts_in self.now) result }
         ensures fit { IfOk result

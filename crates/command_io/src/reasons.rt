@@ -3,7 +3,7 @@ use arrayvec::ArrayString;
 use std::fmt::Write as _;
 use std::io;
 
-/// The most bytes that are told of what the system says.
+/// The most bytes that are written of what the system says.
 pub const LONGEST_WORDS: usize = 256;
 
 /// What the system says of an error, as `No space left on device`, without its number.

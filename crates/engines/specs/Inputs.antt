@@ -18,7 +18,7 @@ abbrev pub inputs_with : {X : Type 0} → Listed → Result X ℕ → Result (In
 inputs_with listings (Ok said) = Ok (inputs listings said)
 inputs_with listings (Err n) = Err (3, n)
 
--- The inputs, if it is known what the file says. A bad region line is told before it is read.
+-- The inputs, if it is known what the file says. A bad region line is reported before it is read.
 abbrev pub inputs_after : {X : Type 0} → Option (Result X ℕ) → Result Listed ℕ
     → Option (Result (Inputs X) (ℕ × ℕ))
 inputs_after said (Ok listings) = option_map (inputs_with listings) said

@@ -149,8 +149,8 @@ TellsLines {O} o contents lines old a b =
     (left : LinesLeft) × (new : World O ℕ) × (left.said ≡ Ok []) × (left.lines ≡ [])
     × AreLinesTold o contents lines left old new a b
 
--- Memory ran out at a command, and those before it were told; or the writer failed at one, which
--- was told, too; or a line is bad.
+-- Memory ran out at a command, and the commands before it were written; or the writer failed at
+-- one, which was written, too; or a line is bad.
 abbrev pub StopsTelling : {O W : Type 0} → Order ℕ → (W → Option (List ℕ)) → LinesLeft → World O ℕ
     → Output W → Output W → Fault → Type 0
 StopsTelling {O} o contents lines old a b (Refused refusal.OutOfMemory) =

@@ -2,7 +2,7 @@
 //! scripts, each from the bytes of its files to the bytes that it writes.
 //!
 //! An engine is generic over its readers and its writer. It knows no word of a command line and no
-//! name of a file: a fault tells of a file by its place in the order in which they are read. The
+//! name of a file: a fault names a file by its place in the order in which they are read. The
 //! commands that need no table are in `catalog_engines`.
 #![tactic(auto)]
 

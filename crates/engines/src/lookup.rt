@@ -53,9 +53,9 @@ impl<'a> Model for LookupOptions<'a> {
 }
 
 /// Looks addresses up in listings, and writes a line for each address and the counts of each
-/// listing. Returns what is noted of the listings. A listing of modules tells the places of
-/// modules, perhaps with one of regions; without it the order of the addresses of the listing of
-/// symbols does. A file of addresses says which are looked up after the given ones.
+/// listing. Returns the notes on the listings. A listing of modules gives the places of modules,
+/// perhaps with one of regions; without it the addresses of the symbols do. The addresses of a file
+/// are looked up after the given ones.
 ///
 /// All is read, and all answers are there, before the first byte is written; so every fault but a
 /// failed write leaves the writer as it was. docs/FORMATS.md has the files and the lines.

@@ -22,7 +22,7 @@ abbrev pub start_by : Moment → DatedCatalog → ℕ
 start_by (Generation _) d = d.previous + 1
 start_by (Stamp _) d = d.since
 
--- the catalogs rise by generation, and none has a stamp below that of the one before
+-- the catalogs rise by generation, and their stamps do not fall
 pub record AreInOrder (dated : List DatedCatalog) : Type 0 where
   pub generations : IsNonDecreasingBy (λ d. d.previous) dated
   pub stamps : IsNonDecreasingBy (λ d. d.since) dated
@@ -35,8 +35,8 @@ standing_at (d ∷ rest) moment =
     then Some (unwrap_or (standing_at rest moment) d)
     else standing_at rest moment
 
--- the oldest catalog is gone, and the next one stands by the moment: at that and at each later one
--- by its clock stands what stood there
+-- the oldest catalog is gone, and the next one is current at the moment: at that and at each later
+-- one of its clock the current catalog is as before
 pub record ForgetsOldest (moment : Moment) (old new : List DatedCatalog) (tag : ℕ) : Type 0 where
   pub oldest : DatedCatalog
   pub gone : old ≡ oldest ∷ new
@@ -48,7 +48,7 @@ pub record ForgetsOldest (moment : Moment) (old new : List DatedCatalog) (tag : 
 abbrev pub AreAllNeeded : Moment → List DatedCatalog → Type 0
 AreAllNeeded moment dated = All (λ d. number_of moment < start_by moment d) (drop 1 dated)
 
--- one catalog is forgotten, if the next one stands by the moment
+-- one catalog is forgotten, if the next one is current by the moment
 abbrev pub Forgets : Moment → List DatedCatalog → List DatedCatalog → Option ℕ → Type 0
 Forgets moment old new None = (new ≡ old) × AreAllNeeded moment old
 Forgets moment old new (Some tag) = ForgetsOldest moment old new tag
@@ -58,8 +58,8 @@ abbrev pub DropsOldest : List DatedCatalog → List DatedCatalog → Option ℕ 
 DropsOldest old new None = (old ≡ []) × (new ≡ [])
 DropsOldest old new (Some tag) = (d : DatedCatalog) × (old ≡ d ∷ new) × (tag ≡ d.tag)
 
--- each catalog stands from a generation on that was reached, and one that stands at such a generation
--- is right there
+-- each catalog is current from a generation on that was reached, and one that is current at such a
+-- generation is right there
 pub record EachStands (IsRight : ℕ → CatalogEntries → Type 0) (now : ℕ)
     (dated : List DatedCatalog) : Type 0 where
   pub reached : All (λ d. d.previous < now) dated

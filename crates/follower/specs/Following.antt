@@ -1,4 +1,4 @@
--- A table whose regions are those of the catalog that was shown last.
+-- A table that has the regions of the catalog shown last.
 use Rattle.std.specs.Prelude.{◌≡◌, ◌⊎◌, ◌≤◌, ℕ, ◌+◌, ◌-◌, List, [], ◌∷◌, ◌++◌, All, length, take}
 use Rattle.std.specs.Prelude.{None}
 use Rattle.order_laws.specs.declared.items.Item.{Item}
@@ -35,7 +35,7 @@ IsShownAt w generation c =
     (addr : ℕ) → look half_open addr (table_at w generation) ≡ item_of_address c addr
 
 -- no update is pending, and at each generation that was reached the table showed the catalog that
--- stands there, if one does
+-- is current there, if one is
 pub record IsFollowed (w : WriterState) (dated : List DatedCatalog) : Type 0 where
   pub rests : w.latch.pending ≡ None
   pub stands : EachStands (IsShownAt w) (generation_of w) dated
@@ -48,7 +48,7 @@ pub record IsBegun (w : WriterState) (items : List Item) (w' : WriterState) (pre
   pub before : previous ≡ generation_of w
 
 -- the update is pending after which the table has the regions of the catalog; this is kept already,
--- and stands from the generation of the update on
+-- and current from the generation of the update on
 pub record BeginsToShow (d : DatedCatalog) (w w' : WriterState) (dated dated' : List DatedCatalog)
     : Type 0 where
   pub items : List Item
@@ -62,8 +62,8 @@ abbrev pub dated_as : CatalogEntries → ℕ → ℕ → WriterState → DatedCa
 dated_as c since tag w =
     record { previous = generation_of w; since = since; tag = tag; catalog = c }
 
--- the regions of the catalog replaced the table in one update, and it stands from the generation of
--- this update on
+-- the regions of the catalog replaced the table in one update, and it is current from the
+-- generation of this update on
 pub record Shows (c : CatalogEntries) (since tag : ℕ) (old new : Followed) (generation : ℕ)
     : Type 0 where
   pub pending : WriterState
@@ -71,7 +71,8 @@ pub record Shows (c : CatalogEntries) (since tag : ℕ) (old new : Followed) (ge
       new.catalogs
   pub finished : Finishes pending new.writer generation
 
--- its stamp lies below that of a catalog before, or the table refuses its regions, or memory ran out
+-- its stamp is below the stamp of an earlier catalog, or the table refuses its regions, or memory
+-- ran out
 abbrev pub RefusesToShow : CatalogEntries → ℕ → WriterState → List DatedCatalog → NotShown → Type 0
 RefusesToShow c since w dated StampFalls = All (λ d. d.since ≤ since) dated → ⊥
 RefusesToShow c since w dated (Refused why) =

@@ -27,7 +27,7 @@ impl<'a> Model for SharedCatalog<'a> {
 }
 
 impl<'a> SharedCatalog<'a> {
-    /// Puts a catalog where owners can share it. Refused only when out of memory.
+    /// Makes a catalog one that owners can share. Refused only when out of memory.
     pub fn new(alloc: Global, catalog: IndexedCatalog<'a>) -> Result<SharedCatalog<'a>, AllocError>
         ensures { IfOk result (λ c. c ≡ catalog.entry) }
     {
@@ -84,8 +84,8 @@ impl DatedCatalog<'_> {
     }
 }
 
-/// Catalogs in the order in which they were shown. One stands from its own generation and stamp up
-/// to those of the next, the last one from its own on.
+/// Catalogs in the order in which they were shown. One is current from its own generation and stamp
+/// up to the next one's, the last from its own on.
 #[derive(Drop)]
 pub struct Catalogs<'a> {
     dated: Vec<DatedCatalog<'a>>,
@@ -139,7 +139,7 @@ impl<'a> Catalogs<'a> {
         self.dated.push_reserved(dated);
     }
 
-    /// The catalog that stands at a moment, if one does: the last that was shown at or before it.
+    /// The current catalog at a moment, if there is one: the last that was shown at or before it.
     pub fn of(&self, moment: Moment) -> Option<&DatedCatalog<'a>>
         ensures { option_copied result ≡ standing_at self.now.items moment }
     {
@@ -150,7 +150,7 @@ impl<'a> Catalogs<'a> {
     }
 
     /// Drops the oldest catalog if the next one was shown at or before the moment, and returns its
-    /// tag: at that moment and later ones no other catalog stands then.
+    /// tag: at that moment and later ones the current catalog stays as it was.
     pub fn forget(&mut self, moment: Moment) -> Option<u64>
         ensures { Forgets moment self.old.items self.new.items result }
     {

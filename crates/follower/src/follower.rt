@@ -1,4 +1,4 @@
-//! A table whose regions are those of the catalog that was shown last.
+//! A table that has the regions of the catalog shown last.
 
 ghost use Rattle.std.specs.Prelude.{◌≡◌, ℕ, ◌-◌, ◌<◌, ◌≤◌, [], All, IfErr, IfOk, IfSome, OnErr, vec_len};
 ghost use Rattle.std.specs.Option.{option_copied};
@@ -25,7 +25,7 @@ use word_layout::Layout;
 /// Why a catalog is not shown.
 #[derive(Clone, Copy, Debug, PartialEq, Eq, Drop)]
 pub enum NotShown {
-    /// Its stamp lies below that of a catalog that was shown before.
+    /// Its stamp is below the stamp of a catalog that was shown before.
     StampFalls,
     /// The table refuses its regions, or memory ran out.
     Refused(Refusal),
@@ -159,8 +159,8 @@ impl<'a> Follower<'a> {
         Ok(self.writer.finish())
     }
 
-    /// The catalog that stands at a moment, if it is not forgotten. An answer of a reader is named by
-    /// the catalog of its generation: that has of each address the region that the table then had.
+    /// The current catalog at a moment, if it is not forgotten. An answer of a reader is named by
+    /// the catalog of its generation: for each address it has the region that the table then had.
     pub fn catalog_at(&self, moment: Moment) -> Option<&DatedCatalog<'a>>
         ensures stands { option_copied result ≡ standing_at self.now.catalogs moment }
         ensures shown { (generation : ℕ) → moment ≡ At generation

@@ -21,7 +21,7 @@ pub record Beside : Type 0 where
   pub other : Text
   pub message : Text
 
--- how an argument is read, the flag that excludes it, the option that says the same, and the option
+-- how an argument is read, the flag that excludes it, the option that it repeats, and the option
 -- that it needs
 pub record ArgumentRow : Type 0 where
   pub rule : Rule

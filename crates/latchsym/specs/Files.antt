@@ -75,12 +75,11 @@ held_given held files =
     given_of (held_text held (option_map (λ f. f.now) files.modules)) (held files.kallsyms.now)
     (held_text held (option_map (λ f. f.now) files.regions))
 
--- what the names hold of files of addresses, of scripts and of logs, of which `-` is the standard
--- input
+-- what the names of files of addresses, of scripts and of logs hold; `-` is the standard input
 abbrev pub or_standard : Option (List ℕ) → Held → Held
 or_standard standard held name = if bytes_eq name (codes "-") then standard else held name
 
--- the readers of listings are those of these files
+-- these files are read as the listings
 pub record AreListingFiles {F : Type 0} (remaining : F → Option (List ℕ)) (held : Held)
     (files : ListingFiles) (r : ListingReaders F F F) : Type 0 where
   pub modules : IsOpenedIfGiven remaining held (option_map (λ f. f.now) files.modules) r.modules

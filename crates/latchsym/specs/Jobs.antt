@@ -64,8 +64,8 @@ abbrev pub said_if : (Text → Bool) → Option Beside → Option Text
 said_if is_so None = None
 said_if is_so (Some b) = if is_so b.other then Some b.message else None
 
--- what is wrong with the argument of the row, if it is given: the flag that excludes it is too, or
--- the option that says the same is, or the option that it needs is not
+-- what is wrong with the argument of the row, if it is given: the flag that excludes it is given
+-- too, or the option that it repeats, or the option that it needs is not
 abbrev pub clash_of : List Row → ArgumentRow → Option Text
 clash_of rows row =
     if is_present rows row
@@ -89,7 +89,7 @@ IsClashIn name rows _ = ⊥
 abbrev pub symbols_in : List Row → Option Text
 symbols_in rows = option_or (first_of (codes "listing") rows) (first_of (codes "kallsyms") rows)
 
--- the files of the listings; that of the symbols is the kernel's own if none is named
+-- the files of the listings; the symbols are the kernel's own if no file is named
 pub record AreFilesIn (rows : List Row) (files : ListingFiles) : Type 0 where
   pub modules : option_map (λ f. f.now) files.modules ≡ first_of (codes "modules") rows
   pub kallsyms : files.kallsyms.now ≡ unwrap_or (symbols_in rows) (codes "/proc/kallsyms")
@@ -222,7 +222,7 @@ pub record IsAnnotateIn (rows : List Row) (annotate : Annotate) : Type 0 where
   pub one : is_followed_whole rows ≡ false
   pub log : annotate.log.now ≡ unwrap_or (first_of (codes "log") rows) (codes "-")
 
--- the names, and how their addresses are told
+-- the names, and how their addresses are written
 pub record IsAddressIn (rows : List Row) (address : Address) : Type 0 where
   pub names : map (λ n. n.now) address.names.items ≡ values_in (codes "name") rows
   pub json : address.form.json ≡ has_flag (codes "json") rows
@@ -246,7 +246,7 @@ pub record IsRequestIn (name : Text) (rows : List Row) (request : Request) : Typ
   pub kernel : AreBoundsIn rows request.sources.kernel
   pub subcommand : IsSubcommandIn name rows request.subcommand
 
--- the trace in the file of this name is asked for, and whether its steps are to be told
+-- the trace in the file of this name is asked for, and whether its steps are to be written
 pub record IsTraceIn (rows : List Row) (name : Text) (told : Bool) : Type 0 where
   pub file : first_of (codes "file") rows ≡ Some name
   pub steps : has_flag (codes "steps") rows ≡ told
@@ -304,7 +304,7 @@ Gives Is name rows (Ok part) = Is rows part
 Gives Is name rows (Err fault) = HasBadValue name rows fault
 
 -- The answer to a subcommand of this name, with these values. Options that do not go together are
--- told before a value that is wrong.
+-- reported before a wrong value.
 abbrev pub AnswersSubcommand : Text → List Row → Result Job JobFault → Type 0
 AnswersSubcommand name rows (Ok job) = (clash_in name rows ≡ None) × IsJobIn name rows job
 AnswersSubcommand name rows (Err fault) =

@@ -5,7 +5,7 @@ pub mod CommandLine
 pub mod Jobs
 -- the lines that say what is noted of the listings of a job
 pub mod JobNotes
--- what the system said of a call that failed, and where it is told
+-- what the system said of a failed call, and which commands write it
 pub mod Reasons
 -- what is said at the end of a run
 pub mod Reports
@@ -15,7 +15,7 @@ pub mod Misuses
 pub mod Operands
 -- the files of a job: their names, what these hold, and the readers that are opened on them
 pub mod Files
--- what comes of a job: that of its engine over the job's own readers
+-- the outcome of a job: its engine's over the job's own readers
 pub mod Outcomes
 -- what the whole program does, from its words and files to its outputs and its status
 pub mod Programs

@@ -29,7 +29,7 @@ offset_message word =
     if is_some (numeral 16 16 word) then text.OFFSET_WITHOUT_PREFIX.now
     else text.BAD_OFFSET.now
 
--- what is wrong was said, and the status is that of a misuse
+-- what is wrong was said, with the status of a misuse
 abbrev pub IsMisused : {D : Type 0} → (D → Option (List ℕ)) → Output D → Output D
     → List ℕ → Text → ℕ → Type 0
 IsMisused contents old new message word status =

@@ -1,4 +1,4 @@
--- What comes of a job: that of its engine over the job's own readers.
+-- The outcome of a job: its engine's over the job's own readers.
 use Rattle.std.specs.Prelude.{◌≡◌, ℕ, List, map, Option, Some, None, Result, Err}
 use Rattle.std.specs.Prelude.{unwrap_or}
 use Rattle.texts.specs.Counted.{device_of, failures_of}
@@ -56,7 +56,7 @@ HoldsOfInput P (Some r) (Some r') outcome = P r r'
 HoldsOfInput P None None outcome = outcome ≡ Err (Read 3)
 HoldsOfInput P _ _ outcome = ⊥
 
--- addresses are looked up in the listings, those of a file among them if there is one
+-- addresses are looked up in the listings, also the addresses of a file, if there is one
 abbrev pub IsLookedUpBy : {R W : Type 0} → (R → Option (List ℕ)) → (W → Option (List ℕ))
     → Query → ListingReaders R R R → ListingReaders R R R → Option (Counted R)
     → Option (Counted R) → Output W → Output W → Result ListingNotes Fault → Type 0

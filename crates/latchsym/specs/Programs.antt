@@ -26,7 +26,7 @@ abbrev pub error_of_outcome : {R : Type 0} → OpenedJob R → Option Error → 
 error_of_outcome job written (Ok finished) = None
 error_of_outcome job written (Err fault) = error_behind job written fault
 
--- The engine of a job came to this outcome over the readers of its files, and that was told, with
+-- The engine of a job came to this outcome over the readers of its files, which was reported, with
 -- the status that it means.
 pub record IsDoneOver {R W E : Type 0} (remaining : R → Option (List ℕ)) (held : Held)
     (contents : W → Option (List ℕ)) (errors : E → Option (List ℕ)) (job : Job)
@@ -71,7 +71,7 @@ AnswersArguments remaining held standard contents errors words w w' e e' status 
     (answer : Result Job JobFault) × AnswersWords (with_operands words) answer
     × ComesOfAnswer remaining held standard contents errors answer w w' e e' status
 
--- The program's words, if it has them, were answered; else why it has none was told.
+-- The program's words, if it has them, were answered; else the reason was given.
 abbrev pub AnswersCommand : {S F W E : Type 0} → (S → Text) → (F → Option (List ℕ)) → Held
     → Option (List ℕ) → (W → Option (List ℕ)) → (E → Option (List ℕ))
     → Result (Bor (List S)) JobFault → Output W → Output W → Output E → Output E → ℕ → Type 0

@@ -1,4 +1,4 @@
--- What the system said of a call that failed, and where it is told.
+-- What the system said of a failed call, and which commands write it.
 use Rattle.std.specs.Prelude.{ℕ, Bool, true, false, nat_eq, List, [], ◌++◌, codes}
 use Rattle.std.specs.Prelude.{Option, Some, None, if◌then◌else◌}
 use Rattle.std.specs.declared.io.Error.{Error}
@@ -17,7 +17,7 @@ abbrev pub error_if_given : {R : Type 0} → Option (Counted R) → Option Error
 error_if_given None = None
 error_if_given (Some r) = error_of r
 
--- that of the reader at a place among those of a request
+-- the error of one reader of a request
 abbrev pub error_of_request : {R : Type 0} → ListingReaders R R R → Option (Counted R) → ℕ
     → Option Error
 error_of_request r input place =
@@ -32,7 +32,7 @@ abbrev pub error_of_listings : {R : Type 0} → ListingReaders R R R → Fault �
 error_of_listings r (Read place) = error_of_request r None place
 error_of_listings r _ = None
 
--- the commands that tell what the system said
+-- the commands that write what the system said
 abbrev pub does_tell : Subcommand → Bool
 does_tell (sub.Annotate annotate) = true
 does_tell sub.Check = true
@@ -43,14 +43,13 @@ abbrev pub tells_errors : {R : Type 0} → OpenedJob R → Bool
 tells_errors (Request q r input) = does_tell q.now.subcommand
 tells_errors _ = false
 
--- the error that the reader at a place among those of such a job gave last
+-- the error that one reader of such a job gave last
 abbrev pub error_at : {R : Type 0} → OpenedJob R → ℕ → Option Error
 error_at (Request q r input) place =
     if does_tell q.now.subcommand then error_of_request r input place else None
 error_at _ place = None
 
--- the error behind a fault of such a job, of its readers, or of its writer, which gave this one
--- last
+-- the error that made such a job fault, of its readers, or of its writer, which gave this one last
 abbrev pub error_behind : {R : Type 0} → OpenedJob R → Option Error → Fault → Option Error
 error_behind job written (Read place) = error_at job place
 error_behind job written Write = if tells_errors job then written else None

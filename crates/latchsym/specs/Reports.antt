@@ -43,16 +43,15 @@ fault_text file words fault = text.PROGRAM.now ++ message_text file words fault
 abbrev pub file_of : Job → Fault → Text
 file_of job fault = unwrap_or (option_and_then (file_at job) (fault_place fault)) []
 
--- the line of a fault was said, with what the system says of the error behind it, if there is one
+-- the line of a fault was said, with the system's words for its error, if there is one
 abbrev pub IsFaultTold : {D : Type 0} → (D → Option (List ℕ)) → Output D → Output D → Text
     → Option Error → Fault → Type 0
 IsFaultTold contents old new file error fault =
     (words : Option (List ℕ)) × (is_some words ≡ is_some error)
     × Says contents old new (fault_text file words fault)
 
--- The program's status after a job with this outcome, and what it has said of it: of a status that
--- the job itself came to, what is noted of its listings, and else the fault and the error behind
--- it.
+-- The program's status after a job with this outcome, and what it has said: the notes on the
+-- listings if the job came to a status, and else the fault with its error.
 abbrev pub IsConcluded : {D : Type 0} → (D → Option (List ℕ)) → Job → Option Error → Output D
     → Output D → Result Finished Fault → ℕ → Type 0
 IsConcluded contents job error old new (Ok own) status =

@@ -25,7 +25,7 @@ use std::alloc::Global;
 use std::convert::AsStr;
 use texts::{number, number_up_to};
 
-/// The job that a program's words ask for, the first of which is the program's name.
+/// The job that a program's words ask for; the first word is the program's name.
 pub fn job_of<'a, S: AsStr>(alloc: Global, words: &'a [S]) -> Result<Job<'a>, JobFault<'a>>
     ensures { AnswersWords (map S.text words.entry.now) result }
 {
@@ -58,7 +58,7 @@ fn job_in<'a>(alloc: Global, matches: &ArgMatches<'a>) -> Result<Job<'a>, JobFau
 }
 
 /// The job that a subcommand of this name asks for. If its options do not go together, that is
-/// told before all else.
+/// reported first.
 fn job_of_subcommand<'a>(
     alloc: Global,
     name: &str,
@@ -88,8 +88,8 @@ fn clash_in(name: &str, found: &ArgMatches<'_>) -> Option<&'static str>
     None
 }
 
-/// What is wrong if the argument of the row is given: a flag that excludes it is too, or an option
-/// that says the same is, or the option that it needs is not.
+/// What is wrong if the argument of the row is given: a flag that excludes it is given too, or an
+/// option that it repeats, or the option that it needs is not.
 fn clash_of(row: &Argument, found: &ArgMatches<'_>) -> Option<&'static str>
     ensures { option_map (λ m. m.now) result ≡ clash_of (rows_in found.now) (row_of row.now) }
 {
@@ -165,9 +165,8 @@ fn symbols_in<'a>(found: &ArgMatches<'a>) -> &'a str
     }
 }
 
-/// The names of the symbols that are given for the kernel's bounds. If a lookup is asked for with
-/// one name alone, its first address is taken for the other, which is what a `0x` in front of it
-/// tells.
+/// The names of the symbols that are given for the kernel's bounds. An END that looks like an
+/// address is refused: with one name alone, the first address would be taken for it.
 fn bounds_in<'a>(found: &ArgMatches<'a>) -> Result<Option<KernelBounds<'a>>, JobFault<'a>>
     ensures { (name : Text) → Gives AreBoundsIn name (rows_in found.now) result }
 {

@@ -8,7 +8,7 @@ use crate::rows::{Argument, Kind, arguments_of};
 use clap::{Arg, ArgAction, Command};
 use std::alloc::{AllocError, Global};
 
-/// The version that `--version` tells.
+/// The version that `--version` prints.
 const VERSION: &str = "1.2.0";
 
 /// What the help ends with.

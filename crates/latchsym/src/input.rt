@@ -8,8 +8,7 @@ use std::{fs, io};
 use texts::Counted;
 
 /// A file that was to be opened, or the standard input. If a file cannot be opened, reading it
-/// fails, so that of several files the first in the order of reading is the one whose fault is
-/// told.
+/// fails, so that the first file that fails, in the order of reading, is reported.
 #[derive(Drop)]
 pub enum Input {
     Opened(File),

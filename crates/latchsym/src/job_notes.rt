@@ -39,7 +39,7 @@ fn put_notes_asked<W: Write>(writer: &mut Output<W>, request: &Request<'_>, note
     }
 }
 
-/// Writes what is noted of the listings of a run, which needs that of modules.
+/// Writes the notes on the listings of a run, which needs a listing of modules.
 fn put_notes_of_run<W: Write>(writer: &mut Output<W>, sources: &Sources<'_>, notes: &ListingNotes)
     ensures { Says W.contents writer.old writer.new (lines_of_run sources.now notes.now) }
 {

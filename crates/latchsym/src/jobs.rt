@@ -37,7 +37,7 @@ use std::thread::Threads;
 use texts::{Counted, Output};
 
 /// Where the files of a job are found. A file that cannot be opened is one whose reader fails, so
-/// that of several files the first in the order of reading is the one whose fault is told.
+/// that the first file that fails, in the order of reading, is reported.
 pub trait FileSource {
     /// A reader of a file.
     type File: Read + Drop;
@@ -91,9 +91,9 @@ pub fn open_job<'j, 'a, F: FileSource>(
 }
 
 /// Does the job over its readers: has its engine answer with the job's own options, addresses and
-/// number of readers. Returns the program's status and what is noted of the listings, or why it
-/// failed. What is noted of the listings of a log is told to `errors` before the log is begun. If
-/// it is followed, the files of its listings are opened again.
+/// number of readers. Returns the program's status and the notes on the listings, or why it failed.
+/// The notes on the listings of a log are written to `errors` before the log is begun. If it is
+/// followed, the files of its listings are opened again.
 pub fn do_job<T: Threads + Wait + Sync, F: FileSource, W: Write, E: Write>(
     threads: &T,
     alloc: Global,
@@ -252,7 +252,7 @@ fn do_follow<F: FileSource, W: Write, E: Write>(
     with_notes(done, ListingNotes::none())
 }
 
-/// Checks listings. What is noted of them is written, so that nothing is left to be told.
+/// Checks listings. The notes are its output, so no further note remains.
 fn do_check<R: Read, W: Write>(
     alloc: Global,
     sources: &Sources<'_>,
@@ -269,7 +269,7 @@ fn do_check<R: Read, W: Write>(
     with_notes(status, ListingNotes::none())
 }
 
-/// Says where the symbols of names are.
+/// Writes the places of the symbols of names.
 fn do_address<R: Read, W: Write>(
     alloc: Global,
     sources: &Sources<'_>,
@@ -296,8 +296,8 @@ fn do_address<R: Read, W: Write>(
 impl<R> OpenedJob<'_, '_, R> {
     ghost use Rattle.latchsym.specs.Reasons.{error_at, error_behind, tells_errors};
 
-    /// The error behind a fault of a job that tells it: the one that the reader gave last which
-    /// failed, or the writer.
+    /// The error that made a job fault, if the job reports it: the last error of the reader that
+    /// failed, or of the writer.
     pub fn error_behind<W>(&self, fault: &Fault, writer: &Output<W>) -> Option<io::Error>
         ensures { result ≡ error_behind self.now (error_in writer.now) fault.now }
     {
@@ -309,7 +309,7 @@ impl<R> OpenedJob<'_, '_, R> {
         }
     }
 
-    /// Whether the job is one that tells the errors behind its faults.
+    /// Whether the job reports the errors of its faults.
     fn tells_errors(&self) -> bool
         ensures { result ≡ tells_errors self.now }
     {
@@ -319,7 +319,7 @@ impl<R> OpenedJob<'_, '_, R> {
         }
     }
 
-    /// The error that the reader at this place gave last, in a job that tells it.
+    /// The error that the reader at this place gave last, if the job reports it.
     fn error_at(&self, place: u64) -> Option<io::Error>
         ensures { result ≡ error_at self.now place }
     {
@@ -345,7 +345,7 @@ pub(crate) fn error_of_listings<R>(
     }
 }
 
-/// The error that the reader at this place among those of a request gave last.
+/// The error that one reader of a request gave last.
 fn error_of_request<R>(
     listings: &ListingReaders<R, R, R>,
     input: &Option<Counted<R>>,

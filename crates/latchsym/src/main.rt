@@ -56,7 +56,7 @@ fn main(rt: HostRuntime) -> ExitCode {
     ExitCode::from(program(&rt, rt.alloc(), words, &files, &mut writer, &mut errors))
 }
 
-/// The words of the command line, the first of which is the program's name.
+/// The words of the command line; the first is the program's name.
 fn words_of(rt: &HostRuntime) -> Result<Vec<String>, ErrorKind> {
     let words = env::args(rt).map_err(|error| error.kind())?;
     words

@@ -109,8 +109,8 @@ fn help<W: Write, E: Write>(text: &str, writer: &mut Output<W>, errors: &mut Out
     SUCCEEDED
 }
 
-/// Says what is wrong with the command line, and with which word. If the writer fails, the
-/// status is all that there is to tell.
+/// Writes what is wrong with the command line, and with which word. If the writer fails, only the
+/// status says it.
 fn misused<E: Write>(message: &[u8], word: &str, errors: &mut Output<E>) -> u8
     ensures { IsMisused E.contents errors.old errors.new message.now word.now result }
 {

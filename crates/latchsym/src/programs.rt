@@ -30,9 +30,9 @@ use std::sync::Wait;
 use std::thread::Threads;
 use texts::Output;
 
-/// Does what the words of a command line ask for, the first of which is the program's name, and
-/// returns the program's status: 0, 1 if something failed, 2 if the words ask for nothing. What
-/// was asked for goes to the writer, what is said of it to `errors`.
+/// Does what the words of a command line ask for, after the first, which is the program's name.
+/// Returns the program's status: 0, 1 if something failed, 2 if the words ask for nothing. What was
+/// asked for goes to the writer, notes and errors to `errors`.
 ///
 /// Words that are not there, since memory ran out or one is no text, are a fault as well.
 pub fn program<T: Threads + Wait + Sync, S: AsStr, F: FileSource, W: Write, E: Write>(

@@ -32,9 +32,9 @@ const NOT_UNDERSTOOD: &[u8] = b" is not understood\n";
 
 const PROGRAM: &[u8] = b"latchsym: ";
 
-/// Ends a job: returns the program's status, which is the job's own if it came to one. Writes
-/// what is noted of its listings, or, if it failed, the line that says why, with what the system
-/// said of the error behind it.
+/// Ends a job: returns the program's status, which is the job's own if it came to one. Writes the
+/// notes on its listings or, if it failed, the line that says why, with the system's words for the
+/// error.
 pub fn conclude<W: Write>(
     outcome: Result<Finished, Fault>,
     job: &Job<'_>,
@@ -63,7 +63,7 @@ fn note<W: Write>(notes: &ListingNotes, job: &Job<'_>, writer: &mut Output<W>)
 }
 
 /// Writes the line that says why the job failed, and returns the program's status. If the writer
-/// fails too, the status is all that there is to tell.
+/// fails too, only the status says it.
 fn report<W: Write>(
     fault: &Fault,
     job: &Job<'_>,

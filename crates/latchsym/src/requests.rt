@@ -38,7 +38,7 @@ pub enum Subcommand<'a> {
     Annotate(Annotate<'a>),
     /// `latchsym check`: write all that is noted of listings, and their counts.
     Check,
-    /// `latchsym address`: write where the symbols of some names are.
+    /// `latchsym address`: write the places of the symbols of some names.
     Address(Address<'a>),
 }
 
@@ -69,7 +69,7 @@ pub struct Run<'a> {
 pub struct Address<'a> {
     /// The names, in the order of their words.
     pub names: Vec<&'a str>,
-    /// How the addresses are told.
+    /// How the addresses are written.
     pub form: AddressForm,
 }
 
@@ -125,7 +125,7 @@ impl<'a> Subcommand<'a> {
         }
     }
 
-    /// Whether the errors behind the faults of the command are told.
+    /// Whether the errors of the command's faults are written.
     pub(crate) fn tells_errors(&self) -> bool
         ensures { result ≡ does_tell self.now }
     {
@@ -144,7 +144,7 @@ pub enum JobFault<'a> {
     /// Help that was asked for, or words that the command line does not have. The error holds the
     /// text for the user.
     CommandLine(Error),
-    /// The first address that is none.
+    /// The first ADDR that is no number.
     BadAddress(&'a str),
     /// A lookup without an address.
     NoAddress,

@@ -45,7 +45,7 @@ pub struct Argument {
     pub default: &'static str,
     /// The flag that may not be given beside it.
     pub excluded_by: Option<Clash>,
-    /// The option with a value that may not be given beside it, since it says the same.
+    /// The option with a value that may not be given beside it, since one of them is enough.
     pub instead_of: Option<Clash>,
     /// The option with a value that has to be given beside it.
     pub needs: Option<Clash>,
@@ -64,8 +64,8 @@ const ANY: Argument = Argument {
     needs: None,
 };
 
-/// A row: the kind, the name, the names of the values and the help, and then the other fields that
-/// are not those of `ANY`.
+/// A row: the kind, the name, the names of the values and the help, and then the fields that differ
+/// from `ANY`.
 macro_rules! row {
     ($kind:ident $name:literal $values:tt: $help:literal $(, $field:ident: $value:expr)*) => {
         Argument {

@@ -1,4 +1,4 @@
--- What is told of one of several addresses.
+-- The answer for one of several addresses.
 use Rattle.std.specs.Prelude.{ℕ}
 use Rattle.modules.specs.Entries.{CatalogEntries}
 use Rattle.latchsym_ffi.specs.Finding.{Known, answer_of, known_at, known_code}
@@ -7,6 +7,6 @@ use Rattle.latchsym_ffi.specs.declared.batches.CatalogTold.{CatalogTold}
 abbrev pub told_of : CatalogEntries → Known → CatalogTold
 told_of c k = record { answer = answer_of c k; code = known_code k }
 
--- what a search for the address alone tells
+-- the answer of a search for the address alone
 abbrev pub told_at : CatalogEntries → ℕ → CatalogTold
 told_at c addr = told_of c (known_at c addr)

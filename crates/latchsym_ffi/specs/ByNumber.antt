@@ -1,4 +1,4 @@
--- What is told of the modules, the regions and the symbols of a catalog by their numbers.
+-- What calls return of the modules, the regions and the symbols of a catalog by their numbers.
 use Rattle.std.specs.Prelude.{◌≡◌, ℕ, ◌+◌, if◌then◌else◌, List, drop, length, position, slice_get}
 use Rattle.std.specs.Prelude.{Option, Some, None}
 use Rattle.std.specs.Option.{option_and_then, option_map}
@@ -14,14 +14,14 @@ use Rattle.latchsym_ffi.specs.declared.by_number.CatalogModule.{CatalogModule}
 use Rattle.latchsym_ffi.specs.declared.by_number.CatalogRegion.{CatalogRegion}
 use Rattle.latchsym_ffi.specs.declared.by_number.CatalogEntry.{CatalogEntry}
 
--- the region at a place among those of the module of a number, and the part that it is
+-- a region of a module, by number and place, and its part
 abbrev pub region_at : CatalogEntries → ℕ → ℕ → Option (ℕ × ℕ)
 region_at c number place = option_and_then (λ m. slice_get m.regions place) (module_of c number)
 
 abbrev pub part_at : CatalogEntries → ℕ → ℕ → Option Part
 part_at c number place = option_and_then (λ m. slice_get m.parts place) (module_of c number)
 
--- the symbol at a place among those of the module of a number, in the order listed
+-- a symbol of a module, by number and by place in the order listed
 abbrev pub symbol_at_place : CatalogEntries → ℕ → ℕ → Option SymbolEntry
 symbol_at_place c number place =
     option_and_then (λ m. slice_get m.symbols place) (module_of c number)
@@ -36,12 +36,12 @@ abbrev pub place_named : CatalogEntries → ℕ → List ℕ → ℕ → Option 
 place_named c number name from =
     option_and_then (λ m. named_from m.symbols name from) (module_of c number)
 
--- the number of the module and the place in it of the symbol at a place among those of this name
+-- the n-th symbol of a name: the number of its module, and its place there
 abbrev pub place_of_name : CatalogEntries → List ℕ → ℕ → Option (ℕ × ℕ)
 place_of_name c name from =
     option_map (λ s. (s.number, s.place)) (slice_get (symbols_named c name) from)
 
--- what is returned and told of a module, if there is one; nothing is told of none
+-- what is returned and written of a module, if there is one; of none nothing is written
 abbrev pub TellsModule : Option ModuleEntry → ℕ → CatalogModule → CatalogModule → Type 0
 TellsModule None result old new = (result ≡ answer_number Nothing) × (new ≡ old)
 TellsModule (Some m) result old new =

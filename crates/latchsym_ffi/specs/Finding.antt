@@ -1,4 +1,4 @@
--- What is known of an address, and what is told of it.
+-- What is known of an address, and what a call writes of it.
 use Rattle.std.specs.Prelude.{◌≡◌, ℕ, List, [], ◌++◌, length, take, drop, Option, Some, None}
 use Rattle.std.specs.Option.{option_and_then, option_map, option_map_or}
 use Rattle.listing.specs.AddressRules.{lower_by}
@@ -25,7 +25,7 @@ abbrev pub known_at : CatalogEntries → ℕ → Known
 known_at c addr = option_map (λ i. (i, symbol_at c i addr)) (item_of_address c addr)
 
 -- what is known of a return address: the address one byte lower is looked up, and the offset is
--- that of the return address
+-- counted to the return address
 abbrev pub known_call : CatalogEntries → ℕ → Known
 known_call c addr =
     option_and_then
@@ -80,7 +80,7 @@ answer_of c (Some (i, Some f)) =
       module_len = length (module_name c i.tag);
     }
 
--- what is told of what is known
+-- what a call writes of what is known
 pub record Describes (c : CatalogEntries) (k : Known) (t : Description) : Type 0 where
   pub code : t.code ≡ known_code k
   pub answer : t.answer ≡ answer_of c k

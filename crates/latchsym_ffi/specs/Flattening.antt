@@ -9,13 +9,13 @@ use Rattle.latchsym_ffi.specs.Views.{without_letter}
 use Rattle.latchsym_ffi.specs.declared.view_rows.ViewRegion.{ViewRegion}
 use Rattle.latchsym_ffi.specs.declared.view_rows.ViewSymbol.{ViewSymbol}
 
--- the rows are those of the symbols, in the order listed
+-- the rows have the symbols, in the order listed
 pub record AreListed (symbols : List SymbolEntry) (rows : List ViewSymbol) : Type 0 where
   pub entries : map entry_of_row rows ≡ index_entries_of symbols
   pub named : All
       (λ r. option_map without_letter (slice_get symbols r.place) ≡ Some (symbol_of_row r)) rows
 
--- the rows are those of the regions of the modules whose numbers are below this one
+-- the rows have the regions of all modules with lower numbers
 pub record AreRowsBelow (c : CatalogEntries) (number : ℕ)
     (regions : List ViewRegion) : Type 0 where
   pub items : map item_of_row regions ≡ items_below c number

@@ -30,21 +30,21 @@ pub record RefusesShowing (c : CatalogEntries) (since : ℕ) (f : Followed) (res
   pub number : result ≡ not_shown_number why
   pub refuses : RefusesToShow c since f.writer f.catalogs why
 
--- what is known is told by the catalog that is current, and nothing if none is
+-- what is known by the current catalog, and nothing if there is none
 abbrev pub TellsStanding : Option DatedCatalog → (CatalogEntries → Known) → ℕ → CatalogSymbol
     → CatalogSymbol → Type 0
 TellsStanding None known result old new = (result ≡ answer_number Forgotten) × (new ≡ old)
 TellsStanding (Some d) known result old new = IsTold d.catalog (known d.catalog) result new
 
--- what is known of an address is told by the current one of the catalogs that the handle's follower
--- has at a moment
+-- what is known of an address by the catalog that the handle's follower has as the current one at a
+-- moment
 abbrev pub TellsAt : Moment → (CatalogEntries → ℕ → Known) → ℕ → Handle → ℕ → CatalogSymbol
     → CatalogSymbol → Type 0
 TellsAt moment known addr h result old new =
     (f : Followed) → HoldsFollower f h
     → TellsStanding (standing_at f.catalogs moment) (λ c. known c addr) result old new
 
--- it is told by a follower, which stays as it was; another handle is a bad one
+-- a follower answers, and stays as it was; another handle is a bad one
 pub record FindsAt (moment : Moment) (known : CatalogEntries → ℕ → Known) (addr : ℕ)
     (h h' : Handle) (result : ℕ) (old new : CatalogSymbol)
     : Type 0 where
@@ -52,12 +52,12 @@ pub record FindsAt (moment : Moment) (known : CatalogEntries → ℕ → Known) 
   pub told : TellsAt moment known addr h result old new
   pub other : RefusesOther follower_kind h h' old new result
 
--- the number and the tag that tell of a catalog which is gone, or of none
+-- the number and the tag for a catalog which is gone, or for none
 abbrev pub TellsTag : Option ℕ → ℕ → ℕ → ℕ → Type 0
 TellsTag None result old new = (result ≡ answer_number Nothing) × (new ≡ old)
 TellsTag (Some tag) result old new = (result ≡ answer_number Done) × (new ≡ tag)
 
--- the oldest catalog is forgotten if the next one was shown by the moment, and its tag is told
+-- the oldest catalog is forgotten if the next one was shown by the moment, and its tag is written
 abbrev pub ForgetsAt : Moment → ℕ → ℕ → ℕ → Followed → Followed → Type 0
 ForgetsAt moment result old new f f' =
     (tag : Option ℕ) × Forgets moment f.catalogs f'.catalogs tag × (f'.writer ≡ f.writer)

@@ -23,7 +23,7 @@ HoldsFollower f h = h.pointer.content ≡ Some (Follower f)
 abbrev pub Stays : Handle → Handle → Type 0
 Stays h h' = h'.pointer.content ≡ h.pointer.content
 
--- a handle of another kind is a bad one: it stays as it was, and so does what was to be told
+-- a handle of another kind is a bad one: it stays as it was, and nothing is written
 abbrev pub RefusesOther : {A : Type 0} → ℕ → Handle → Handle → A → A → ℕ → Type 0
 RefusesOther kind h h' told told' result =
     h.kind ≢ kind → (result ≡ 101) × (h' ≡ h) × (told' ≡ told)

@@ -13,11 +13,11 @@ pub mod Handles
 pub mod Opening
 -- the struct of C that has the listings
 pub mod Listings
--- what is known of an address, and what is told of it
+-- what is known of an address, and what a call writes of it
 pub mod Finding
--- the names where they lie in the listings
+-- names as places in the listings
 pub mod Named
--- what is told of one of several addresses
+-- the answer for one of several addresses
 pub mod Batches
 -- the modules, the regions and the symbols of a catalog
 pub mod ByNumber

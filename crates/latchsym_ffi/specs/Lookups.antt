@@ -20,7 +20,7 @@ pub record LooksUp (addr : ℕ) (r r' : ReaderState) (t : Try) : Type 0 where
   pub looked : Looked half_open addr r.memory r.knowledge r'.knowledge t
   pub memory : r'.memory ≡ memory_after r.memory t
 
--- an item and a generation, as they are told; all numbers of no item are 0
+-- an item and a generation, as they are written; without an item all numbers are 0
 abbrev pub answer_from : Option Item → ℕ → TableAnswer
 answer_from None g = record { a = 0; b = 0; tag = 0; generation = g }
 answer_from (Some i) g = record { a = i.a; b = i.b; tag = i.tag; generation = g }
@@ -35,7 +35,7 @@ abbrev pub try_code : Try → ℕ
 try_code (Answered x g) = found_code x
 try_code Retry = answer_number answer.Retry
 
--- what a lookup tells; nothing if another is to be made
+-- what a lookup writes; nothing if another is to be made
 abbrev pub Shows : Try → TableAnswer → TableAnswer → Type 0
 Shows (Answered x g) old new = new ≡ answer_from x g
 Shows Retry old new = new ≡ old
@@ -45,7 +45,7 @@ abbrev pub name_code : CatalogEntries → ℕ → Try → ℕ
 name_code c addr (Answered x g) = known_code (known_in c addr x)
 name_code c addr Retry = answer_number answer.Retry
 
--- what a lookup with a name tells of the symbol
+-- what a lookup with a name writes of the symbol
 abbrev pub Names : CatalogEntries → ℕ → Try → CatalogAnswer → CatalogAnswer → Type 0
 Names c addr (Answered x g) old new = new ≡ answer_of c (known_in c addr x)
 Names c addr Retry old new = new ≡ old

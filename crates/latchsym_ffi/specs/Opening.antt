@@ -29,7 +29,8 @@ use Rattle.latchsym_ffi.specs.declared.opening.CatalogFault.TheVariants.{BadLine
 abbrev pub skipped_for : Option (List ℕ) → SkippedModule → ℕ
 skipped_for counts cause = option_map_or (λ m. slice_index m (module_place cause)) counts 0
 
--- the counts of the skipped lines of both listings, by cause, those of the build, and what is noted
+-- the counts of the skipped lines of both listings, by cause, the counts of the build, and the
+-- notes
 abbrev pub counts_in : Option (List ℕ) → List ℕ → BuildCounts → ListingNotes → CatalogCounts
 counts_in m s b notes = record {
   modules = b.modules;
@@ -63,7 +64,7 @@ counts_with kernel l c n =
     counts_in (skipped_modules_of l) (symbol_counts (lines_of l.kallsyms)) n
     (notes_of kernel false l c n)
 
--- the catalog and the counts are those of listings, without mapping symbols
+-- the catalog and the counts of listings, without mapping symbols
 abbrev pub IsCounted : Option BoundNames → CatalogEntries → CatalogCounts → Listed → Type 0
 IsCounted kernel c counts l =
     (n : BuildCounts) × Say kernel false l c n × (counts ≡ counts_with kernel l c n)

@@ -6,7 +6,7 @@ use Rattle.std.specs.Prelude.{◌≡◌, ◌≤◌, ◌%◌, ℕ, List, [], ◌�
 abbrev pub IsClaimed : ℕ → Type 0
 IsClaimed claims = claims % 2 ≡ 1
 
--- the claims of the same slots later on: none has fallen
+-- the claims of these slots later on: none has fallen
 abbrev pub HaveRisen : List ℕ → List ℕ → Type 0
 HaveRisen [] [] = Unit {0}
 HaveRisen (m ∷ ms) (n ∷ ns) = (m ≤ n) × HaveRisen ms ns

@@ -1,4 +1,4 @@
--- The items of a table replaced by those of a catalog, or by any others.
+-- The items of a table replaced by the regions of a catalog, or by any others.
 use Rattle.std.specs.Prelude.{◌≡◌, ◌⊎◌, ℕ, List, map}
 use Rattle.order_laws.specs.declared.items.Item.{Item}
 use Rattle.order_laws.specs.declared.refusals.Refusal.{Refusal}

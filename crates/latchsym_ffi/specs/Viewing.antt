@@ -1,4 +1,4 @@
--- How many rows a view has, and what is told of that.
+-- How many rows a view has, and what the call writes of that.
 use Rattle.std.specs.Prelude.{◌≡◌, ℕ, ◌^◌, ◌≤◌, ◌⊎◌, List, length}
 use Rattle.modules.specs.Catalogs.{regions_of}
 use Rattle.modules.specs.Entries.{CatalogEntries}

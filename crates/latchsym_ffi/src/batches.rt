@@ -9,8 +9,7 @@ use crate::answers::{BAD_LENGTH, DONE};
 use crate::finding::{CatalogAnswer, RegionAndSymbol, description_of, seek_next};
 use modules::{Catalog, Finder, IndexedCatalog, MOST_EXPECTED};
 
-/// The answer for one of several addresses: what a search for it alone tells, and the number that
-/// this returns.
+/// The answer for one of several addresses: what a search for it alone writes and returns.
 #[repr(C)]
 #[derive(Clone, Copy, Drop)]
 pub struct CatalogTold {
@@ -29,7 +28,7 @@ fn told(catalog: &Catalog<'static>, seen: Option<RegionAndSymbol<'_>>) -> Catalo
     }
 }
 
-/// Tells of each address, in the room of its place, if there is just as much room.
+/// Looks each address up, and writes its answer at its place, if there are as many places.
 pub(crate) fn tell_in_order(
     catalog: &IndexedCatalog<'static>,
     addrs: &[u64],
@@ -47,7 +46,7 @@ pub(crate) fn tell_in_order(
     DONE
 }
 
-/// Tells of each address, in the room of its place.
+/// Looks each address up, and writes its answer at its place.
 fn tell_all(catalog: &IndexedCatalog<'static>, addrs: &[u64], out: &mut [CatalogTold])
     requires { length out.old ≡ length addrs.now }
     ensures { out.new ≡ map (told_at catalog.now) addrs.now }

@@ -47,7 +47,7 @@ pub struct CatalogEntry {
     pub name: &'static [u8],
 }
 
-/// Tells of the module of a number.
+/// Returns what is known of a module, by its number.
 fn tell_module(catalog: &Catalog<'static>, number: u64, out: &mut CatalogModule) -> u32
     ensures { TellsModule (module_of catalog.now number) result out.old out.new }
 {
@@ -62,7 +62,7 @@ fn tell_module(catalog: &Catalog<'static>, number: u64, out: &mut CatalogModule)
     DONE
 }
 
-/// Tells of the region at a place in a module.
+/// Returns the region at a place in a module.
 fn tell_region(
     catalog: &Catalog<'static>,
     number: u64,
@@ -92,7 +92,7 @@ fn tell_region(
     DONE
 }
 
-/// Tells of the symbol at a place in a module.
+/// Returns the symbol at a place in a module.
 fn tell_symbol(catalog: &Catalog<'static>, number: u64, place: usize, out: &mut CatalogEntry) -> u32
     ensures { TellsSymbol (symbol_at_place catalog.now number place) result out.old out.new }
 {
@@ -126,7 +126,7 @@ fn named_from(symbols: &[Symbol<'static>], name: &[u8], from: usize) -> Option<u
     Some(from + place)
 }
 
-/// Tells of the place of the first symbol of a module from a place on that has this name.
+/// Returns the place of the first symbol of a name in a module, from a place on.
 fn tell_named(
     catalog: &Catalog<'static>,
     number: u64,
@@ -162,7 +162,7 @@ pub extern "C" fn latchsym_catalog_modules(catalog: &mut Handle, out: &mut u64) 
     })
 }
 
-/// Tells of the module of a number: 0 is the kernel itself.
+/// Writes the module of a number; 0 is the kernel itself.
 #[unsafe(no_mangle)]
 pub extern "C" fn latchsym_catalog_module(
     catalog: &mut Handle,
@@ -177,7 +177,7 @@ pub extern "C" fn latchsym_catalog_module(
     with_catalog!(catalog, |open| tell_module(open.catalog(), number, out))
 }
 
-/// Tells of a region of a module.
+/// Writes a region of a module.
 #[unsafe(no_mangle)]
 pub extern "C" fn latchsym_catalog_region(
     catalog: &mut Handle,
@@ -197,7 +197,7 @@ pub extern "C" fn latchsym_catalog_region(
     )
 }
 
-/// Tells of a symbol of a module.
+/// Writes a symbol of a module.
 #[unsafe(no_mangle)]
 pub extern "C" fn latchsym_catalog_symbol(
     catalog: &mut Handle,
@@ -216,7 +216,7 @@ pub extern "C" fn latchsym_catalog_symbol(
     )
 }
 
-/// Tells the place of a module's next symbol that has a name.
+/// Writes the place of a module's next symbol of a name.
 #[unsafe(no_mangle)]
 pub extern "C" fn latchsym_catalog_place_of_name_nonnull(
     catalog: &mut Handle,
@@ -236,7 +236,7 @@ pub extern "C" fn latchsym_catalog_place_of_name_nonnull(
     )
 }
 
-/// Tells of the module and the place of the symbol at a place among those of a name.
+/// Returns the module and the place of the n-th symbol of a name.
 fn tell_place_of(
     alloc: Global,
     catalog: &mut OpenCatalog,
@@ -261,7 +261,7 @@ fn tell_place_of(
     }
 }
 
-/// Tells where the symbol at a place is among those of all modules that have a name. The first call
+/// Writes the module and the place of the n-th symbol of a name in all modules. The first call
 /// sorts the symbols of the catalog by name.
 #[unsafe(no_mangle)]
 pub extern "C" fn latchsym_catalog_find_name_nonnull(

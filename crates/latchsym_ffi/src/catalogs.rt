@@ -65,7 +65,7 @@ fn open_in(
     }
 }
 
-/// Opens the catalog of the listings that are given, and tells how many lines went where.
+/// Opens a catalog of the listings, and writes how many lines were used or skipped.
 #[unsafe(no_mangle)]
 pub extern "C" fn latchsym_catalog_open_nonnull(
     alloc: Global,
@@ -92,7 +92,7 @@ pub extern "C" fn latchsym_catalog_open_nonnull(
     open_in(alloc, listings, out, counts, bad_line)
 }
 
-/// Tells of an address, with the names where they lie in the listings.
+/// Looks an address up; the names are places in the listings.
 #[unsafe(no_mangle)]
 pub extern "C" fn latchsym_catalog_find(
     catalog: &mut Handle,
@@ -110,7 +110,7 @@ pub extern "C" fn latchsym_catalog_find(
     )
 }
 
-/// Tells of a return address: of the call before it, with the offset of the address itself.
+/// Looks a return address up: the call before it, with the offset of the address itself.
 #[unsafe(no_mangle)]
 pub extern "C" fn latchsym_catalog_find_caller(
     catalog: &mut Handle,
@@ -128,7 +128,7 @@ pub extern "C" fn latchsym_catalog_find_caller(
     )
 }
 
-/// Tells of several addresses, each in the room of its place.
+/// Looks several addresses up, and writes each answer at its place.
 #[unsafe(no_mangle)]
 pub extern "C" fn latchsym_catalog_find_many_nonnull(
     catalog: &mut Handle,
@@ -148,7 +148,7 @@ pub extern "C" fn latchsym_catalog_find_many_nonnull(
     with_catalog!(catalog, |open| tell_in_order(open.indexed(), addrs, out))
 }
 
-/// Tells of an address, and copies as much of the names as there is room for.
+/// Looks an address up, and copies as much of the names as there is room for.
 #[unsafe(no_mangle)]
 pub extern "C" fn latchsym_catalog_name_nonnull(
     catalog: &mut Handle,

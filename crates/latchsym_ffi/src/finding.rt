@@ -191,9 +191,9 @@ pub(crate) fn description_of(
     }
 }
 
-/// Tells of what a search found, with the places of the names in the listings: DONE with a symbol,
-/// NO_SYMBOL if no symbol of its region is at or below the address, and NOTHING, with all
-/// numbers 0, if it lies in no region.
+/// Writes what a search found, with the names as places in the listings: DONE with a symbol,
+/// NO_SYMBOL if no symbol of its region is at or below the address, and NOTHING, with all numbers
+/// 0, if it lies in no region.
 pub(crate) fn name_places(
     catalog: &Catalog<'static>,
     seen: Option<RegionAndSymbol<'_>>,
@@ -212,7 +212,7 @@ pub(crate) fn name_places(
     told.code
 }
 
-/// Tells of what was seen, with as much of the names as there is room for.
+/// Writes what was found, with as much of the names as there is room for.
 pub(crate) fn copy_names(
     catalog: &Catalog<'static>,
     seen: Option<RegionAndSymbol<'_>>,

@@ -17,7 +17,7 @@ use crate::finding::{CatalogSymbol, Taken, name_places, seek_as};
 use crate::handles::Handle;
 use follower::{Follower, Moment, NotShown, SharedCatalog};
 
-/// Shows a catalog, and tells the generation of its update.
+/// Shows a catalog, and writes the generation of its update.
 fn show(
     follower: &mut Follower<'static>,
     catalog: &SharedCatalog<'static>,
@@ -92,7 +92,7 @@ pub extern "C" fn latchsym_follower_show(
     result
 }
 
-/// Tells of an address, looked up so, by the catalog that is current at a moment.
+/// Looks an address up, or the call before it, in the catalog that is current at a moment.
 #[inline(always)]
 fn find_at(
     follower: &mut Handle,
@@ -113,7 +113,7 @@ fn find_at(
     })
 }
 
-/// Tells of an address by the catalog that is current at a generation.
+/// Looks an address up in the catalog that is current at a generation.
 #[unsafe(no_mangle)]
 pub extern "C" fn latchsym_follower_find(
     follower: &mut Handle,
@@ -133,7 +133,7 @@ pub extern "C" fn latchsym_follower_find(
     )
 }
 
-/// Tells of a return address by the catalog that is current at a generation.
+/// Looks a return address up in the catalog that is current at a generation.
 #[unsafe(no_mangle)]
 pub extern "C" fn latchsym_follower_find_caller(
     follower: &mut Handle,
@@ -153,7 +153,7 @@ pub extern "C" fn latchsym_follower_find_caller(
     )
 }
 
-/// Tells of an address by the catalog that is current at a stamp.
+/// Looks an address up in the catalog that is current at a stamp.
 #[unsafe(no_mangle)]
 pub extern "C" fn latchsym_follower_find_since(
     follower: &mut Handle,
@@ -167,7 +167,7 @@ pub extern "C" fn latchsym_follower_find_since(
     find_at(follower, Moment::Stamp(at), Taken::AsItIs, addr, out)
 }
 
-/// Tells of a return address by the catalog that is current at a stamp.
+/// Looks a return address up in the catalog that is current at a stamp.
 #[unsafe(no_mangle)]
 pub extern "C" fn latchsym_follower_find_caller_since(
     follower: &mut Handle,
@@ -181,7 +181,7 @@ pub extern "C" fn latchsym_follower_find_caller_since(
     find_at(follower, Moment::Stamp(at), Taken::AsReturn, addr, out)
 }
 
-/// Tells the tag of a catalog that is gone, or that none is.
+/// Writes the tag of a catalog that is gone; NOTHING if none is.
 fn tell_tag(gone: Option<u64>, tag: &mut u64) -> u32
     ensures { TellsTag gone result tag.old tag.new }
 {
@@ -194,14 +194,14 @@ fn tell_tag(gone: Option<u64>, tag: &mut u64) -> u32
     }
 }
 
-/// Forgets the oldest catalog, if the next one was shown at or before a moment, and tells its tag.
+/// Forgets the oldest catalog if the next one was shown at or before a moment, and writes its tag.
 fn forget_at(follower: &mut Handle, moment: Moment, tag: &mut u64) -> u32
     ensures { ForgetsBy moment follower.old follower.new result tag.old tag.new }
 {
     with_follower!(follower, |open| tell_tag(open.forget(moment), tag))
 }
 
-/// Forgets the oldest catalog, if the next one was shown at or before a generation, and tells its
+/// Forgets the oldest catalog if the next one was shown at or before a generation, and writes its
 /// tag.
 #[unsafe(no_mangle)]
 pub extern "C" fn latchsym_follower_forget(
@@ -214,8 +214,7 @@ pub extern "C" fn latchsym_follower_forget(
     forget_at(follower, Moment::Generation(generation), tag)
 }
 
-/// Forgets the oldest catalog, if the next one was shown at or before a stamp, and tells its
-/// tag.
+/// Forgets the oldest catalog if the next one was shown at or before a stamp, and writes its tag.
 #[unsafe(no_mangle)]
 pub extern "C" fn latchsym_follower_forget_since(
     follower: &mut Handle,
@@ -227,7 +226,7 @@ pub extern "C" fn latchsym_follower_forget_since(
     forget_at(follower, Moment::Stamp(at), tag)
 }
 
-/// Drops the oldest catalog, and tells its tag; closes the handle if there is none.
+/// Drops the oldest catalog and writes its tag; closes the handle if there is none.
 #[unsafe(no_mangle)]
 pub extern "C" fn latchsym_follower_close(follower: &mut Handle, tag: &mut u64) -> u32
     ensures dropped { result ≡ 0 → FollowerGoes (λ f f'. DropsOldest f.catalogs f'.catalogs

@@ -13,7 +13,7 @@
 //! ```
 //!
 //! The answers are numbers, of which each means one thing (`Answer`): 0 is success, those below 20
-//! are the refusals that the program prints, and 101 tells of a handle that does not hold what is
+//! are the refusals that the program prints, and 101 is for a handle that does not hold what is
 //! wanted. include/latchsym.h documents each call.
 #![tactic(auto)]
 

@@ -67,7 +67,7 @@ impl CatalogListings {
         bounds_if_any(self.start, self.end)
     }
 
-    /// The listings that it has. Each line of that of regions has to be understood.
+    /// The listings that it has. Each line of the listing of regions must be understood.
     pub(crate) fn listings(&self, alloc: Global) -> Result<Listings<'static>, LineFault>
         ensures listings { GivesInGrammar listed_in result (listings_of (texts_in self.now)) }
         ensures fit { IfOk result

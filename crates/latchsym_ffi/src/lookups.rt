@@ -62,7 +62,7 @@ fn code_of(item: Option<Item>) -> u32
     }
 }
 
-/// The lookup of a writer, told with its number.
+/// The lookup of a writer, written with its number.
 fn find(writer: &mut Writer<HalfOpen>, addr: u64, out: &mut TableAnswer) -> u32
     ensures { (x : Option Item) × Finds half_open writer.old addr writer.new (x, out.new.generation)
         × (result ≡ found_code x) × (out.new ≡ answer_from x out.new.generation) }

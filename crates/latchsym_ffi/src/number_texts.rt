@@ -12,7 +12,7 @@ pub struct Place {
     pub bytes: &'static [u8],
 }
 
-/// Tells the place of a number's text, with the 0 at its end.
+/// Writes the place of a number's text, with the 0 at its end.
 #[unsafe(no_mangle)]
 pub extern "C" fn latchsym_place_of_text(number: u32, out: &mut Place)
     ensures { out.new.bytes.now ≡ text_with number ++ 0 ∷ [] }

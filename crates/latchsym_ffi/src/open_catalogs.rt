@@ -29,7 +29,7 @@ impl Model for OpenCatalog {
 }
 
 impl OpenCatalog {
-    /// Puts a catalog where handles can share it.
+    /// Makes a catalog one that handles can share.
     pub(crate) fn new(
         alloc: Global,
         catalog: IndexedCatalog<'static>,
@@ -73,8 +73,8 @@ impl OpenCatalog {
         self.indexed().catalog()
     }
 
-    /// The number of the module and the place in it of the symbol at a place among those of this
-    /// name, in the order of the catalog, if there is one. The first call sorts the symbols by name.
+    /// The n-th symbol of a name in the order of the catalog, if there is one: the number of its
+    /// module, and its place there. The first call sorts the symbols by name.
     pub(crate) fn place_of(
         &mut self,
         alloc: Global,

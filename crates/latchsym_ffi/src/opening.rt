@@ -17,9 +17,8 @@ use order_laws::Refusal;
 use std::alloc::{AllocError, AllocFailed, Global};
 use texts::LineFault;
 
-/// How many lines of each listing went where: the accepted ones, and the others by the cause for
-/// which they were skipped, as `latchsym lookup` prints them; and the number of what is noted of
-/// each.
+/// How many lines of each listing were used, and how many were skipped for each cause, as `latchsym
+/// lookup` prints them; and the number of each listing's note.
 #[repr(C)]
 #[derive(Clone, Copy, Drop)]
 pub struct CatalogCounts {
@@ -134,8 +133,8 @@ fn counts_of(opened: &OpenedCatalog) -> CatalogCounts
     }
 }
 
-/// Reads the listings, and builds the catalog of them, or of that of symbols alone if that of
-/// modules is not given. Mapping symbols are stray.
+/// Reads the listings and builds their catalog, from the symbols alone if no listing of modules is
+/// given. Mapping symbols are stray.
 fn catalog_of(
     alloc: Global,
     given: &CatalogListings,

@@ -1,4 +1,4 @@
-//! What C calls, to replace the items of a table by those of a catalog, or by any others.
+//! What C calls to replace the items of a table by the regions of a catalog, or by any others.
 
 ghost use Rattle.std.specs.Prelude.{◌≡◌, ◌≢◌, length, map};
 ghost use Rattle.order_laws.specs.Orders.{half_open};
@@ -51,7 +51,7 @@ fn tell_items(catalog: &IndexedCatalog<'static>, out: &mut [TableItem]) -> u32
 }
 
 /// Writes an item for each region of the catalog, by rising first address, with the number of its
-/// module as the tag. There have to be as many rooms as latchsym_catalog_sizes tells regions.
+/// module as the tag. The array has the number of regions that latchsym_catalog_sizes gives.
 #[unsafe(no_mangle)]
 pub extern "C" fn latchsym_catalog_items_nonnull(catalog: &mut Handle, out: &mut [TableItem]) -> u32
     ensures stays { Stays catalog.old catalog.new }

@@ -137,7 +137,7 @@ pub extern "C" fn latchsym_writer_begin_batch_nonnull(
     with_writer!(writer, |inner| begin_batch(alloc, inner, erase, insert))
 }
 
-/// Makes one step, and tells which by its number.
+/// Makes one step, and returns its number.
 fn step(writer: &mut Writer<HalfOpen>) -> u32
     ensures { (d : Option Did) × (result ≡ did_code d) × Steps writer.old writer.new d }
 {
@@ -148,8 +148,8 @@ fn step(writer: &mut Writer<HalfOpen>) -> u32
     }
 }
 
-/// Makes one step of the pending update, and tells whether it was a flip of the sequence, a store
-/// of another word, or none since the update is at its end.
+/// Makes one step of the pending update, and returns whether it was a flip of the sequence, a store
+/// of another word, or none since the update is complete.
 #[unsafe(no_mangle)]
 pub extern "C" fn latchsym_writer_step(writer: &mut Handle) -> u32
     ensures step { WriterGoes
@@ -159,8 +159,7 @@ pub extern "C" fn latchsym_writer_step(writer: &mut Handle) -> u32
     with_writer!(writer, |inner| step(inner))
 }
 
-/// Makes the steps that are left of the pending update, if there is one, and tells the new
-/// generation.
+/// Makes the remaining steps of the pending update, if there is one, and writes the new generation.
 #[unsafe(no_mangle)]
 pub extern "C" fn latchsym_writer_finish(writer: &mut Handle, generation: &mut u64) -> u32
     ensures finished { WriterGoes

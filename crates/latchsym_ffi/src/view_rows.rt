@@ -21,7 +21,7 @@ pub struct ViewSymbol {
     pub name: &'static [u8],
 }
 
-/// A region, its module, and all symbols of this module by rising address, those of one address by
+/// A region, its module, and all symbols of this module by rising address, at one address by
 /// falling place; and their addresses.
 #[repr(C)]
 #[derive(Clone, Copy, Drop)]
@@ -35,8 +35,7 @@ pub struct ViewRegion<'s> {
     ghost rising: { IsNonDecreasingBy (λ a. a) addresses.now },
 }
 
-/// The symbols of a module by rising address, those of one address by falling place; and their
-/// addresses.
+/// The symbols of a module by rising address, at one address by falling place; and their addresses.
 #[derive(Clone, Copy, Drop)]
 pub struct ModuleRows<'s> {
     pub symbols: &'s [ViewSymbol],

@@ -28,7 +28,7 @@ pub struct ViewSizes {
     pub symbols: usize,
 }
 
-/// Tells how many rows a view of the catalog has.
+/// Writes how many rows a view of the catalog has.
 fn tell_sizes(catalog: &Catalog<'static>, out: &mut ViewSizes) -> u32
     ensures { TellsSizes catalog.now result out.old out.new }
 {
@@ -82,7 +82,7 @@ fn flatten_into<'c, 's>(
     DONE
 }
 
-/// Tells how many rows a view of the catalog has.
+/// Writes how many rows a view of the catalog has.
 #[unsafe(no_mangle)]
 pub extern "C" fn latchsym_catalog_sizes(catalog: &mut Handle, out: &mut ViewSizes) -> u32
     ensures stays { Stays catalog.old catalog.new }
@@ -118,8 +118,8 @@ pub extern "C" fn latchsym_catalog_flatten_nonnull<'c, 's>(
     )
 }
 
-/// Tells of an address, with the names where they lie in the listings. Any number of threads may
-/// call it with one view.
+/// Looks an address up; the names are places in the listings. Any number of threads may call it
+/// with one view.
 #[unsafe(no_mangle)]
 pub extern "C" fn latchsym_view_find(view: &CatalogView, addr: u64, out: &mut CatalogSymbol) -> u32
     ensures { (c : CatalogEntries) → IsViewOf c view.now.regions.now
@@ -128,7 +128,7 @@ pub extern "C" fn latchsym_view_find(view: &CatalogView, addr: u64, out: &mut Ca
     tell(seek(view, addr), out)
 }
 
-/// Tells of a return address: of the call before it, with the offset of the address itself.
+/// Looks a return address up: the call before it, with the offset of the address itself.
 #[unsafe(no_mangle)]
 pub extern "C" fn latchsym_view_find_caller(
     view: &CatalogView<'_, '_>,

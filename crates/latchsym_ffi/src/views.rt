@@ -138,7 +138,7 @@ pub(crate) fn seek<'c, 's>(view: &CatalogView<'c, 's>, addr: u64) -> Option<Seen
     })
 }
 
-/// The symbol as it is told of the address after the one that was looked up.
+/// The symbol as it is written for the address after the one that was looked up.
 fn farther<'s>(found: FoundRow<'s>) -> FoundRow<'s>
     requires { found.offset + 1 < 2 ^ 64 }
     ensures { shown_row result ≡ farther 1 (shown_row found.entry) }
@@ -165,7 +165,7 @@ pub(crate) fn seek_call<'c, 's>(view: &CatalogView<'c, 's>, addr: u64) -> Option
     Some(SeenRow { region, found })
 }
 
-/// Tells of what was seen, as a search of the catalog does.
+/// Writes what was found, as a search of the catalog does.
 pub(crate) fn tell(seen: Option<SeenRow<'_, '_>>, out: &mut CatalogSymbol) -> u32
     ensures code { result ≡ known_code (option_map known_row seen.entry) }
     ensures symbol { (c : CatalogEntries) → IfSome seen.entry (λ s. IsRegionRow c s.region.now)

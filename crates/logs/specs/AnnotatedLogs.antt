@@ -89,7 +89,7 @@ fewest narrow = if narrow then 8 else 11
 abbrev pub is_address_byte : ℕ → Bool
 is_address_byte b = is_digit b 16 || digit_value b == 33
 
--- a word goes on at a place, where none does at an earlier one
+-- the first place at which a word goes on
 abbrev pub is_begun : List ℕ → ℕ → ℕ → Bool
 is_begun line from start = nat_lt from start && is_word_byte (slice_index_or line (start - 1) 0)
 

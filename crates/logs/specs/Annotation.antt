@@ -70,7 +70,7 @@ IsAnnotationOf answer log found text =
 abbrev pub Adds : List ℕ → List ℕ → (List ℕ → Type 0) → Type 0
 Adds out out' P = (text : List ℕ) × (out' ≡ out ++ text) × P text
 
--- the fault that a failed write is with this error: nobody reads any more exactly where it says so
+-- the fault of a write that failed with this error: nobody reads any more exactly if it says so
 abbrev pub IsWriteFault : Option Error → LogFault → Type 0
 IsWriteFault error fault.Write = IsNoBrokenPipe error
 IsWriteFault error fault.Closed = IsBrokenPipe error

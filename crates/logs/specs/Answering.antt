@@ -6,7 +6,7 @@ use Rattle.std.specs.Prelude.{ℕ, Bool, List, Option}
 pub record Answering : Type 0 where
   -- the log is of a 32-bit kernel
   pub is_narrow : Bool
-  -- what is inserted for an address, if anything is, of which the place in its line asks a reading
+  -- what is inserted for an address, if anything is, if its place in the line asks for this reading
   pub text : Bool → ℕ → Option (List ℕ)
   -- a reading's symbol, or another one at its address, has this name
   pub is_alias : Bool → ℕ → List ℕ → Bool

@@ -1,4 +1,5 @@
--- What a log says itself of where its kernel lay: `Kernel Offset: 0x1a600000 from 0xffffffff81000000`.
+-- What a log says itself of the place of its kernel: `Kernel Offset: 0x1a600000 from
+-- 0xffffffff81000000`.
 use Rattle.std.specs.Prelude.{ℕ, ◌+◌, ◌%◌, ◌^◌, List, [], ◌∷◌, drop, take, codes, nat_eq}
 use Rattle.std.specs.Prelude.{Option, None, option_and_then, if◌then◌else◌}
 use Rattle.std.specs.List.{starts_with}

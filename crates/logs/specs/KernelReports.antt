@@ -1,5 +1,5 @@
--- What a log says itself of the kernel that wrote it: where it lay, and how long functions of it
--- are, as in `do_one+0x8/0x1f00`.
+-- What a log says itself of the kernel that wrote it: its place, and sizes of its functions, as in
+-- `do_one+0x8/0x1f00`.
 use Rattle.std.specs.Prelude.{ℕ, ◌+◌, ◌-◌, ◌^◌, ◌==◌, ◌&&◌, min, Bool, true, false}
 use Rattle.std.specs.Prelude.{if◌then◌else◌, List, [], ◌∷◌, length, drop, take, codes, nat_eq, nat_le, nat_lt}
 use Rattle.std.specs.Prelude.{Option, None, option_map}
@@ -59,7 +59,7 @@ one_more n = min (n + 1) (2 ^ 64 - 1)
 abbrev pub nothing_said : KernelReport
 nothing_said = record { offset = None; functions = 0; resized = 0 }
 
--- a function more that the listing has, of the same size or of another one
+-- one more function that the listing has, of this size or of another one
 abbrev pub with_size : Bool → KernelReport → KernelReport
 with_size true r = record r { functions = one_more r.functions }
 with_size false r =
@@ -82,7 +82,7 @@ with_places answer line r (place ∷ more) =
 abbrev pub with_functions : Answering → List ℕ → KernelReport → KernelReport
 with_functions answer line r = with_places answer line r (places (is_byte 43) line)
 
--- What a line says more: where the kernel lay, if no line said so before, and its functions.
+-- What a line says more: the place of the kernel, if no line gave it before, and its functions.
 abbrev pub reported : Answering → List ℕ → KernelReport → KernelReport
 reported answer line r =
     with_functions answer line

@@ -12,9 +12,9 @@ pub mod TakenWords
 pub mod SaidNames
 -- which reading of an address the log names, and what is inserted
 pub mod OwnNames
--- what a log says itself of where its kernel lay
+-- what a log says itself of the place of its kernel
 pub mod KernelOffsets
--- what it says of the kernel that wrote it: where it lay, and the sizes of its functions
+-- what it says of the kernel that wrote it: its place, and the sizes of its functions
 pub mod KernelReports
 -- the names that a log has itself, and how many there are
 pub mod LogNames

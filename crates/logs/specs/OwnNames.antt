@@ -33,8 +33,8 @@ abbrev pub says_text : List ℕ → Option (List ℕ) → Bool
 says_text rest None = false
 says_text rest (Some text) = says_itself rest text
 
--- Which readings of an address have the name that the log says, if it says one: that of their
--- symbol, or of another one at its address.
+-- Which readings of an address have the name that the log says, if it says one: their symbol's, or
+-- another symbol's at its address.
 abbrev pub named_readings : Answering → Option NameAndDistance → ℕ → NamedReadings
 named_readings answer None value = record { as_caller = false; as_it_is = false }
 named_readings answer (Some said) value = record {
@@ -58,9 +58,9 @@ says_place answer said value =
 abbrev pub text_for : Answering → AddressWord → Option (List ℕ)
 text_for answer t = if t.is_foreign then None else answer.text t.is_caller t.value
 
--- ---- how it is taken, where the listing or the log itself decides
+-- ---- how it is taken, if the listing or the log itself decides
 
--- Of both readings the one that alone has the name, else that of the place.
+-- The one of both readings that alone has the name, else the reading of the place.
 abbrev pub chosen : Bool → Bool → Bool → Bool
 chosen true false by_place = true
 chosen false true by_place = false

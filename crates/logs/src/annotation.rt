@@ -39,7 +39,7 @@ impl From<AllocError> for LogFault {
 #[derive(Drop)]
 pub struct Findings {
     pub names: LogNames,
-    /// Its first two bytes, which tell a packed one, or fewer of a shorter one.
+    /// Its first two bytes, by which a packed one is known, or fewer of a shorter one.
     pub head: Vec<u8>,
 }
 

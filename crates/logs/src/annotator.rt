@@ -46,7 +46,7 @@ pub struct Annotator {
 }
 
 impl Annotator {
-    /// That of the beginning of a log.
+    /// At the beginning of a log.
     pub fn new(alloc: Global) -> Annotator
         ensures held { held_in result ≡ first_held }
         ensures open { IsOpen result [] }

@@ -15,17 +15,17 @@ pub trait Answers {
     fn is_narrow(&self) -> bool
         ensures { result ≡ (answering self.now).is_narrow };
 
-    /// Makes ready what bytes of a log may ask for, unless they say nothing of the kernel that wrote
-    /// it. The answers stay the same.
+    /// Prepares what bytes of a log may ask for, unless they say nothing of the kernel that wrote it.
+    /// No answer changes.
     fn prepare(&mut self, is_silent: bool) -> Result<(), AllocError>
         ensures { answering self.new ≡ answering self.old };
 
-    /// The text that is inserted for an address, if one is, of which its place asks a reading.
+    /// The text that is inserted for an address, if one is, if its place asks for this reading.
     fn text_of(&self, is_caller: bool, addr: u64) -> Result<Option<Vec<u8>>, AllocError>
         ensures { IfOk result
             (λ o. option_map (λ v. v.items) o ≡ (answering self.now).text is_caller addr) };
 
-    /// Which readings have the name: that of their symbol, or of another one at its address.
+    /// Which readings have the name, as their symbol's or another symbol's at its address.
     fn named_readings(&self, addr: u64, name: &[u8]) -> NamedReadings
         ensures caller { result.as_caller ≡ (answering self.now).is_alias true addr name.now }
         ensures exact { result.as_it_is ≡ (answering self.now).is_alias false addr name.now };

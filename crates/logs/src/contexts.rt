@@ -25,7 +25,7 @@ impl LogContext {
     ghost use Rattle.std.specs.Prelude.{◌≡◌};
     ghost use Rattle.logs.specs.AnnotatedLogs.{first_held};
 
-    /// That of the beginning of a log.
+    /// At the beginning of a log.
     pub(crate) fn new() -> LogContext
         ensures { result ≡ first_held }
     {

@@ -1,4 +1,4 @@
-//! What a log says itself of where its kernel lay.
+//! What a log says itself of the place of its kernel.
 //!
 //! A kernel that was moved at boot prints in a panic how far it was moved, and from where:
 //!
@@ -17,7 +17,7 @@ use crate::places::{Kind, first_of};
 use memchr::memmem;
 use texts::hexadecimal;
 
-/// Where the kernel of a log lay.
+/// The place of a log's kernel.
 #[derive(Clone, Copy, Debug, PartialEq, Eq, Drop)]
 pub struct KernelOffset {
     /// By how many bytes it was moved.
@@ -46,7 +46,7 @@ pub fn kernel_offset_in(log: &[u8]) -> Option<KernelOffset>
     }
 }
 
-/// The same, sought byte by byte.
+/// This, sought byte by byte.
 #[tactic(auto, using(crate::proofs::KernelOffsetLemmas::said_here))]
 fn kernel_offset_apart(log: &[u8]) -> Option<KernelOffset>
     ensures { result ≡ kernel_offset_in log.now }
@@ -73,7 +73,7 @@ fn kernel_offset_at(text: &[u8]) -> Option<KernelOffset>
     from_at(offset, &digits[first_of(Kind::Hexadecimal, digits)..])
 }
 
-/// The same of the bytes after the offset.
+/// This of the bytes after the offset.
 fn from_at(offset: u64, text: &[u8]) -> Option<KernelOffset>
     ensures { result ≡ from_at offset text.now }
 {

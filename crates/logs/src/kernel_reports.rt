@@ -1,4 +1,4 @@
-//! What a log says itself of the kernel that wrote it: where it lay, and how long its functions are.
+//! What a log says itself of the kernel that wrote it: its place, and the sizes of its functions.
 //!
 //! ```text
 //! RIP: 0010:do_one+0x8/0x1f00        do_one has 0x1f00 bytes
@@ -39,11 +39,11 @@ impl<'a> Model for FunctionSize<'a> {
 /// What a log says of its kernel. Each count stays at the greatest `u64`.
 #[derive(Clone, Copy, Debug, PartialEq, Eq, Drop)]
 pub struct KernelReport {
-    /// Where it lay, by the first line that says so.
+    /// Its place, by the first line that gives it.
     pub offset: Option<KernelOffset>,
     /// The texts with the name and the size of a function that the listing has.
     pub functions: u64,
-    /// Those of which the listing has no function of that name and that size.
+    /// The functions that the listing has with other sizes only.
     pub resized: u64,
 }
 
@@ -66,7 +66,7 @@ impl KernelReport {
         self.resized >= 2
     }
 
-    /// One function more that the listing has, of the same size or of another one.
+    /// One more function that the listing has, of this size or of another one.
     fn with_size(self, is_same: bool) -> KernelReport
         ensures { result ≡ with_size is_same self }
     {
@@ -204,7 +204,7 @@ fn size_behind_digits(text: &[u8]) -> Option<u64>
     }
 }
 
-/// The size that the digits write which begin a text, unless it is that of a module's function.
+/// The size that the digits at the beginning of a text write, unless it is of a module's function.
 fn size_in(text: &[u8]) -> Option<u64>
     ensures { result ≡ size_in text.now }
 {

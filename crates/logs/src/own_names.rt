@@ -142,7 +142,7 @@ fn says_place<A: Answers>(
     }
 }
 
-/// Of both readings the one that alone has the name, or else that of the place.
+/// The one of both readings that alone has the name, or else the reading of the place.
 fn chosen(as_caller: bool, as_it_is: bool, by_place: bool) -> bool
     ensures { result ≡ chosen as_caller as_it_is by_place }
 {

@@ -120,7 +120,7 @@ fn last_of(kind: Kind, bytes: &[u8]) -> usize
     bytes.len()
 }
 
-/// The bytes without those of a kind that they end in.
+/// The bytes without the bytes of a kind at their end.
 pub(crate) fn without_end(kind: Kind, bytes: &[u8]) -> &[u8]
     ensures { result.now ≡ without_end kind bytes.now }
 {

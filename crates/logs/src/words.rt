@@ -11,7 +11,7 @@
 //!                        |--------------|==             the word, and the closers after it
 //! ```
 //!
-//! A word that is met after one of its bytes is none.
+//! A match that begins inside a word does not count.
 ghost use Rattle.std.specs.Prelude.{◌≡◌, ◌≤◌, ◌<◌, ◌+◌, ◌++◌, ◌∷◌, [], false, true, length, drop};
 ghost use Rattle.std.specs.Prelude.{nat_eq, slice_index_or};
 ghost use Rattle.std.specs.List.{starts_with};
@@ -22,7 +22,7 @@ ghost use Rattle.logs.specs.Words.{is_closer, is_word_byte, run_of, words_behind
 
 use texts::{digit_of, hexadecimal};
 
-/// Where a word begins and ends in its line.
+/// The beginning and the end of a word in its line.
 #[derive(Clone, Copy, Debug, Drop)]
 pub struct Word {
     pub start: usize,
@@ -91,7 +91,7 @@ pub(crate) fn next_candidate(narrow: bool, line: &[u8], at: usize) -> Option<Wor
     None
 }
 
-/// Whether a word goes on at a place, where none does at an earlier one.
+/// Whether a place is the first at which a word goes on.
 fn is_begun(line: &[u8], from: usize, start: usize) -> bool
     requires { start ≤ length line.now }
     ensures { result ≡ is_begun line.now from start }

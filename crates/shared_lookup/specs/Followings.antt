@@ -36,8 +36,8 @@ FollowLog c l from (ch ∷ rest) [] = ⊥
 FollowLog c l from (ch ∷ rest) (r ∷ more) =
     (n : ℕ) × (from ≤ n) × IsOutcomeBehind c l n ch r × FollowLog c l (count_after n r) rest more
 
--- a change was made beside a reader, at a log that begins with what it knew before, and is among
--- what it knows after; it came to this there, if it is named how the ledger was opened
+-- the change was made when the log extended what the reader knew before; the reader knows of it
+-- after; and its outcome is the one at that log, if it is known how the ledger was opened
 pub record IsMadeBeside (c : CatalogEntries) (opened : Option LedgerState) (ch : Change)
     (known known' : List Update) (r : ChangeOutcome) : Type 0 where
   pub before : List Update

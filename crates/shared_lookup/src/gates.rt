@@ -1,4 +1,4 @@
-//! Who is told how far the threads are.
+//! What learns how far the threads are.
 
 /// A point that a thread has come to. Writers, readers and places count from 0.
 #[derive(Clone, Copy, Debug, PartialEq, Eq, Drop)]
@@ -26,7 +26,7 @@ pub enum Point {
     },
 }
 
-/// Is told of each point by the thread that has come to it, which goes on when the call returns.
+/// Is called at each point by the thread that has come to it, which goes on when the call returns.
 pub trait Gate {
     fn tell(&self, p: Point);
 }

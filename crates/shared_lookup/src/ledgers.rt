@@ -70,8 +70,8 @@ impl Ledger {
         Ok((ledger, readers))
     }
 
-    /// Makes one whole update and adds it to the log. The gate is told of each step as a step of
-    /// the writer `who`. Returns the new generation.
+    /// Makes one whole update and adds it to the log. Calls the gate at each step, as a step of the
+    /// writer `who`. Returns the new generation.
     ///
     /// Room in the log is made first, and if it is refused the answer is
     /// [`Refusal::OutOfMemory`]. Else the update is refused by [`Refusal::BadItem`],

@@ -13,7 +13,7 @@ use latch_table::{Did, InHand, Writer};
 use order_laws::{HalfOpen, Item, Refusal};
 use table_updates::Update;
 
-/// Makes the steps that are left, and tells the gate of each.
+/// Makes the remaining steps, and calls the gate at each.
 fn step_through<G: Gate>(pending: &mut InHand<'_, HalfOpen>, g: &G, writer: u32, sequence: u64)
     ensures same_reference { pending.new.writer.ghost_name ≡ pending.old.writer.ghost_name }
     ensures way { OnTheWay pending.old.writer.now pending.new.writer.now }
@@ -51,7 +51,7 @@ fn carry_out<G: Gate>(
     Ok(pending.finish())
 }
 
-/// Makes one whole update, tells the gate of each step, and returns the new generation.
+/// Makes one whole update, calls the gate at each step, and returns the new generation.
 #[tactic(auto, using(crate::proofs::LedgerLemmas::rests_after))]
 pub(crate) fn apply<G: Gate>(
     writer: &mut Writer<HalfOpen>,

@@ -201,7 +201,7 @@ fn layout_for(c: &Catalog<'_>) -> Result<Layout, Refusal>
 /// Each change is one [`SharedWriter::change`], each key one
 /// [`Reader::look`](latch_table::Reader::look), and if this gives no answer a
 /// [`Reader::find`](latch_table::Reader::find). Writers, readers and places are numbered from 0.
-/// The gate is told of each step of each update, and of each place before its lookup and after it.
+/// The gate is called at each step of each update, and at each place before and after its lookup.
 /// If no thread can be made for a list, its changes are refused by [`Refusal::OutOfMemory`], or
 /// it ends at its first key; so does a list of keys end without memory for an answer.
 ///

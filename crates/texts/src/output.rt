@@ -156,7 +156,7 @@ impl<W: Write> Output<W> {
         ensures { Delivers W.contents self.old self.new bytes.now }
     {
         self.put_past(bytes);
-        self.flush();
+        self.flush()
     }
 
     /// Keeps nothing back, and lets the writer keep nothing back.

@@ -42,7 +42,7 @@ class Symbol(NamedTuple):
 
 
 class Answer(NamedTuple):
-    """What `Catalog.find_many` tells of one address."""
+    """The answer of `Catalog.find_many` for one address."""
 
     module_number: int
     offset: int
@@ -187,7 +187,7 @@ class Answers(Sequence[Answer]):
 
 
 class Factors(NamedTuple):
-    """What `Catalog.factorize` tells of many addresses."""
+    """The answer of `Catalog.factorize` for many addresses."""
 
     codes: array[int]
     """For each address the place in `symbols` of what it was found in."""
@@ -212,7 +212,7 @@ def symbol_of(number: int, found: it.Symbol, modules: dict[int, str]) -> Symbol 
 
 
 def symbol_by(call: it.Call, *words: Any, modules: dict[int, str]) -> Symbol | None:
-    """What a search tells into room of its own."""
+    """The answer of a search, in memory of its own."""
     found = it.no_symbol()
     return symbol_of(call(*words, found), found, modules)
 

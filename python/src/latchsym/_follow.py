@@ -127,7 +127,7 @@ class Follower(Closing):
         self._close_each(lib.latchsym_follower_close)
 
     def _close_each(self, call: it.Call, *words: int) -> None:
-        """Closes the listings whose tags the call tells, one at a time, until it tells of none."""
+        """Closes the listings whose tags the call returns, one at a time, until it returns none."""
         tag = c_uint64()
         with self._lock:
             while call(self._handle, *words, tag) == it.DONE:
