@@ -3,6 +3,7 @@ use Rattle.std.specs.Prelude.{ℕ, ◌+◌, ◌-◌, ◌^◌, Bool, ◌&&◌, tr
 use Rattle.std.specs.Prelude.{if◌then◌else◌}
 use Rattle.std.specs.Option.{option_map_or}
 use Rattle.catalog_engines.specs.declared.address_texts.AddressForm.{AddressForm}
+use Rattle.catalog_engines.specs.declared.address_texts.TheConstants.{NO_ADDRESS}
 use Rattle.catalog_engines.specs.declared.asked_names.Distance.{Distance}
 use Rattle.std.specs.Prelude.{List, [], ◌++◌, codes, flat_map, Option, Some, None}
 use Rattle.std.specs.List.{list_any}
@@ -76,7 +77,7 @@ told_lines form word a symbols =
 
 -- `NAME -`
 abbrev pub no_address : List ℕ → List ℕ
-no_address word = word ++ codes " -\n"
+no_address word = word ++ NO_ADDRESS.now
 
 -- the module that is asked for, and nothing if that is the kernel itself or none is named
 abbrev pub asked_member : Option (List ℕ) → List ℕ

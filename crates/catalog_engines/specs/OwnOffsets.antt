@@ -1,5 +1,5 @@
 -- A log that is annotated by the offset of its kernel, which it says itself.
-use Rattle.std.specs.Prelude.{◌≡◌, ◌⊎◌, ◌++◌, ◌+◌, ◌-◌, ◌%◌, ◌^◌, ◌==◌, ℕ, List, [], ◌∷◌, codes, if◌then◌else◌}
+use Rattle.std.specs.Prelude.{◌≡◌, ◌⊎◌, ◌++◌, ◌+◌, ◌-◌, ◌%◌, ◌^◌, ◌==◌, ℕ, List, [], ◌∷◌, if◌then◌else◌}
 use Rattle.std.specs.Prelude.{Option, Some, None, Result, Ok, Err, IfSome}
 use Rattle.texts.specs.Counted.{failures_of}
 use Rattle.texts.specs.Lines.{lines_of}
@@ -24,6 +24,8 @@ use Rattle.catalog_engines.specs.LogAnswers.{answered_by}
 use Rattle.catalog_engines.specs.declared.annotations.Annotate.{Annotate}
 use Rattle.catalog_engines.specs.declared.own_offsets.NoOffset.{NoOffset}
 use Rattle.catalog_engines.specs.declared.own_offsets.NoOffset.TheVariants.{NoBase, Unsaid}
+use Rattle.catalog_engines.specs.declared.own_offsets.TheConstants.{NO_BASE_LISTED}
+use Rattle.catalog_engines.specs.declared.own_offsets.TheConstants.{NO_OFFSET_SAID, PROGRAM}
 use Rattle.catalog_engines.specs.declared.sources.Sources.{Sources}
 
 -- ---- the offset
@@ -46,12 +48,14 @@ offset_of (Some k) base = offset_by base k
 abbrev pub own_offset : List ℕ → List ℕ → Result ℕ NoOffset
 own_offset log kallsyms = offset_of (kernel_offset_in log) (kernel_base (lines_of kallsyms))
 
+-- what is wrong with a file
+abbrev pub failure_line : List ℕ → List ℕ → List ℕ
+failure_line file message = PROGRAM.now ++ file ++ message
+
 -- the line that says why there is none, of these files
 abbrev pub no_offset_line : Sources → Annotate → NoOffset → List ℕ
-no_offset_line q a Unsaid =
-    codes "latchsym: " ++ a.log.now ++ codes ": does not say where its kernel lay\n"
-no_offset_line q a NoBase =
-    codes "latchsym: " ++ q.files.kallsyms.now ++ codes ": has no symbol _text or _stext\n"
+no_offset_line q a Unsaid = failure_line a.log.now NO_OFFSET_SAID.now
+no_offset_line q a NoBase = failure_line q.files.kallsyms.now NO_BASE_LISTED.now
 
 -- ---- what is asked
 

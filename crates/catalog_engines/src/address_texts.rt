@@ -18,6 +18,8 @@ use command_io::{put_address_member, put_named_module, put_offset_members, put_s
 use std::io::Write;
 use texts::Output;
 
+const NO_ADDRESS: &[u8] = b" -\n";
+
 /// How the addresses of names are written.
 #[derive(Clone, Copy, Debug, Drop)]
 pub struct AddressForm {
@@ -133,7 +135,7 @@ fn put_no_address<W: Write>(writer: &mut Output<W>, word: &[u8])
     ensures { Says W.contents writer.old writer.new (no_address word.now) }
 {
     writer.put(word);
-    writer.put(b" -\n");
+    writer.put(NO_ADDRESS);
 }
 
 /// Writes the object of what is asked for, without an address.

@@ -11,13 +11,14 @@
 //! ```
 //!
 //! Modules are moved on their own, so the modules of such a listing are left out.
-ghost use Rattle.std.specs.Prelude.{◌≡◌, ◌++◌, IfOk, codes};
+ghost use Rattle.std.specs.Prelude.{◌≡◌, IfOk};
 ghost use Rattle.texts.specs.Counted.{device_of};
 ghost use Rattle.texts.specs.Output.{Says};
 ghost use Rattle.command_io.specs.OpenedCatalogs.{known_given, listing_failures, texts_in};
 ghost use Rattle.catalog_engines.specs.OwnOffsets.{OpensAndWrites, WritesByOffset};
 ghost use Rattle.catalog_engines.specs.OwnOffsets.{WritesByOwnOffset, all_failures, asked_by};
-ghost use Rattle.catalog_engines.specs.OwnOffsets.{by_offset, no_offset_line, own_offset};
+ghost use Rattle.catalog_engines.specs.OwnOffsets.{by_offset, failure_line, no_offset_line};
+ghost use Rattle.catalog_engines.specs.OwnOffsets.{own_offset};
 
 use crate::annotations::{Annotate, LOG_PLACE, kernel_if_said, stopped, tell_end};
 use crate::log_answers::CatalogAnswers;
@@ -80,6 +81,12 @@ fn write_by_own_offset<E: Write, W: Write>(
     open_and_write(alloc, &asked, log, sources, job, rule, errors, writer)
 }
 
+const PROGRAM: &[u8] = b"latchsym: ";
+
+const NO_OFFSET_SAID: &[u8] = b": does not say where its kernel lay\n";
+
+const NO_BASE_LISTED: &[u8] = b": has no symbol _text or _stext\n";
+
 /// Why a log cannot be annotated by the offset that it says itself.
 #[derive(Clone, Copy, Debug, PartialEq, Eq, Drop)]
 pub enum NoOffset {
@@ -101,22 +108,17 @@ fn tell_no_offset<E: Write>(
         (no_offset_line sources.now job.now why) }
 {
     match why {
-        NoOffset::Unsaid => put_failure(errors, job.log, b": does not say where its kernel lay\n"),
-        NoOffset::NoBase => put_failure(
-            errors,
-            sources.files.kallsyms,
-            b": has no symbol _text or _stext\n",
-        ),
+        NoOffset::Unsaid => put_failure(errors, job.log, NO_OFFSET_SAID),
+        NoOffset::NoBase => put_failure(errors, sources.files.kallsyms, NO_BASE_LISTED),
     }
     FAILED
 }
 
 /// Writes what is wrong with a file.
 fn put_failure<E: Write>(writer: &mut Output<E>, file: &str, message: &[u8])
-    ensures { Says E.contents writer.old writer.new
-        (codes "latchsym: " ++ file.now ++ message.now) }
+    ensures { Says E.contents writer.old writer.new (failure_line file.now message.now) }
 {
-    writer.put(b"latchsym: ");
+    writer.put(PROGRAM);
     writer.put(file.as_bytes());
     writer.put(message);
 }
