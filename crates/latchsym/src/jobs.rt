@@ -169,14 +169,7 @@ fn do_lookup<R: Read, W: Write>(
         form: lookup.form,
         addresses: &lookup.addresses,
     };
-    with_status(look_up(
-        alloc,
-        sources.symbols,
-        listings,
-        file,
-        &options,
-        writer,
-    ))
+    with_status(look_up(alloc, sources.symbols, listings, file, &options, writer))
 }
 
 /// Looks addresses up in listings, or in the one that a history has at a time.

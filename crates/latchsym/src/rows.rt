@@ -79,43 +79,60 @@ macro_rules! row {
     };
 }
 
+// what is said of arguments that do not go together
+const SYMBOLS_HAVE_MODULES: &str =
+    "--modules-from-symbols cannot be used with --modules or --regions";
+
+const REGIONS_NEED_MODULES: &str = "--regions needs --modules";
+
+const SYMBOLS_TWICE: &str = "--kallsyms and FILE exclude each other";
+
+const HISTORY_HAS_LISTINGS: &str =
+    "--history cannot be used with --kallsyms, --modules or --regions";
+
+const HISTORY_OR_FILE: &str = "--history and FILE exclude each other";
+
+const AT_NEEDS_HISTORY: &str = "--at needs --history";
+
+const CALLERS_OR_EXACT: &str = "--callers and --exact exclude each other";
+
 /// The modules come from the symbols, so none are listed.
 const FROM_SYMBOLS: Option<Clash> = Some(Clash {
     other: "modules-from-symbols",
-    message: "--modules-from-symbols cannot be used with --modules or --regions",
+    message: SYMBOLS_HAVE_MODULES,
 });
 
 const NEEDS_MODULES: Option<Clash> = Some(Clash {
     other: "modules",
-    message: "--regions needs --modules",
+    message: REGIONS_NEED_MODULES,
 });
 
 /// A word that is no option names the listing of symbols.
 const INSTEAD_OF_KALLSYMS: Option<Clash> = Some(Clash {
     other: "kallsyms",
-    message: "--kallsyms and FILE exclude each other",
+    message: SYMBOLS_TWICE,
 });
 
 /// A history has the listings, so none are named.
 const FROM_HISTORY: Option<Clash> = Some(Clash {
     other: "history",
-    message: "--history cannot be used with --kallsyms, --modules or --regions",
+    message: HISTORY_HAS_LISTINGS,
 });
 
 /// A word that is no option names a listing of symbols as well.
 const INSTEAD_OF_LISTING: Option<Clash> = Some(Clash {
     other: "listing",
-    message: "--history and FILE exclude each other",
+    message: HISTORY_OR_FILE,
 });
 
 const NEEDS_HISTORY: Option<Clash> = Some(Clash {
     other: "history",
-    message: "--at needs --history",
+    message: AT_NEEDS_HISTORY,
 });
 
 const NOT_EXACT: Option<Clash> = Some(Clash {
     other: "exact",
-    message: "--callers and --exact exclude each other",
+    message: CALLERS_OR_EXACT,
 });
 
 /// Rows of several commands, or with a default.
