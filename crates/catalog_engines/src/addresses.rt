@@ -41,8 +41,8 @@ pub fn address_engine<M: Read, K: Read, R: Read, W: Write>(
     answer_names(alloc, &texts, form, kernel, words, writer)
 }
 
-/// Writes and returns the same over the listing that a history has at a time in nanoseconds, or
-/// without a time over its last one.
+/// Writes and returns as [`address_engine`] does, by the listing that a history has at a time in
+/// nanoseconds, or without a time by its last one.
 pub fn address_engine_at<R: Read, W: Write>(
     alloc: Global,
     history: &mut Counted<R>,

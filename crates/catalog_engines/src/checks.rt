@@ -67,8 +67,8 @@ pub fn check_engine<M: Read, K: Read, R: Read, W: Write>(
     check_given(alloc, &texts, kernel, files, None, writer)
 }
 
-/// Writes and returns the same of the listing that a history has at a time in nanoseconds, or
-/// without a time of its last one. The line before the counts says what the history has.
+/// Checks as [`check_engine`] does the listing that a history has at a time in nanoseconds, or
+/// without a time its last one. The line before the counts says what the history has.
 pub fn check_engine_at<R: Read, W: Write>(
     alloc: Global,
     history: &mut Counted<R>,
@@ -115,7 +115,7 @@ fn status_of_kept(kept: u64) -> u8
 }
 
 /// Writes what applies to the listings with these texts, if these names bound the kernel, what the
-/// history has that they may be of, and where their lines went, and lets the writer keep nothing
+/// history has that they may be of, and the counts of their lines, and lets the writer keep nothing
 /// back.
 fn put_report<W: Write>(
     writer: &mut Output<W>,

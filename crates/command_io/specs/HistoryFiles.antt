@@ -1,4 +1,4 @@
--- What is returned where a history is read in place of a listing of symbols.
+-- What is returned by calls that read a history in place of a listing of symbols.
 use Rattle.std.specs.Prelude.{◌≡◌, ◌⊎◌, ℕ, List, Option, None, Result, Ok, Err, IfSome, IsErrAnd}
 use Rattle.texts.specs.Counted.{NoneFailed, Rose, device_of, failures_of}
 use Rattle.texts.specs.declared.counted.Counted.{Counted}
@@ -34,8 +34,8 @@ module _ {R : Type 0} (remaining : R → Option (List ℕ)) where
   abbrev pub IsHistoryRead : Counted R → Counted R → List HistoryPart → Type 0
   IsHistoryRead r r' parts = NoneFailed r r' × IsSaidBy r (Ok parts)
 
-  -- why there is no history: memory ran out, a call of the reader failed, or a line is not
-  -- understood, of which this is the first
+  -- why there is no history: memory ran out, a call of the reader failed, or this line is the first
+  -- that is not understood
   abbrev pub IsNoHistory : Counted R → Counted R → Fault → Type 0
   IsNoHistory r r' (Refused refusal.OutOfMemory) = NoneFailed r r'
   IsNoHistory r r' (Read place) = (place ≡ 1) × Rose (failures_of r) (failures_of r')

@@ -32,7 +32,7 @@ pub fn read_listing_at<R: Read>(
     Ok(texts_at(alloc, &history, time)?)
 }
 
-/// The history that these bytes are, which stand in place of a listing of symbols.
+/// The history that the bytes of a file of symbols are.
 pub fn history_in<'a>(alloc: Global, file: &'a [u8]) -> Result<History<'a>, Fault>
     ensures { GivesHistory (history_of (lines file.now)) result }
 {

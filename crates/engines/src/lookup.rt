@@ -81,8 +81,8 @@ pub fn lookup_engine<M: Read, K: Read, R: Read, A: Read, W: Write>(
     answer_over(alloc, &texts, file, options, writer)
 }
 
-/// Writes and returns the same over the listing that a history has at a time in nanoseconds, or
-/// without a time over its last one.
+/// Looks addresses up as [`lookup_engine`] does, in the listing that a history has at a time in
+/// nanoseconds, or without a time in its last one.
 pub fn lookup_engine_at<R: Read, A: Read, W: Write>(
     alloc: Global,
     history: &mut Counted<R>,

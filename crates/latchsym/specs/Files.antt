@@ -89,7 +89,7 @@ pub record AreListingFiles {F : Type 0} (remaining : F → Option (List ℕ)) (h
   pub kallsyms : IsOpened remaining held files.kallsyms.now r.kallsyms
   pub regions : IsOpenedIfGiven remaining held (option_map (λ f. f.now) files.regions) r.regions
 
--- the readers are those of the listings of a request, or of its history alone
+-- the readers are of the listings of a request, or of its history alone
 abbrev pub AreSourceFiles : {F : Type 0} → (F → Option (List ℕ)) → Held → Option (List ℕ)
     → ListingFiles → SymbolSource → ListingReaders F F F → Type 0
 AreSourceFiles remaining held standard files Listing r = AreListingFiles remaining held files r

@@ -62,8 +62,8 @@ HoldsOfInput P (Some r) (Some r') outcome = P r r'
 HoldsOfInput P None None outcome = outcome ≡ Err (Read 3)
 HoldsOfInput P _ _ outcome = ⊥
 
--- addresses are looked up in the listings, or in the one that a history has at a time; those of a
--- file are among them if there is one
+-- addresses are looked up in the listings, or in the one that a history has at a time, and with them
+-- the addresses of a file if there is one
 abbrev pub IsLookedUpBy : {R W : Type 0} → (R → Option (List ℕ)) → (W → Option (List ℕ))
     → Query → SymbolSource → ListingReaders R R R → ListingReaders R R R → Option (Counted R)
     → Option (Counted R) → Output W → Output W → Result ListingNotes Fault → Type 0
@@ -80,8 +80,8 @@ IsLookedUpBy remaining contents query (History time) l l' i i' w w' result =
     (last_failures (failures_in i) (failures_in i')) w w')
     l.kallsyms l'.kallsyms w w' result
 
--- What is returned over the listings of a request, or over the one that its history has at a time,
--- where `Is` says which text goes with which value, by the parts of the history if there is one.
+-- What is returned over the listings of a request, or over the one that its history has at a time.
+-- `Is` says which text goes with which value, by the parts of the history if there is one.
 abbrev pub AnswersSources : {V R W : Type 0} → (R → Option (List ℕ)) → (W → Option (List ℕ))
     → (Option (List HistoryPart) → Given → List ℕ → V → Type 0) → SymbolSource
     → ListingReaders R R R → ListingReaders R R R → Output W → Output W → Result V Fault → Type 0

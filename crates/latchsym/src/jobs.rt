@@ -417,7 +417,7 @@ fn error_if_given<R>(reader: &Option<Counted<R>>) -> Option<io::Error>
     }
 }
 
-/// Opens the files of the listings of a request, or its history alone, of which `-` is the standard
+/// Opens the files of the listings of a request, or its history alone. A history `-` is the standard
 /// input.
 fn open_sources<F: FileSource>(
     files: &F,
