@@ -1,5 +1,6 @@
 -- What is returned where a history is read.
 use Rattle.command_io.proofs.Words.{◌≡◌, ℕ, List, Option, Some, None, Result, Ok, Err, IfSome, inl, refl, subst, sym, IsErrAnd}
+use Rattle.std.specs.Global.{Vec}
 use Rattle.texts.specs.Counted.{NoneFailed, Rose, device_of, failures_of}
 use Rattle.texts.specs.declared.counted.Counted.{Counted}
 use Rattle.texts.specs.declared.output.Output.{Output}
@@ -26,7 +27,7 @@ module _ {R : Type 0} (remaining : R → Option (List ℕ)) (r r' : Counted R) w
   read_said bytes said read is = said_if_known (remaining (device_of r)) bytes said read is
 
   -- it was not read
-  pub unread : {A : Type 0} (f : Fault) → IsReadAs {A} 1 (failures_of r) (failures_of r') (Err f) → IsNoHistory remaining r r' f
+  pub unread : (f : Fault) → IsReadAs {A = Vec ℕ} 1 (failures_of r) (failures_of r') (Err f) → IsNoHistory remaining r r' f
   unread (Refused refusal.OutOfMemory) h = h
   unread (Read place) h = h
   unread _ h = absurd h
