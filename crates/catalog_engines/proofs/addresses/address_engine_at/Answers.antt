@@ -13,4 +13,4 @@ returns g c =
     let a = c.args in
     let read = c.in_ok-texts.ensures in
     let Answers : Given → Type 0 = λ given. AnswersGiven g.W.Write.contents (IsAddressed a.form (option_copied a.kernel) (map (λ w. w.now) a.words.now)) given a.writer.now c.answer_names.new.writer c.answer_names.result in
-    inr (read.0, read.1.0, subst Answers read.1.1 c.answer_names.ensures)
+    inr (read.0, read.1, subst Answers read.2 c.answer_names.ensures)

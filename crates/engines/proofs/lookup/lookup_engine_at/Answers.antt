@@ -22,4 +22,4 @@ returns g c =
     let said = addresses_known a.options.now (known_text g.A.Read.remaining a.file.now) in
     let counts = last_failures (failures_in a.file.now) (failures_in c.answer_over.new.file) in
     let Answers : Given → Type 0 = λ given. AnswersLookup g.W.Write.contents a.options.now (inputs_of said given) counts a.writer.now c.answer_over.new.writer c.answer_over.result in
-    inr (read.0, read.1.0, subst Answers read.1.1 c.answer_over.ensures)
+    inr (read.0, read.1, subst Answers read.2 c.answer_over.ensures)
