@@ -16,9 +16,9 @@ _latchsym() {
     fi
     case ${COMP_WORDS[1]} in
         annotate) options='--kallsyms --modules --regions --kernel --callers --exact --offset --follow -h --help' ;;
-        lookup) options='--modules --kallsyms --regions --kernel --modules-from-symbols --addresses --callers --offset --json --no-counts -h --help' ;;
-        address) options='--kallsyms --modules --regions --kernel --offset --json --no-counts -h --help' ;;
-        check) options='--modules --kallsyms --regions --kernel -h --help' ;;
+        lookup) options='--modules --kallsyms --regions --kernel --history --at --modules-from-symbols --addresses --callers --offset --json --no-counts -h --help' ;;
+        address) options='--kallsyms --modules --regions --kernel --history --at --offset --json --no-counts -h --help' ;;
+        check) options='--modules --kallsyms --regions --kernel --history --at -h --help' ;;
         trace) options='--steps -h --help' ;;
         run) options='--modules --kallsyms --regions --kernel --readers -h --help' ;;
         help)
@@ -28,7 +28,7 @@ _latchsym() {
         *) return ;;
     esac
     case $before in
-        --kallsyms | --modules | --regions | --addresses)
+        --kallsyms | --modules | --regions | --history | --addresses)
             compopt -o default
             return
             ;;
@@ -36,7 +36,7 @@ _latchsym() {
             mapfile -t COMPREPLY < <(compgen -W '_stext' -- "$word")
             return
             ;;
-        --offset | --readers) return ;;
+        --offset | --at | --readers) return ;;
     esac
     if [ "${COMP_WORDS[COMP_CWORD - 2]}" = --kernel ]; then
         mapfile -t COMPREPLY < <(compgen -W '_end _einittext _etext' -- "$word")

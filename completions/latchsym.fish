@@ -19,6 +19,8 @@ complete -c latchsym -n '__fish_seen_subcommand_from annotate' -l callers -d 'Ta
 complete -c latchsym -n '__fish_seen_subcommand_from annotate' -l exact -d 'Take no address as a return address'
 complete -c latchsym -n '__fish_seen_subcommand_from annotate lookup' -l offset -x -d 'Subtract N before the lookup'
 complete -c latchsym -n '__fish_seen_subcommand_from annotate' -l follow -d 'Read the listings again as the log grows'
+complete -c latchsym -n '__fish_seen_subcommand_from lookup address check' -l history -r -F -d 'The listings of one boot with their times'
+complete -c latchsym -n '__fish_seen_subcommand_from lookup address check' -l at -x -d 'Use the listing at TIME, in seconds as in a log'
 complete -c latchsym -n '__fish_seen_subcommand_from lookup' -l modules-from-symbols -d 'Find the modules from their symbols'
 complete -c latchsym -n '__fish_seen_subcommand_from lookup' -l addresses -r -F -d 'More addresses, one per line'
 complete -c latchsym -n '__fish_seen_subcommand_from lookup' -l callers -d 'Take the addresses as return addresses'

@@ -24,7 +24,7 @@ BRIEF = {
     "Write what each step did instead": "Write what each step did, as JSON",
     "Accepted for compatibility with lookup": "Leave out the counts",
 }
-CALLED = {"kallsyms": "symbols", "offset": "bytes", "readers": "number", "file": "trace"}
+CALLED = {"kallsyms": "symbols", "at": "seconds", "offset": "bytes", "readers": "number", "file": "trace"}
 
 Row = namedtuple("Row", "kind name values help required excluded_by needs")
 Command = namedtuple("Command", "about rows options")
@@ -75,15 +75,15 @@ def brief(row):
 
 
 def bash(path="completions/latchsym.bash"):
-    def with_value(value):
-        return " | ".join(dict.fromkeys(f"--{it.name}" for command in COMMANDS.values() for it in command.options if it.values == value))
+    def with_value(*values):
+        return " | ".join(dict.fromkeys(f"--{it.name}" for command in COMMANDS.values() for it in command.options if it.values in values))
 
     put(path, "-W '(.*) -h --help -V --version'", NAMES)
     put(path, r"help\)\n.*-W '(.*)' --", NAMES)
     put(path, r"\[1\]} in\n((?:.*\n)*?) +help\)", "".join(
         f"        {name}) options='{' '.join(f'--{it.name}' for it in command.options)} -h --help' ;;\n" for name, command in COMMANDS.items()))
     put(path, r"\$before in\n +(.*)\)\n", with_value("FILE"))
-    put(path, r"\n +(--.*)\) return ;;\n", with_value("N"))
+    put(path, r"\n +(--.*)\) return ;;\n", with_value("N", "TIME"))
     others = (f" || ${{COMP_WORDS[1]}} = {name}" for name, command in COMMANDS.items() if not reads_file(command))
     put(path, r"\$word = -\*(.*) \]\]; then", "".join(others))
 
@@ -93,8 +93,9 @@ def zsh(path="completions/_latchsym"):
         called = CALLED.get(row.name, row.name)
         if "Oper" in row.kind:
             return f"'1:{called}:_files'" if row.kind == "Operand" else f"'*:{called}: '"
-        value = {"": "", "FILE": f":{called}:_files", "N": f":{called}: "}.get(row.values, ":start:(_stext):end:(_end _einittext _etext)")
-        return f"'--{row.name}{'=' * (row.values in ('FILE', 'N'))}[{brief(row)}]{value}'"
+        one = {"": "", "FILE": f":{called}:_files", "N": f":{called}: ", "TIME": f":{called}: "}
+        value = one.get(row.values, ":start:(_stext):end:(_end _einittext _etext)")
+        return f"'--{row.name}{'=' * (row.values in ('FILE', 'N', 'TIME'))}[{brief(row)}]{value}'"
 
     put(path, r"commands=\(\n((?:.*\n)*?) +'help:", "".join(f"        '{name}:{command.about}'\n" for name, command in COMMANDS.items()))
     lines = []
@@ -107,7 +108,7 @@ def zsh(path="completions/_latchsym"):
 
 def fish(path="completions/latchsym.fish"):
     line, seen = "complete -c latchsym -n ", "__fish_seen_subcommand_from"
-    value = {"": "", "FILE": " -r -F", "N": " -x", "START END": " -x -a _stext"}
+    value = {"": "", "FILE": " -r -F", "N": " -x", "TIME": " -x", "START END": " -x -a _stext"}
     about = {**{name: command.about for name, command in COMMANDS.items()}, "help": "Print help"}
     lines = [f"{line}__fish_use_subcommand -a {name} -d '{it}'\n" for name, it in about.items()] + ["\n"]
     offered = {}

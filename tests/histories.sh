@@ -1,9 +1,11 @@
 #!/usr/bin/env bash
 # Compares what the crate histories says of random histories and lines of logs with what a plain slow
-# program finds by the rules: 4,000 histories with a fixed seed (RUNS and SEED set others). Needs
-# python3.
+# program finds by the rules: 4,000 histories with a fixed seed (RUNS and SEED set others). Then what
+# commands write with --history, with what they write with the listing of that time. Needs python3.
 set -eu
 . "$(dirname "$0")/program.sh"
 command -v python3 >/dev/null || { echo "histories: python3 is not installed"; exit 1; }
 PROVED= build history_answers
 python3 "$top/tests/histories/compared.py" "$program" "${RUNS:-4000}" "${SEED:-1}"
+build latchsym
+python3 "$top/tests/histories/commands.py" "$program" "$((${RUNS:-4000} / 4))" "${SEED:-1}"

@@ -40,7 +40,9 @@ pub use Rattle.catalog_engines.specs.declared.annotations.Annotate.{Annotate}
 pub use Rattle.catalog_engines.specs.declared.asked_names.Distance.{Distance}
 pub use Rattle.catalog_engines.specs.declared.sources.Sources.{Sources}
 pub use Rattle.command_io.proofs.FaultLemmas.{handed_on}
+pub use Rattle.command_io.proofs.HistoryLemmas.{no_history, not_understood, read_said, unread}
 pub use Rattle.command_io.proofs.OpenedLemmas.{catalog_opened, holds_at, same_texts, tallies_said}
+pub use Rattle.command_io.specs.HistoryFiles.{symbols_alone}
 pub use Rattle.command_io.specs.JsonTexts.{address_member, symbol_members}
 pub use Rattle.command_io.specs.OpenedCatalogs.{AreReadAs, HasBadRegion, HasCrowdedRegions, IsCatalogOf, OpensCatalog, known_given, listing_failures, texts_in}
 pub use Rattle.command_io.specs.Readings.{HoldsOf, Failures, NoReaderFailed}
@@ -48,6 +50,8 @@ pub use Rattle.command_io.specs.declared.fault.Fault.{Fault}
 pub use Rattle.command_io.specs.declared.fault.Fault.TheVariants.{BadLine, Read, Refused, TooLong, Write}
 pub use Rattle.command_io.specs.declared.opened_catalogs.ListingTexts.{ListingTexts}
 pub use Rattle.facts.proofs.Lists.{moved_over}
+pub use Rattle.histories.specs.Grammar.{HistoryPart}
+pub use Rattle.histories.specs.ListingsAt.{listing_at}
 pub use Rattle.listing.proofs.ListingNoteLemmas.{bounds_are, given_or}
 pub use Rattle.listing.specs.ListingNotes.{is_of_kallsyms, is_of_modules}
 pub use Rattle.listing.specs.Looks.{are_modules_hidden, are_symbols_hidden, is_narrow}

@@ -3,18 +3,20 @@ ghost use Rattle.std.specs.Prelude.{◌≡◌, if◌then◌else◌, map};
 ghost use Rattle.std.specs.Option.{option_copied};
 ghost use Rattle.catalog_engines.specs.Addresses.{IsAddressed};
 ghost use Rattle.catalog_engines.specs.GivenAnswers.{AnswersGiven, AnswersListings};
+ghost use Rattle.command_io.specs.HistoryFiles.{AnswersHistory, symbols_alone};
 ghost use Rattle.command_io.specs.OpenedCatalogs.{known_given, listing_failures, texts_in};
+ghost use Rattle.histories.specs.ListingsAt.{listing_at};
 
 use crate::address_texts::{AddressForm, has_any_line, put_words};
 use crate::kept_symbols::symbols_sought;
 use command_io::{
     FAILED, Fault, Finished, ListingReaders, ListingTexts, SUCCEEDED, open_catalog, read_given,
-    unless_failed,
+    read_listing_at, unless_failed,
 };
 use modules::{ExpectedLookups, IndexedCatalog, KernelBounds};
 use std::alloc::Global;
 use std::io::{Read, Write};
-use texts::Output;
+use texts::{Counted, Output};
 
 /// Writes where the kept symbols of each name are, in the order listed, as objects of JSON or as
 /// lines of text. Returns what is noted of the listings, and the status 1 if no name has a line. A
@@ -36,6 +38,26 @@ pub fn address_engine<M: Read, K: Read, R: Read, W: Write>(
         (listing_failures readers.old readers.new) writer.old writer.new result }
 {
     let texts = read_given(alloc, readers)?;
+    answer_names(alloc, &texts, form, kernel, words, writer)
+}
+
+/// Writes and returns as [`address_engine`] does, by the listing that a history has at a time in
+/// nanoseconds, or without a time by its last one.
+pub fn address_engine_at<R: Read, W: Write>(
+    alloc: Global,
+    history: &mut Counted<R>,
+    time: Option<u64>,
+    form: AddressForm,
+    kernel: Option<&KernelBounds>,
+    words: &[&str],
+    writer: &mut Output<W>,
+) -> Result<Finished, Fault>
+    ensures { AnswersHistory R.remaining (λ parts. AnswersGiven W.contents
+        (IsAddressed form (option_copied kernel.entry) (map (λ w. w.now) words.now))
+        (symbols_alone (listing_at time parts)) writer.old writer.new)
+        history.old history.new writer.old writer.new result }
+{
+    let texts = read_listing_at(alloc, history, time)?;
     answer_names(alloc, &texts, form, kernel, words, writer)
 }
 

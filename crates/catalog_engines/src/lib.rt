@@ -25,13 +25,13 @@ mod own_offsets;
 mod sources;
 
 pub use address_texts::AddressForm;
-pub use addresses::address_engine;
+pub use addresses::{address_engine, address_engine_at};
 pub use annotations::{Annotate, LOG_PLACE, LogReading, annotate_engine};
-pub use checks::check_engine;
+pub use checks::{check_engine, check_engine_at};
 pub use following::{Followed, Part, follow_engine};
 pub use lasting_log::{LastingLog, Unlisted};
 pub use log_notes::{ListedKernel, LogNote};
 pub use no_names::NoNames;
 pub use note_texts::{put_if_noted, put_listing_notes, put_note_head, put_notes_of};
 pub use own_offsets::own_offset_engine;
-pub use sources::{ListingFiles, Sources};
+pub use sources::{ListingFiles, Sources, SymbolSource};

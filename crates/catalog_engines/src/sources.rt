@@ -6,8 +6,22 @@ use modules::KernelBounds;
 pub struct Sources<'a> {
     /// The files of the listings.
     pub files: ListingFiles<'a>,
+    /// What the file of the symbols has.
+    pub symbols: SymbolSource,
     /// The names of the symbols that bound the kernel's own region, if they are given.
     pub kernel: Option<KernelBounds<'a>>,
+}
+
+/// What a file of symbols has.
+#[derive(Clone, Copy, Debug, PartialEq, Eq, Drop)]
+pub enum SymbolSource {
+    /// A listing.
+    Listing,
+    /// A history, of whose listings one is taken.
+    History {
+        /// The time of this listing, in nanoseconds; without it the last one is taken.
+        time: Option<u64>,
+    },
 }
 
 /// The files of listings.

@@ -4,3 +4,5 @@ mod Words
 pub mod FaultLemmas
 -- what holds of a catalog that was opened
 pub mod OpenedLemmas
+-- what is returned where a history is read
+pub mod HistoryLemmas

@@ -9,3 +9,5 @@ pub mod JsonTexts
 pub mod Readings
 -- the catalog that listings say, and what is noted of them
 pub mod OpenedCatalogs
+-- a history in place of a listing of symbols
+pub mod HistoryFiles

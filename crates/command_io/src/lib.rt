@@ -9,6 +9,7 @@
 
 mod fault;
 mod forms;
+mod history_files;
 mod json;
 mod json_texts;
 mod opened_catalogs;
@@ -20,6 +21,7 @@ pub use fault::{
     without_notes,
 };
 pub use forms::AnswerForm;
+pub use history_files::{history_in, read_listing_at, texts_at};
 pub use json::{FIRST_TO_ROUND, digit, put_json_number};
 pub use json_texts::{
     put_address_member, put_json_count, put_json_counts, put_json_line, put_named_module,

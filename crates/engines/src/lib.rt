@@ -18,7 +18,7 @@ mod trace;
 mod trace_lines;
 mod trace_texts;
 
-pub use lookup::{LookupOptions, lookup_engine};
+pub use lookup::{LookupOptions, lookup_engine, lookup_engine_at};
 pub use runs::run_engine;
 pub use steps::steps_engine;
 pub use trace::trace_engine;

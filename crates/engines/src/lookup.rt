@@ -1,9 +1,11 @@
 //! From the bytes of the listings to the lines that a lookup of addresses writes.
 ghost use Rattle.std.specs.Prelude.{◌≡◌, [], Err, Ok, All, Some, true, IfOk, unwrap_or};
 ghost use Rattle.std.specs.Option.{option_copied};
+ghost use Rattle.histories.specs.ListingsAt.{listing_at};
 ghost use Rattle.listing.specs.Opening.{listed_in};
 ghost use Rattle.listing.specs.Tallies.{tallies_of};
 ghost use Rattle.modules.specs.Lines.{region_fits};
+ghost use Rattle.command_io.specs.HistoryFiles.{AnswersHistory, symbols_alone};
 ghost use Rattle.command_io.specs.OpenedCatalogs.{known_given, listing_failures, texts_in};
 ghost use Rattle.command_io.specs.Readings.{failures_in, known_text, last_failures};
 ghost use Rattle.engines.specs.Inputs.{failures_behind, inputs, inputs_of, known_inputs};
@@ -13,7 +15,10 @@ ghost use Rattle.engines.specs.Lookups.{addresses_known, bounds_beside};
 
 use crate::lookup_texts::put_lookup;
 use crate::table::answers_of;
-use command_io::{AnswerForm, Fault, ListingReaders, ListingTexts, all_written, noted, read_given};
+use command_io::{
+    AnswerForm, Fault, ListingReaders, ListingTexts, all_written, noted, read_given,
+    read_listing_at,
+};
 use listing::{AddressRule, ListingNotes, Listings, OpenedCatalog, open, read_addresses};
 use modules::{ExpectedLookups, KernelBounds};
 use std::alloc::{AllocError, Global};
@@ -73,6 +78,26 @@ pub fn lookup_engine<M: Read, K: Read, R: Read, A: Read, W: Write>(
         (failures_in file.old) (failures_in file.new)) writer.old writer.new result }
 {
     let texts = read_given(alloc, listings)?;
+    answer_over(alloc, &texts, file, options, writer)
+}
+
+/// Looks addresses up as [`lookup_engine`] does, in the listing that a history has at a time in
+/// nanoseconds, or without a time in its last one.
+pub fn lookup_engine_at<R: Read, A: Read, W: Write>(
+    alloc: Global,
+    history: &mut Counted<R>,
+    time: Option<u64>,
+    file: &mut Option<Counted<A>>,
+    options: &LookupOptions<'_>,
+    writer: &mut Output<W>,
+) -> Result<ListingNotes, Fault>
+    ensures { AnswersHistory R.remaining (λ parts. AnswersLookup W.contents options.now
+        (inputs_of (addresses_known options.now (known_text A.remaining file.old))
+        (symbols_alone (listing_at time parts)))
+        (last_failures (failures_in file.old) (failures_in file.new)) writer.old writer.new)
+        history.old history.new writer.old writer.new result }
+{
+    let texts = read_listing_at(alloc, history, time)?;
     answer_over(alloc, &texts, file, options, writer)
 }
 

@@ -15,6 +15,7 @@ use Rattle.latchsym.specs.declared.rows.Argument.{Argument}
 use Rattle.latchsym.specs.declared.rows.Clash.{Clash}
 use Rattle.latchsym.specs.declared.rows.Kind.{Kind}
 use Rattle.latchsym.specs.declared.rows.Kind.TheVariants.{Flag, Valued, Operand, Operands}
+use Rattle.latchsym.specs.declared.rows.TheConstants as said
 
 -- another argument, and what is said if the two do not go together
 pub record Beside : Type 0 where
@@ -83,24 +84,34 @@ abbrev pub needing : Text → Text → ArgumentRow → ArgumentRow
 needing other message row =
     record row { needs = Some (record { other = other; message = message }) }
 
+-- an option that names a listing, so that none is taken from a history
+abbrev pub listing : ArgumentRow → ArgumentRow
+listing = instead_of (codes "history") said.HISTORY_HAS_LISTINGS.now
+
 -- an option for which modules are listed, so that none come from the symbols
 abbrev pub listed : Text → ArgumentRow
 listed id =
-    excluded_by (codes "modules-from-symbols")
-    (codes "--modules-from-symbols cannot be used with --modules or --regions") (option id)
+    listing
+    (excluded_by (codes "modules-from-symbols") said.SYMBOLS_HAVE_MODULES.now (option id))
 
 -- --regions FILE and --kernel START END
 abbrev pub bounds_rows : List ArgumentRow → List ArgumentRow
 bounds_rows rest =
-    needing (codes "modules") (codes "--regions needs --modules") (listed (codes "regions"))
+    needing (codes "modules") said.REGIONS_NEED_MODULES.now (listed (codes "regions"))
     ∷ plain Valued 2 (codes "kernel") ∷ rest
+
+-- --history FILE and --at TIME
+abbrev pub history_rows : List ArgumentRow → List ArgumentRow
+history_rows rest =
+    instead_of (codes "listing") said.HISTORY_OR_FILE.now (option (codes "history"))
+    ∷ needing (codes "history") said.AT_NEEDS_HISTORY.now (option (codes "at")) ∷ rest
 
 abbrev pub lookup_rows : List ArgumentRow
 lookup_rows =
-    listed (codes "modules") ∷ option (codes "kallsyms")
-    ∷ bounds_rows (flag (codes "modules-from-symbols") ∷ option (codes "addresses")
+    listed (codes "modules") ∷ listing (option (codes "kallsyms"))
+    ∷ bounds_rows (history_rows (flag (codes "modules-from-symbols") ∷ option (codes "addresses")
     ∷ flag (codes "callers") ∷ option (codes "offset") ∷ flag (codes "json")
-    ∷ flag (codes "no-counts") ∷ plain Operands 1 (codes "address") ∷ [])
+    ∷ flag (codes "no-counts") ∷ plain Operands 1 (codes "address") ∷ []))
 
 abbrev pub run_rows : List ArgumentRow
 run_rows =
@@ -110,25 +121,25 @@ run_rows =
 
 abbrev pub annotate_rows : List ArgumentRow
 annotate_rows =
-    option (codes "kallsyms") ∷ listed (codes "modules")
+    listing (option (codes "kallsyms")) ∷ listed (codes "modules")
     ∷ bounds_rows
-    (excluded_by (codes "exact") (codes "--callers and --exact exclude each other")
-    (flag (codes "callers"))
+    (excluded_by (codes "exact") said.CALLERS_OR_EXACT.now (flag (codes "callers"))
     ∷ flag (codes "exact") ∷ option (codes "offset") ∷ flag (codes "follow")
     ∷ plain Operand 1 (codes "log") ∷ [])
 
 abbrev pub check_rows : List ArgumentRow
 check_rows =
-    listed (codes "modules") ∷ option (codes "kallsyms")
+    listed (codes "modules") ∷ listing (option (codes "kallsyms"))
     ∷ bounds_rows
-    (instead_of (codes "kallsyms") (codes "--kallsyms and FILE exclude each other")
-    (plain Operand 1 (codes "listing")) ∷ [])
+    (history_rows
+    (instead_of (codes "kallsyms") said.SYMBOLS_TWICE.now
+    (plain Operand 1 (codes "listing")) ∷ []))
 
 abbrev pub address_rows : List ArgumentRow
 address_rows =
-    option (codes "kallsyms") ∷ listed (codes "modules")
-    ∷ bounds_rows (option (codes "offset") ∷ flag (codes "json") ∷ flag (codes "no-counts")
-    ∷ required (plain Operands 1 (codes "name")) ∷ [])
+    listing (option (codes "kallsyms")) ∷ listed (codes "modules")
+    ∷ bounds_rows (history_rows (option (codes "offset") ∷ flag (codes "json")
+    ∷ flag (codes "no-counts") ∷ required (plain Operands 1 (codes "name")) ∷ []))
 
 abbrev pub trace_rows : List ArgumentRow
 trace_rows = flag (codes "steps") ∷ required (plain Operand 1 (codes "file")) ∷ []

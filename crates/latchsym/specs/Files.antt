@@ -11,6 +11,8 @@ use Rattle.latchsym.specs.declared.jobs.OpenedJob.TheVariants as opened
 use Rattle.latchsym.specs.declared.requests.Job.{Job}
 use Rattle.latchsym.specs.declared.requests.Job.TheVariants as job
 use Rattle.catalog_engines.specs.declared.sources.ListingFiles.{ListingFiles}
+use Rattle.catalog_engines.specs.declared.sources.SymbolSource.{SymbolSource}
+use Rattle.catalog_engines.specs.declared.sources.SymbolSource.TheVariants.{History, Listing}
 use Rattle.latchsym.specs.declared.requests.Request.{Request}
 use Rattle.latchsym.specs.declared.requests.Subcommand.{Subcommand}
 use Rattle.latchsym.specs.declared.requests.Subcommand.TheVariants as sub
@@ -75,7 +77,8 @@ held_given held files =
     given_of (held_text held (option_map (λ f. f.now) files.modules)) (held files.kallsyms.now)
     (held_text held (option_map (λ f. f.now) files.regions))
 
--- what the names of files of addresses, of scripts and of logs hold; `-` is the standard input
+-- what the names of files of addresses, of scripts, of logs and of histories hold; `-` is the standard
+-- input
 abbrev pub or_standard : Option (List ℕ) → Held → Held
 or_standard standard held name = if bytes_eq name (codes "-") then standard else held name
 
@@ -86,6 +89,13 @@ pub record AreListingFiles {F : Type 0} (remaining : F → Option (List ℕ)) (h
   pub kallsyms : IsOpened remaining held files.kallsyms.now r.kallsyms
   pub regions : IsOpenedIfGiven remaining held (option_map (λ f. f.now) files.regions) r.regions
 
+-- the readers are of the listings of a request, or of its history alone
+abbrev pub AreSourceFiles : {F : Type 0} → (F → Option (List ℕ)) → Held → Option (List ℕ)
+    → ListingFiles → SymbolSource → ListingReaders F F F → Type 0
+AreSourceFiles remaining held standard files Listing r = AreListingFiles remaining held files r
+AreSourceFiles remaining held standard files (History time) r =
+    IsOpened remaining (or_standard standard held) files.kallsyms.now r.kallsyms
+
 -- the job is the one that is opened, over the readers of its own files
 abbrev pub IsOpenedFor : {F : Type 0} → (F → Option (List ℕ)) → Held → Option (List ℕ) → Job
     → OpenedJob F → Type 0
@@ -94,6 +104,6 @@ IsOpenedFor remaining held standard (job.Trace file) (opened.Trace r) =
 IsOpenedFor remaining held standard (job.Steps file) (opened.Steps r) =
     IsOpened remaining held file.now r
 IsOpenedFor remaining held standard (job.Request q) (opened.Request o r input) =
-    (o.now ≡ q) × AreListingFiles remaining held q.sources.files r
+    (o.now ≡ q) × AreSourceFiles remaining held standard q.sources.files q.sources.symbols r
     × IsOpenedIfGiven remaining (or_standard standard held) (input_of q.subcommand) input
 IsOpenedFor remaining held standard _ _ = ⊥

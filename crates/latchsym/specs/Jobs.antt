@@ -16,6 +16,7 @@ use Rattle.listing.specs.declared.address_rules.Callers.{Callers}
 use Rattle.listing.specs.declared.address_rules.Callers.TheVariants.{ByPlace, Every, Never}
 use Rattle.latch_table.specs.Limits.{most_readers}
 use Rattle.texts.specs.Numbers.{between, number_of}
+use Rattle.histories.specs.Times.{time_of}
 use Rattle.listing.specs.Addresses.{address_of_text}
 use Rattle.modules.specs.Listed.{BoundNames}
 use Rattle.latchsym.specs.CommandLine.{ArgumentRow, Beside, arguments_of, latchsym_app}
@@ -27,10 +28,13 @@ use Rattle.latchsym.specs.declared.requests.Job.{Job}
 use Rattle.latchsym.specs.declared.requests.Job.TheVariants as job
 use Rattle.latchsym.specs.declared.requests.JobFault.{JobFault}
 use Rattle.latchsym.specs.declared.requests.JobFault.TheVariants.{BadAddress, BadEnd, BadOffset}
-use Rattle.latchsym.specs.declared.requests.JobFault.TheVariants.{BadReaders, Clash, CommandLine}
+use Rattle.latchsym.specs.declared.requests.JobFault.TheVariants.{BadReaders, BadTime, Clash}
+use Rattle.latchsym.specs.declared.requests.JobFault.TheVariants.{CommandLine}
 use Rattle.latchsym.specs.declared.requests.JobFault.TheVariants.{FollowedByOwnOffset}
 use Rattle.latchsym.specs.declared.requests.JobFault.TheVariants.{NoAddress, NoJob, OutOfMemory}
 use Rattle.catalog_engines.specs.declared.sources.ListingFiles.{ListingFiles}
+use Rattle.catalog_engines.specs.declared.sources.SymbolSource.{SymbolSource}
+use Rattle.catalog_engines.specs.declared.sources.SymbolSource.TheVariants.{History, Listing}
 use Rattle.latchsym.specs.declared.requests.Lookup.{Lookup}
 use Rattle.latchsym.specs.declared.requests.Request.{Request}
 use Rattle.latchsym.specs.declared.requests.Run.{Run}
@@ -85,15 +89,38 @@ IsClashIn name rows _ = ⊥
 
 -- ---- the listings
 
--- the file that is named for the symbols, as a word of its own or as the value of an option
+-- the file that is named for the symbols: for a history, as a word of its own, or as the value of
+-- an option
 abbrev pub symbols_in : List Row → Option Text
-symbols_in rows = option_or (first_of (codes "listing") rows) (first_of (codes "kallsyms") rows)
+symbols_in rows =
+    option_or (option_or (first_of (codes "history") rows) (first_of (codes "listing") rows))
+    (first_of (codes "kallsyms") rows)
 
 -- the files of the listings; the symbols are the kernel's own if no file is named
 pub record AreFilesIn (rows : List Row) (files : ListingFiles) : Type 0 where
   pub modules : option_map (λ f. f.now) files.modules ≡ first_of (codes "modules") rows
   pub kallsyms : files.kallsyms.now ≡ unwrap_or (symbols_in rows) (codes "/proc/kallsyms")
   pub regions : option_map (λ f. f.now) files.regions ≡ first_of (codes "regions") rows
+
+-- the time that a word is, or none if no word is given
+abbrev pub time_in : Option Text → Option (Option ℕ)
+time_in None = Some None
+time_in (Some word) = option_map (λ time. Some time) (time_of word)
+
+-- this is the time that is given, or no time is
+abbrev pub IsTimeIn : List Row → Option ℕ → Type 0
+IsTimeIn rows time = time_in (first_of (codes "at") rows) ≡ Some time
+
+-- this word is given for a time, and is none
+pub record HasBadTime (rows : List Row) (word : Text) : Type 0 where
+  pub given : first_of (codes "at") rows ≡ Some word
+  pub bad : time_of word ≡ None
+
+-- the file of the symbols has a history if one is named, which is asked at this time
+abbrev pub IsSourceIn : List Row → SymbolSource → Type 0
+IsSourceIn rows Listing = is_some (first_of (codes "history") rows) ≡ false
+IsSourceIn rows (History time) =
+    (is_some (first_of (codes "history") rows) ≡ true) × IsTimeIn rows time
 
 -- the word looks like an address, and not like the name of a symbol
 abbrev pub is_like_address : Text → Bool
@@ -243,6 +270,7 @@ IsSubcommandIn name rows (sub.Address address) =
 -- a subcommand of this name asks for this over these listings
 pub record IsRequestIn (name : Text) (rows : List Row) (request : Request) : Type 0 where
   pub files : AreFilesIn rows request.sources.files
+  pub symbols : IsSourceIn rows request.sources.symbols
   pub kernel : AreBoundsIn rows request.sources.kernel
   pub subcommand : IsSubcommandIn name rows request.subcommand
 
@@ -283,6 +311,7 @@ IsIncomplete name rows =
 abbrev pub HasBadValue : Text → List Row → JobFault → Type 0
 HasBadValue name rows OutOfMemory = Unit {0}
 HasBadValue name rows (BadEnd word) = HasBadEnd (values_in (codes "kernel") rows) word.now
+HasBadValue name rows (BadTime word) = HasBadTime rows word.now
 HasBadValue name rows (BadOffset word) =
     HasBadOffset rows word.now
     × ((bytes_eq name (codes "annotate") && is_own_offset rows) ≡ false)

@@ -14,7 +14,8 @@ use Rattle.latchsym.specs.declared.requests.JobFault.{JobFault}
 use Rattle.latchsym.specs.declared.requests.JobFault.TheVariants.{OutOfMemory, CommandLine}
 use Rattle.latchsym.specs.declared.requests.JobFault.TheVariants.{BadAddress, NoAddress}
 use Rattle.latchsym.specs.declared.requests.JobFault.TheVariants.{BadEnd, BadOffset}
-use Rattle.latchsym.specs.declared.requests.JobFault.TheVariants.{BadReaders, NoJob, NoText}
+use Rattle.latchsym.specs.declared.requests.JobFault.TheVariants.{BadReaders, BadTime, NoJob}
+use Rattle.latchsym.specs.declared.requests.JobFault.TheVariants.{NoText}
 use Rattle.latchsym.specs.declared.requests.JobFault.TheVariants.{Clash, FollowedByOwnOffset}
 use Rattle.command_io.specs.declared.fault.Fault.TheVariants.{Refused, Write}
 use Rattle.latchsym.specs.declared.misuse.TheConstants as text
@@ -77,6 +78,8 @@ IsNoJob contents errors w w' e e' NoAddress status =
     IsMisusedAlone errors w w' e e' text.NO_ADDRESS.now [] status
 IsNoJob contents errors w w' e e' (Clash message) status =
     IsMisusedAlone errors w w' e e' message.now [] status
+IsNoJob contents errors w w' e e' (BadTime word) status =
+    IsMisusedAlone errors w w' e e' text.BAD_TIME.now word.now status
 IsNoJob contents errors w w' e e' (BadOffset word) status =
     IsMisusedAlone errors w w' e e' (offset_message word.now) word.now status
 IsNoJob contents errors w w' e e' FollowedByOwnOffset status =

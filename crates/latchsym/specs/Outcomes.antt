@@ -11,17 +11,21 @@ use Rattle.catalog_engines.specs.Following.{FollowsLog}
 use Rattle.catalog_engines.specs.LastingLogs.{Seen}
 use Rattle.catalog_engines.specs.OwnOffsets.{WritesByOwnOffset, all_failures}
 use Rattle.latchsym.specs.Files.{Held, held_given}
-use Rattle.catalog_engines.specs.GivenAnswers.{AnswersListings}
+use Rattle.catalog_engines.specs.GivenAnswers.{AnswersGiven, AnswersListings}
 use Rattle.command_io.specs.Faults.{with_notes, with_status, without_notes}
 use Rattle.listing.specs.ListingNotes.{no_notes}
 use Rattle.listing.specs.declared.listing_notes.ListingNotes.{ListingNotes}
+use Rattle.command_io.specs.HistoryFiles.{AnswersHistory, symbols_alone}
 use Rattle.command_io.specs.OpenedCatalogs.{known_given, listing_failures}
-use Rattle.command_io.specs.Readings.{failures_in, known_text}
-use Rattle.engines.specs.Inputs.{failures_behind, known_inputs}
+use Rattle.command_io.specs.Readings.{failures_in, known_text, last_failures}
+use Rattle.engines.specs.Inputs.{failures_behind, inputs_of, known_inputs}
 use Rattle.engines.specs.Lookups.{AnswersLookup, addresses_known}
 use Rattle.engines.specs.Runs.{AnswersRun, script_known}
 use Rattle.engines.specs.StepTraces.{AnswersSteps}
 use Rattle.engines.specs.Traces.{AnswersTrace}
+use Rattle.histories.specs.Grammar.{HistoryPart}
+use Rattle.histories.specs.ListingsAt.{listing_at}
+use Rattle.listing.specs.Opening.{Given}
 use Rattle.modules.specs.Lines.{usual_bounds}
 use Rattle.modules.specs.Listed.{BoundNames}
 use Rattle.command_io.specs.declared.fault.Fault.{Fault}
@@ -35,6 +39,8 @@ use Rattle.catalog_engines.specs.declared.annotations.Annotate.{Annotate}
 use Rattle.catalog_engines.specs.declared.annotations.LogReading.{LogReading}
 use Rattle.catalog_engines.specs.declared.annotations.LogReading.TheVariants.{Blocks, Followed, Whole}
 use Rattle.catalog_engines.specs.declared.sources.Sources.{Sources}
+use Rattle.catalog_engines.specs.declared.sources.SymbolSource.{SymbolSource}
+use Rattle.catalog_engines.specs.declared.sources.SymbolSource.TheVariants.{History, Listing}
 use Rattle.latchsym.specs.declared.requests.Lookup.{Lookup}
 use Rattle.latchsym.specs.declared.requests.Subcommand.{Subcommand}
 use Rattle.latchsym.specs.declared.requests.Subcommand.TheVariants as sub
@@ -56,15 +62,36 @@ HoldsOfInput P (Some r) (Some r') outcome = P r r'
 HoldsOfInput P None None outcome = outcome ≡ Err (Read 3)
 HoldsOfInput P _ _ outcome = ⊥
 
--- addresses are looked up in the listings, also the addresses of a file, if there is one
+-- addresses are looked up in the listings, or in the one that a history has at a time, also the
+-- addresses of a file, if there is one
 abbrev pub IsLookedUpBy : {R W : Type 0} → (R → Option (List ℕ)) → (W → Option (List ℕ))
-    → Query → ListingReaders R R R → ListingReaders R R R → Option (Counted R)
+    → Query → SymbolSource → ListingReaders R R R → ListingReaders R R R → Option (Counted R)
     → Option (Counted R) → Output W → Output W → Result ListingNotes Fault → Type 0
-IsLookedUpBy remaining contents query l l' i i' w w' result =
+IsLookedUpBy remaining contents query Listing l l' i i' w w' result =
     AnswersLookup contents query
     (known_inputs (addresses_known query (known_text remaining i))
     (known_given remaining remaining remaining l))
     (failures_behind (listing_failures l l') (failures_in i) (failures_in i')) w w' result
+IsLookedUpBy remaining contents query (History time) l l' i i' w w' result =
+    AnswersHistory remaining
+    (λ parts. AnswersLookup contents query
+    (inputs_of (addresses_known query (known_text remaining i))
+    (symbols_alone (listing_at time parts)))
+    (last_failures (failures_in i) (failures_in i')) w w')
+    l.kallsyms l'.kallsyms w w' result
+
+-- What is returned over the listings of a request, or over the one that its history has at a time.
+-- `Is` says which text goes with which value, by the parts of the history if there is one.
+abbrev pub AnswersSources : {V R W : Type 0} → (R → Option (List ℕ)) → (W → Option (List ℕ))
+    → (Option (List HistoryPart) → Given → List ℕ → V → Type 0) → SymbolSource
+    → ListingReaders R R R → ListingReaders R R R → Output W → Output W → Result V Fault → Type 0
+AnswersSources remaining contents Is Listing l l' w w' result =
+    AnswersListings contents (Is None) (known_given remaining remaining remaining l)
+    (listing_failures l l') w w' result
+AnswersSources remaining contents Is (History time) l l' w w' result =
+    AnswersHistory remaining
+    (λ parts. AnswersGiven contents (Is (Some parts)) (symbols_alone (listing_at time parts)) w w')
+    l.kallsyms l'.kallsyms w w' result
 
 -- a script is run by a number of readers
 abbrev pub IsOutcomeOfRun : {R W : Type 0} → (R → Option (List ℕ)) → (W → Option (List ℕ))
@@ -127,19 +154,18 @@ abbrev pub IsOutcomeBy : {R W E : Type 0} → (R → Option (List ℕ)) → Held
     → Option (Counted R) → Option (Counted R) → Output W → Output W → Output E → Output E
     → Result Finished Fault → Type 0
 IsOutcomeBy remaining held contents errors s (sub.Lookup lookup) l l' i i' w w' e e' outcome =
-    Ends (IsLookedUpBy remaining contents (query_of s lookup) l l' i i' w w') with_status outcome
-    × (e' ≡ e)
+    Ends (IsLookedUpBy remaining contents (query_of s lookup) s.symbols l l' i i' w w') with_status
+    outcome × (e' ≡ e)
 IsOutcomeBy remaining held contents errors s (sub.Run run) l l' i i' w w' e e' outcome =
     IsOutcomeOfRun remaining contents s run.readers l l' i i' w w' outcome × (e' ≡ e)
 IsOutcomeBy remaining held contents errors s (sub.Annotate a) l l' i i' w w' e e' outcome =
     IsOutcomeOfLog remaining held contents errors s a a.reading l l' i i' w w' e e' outcome
 IsOutcomeBy remaining held contents errors s sub.Check l l' i i' w w' e e' outcome =
-    Ends (AnswersListings contents (IsChecked s.kernel s.files)
-    (known_given remaining remaining remaining l) (listing_failures l l') w w')
+    Ends (AnswersSources remaining contents (IsChecked s.kernel s.files) s.symbols l l' w w')
     (with_notes no_notes) outcome × (e' ≡ e)
 IsOutcomeBy remaining held contents errors s (sub.Address a) l l' i i' w w' e e' outcome =
-    AnswersListings contents (IsAddressed a.form s.kernel (map (λ n. n.now) a.names.items))
-    (known_given remaining remaining remaining l) (listing_failures l l') w w' outcome
+    AnswersSources remaining contents
+    (λ _. IsAddressed a.form s.kernel (map (λ n. n.now) a.names.items)) s.symbols l l' w w' outcome
     × (e' ≡ e)
 
 -- The status or the fault of a job, over what its readers had. A trace that succeeds has status 0.

@@ -6,7 +6,8 @@ ghost use Rattle.latchsym.specs.CommandLine.{row_of};
 ghost use Rattle.latchsym.specs.Jobs.{AnswersMatches, AnswersSubcommand, AnswersWords, AreBoundsIn};
 ghost use Rattle.latchsym.specs.Jobs.{AreFilesIn, AreNumbersIn, Gives, IsAddressIn, IsAnnotateIn};
 ghost use Rattle.latchsym.specs.Jobs.{IsFaultOf, IsJobIn, IsLogOffsetIn, IsLookupIn, IsOffsetIn};
-ghost use Rattle.latchsym.specs.Jobs.{IsRequestIn, is_followed_whole, is_own_offset, reading_in};
+ghost use Rattle.latchsym.specs.Jobs.{IsRequestIn, IsSourceIn, IsTimeIn, is_followed_whole};
+ghost use Rattle.latchsym.specs.Jobs.{is_own_offset, reading_in};
 ghost use Rattle.latchsym.specs.Jobs.{IsRunIn, IsSubcommandIn, callers_in, clash_in, clash_of};
 ghost use Rattle.latchsym.specs.Jobs.{form_in, has_flag, is_like_address, is_present, readers_of};
 ghost use Rattle.latchsym.specs.Jobs.{rows_in, symbols_in, values_in};
@@ -14,10 +15,11 @@ ghost use Rattle.latchsym.specs.Jobs.{rows_in, symbols_in, values_in};
 use crate::command_line::latchsym_command;
 use crate::requests::{Address, Job, JobFault, Lookup, Request, Run, Subcommand};
 use crate::rows::{Argument, KALLSYMS, Kind, LOG, arguments_of};
-use catalog_engines::{AddressForm, Annotate, ListingFiles, LogReading, Sources};
+use catalog_engines::{AddressForm, Annotate, ListingFiles, LogReading, Sources, SymbolSource};
 use clap::error::ErrorKind;
 use clap::{ArgMatches, Error};
 use command_io::AnswerForm;
+use histories::time_of;
 use latch_table::MOST_READERS;
 use listing::{AddressRule, Callers, LogRule, address_of_text};
 use modules::KernelBounds;
@@ -134,10 +136,15 @@ fn request_in<'a>(
     ensures { Gives (IsRequestIn name.now) name.now (rows_in found.now) result }
 {
     let kernel = bounds_in(found)?;
+    let symbols = symbol_source_in(found)?;
     let subcommand = subcommand_in(alloc, name, found)?;
     let files = files_in(found);
     Ok(Request {
-        sources: Sources { files, kernel },
+        sources: Sources {
+            files,
+            symbols,
+            kernel,
+        },
         subcommand,
     })
 }
@@ -153,15 +160,39 @@ fn files_in<'a>(found: &ArgMatches<'a>) -> ListingFiles<'a>
     }
 }
 
-/// The file of the symbols: one that is named as a word of its own or as the value of an option, or
-/// else the kernel's own.
+/// The file of the symbols: one that is named for a history, as a word of its own or as the value
+/// of an option, or else the kernel's own.
 fn symbols_in<'a>(found: &ArgMatches<'a>) -> &'a str
     ensures { result.now
         ≡ unwrap_or (symbols_in (rows_in found.now)) (codes "/proc/kallsyms") }
 {
-    match value_of(found, "listing") {
+    match value_of(found, "history").or(value_of(found, "listing")) {
         Some(file) => file,
         None => value_or_default(found, &KALLSYMS),
+    }
+}
+
+/// What the file of the symbols has: a history if one is named, and else a listing.
+fn symbol_source_in<'a>(found: &ArgMatches<'a>) -> Result<SymbolSource, JobFault<'a>>
+    ensures { (name : Text) → Gives IsSourceIn name (rows_in found.now) result }
+{
+    if value_of(found, "history").is_none() {
+        return Ok(SymbolSource::Listing);
+    }
+    let time = time_in(found)?;
+    Ok(SymbolSource::History { time })
+}
+
+/// The time that is given, in nanoseconds, if one is.
+fn time_in<'a>(found: &ArgMatches<'a>) -> Result<Option<u64>, JobFault<'a>>
+    ensures { (name : Text) → Gives IsTimeIn name (rows_in found.now) result }
+{
+    let Some(word) = value_of(found, "at") else {
+        return Ok(None);
+    };
+    match time_of(word.as_bytes()) {
+        Some(time) => Ok(Some(time)),
+        None => Err(JobFault::BadTime(word)),
     }
 }
 

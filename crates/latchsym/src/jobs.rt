@@ -4,28 +4,30 @@ ghost use Rattle.std.specs.Prelude.{◌≡◌, IfOk, IfErr, List, ℕ, None, Opt
 ghost use Rattle.std.specs.Option.{option_map};
 ghost use Rattle.texts.specs.Output.{error_in};
 ghost use Rattle.command_io.specs.Faults.{with_notes, with_status};
-ghost use Rattle.command_io.specs.OpenedCatalogs.{known_given, listing_failures};
 ghost use Rattle.listing.specs.ListingNotes.{no_notes};
 ghost use Rattle.catalog_engines.specs.Addresses.{IsAddressed};
 ghost use Rattle.catalog_engines.specs.Checks.{IsChecked};
 ghost use Rattle.catalog_engines.specs.Following.{FollowsLog};
 ghost use Rattle.catalog_engines.specs.LastingLogs.{Seen};
-ghost use Rattle.catalog_engines.specs.GivenAnswers.{AnswersListings};
-ghost use Rattle.latchsym.specs.Files.{AreListingFiles, IsNew, IsOpened, IsOpenedFor};
+ghost use Rattle.latchsym.specs.Files.{AreListingFiles, AreSourceFiles, IsNew, IsOpened};
+ghost use Rattle.latchsym.specs.Files.{IsOpenedFor};
 ghost use Rattle.latchsym.specs.Files.{IsOpenedIfGiven};
 ghost use Rattle.latchsym.specs.Files.{or_standard};
-ghost use Rattle.latchsym.specs.Outcomes.{Ends, IsLookedUpBy, IsOutcome, IsOutcomeBy};
+ghost use Rattle.latchsym.specs.Outcomes.{AnswersSources, Ends, IsLookedUpBy, IsOutcome};
+ghost use Rattle.latchsym.specs.Outcomes.{IsOutcomeBy};
 ghost use Rattle.latchsym.specs.Outcomes.{IsOutcomeOfLog, IsOutcomeOfRun, query_of, seen_first};
 ghost use Rattle.latchsym.specs.Reasons.{error_if_given, error_of_listings, error_of_request};
 
 use crate::followed_files::FollowedFiles;
 use crate::requests::{Address, Job, Lookup, Request, Run, Subcommand};
 use catalog_engines::{
-    Annotate, ListingFiles, LogReading, Sources, address_engine, annotate_engine, check_engine,
-    follow_engine, own_offset_engine,
+    Annotate, ListingFiles, LogReading, Sources, SymbolSource, address_engine, address_engine_at,
+    annotate_engine, check_engine, check_engine_at, follow_engine, own_offset_engine,
 };
 use command_io::{Fault, Finished, ListingReaders, with_notes, with_status, without_notes};
-use engines::{LookupOptions, lookup_engine, run_engine, steps_engine, trace_engine};
+use engines::{
+    LookupOptions, lookup_engine, lookup_engine_at, run_engine, steps_engine, trace_engine,
+};
 use listing::ListingNotes;
 use modules::KernelBounds;
 use order_laws::Refusal;
@@ -83,7 +85,7 @@ pub fn open_job<'j, 'a, F: FileSource>(
         Job::Trace { file } => Ok(OpenedJob::Trace(files.open(file)?)),
         Job::Steps { file } => Ok(OpenedJob::Steps(files.open(file)?)),
         Job::Request(request) => {
-            let listings = open_files(files, &request.sources.files)?;
+            let listings = open_sources(files, &request.sources)?;
             let input = open_input(files, request.subcommand.input())?;
             Ok(OpenedJob::Request(request, listings, input))
         }
@@ -158,7 +160,8 @@ fn do_lookup<R: Read, W: Write>(
     writer: &mut Output<W>,
 ) -> Result<Finished, Fault>
     ensures { Ends (IsLookedUpBy R.remaining W.contents (query_of sources.now lookup.now)
-        listings.old listings.new file.old file.new writer.old writer.new) with_status result }
+        sources.now.symbols listings.old listings.new file.old file.new writer.old writer.new)
+        with_status result }
 {
     let options = LookupOptions {
         kernel: sources.kernel.as_ref(),
@@ -166,7 +169,28 @@ fn do_lookup<R: Read, W: Write>(
         form: lookup.form,
         addresses: &lookup.addresses,
     };
-    with_status(lookup_engine(alloc, listings, file, &options, writer))
+    with_status(look_up(alloc, sources.symbols, listings, file, &options, writer))
+}
+
+/// Looks addresses up in listings, or in the one that a history has at a time.
+fn look_up<R: Read, W: Write>(
+    alloc: Global,
+    symbols: SymbolSource,
+    listings: &mut ListingReaders<R, R, R>,
+    file: &mut Option<Counted<R>>,
+    options: &LookupOptions<'_>,
+    writer: &mut Output<W>,
+) -> Result<ListingNotes, Fault>
+    ensures { IsLookedUpBy R.remaining W.contents options.now symbols
+        listings.old listings.new file.old file.new writer.old writer.new result }
+{
+    match symbols {
+        SymbolSource::Listing => lookup_engine(alloc, listings, file, options, writer),
+        SymbolSource::History { time } => {
+            let history = &mut listings.kallsyms;
+            lookup_engine_at(alloc, history, time, file, options, writer)
+        }
+    }
 }
 
 /// Does what a script says.
@@ -259,14 +283,34 @@ fn do_check<R: Read, W: Write>(
     listings: &mut ListingReaders<R, R, R>,
     writer: &mut Output<W>,
 ) -> Result<Finished, Fault>
-    ensures { Ends (AnswersListings W.contents (IsChecked sources.now.kernel sources.now.files)
-        (known_given R.remaining R.remaining R.remaining listings.old)
-        (listing_failures listings.old listings.new) writer.old writer.new)
+    ensures { Ends (AnswersSources R.remaining W.contents
+        (IsChecked sources.now.kernel sources.now.files) sources.now.symbols
+        listings.old listings.new writer.old writer.new)
         (with_notes no_notes) result }
 {
-    let kernel = sources.kernel.as_ref();
-    let status = check_engine(alloc, listings, kernel, &sources.files, writer);
+    let status = check(alloc, sources, listings, writer);
     with_notes(status, ListingNotes::none())
+}
+
+/// Checks listings, or the one that a history has at a time.
+fn check<R: Read, W: Write>(
+    alloc: Global,
+    sources: &Sources<'_>,
+    listings: &mut ListingReaders<R, R, R>,
+    writer: &mut Output<W>,
+) -> Result<u8, Fault>
+    ensures { AnswersSources R.remaining W.contents
+        (IsChecked sources.now.kernel sources.now.files) sources.now.symbols
+        listings.old listings.new writer.old writer.new result }
+{
+    let kernel = sources.kernel.as_ref();
+    match sources.symbols {
+        SymbolSource::Listing => check_engine(alloc, listings, kernel, &sources.files, writer),
+        SymbolSource::History { time } => {
+            let history = &mut listings.kallsyms;
+            check_engine_at(alloc, history, time, kernel, &sources.files, writer)
+        }
+    }
 }
 
 /// Writes the places of the symbols of names.
@@ -277,20 +321,21 @@ fn do_address<R: Read, W: Write>(
     listings: &mut ListingReaders<R, R, R>,
     writer: &mut Output<W>,
 ) -> Result<Finished, Fault>
-    ensures { AnswersListings W.contents (IsAddressed address.now.form sources.now.kernel
-        (map (λ n. n.now) address.now.names.items))
-        (known_given R.remaining R.remaining R.remaining listings.old)
-        (listing_failures listings.old listings.new) writer.old writer.new result }
+    ensures { AnswersSources R.remaining W.contents (λ _. IsAddressed address.now.form
+        sources.now.kernel (map (λ n. n.now) address.now.names.items)) sources.now.symbols
+        listings.old listings.new writer.old writer.new result }
 {
     let kernel = sources.kernel.as_ref();
-    address_engine(
-        alloc,
-        listings,
-        address.form,
-        kernel,
-        &address.names,
-        writer,
-    )
+    let form = address.form;
+    match sources.symbols {
+        SymbolSource::Listing => {
+            address_engine(alloc, listings, form, kernel, &address.names, writer)
+        }
+        SymbolSource::History { time } => {
+            let history = &mut listings.kallsyms;
+            address_engine_at(alloc, history, time, form, kernel, &address.names, writer)
+        }
+    }
 }
 
 impl<R> OpenedJob<'_, '_, R> {
@@ -372,6 +417,26 @@ fn error_if_given<R>(reader: &Option<Counted<R>>) -> Option<io::Error>
     }
 }
 
+/// Opens the files of the listings of a request, or its history alone. A history `-` is the standard
+/// input.
+fn open_sources<F: FileSource>(
+    files: &F,
+    sources: &Sources<'_>,
+) -> Result<ListingReaders<F::File, F::File, F::File>, Refusal>
+    ensures opened { IfOk result (AreSourceFiles F.File.remaining (F.held files.now)
+        (F.standard files.now) sources.now.files sources.now.symbols) }
+    ensures refusal { IfErr result (λ e. e ≡ Refusal.OutOfMemory) }
+{
+    match sources.symbols {
+        SymbolSource::Listing => open_files(files, &sources.files),
+        SymbolSource::History { .. } => Ok(ListingReaders {
+            modules: None,
+            kallsyms: open_or_standard(files, sources.files.kallsyms)?,
+            regions: None,
+        }),
+    }
+}
+
 /// Opens the files of listings.
 pub(crate) fn open_files<F: FileSource>(
     files: &F,
@@ -419,7 +484,7 @@ fn open_input<F: FileSource>(
     }
 }
 
-/// Opens a file of addresses, a script or a log; `-` is the standard input.
+/// Opens a file of addresses, a script, a log or a history; `-` is the standard input.
 fn open_or_standard<F: FileSource>(files: &F, name: &str) -> Result<Counted<F::File>, Refusal>
     ensures opened { IfOk result (IsOpened F.File.remaining
         (or_standard (F.standard files.now) (F.held files.now)) name.now) }

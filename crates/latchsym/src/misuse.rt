@@ -18,6 +18,8 @@ const BAD_ADDRESS: &[u8] = b"bad address ";
 
 const NO_ADDRESS: &[u8] = b"no address is given";
 
+const BAD_TIME: &[u8] = b"bad time ";
+
 const FOLLOWED_OFFSET: &[u8] = b"--offset auto and --follow exclude each other";
 
 const BAD_BOUND: &[u8] = b"--kernel takes two names of symbols, and its END is ";
@@ -54,6 +56,7 @@ pub fn refuse<W: Write, E: Write>(
         JobFault::BadAddress(word) => misused(BAD_ADDRESS, word, errors),
         JobFault::NoAddress => misused(NO_ADDRESS, "", errors),
         JobFault::Clash(message) => misused(message.as_bytes(), "", errors),
+        JobFault::BadTime(word) => misused(BAD_TIME, word, errors),
         JobFault::BadOffset(word) => misused(offset_message(word), word, errors),
         JobFault::FollowedByOwnOffset => { misused(FOLLOWED_OFFSET, "", errors) }
         JobFault::BadEnd(word) => misused(BAD_BOUND, word, errors),

@@ -150,6 +150,8 @@ pub enum JobFault<'a> {
     NoAddress,
     /// Options that do not go together: what is wrong with them.
     Clash(&'static str),
+    /// A value of `--at` that is no TIME.
+    BadTime(&'a str),
     /// A value of `--offset` that is no NUMBER.
     BadOffset(&'a str),
     /// The offset that a log says itself, of one that is followed.

@@ -79,42 +79,85 @@ macro_rules! row {
     };
 }
 
+// what is said of arguments that do not go together
+const SYMBOLS_HAVE_MODULES: &str =
+    "--modules-from-symbols cannot be used with --modules or --regions";
+
+const REGIONS_NEED_MODULES: &str = "--regions needs --modules";
+
+const SYMBOLS_TWICE: &str = "--kallsyms and FILE exclude each other";
+
+const HISTORY_HAS_LISTINGS: &str =
+    "--history cannot be used with --kallsyms, --modules or --regions";
+
+const HISTORY_OR_FILE: &str = "--history and FILE exclude each other";
+
+const AT_NEEDS_HISTORY: &str = "--at needs --history";
+
+const CALLERS_OR_EXACT: &str = "--callers and --exact exclude each other";
+
 /// The modules come from the symbols, so none are listed.
 const FROM_SYMBOLS: Option<Clash> = Some(Clash {
     other: "modules-from-symbols",
-    message: "--modules-from-symbols cannot be used with --modules or --regions",
+    message: SYMBOLS_HAVE_MODULES,
 });
 
 const NEEDS_MODULES: Option<Clash> = Some(Clash {
     other: "modules",
-    message: "--regions needs --modules",
+    message: REGIONS_NEED_MODULES,
 });
 
 /// A word that is no option names the listing of symbols.
 const INSTEAD_OF_KALLSYMS: Option<Clash> = Some(Clash {
     other: "kallsyms",
-    message: "--kallsyms and FILE exclude each other",
+    message: SYMBOLS_TWICE,
+});
+
+/// A history has the listings, so none are named.
+const FROM_HISTORY: Option<Clash> = Some(Clash {
+    other: "history",
+    message: HISTORY_HAS_LISTINGS,
+});
+
+/// A word that is no option names a listing of symbols as well.
+const INSTEAD_OF_LISTING: Option<Clash> = Some(Clash {
+    other: "listing",
+    message: HISTORY_OR_FILE,
+});
+
+const NEEDS_HISTORY: Option<Clash> = Some(Clash {
+    other: "history",
+    message: AT_NEEDS_HISTORY,
 });
 
 const NOT_EXACT: Option<Clash> = Some(Clash {
     other: "exact",
-    message: "--callers and --exact exclude each other",
+    message: CALLERS_OR_EXACT,
 });
 
 /// Rows of several commands, or with a default.
 const MODULES: Argument = row!(Valued "modules" ["FILE"]:
     "The modules, in the form of /proc/modules; without it they come from the symbols",
-    excluded_by: FROM_SYMBOLS);
+    excluded_by: FROM_SYMBOLS, instead_of: FROM_HISTORY);
 
 pub const KALLSYMS: Argument = row!(Valued "kallsyms" ["FILE"]:
-    "The symbols, instead of /proc/kallsyms", default: "/proc/kallsyms");
+    "The symbols, instead of /proc/kallsyms",
+    default: "/proc/kallsyms", instead_of: FROM_HISTORY);
 
 const REGIONS: Argument = row!(Valued "regions" ["FILE"]:
     "The regions of modules that have more than one",
-    excluded_by: FROM_SYMBOLS, needs: NEEDS_MODULES);
+    excluded_by: FROM_SYMBOLS, instead_of: FROM_HISTORY, needs: NEEDS_MODULES);
 
 const KERNEL: Argument = row!(Valued "kernel" ["START", "END"]:
     "The first and the last symbol of the kernel, instead of the usual ones");
+
+const HISTORY: Argument = row!(Valued "history" ["FILE"]:
+    "The listings of one boot with their times, instead of /proc/kallsyms; - is standard input",
+    instead_of: INSTEAD_OF_LISTING);
+
+const AT: Argument = row!(Valued "at" ["TIME"]:
+    "Use the listing at TIME, in seconds as in a log, instead of the last one",
+    needs: NEEDS_HISTORY);
 
 const OFFSET: Argument = row!(Valued "offset" ["N"]:
     "Subtract N from each address, as for a kernel moved up by N at boot");
@@ -127,6 +170,8 @@ const LOOKUP: &[Argument] = &[
     KALLSYMS,
     REGIONS,
     KERNEL,
+    HISTORY,
+    AT,
     row!(Flag "modules-from-symbols" []:
         "Find the modules from their symbols, as without --modules"),
     row!(Valued "addresses" ["FILE"]: "More addresses, one per line; - is standard input"),
@@ -171,6 +216,8 @@ const CHECK: &[Argument] = &[
     KALLSYMS,
     REGIONS,
     KERNEL,
+    HISTORY,
+    AT,
     row!(Operand "listing" ["FILE"]: "The symbols, as after --kallsyms",
         instead_of: INSTEAD_OF_KALLSYMS),
 ];
@@ -180,6 +227,8 @@ const ADDRESS: &[Argument] = &[
     MODULES,
     REGIONS,
     KERNEL,
+    HISTORY,
+    AT,
     row!(Valued "offset" ["N"]: "Add N to each address, as for a kernel moved up by N at boot"),
     row!(Flag "json" []: "Write JSON, one object per line"),
     row!(Flag "no-counts" []: "Accepted for compatibility with lookup; has no effect"),

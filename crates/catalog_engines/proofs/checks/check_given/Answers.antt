@@ -9,7 +9,7 @@ pub returns-in_err-opened : goal.returns-in_err-opened
 returns-in_err-opened g c =
     let a = c.args in
     let kernel = option_copied a.kernel in
-    let Is = IsChecked kernel a.files.now in
+    let Is = IsChecked kernel a.files.now (option_copied a.history) in
     let given = texts_in a.texts.now in
     let fault = c.in_err-opened.field-0.0 in
     handed_on (AnswersGiven g.W.Write.contents Is given a.writer.now a.writer.now) c.from_residual.result fault c.from_residual.ensures.1
@@ -41,20 +41,21 @@ returns g c =
     let a = c.args in
     let kernel = option_copied a.kernel in
     let files = a.files.now in
+    let history = option_copied a.history in
     let given = texts_in a.texts.now in
     let o = c.in_ok-opened.opened in
     let names = c.unwrap_or-names.result.now in
     let status = c.status_of_kept.result in
-    let text = opened_report names files given o in
+    let text = opened_report names files history given o in
     let (l, at, is) = holds_at (λ x. IsOpened kernel false x o) (listings_of given) c.in_ok-opened.ensures in
     let (modules, kallsyms) = same_texts given l at in
-    let by : BoundNames → Option (List ℕ) → List ℕ → Tallies → List ℕ = λ n m k t. report_by n files m k o.catalog o.built.symbols t in
+    let by : BoundNames → Option (List ℕ) → List ℕ → Tallies → List ℕ = λ n m k t. report_by n files history m k o.catalog o.built.symbols t in
     let named = bounds_are a.kernel _ c.unwrap_or-names.result (symbols_of false l.kallsyms) c.unwrap_or-names.ensures is.usual in
-    let text_is : text ≡ report kernel files l o.catalog o.built =
+    let text_is : text ≡ report kernel files history l o.catalog o.built =
     ap (λ m. by names m given.kallsyms (tallies_of o)) (sym modules)
     ∙ ap (λ k. by names l.modules k (tallies_of o)) (sym kallsyms)
     ∙ ap (λ n. by n l.modules l.kallsyms (tallies_of o)) named
     ∙ ap (by (bounds_for kernel (symbols_of false l.kallsyms)) l.modules l.kallsyms) (tallies_said kernel false l o is) in
-    said_or_not g.W.Write.contents (IsChecked kernel files) given a.writer.now c.put_report.new.writer status text
-    (subst (HoldsOf (IsReport kernel files text status)) (sym at) (o.catalog, o.built, is.said, text_is, c.status_of_kept.ensures))
+    said_or_not g.W.Write.contents (IsChecked kernel files history) given a.writer.now c.put_report.new.writer status text
+    (subst (HoldsOf (IsReport kernel files history text status)) (sym at) (o.catalog, o.built, is.said, text_is, c.status_of_kept.ensures))
     c.put_report.ensures c.unless_failed.result c.unless_failed.ensures

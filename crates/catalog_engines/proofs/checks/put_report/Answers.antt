@@ -13,4 +13,4 @@ returns g c =
     ap (λ file. lines file c.deref.result.now c.is_none.result) c.as_bytes.ensures.value
     ∙ ap (λ text. lines a.files.now.kallsyms.now text c.is_none.result) c.deref.ensures.value
     ∙ ap (lines a.files.now.kallsyms.now kallsyms) (missing_mapped (λ text. text.items) a.texts.now.modules c.is_none.result c.is_none.ensures) in
-    then_flushed (then (then c.put_notes_if_listed.ensures (same_text of_symbols c.put_symbol_notes.ensures)) (same_text (ap counts_text c.tallies.ensures) c.put_counts.ensures)) c.flush.ensures
+    then_flushed (then (then (then c.put_notes_if_listed.ensures (same_text of_symbols c.put_symbol_notes.ensures)) c.put_history.ensures) (same_text (ap counts_text c.tallies.ensures) c.put_counts.ensures)) c.flush.ensures
