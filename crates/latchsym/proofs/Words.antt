@@ -13,10 +13,11 @@ pub use Rattle.std.specs.Borrow.{Bor}
 pub use Rattle.std.specs.Box.{box_value}
 pub use Rattle.std.specs.List.{filter_map, fold, position_from}
 pub use Rattle.std.specs.Option.{UnwrapsOrElse, option_copied, option_map_or, option_or}
-pub use Rattle.std.specs.Prelude.{Box, IfOk, find, is_none, is_some, option_and_then, position, slice_get, slice_index_or, unwrap_or}
+pub use Rattle.std.specs.Prelude.{Box, not, IfOk, find, is_none, is_some, option_and_then, position, slice_get, slice_index_or, unwrap_or}
 pub use Rattle.catalog_engines.specs.Addresses.{IsAddressed}
 pub use Rattle.catalog_engines.specs.Checks.{IsChecked}
-pub use Rattle.catalog_engines.specs.GivenAnswers.{AnswersListings}
+pub use Rattle.catalog_engines.specs.GivenAnswers.{AnswersGiven, AnswersListings}
+pub use Rattle.catalog_engines.specs.declared.sources.SymbolSource.{SymbolSource}
 pub use Rattle.catalog_engines.specs.NoteTexts.{line_if_noted, IsNoted, lines_by}
 pub use Rattle.clap.proofs.WalkLemmas.{first_value-rows, raw_values-rows}
 pub use Rattle.clap.specs.Built.{AddsSubcommand}
@@ -31,14 +32,17 @@ pub use Rattle.clap.specs.declared.parser.matches.ArgMatches.TheViews.{out-ArgMa
 pub use Rattle.clap.specs.declared.parser.matches.SubCommand.{SubCommand}
 pub use Rattle.command_io.proofs.FaultLemmas.{handed_on}
 pub use Rattle.command_io.specs.Faults.{with_notes}
+pub use Rattle.command_io.specs.HistoryFiles.{AnswersHistory, symbols_alone}
 pub use Rattle.command_io.specs.OpenedCatalogs.{known_given, listing_failures}
 pub use Rattle.facts.proofs.Lists.{map-insert}
 pub use Rattle.facts.proofs.Options.{Some-from_parts}
+pub use Rattle.histories.specs.Grammar.{HistoryPart}
+pub use Rattle.histories.specs.ListingsAt.{listing_at}
 pub use Rattle.latchsym.specs.CommandLine.{IsCommand, IsPlainArg, command_app, latchsym_app, row_of, top_app}
 pub use Rattle.latchsym.specs.JobNotes.{notes_text, bounds_of_lookup, run_lines, run_line}
-pub use Rattle.latchsym.specs.Jobs.{AnswersMatches, AnswersWords, Gives, IsAddressIn, IsAnnotateIn, IsFaultOf, IsLookupIn, IsRequestIn, IsUnparsed, clash_of, is_no_address, rows_in}
+pub use Rattle.latchsym.specs.Jobs.{AnswersMatches, AnswersWords, Gives, IsAddressIn, IsAnnotateIn, IsFaultOf, IsLookupIn, IsRequestIn, IsSourceIn, IsUnparsed, clash_of, is_no_address, rows_in}
 pub use Rattle.latchsym.specs.Operands.{ends_options, is_kernel_name, operand_place}
-pub use Rattle.latchsym.specs.Outcomes.{HoldsOfInput, IsLogBy, IsLookedUpBy, IsOutcomeOfRun}
+pub use Rattle.latchsym.specs.Outcomes.{AnswersSources, HoldsOfInput, IsLogBy, IsLookedUpBy, IsOutcomeOfRun}
 pub use Rattle.latchsym.specs.Reports.{IsConcluded, message_text}
 pub use Rattle.latchsym.specs.declared.requests.Job.{Job}
 pub use Rattle.latchsym.specs.declared.requests.JobFault.{JobFault}
