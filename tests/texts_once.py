@@ -10,7 +10,7 @@ import re
 import sys
 
 TOP = os.path.dirname(os.path.dirname(os.path.abspath(__file__)))
-MOST = 74
+MOST = 70
 LITERAL = r'"((?:[^"\\]|\\.)*)"'
 
 
