@@ -43,7 +43,7 @@ history_line parts =
 abbrev pub history_text : Option (List HistoryPart) → List ℕ
 history_text history = option_map_or history_line history []
 
--- The notes that apply to listings with these texts in these files, first to that of modules; what
+-- The notes that apply to listings with these texts in these files, first on the modules; what
 -- the history has that they may be of; and the counts of their lines. These names bound the kernel,
 -- and this number of symbols is kept.
 abbrev pub report_by : BoundNames → ListingFiles → Option (List HistoryPart) → Option (List ℕ)
