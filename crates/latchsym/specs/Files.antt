@@ -77,8 +77,8 @@ held_given held files =
     given_of (held_text held (option_map (λ f. f.now) files.modules)) (held files.kallsyms.now)
     (held_text held (option_map (λ f. f.now) files.regions))
 
--- what the names of files of addresses, of scripts, of logs and of histories hold; `-` is the standard
--- input
+-- what the names of files of addresses, of scripts, of logs and of histories hold; `-` is the
+-- standard input
 abbrev pub or_standard : Option (List ℕ) → Held → Held
 or_standard standard held name = if bytes_eq name (codes "-") then standard else held name
 
