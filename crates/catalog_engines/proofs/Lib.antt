@@ -8,6 +8,8 @@ mod AliasLemmas
 mod FilterLemmas
 -- whether an address is below all regions of a catalog
 mod RangeLemmas
+-- a symbol of the kernel itself answers for its name
+mod SizeLemmas
 -- from what came of a log to what the engine returns
 mod AnnotationLemmas
 -- which readers failed of a log that is read whole

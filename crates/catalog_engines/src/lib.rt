@@ -12,6 +12,7 @@ mod asked_names;
 mod checks;
 mod following;
 mod kept_symbols;
+mod kernel_names;
 mod lasting_log;
 mod log_aliases;
 mod log_answers;

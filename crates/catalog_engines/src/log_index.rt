@@ -3,17 +3,15 @@
 //! Each word that a log has itself after an address, and that is not the answer's name, is sought
 //! among the symbols at the address. So that symbols are not asked for each word, it is found once for
 //! a log which names they may have. The symbols are put in the order of their names only for a log
-//! that says the sizes of functions.
+//! that may say the sizes of functions.
 ghost use Rattle.std.specs.Prelude.{◌≡◌, false, IfOk};
 ghost use Rattle.modules.specs.Items.{item_of_address};
-ghost use Rattle.std.specs.List.{list_any};
-ghost use Rattle.modules.specs.SymbolNames.{IsNamesOf};
-ghost use Rattle.catalog_engines.specs.LogAnswers.{has_size_at, has_size_by, is_of_kernel};
-ghost use Rattle.catalog_engines.specs.LogAnswers.{is_of_size, is_reached, kernel_address};
+ghost use Rattle.catalog_engines.specs.LogAnswers.{has_size_by, is_reached};
 ghost use Rattle.catalog_engines.specs.NameFilters.{IsNoName};
 
+use crate::kernel_names::KernelNames;
 use crate::name_filter::NameFilter;
-use modules::{Catalog, IndexedCatalog, NamedSymbol, SymbolNames, symbol_of};
+use modules::{Catalog, IndexedCatalog};
 use order_laws::Item;
 use std::alloc::{AllocError, Global};
 use std::marker::Model;
@@ -24,8 +22,8 @@ pub(crate) struct LogIndex<'i, 'c> {
     index: &'i IndexedCatalog<'c>,
     /// Which names symbols may have, unless there was no memory for it.
     filter: Option<NameFilter>,
-    /// The symbols in the order of their names, once a size was asked for.
-    names: Option<SymbolNames<'c>>,
+    /// The symbols by their names, once a size was asked for.
+    names: Option<KernelNames<'c>>,
 }
 
 impl<'i, 'c> Model for LogIndex<'i, 'c> {
@@ -88,7 +86,7 @@ impl<'i, 'c> LogIndex<'i, 'c> {
         ensures { self.new ≡ self.old }
     {
         if self.names.is_none() {
-            self.names = Some(SymbolNames::of(alloc, self.index.catalog())?);
+            self.names = Some(KernelNames::of(alloc, self.index.catalog())?);
         }
         Ok(())
     }
@@ -105,10 +103,10 @@ impl<'i, 'c> LogIndex<'i, 'c> {
         ensures { IfOk result (λ o. o ≡ has_size_by self.now name.now size) }
     {
         match &self.names {
-            Some(names) => Ok(has_size_in(self.index, names, name, size)),
+            Some(names) => Ok(names.has_size(self.index, name, size)),
             None => {
-                let names = SymbolNames::of(alloc, self.index.catalog())?;
-                Ok(has_size_in(self.index, &names, name, size))
+                let names = KernelNames::of(alloc, self.index.catalog())?;
+                Ok(names.has_size(self.index, name, size))
             }
         }
     }
@@ -124,79 +122,4 @@ fn is_reached(index: &IndexedCatalog<'_>, addr: u64) -> bool
         return false;
     }
     items[0].a <= addr
-}
-
-/// Whether one of the functions of the kernel itself with this name has this size, if there is one
-/// with this name, by the names of the catalog.
-fn has_size_in(
-    index: &IndexedCatalog<'_>,
-    names: &SymbolNames<'_>,
-    name: &[u8],
-    size: u64,
-) -> Option<bool>
-    requires { IsNamesOf index.now names.now }
-    ensures { result ≡ has_size_by index.now name.now size }
-{
-    let named = names.named(name);
-    if has_kernel_symbol(named) {
-        Some(has_kernel_size(index, size, named))
-    } else {
-        None
-    }
-}
-
-/// Whether one of the symbols is one of the kernel itself.
-fn has_kernel_symbol(named: &[NamedSymbol<'_>]) -> bool
-    ensures { result ≡ list_any is_of_kernel named.now }
-{
-    named.iter().any(|symbol| is_of_kernel(symbol))
-}
-
-/// Whether one of the symbols is one of the kernel itself that has this size.
-fn has_kernel_size(index: &IndexedCatalog<'_>, size: u64, named: &[NamedSymbol<'_>]) -> bool
-    ensures { result ≡ list_any (is_of_size index.now size) named.now }
-{
-    named.iter().any(|symbol| is_of_size(index, size, symbol))
-}
-
-/// Whether a symbol is one of the kernel itself.
-fn is_of_kernel(symbol: &NamedSymbol<'_>) -> bool
-    ensures { result ≡ is_of_kernel symbol.now }
-{
-    symbol.number == 0
-}
-
-/// Whether a symbol is one of the kernel itself that has this size.
-fn is_of_size(index: &IndexedCatalog<'_>, size: u64, symbol: &NamedSymbol<'_>) -> bool
-    ensures { result ≡ is_of_size index.now size symbol.now }
-{
-    if !is_of_kernel(symbol) {
-        return false;
-    }
-    match kernel_address(index.catalog(), symbol.place) {
-        Some(addr) => has_size_at(index, size, addr),
-        None => false,
-    }
-}
-
-/// The address of the symbol of the kernel itself at a place.
-fn kernel_address(catalog: &Catalog<'_>, place: usize) -> Option<u64>
-    ensures { result ≡ kernel_address catalog.now place }
-{
-    let kernel = catalog.module(0)?;
-    let symbol = kernel.symbols().get(place)?;
-    Some(symbol.addr)
-}
-
-/// Whether the symbol that an address belongs to has this size.
-fn has_size_at(index: &IndexedCatalog<'_>, size: u64, addr: u64) -> bool
-    ensures { result ≡ has_size_at index.now size addr }
-{
-    let Some(item) = index.find(addr) else {
-        return false;
-    };
-    match symbol_of(index.catalog(), item, addr) {
-        Some(found) => found.size == size,
-        None => false,
-    }
 }

@@ -17,7 +17,7 @@ use std::alloc::{AllocError, Global};
 use std::marker::Model;
 
 /// How many numbers names have.
-const NUMBERS: usize = 1 << 20;
+pub(crate) const NUMBERS: usize = 1 << 20;
 
 /// How many of a name's last bytes its number is made of.
 const BYTES: usize = 8;
@@ -40,7 +40,7 @@ impl Model for NameFilter {
 
 /// The number of a name.
 #[tactic(auto, unfolding(crate::specs::NameFilters::number_of))]
-fn number_of(name: &[u8]) -> usize
+pub(crate) fn number_of(name: &[u8]) -> usize
     ensures is { result ≡ number_of name.now }
     ensures below { result < 1048576 }
 {
