@@ -35,12 +35,13 @@ NOTES = {text_of(number): number for number in range(41, 55)}
 NAMED = {
     "has no symbol _stext": 46,
     "has no symbol _end; try --kernel _stext _einittext": 47,
-    "lists no module bpf, whose symbols are left out; leave --modules out": 54,
 }
+# listings with symbols of an owner that none of modules has, which a lookup does not note
+OWNERS = {"causes": 54}
 
 def noted(folder, name):
-    """What the program notes of both listings, as numbers."""
-    notes = {"modules": NOTHING, "kallsyms": NOTHING}
+    """What the library notes of both listings, as numbers: what the program notes of a lookup, and owners."""
+    notes = {"modules": OWNERS.get(name, NOTHING), "kallsyms": NOTHING}
     path = folder / f"{name}.notes"
     for note in path.read_text().splitlines() if path.exists() else []:
         file, text = note.removeprefix("latchsym: note: ").split(": ", 1)
