@@ -3,6 +3,8 @@
 pub mod NoteTexts
 -- what an engine returns that reads listings, and then writes a text about them
 pub mod GivenAnswers
+-- which lines of a log one listing of a history names
+pub mod LineRuns
 -- what is noted of a log after its end
 pub mod LogNotes
 -- how the addresses of a log are answered
@@ -13,6 +15,10 @@ pub mod NameFilters
 pub mod LogIndexes
 -- what is written for a log, and noted of its listings
 pub mod Annotations
+-- a log of which each line is named by the listing at its time
+pub mod TimedLogs
+-- what is written for a log by a history
+pub mod HistoryAnnotations
 -- a log that is annotated by the offset that it says itself
 pub mod OwnOffsets
 -- why listings that are read again give no names

@@ -16,16 +16,18 @@ use Rattle.logs.specs.LogNames.{is_of_another_boot, is_unnamed}
 use Rattle.logs.specs.declared.kernel_offsets.KernelOffset.{KernelOffset}
 use Rattle.logs.specs.declared.kernel_reports.KernelReport.{KernelReport}
 use Rattle.logs.specs.declared.log_names.LogNames.{LogNames}
+use Rattle.catalog_engines.specs.LineRuns.{is_untimed}
 use Rattle.catalog_engines.specs.NoteTexts.{message_of, note_head}
+use Rattle.catalog_engines.specs.declared.line_runs.LogTimes.{LogTimes}
 use Rattle.catalog_engines.specs.declared.log_notes.ListedKernel.{ListedKernel}
 use Rattle.catalog_engines.specs.declared.log_notes.LogNote.{LogNote}
 use Rattle.catalog_engines.specs.declared.log_notes.LogNote.TheVariants.{Form, Moved, OtherBuild}
 use Rattle.catalog_engines.specs.declared.log_notes.LogNote.TheVariants.{OtherNames, OtherPlace}
-use Rattle.catalog_engines.specs.declared.log_notes.LogNote.TheVariants.{Unnamed}
+use Rattle.catalog_engines.specs.declared.log_notes.LogNote.TheVariants.{Unnamed, Untimed}
 use Rattle.catalog_engines.specs.declared.log_notes.TheConstants.{ANOTHER_BOOT, ANOTHER_BUILD}
 use Rattle.catalog_engines.specs.declared.log_notes.TheConstants.{DISAGREE, GIVE_OFFSET}
 use Rattle.catalog_engines.specs.declared.log_notes.TheConstants.{HAVE_NAMES, LAY_AT, LISTED_AT}
-use Rattle.catalog_engines.specs.declared.log_notes.TheConstants.{MOVED, NONE_OF, OF}
+use Rattle.catalog_engines.specs.declared.log_notes.TheConstants.{MOVED, NONE_OF, NO_TIME, OF}
 use Rattle.catalog_engines.specs.declared.log_notes.TheConstants.{STANDARD_INPUT, THIS_BOOT}
 
 -- ---- which note applies
@@ -79,6 +81,13 @@ note_of_log head names kernel =
     option_or (option_map Form (note_of_head head))
     (option_or (kernel_note names.kernel kernel) (names_note names))
 
+-- the first that applies to a log that was named by a history: whether a line has a time comes before
+-- what names say
+abbrev pub note_of_timed_log : List ℕ → LogTimes → LogNames → ListedKernel → Option LogNote
+note_of_timed_log head times names kernel =
+    option_or (option_map Form (note_of_head head))
+    (if is_untimed times then Some Untimed else note_of_log head names kernel)
+
 -- ---- what it says
 
 -- functions of its kernel have another size in the listing
@@ -115,6 +124,7 @@ log_message (Moved by offset) = moved_line by offset
 log_message (OtherPlace place listed) = other_boot_line place listed
 log_message (OtherNames names) = other_names_line names
 log_message (Unnamed names) = unnamed_line names
+log_message Untimed = NO_TIME.now
 
 -- what notes call the log in this file; `-` is the standard input
 abbrev pub log_name : List ℕ → List ℕ

@@ -114,7 +114,7 @@ pub fn annotate_engine<M: Read, K: Read, R: Read, L: Read, E: Write, W: Write>(
 }
 
 /// Writes the notes on the listings with these texts, and then the log again by their catalog.
-fn annotate_over<L: Read, E: Write, W: Write>(
+pub(crate) fn annotate_over<L: Read, E: Write, W: Write>(
     alloc: Global,
     texts: &ListingTexts,
     sources: &Sources<'_>,
@@ -204,7 +204,7 @@ pub(crate) fn stopped<T>(put: Result<T, LogFault>) -> Result<T, Stop>
 }
 
 /// Why a log is annotated no further if there is this fault.
-fn stop_of(fault: LogFault) -> Stop
+pub(crate) fn stop_of(fault: LogFault) -> Stop
     ensures { result ≡ stop_of fault }
 {
     match fault {

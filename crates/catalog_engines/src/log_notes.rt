@@ -2,6 +2,7 @@
 //!
 //! ```text
 //!     packed, or UTF-16                      its first two bytes
+//!     by a history, but no line has a time   the listing of no time but the first is asked
 //!     functions of another size              the listing is of another build
 //!     its kernel lay elsewhere               moved from the listing's place, or of another boot
 //!     its own names are others               the listing is of another boot
@@ -13,11 +14,14 @@ ghost use Rattle.std.specs.Prelude.{◌≡◌};
 ghost use Rattle.texts.specs.Output.{Says};
 ghost use Rattle.catalog_engines.specs.LogNotes.{differs, kernel_note, listed_place, log_line};
 ghost use Rattle.catalog_engines.specs.LogNotes.{log_message, log_name, names_note, note_of_head};
-ghost use Rattle.catalog_engines.specs.LogNotes.{note_of_log, offset_to_give, other_boot_line};
+ghost use Rattle.catalog_engines.specs.LogNotes.{note_of_log, note_of_timed_log, offset_to_give};
+ghost use Rattle.catalog_engines.specs.LogNotes.{other_boot_line};
 ghost use Rattle.catalog_engines.specs.LogNotes.{IsLogNoted, moved_line, other_build_line};
 ghost use Rattle.catalog_engines.specs.LogNotes.{other_names_line, place_note, unnamed_line};
 
+use crate::line_runs::LogTimes;
 use crate::note_texts::{put_note_head, put_plain_note};
+use crate::timed_logs::TimedEnd;
 use listing::{ListingNote, is_gzip, is_utf_16};
 use logs::{Findings, KernelOffset, KernelReport, LogNames};
 use std::io::Write;
@@ -45,6 +49,8 @@ const GIVE_OFFSET: &[u8] = b"; give --offset ";
 const LAY_AT: &[u8] = b"its kernel lay at ";
 
 const LISTED_AT: &[u8] = b", that of the listing at ";
+
+const NO_TIME: &[u8] = b"no line has a time; only the kernel itself has names\n";
 
 const ANOTHER_BOOT: &[u8] = b"; the listing is of another boot\n";
 
@@ -85,6 +91,8 @@ pub enum LogNote {
     OtherNames(LogNames),
     /// None of its addresses has a name.
     Unnamed(LogNames),
+    /// None of its lines has a time, by which a history would name them.
+    Untimed,
 }
 
 /// Writes what is noted of the log in this file, if something is, if this was found of it.
@@ -95,6 +103,40 @@ pub fn note_log<W: Write>(found: &Findings, log: &str, kernel: ListedKernel, wri
     match note_of_log(found.head.as_slice(), found.names, kernel) {
         Some(note) => put_log_note(writer, log, note),
         None => {}
+    }
+}
+
+/// Writes what is noted of the log in this file, if something is, if it was named by a history and
+/// this was found of it.
+pub(crate) fn note_timed_log<W: Write>(
+    end: &TimedEnd,
+    log: &str,
+    kernel: ListedKernel,
+    writer: &mut Output<W>,
+)
+    ensures { IsLogNoted W.contents writer.old writer.new log.now
+        (note_of_timed_log end.now.found.head.items end.now.times end.now.found.names kernel) }
+{
+    let found = &end.found;
+    match note_of_timed_log(found.head.as_slice(), end.times, found.names, kernel) {
+        Some(note) => put_log_note(writer, log, note),
+        None => {}
+    }
+}
+
+/// What is noted of a log that was named by a history, if something is.
+fn note_of_timed_log(
+    head: &[u8],
+    times: LogTimes,
+    names: LogNames,
+    kernel: ListedKernel,
+) -> Option<LogNote>
+    ensures { result ≡ note_of_timed_log head.now times names kernel }
+{
+    match note_of_head(head) {
+        Some(note) => Some(LogNote::Form(note)),
+        None if times.is_untimed() => Some(LogNote::Untimed),
+        None => note_of_log(head, names, kernel),
     }
 }
 
@@ -219,6 +261,7 @@ fn put_log_message<W: Write>(writer: &mut Output<W>, note: LogNote)
         LogNote::OtherPlace { place, listed } => put_other_place(writer, place, listed),
         LogNote::OtherNames(names) => put_other_names(writer, names),
         LogNote::Unnamed(names) => put_unnamed(writer, names),
+        LogNote::Untimed => writer.put(NO_TIME),
     }
 }
 

@@ -27,6 +27,6 @@ pub use json_texts::{
     put_address_member, put_json_count, put_json_counts, put_json_line, put_named_module,
     put_offset_members, put_symbol_members,
 };
-pub use opened_catalogs::{ListingReaders, ListingTexts, open_catalog, read_given};
+pub use opened_catalogs::{ListingReaders, ListingTexts, open_catalog, open_symbols, read_given};
 pub use readings::{KALLSYMS_PLACE, MODULES_PLACE, REGIONS_PLACE, read_at};
 pub use reasons::{LONGEST_WORDS, words_of};

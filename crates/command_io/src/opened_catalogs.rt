@@ -3,6 +3,7 @@ ghost use Rattle.std.specs.Prelude.{[], All, IfOk, IfSome, true, unwrap_or, â—Œâ
 ghost use Rattle.std.specs.Option.{option_copied};
 ghost use Rattle.listing.specs.Opening.{listed_in};
 ghost use Rattle.modules.specs.Lines.{region_fits};
+ghost use Rattle.command_io.specs.HistoryFiles.{symbols_alone};
 ghost use Rattle.command_io.specs.OpenedCatalogs.{AreReadAs, OpensCatalog, known_given};
 ghost use Rattle.command_io.specs.OpenedCatalogs.{listing_failures, texts_in};
 
@@ -83,5 +84,23 @@ pub fn open_catalog<'a>(
     ensures { OpensCatalog (option_copied kernel.entry) (texts_in texts.now) result }
 {
     let listings = texts.listings(alloc)?;
+    Ok(open(alloc, &listings, kernel, false, asked)?)
+}
+
+/// Builds the catalog that a listing of symbols with this text says alone, as [`open_catalog`]
+/// does.
+pub fn open_symbols<'a>(
+    alloc: Global,
+    kallsyms: &'a [u8],
+    kernel: Option<&KernelBounds>,
+    asked: ExpectedLookups<'_>,
+) -> Result<OpenedCatalog<'a>, Fault>
+    ensures { OpensCatalog (option_copied kernel.entry) (symbols_alone kallsyms.now) result }
+{
+    let listings = Listings {
+        modules: None,
+        kallsyms,
+        regions: None,
+    };
     Ok(open(alloc, &listings, kernel, false, asked)?)
 }

@@ -1,5 +1,5 @@
 -- The listing at a time.
-use Rattle.std.specs.Prelude.{◌≡◌, ◌≤◌, ℕ, ◌-◌, ◌==◌, if◌then◌else◌, nat_le, filter, length, take}
+use Rattle.std.specs.Prelude.{◌≡◌, ◌≤◌, ℕ, ◌-◌, ◌==◌, if◌then◌else◌, nat_le, filter, length, min, take}
 use Rattle.std.specs.Prelude.{List, [], ◌∷◌, get_or, Option, Some, None}
 use Rattle.std.specs.Prelude.{All, true, Result, Ok, Err}
 use Rattle.std.specs.List.{flat_map, prefix_len}
@@ -35,6 +35,10 @@ before_all (first ∷ parts) = kernel_lines first.text
 abbrev pub listing_after : ℕ → List HistoryPart → List ℕ
 listing_after count parts =
     if count == 0 then before_all parts else after_parts [] (take count parts)
+
+-- the first part has the first listing, if there is a part
+abbrev pub first_count : List HistoryPart → ℕ
+first_count parts = min (length parts) 1
 
 -- how many parts have a time that is not above this one; without a time all count
 abbrev pub count_at : Option ℕ → List HistoryPart → ℕ

@@ -185,7 +185,7 @@ pub fn listing_in(alloc: Global, file: &[u8], time: Option<u64>) -> Result<Vec<u
 
 impl<'a> History<'a> {
     ghost use Rattle.std.specs.Prelude.{◌==◌};
-    ghost use Rattle.histories.specs.ListingsAt.{IsAt, IsOf};
+    ghost use Rattle.histories.specs.ListingsAt.{IsAt, IsOf, first_count};
 
     /// How many of its parts have a time that is not above this one, or without a time all.
     fn count_at(&self, time: Option<u64>) -> usize
@@ -205,6 +205,17 @@ impl<'a> History<'a> {
         ensures of { IfOk result (IsOf self.now) }
     {
         let count = self.count_at(time);
+        let text = listing_after(alloc, self.parts.as_slice(), count)?;
+        Ok(ListingAt { count, text })
+    }
+
+    /// The first listing, as the file has it. It says where the kernel itself lies, which does not
+    /// move in a boot.
+    pub fn first_listing(&self, alloc: Global) -> Result<ListingAt<'a>, AllocError>
+        ensures first { IfOk result (λ l. l.count ≡ first_count self.now) }
+        ensures of { IfOk result (IsOf self.now) }
+    {
+        let count = self.parts.len().min(1);
         let text = listing_after(alloc, self.parts.as_slice(), count)?;
         Ok(ListingAt { count, text })
     }

@@ -22,7 +22,8 @@ use crate::followed_files::FollowedFiles;
 use crate::requests::{Address, Job, Lookup, Request, Run, Subcommand};
 use catalog_engines::{
     Annotate, ListingFiles, LogReading, Sources, SymbolSource, address_engine, address_engine_at,
-    annotate_engine, check_engine, check_engine_at, follow_engine, own_offset_engine,
+    annotate_engine, check_engine, check_engine_at, follow_engine, history_annotate_engine,
+    own_offset_engine,
 };
 use command_io::{Fault, Finished, ListingReaders, with_notes, with_status, without_notes};
 use engines::{
@@ -241,6 +242,11 @@ fn do_annotate<F: FileSource, W: Write, E: Write>(
     let Some(log) = log else {
         return Err(UNREAD);
     };
+    if let SymbolSource::History { time } = sources.symbols {
+        let history = &mut listings.kallsyms;
+        let done = history_annotate_engine(alloc, history, time, log, sources, job, errors, writer);
+        return with_notes(done, ListingNotes::none());
+    }
     match job.reading {
         LogReading::Blocks => {
             let done = annotate_engine(alloc, listings, log, sources, job, errors, writer);

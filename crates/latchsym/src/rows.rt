@@ -94,6 +94,8 @@ const HISTORY_OR_FILE: &str = "--history and FILE exclude each other";
 
 const AT_NEEDS_HISTORY: &str = "--at needs --history";
 
+const HISTORY_OR_FOLLOW: &str = "--history and --follow exclude each other";
+
 const CALLERS_OR_EXACT: &str = "--callers and --exact exclude each other";
 
 /// The modules come from the symbols, so none are listed.
@@ -123,6 +125,12 @@ const FROM_HISTORY: Option<Clash> = Some(Clash {
 const INSTEAD_OF_LISTING: Option<Clash> = Some(Clash {
     other: "listing",
     message: HISTORY_OR_FILE,
+});
+
+/// A history is read once, so it is not followed.
+const NOT_BY_HISTORY: Option<Clash> = Some(Clash {
+    other: "history",
+    message: HISTORY_OR_FOLLOW,
 });
 
 const NEEDS_HISTORY: Option<Clash> = Some(Clash {
@@ -200,6 +208,10 @@ const ANNOTATE: &[Argument] = &[
     MODULES,
     REGIONS,
     KERNEL,
+    HISTORY,
+    row!(Valued "at" ["TIME"]:
+        "Take TIME, in seconds, for the time of every line, instead of its own",
+        needs: NEEDS_HISTORY),
     row!(Flag "callers" []:
         "Take every address as a return address, not only where its place in the line says so",
         excluded_by: NOT_EXACT),
@@ -207,7 +219,8 @@ const ANNOTATE: &[Argument] = &[
     row!(Valued "offset" ["N"]: "\
 Subtract N from each address, as for a kernel moved up by N at boot; auto takes N from the log"),
     row!(Flag "follow" []:
-        "Read the listings again as the log grows, for modules loaded meanwhile"),
+        "Read the listings again as the log grows, for modules loaded meanwhile",
+        instead_of: NOT_BY_HISTORY),
     LOG,
 ];
 
