@@ -10,7 +10,7 @@ import re
 import sys
 
 TOP = os.path.dirname(os.path.dirname(os.path.abspath(__file__)))
-MOST = 70
+MOST = 52
 LITERAL = r'"((?:[^"\\]|\\.)*)"'
 
 

@@ -1,5 +1,5 @@
 -- A line that says nothing of its kernel.
-use Rattle.logs.proofs.Definitions.{◌≡◌, ◌+◌, ◌<◌, ℕ, zero, suc, Bool, false, List, [], length, arith, refl, Some, codes, is_byte, nat_eq, starts_with, and_right}
+use Rattle.logs.proofs.Definitions.{◌≡◌, ◌<◌, ℕ, Bool, false, List, [], length, arith, refl, Some, codes, is_byte, nat_eq, starts_with, and_right}
 use Rattle.std.proofs.Common.{Option, None, drop}
 use Rattle.std.specs.Prelude.{nat_lt}
 use Rattle.std.proofs.Common.{◌∷◌, ◌++◌, ◌==◌, cond, take, true}

@@ -3,15 +3,6 @@ use Rattle.logs.proofs.Definitions.{take_rest, ne_eqb, ◌≡◌, ◌∙◌, ℕ
 use Rattle.std.proofs.Common.{◌-◌, drop}
 use Rattle.std.proofs.lemmas.Slice.Eq.{bytes_eq-Decides}
 use Rattle.std.specs.List.{ends_with}
-use Rattle.logs.specs.declared.places.Kind.{Kind}
-
--- one byte more at the end
-pub last_more : (k : Kind) (bytes : List ℕ) (i : ℕ) → 0 < i → i ≤ length bytes → last_of k (take i bytes) ≡ cond (is_of k (get_or bytes (i - 1) 0)) (last_of k (take (i - 1) bytes) + 1) 0
-last_more k bytes zero some within = absurd (omega arith)
-last_more k bytes (suc i) some within =
-    let one : suc i ≡ i + 1 = omega arith in
-    let less : suc i - 1 ≡ i = omega arith in
-    rw (less, one, take_more bytes i 0 (omega arith), reverse-append (take i bytes) (get_or bytes i 0 ∷ []))
 
 one_less : (n : ℕ) → suc n - 1 ≡ n
 one_less n = omega arith

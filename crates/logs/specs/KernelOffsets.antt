@@ -1,6 +1,6 @@
 -- What a log says itself of the place of its kernel: `Kernel Offset: 0x1a600000 from
 -- 0xffffffff81000000`.
-use Rattle.std.specs.Prelude.{ℕ, ◌+◌, ◌%◌, ◌^◌, List, [], ◌∷◌, drop, take, codes, nat_eq}
+use Rattle.std.specs.Prelude.{ℕ, ◌+◌, ◌%◌, ◌^◌, List, [], ◌∷◌, drop, length, take, nat_eq}
 use Rattle.std.specs.Prelude.{Option, None, option_and_then, if◌then◌else◌}
 use Rattle.std.specs.List.{starts_with}
 use Rattle.std.specs.Option.{option_map, option_or}
@@ -8,6 +8,7 @@ use Rattle.texts.specs.Numbers.{numeral}
 use Rattle.logs.specs.Places.{first_of}
 use Rattle.logs.specs.declared.places.Kind.TheVariants as kind
 use Rattle.logs.specs.declared.kernel_offsets.KernelOffset.{KernelOffset}
+use Rattle.logs.specs.declared.kernel_offsets.TheConstants.{FROM, OFFSET}
 
 -- how many hexadecimal digits begin a text
 abbrev pub digits_at : List ℕ → ℕ
@@ -20,17 +21,17 @@ number_at text = numeral 16 16 (take (digits_at text) text)
 -- ` from 0xB` begins the text, after an offset of A bytes
 abbrev pub from_at : ℕ → List ℕ → Option KernelOffset
 from_at offset text =
-    if starts_with nat_eq text (codes " from 0x")
-    then option_map (λ from. record { offset = offset; from = from }) (number_at (drop 8 text))
+    if starts_with nat_eq text FROM.now
+    then option_map (λ from. record { offset = offset; from = from }) (number_at (drop (length FROM.now) text))
     else None
 
 -- `Kernel Offset: 0xA from 0xB` begins the text
 abbrev pub kernel_offset_at : List ℕ → Option KernelOffset
 kernel_offset_at text =
-    if starts_with nat_eq text (codes "Kernel Offset: 0x")
-    then option_and_then
-    (λ offset. from_at offset (drop (digits_at (drop 17 text)) (drop 17 text)))
-    (number_at (drop 17 text))
+    let digits = drop (length OFFSET.now) text in
+    if starts_with nat_eq text OFFSET.now
+    then option_and_then (λ offset. from_at offset (drop (digits_at digits) digits))
+    (number_at digits)
     else None
 
 -- the first place of a log that says so

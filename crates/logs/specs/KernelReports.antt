@@ -10,6 +10,7 @@ use Rattle.logs.specs.Answering.{Answering}
 use Rattle.logs.specs.KernelOffsets.{kernel_offset_in}
 use Rattle.logs.specs.Places.{end_of, first_of}
 use Rattle.logs.specs.Words.{digits_between}
+use Rattle.logs.specs.declared.kernel_offsets.TheConstants.{OFFSET}
 use Rattle.logs.specs.declared.kernel_reports.KernelReport.{KernelReport}
 use Rattle.logs.specs.declared.places.Kind.TheVariants as kind
 
@@ -94,7 +95,7 @@ Lacks bytes text = (k : ℕ) → OccursAt bytes text k → ⊥
 
 -- No text in the bytes may be the size of a function, or where the kernel lay.
 abbrev pub SaysNothing : List ℕ → Type 0
-SaysNothing bytes = Lacks bytes (codes "/0x") × Lacks bytes (codes "Kernel Offset: 0x")
+SaysNothing bytes = Lacks bytes (codes "/0x") × Lacks bytes OFFSET.now
 
 -- The listing is one of another build: two functions or more have another size.
 abbrev pub is_of_another_build : KernelReport → Bool

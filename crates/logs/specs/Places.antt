@@ -9,6 +9,7 @@ use Rattle.std.specs.Str.{bytes_eq}
 use Rattle.logs.specs.Words.{is_word_byte, run_of}
 use Rattle.logs.specs.declared.places.Kind.{Kind}
 use Rattle.logs.specs.declared.places.Kind.TheVariants as kind
+use Rattle.logs.specs.declared.places.TheConstants.{FROM, HIDDEN, IS_AT, KERNEL, LONGER_TIME, TIME}
 
 -- a byte is of a kind
 abbrev pub is_of : Kind → ℕ → Bool
@@ -51,7 +52,7 @@ abbrev pub ends_in_label : List ℕ → Bool
 ends_in_label bytes =
     let word = end_of kind.Word bytes in
     bytes_eq word (codes "ra") || bytes_eq word (codes "lr") || bytes_eq word (codes "LR")
-    || bytes_eq word (codes "from")
+    || bytes_eq word FROM.now
 
 -- A `<-` comes directly before the address, or `[<0>]` and blanks; or only blanks, `:`, `=` and
 -- marks come after the last word, and it is a label, or one and ` is at`, or `at` or `in` with a
@@ -61,9 +62,10 @@ has_label before =
     let head = without_end kind.LabelGap before in
     let word = end_of kind.Word head in
     ends_with nat_eq before (codes "<-")
-    || ends_with nat_eq (without_end kind.Space before) (codes "[<0>]")
+    || ends_with nat_eq (without_end kind.Space before) HIDDEN.now
     || ends_in_label head
-    || (ends_with nat_eq head (codes " is at") && ends_in_label (take (length head - 6) head))
+    || (ends_with nat_eq head IS_AT.now
+    && ends_in_label (take (length head - length IS_AT.now) head))
     || (starts_with nat_eq (drop (length head) before) (codes ":")
     && (bytes_eq word (codes "at") || bytes_eq word (codes "in")))
 
@@ -85,8 +87,8 @@ has_point (b ∷ bytes) =
 abbrev pub has_time : Bool → List ℕ → Bool
 has_time within [] = false
 has_time within (b ∷ bytes) =
-    (not within && begins_like (codes "00:00:00") (b ∷ bytes)
-    && not (begins_like (codes "00:00:00:") (b ∷ bytes)))
+    (not within && begins_like TIME.now (b ∷ bytes)
+    && not (begins_like LONGER_TIME.now (b ∷ bytes)))
     || has_time (is_digit b 10 || b == 58) bytes
 
 -- bytes end in a group in brackets in which a digit, `.` or `:`, and a digit follow each other
@@ -119,7 +121,7 @@ abbrev pub ends_prefix : Bool → List ℕ → List ℕ → Bool
 ends_prefix at_start front after =
     ends_record at_start front
     || (ends_with nat_eq front (codes ":")
-    && bytes_eq (end_of kind.Word (take (length front - 1) front)) (codes "kernel"))
+    && bytes_eq (end_of kind.Word (take (length front - 1) front)) KERNEL.now)
     || ends_in_stamp front
     || (begins_blank after && has_time false (end_of kind.NoBlank front))
 

@@ -12,6 +12,7 @@ use Rattle.logs.specs.declared.contexts.First.TheVariants as first
 use Rattle.logs.specs.declared.places.Kind.TheVariants as kind
 use Rattle.logs.specs.declared.address_words.Place.{Place}
 use Rattle.logs.specs.declared.address_words.AddressWord.{AddressWord}
+use Rattle.logs.specs.declared.address_words.TheConstants as text
 use Rattle.logs.specs.declared.words.Word.{Word}
 
 -- ---- the place of a word
@@ -113,10 +114,10 @@ has_words words within (b ∷ bytes) =
 
 -- the line ends the registers of a program; and these bytes begin them
 abbrev pub ends_user : List ℕ → Bool
-ends_user line = has_words (codes "Krnl") false line || has_words (codes "Call Trace") false line
+ends_user line = has_words text.KERNEL.now false line || has_words text.CALL_TRACE.now false line
 
 abbrev pub begins_user : List ℕ → Bool
-begins_user bytes = has_words (codes "User PSW") false bytes
+begins_user bytes = has_words text.USER.now false bytes
 
 -- a program's registers were begun before the line, and it does not end them
 abbrev pub is_user_line : LogContext → List ℕ → Bool
@@ -126,8 +127,8 @@ is_user_line held line = held.is_user && not (ends_user line)
 abbrev pub has_code : List ℕ → Bool
 has_code [] = false
 has_code (b ∷ bytes) =
-    starts_with nat_eq (b ∷ bytes) (codes "Code:")
-    || starts_with nat_eq (b ∷ bytes) (codes "ACPI:") || has_code bytes
+    starts_with nat_eq (b ∷ bytes) text.CODE.now
+    || starts_with nat_eq (b ∷ bytes) text.ACPI.now || has_code bytes
 
 -- From the word on, all of its line is not of this kernel: from the address word before it on, or
 -- else the line is a program's; or it is one of a program, or, of 32 bits, a part of its code.
@@ -148,9 +149,9 @@ begins_dump after =
 abbrev pub has_bus_label : List ℕ → Bool
 has_bus_label gap =
     let word = end_of kind.Word (without_end kind.ColonGap gap) in
-    bytes_eq word (codes "MMIO") || bytes_eq word (codes "mem") || bytes_eq word (codes "port")
-    || bytes_eq word (codes "Cause") || bytes_eq word (codes "Status")
-    || bytes_eq word (codes "Config") || bytes_eq word (codes "PrId")
+    bytes_eq word text.MMIO.now || bytes_eq word text.MEMORY.now || bytes_eq word text.PORT.now
+    || bytes_eq word text.CAUSE.now || bytes_eq word text.STATUS.now
+    || bytes_eq word text.CONFIG.now || bytes_eq word text.PROCESSOR.now
 
 -- The word is not of this kernel: it is outside, or a row of a dump, or, of 32 bits, after such a
 -- label.

@@ -28,6 +28,31 @@ use crate::words::{Word, address_of_word, has_prefix, is_word_byte};
 use memchr::{memchr, memmem};
 use texts::digit_of;
 
+/// What begins the registers of a program, and what ends them.
+const USER: &[u8] = b"User PSW";
+
+const KERNEL: &[u8] = b"Krnl";
+
+const CALL_TRACE: &[u8] = b"Call Trace";
+/// What comes before a part of the kernel's code, and before a table of ACPI.
+const CODE: &[u8] = b"Code:";
+
+const ACPI: &[u8] = b"ACPI:";
+/// The labels of addresses of a bus.
+const MMIO: &[u8] = b"MMIO";
+
+const MEMORY: &[u8] = b"mem";
+
+const PORT: &[u8] = b"port";
+/// The labels of registers that hold no address.
+const CAUSE: &[u8] = b"Cause";
+
+const STATUS: &[u8] = b"Status";
+
+const CONFIG: &[u8] = b"Config";
+
+const PROCESSOR: &[u8] = b"PrId";
+
 /// The place of an address word in its line.
 #[derive(Clone, Copy, Debug, Drop)]
 pub struct Place {
@@ -348,13 +373,13 @@ fn has_bus_label(gap: &[u8]) -> bool
     ensures { result ≡ has_bus_label gap.now }
 {
     let word = end_of(Kind::Word, without_end(Kind::ColonGap, gap));
-    word == b"MMIO".as_slice()
-        || word == b"mem".as_slice()
-        || word == b"port".as_slice()
-        || word == b"Cause".as_slice()
-        || word == b"Status".as_slice()
-        || word == b"Config".as_slice()
-        || word == b"PrId".as_slice()
+    word == MMIO
+        || word == MEMORY
+        || word == PORT
+        || word == CAUSE
+        || word == STATUS
+        || word == CONFIG
+        || word == PROCESSOR
 }
 
 /// Whether a program's registers were begun before the line, and it does not end them.
@@ -368,7 +393,7 @@ fn is_user_line(held: LogContext, line: &[u8]) -> bool
 fn ends_user(line: &[u8]) -> bool
     ensures { result ≡ ends_user line.now }
 {
-    has_words(b"Krnl", line) || has_words(b"Call Trace", line)
+    has_words(KERNEL, line) || has_words(CALL_TRACE, line)
 }
 
 /// Whether the bytes begin the registers of a program. Mostly they are few, and have no `P` at all.
@@ -376,7 +401,7 @@ fn ends_user(line: &[u8]) -> bool
 fn begins_user(bytes: &[u8]) -> bool
     ensures { result ≡ begins_user bytes.now }
 {
-    has_p(bytes) && has_words(b"User PSW", bytes)
+    has_p(bytes) && has_words(USER, bytes)
 }
 
 /// Whether a `P` is among the bytes.
@@ -399,7 +424,7 @@ fn has_code(bytes: &[u8]) -> bool
 {
     let mut rest = bytes;
     while !rest.is_empty() {
-        if rest.starts_with(b"Code:") || rest.starts_with(b"ACPI:") {
+        if rest.starts_with(CODE) || rest.starts_with(ACPI) {
             return true;
         }
         rest = &rest[1..];

@@ -14,8 +14,13 @@ ghost use Rattle.logs.specs.KernelOffsets.{kernel_offset_at, kernel_offset_in, k
 ghost use Rattle.logs.specs.KernelOffsets.{from_at, number_at};
 
 use crate::places::{Kind, first_of};
-use memchr::memmem;
+use memchr::{memchr, memmem};
 use texts::hexadecimal;
+
+/// What stands before the offset.
+pub(crate) const OFFSET: &[u8] = b"Kernel Offset: 0x";
+/// What stands between the offset and the address from which the kernel was moved.
+const FROM: &[u8] = b" from 0x";
 
 /// The place of a log's kernel.
 #[derive(Clone, Copy, Debug, PartialEq, Eq, Drop)]
@@ -35,12 +40,23 @@ impl KernelOffset {
     }
 }
 
-/// What the first place says of it that says so, if one does.
-#[tactic(auto, using(crate::proofs::KernelOffsetLemmas::none_without_head))]
+/// What the first place says of it that says so, if one does. Mostly a line has no `K` at all.
+#[tactic(auto, using(crate::proofs::KernelOffsetLemmas::none_without_letter))]
 pub fn kernel_offset_in(log: &[u8]) -> Option<KernelOffset>
     ensures { result ≡ kernel_offset_in log.now }
 {
-    match memmem::find(log, b"Kernel Offset: 0x") {
+    match memchr(b'K', log) {
+        Some(_) => kernel_offset_found(log),
+        None => None,
+    }
+}
+
+/// This, sought by the text before the offset.
+#[tactic(auto, using(crate::proofs::KernelOffsetLemmas::none_without_head))]
+fn kernel_offset_found(log: &[u8]) -> Option<KernelOffset>
+    ensures { result ≡ kernel_offset_in log.now }
+{
+    match memmem::find(log, OFFSET) {
         Some(_) => kernel_offset_apart(log),
         None => None,
     }
@@ -65,10 +81,10 @@ fn kernel_offset_apart(log: &[u8]) -> Option<KernelOffset>
 fn kernel_offset_at(text: &[u8]) -> Option<KernelOffset>
     ensures { result ≡ kernel_offset_at text.now }
 {
-    if !text.starts_with(b"Kernel Offset: 0x") {
+    if !text.starts_with(OFFSET) {
         return None;
     }
-    let digits = &text[17..];
+    let digits = &text[OFFSET.len()..];
     let offset = number_at(digits)?;
     from_at(offset, &digits[first_of(Kind::Hexadecimal, digits)..])
 }
@@ -77,10 +93,10 @@ fn kernel_offset_at(text: &[u8]) -> Option<KernelOffset>
 fn from_at(offset: u64, text: &[u8]) -> Option<KernelOffset>
     ensures { result ≡ from_at offset text.now }
 {
-    if !text.starts_with(b" from 0x") {
+    if !text.starts_with(FROM) {
         return None;
     }
-    let from = number_at(&text[8..])?;
+    let from = number_at(&text[FROM.len()..])?;
     Some(KernelOffset { offset, from })
 }
 

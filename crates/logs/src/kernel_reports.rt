@@ -14,7 +14,7 @@ ghost use Rattle.logs.specs.KernelReports.{size_in, with_function, with_function
 ghost use Rattle.logs.specs.KernelReports.{with_size};
 
 use crate::answers::Answers;
-use crate::kernel_offsets::{KernelOffset, kernel_offset_in};
+use crate::kernel_offsets::{KernelOffset, OFFSET, kernel_offset_in};
 use crate::places::{Kind, end_of, first_of};
 use crate::words::digits_between;
 use memchr::{memchr_iter, memmem};
@@ -152,7 +152,7 @@ impl KernelReport {
 pub fn says_nothing(bytes: &[u8]) -> bool
     ensures { IsTrue result → SaysNothing bytes.now }
 {
-    lacks(bytes, b"/0x") && lacks(bytes, b"Kernel Offset: 0x")
+    lacks(bytes, b"/0x") && lacks(bytes, OFFSET)
 }
 
 /// Whether a text occurs nowhere in the bytes.

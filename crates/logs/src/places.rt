@@ -16,6 +16,19 @@ ghost use Rattle.logs.specs.Places.{is_record, last_of, lead_item, prefix_end, w
 use crate::words::is_word_byte;
 use texts::digit_of;
 
+/// The label of an address that another one is returned to.
+const FROM: &[u8] = b"from";
+/// What comes between such a label and its address, if it is a sentence.
+const IS_AT: &[u8] = b" is at";
+/// What a stack of /proc has before each of its frames.
+const HIDDEN: &[u8] = b"[<0>]";
+/// The last word of a prefix of a system log.
+const KERNEL: &[u8] = b"kernel";
+/// The shape of a time of day, and one that goes on.
+const TIME: &[u8] = b"00:00:00";
+
+const LONGER_TIME: &[u8] = b"00:00:00:";
+
 /// A kind of bytes. Runs of each kind are sought.
 #[derive(Clone, Copy, Debug, Drop)]
 pub(crate) enum Kind {
@@ -94,28 +107,27 @@ pub(crate) fn first_of(kind: Kind, bytes: &[u8]) -> usize
     ensures within { result ≤ length bytes.now }
     ensures is { result ≡ first_of kind bytes.now }
 {
-    let mut i = 0;
-    while i < bytes.len() {
-        if !kind.has(bytes[i]) {
-            return i;
+    let mut rest = bytes;
+    while let [byte, more @ ..] = rest {
+        if !kind.has(*byte) {
+            return bytes.len() - rest.len();
         }
-        i += 1;
+        rest = more;
     }
-    i
+    bytes.len()
 }
 
 /// How many bytes of a kind the bytes end in.
-#[tactic(auto, using(crate::proofs::PlaceLemmas::last_more))]
 fn last_of(kind: Kind, bytes: &[u8]) -> usize
     ensures within { result ≤ length bytes.now }
     ensures is { result ≡ last_of kind bytes.now }
 {
-    let mut i = bytes.len();
-    while i > 0 {
-        if !kind.has(bytes[i - 1]) {
-            return bytes.len() - i;
+    let mut rest = bytes;
+    while let [front @ .., byte] = rest {
+        if !kind.has(*byte) {
+            return bytes.len() - rest.len();
         }
-        i -= 1;
+        rest = front;
     }
     bytes.len()
 }
@@ -161,10 +173,7 @@ fn ends_in_label(bytes: &[u8]) -> bool
     if word.is_empty() {
         return false;
     }
-    word == b"ra".as_slice()
-        || word == b"lr".as_slice()
-        || word == b"LR".as_slice()
-        || word == b"from".as_slice()
+    word == b"ra".as_slice() || word == b"lr".as_slice() || word == b"LR".as_slice() || word == FROM
 }
 
 /// Whether the bytes end in a text. Mostly they differ in the last one.
@@ -184,9 +193,9 @@ pub(crate) fn has_label(before: &[u8]) -> bool
     let head = without_end(Kind::LabelGap, before);
     let word = end_of(Kind::Word, head);
     ends_so(before, b"<-")
-        || ends_so(without_end(Kind::Space, before), b"[<0>]")
+        || ends_so(without_end(Kind::Space, before), HIDDEN)
         || ends_in_label(head)
-        || (ends_so(head, b" is at") && ends_in_label(&head[..head.len() - 6]))
+        || (ends_so(head, IS_AT) && ends_in_label(&head[..head.len() - IS_AT.len()]))
         || (before[head.len()..].starts_with(b":")
             && (word == b"at".as_slice() || word == b"in".as_slice()))
 }
@@ -253,7 +262,7 @@ fn has_time(bytes: &[u8]) -> bool
     let mut within = false;
     let mut rest = bytes;
     while let [byte, more @ ..] = rest {
-        if !within && begins_like(b"00:00:00", rest) && !begins_like(b"00:00:00:", rest) {
+        if !within && begins_like(TIME, rest) && !begins_like(LONGER_TIME, rest) {
             return true;
         }
         within = byte.is_ascii_digit() || *byte == b':';
@@ -320,8 +329,7 @@ fn ends_prefix(at_start: bool, front: &[u8], after: &[u8]) -> bool
     ensures { result ≡ ends_prefix at_start front.now after.now }
 {
     ends_record(at_start, front)
-        || (front.ends_with(b":")
-            && end_of(Kind::Word, without_last(front)) == b"kernel".as_slice())
+        || (front.ends_with(b":") && end_of(Kind::Word, without_last(front)) == KERNEL)
         || ends_in_stamp(front)
         || (begins_blank(after) && has_time(end_of(Kind::NoBlank, front)))
 }
