@@ -22,3 +22,7 @@ mod SoughtLemmas
 mod GivenLemmas
 -- where the last byte of its kind stands, and where a symbol that was found ends
 mod AskedNameLemmas
+-- which lines a listing may name, line by line
+mod RunLemmas
+-- runs of a log that are named, and what is read and written for them
+mod TimedLemmas

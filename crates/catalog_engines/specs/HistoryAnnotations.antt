@@ -1,5 +1,5 @@
 -- What is written for a log by a history, and noted of both.
-use Rattle.std.specs.Prelude.{◌≡◌, ◌⊎◌, ℕ, List, Option, Some, Result, Ok, Err, IsErrAnd}
+use Rattle.std.specs.Prelude.{◌≡◌, ◌⊎◌, ℕ, List, [], Option, Some, None, Result, Ok, Err, IsErrAnd}
 use Rattle.texts.specs.declared.counted.Counted.{Counted}
 use Rattle.texts.specs.declared.output.Output.{Output}
 use Rattle.modules.specs.Entries.{CatalogEntries}
@@ -8,11 +8,13 @@ use Rattle.listing.specs.ListingNotes.{is_some_noted}
 use Rattle.listing.specs.declared.listing_notes.ListingNotes.{ListingNotes}
 use Rattle.logs.specs.declared.annotation.LogFault.{LogFault}
 use Rattle.histories.specs.Grammar.{HistoryPart}
+use Rattle.histories.specs.ListingsAt.{listing_at}
 use Rattle.command_io.specs.HistoryFiles.{IsHistoryRead, IsNoHistory, symbols_alone}
 use Rattle.command_io.specs.OpenedCatalogs.{IsCatalogOf}
 use Rattle.command_io.specs.declared.fault.Fault.{Fault}
 use Rattle.command_io.specs.declared.fault.Fault.TheVariants.{Refused}
-use Rattle.catalog_engines.specs.Annotations.{IsEndTold, IsUntouched, listed_kernel, stop_of}
+use Rattle.catalog_engines.specs.Annotations.{AnnotatesLog, IsEndTold, IsUntouched, listed_kernel}
+use Rattle.catalog_engines.specs.Annotations.{stop_of}
 use Rattle.catalog_engines.specs.LogNotes.{IsLogNoted, note_of_timed_log}
 use Rattle.catalog_engines.specs.NoteTexts.{IsNoted, note_lines}
 use Rattle.catalog_engines.specs.TimedLogs.{IsTimed, first_listing}
@@ -56,10 +58,19 @@ module _ {L W E : Type 0} (remaining : L → Option (List ℕ)) (contents : W �
       ((result ≡ Err (Refused refusal.OutOfMemory)) × IsUntouched l l' w w' e e')
       ⊎ AnnotatesTimed parts result
 
+  -- The log was annotated by a history with these parts: each line by the listing at its time, or
+  -- all lines by the listing at a time.
+  abbrev pub AnnotatesAt : Option ℕ → List HistoryPart → Result ℕ Fault → Type 0
+  AnnotatesAt None parts result = AnnotatesBy parts result
+  AnnotatesAt (Some time) parts result =
+      AnnotatesLog remaining contents errors q a
+      (Some (symbols_alone (listing_at (Some time) parts))) [] l l' w w' e e' result
+
   -- What the engine returns: there is no history, and nothing else was touched; or the log was
   -- annotated by it.
-  abbrev pub AnnotatesByHistory : {H : Type 0} → (H → Option (List ℕ)) → Counted H → Counted H
-      → Result ℕ Fault → Type 0
-  AnnotatesByHistory known h h' result =
+  abbrev pub AnnotatesByHistory : {H : Type 0} → Option ℕ → (H → Option (List ℕ)) → Counted H
+      → Counted H → Result ℕ Fault → Type 0
+  AnnotatesByHistory time known h h' result =
       (IsErrAnd result (IsNoHistory known h h') × IsUntouched l l' w w' e e')
-      ⊎ ((parts : List HistoryPart) × IsHistoryRead known h h' parts × AnnotatesBy parts result)
+      ⊎ ((parts : List HistoryPart) × IsHistoryRead known h h' parts
+      × AnnotatesAt time parts result)

@@ -41,8 +41,8 @@ pub fn history_annotate_engine<H: Read, L: Read, E: Write, W: Write>(
     writer: &mut Output<W>,
 ) -> Result<u8, Fault>
     ensures { AnnotatesByHistory L.remaining W.contents E.contents sources.now job.now
-        log.old log.new writer.old writer.new errors.old errors.new time
-        H.remaining history.old history.new result }
+        log.old log.new writer.old writer.new errors.old errors.new
+        time H.remaining history.old history.new result }
 {
     let file = read_at(alloc, history, KALLSYMS_PLACE)?;
     let history = history_in(alloc, &file)?;

@@ -9,6 +9,7 @@ use Rattle.catalog_engines.specs.Annotations.{AnnotatesLog}
 use Rattle.catalog_engines.specs.Checks.{IsChecked}
 use Rattle.catalog_engines.specs.Following.{FollowsLog}
 use Rattle.catalog_engines.specs.LastingLogs.{Seen}
+use Rattle.catalog_engines.specs.HistoryAnnotations.{AnnotatesByHistory}
 use Rattle.catalog_engines.specs.OwnOffsets.{WritesByOwnOffset, all_failures}
 use Rattle.latchsym.specs.Files.{Held, held_given}
 use Rattle.catalog_engines.specs.GivenAnswers.{AnswersGiven, AnswersListings}
@@ -133,12 +134,24 @@ IsLogBy remaining held contents errors s a Whole l l' w w' e e' outcome r r' =
     (known_given remaining remaining remaining l) (remaining (device_of r))
     (all_failures (listing_failures l l') r r')) (with_notes no_notes) outcome
 
+-- A log is annotated by listings, or by a history, each line by the listing at its time or at the one
+-- that is given.
+abbrev pub IsLogOf : {R W E : Type 0} → (R → Option (List ℕ)) → Held → (W → Option (List ℕ))
+    → (E → Option (List ℕ)) → Sources → Annotate → SymbolSource → ListingReaders R R R
+    → ListingReaders R R R → Output W → Output W → Output E → Output E
+    → Result Finished Fault → Counted R → Counted R → Type 0
+IsLogOf remaining held contents errors s a Listing l l' w w' e e' outcome r r' =
+    IsLogBy remaining held contents errors s a a.reading l l' w w' e e' outcome r r'
+IsLogOf remaining held contents errors s a (History time) l l' w w' e e' outcome r r' =
+    Ends (AnnotatesByHistory remaining contents errors s a r r' w w' e e' time remaining l.kallsyms
+    l'.kallsyms) (with_notes no_notes) outcome
+
 abbrev pub IsOutcomeOfLog : {R W E : Type 0} → (R → Option (List ℕ)) → Held → (W → Option (List ℕ))
-    → (E → Option (List ℕ)) → Sources → Annotate → LogReading → ListingReaders R R R
+    → (E → Option (List ℕ)) → Sources → Annotate → SymbolSource → ListingReaders R R R
     → ListingReaders R R R → Option (Counted R) → Option (Counted R) → Output W → Output W
     → Output E → Output E → Result Finished Fault → Type 0
-IsOutcomeOfLog remaining held contents errors s a reading l l' i i' w w' e e' outcome =
-    HoldsOfInput (IsLogBy remaining held contents errors s a reading l l' w w' e e' outcome)
+IsOutcomeOfLog remaining held contents errors s a symbols l l' i i' w w' e e' outcome =
+    HoldsOfInput (IsLogOf remaining held contents errors s a symbols l l' w w' e e' outcome)
     i i' outcome
 
 -- how addresses are looked up that are asked for over these listings
@@ -159,7 +172,7 @@ IsOutcomeBy remaining held contents errors s (sub.Lookup lookup) l l' i i' w w' 
 IsOutcomeBy remaining held contents errors s (sub.Run run) l l' i i' w w' e e' outcome =
     IsOutcomeOfRun remaining contents s run.readers l l' i i' w w' outcome × (e' ≡ e)
 IsOutcomeBy remaining held contents errors s (sub.Annotate a) l l' i i' w w' e e' outcome =
-    IsOutcomeOfLog remaining held contents errors s a a.reading l l' i i' w w' e e' outcome
+    IsOutcomeOfLog remaining held contents errors s a s.symbols l l' i i' w w' e e' outcome
 IsOutcomeBy remaining held contents errors s sub.Check l l' i i' w w' e e' outcome =
     Ends (AnswersSources remaining contents (IsChecked s.kernel s.files) s.symbols l l' w w')
     (with_notes no_notes) outcome × (e' ≡ e)

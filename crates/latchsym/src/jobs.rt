@@ -14,7 +14,7 @@ ghost use Rattle.latchsym.specs.Files.{IsOpenedFor};
 ghost use Rattle.latchsym.specs.Files.{IsOpenedIfGiven};
 ghost use Rattle.latchsym.specs.Files.{or_standard};
 ghost use Rattle.latchsym.specs.Outcomes.{AnswersSources, Ends, IsLookedUpBy, IsOutcome};
-ghost use Rattle.latchsym.specs.Outcomes.{IsOutcomeBy};
+ghost use Rattle.latchsym.specs.Outcomes.{IsLogBy, IsOutcomeBy};
 ghost use Rattle.latchsym.specs.Outcomes.{IsOutcomeOfLog, IsOutcomeOfRun, query_of, seen_first};
 ghost use Rattle.latchsym.specs.Reasons.{error_if_given, error_of_listings, error_of_request};
 
@@ -223,7 +223,7 @@ fn do_run<T: Threads + Wait + Sync, R: Read, W: Write>(
     )
 }
 
-/// Annotates a log, or follows it, or reads it whole for the offset that it says.
+/// Annotates a log by listings, or by a history.
 fn do_annotate<F: FileSource, W: Write, E: Write>(
     alloc: Global,
     files: &F,
@@ -235,18 +235,41 @@ fn do_annotate<F: FileSource, W: Write, E: Write>(
     errors: &mut Output<E>,
 ) -> Result<Finished, Fault>
     ensures { IsOutcomeOfLog F.File.remaining (F.held files.now) W.contents E.contents sources.now
-        job.now
-        job.now.reading listings.old listings.new log.old log.new writer.old writer.new
-        errors.old errors.new result }
+        job.now sources.now.symbols listings.old listings.new log.old log.new
+        writer.old writer.new errors.old errors.new result }
 {
     let Some(log) = log else {
         return Err(UNREAD);
     };
-    if let SymbolSource::History { time } = sources.symbols {
-        let history = &mut listings.kallsyms;
-        let done = history_annotate_engine(alloc, history, time, log, sources, job, errors, writer);
-        return with_notes(done, ListingNotes::none());
+    match sources.symbols {
+        SymbolSource::Listing => {
+            annotate_listed(alloc, files, sources, job, listings, log, writer, errors)
+        }
+        SymbolSource::History { time } => {
+            let history = &mut listings.kallsyms;
+            let done = history_annotate_engine(
+                alloc, history, time, log, sources, job, errors, writer,
+            );
+            with_notes(done, ListingNotes::none())
+        }
     }
+}
+
+/// Annotates a log by listings, or follows it, or reads it whole for the offset that it says.
+fn annotate_listed<F: FileSource, W: Write, E: Write>(
+    alloc: Global,
+    files: &F,
+    sources: &Sources<'_>,
+    job: &Annotate<'_>,
+    listings: &mut ListingReaders<F::File, F::File, F::File>,
+    log: &mut Counted<F::File>,
+    writer: &mut Output<W>,
+    errors: &mut Output<E>,
+) -> Result<Finished, Fault>
+    ensures { IsLogBy F.File.remaining (F.held files.now) W.contents E.contents sources.now
+        job.now job.now.reading listings.old listings.new writer.old writer.new
+        errors.old errors.new result log.old log.new }
+{
     match job.reading {
         LogReading::Blocks => {
             let done = annotate_engine(alloc, listings, log, sources, job, errors, writer);
