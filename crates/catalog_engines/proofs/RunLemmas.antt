@@ -1,7 +1,7 @@
 -- Which lines a listing may name, line by line.
 use Rattle.catalog_engines.proofs.Words.{◌≡◌, ◌∙◌, ℕ, ◌+◌, ◌-◌, ◌&&◌, Bool, true, false, List, [], ◌∷◌, ◌++◌, length, take, Option, Some, None, refl, sym, ap, subst, arith, append_assoc, append-nil, length-append, and_parts}
 use Rattle.std.specs.Prelude.{filter}
-use Rattle.std.proofs.Math.Seq.{take-append_seam}
+use Rattle.std.proofs.Math.Seq.{take-append-add, take-append_seam}
 use Rattle.logs.proofs.LineLemmas.{last_line, line_has_end, line_then, no_end_behind, opened_line}
 use Rattle.logs.specs.Annotation.{IsOpen}
 use Rattle.logs.specs.Lines.{IsLine, has_end, lines}
@@ -65,3 +65,12 @@ module _ (parts : List HistoryPart) (narrow : Bool) (count : ℕ) where
   pub unended_run : (a : Annotator) (t : LogTimes) (bytes : List ℕ) → has_end bytes ≡ false → IsRunAfter parts narrow count a t t bytes
   unended_run a t bytes unended = λ begun is_open.
       subst (λ ls. IsRun parts narrow count t t ls) (sym (none_ended_in (begun ++ bytes) (no_end_behind begun bytes is_open.no_end unended))) (refl, refl)
+
+  -- after a line that is open, nothing
+  pub nothing_run : (a : Annotator) (t : LogTimes) → IsRunAfter parts narrow count a t t []
+  nothing_run a t = unended_run a t [] refl
+
+-- the bytes before a rest that follows two parts
+pub two_before : (bytes line more named left : List ℕ) → bytes ≡ line ++ more → more ≡ named ++ left → take (length line + length named) bytes ≡ line ++ named
+two_before bytes line more named left is also =
+    rw (is, also, take-append-add line (named ++ left) (length named)) (ap (λ b. line ++ b) (take-append_seam named left))

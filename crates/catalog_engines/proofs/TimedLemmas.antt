@@ -34,36 +34,48 @@ module _ (kernel : Option BoundNames) (rule : LogRule) (parts : List HistoryPart
     run_named p s s' bytes text pending is_open held times (run, parted, passes, after) =
         let passed = passes p.line is_open in
         let p' : TimedPoint = record { times = s'.times; held = held_in s'.annotator; line = passed.line' } in
-        let is_run : IsRun parts answer.is_narrow count s.times s'.times (ended_in (p.line ++ run)) = after p.line is_open in
-        (run, parted, (p', record {
-          ended = passed.passed;
-          parts_are = passed.parts;
-          whole = passed.whole;
-          no_end = passed.is_open.no_end;
-          run = subst (λ n. IsRun parts n count p.times s'.times (ended_in (p.line ++ run))) (answers_narrow count answer are) (subst (λ t. IsRun parts answer.is_narrow count t s'.times (ended_in (p.line ++ run))) (sym times) is_run);
-          held = rw (← held) at passed.held;
-          put = rw (← held) at passed.put;
-        }, passed.is_open, refl, refl))
+        let is_run : IsRun parts answer.is_narrow count s.times s'.times (ended_in (p.line ++ run)) = after p.line is_open in (
+          run,
+          parted,
+          (
+            p',
+            record {
+              ended = passed.passed;
+              parts_are = passed.parts;
+              whole = passed.whole;
+              no_end = passed.is_open.no_end;
+              run = subst (λ n. IsRun parts n count p.times s'.times (ended_in (p.line ++ run))) (answers_narrow count answer are) (subst (λ t. IsRun parts answer.is_narrow count t s'.times (ended_in (p.line ++ run))) (sym times) is_run);
+              held = rw (← held) at passed.held;
+              put = rw (← held) at passed.put;
+            },
+            passed.is_open,
+            refl,
+            refl,
+          ),
+        )
 
   module _ {L W : Type 0} (remaining : L → Option (List ℕ)) (contents : W → Option (List ℕ)) (l : Counted L) (w : Output W) where
     -- nothing was read
     pub begun : (s : TimedLog) → held_in s.lines.annotator ≡ first_held → IsOpen s.lines.annotator [] → s.lines.times ≡ first_times → s.left.items ≡ [] → s.is_ended ≡ false → s.head.items ≡ []
         → IsTimedTo kernel rule parts remaining contents l w 0 s l w
-    begun s held is_open times none on head = (record {
-      point = first_point;
-      log = [];
-      text = [];
-      named = no_run;
-      is_open = is_open;
-      held = sym held;
-      times = sym times;
-      read = refl;
-      consumed = subst (Consumes _ _) (sym none) (Consumes-nil _);
-      head_is = head ∙ ap (take 2) (sym none);
-      sound = refl;
-      none_back = inl refl;
-      appended = Appends-nil _;
-    }, λ ended. absurd (true≢false (sym ended ∙ on)))
+    begun s held is_open times none on head = (
+      record {
+        point = first_point;
+        log = [];
+        text = [];
+        named = no_run;
+        is_open = is_open;
+        held = sym held;
+        times = sym times;
+        read = refl;
+        consumed = subst (Consumes _ _) (sym none) (Consumes-nil _);
+        head_is = head ∙ ap (take 2) (sym none);
+        sound = refl;
+        none_back = inl refl;
+        appended = Appends-nil _;
+      },
+      λ ended. absurd (true≢false (sym ended ∙ on)),
+    )
 
     module _ (n : ℕ) (s : TimedLines) (left head : List ℕ) (l' : Counted L) (w' : Output W) (to : IsNamedTo kernel rule parts remaining contents l w n s left head l' w') where
       -- what was put so far, whatever comes of the rest
@@ -100,9 +112,18 @@ module _ (kernel : Option BoundNames) (rule : LogRule) (parts : List HistoryPart
         run_cut : (pending : Option Pending) (text : List ℕ) → WrotePart contents w' w'' text → PutsRun parts count answer s s' left pending text → IsCutOff kernel rule parts remaining contents l w l' w''
         run_cut pending text (failed, part, lost, parted_text, put) puts =
             let (run, parted, (p', named, is_open, held, times)) = run_named count answer are to.point s s' left text pending to.is_open to.held to.times puts in
-            let all : to.log ++ left ≡ (to.log ++ run) ++ left_of pending = ap (λ b. to.log ++ b) parted ∙ sym (append_assoc to.log run (left_of pending)) in
-            (failed, (to.log ++ run, left_of pending, to.text ++ part, lost, subst (Consumes _ _) all to.consumed, Appends-trans _ _ _ to.text part to.appended put,
-              (n + 1, p', inl (subst (λ t. AreNamed kernel rule parts (n + 1) p' (to.log ++ run) t) (ap (λ t. to.text ++ t) parted_text ∙ sym (append_assoc to.text part lost)) (one_more n count answer to.point p' to.log run to.text text to.named are named)))))
+            let all : to.log ++ left ≡ (to.log ++ run) ++ left_of pending = ap (λ b. to.log ++ b) parted ∙ sym (append_assoc to.log run (left_of pending)) in (
+              failed,
+              (
+                to.log ++ run,
+                left_of pending,
+                to.text ++ part,
+                lost,
+                subst (Consumes _ _) all to.consumed,
+                Appends-trans _ _ _ to.text part to.appended put,
+                (n + 1, p', inl (subst (λ t. AreNamed kernel rule parts (n + 1) p' (to.log ++ run) t) (ap (λ t. to.text ++ t) parted_text ∙ sym (append_assoc to.text part lost)) (one_more n count answer to.point p' to.log run to.text text to.named are named))),
+              ),
+            )
 
         pub run_stopped : (f : LogFault) → Puts {X = Option Pending} contents (PutsRun parts count answer s s' left) w' w'' (Err f) → IsStopped kernel rule parts remaining contents l w f l' w''
         run_stopped fault.OutOfMemory same = subst (λ x. IsStopped kernel rule parts remaining contents l w fault.OutOfMemory l' x) (sym same) starved
@@ -151,9 +172,18 @@ module _ (kernel : Option BoundNames) (rule : LogRule) (parts : List HistoryPart
           }
 
           last_cut : (w'' : Output W) (names : LogNames) (times : LogTimes) (text : List ℕ) → WrotePart contents w' w'' text → EndsBy parts count answer s names times text → IsCutOff kernel rule parts remaining contents l w l' w''
-          last_cut w'' names times text (failed, part, lost, parted, put) ends =
-              (failed, (to.log, left, to.text ++ part, lost, to.consumed, Appends-trans _ _ _ to.text part to.appended put,
-                (n, to.point, inr (to.text, text, names, times, to.named, last_named names times text ends, append_assoc to.text part lost ∙ ap (λ t. to.text ++ t) (sym parted)))))
+          last_cut w'' names times text (failed, part, lost, parted, put) ends = (
+            failed,
+            (
+              to.log,
+              left,
+              to.text ++ part,
+              lost,
+              to.consumed,
+              Appends-trans _ _ _ to.text part to.appended put,
+              (n, to.point, inr (to.text, text, names, times, to.named, last_named names times text ends, append_assoc to.text part lost ∙ ap (λ t. to.text ++ t) (sym parted))),
+            ),
+          )
 
           pub last_stopped : (w'' : Output W) (f : LogFault) → PutsLast contents parts count answer s w' w'' (Err f) → IsStopped kernel rule parts remaining contents l w f l' w''
           last_stopped w'' fault.OutOfMemory same = subst (λ x. IsStopped kernel rule parts remaining contents l w fault.OutOfMemory l' x) (sym same) starved
@@ -201,3 +231,63 @@ module _ (kernel : Option BoundNames) (rule : LogRule) (parts : List HistoryPart
     -- more turns than are counted
     pub too_long : (n : ℕ) (s : TimedLines) (left head : List ℕ) (l' : Counted L) (w' : Output W) → 2 ^ 64 - 1 ≤ n → IsNamedTo kernel rule parts remaining contents l w n s left head l' w' → IsStopped kernel rule parts remaining contents l w fault.TooLong l' w'
     too_long n s left head l' w' many to = (to.read, (n, many, up_to n s left head l' w' to))
+
+    -- ---- turns
+
+    module _ (count : ℕ) (answer : Answering) (are : AreAnswersAfter kernel rule parts count answer) where
+      -- what another listing left is named
+      pub left_named : (n : ℕ) (s s' : TimedLog) (l' : Counted L) (w' w'' : Output W) (pending : Option Pending) → IsTimedTo kernel rule parts remaining contents l w n s l' w'
+          → Puts contents (PutsRun parts count answer s.lines s'.lines s.left.items) w' w'' (Ok pending) → s'.left.items ≡ left_of pending → s'.head.items ≡ s.head.items → s'.is_ended ≡ s.is_ended
+          → IsTimedTo kernel rule parts remaining contents l w (n + 1) s' l' w''
+      left_named n s s' l' w' w'' pending (to, ended) puts left head on =
+          let named = run_put n s.lines s.left.items s.head.items l' w' to count answer are s'.lines w'' pending puts in (
+            subst (λ h. IsNamedTo kernel rule parts remaining contents l w (n + 1) s'.lines s'.left.items h l' w'') (sym head)
+                (subst (λ b. IsNamedTo kernel rule parts remaining contents l w (n + 1) s'.lines b s.head.items l' w'') (sym left) named),
+            λ is. ended (sym on ∙ is),
+          )
+
+      pub left_stopped : (n : ℕ) (s : TimedLog) (lines : TimedLines) (l' : Counted L) (w' w'' : Output W) (f : LogFault) → IsTimedTo kernel rule parts remaining contents l w n s l' w'
+          → Puts {X = Option Pending} contents (PutsRun parts count answer s.lines lines s.left.items) w' w'' (Err f) → IsStopped kernel rule parts remaining contents l w f l' w''
+      left_stopped n s lines l' w' w'' f (to, ended) puts = run_stopped n s.lines s.left.items s.head.items l' w' to count answer are lines w'' f puts
+
+      module _ (n : ℕ) (s s' : TimedLog) (l' l'' : Counted L) (w' : Output W) (k : ℕ) (timed : IsTimedTo kernel rule parts remaining contents l w n s l' w') (none : s.left.items ≡ []) (read : ReadsOn remaining l' l'' s s' (Ok k)) where
+        to_block : IsNamedTo kernel rule parts remaining contents l w n s'.lines (take k s'.room.items) s'.head.items l'' w'
+        to_block = block_read n s s' l' l'' w' timed.0 none k read
+
+        -- a block is named
+        pub block_named : (s'' : TimedLog) (w'' : Output W) (pending : Option Pending) → (k ≡ 0 → ⊥) → Puts contents (PutsRun parts count answer s'.lines s''.lines (take k s'.room.items)) w' w'' (Ok pending)
+            → s''.left.items ≡ left_of pending → s''.head.items ≡ s'.head.items → s''.is_ended ≡ s'.is_ended → IsTimedTo kernel rule parts remaining contents l w (n + 1) s'' l'' w''
+        block_named s'' w'' pending some puts left head on =
+            let named = run_put n s'.lines (take k s'.room.items) s'.head.items l'' w' to_block count answer are s''.lines w'' pending puts in (
+              subst (λ h. IsNamedTo kernel rule parts remaining contents l w (n + 1) s''.lines s''.left.items h l'' w'') (sym head)
+                  (subst (λ b. IsNamedTo kernel rule parts remaining contents l w (n + 1) s''.lines b s'.head.items l'' w'') (sym left) named),
+              λ is. is_over read.5 (sym on ∙ is),
+            )
+          where
+            is_over : (k ≡ 0) ⊎ (s'.is_ended ≡ false) → s'.is_ended ≡ true → IsAtEnd (remaining (device_of l''))
+            is_over (inl zero) is = absurd (some zero)
+            is_over (inr goes) is = absurd (true≢false (sym is ∙ goes))
+
+        pub block_stopped : (lines : TimedLines) (w'' : Output W) (f : LogFault) → Puts {X = Option Pending} contents (PutsRun parts count answer s'.lines lines (take k s'.room.items)) w' w'' (Err f)
+            → IsStopped kernel rule parts remaining contents l w f l'' w''
+        block_stopped lines w'' f puts = run_stopped n s'.lines (take k s'.room.items) s'.head.items l'' w' to_block count answer are lines w'' f puts
+
+        -- the log is at its end
+        pub at_end : (w'' : Output W) (result : Result Turn LogFault) → k ≡ 0 → PutsLast contents parts count answer s'.lines w' w'' result → IsTurn kernel rule parts remaining contents l w n s' result l'' w''
+        at_end w'' result zero puts = by result puts
+          where
+            to_end : IsNamedTo kernel rule parts remaining contents l w n s'.lines [] s'.head.items l'' w'
+            to_end = subst (λ (i : ℕ). IsNamedTo kernel rule parts remaining contents l w n s'.lines (take i s'.room.items) s'.head.items l'' w') zero to_block
+
+            over : IsAtEnd (remaining (device_of l''))
+            over = read.4 zero timed.1
+
+            by : (result : Result Turn LogFault) → PutsLast contents parts count answer s'.lines w' w'' result → IsTurn kernel rule parts remaining contents l w n s' result l'' w''
+            by (Ok (turn.Ended names times)) puts = last_put n s'.lines [] s'.head.items l'' w' to_end refl count answer are names times w'' over puts
+            by (Ok (turn.Other time)) same = (
+              n,
+              omega arith,
+              subst (λ x. IsTimedTo kernel rule parts remaining contents l w n s' l'' x) (sym same)
+                  (subst (λ b. IsNamedTo kernel rule parts remaining contents l w n s'.lines b s'.head.items l'' w') (sym (read.0.1 ∙ none)) to_end, λ is. over),
+            )
+            by (Err f) puts = last_stopped n s'.lines [] s'.head.items l'' w' to_end refl count answer are w'' f puts

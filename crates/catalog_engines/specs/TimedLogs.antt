@@ -271,12 +271,11 @@ PutsLast contents parts count answer s w w' (Err fault) =
     Puts {X = LogNames × LogTimes} contents (λ x. EndsBy parts count answer s x.0 x.1) w w'
     (Err fault)
 
--- After a turn that was taken, whose end this is, the log is named to its end by further turns; or
--- why not.
+-- A log of which some runs were named is named to its end, or as far as it goes.
 abbrev pub NamesOn : {L W : Type 0} → (L → Option (List ℕ)) → (W → Option (List ℕ))
-    → Option BoundNames → LogRule → List HistoryPart → Turn → TimedLog → TimedLog → Counted L
+    → Option BoundNames → LogRule → List HistoryPart → TimedLog → TimedLog → Counted L
     → Counted L → Output W → Output W → Result (LogNames × LogTimes) LogFault → Type 0
-NamesOn {L} {W} remaining contents kernel rule parts t s s' l l' w w' result =
-    (first : Counted L) (begun : Output W)
-    → IsTurn kernel rule parts remaining contents first begun 0 s (Ok t) l w
+NamesOn {L} {W} remaining contents kernel rule parts s s' l l' w w' result =
+    (first : Counted L) (begun : Output W) (n : ℕ)
+    → IsTimedTo kernel rule parts remaining contents first begun n s l w
     → IsNamedOn kernel rule parts remaining contents first begun s' result l' w'

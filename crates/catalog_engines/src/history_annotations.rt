@@ -14,7 +14,9 @@ use crate::log_answers::CatalogAnswers;
 use crate::log_notes::{ListedKernel, note_timed_log};
 use crate::notes::note_listings;
 use crate::sources::Sources;
-use crate::timed_logs::{HistoryCatalogs, TimedEnd, TimedLog, listing_catalog, name_by, name_on};
+use crate::timed_logs::{
+    HistoryCatalogs, TimedEnd, TimedLog, Turn, listing_catalog, name_by, name_on,
+};
 use command_io::{FAILED, Fault, KALLSYMS_PLACE, SUCCEEDED, history_in, read_at, texts_at};
 use histories::History;
 use listing::is_narrow;
@@ -91,7 +93,8 @@ fn annotate_timed<L: Read, E: Write, W: Write>(
     drop(answers);
     drop(index);
     let named = match asked {
-        Ok(turn) => name_on(alloc, &catalogs, first, turn, &mut timed, log, writer),
+        Ok(Turn::Ended(names, times)) => Ok((names, times)),
+        Ok(Turn::Other(time)) => name_on(alloc, &catalogs, first, time, &mut timed, log, writer),
         Err(fault) => Err(fault),
     };
     let end = match named {

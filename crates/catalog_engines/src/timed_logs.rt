@@ -317,32 +317,32 @@ fn name_by_listing<L: Read, W: Write>(
     name_by(alloc, history, listing, &mut answers, log, reader, writer)
 }
 
-/// Names the rest of a log, of which one listing was asked, by the listings of a history.
-pub(crate) fn name_on<L: Read, W: Write>(
+/// Names the rest of a log by the listings of a history, of which this one was asked last. The line
+/// that comes next has this time, in nanoseconds.
+pub(crate) fn name_on<'a, L: Read, W: Write>(
     alloc: Global,
-    catalogs: &HistoryCatalogs<'_, '_>,
-    first: ListingAt<'_>,
-    asked: Turn,
+    catalogs: &HistoryCatalogs<'_, 'a>,
+    last: ListingAt<'a>,
+    time: u64,
     log: &mut TimedLog,
     reader: &mut Counted<L>,
     writer: &mut Output<W>,
 ) -> Result<(LogNames, LogTimes), LogFault>
     requires room { 0 < length log.old.room.items }
-    requires of { IsOf catalogs.now.history.now first }
+    requires of { IsOf catalogs.now.history.now last }
     requires narrow { catalogs.now.is_narrow ≡ is_narrow_history catalogs.now.history.now }
     ensures { NamesOn L.remaining W.contents (option_copied catalogs.now.kernel)
-        catalogs.now.rule catalogs.now.history.now asked log.old log.new
+        catalogs.now.rule catalogs.now.history.now log.old log.new
         reader.old reader.new writer.old writer.new result }
 {
-    let mut listing = first;
-    let mut turn = asked;
-    for _ in 0..u64::MAX {
-        let time = match turn {
-            Turn::Ended(names, times) => return Ok((names, times)),
-            Turn::Other(time) => time,
-        };
+    let mut listing = last;
+    let mut time = time;
+    for turns in 0..u64::MAX {
         listing = catalogs.history.moved_to(alloc, listing, time)?;
-        turn = name_by_listing(alloc, catalogs, &listing, log, reader, writer)?;
+        match name_by_listing(alloc, catalogs, &listing, log, reader, writer)? {
+            Turn::Ended(names, times) => return Ok((names, times)),
+            Turn::Other(next) => time = next,
+        }
     }
     Err(LogFault::TooLong)
 }
