@@ -1,12 +1,11 @@
 -- A log that does not say where its kernel lay.
-use Rattle.logs.proofs.Definitions.{◌≡◌, ℕ, suc, List, [], ◌∷◌, length, arith, refl, FindsNeedle, Nowhere, is_byte, OccursAt, Some, ap, kernel_offset_in}
+use Rattle.logs.proofs.Definitions.{◌≡◌, ℕ, suc, List, [], ◌∷◌, arith, refl, FindsNeedle, OccursAt, Some, ap, kernel_offset_in}
 use Rattle.std.specs.Option.{option_or}
 use Rattle.logs.specs.KernelOffsets.{kernel_offset_at}
 use Rattle.logs.specs.declared.kernel_offsets.KernelOffset.{KernelOffset}
 use Rattle.logs.specs.declared.kernel_offsets.TheConstants.{OFFSET}
-use Rattle.memchr.specs.Find.{Passes as HasByte}
 use Rattle.std.proofs.Common.{None}
-use Rattle.logs.proofs.TextLemmas.{later_occurs, never_there, no_begin}
+use Rattle.logs.proofs.TextLemmas.{later_occurs, no_begin}
 
 pub never_said : (log : List ℕ) → ((k : ℕ) → OccursAt log OFFSET.now k → ⊥) → kernel_offset_in log ≡ None
 never_said [] none = refl
@@ -14,10 +13,6 @@ never_said (b ∷ log) none = rw (no_begin (b ∷ log) OFFSET.now none, never_sa
 
 pub none_without_head : (log : List ℕ) → FindsNeedle log OFFSET.now 0 None → kernel_offset_in log ≡ None
 none_without_head log none = never_said log (λ k at. none k (omega arith) (omega (arith, at.fits)) at)
-
--- no `K` is there
-pub none_without_letter : (log : List ℕ) → Nowhere (HasByte (is_byte 75) log) 0 (length log) → kernel_offset_in log ≡ None
-none_without_letter log none = never_said log (never_there (is_byte 75) OFFSET.now 0 log (omega arith) refl none)
 
 pub said_here : (log : List ℕ) (k : KernelOffset) → Some k ≡ kernel_offset_at log → Some k ≡ kernel_offset_in log
 said_here [] k is = is

@@ -1,21 +1,24 @@
 -- A line that says nothing of its kernel.
-use Rattle.logs.proofs.Definitions.{◌≡◌, ◌<◌, ℕ, Bool, false, List, [], length, arith, refl, Some, codes, is_byte, nat_eq, starts_with, and_right}
+use Rattle.logs.proofs.Definitions.{◌⊎◌, inl, inr, kernel_offset_in, ◌≡◌, ◌<◌, ℕ, Bool, false, List, [], length, arith, refl, Some, codes, is_byte, nat_eq, starts_with, and_right}
 use Rattle.std.proofs.Common.{Option, None, drop}
 use Rattle.std.specs.Prelude.{nat_lt}
 use Rattle.std.proofs.Common.{◌∷◌, ◌++◌, ◌==◌, cond, take, true}
 use Rattle.std.proofs.lemmas.List.{drop_all}
 use Rattle.std.specs.Option.{option_or}
-use Rattle.logs.specs.KernelReports.{Lacks, SaysNothing, SizeOfFunction, function_at, size_behind_digits, with_place, with_places}
+use Rattle.logs.specs.KernelReports.{Lacks, SaysAtMost, SaysNothing, SizeOfFunction, function_at, size_behind_digits, with_place, with_places}
 use Rattle.logs.specs.Places.{end_of, first_of}
+use Rattle.logs.specs.declared.kernel_offsets.TheConstants.{OFFSET}
 use Rattle.logs.specs.declared.kernel_reports.KernelReport.{KernelReport}
+use Rattle.logs.specs.declared.kernel_reports.Said.{Said}
+use Rattle.logs.specs.declared.kernel_reports.Said.TheVariants as said
 use Rattle.logs.specs.declared.places.Kind.TheVariants as kind
-use Rattle.memchr.specs.Find.{places}
+use Rattle.memchr.specs.Find.{Nowhere, places, Passes as HasByte}
 use Rattle.logs.specs.Answering.{Answering}
 use Rattle.logs.specs.LogNames.{with_line}
 use Rattle.logs.specs.declared.kernel_offsets.KernelOffset.{KernelOffset}
 use Rattle.logs.specs.declared.log_names.LogNames.{LogNames}
 use Rattle.logs.proofs.KernelOffsetLemmas.{never_said}
-use Rattle.logs.proofs.TextLemmas.{behind_occurs, dropped_occurs, front_occurs, no_begin}
+use Rattle.logs.proofs.TextLemmas.{behind_occurs, dropped_occurs, front_occurs, never_there, no_begin}
 
 all_none : (b : Bool) → ◌≡◌ {A = Option SizeOfFunction} (cond b None None) None
 all_none true = refl
@@ -36,15 +39,18 @@ or_none (Some k) = refl
 
 -- ---- bytes that say nothing
 
--- a part of such bytes
-pub front_silent : (xs after : List ℕ) → SaysNothing (xs ++ after) → SaysNothing xs
-front_silent xs after (size, offset) = (λ k at. size k (front_occurs xs after _ k at), λ k at. offset k (front_occurs xs after _ k at))
+-- what is nowhere in bytes is nowhere in a part of them
+part_lacks : (front xs after text : List ℕ) → Lacks (front ++ (xs ++ after)) text → Lacks xs text
+part_lacks front xs after text none k at = let (m, there) = behind_occurs front (xs ++ after) text k (front_occurs xs after text k at) in none m there
 
-pub rest_silent : (front xs : List ℕ) → SaysNothing (front ++ xs) → SaysNothing xs
-rest_silent front xs (size, offset) = (absent _ size, absent _ offset)
-  where
-    absent : (text : List ℕ) → Lacks (front ++ xs) text → Lacks xs text
-    absent text none k at = let (m, there) = behind_occurs front xs text k at in none m there
+pub part_says_at_most : (most : Said) (front xs after : List ℕ) → SaysAtMost most (front ++ (xs ++ after)) → SaysAtMost most xs
+part_says_at_most said.Nothing front xs after (size, offset) = (part_lacks front xs after _ size, part_lacks front xs after _ offset)
+part_says_at_most said.Sizes front xs after offset = part_lacks front xs after _ offset
+part_says_at_most said.All front xs after any = any
+
+-- no `K` is there
+pub lacks_without_letter : (bytes : List ℕ) → Nowhere (HasByte (is_byte 75) bytes) 0 (length bytes) → Lacks bytes OFFSET.now
+lacks_without_letter bytes none = never_there (is_byte 75) OFFSET.now 0 bytes (omega arith) refl none
 
 either : (b : Bool) (o : Option ℕ) → o ≡ None → cond b o None ≡ None
 either true o none = none
@@ -69,6 +75,10 @@ no_function line place none =
 no_functions : (answer : Answering) (line : List ℕ) → Lacks line (codes "/0x") → (r : KernelReport) (ps : List ℕ) → with_places answer line r ps ≡ r
 no_functions answer line none r [] = refl
 no_functions answer line none r (p ∷ ps) = rw (no_function line p none) (no_functions answer line none r ps)
+
+pub none_said : (line : List ℕ) → ◌⊎◌ (SaysNothing line) (Lacks line OFFSET.now) → kernel_offset_in line ≡ None
+none_said line (inl (size, offset)) = never_said line offset
+none_said line (inr offset) = never_said line offset
 
 pub nothing_reported : (answer : Answering) (line : List ℕ) (names : LogNames) → SaysNothing line → with_line answer line names ≡ names
 nothing_reported answer line names (size, offset) =

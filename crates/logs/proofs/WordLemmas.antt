@@ -142,6 +142,29 @@ goes_on line start end w below is words =
     ∙ ap (λ l. drop 1 (words_from start false l)) (sym parts)
     ∙ ap (drop 1) words
 
+-- what comes behind it
+rest_passed : (at : ℕ) (bytes : List ℕ) → words_from at true bytes ≡ words_from (at + run_of is_word_byte bytes) false (drop (run_of is_word_byte bytes) bytes)
+rest_passed at [] = refl
+rest_passed at (b ∷ bytes) =
+    let n = run_of is_word_byte bytes in
+    let one : n + 1 ≡ suc n = omega arith in
+    let place : at + 1 + n ≡ at + suc n = omega arith in
+    let none : at + 0 ≡ at = omega arith in
+    elim (is_word_byte b) as (λ t. is_word_byte b ≡ t → cond t (words_from (at + 1) true bytes) (words_from (at + 1) false bytes) ≡ words_from (at + cond t (n + 1) 0) false (drop (cond t (n + 1) 0) (b ∷ bytes))) [
+      | true ↦ λ _. rw (one) (rest_passed (at + 1) bytes ∙ ap (λ m. words_from m false (drop n bytes)) place)
+      | false ↦ λ other. rw (none, other) refl
+    ] refl
+
+-- a word, and those behind it
+pub word_passed : (line : List ℕ) (start n : ℕ) → n ≡ run_of is_word_byte (drop start line) → start < length line → is_word_byte (get_or line start 0) ≡ true → words_behind line start ≡ record { start = start; end = start + n } ∷ words_behind line (start + n)
+word_passed line start n run below is =
+    let bytes = drop (start + 1) line in
+    let m = run_of is_word_byte bytes in
+    let place : start + 1 + m ≡ start + (m + 1) = omega arith in
+    rw (run, drop_more line start 0 below, is)
+    (ap (λ words. record { start = start; end = start + (m + 1) } ∷ words)
+    (rest_passed (start + 1) bytes ∙ ap (words_from (start + 1 + m) false) (drop-drop m (start + 1) line) ∙ ap (λ p. words_from p false (drop p line)) place))
+
 -- bytes of address words are bytes of words
 pub is_word : (b : ℕ) → is_address_byte b ≡ true → is_word_byte b ≡ true
 is_word b is = grind (arith, nat_tests, is)

@@ -2,7 +2,7 @@
 -- `do_one+0x8/0x1f00`.
 use Rattle.std.specs.Prelude.{ℕ, ◌+◌, ◌-◌, ◌^◌, ◌==◌, ◌&&◌, min, Bool, true, false}
 use Rattle.std.specs.Prelude.{if◌then◌else◌, List, [], ◌∷◌, length, drop, take, codes, nat_eq, nat_le, nat_lt}
-use Rattle.std.specs.Prelude.{Option, None, option_map}
+use Rattle.std.specs.Prelude.{Option, None, option_map, ⊤}
 use Rattle.std.specs.List.{starts_with}
 use Rattle.std.specs.Option.{option_map_or, option_or}
 use Rattle.memchr.specs.Find.{OccursAt, is_byte, places}
@@ -12,6 +12,8 @@ use Rattle.logs.specs.Places.{end_of, first_of}
 use Rattle.logs.specs.Words.{digits_between}
 use Rattle.logs.specs.declared.kernel_offsets.TheConstants.{OFFSET}
 use Rattle.logs.specs.declared.kernel_reports.KernelReport.{KernelReport}
+use Rattle.logs.specs.declared.kernel_reports.Said.{Said}
+use Rattle.logs.specs.declared.kernel_reports.Said.TheVariants as said
 use Rattle.logs.specs.declared.places.Kind.TheVariants as kind
 
 -- ---- the functions of a line
@@ -96,6 +98,12 @@ Lacks bytes text = (k : ℕ) → OccursAt bytes text k → ⊥
 -- No text in the bytes may be the size of a function, or where the kernel lay.
 abbrev pub SaysNothing : List ℕ → Type 0
 SaysNothing bytes = Lacks bytes (codes "/0x") × Lacks bytes OFFSET.now
+
+-- The bytes say no more of their kernel than this.
+abbrev pub SaysAtMost : Said → List ℕ → Type 0
+SaysAtMost said.Nothing bytes = SaysNothing bytes
+SaysAtMost said.Sizes bytes = Lacks bytes OFFSET.now
+SaysAtMost said.All bytes = ⊤
 
 -- The listing is one of another build: two functions or more have another size.
 abbrev pub is_of_another_build : KernelReport → Bool

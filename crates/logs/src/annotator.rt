@@ -18,13 +18,14 @@ ghost use Rattle.logs.specs.Answering.{Answering};
 ghost use Rattle.logs.specs.AnnotatedLogs.{first_held};
 ghost use Rattle.logs.specs.Annotation.{Adds, Ends, IsAnnotation, IsOpen, IsWriteFault, Passes};
 ghost use Rattle.logs.specs.Annotation.{Puts, held_in};
-ghost use Rattle.logs.specs.KernelReports.{SaysNothing};
+ghost use Rattle.logs.specs.KernelReports.{SaysAtMost, SaysNothing};
 ghost use Rattle.logs.specs.Lines.{IsLine, has_end, unless_long};
 ghost use Rattle.logs.specs.Unnamed.{EndsUnnamed, PassesUnnamed, ends_address, has_address};
 
 use crate::annotation::LogFault;
 use crate::answers::Answers;
 use crate::contexts::LogContext;
+use crate::kernel_reports::Said;
 use crate::line::{LONGEST, put_line};
 use crate::log_names::LogNames;
 use crate::unnamed::{Unanswered, ends_address, has_address};
@@ -100,7 +101,7 @@ impl Annotator {
     {
         let mut held = self.held;
         let mut out = Vec::new(alloc);
-        put_line(answers, &mut held, &self.begun, false, &mut out)?;
+        put_line(answers, &mut held, &self.begun, Said::All, &mut out)?;
         put_now(writer, &out)?;
         Ok(held.names)
     }
@@ -222,7 +223,7 @@ impl Annotator {
         let mut out = Vec::with_capacity(alloc, log.len())?;
         annotator.pass_bytes(answers, log, is_silent, &mut out)?;
         let mut held = annotator.held;
-        put_line(answers, &mut held, &annotator.begun, false, &mut out)?;
+        put_line(answers, &mut held, &annotator.begun, Said::All, &mut out)?;
         Ok((out, held.names))
     }
 
@@ -239,11 +240,12 @@ impl Annotator {
         ensures { IfOk result (λ _. Adds out.old.items out.new.items
             (Passes (A.answering answers.now) self.old self.new bytes.now)) }
     {
+        let said = Said::of(bytes, is_silent);
         let mut rest = bytes;
         loop {
             match cut_line(rest) {
                 Some((line, more)) => {
-                    self.pass_line(answers, line, is_silent, out)?;
+                    self.pass_line(answers, line, said, out)?;
                     rest = more;
                 }
                 None => {
@@ -254,16 +256,16 @@ impl Annotator {
         }
     }
 
-    /// Puts the line that these bytes end.
+    /// Puts the line that these bytes end, which say no more of their kernel than this.
     fn pass_line<A: Answers>(
         &mut self,
         answers: &A,
         line: &[u8],
-        is_silent: bool,
+        said: Said,
         out: &mut Vec<u8>,
     ) -> Result<(), AllocError>
         requires line { IsLine line.now }
-        requires silent { IsTrue is_silent → SaysNothing line.now }
+        requires said { SaysAtMost said line.now }
         ensures { IfOk result (λ _. Adds out.old.items out.new.items
             (Passes (A.answering answers.now) self.old self.new line.now)) }
     {
@@ -273,11 +275,11 @@ impl Annotator {
             return Ok(());
         }
         if self.begun.is_empty() {
-            put_line(answers, &mut self.held, line, is_silent, out)?;
+            put_line(answers, &mut self.held, line, said, out)?;
             return Ok(());
         }
         self.begun.extend_from_slice(line)?;
-        put_line(answers, &mut self.held, &self.begun, false, out)?;
+        put_line(answers, &mut self.held, &self.begun, Said::All, out)?;
         self.begun.clear();
         Ok(())
     }

@@ -14,7 +14,7 @@ ghost use Rattle.logs.specs.KernelOffsets.{kernel_offset_at, kernel_offset_in, k
 ghost use Rattle.logs.specs.KernelOffsets.{from_at, number_at};
 
 use crate::places::{Kind, first_of};
-use memchr::{memchr, memmem};
+use memchr::memmem;
 use texts::hexadecimal;
 
 /// What stands before the offset.
@@ -40,20 +40,9 @@ impl KernelOffset {
     }
 }
 
-/// What the first place says of it that says so, if one does. Mostly a line has no `K` at all.
-#[tactic(auto, using(crate::proofs::KernelOffsetLemmas::none_without_letter))]
-pub fn kernel_offset_in(log: &[u8]) -> Option<KernelOffset>
-    ensures { result ≡ kernel_offset_in log.now }
-{
-    match memchr(b'K', log) {
-        Some(_) => kernel_offset_found(log),
-        None => None,
-    }
-}
-
-/// This, sought by the text before the offset.
+/// What the first place says of it that says so, if one does.
 #[tactic(auto, using(crate::proofs::KernelOffsetLemmas::none_without_head))]
-fn kernel_offset_found(log: &[u8]) -> Option<KernelOffset>
+pub fn kernel_offset_in(log: &[u8]) -> Option<KernelOffset>
     ensures { result ≡ kernel_offset_in log.now }
 {
     match memmem::find(log, OFFSET) {

@@ -7,8 +7,13 @@
 //! ```
 //!
 //! If functions have other sizes in a listing, it is one of another build.
+//!
+//! What no line of a block may say is sought in the block, and not again in each of its lines.
 ghost use Rattle.std.specs.Prelude.{◌≡◌, ◌≤◌, length, option_map, IfOk, IsTrue};
-ghost use Rattle.logs.specs.KernelReports.{Lacks, SaysNothing, begins_module, function_at, is_of_another_build};
+ghost use Rattle.std.specs.Option.{option_or};
+ghost use Rattle.logs.specs.KernelOffsets.{kernel_offset_in};
+ghost use Rattle.logs.specs.KernelReports.{Lacks, SaysAtMost, SaysNothing, begins_module};
+ghost use Rattle.logs.specs.KernelReports.{function_at, is_of_another_build};
 ghost use Rattle.logs.specs.KernelReports.{nothing_said, reported, size_behind, size_behind_digits};
 ghost use Rattle.logs.specs.KernelReports.{size_in, with_function, with_functions, with_place};
 ghost use Rattle.logs.specs.KernelReports.{with_size};
@@ -17,7 +22,7 @@ use crate::answers::Answers;
 use crate::kernel_offsets::{KernelOffset, OFFSET, kernel_offset_in};
 use crate::places::{Kind, end_of, first_of};
 use crate::words::digits_between;
-use memchr::{memchr_iter, memmem};
+use memchr::{memchr, memchr_iter, memmem};
 use std::alloc::AllocError;
 use std::marker::Model;
 
@@ -34,6 +39,32 @@ impl<'a> Model for FunctionSize<'a> {
     ghost Value = { SizeOfFunction };
 
     ghost view = { λ f. record { name = f.name.now; size = f.size } };
+}
+
+/// What bytes of a log say at most of the kernel that wrote it, as far as it is known.
+#[derive(Clone, Copy, Debug, Drop)]
+pub enum Said {
+    Nothing,
+    /// How long functions are.
+    Sizes,
+    /// That, and where the kernel lay.
+    All,
+}
+
+impl Said {
+    /// What these bytes say at most: nothing, if it is known that they are silent.
+    pub(crate) fn of(bytes: &[u8], is_silent: bool) -> Said
+        requires { IsTrue is_silent → SaysNothing bytes.now }
+        ensures { SaysAtMost result bytes.now }
+    {
+        if is_silent {
+            Said::Nothing
+        } else if lacks_offset(bytes) {
+            Said::Sizes
+        } else {
+            Said::All
+        }
+    }
 }
 
 /// What a log says of its kernel. Each count stays at the greatest `u64`.
@@ -130,19 +161,33 @@ impl KernelReport {
         Ok(report)
     }
 
-    /// What a line says more.
+    /// The place of the kernel, as these lines say it or else one more.
+    #[tactic(auto, using(crate::proofs::KernelReportLemmas::none_said))]
+    fn offset_with(self, line: &[u8], said: Said) -> Option<KernelOffset>
+        requires { SaysAtMost said line.now }
+        ensures { result ≡ option_or self.offset (kernel_offset_in line.now) }
+    {
+        if self.offset.is_some() {
+            return self.offset;
+        }
+        match said {
+            Said::Nothing | Said::Sizes => None,
+            Said::All => kernel_offset_in(line),
+        }
+    }
+
+    /// What a line says more, which says no more than this.
     pub(crate) fn with_line<A: Answers>(
         self,
         answers: &A,
         line: &[u8],
+        said: Said,
     ) -> Result<KernelReport, AllocError>
+        requires { SaysAtMost said line.now }
         ensures { IfOk result
             (λ r. r ≡ reported (A.answering answers.now) line.now self) }
     {
-        let offset = match self.offset {
-            None => kernel_offset_in(line),
-            first => first,
-        };
+        let offset = self.offset_with(line, said);
         KernelReport { offset, ..self }.with_functions(answers, line)
     }
 }
@@ -152,7 +197,18 @@ impl KernelReport {
 pub fn says_nothing(bytes: &[u8]) -> bool
     ensures { IsTrue result → SaysNothing bytes.now }
 {
-    lacks(bytes, b"/0x") && lacks(bytes, OFFSET)
+    lacks(bytes, b"/0x") && lacks_offset(bytes)
+}
+
+/// Whether it is plain that the bytes do not say where their kernel lay. A line has mostly no `K`.
+#[tactic(auto, using(crate::proofs::KernelReportLemmas::lacks_without_letter))]
+fn lacks_offset(bytes: &[u8]) -> bool
+    ensures { IsTrue result → Lacks bytes.now OFFSET.now }
+{
+    match memchr(b'K', bytes) {
+        Some(_) => lacks(bytes, OFFSET),
+        None => true,
+    }
 }
 
 /// Whether a text occurs nowhere in the bytes.

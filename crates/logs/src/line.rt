@@ -8,17 +8,18 @@
 //!     |---------------------|                       put, and then ` do_one+0x8/0x1f00`
 //!                            |----------|           put at the end
 //! ```
-ghost use Rattle.std.specs.Prelude.{◌≡◌, ◌≤◌, ◌<◌, ◌++◌, ◌∷◌, length, IfOk, IsTrue};
+ghost use Rattle.std.specs.Prelude.{◌≡◌, ◌≤◌, ◌<◌, ◌++◌, ◌∷◌, length, IfOk};
 ghost use Rattle.std.specs.List.{list_any};
 ghost use Rattle.logs.specs.TakenWords.{taken_in};
 ghost use Rattle.logs.specs.AnnotatedLogs.{annotated_line, counted, framed, held_behind, owed};
 ghost use Rattle.logs.specs.AnnotatedLogs.{tallied, woven};
-ghost use Rattle.logs.specs.KernelReports.{SaysNothing};
+ghost use Rattle.logs.specs.KernelReports.{SaysAtMost};
 ghost use Rattle.logs.specs.Words.{part, words_behind};
 
 use crate::address_words::{AddressWord, address_at, carry_on, taken_at};
 use crate::answers::Answers;
 use crate::contexts::LogContext;
+use crate::kernel_reports::Said;
 use crate::log_names::LogNames;
 use crate::own_names::read_word;
 use crate::words::{Word, behind_closers, next_candidate};
@@ -40,17 +41,17 @@ pub(crate) struct Progress {
     pub(crate) names: LogNames,
 }
 
-/// Puts a line with the texts of its answers. If it is known that it says nothing of its kernel, that
-/// is not sought in it.
-#[tactic(auto, using(crate::proofs::KernelReportLemmas::nothing_reported), unfolding(crate::specs::AnnotatedLogs::annotated_line, crate::specs::AnnotatedLogs::held_behind))]
+/// Puts a line with the texts of its answers. What it is known not to say of its kernel is not sought
+/// in it.
+#[tactic(auto, unfolding(crate::specs::AnnotatedLogs::annotated_line, crate::specs::AnnotatedLogs::held_behind))]
 pub(crate) fn put_line<A: Answers>(
     answers: &A,
     held: &mut LogContext,
     line: &[u8],
-    is_silent: bool,
+    said: Said,
     out: &mut Vec<u8>,
 ) -> Result<(), AllocError>
-    requires { IsTrue is_silent → SaysNothing line.now }
+    requires { SaysAtMost said line.now }
     ensures text { IfOk result (λ _. out.new.items
         ≡ out.old.items ++ annotated_line (A.answering answers.now) held.old line.now) }
     ensures held { IfOk result (λ _. held.new
@@ -60,11 +61,7 @@ pub(crate) fn put_line<A: Answers>(
         return out.extend_from_slice(line);
     }
     let progress = put_words(answers, *held, line, out)?;
-    held.names = if is_silent {
-        progress.names
-    } else {
-        progress.names.with_line(answers, line)?
-    };
+    held.names = progress.names.with_line(answers, line, said)?;
     carry_on(held, line, progress.has_frame);
     Ok(())
 }

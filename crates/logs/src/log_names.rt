@@ -10,13 +10,14 @@
 ghost use Rattle.std.specs.Prelude.{◌≡◌, ◌++◌, codes, nat_eq, IfOk};
 ghost use Rattle.std.specs.List.{starts_with};
 ghost use Rattle.std.specs.Option.{option_copied};
+ghost use Rattle.logs.specs.KernelReports.{SaysAtMost};
 ghost use Rattle.logs.specs.LogNames.{agrees, is_of_another_boot, is_unnamed, no_names};
 ghost use Rattle.logs.specs.LogNames.{with_address, with_line, with_name, with_one};
 ghost use Rattle.logs.specs.SaidNames.{name_said};
 
 use crate::address_words::AddressWord;
 use crate::answers::Answers;
-use crate::kernel_reports::KernelReport;
+use crate::kernel_reports::{KernelReport, Said};
 use crate::said_names::SaidName;
 use crate::words::begins_with;
 use std::alloc::AllocError;
@@ -97,17 +98,25 @@ impl LogNames {
         }
     }
 
-    /// What a line says of its kernel more.
+    /// What a line says of its kernel more, which says no more of it than this.
+    #[tactic(auto, using(crate::proofs::KernelReportLemmas::nothing_reported))]
     pub(crate) fn with_line<A: Answers>(
         self,
         answers: &A,
         line: &[u8],
+        said: Said,
     ) -> Result<LogNames, AllocError>
+        requires { SaysAtMost said line.now }
         ensures { IfOk result
             (λ names. names ≡ with_line (A.answering answers.now) line.now self) }
     {
-        let kernel = self.kernel.with_line(answers, line)?;
-        Ok(LogNames { kernel, ..self })
+        match said {
+            Said::Nothing => Ok(self),
+            Said::Sizes | Said::All => {
+                let kernel = self.kernel.with_line(answers, line, said)?;
+                Ok(LogNames { kernel, ..self })
+            }
+        }
     }
 
     /// One address more, with its answer's text if it has one, and what the log

@@ -246,11 +246,11 @@ fn has_point(bytes: &[u8]) -> bool
     ensures { result ≡ has_point bytes.now }
 {
     let mut rest = bytes;
-    while !rest.is_empty() {
+    while let [_, more @ ..] = rest {
         if begins_point(rest) {
             return true;
         }
-        rest = &rest[1..];
+        rest = more;
     }
     false
 }

@@ -1,24 +1,23 @@
 use Rattle.logs.proofs.Definitions.{◌∙◌, [], ◌++◌, ℕ, List, refl, sym, ap, subst, append_assoc, Adds, Passes}
-use Rattle.logs.proofs.KernelReportLemmas.{front_silent, rest_silent}
+use Rattle.logs.proofs.KernelReportLemmas.{part_says_at_most}
 use Rattle.logs.proofs.LineLemmas.{adds_nothing, then_adds}
-use Rattle.logs.specs.KernelReports.{SaysNothing}
+use Rattle.logs.specs.KernelReports.{SaysAtMost}
 use Rattle.logs.proofs.annotator.Annotator.pass_bytes.Goals as goal
 
 pub loop-line-init : goal.loop-line-init
-loop-line-init g c = (c.requires, [], refl, adds_nothing (g.A.Answers.answering c.args.answers.now) c.args.self.now c.args.out.now.items)
+loop-line-init g c = (c.of-said.ensures, [], refl, adds_nothing (g.A.Answers.answering c.args.answers.now) c.args.self.now c.args.out.now.items)
 
--- a line of bytes that say nothing
-pub pass_line-requires-clause-silent : goal.pass_line-requires-clause-silent
-pass_line-requires-clause-silent g c = λ is.
-    let (silent, done, parts, adds) = c.loop-line.invariant in
-    front_silent c.in-Some.line.now c.in-Some.more.now
-    (rest_silent done (c.in-Some.line.now ++ c.in-Some.more.now)
-    (subst SaysNothing (parts ∙ ap (λ (l : List ℕ). done ++ l) c.in-Some.ensures.parts) (silent is)))
+-- a line says no more than the bytes
+pub pass_line-requires-clause-said : goal.pass_line-requires-clause-said
+pass_line-requires-clause-said g c =
+    let (said, done, parts, adds) = c.loop-line.invariant in
+    part_says_at_most c.of-said.result done c.in-Some.line.now c.in-Some.more.now
+    (subst (SaysAtMost c.of-said.result) (parts ∙ ap (λ (l : List ℕ). done ++ l) c.in-Some.ensures.parts) said)
 
 pub loop-line-preserved : goal.loop-line-preserved
 loop-line-preserved g c =
-    let (silent, done, parts, adds) = c.loop-line.invariant in (
-      silent,
+    let (said, done, parts, adds) = c.loop-line.invariant in (
+      said,
       done ++ c.in-Some.line.now,
       parts ∙ ap (λ (l : List ℕ). done ++ l) c.in-Some.ensures.parts ∙ sym (append_assoc done c.in-Some.line.now c.in-Some.more.now),
       then_adds (g.A.Answers.answering c.args.answers.now) _ _ _ _ _ _ _ _ adds c.in_ok-pass_line-in-Some.ensures,
