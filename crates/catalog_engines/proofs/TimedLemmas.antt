@@ -1,5 +1,5 @@
 -- Runs of a log that are named, and what is read and written for them.
-use Rattle.catalog_engines.proofs.Words.{◌≡◌, ◌∙◌, ◌+◌, ◌-◌, ◌≤◌, ◌^◌, ℕ, List, [], ◌++◌, Option, Some, None, Result, Ok, Err, Bool, true, false, refl, sym, ap, subst, inl, inr, arith, length, take, append-nil, append_assoc, Output, Counted, LogFault, CatalogEntries, answered_by, WrotePart, Delivered, has_failed}
+use Rattle.catalog_engines.proofs.Words.{◌≡◌, ◌∙◌, ◌+◌, ◌-◌, ◌≤◌, ◌^◌, ℕ, List, [], ◌++◌, ◌⊎◌, Option, Some, None, Result, Ok, Err, Bool, true, false, refl, sym, ap, subst, inl, inr, arith, length, take, append-nil, append_assoc, Output, Counted, LogFault, CatalogEntries, answered_by, WrotePart, Delivered, has_failed}
 use Rattle.std.specs.Io.KnownBytes.{Consumes, IsAtEnd, Keeps}
 use Rattle.std.proofs.Common.{true≢false}
 use Rattle.std.proofs.KnownBytes.{Appends-nil, Appends-trans, Consumes-kept, Consumes-nil, Consumes-trans}
@@ -13,6 +13,10 @@ use Rattle.logs.specs.Answering.{Answering}
 use Rattle.logs.specs.declared.annotation.LogFault.TheVariants as fault
 use Rattle.logs.specs.declared.log_names.LogNames.{LogNames}
 use Rattle.histories.specs.Grammar.{HistoryPart}
+use Rattle.histories.specs.ListingsAt.{IsOf, ListingAfter}
+use Rattle.command_io.specs.HistoryFiles.{symbols_alone}
+use Rattle.command_io.specs.OpenedCatalogs.{IsCatalogOf}
+use Rattle.listing.specs.declared.listing_notes.ListingNotes.{ListingNotes}
 use Rattle.catalog_engines.specs.LineRuns.{IsRun, ended_in, first_times, may_name, times_behind}
 use Rattle.catalog_engines.specs.TimedLogs.{AreAnswersAfter, AreNamed, EndsBy, IsCutOff, IsNamedTo, IsNamedWhole, IsPut, IsStopped, IsTimedTo, IsTurn, IsUpTo, NamesEnd, NamesRun, PutsLast, PutsRun, ReadsOn, TimedPoint, first_point, is_narrow_history, left_of, no_run, one_more}
 use Rattle.catalog_engines.specs.declared.line_runs.LogTimes.{LogTimes}
@@ -25,7 +29,20 @@ use Rattle.catalog_engines.specs.declared.timed_logs.Turn.TheVariants as turn
 module _ (kernel : Option BoundNames) (rule : LogRule) (parts : List HistoryPart) where
   -- the answers are of a log of such a kernel
   answers_narrow : (count : ℕ) (answer : Answering) → AreAnswersAfter kernel rule parts count answer → answer.is_narrow ≡ is_narrow_history parts
-  answers_narrow count answer (few, (c, (notes, (said, is)))) = ap (λ (x : Answering). x.is_narrow) is
+  answers_narrow count answer (few, (c, notes, said, is)) = ap (λ (x : Answering). x.is_narrow) is
+
+  -- the answers of the catalog of a listing of the history
+  pub answers_after : (at : ListingAfter) (c c' : CatalogEntries) (notes : ListingNotes) (rule' : LogRule) (narrow : Bool) (text : List ℕ) → IsOf parts at → text ≡ at.text → IsCatalogOf kernel (symbols_alone text) c notes → c' ≡ c → rule' ≡ rule
+      → narrow ≡ is_narrow_history parts → AreAnswersAfter kernel rule parts at.count (answered_by c' rule' narrow)
+  answers_after at c c' notes rule' narrow text (few, is_after) same said index by sized = (
+    few,
+    (
+      c,
+      notes,
+      subst (λ t. IsCatalogOf kernel (symbols_alone t) c notes) (same ∙ is_after) said,
+      ap (λ x. answered_by x rule' narrow) index ∙ ap (λ r. answered_by c r narrow) by ∙ ap (answered_by c rule) sized,
+    ),
+  )
 
   module _ (count : ℕ) (answer : Answering) (are : AreAnswersAfter kernel rule parts count answer) where
     -- a run is named
@@ -261,7 +278,7 @@ module _ (kernel : Option BoundNames) (rule : LogRule) (parts : List HistoryPart
             let named = run_put n s'.lines (take k s'.room.items) s'.head.items l'' w' to_block count answer are s''.lines w'' pending puts in (
               subst (λ h. IsNamedTo kernel rule parts remaining contents l w (n + 1) s''.lines s''.left.items h l'' w'') (sym head)
                   (subst (λ b. IsNamedTo kernel rule parts remaining contents l w (n + 1) s''.lines b s'.head.items l'' w'') (sym left) named),
-              λ is. is_over read.5 (sym on ∙ is),
+              λ is. is_over read.6 (sym on ∙ is),
             )
           where
             is_over : (k ≡ 0) ⊎ (s'.is_ended ≡ false) → s'.is_ended ≡ true → IsAtEnd (remaining (device_of l''))
@@ -280,7 +297,7 @@ module _ (kernel : Option BoundNames) (rule : LogRule) (parts : List HistoryPart
             to_end = subst (λ (i : ℕ). IsNamedTo kernel rule parts remaining contents l w n s'.lines (take i s'.room.items) s'.head.items l'' w') zero to_block
 
             over : IsAtEnd (remaining (device_of l''))
-            over = read.4 zero timed.1
+            over = read.5 zero timed.1
 
             by : (result : Result Turn LogFault) → PutsLast contents parts count answer s'.lines w' w'' result → IsTurn kernel rule parts remaining contents l w n s' result l'' w''
             by (Ok (turn.Ended names times)) puts = last_put n s'.lines [] s'.head.items l'' w' to_end refl count answer are names times w'' over puts
@@ -291,3 +308,9 @@ module _ (kernel : Option BoundNames) (rule : LogRule) (parts : List HistoryPart
                   (subst (λ b. IsNamedTo kernel rule parts remaining contents l w n s'.lines b s'.head.items l'' w') (sym (read.0.1 ∙ none)) to_end, λ is. over),
             )
             by (Err f) puts = last_stopped n s'.lines [] s'.head.items l'' w' to_end refl count answer are w'' f puts
+
+    -- a turn of more runs is one of fewer
+    pub turn_less : (n m : ℕ) (s : TimedLog) (result : Result Turn LogFault) (l' : Counted L) (w' : Output W) → n ≤ m → IsTurn kernel rule parts remaining contents l w m s result l' w' → IsTurn kernel rule parts remaining contents l w n s result l' w'
+    turn_less n m s (Ok (turn.Ended names times)) l' w' few is = is
+    turn_less n m s (Ok (turn.Other time)) l' w' few (k, many, to) = (k, omega (arith, few, many), to)
+    turn_less n m s (Err f) l' w' few is = is

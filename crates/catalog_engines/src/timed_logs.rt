@@ -180,10 +180,9 @@ fn name_run<A: Answers, W: Write>(
     let pending = pending_of(alloc, run.left, run.other)?;
     let is_silent = says_nothing(run.named);
     answers.prepare(is_silent)?;
-    lines
-        .annotator
-        .pass(alloc, answers, run.named, is_silent, writer)?;
     lines.times = run.times;
+    let annotator = &mut lines.annotator;
+    annotator.pass(alloc, answers, run.named, is_silent, writer)?;
     Ok(pending)
 }
 
@@ -236,10 +235,12 @@ fn name_blocks<A: Answers, L: Read, W: Write>(
         }
         let block = &log.room[..count];
         let lines = &mut log.lines;
-        let pending = name_run(alloc, history, listing, answers, lines, block, writer)?;
-        if let Some(pending) = pending {
-            log.left = pending.left;
-            return Ok(Turn::Other(pending.time));
+        match name_run(alloc, history, listing, answers, lines, block, writer)? {
+            Some(pending) => {
+                log.left = pending.left;
+                return Ok(Turn::Other(pending.time));
+            }
+            None => {}
         }
     }
     Err(LogFault::TooLong)

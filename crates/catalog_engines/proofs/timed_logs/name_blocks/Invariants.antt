@@ -11,6 +11,6 @@ invariant-loop-turn g l =
     × (l.log.left.items ≡ [])
     × (length l.log.room.items ≡ length l.fn.log.room.items)
     × ((kernel : Option BoundNames) (rule : LogRule) → AreAnswersAfter kernel rule l.history l.listing.count (g.A.Answers.answering l.fn.answers)
-    → (first : Counted g.L.Self) (begun : Output g.W.Self) (n : ℕ)
+    → (first : Counted g.row.L.Denot) (begun : Output g.row.W.Denot) (n : ℕ)
     → IsTimedTo kernel rule l.history g.L.Read.remaining g.W.Write.contents first begun n l.fn.log l.fn.reader l.fn.writer
     → IsTimedTo kernel rule l.history g.L.Read.remaining g.W.Write.contents first begun (n + l.turn) l.log l.reader l.writer)
