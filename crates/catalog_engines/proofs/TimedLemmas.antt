@@ -18,9 +18,11 @@ use Rattle.command_io.specs.HistoryFiles.{symbols_alone}
 use Rattle.command_io.specs.OpenedCatalogs.{IsCatalogOf}
 use Rattle.listing.specs.declared.listing_notes.ListingNotes.{ListingNotes}
 use Rattle.catalog_engines.specs.LineRuns.{IsRun, ended_in, first_times, may_name, times_behind}
-use Rattle.catalog_engines.specs.TimedLogs.{AreAnswersAfter, AreNamed, EndsBy, IsCutOff, IsNamedTo, IsNamedWhole, IsPut, IsStopped, IsTimedTo, IsTurn, IsUpTo, NamesEnd, NamesRun, PutsLast, PutsRun, ReadsOn, TimedPoint, first_point, is_narrow_history, left_of, no_run, one_more}
+use Rattle.catalog_engines.specs.TimedLogs.{AreAnswersAfter, AreNamed, EndsBy, IsCutOff, IsNamedOn, IsNamedTo, IsTimed, IsNamedWhole, IsPut, IsStopped, IsTimedTo, IsTurn, IsUpTo, NamesEnd, NamesRun, PutsLast, PutsRun, ReadsOn, TimedPoint, first_point, is_narrow_history, left_of, no_run, one_more}
 use Rattle.catalog_engines.specs.declared.line_runs.LogTimes.{LogTimes}
+use Rattle.catalog_engines.specs.HistoryAnnotations.{IsEndOf}
 use Rattle.catalog_engines.specs.declared.timed_logs.Pending.{Pending}
+use Rattle.catalog_engines.specs.declared.timed_logs.TimedEnd.{TimedEnd}
 use Rattle.catalog_engines.specs.declared.timed_logs.TimedLines.{TimedLines}
 use Rattle.catalog_engines.specs.declared.timed_logs.TimedLog.{TimedLog}
 use Rattle.catalog_engines.specs.declared.timed_logs.Turn.{Turn}
@@ -314,3 +316,14 @@ module _ (kernel : Option BoundNames) (rule : LogRule) (parts : List HistoryPart
     turn_less n m s (Ok (turn.Ended names times)) l' w' few is = is
     turn_less n m s (Ok (turn.Other time)) l' w' few (k, many, to) = (k, omega (arith, few, many), to)
     turn_less n m s (Err f) l' w' few is = is
+
+    -- what is found at the end of a log that was named to its end, or not
+    pub ended_as : (s : TimedLog) (named : Result (LogNames × LogTimes) LogFault) (end : Result TimedEnd LogFault) (l' : Counted L) (w' : Output W) → IsEndOf named s.head.items end → IsNamedOn kernel rule parts remaining contents l w s named l' w'
+        → IsTimed kernel rule parts remaining contents l w end l' w'
+    ended_as s (Ok x) (Ok end) l' w' (names, times, head) is =
+        subst (λ n. IsNamedWhole kernel rule parts remaining contents l w n end.times end.found.head.items l' w') (sym names)
+        (subst (λ t. IsNamedWhole kernel rule parts remaining contents l w x.0 t end.found.head.items l' w') (sym times)
+        (subst (λ h. IsNamedWhole kernel rule parts remaining contents l w x.0 x.1 h l' w') (sym head) is))
+    ended_as s (Err f) (Err f') l' w' same is = subst (λ f. IsStopped kernel rule parts remaining contents l w f l' w') (sym same) is
+    ended_as s (Ok x) (Err f) l' w' none is = absurd none
+    ended_as s (Err f) (Ok end) l' w' none is = absurd none

@@ -7,6 +7,8 @@ use Rattle.order_laws.specs.declared.refusals.Refusal.TheVariants as refusal
 use Rattle.listing.specs.ListingNotes.{is_some_noted}
 use Rattle.listing.specs.declared.listing_notes.ListingNotes.{ListingNotes}
 use Rattle.logs.specs.declared.annotation.LogFault.{LogFault}
+use Rattle.logs.specs.declared.log_names.LogNames.{LogNames}
+use Rattle.catalog_engines.specs.declared.line_runs.LogTimes.{LogTimes}
 use Rattle.histories.specs.Grammar.{HistoryPart}
 use Rattle.histories.specs.ListingsAt.{listing_at}
 use Rattle.command_io.specs.HistoryFiles.{IsHistoryRead, IsNoHistory, symbols_alone}
@@ -35,6 +37,13 @@ IsTimedEndTold errors log kernel e e' (Ok end) result =
     (note_of_timed_log end.found.head.items end.times end.found.names kernel)
 IsTimedEndTold errors log kernel e e' (Err fault) result =
     IsEndTold errors log kernel e e' (Err (stop_of fault)) result
+
+-- what was found of a log with these first bytes, if it was named to its end; or why it was not
+abbrev pub IsEndOf : Result (LogNames × LogTimes) LogFault → List ℕ → Result TimedEnd LogFault → Type 0
+IsEndOf (Ok x) head (Ok end) =
+    (end.found.names ≡ x.0) × (end.times ≡ x.1) × (end.found.head.items ≡ head)
+IsEndOf (Err fault) head (Err f) = f ≡ fault
+IsEndOf _ head _ = ⊥
 
 module _ {L W E : Type 0} (remaining : L → Option (List ℕ)) (contents : W → Option (List ℕ))
     (errors : E → Option (List ℕ)) (q : Sources) (a : Annotate) (l l' : Counted L)

@@ -7,20 +7,21 @@
 //! ```
 ghost use Rattle.std.specs.Prelude.{◌≡◌};
 ghost use Rattle.catalog_engines.specs.HistoryAnnotations.{AnnotatesBy, AnnotatesByHistory};
-ghost use Rattle.catalog_engines.specs.HistoryAnnotations.{IsTimedEndTold};
+ghost use Rattle.catalog_engines.specs.HistoryAnnotations.{IsEndOf, IsTimedEndTold};
 
 use crate::annotations::{Annotate, Stop, annotate_over, listed_kernel, stop_of};
+use crate::line_runs::LogTimes;
 use crate::log_answers::CatalogAnswers;
 use crate::log_notes::{ListedKernel, note_timed_log};
 use crate::notes::note_listings;
 use crate::sources::Sources;
 use crate::timed_logs::{
-    HistoryCatalogs, TimedEnd, TimedLog, Turn, listing_catalog, name_by, name_on,
+    HistoryCatalogs, TimedEnd, TimedLog, listing_catalog, name_by, name_to_end,
 };
 use command_io::{FAILED, Fault, KALLSYMS_PLACE, SUCCEEDED, history_in, read_at, texts_at};
 use histories::History;
 use listing::is_narrow;
-use logs::{Findings, LogFault};
+use logs::{Findings, LogFault, LogNames};
 use std::alloc::Global;
 use std::io::{Read, Write};
 use texts::{Counted, Output};
@@ -48,11 +49,13 @@ pub fn history_annotate_engine<H: Read, L: Read, E: Write, W: Write>(
 {
     let file = read_at(alloc, history, KALLSYMS_PLACE)?;
     let history = history_in(alloc, &file)?;
-    if time.is_none() {
-        return annotate_timed(alloc, &history, log, sources, job, errors, writer);
+    match time {
+        None => annotate_timed(alloc, &history, log, sources, job, errors, writer),
+        Some(_) => {
+            let texts = texts_at(alloc, &history, time)?;
+            annotate_over(alloc, &texts, sources, job, errors, log, writer)
+        }
     }
-    let texts = texts_at(alloc, &history, time)?;
-    annotate_over(alloc, &texts, sources, job, errors, log, writer)
 }
 
 /// Writes the notes on the first listing of a history, and then a log again, each line by the
@@ -92,22 +95,25 @@ fn annotate_timed<L: Read, E: Write, W: Write>(
     );
     drop(answers);
     drop(index);
-    let named = match asked {
-        Ok(Turn::Ended(names, times)) => Ok((names, times)),
-        Ok(Turn::Other(time)) => name_on(alloc, &catalogs, first, time, &mut timed, log, writer),
-        Err(fault) => Err(fault),
-    };
-    let end = match named {
-        Ok((names, times)) => Ok(TimedEnd {
-            found: Findings {
-                names,
-                head: timed.head,
-            },
-            times,
-        }),
-        Err(fault) => Err(fault),
-    };
+    let named = name_to_end(alloc, &catalogs, first, asked, &mut timed, log, writer);
+    let end = timed_end(named, timed.head);
     tell_timed_end(end, job.log, kernel, errors)
+}
+
+/// What was found of a log with these first bytes, if it was named to its end.
+fn timed_end(
+    named: Result<(LogNames, LogTimes), LogFault>,
+    head: Vec<u8>,
+) -> Result<TimedEnd, LogFault>
+    ensures { IsEndOf named head.items result }
+{
+    match named {
+        Ok((names, times)) => {
+            let found = Findings { names, head };
+            Ok(TimedEnd { found, times })
+        }
+        Err(fault) => Err(fault),
+    }
 }
 
 /// Writes the note on the log in this file if it was annotated to its end, or else the fault.

@@ -16,7 +16,8 @@ ghost use Rattle.listing.specs.declared.address_rules.LogRule.{LogRule};
 ghost use Rattle.modules.specs.Listed.{BoundNames};
 ghost use Rattle.command_io.specs.HistoryFiles.{symbols_alone};
 ghost use Rattle.command_io.specs.OpenedCatalogs.{IsCatalogOf};
-ghost use Rattle.catalog_engines.specs.TimedLogs.{AreAnswersAfter, NamesOn, PutsLast, PutsRun};
+ghost use Rattle.catalog_engines.specs.TimedLogs.{AreAnswersAfter, IsNamedOn, IsTurn, NamesOn};
+ghost use Rattle.catalog_engines.specs.TimedLogs.{PutsLast, PutsRun};
 ghost use Rattle.catalog_engines.specs.TimedLogs.{TakesTurn, is_narrow_history, left_of};
 
 use crate::line_runs::{LogTimes, run_in, times_if_named};
@@ -320,7 +321,7 @@ fn name_by_listing<L: Read, W: Write>(
 
 /// Names the rest of a log by the listings of a history, of which this one was asked last. The line
 /// that comes next has this time, in nanoseconds.
-pub(crate) fn name_on<'a, L: Read, W: Write>(
+fn name_on<'a, L: Read, W: Write>(
     alloc: Global,
     catalogs: &HistoryCatalogs<'_, 'a>,
     last: ListingAt<'a>,
@@ -346,4 +347,31 @@ pub(crate) fn name_on<'a, L: Read, W: Write>(
         }
     }
     Err(LogFault::TooLong)
+}
+
+/// Names the rest of a log by the listings of a history, of which this one was asked last and came
+/// to this.
+pub(crate) fn name_to_end<'a, L: Read, W: Write>(
+    alloc: Global,
+    catalogs: &HistoryCatalogs<'_, 'a>,
+    last: ListingAt<'a>,
+    asked: Result<Turn, LogFault>,
+    log: &mut TimedLog,
+    reader: &mut Counted<L>,
+    writer: &mut Output<W>,
+) -> Result<(LogNames, LogTimes), LogFault>
+    requires room { 0 < length log.old.room.items }
+    requires of { IsOf catalogs.now.history.now last }
+    requires narrow { catalogs.now.is_narrow ≡ is_narrow_history catalogs.now.history.now }
+    ensures { (first : Counted L) (begun : Output W) (n : ℕ)
+        → IsTurn (option_copied catalogs.now.kernel) catalogs.now.rule catalogs.now.history.now
+        L.remaining W.contents first begun n log.old asked reader.old writer.old
+        → IsNamedOn (option_copied catalogs.now.kernel) catalogs.now.rule catalogs.now.history.now
+        L.remaining W.contents first begun log.new result reader.new writer.new }
+{
+    match asked {
+        Ok(Turn::Ended(names, times)) => Ok((names, times)),
+        Ok(Turn::Other(time)) => name_on(alloc, catalogs, last, time, log, reader, writer),
+        Err(fault) => Err(fault),
+    }
 }

@@ -27,7 +27,7 @@ returns-then-count-eq0-clause-turn g c = λ kernel rule are first begun n to.
     let few : n + 0 ≤ n + on.turn = omega arith in
     turn_less kernel rule a.history.now g.L.Read.remaining g.W.Write.contents first begun (n + 0) (n + on.turn) c.read.new.self c.name_last.result c.read.new.reader c.name_last.new.writer few
     (at_end kernel rule a.history.now g.L.Read.remaining g.W.Write.contents first begun a.listing.now.count answer are (n + on.turn) on.log c.read.new.self on.reader c.read.new.reader on.writer c.in_ok-count.count timed on.invariant.1 c.in_ok-count.ensures.read c.name_last.new.writer c.name_last.result c.if-count-eq0.true
-      (subst (λ (x : Answering). PutsLast g.W.Write.contents a.history.now a.listing.now.count x c.read.new.self.lines on.writer c.name_last.new.writer c.name_last.result) on.invariant.0 c.name_last.ensures))
+    (subst (λ (x : Answering). PutsLast g.W.Write.contents a.history.now a.listing.now.count x c.read.new.self.lines on.writer c.name_last.new.writer c.name_last.result) on.invariant.0 c.name_last.ensures))
 
 pub returns-in_err-pending-clause-turn : goal.returns-in_err-pending-clause-turn
 returns-in_err-pending-clause-turn g c = λ kernel rule are first begun n to.
@@ -41,7 +41,7 @@ returns-in_err-pending-clause-turn g c = λ kernel rule are first begun n to.
     let puts = subst (λ (x : Answering). Puts {X = Option Pending} g.W.Write.contents (PutsRun a.history.now a.listing.now.count x read.lines c.name_run.new.lines (take c.in_ok-count.count c.deref.result.now)) on.writer c.name_run.new.writer (Err c.in_err-pending.field-0.0)) on.invariant.0 c.in_err-pending.ensures.run in
     subst (λ (r : Result Turn LogFault). IsTurn kernel rule a.history.now g.L.Read.remaining g.W.Write.contents first begun (n + 0) log r c.read.new.reader c.name_run.new.writer) (sym (is ∙ ap Err same))
     (block_stopped kernel rule a.history.now g.L.Read.remaining g.W.Write.contents first begun a.listing.now.count answer are (n + on.turn) on.log read on.reader c.read.new.reader on.writer c.in_ok-count.count timed on.invariant.1 c.in_ok-count.ensures.read c.name_run.new.lines c.name_run.new.writer c.in_err-pending.field-0.0
-      (subst (λ (b : List ℕ). Puts {X = Option Pending} g.W.Write.contents (PutsRun a.history.now a.listing.now.count answer read.lines c.name_run.new.lines (take c.in_ok-count.count b)) on.writer c.name_run.new.writer (Err c.in_err-pending.field-0.0)) c.deref.ensures.value puts))
+    (subst (λ (b : List ℕ). Puts {X = Option Pending} g.W.Write.contents (PutsRun a.history.now a.listing.now.count answer read.lines c.name_run.new.lines (take c.in_ok-count.count b)) on.writer c.name_run.new.writer (Err c.in_err-pending.field-0.0)) c.deref.ensures.value puts))
 
 pub returns-in-Some-clause-turn : goal.returns-in-Some-clause-turn
 returns-in-Some-clause-turn g c = λ kernel rule are first begun n to.
@@ -52,11 +52,13 @@ returns-in-Some-clause-turn g c = λ kernel rule are first begun n to.
     let read = c.read.new.self in
     let pending = c.in_ok-pending.field-0 in
     let log : TimedLog = record { lines = c.name_run.new.lines; left = c.in-Some.pending.left; is_ended = read.is_ended; head = read.head; room = read.room } in
-    let puts = subst (λ (x : Answering). Puts g.W.Write.contents (PutsRun a.history.now a.listing.now.count x read.lines c.name_run.new.lines (take c.in_ok-count.count c.deref.result.now)) on.writer c.name_run.new.writer (Ok pending)) on.invariant.0 c.in_ok-pending.ensures.run in
-    (n + on.turn + 1, omega arith,
+    let puts = subst (λ (x : Answering). Puts g.W.Write.contents (PutsRun a.history.now a.listing.now.count x read.lines c.name_run.new.lines (take c.in_ok-count.count c.deref.result.now)) on.writer c.name_run.new.writer (Ok pending)) on.invariant.0 c.in_ok-pending.ensures.run in (
+      n + on.turn + 1,
+      omega arith,
       block_named kernel rule a.history.now g.L.Read.remaining g.W.Write.contents first begun a.listing.now.count answer are (n + on.turn) on.log read on.reader c.read.new.reader on.writer c.in_ok-count.count timed on.invariant.1 c.in_ok-count.ensures.read log c.name_run.new.writer pending (λ zero. omega (arith, c.if-count-eq0.false, zero))
-        (subst (λ (b : List ℕ). Puts g.W.Write.contents (PutsRun a.history.now a.listing.now.count answer read.lines c.name_run.new.lines (take c.in_ok-count.count b)) on.writer c.name_run.new.writer (Ok pending)) c.deref.ensures.value puts)
-        (sym (ap left_of c.in-Some.is)) refl refl)
+          (subst (λ (b : List ℕ). Puts g.W.Write.contents (PutsRun a.history.now a.listing.now.count answer read.lines c.name_run.new.lines (take c.in_ok-count.count b)) on.writer c.name_run.new.writer (Ok pending)) c.deref.ensures.value puts)
+          (sym (ap left_of c.in-Some.is)) refl refl,
+    )
 
 pub loop-turn-preserved : goal.loop-turn-preserved
 loop-turn-preserved g c = (
@@ -75,8 +77,8 @@ loop-turn-preserved g c = (
       let more : n + on.turn + 1 ≡ n + (on.turn + 1) = omega arith in
       subst (λ (m : ℕ). IsTimedTo kernel rule a.history.now g.L.Read.remaining g.W.Write.contents first begun m log c.read.new.reader c.name_run.new.writer) more
       (block_named kernel rule a.history.now g.L.Read.remaining g.W.Write.contents first begun a.listing.now.count answer are (n + on.turn) on.log read on.reader c.read.new.reader on.writer c.in_ok-count.count timed on.invariant.1 c.in_ok-count.ensures.read log c.name_run.new.writer pending (λ zero. omega (arith, c.if-count-eq0.false, zero))
-        (subst (λ (b : List ℕ). Puts g.W.Write.contents (PutsRun a.history.now a.listing.now.count answer read.lines c.name_run.new.lines (take c.in_ok-count.count b)) on.writer c.name_run.new.writer (Ok pending)) c.deref.ensures.value puts)
-        (c.in_ok-count.ensures.read.0.1 ∙ on.invariant.1 ∙ sym (ap left_of c.in-None.is)) refl refl),
+      (subst (λ (b : List ℕ). Puts g.W.Write.contents (PutsRun a.history.now a.listing.now.count answer read.lines c.name_run.new.lines (take c.in_ok-count.count b)) on.writer c.name_run.new.writer (Ok pending)) c.deref.ensures.value puts)
+      (c.in_ok-count.ensures.read.0.1 ∙ on.invariant.1 ∙ sym (ap left_of c.in-None.is)) refl refl),
 )
 
 pub returns-clause-turn : goal.returns-clause-turn
