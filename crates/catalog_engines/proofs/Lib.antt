@@ -8,8 +8,8 @@ mod AliasLemmas
 mod FilterLemmas
 -- whether an address is below all regions of a catalog
 mod RangeLemmas
--- a symbol of the kernel itself answers for its name
-mod SizeLemmas
+-- symbols that are gone through by the numbers of their names
+mod NumberLemmas
 -- from what came of a log to what the engine returns
 mod AnnotationLemmas
 -- which readers failed of a log that is read whole

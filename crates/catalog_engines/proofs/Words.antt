@@ -19,7 +19,7 @@ pub use Rattle.std.specs.List.{cons_option, list_any}
 pub use Rattle.std.specs.Map.{lookup}
 pub use Rattle.std.specs.Option.{option_copied, option_to_list, is_none, option_map_or}
 pub use Rattle.std.specs.Ordering.{nat_cmp}
-pub use Rattle.std.specs.Prelude.{All, IfSome, MatchOption, option_and_then, unwrap_or, ◌&&◌, nat_eq, ◌⊎◌, ◌^◌, IsErrAnd, is_some, not}
+pub use Rattle.std.specs.Prelude.{All, IfSome, MatchOption, option_and_then, unwrap_or, ◌&&◌, nat_eq, ◌⊎◌, ◌^◌, IsErrAnd, is_some, not, slice_get, slice_index_or}
 pub use Rattle.std.specs.Result.{result_ok}
 pub use Rattle.std.specs.Str.{bytes_eq}
 pub use Rattle.catalog_engines.specs.AddressTexts.{has_any_line, has_line, is_told, owner_member, owner_text, symbols_text, told_line, told_lines, word_text, words_text}

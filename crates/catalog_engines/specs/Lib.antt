@@ -7,10 +7,14 @@ pub mod GivenAnswers
 pub mod LineRuns
 -- what is noted of a log after its end
 pub mod LogNotes
+-- whether a function of the kernel itself has a size
+pub mod Sizes
 -- how the addresses of a log are answered
 pub mod LogAnswers
 -- which names symbols may have
 pub mod NameFilters
+-- the links of symbols by the numbers of their names
+pub mod KernelNames
 -- what is known of the symbols that a log is answered from
 pub mod LogIndexes
 -- what is written for a log, and noted of its listings

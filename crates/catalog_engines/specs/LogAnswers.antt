@@ -1,14 +1,13 @@
 -- How the addresses of a log are answered by the catalog of listings.
 use Rattle.std.specs.Prelude.{ℕ, ◌&&◌, ◌||◌, ◌==◌, Bool, true, false, if◌then◌else◌, List, ◌++◌}
-use Rattle.std.specs.Prelude.{codes, nat_eq, nat_le, slice_get, Option, Some, None, option_and_then}
+use Rattle.std.specs.Prelude.{codes, nat_eq, nat_le, Option, Some, None, option_and_then}
 use Rattle.std.specs.List.{list_any}
-use Rattle.std.specs.Option.{option_map, option_map_or}
+use Rattle.std.specs.Option.{option_map_or}
 use Rattle.order_laws.specs.declared.items.Item.{Item}
 use Rattle.modules.specs.AtAddress.{lists_symbol}
 use Rattle.modules.specs.Catalogs.{module_of}
 use Rattle.modules.specs.Entries.{CatalogEntries, ModuleEntry}
-use Rattle.modules.specs.Found.{Found, found_in, symbol_at, symbols_from}
-use Rattle.modules.specs.SymbolNames.{SymbolName, symbols_named}
+use Rattle.modules.specs.Found.{Found, found_in, symbols_from}
 use Rattle.modules.specs.Items.{item_of_address, items_of}
 use Rattle.listing.specs.AddressRules.{place_of, rule_at}
 use Rattle.listing.specs.Answers.{Known, answer_of, is_nothing, sought, text_of}
@@ -17,6 +16,7 @@ use Rattle.listing.specs.declared.address_rules.Callers.{Callers}
 use Rattle.listing.specs.declared.address_rules.Callers.TheVariants.{ByPlace}
 use Rattle.listing.specs.declared.address_rules.LogRule.{LogRule}
 use Rattle.logs.specs.Answering.{Answering}
+use Rattle.catalog_engines.specs.Sizes.{has_size_by}
 
 -- what is known of an address
 abbrev pub answer_at : CatalogEntries → AddressRule → ℕ → Known
@@ -78,33 +78,6 @@ abbrev pub is_data_by : CatalogEntries → LogRule → ℕ → Bool
 is_data_by c rule addr =
     asks_place rule.callers
     && option_map_or begins_data (answer_at c (reading_at rule false) addr).found false
-
--- the symbol that an address belongs to
-abbrev pub found_at : CatalogEntries → ℕ → Option Found
-found_at c addr = option_and_then (λ i. symbol_at c i addr) (item_of_address c addr)
-
--- the address of a symbol of the kernel itself
-abbrev pub kernel_address : CatalogEntries → ℕ → Option ℕ
-kernel_address c place =
-    option_and_then (λ m. option_map (λ s. s.addr) (slice_get m.symbols place)) (module_of c 0)
-
--- a symbol is one of the kernel itself; and one that has this size
-abbrev pub is_of_kernel : SymbolName → Bool
-is_of_kernel n = nat_eq n.number 0
-
-abbrev pub has_size_at : CatalogEntries → ℕ → ℕ → Bool
-has_size_at c size addr = option_map_or (λ f. nat_eq f.size size) (found_at c addr) false
-
-abbrev pub is_of_size : CatalogEntries → ℕ → SymbolName → Bool
-is_of_size c size n =
-    is_of_kernel n && option_map_or (has_size_at c size) (kernel_address c n.place) false
-
--- Of the functions of the kernel itself with this name one has this size, or none; there is no
--- answer if there is no such function.
-abbrev pub has_size_by : CatalogEntries → List ℕ → ℕ → Option Bool
-has_size_by c name size =
-    let named = symbols_named c name in
-    if list_any is_of_kernel named then Some (list_any (is_of_size c size) named) else None
 
 -- an address is not below the first region: one begins at or below it
 abbrev pub is_reached : CatalogEntries → ℕ → Bool

@@ -1,11 +1,12 @@
 -- What is known of the symbols that a log is answered from.
 use Rattle.std.specs.Prelude.{Bool, List, Option, IfSome}
+use Rattle.catalog_engines.specs.KernelNames.{AreLinked, Links}
 use Rattle.modules.specs.Entries.{CatalogEntries}
-use Rattle.modules.specs.SymbolNames.{IsNamesOf, SymbolName}
 use Rattle.catalog_engines.specs.NameFilters.{HoldsNames}
+use Rattle.catalog_engines.specs.Sizes.{kernel_symbols}
 
--- the marks are of its names, and the names are its own
-pub record IsKnown (c : CatalogEntries) (marks : Option (List Bool))
-    (names : Option (List SymbolName)) : Type 0 where
+-- The marks are of its names, and the links are of the symbols of the kernel itself.
+pub record IsKnown (c : CatalogEntries) (marks : Option (List Bool)) (links : Option Links)
+    : Type 0 where
   pub marked : IfSome marks (λ m. HoldsNames m c)
-  pub named : IfSome names (IsNamesOf c)
+  pub linked : IfSome links (AreLinked (kernel_symbols c))

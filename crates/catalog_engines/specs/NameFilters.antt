@@ -1,18 +1,19 @@
 -- Which names symbols may have, by a number of each name.
-use Rattle.std.specs.Prelude.{◌≡◌, ℕ, ◌+◌, ◌-◌, ◌*◌, ◌%◌, Bool, true, false, List, [], ◌∷◌, length, drop}
+use Rattle.std.specs.Prelude.{◌≡◌, ℕ, ◌+◌, ◌*◌, ◌/◌, ◌%◌, ◌^◌, Bool, true, false, List, [], ◌∷◌}
 use Rattle.std.specs.Prelude.{All, IfSome, slice_index_or}
 use Rattle.modules.specs.Catalogs.{module_of}
 use Rattle.modules.specs.Entries.{CatalogEntries, SymbolEntry}
 use Rattle.modules.specs.AtAddress.{lists_symbol}
+use Rattle.catalog_engines.specs.declared.name_filter.TheConstants.{FACTOR}
 
--- the number of bytes, after others that have this one
-abbrev pub number_after : ℕ → List ℕ → ℕ
-number_after n [] = n
-number_after n (b ∷ bytes) = number_after ((n * 31 + b) % 1048576) bytes
+-- the 64 bits that bytes make of those before them
+abbrev pub bits_after : ℕ → List ℕ → ℕ
+bits_after bits [] = bits
+bits_after bits (b ∷ bytes) = bits_after ((bits + b) % 2 ^ 64 * FACTOR % 2 ^ 64) bytes
 
--- the number of a name, from its last eight bytes
+-- the number of a name: the highest 20 of its bits
 unfoldable pub number_of : List ℕ → ℕ
-number_of name = number_after 0 (drop (length name - 8) name)
+number_of name = bits_after 0 name / 2 ^ 44
 
 -- a name with a mark at its number
 abbrev pub has_mark : List Bool → List ℕ → Bool

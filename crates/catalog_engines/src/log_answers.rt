@@ -35,10 +35,7 @@ impl<'i, 'c> Answers for CatalogAnswers<'i, 'c> {
     }
 
     fn prepare(&mut self, is_silent: bool) -> Result<(), AllocError> {
-        if !is_silent {
-            self.index.sort_names(self.alloc)?;
-        }
-        Ok(())
+        self.index.prepare(self.alloc, is_silent)
     }
 
     fn text_of(&self, is_caller: bool, addr: u64) -> Result<Option<Vec<u8>>, AllocError> {
@@ -97,7 +94,7 @@ impl<'i, 'c> Answers for CatalogAnswers<'i, 'c> {
     }
 
     fn has_size(&self, name: &[u8], size: u64) -> Result<Option<bool>, AllocError> {
-        self.index.has_size(self.alloc, name, size)
+        Ok(self.index.has_size(name, size))
     }
 
     fn is_in_range(&self, addr: u64) -> bool {
@@ -156,7 +153,7 @@ impl<'i, 'c> CatalogAnswers<'i, 'c> {
     {
         CatalogAnswers {
             alloc,
-            index: LogIndex::new(alloc, index),
+            index: LogIndex::new(index),
             rule,
             is_narrow,
         }

@@ -2,14 +2,16 @@
 //!
 //! Each word that a log has itself after an address, and that is not the answer's name, is sought
 //! among the symbols at the address. So that symbols are not asked for each word, it is found once for
-//! a log which names they may have. The symbols are put in the order of their names only for a log
-//! that may say the sizes of functions.
-ghost use Rattle.std.specs.Prelude.{◌≡◌, false, IfOk};
+//! a log which names they may have, from its second block on: to go through all symbols does not pay
+//! for one. The kernel's symbols are linked by their names only for a log that may say the sizes of
+//! functions.
+ghost use Rattle.std.specs.Prelude.{◌≡◌, false};
 ghost use Rattle.modules.specs.Items.{item_of_address};
-ghost use Rattle.catalog_engines.specs.LogAnswers.{has_size_by, is_reached};
+ghost use Rattle.catalog_engines.specs.LogAnswers.{is_reached};
 ghost use Rattle.catalog_engines.specs.NameFilters.{IsNoName};
+ghost use Rattle.catalog_engines.specs.Sizes.{has_size_by};
 
-use crate::kernel_names::KernelNames;
+use crate::kernel_names::{KernelNames, has_size_among};
 use crate::name_filter::NameFilter;
 use modules::{Catalog, IndexedCatalog};
 use order_laws::Item;
@@ -20,10 +22,12 @@ use std::marker::Model;
 #[derive(Drop)]
 pub(crate) struct LogIndex<'i, 'c> {
     index: &'i IndexedCatalog<'c>,
-    /// Which names symbols may have, unless there was no memory for it.
+    /// Whether it was asked for a block already.
+    is_begun: bool,
+    /// Which names symbols may have, once it is known.
     filter: Option<NameFilter>,
-    /// The symbols by their names, once a size was asked for.
-    names: Option<KernelNames<'c>>,
+    /// The links of the kernel's symbols by their names, once a size may be asked for.
+    names: Option<KernelNames>,
 }
 
 impl<'i, 'c> Model for LogIndex<'i, 'c> {
@@ -38,13 +42,14 @@ impl<'i, 'c> Model for LogIndex<'i, 'c> {
 }
 
 impl<'i, 'c> LogIndex<'i, 'c> {
-    /// Goes through all symbols once.
-    pub(crate) fn new(alloc: Global, index: &'i IndexedCatalog<'c>) -> LogIndex<'i, 'c>
+    /// Nothing is known of the symbols yet.
+    pub(crate) fn new(index: &'i IndexedCatalog<'c>) -> LogIndex<'i, 'c>
         ensures { result ≡ index.now }
     {
         LogIndex {
             index,
-            filter: NameFilter::of(alloc, index.catalog()).ok(),
+            is_begun: false,
+            filter: None,
             names: None,
         }
     }
@@ -81,33 +86,53 @@ impl<'i, 'c> LogIndex<'i, 'c> {
         is_reached(self.index, addr)
     }
 
-    /// Puts the symbols in the order of their names, unless they are. Nothing else changes.
-    pub(crate) fn sort_names(&mut self, alloc: Global) -> Result<(), AllocError>
+    /// Finds what pays for one block more of a log. No answer changes.
+    pub(crate) fn prepare(&mut self, alloc: Global, is_silent: bool) -> Result<(), AllocError>
         ensures { self.new ≡ self.old }
     {
-        if self.names.is_none() {
-            self.names = Some(KernelNames::of(alloc, self.index.catalog())?);
+        if self.is_begun {
+            self.mark_names(alloc);
+        }
+        self.is_begun = true;
+        if is_silent {
+            Ok(())
+        } else {
+            self.link_names(alloc)
+        }
+    }
+
+    /// Finds which names symbols may have, unless it is known or there is no memory for it. No answer
+    /// changes.
+    pub(crate) fn mark_names(&mut self, alloc: Global)
+        ensures { self.new ≡ self.old }
+    {
+        if self.filter.is_none() {
+            self.filter = NameFilter::of(alloc, self.index.catalog()).ok();
+        }
+    }
+
+    /// Links the symbols of the kernel itself by their names, unless they are. No answer changes.
+    fn link_names(&mut self, alloc: Global) -> Result<(), AllocError>
+        ensures { self.new ≡ self.old }
+    {
+        if self.names.is_some() {
+            return Ok(());
+        }
+        if let Some(kernel) = self.index.catalog().module(0) {
+            self.names = Some(KernelNames::of(alloc, kernel.symbols())?);
         }
         Ok(())
     }
 
     /// Whether one of the functions of the kernel itself with this name has this size, if there is
-    /// one with this name. If the symbols are not in the order of their names they are put so for
-    /// this question alone.
-    pub(crate) fn has_size(
-        &self,
-        alloc: Global,
-        name: &[u8],
-        size: u64,
-    ) -> Result<Option<bool>, AllocError>
-        ensures { IfOk result (λ o. o ≡ has_size_by self.now name.now size) }
+    /// one with this name. If they are not linked by their names, all are gone through.
+    pub(crate) fn has_size(&self, name: &[u8], size: u64) -> Option<bool>
+        ensures { result ≡ has_size_by self.now name.now size }
     {
+        let symbols = self.index.catalog().module(0)?.symbols();
         match &self.names {
-            Some(names) => Ok(names.has_size(self.index, name, size)),
-            None => {
-                let names = KernelNames::of(alloc, self.index.catalog())?;
-                Ok(names.has_size(self.index, name, size))
-            }
+            Some(names) => names.has_size(self.index, symbols, name, size),
+            None => has_size_among(self.index, symbols, name, size),
         }
     }
 }

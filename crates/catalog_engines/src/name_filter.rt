@@ -19,8 +19,8 @@ use std::marker::Model;
 /// How many numbers names have.
 pub(crate) const NUMBERS: usize = 1 << 20;
 
-/// How many of a name's last bytes its number is made of.
-const BYTES: usize = 8;
+/// By which a name's bytes are multiplied, one after the other: Knuth's factor for 64 bits.
+const FACTOR: u64 = 0x5851_f42d_4c95_7f2d;
 
 /// A mark at the number of each name that a symbol has.
 #[derive(Drop)]
@@ -38,19 +38,19 @@ impl Model for NameFilter {
     ghost invariant = { λ f. length f.marks.items ≡ 1048576 };
 }
 
-/// The number of a name.
+/// The number of a name: the highest bits of what its bytes make.
 #[tactic(auto, unfolding(crate::specs::NameFilters::number_of))]
 pub(crate) fn number_of(name: &[u8]) -> usize
     ensures is { result ≡ number_of name.now }
     ensures below { result < 1048576 }
 {
-    let mut number = 0;
-    let mut rest = &name[name.len().saturating_sub(BYTES)..];
+    let mut bits = 0u64;
+    let mut rest = name;
     while let [byte, more @ ..] = rest {
-        number = (number * 31 + *byte as usize) % NUMBERS;
+        bits = bits.wrapping_add(u64::from(*byte)).wrapping_mul(FACTOR);
         rest = more;
     }
-    number
+    (bits >> 44) as usize
 }
 
 impl NameFilter {

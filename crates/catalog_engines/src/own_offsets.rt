@@ -173,6 +173,7 @@ fn open_and_write<E: Write, W: Write>(
     let index = IndexedCatalog::new(alloc, opened.catalog)?;
     note_listings(&opened.notes, sources, errors);
     let mut answers = CatalogAnswers::new(alloc, &index, rule, is_narrow(&texts.kallsyms));
+    answers.index.mark_names(alloc);
     let end = stopped(annotate_text(alloc, &mut answers, log, writer));
     let kernel = kernel_if_said(&end, &texts.kallsyms, rule.offset);
     tell_end(end, job.log, kernel, errors)

@@ -28,7 +28,7 @@ returns g c =
     let a = c.args in
     let given = texts_in a.texts.now in
     let opened = c.in_ok-opened.opened in
-    let index = c.new-answers.result.index in
+    let index = c.mark_names.new.self in
     let narrow = c.new-answers.result.is_narrow in
     inr (record {
       catalog = index;
@@ -38,7 +38,7 @@ returns g c =
       noted = c.note_listings.new.writer;
       sized = c.new-answers.ensures.narrow ∙ c.is_narrow.ensures ∙ ap (λ t. is_narrow (lines_of t)) c.deref.ensures.value;
       lies = refl;
-      said = subst (λ x. IsCatalogOf a.sources.now.kernel given x opened.notes) (sym (c.new-answers.ensures.index ∙ c.in_ok-index.ensures))
+      said = subst (λ x. IsCatalogOf a.sources.now.kernel given x opened.notes) (sym (c.mark_names.ensures ∙ c.new-answers.ensures.index ∙ c.in_ok-index.ensures))
           (subst (λ k. IsCatalogOf k given opened.catalog opened.notes) c.as_ref.ensures.value (catalog_opened _ given opened c.in_ok-opened.ensures));
       told = c.note_listings.ensures;
       holds = (
