@@ -10,8 +10,8 @@ set -euo pipefail
 
 usage='usage: install.sh [--static] [--target PROCESSOR] [--uninstall] PREFIX
 
-Puts the program latchsym and the library for C and C++ under PREFIX: bin/latchsym, the headers in
-include, liblatchsym.a and liblatchsym.so in lib with latchsym.pc for pkg-config and a package for
+Puts the program latchsym and the library for C and C++ under PREFIX: bin/latchsym, and the script
+bin/latchsym-record beside it, the headers in include, liblatchsym.a and liblatchsym.so in lib with latchsym.pc for pkg-config and a package for
 CMake; and the man pages and the completions for bash, zsh and fish, each in its folder of share. In
 the repository it builds them, which takes the Rattle kit and gcc; a release has them.
 All files are copied first and then renamed, so running programs keep the old files, and a
@@ -69,7 +69,7 @@ esac
 here=$(cd "$(dirname "${BASH_SOURCE[0]}")" && pwd)
 version=$(cat "$here/VERSION")
 
-files=(bin/latchsym include/latchsym.h include/latchsym.hpp include/latchsym_read.h
+files=(bin/latchsym bin/latchsym-record include/latchsym.h include/latchsym.hpp include/latchsym_read.h
     "$lib"/{liblatchsym.a,"liblatchsym.so.$version",pkgconfig/latchsym.pc}
     "$lib"/cmake/latchsym/latchsym-config{,-version}.cmake
     share/bash-completion/completions/latchsym share/fish/vendor_completions.d/latchsym.fish
@@ -93,6 +93,7 @@ fi
 # source_of FILE: where the file is that goes to FILE under PREFIX, in the repository
 source_of() {
     case $1 in
+        bin/latchsym-record) echo "$top/scripts/latchsym-record" ;;
         bin/*) echo "$program" ;;
         *.a) echo "$library" ;;
         *.so.*) echo "$shared" ;;

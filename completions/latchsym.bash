@@ -11,18 +11,19 @@ _latchsym() {
     COMPREPLY=()
 
     if [ "$COMP_CWORD" = 1 ]; then
-        mapfile -t COMPREPLY < <(compgen -W 'annotate lookup address check trace run help -h --help -V --version' -- "$word")
+        mapfile -t COMPREPLY < <(compgen -W 'annotate lookup address check record trace run help -h --help -V --version' -- "$word")
         return
     fi
     case ${COMP_WORDS[1]} in
-        annotate) options='--kallsyms --modules --regions --kernel --callers --exact --offset --follow -h --help' ;;
+        annotate) options='--kallsyms --modules --regions --kernel --history --at --callers --exact --offset --follow -h --help' ;;
         lookup) options='--modules --kallsyms --regions --kernel --history --at --modules-from-symbols --addresses --callers --offset --json --no-counts -h --help' ;;
         address) options='--kallsyms --modules --regions --kernel --history --at --offset --json --no-counts -h --help' ;;
         check) options='--modules --kallsyms --regions --kernel --history --at -h --help' ;;
+        record) options='--kallsyms --append -h --help' ;;
         trace) options='--steps -h --help' ;;
         run) options='--modules --kallsyms --regions --kernel --readers -h --help' ;;
         help)
-            mapfile -t COMPREPLY < <(compgen -W 'annotate lookup address check trace run help' -- "$word")
+            mapfile -t COMPREPLY < <(compgen -W 'annotate lookup address check record trace run help' -- "$word")
             return
             ;;
         *) return ;;
@@ -36,7 +37,7 @@ _latchsym() {
             mapfile -t COMPREPLY < <(compgen -W '_stext' -- "$word")
             return
             ;;
-        --offset | --at | --readers) return ;;
+        --at | --offset | --readers) return ;;
     esac
     if [ "${COMP_WORDS[COMP_CWORD - 2]}" = --kernel ]; then
         mapfile -t COMPREPLY < <(compgen -W '_end _einittext _etext' -- "$word")

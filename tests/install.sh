@@ -17,7 +17,7 @@ fail() {
 # installed FOLDER: what lies under it
 installed() { (cd "$1" && find . ! -type d | LC_ALL=C sort | tr '\n' ' '); }
 version=$(cat "$top/VERSION")
-whole='./bin/latchsym ./include/latchsym.h ./include/latchsym.hpp ./include/latchsym_read.h '
+whole='./bin/latchsym ./bin/latchsym-record ./include/latchsym.h ./include/latchsym.hpp ./include/latchsym_read.h '
 whole+='./lib/cmake/latchsym/latchsym-config-version.cmake ./lib/cmake/latchsym/latchsym-config.cmake ./lib/liblatchsym.a ./lib/liblatchsym.so '
 whole+="./lib/liblatchsym.so.${version%%.*} ./lib/liblatchsym.so.$version ./lib/pkgconfig/latchsym.pc "
 whole+='./share/bash-completion/completions/latchsym ./share/fish/vendor_completions.d/latchsym.fish '
@@ -49,6 +49,7 @@ run "$prefix"
 [ $status = 0 ] || fail "$(cat "$work/err")"
 [ "$(installed "$prefix")" = "$whole" ] || fail "installed: $(installed "$prefix")"
 cmp "$top/docs/latchsym.1" "$prefix/share/man/man1/latchsym.1"
+cmp "$top/scripts/latchsym-record" "$prefix/bin/latchsym-record"
 cmp "$top/docs/latchsym.3" "$prefix/share/man/man3/latchsym.3"
 cmp "$top/completions/latchsym.bash" "$prefix/share/bash-completion/completions/latchsym"
 cmp "$top/completions/latchsym.fish" "$prefix/share/fish/vendor_completions.d/latchsym.fish"

@@ -35,7 +35,7 @@ times=$(mktemp)
 trap 'sort -rn "$times"; rm -f "$times"' EXIT
 # (cases.sh builds the program, so it comes first, beside what needs none)
 tests/lanes.py "$times" 'tests/cases.sh annotated_log_stays_as_it_is' tests/refused_calls.sh
-tests/lanes.py "$times" tests/crates.sh tests/first_change.sh tests/unproved_library.sh tests/random_logs.sh tests/histories.sh tests/random.sh tests/measures.sh \
+tests/lanes.py "$times" tests/crates.sh tests/first_change.sh tests/unproved_library.sh tests/random_logs.sh tests/{histories,recordings}.sh tests/random.sh tests/measures.sh \
     tests/{refusals,devices,memory,runs}.sh tests/interface.py \
     tests/{cases,traces,lookups,lines,json,annotate,follow,checks,address,symbols_alone,pages,versions}.sh
 echo "all passed; nothing of it was proved"

@@ -2,8 +2,8 @@
 # Refuses each request for memory of a run of the program in turn, until a run meets no refusal.
 # Each run has to give what it gives with ample memory, or nothing on standard output, `latchsym:
 # refused 7` on standard error and status 1.
-# The steps of a trace are written as they are done, and the lines of a log that is followed before its
-# listings are read again, so a beginning of them may stand there then.
+# The steps of a trace are written as they are done, the lines of a log that is followed before its
+# listings are read again, and a recording block by block, so a beginning of them may stand there then.
 # A run of a script may also go on where memory was refused for a change, and say so of that change
 # (`refused 1 7 ext4`).
 #
@@ -28,10 +28,10 @@ same() { cmp -s "$work/$1.out" "$work/$2.out" && cmp -s "$work/$1.err" "$work/$2
 echo "latchsym: refused 7" >"$work/refused.err"
 echo 1 >"$work/refused.status"
 
-# midway ARGUMENT..: whether these ask for steps, or follow a log, and the run `once` was refused behind
-# some of them
+# midway ARGUMENT..: whether these ask for steps, or follow a log, or record, and the run `once` was
+# refused behind some of them
 midway() {
-    [[ "${1-} ${2-}" = "trace --steps" || "${1-} ${2-}" = "annotate --follow" ]] && cmp -s "$work/once.err" "$work/refused.err" &&
+    [[ "${1-} ${2-}" = "trace --steps" || "${1-} ${2-}" = "annotate --follow" || "${1-}" = record ]] && cmp -s "$work/once.err" "$work/refused.err" &&
         cmp -s "$work/once.status" "$work/refused.status" &&
         cmp -s -n "$(stat -c %s "$work/once.out")" "$work/once.out" "$work/ample.out"
 }
@@ -101,6 +101,10 @@ try lookup --modules basic.modules --kallsyms basic.kallsyms 0xffffffffc0000018 
 try annotate --kallsyms basic.kallsyms ../logs/x86_oops.log
 try annotate --modules regions.modules --kallsyms regions.kallsyms --regions regions.regions ../logs/x86_oops.log
 try annotate --follow --kallsyms basic.kallsyms ../logs/x86_oops.log
+for told in 'tracing_mark_write: latchsym' 'module_load: ext4' 'module_free: ext4' 'module_load: none'; do
+    printf '  sh-1 [000] ..... 1.500000: %s\n' "$told"
+done >"$work/events"
+try record --kallsyms basic.kallsyms "$work/events"
 try check --kallsyms basic.kallsyms
 try check --modules regions.modules --kallsyms regions.kallsyms --regions regions.regions
 try address --modules basic.modules --kallsyms basic.kallsyms ext4_a+0x8 nothing -:do_one

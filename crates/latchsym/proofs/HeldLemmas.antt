@@ -1,5 +1,5 @@
 -- What is known of a log before it is followed, by the readers that it is followed by.
-use Rattle.latchsym.proofs.Words.{◌≡◌, ◌∙◌, ap, Bool, false, List, ℕ, Option, None}
+use Rattle.latchsym.proofs.Words.{◌≡◌, ◌∙◌, ap, Bool, false, true, List, ℕ, Option, None}
 use Rattle.std.specs.Prelude.{if◌then◌else◌}
 use Rattle.texts.specs.Counted.{device_of}
 use Rattle.texts.specs.declared.counted.Counted.{Counted}
@@ -10,6 +10,7 @@ use Rattle.catalog_engines.specs.declared.sources.ListingFiles.{ListingFiles}
 use Rattle.catalog_engines.specs.declared.sources.Sources.{Sources}
 use Rattle.latchsym.specs.Files.{Held, held_given}
 use Rattle.latchsym.specs.Outcomes.{seen_first}
+use Rattle.latchsym.specs.RecordedEvents.{seen_again}
 
 module _ {F : Type 0} (remaining : F → Option (List ℕ)) where
   abbrev pub seen_by : Held → ListingFiles → ListingReaders F F F → Counted F → Bool → Seen
@@ -28,3 +29,14 @@ module _ {F : Type 0} (remaining : F → Option (List ℕ)) where
       ∙ ap (λ x. seen_by held s.files x r' is_read) listings
       ∙ ap (λ x. seen_by held s.files l x is_read) log
       ∙ ap (seen_by held s.files l r) unread
+
+  -- the listings are opened again
+  pub again_is : (held : Held) (names files : ListingFiles) (l : ListingReaders F F F) (r r' : Counted F) (is_read : Bool) → names ≡ files → r' ≡ r → is_read ≡ true
+      → seen_by held names l r' is_read ≡ seen_again remaining held files r
+  again_is held names files l r r' is_read named events read =
+      ap (λ n. seen_by held n l r' is_read) named
+      ∙ ap (λ x. seen_by held files l x is_read) events
+      ∙ ap (seen_by held files l r) read
+
+  pub next_is_later : (held : Held) (names : ListingFiles) (l : ListingReaders F F F) (r : Counted F) (is_read : Bool) → is_read ≡ true → (seen_by held names l r is_read).next ≡ (seen_by held names l r is_read).later
+  next_is_later held names l r is_read read = ap (λ b. (seen_by held names l r b).next) read

@@ -141,6 +141,11 @@ address_rows =
     ∷ bounds_rows (history_rows (option (codes "offset") ∷ flag (codes "json")
     ∷ flag (codes "no-counts") ∷ required (plain Operands 1 (codes "name")) ∷ []))
 
+abbrev pub record_rows : List ArgumentRow
+record_rows =
+    listing (option (codes "kallsyms")) ∷ flag (codes "append")
+    ∷ required (plain Operand 1 (codes "events")) ∷ []
+
 abbrev pub trace_rows : List ArgumentRow
 trace_rows = flag (codes "steps") ∷ required (plain Operand 1 (codes "file")) ∷ []
 
@@ -152,6 +157,7 @@ arguments_of name =
     else if bytes_eq name (codes "annotate") then annotate_rows
     else if bytes_eq name (codes "check") then check_rows
     else if bytes_eq name (codes "address") then address_rows
+    else if bytes_eq name (codes "record") then record_rows
     else if bytes_eq name (codes "trace") then trace_rows
     else []
 
@@ -170,8 +176,8 @@ top_app =
 abbrev pub latchsym_app : App
 latchsym_app =
     fold (λ app name. with_subcommand app (command_app name).top) top_app
-    (codes "annotate" ∷ codes "lookup" ∷ codes "address" ∷ codes "check" ∷ codes "trace"
-    ∷ codes "run" ∷ [])
+    (codes "annotate" ∷ codes "lookup" ∷ codes "address" ∷ codes "check" ∷ codes "record"
+    ∷ codes "trace" ∷ codes "run" ∷ [])
 
 -- the command reads words as `app` does
 pub record IsCommand (app : App) (c : Command) : Type 0 where

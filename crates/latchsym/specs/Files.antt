@@ -27,6 +27,7 @@ input_of (sub.Run run) = Some run.script.now
 input_of (sub.Annotate annotate) = Some annotate.log.now
 input_of sub.Check = None
 input_of (sub.Address address) = None
+input_of (sub.Record r) = Some r.events.now
 
 -- the files that are read, in order; the place of one that is not given stays empty
 abbrev pub files_of_request : Request → List (Option Text)

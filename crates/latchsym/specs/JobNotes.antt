@@ -12,12 +12,13 @@ use Rattle.listing.specs.declared.listing_notes.ListingNotes.{ListingNotes}
 use Rattle.catalog_engines.specs.NoteTexts.{line_if_noted, lines_by, note_head, note_lines}
 use Rattle.catalog_engines.specs.NoteTexts.{noted_bounds}
 use Rattle.catalog_engines.specs.declared.sources.Sources.{Sources}
+use Rattle.latchsym.specs.RecordedEvents.{ended_lines}
 use Rattle.latchsym.specs.declared.job_notes.TheConstants.{GIVE_REGIONS}
 use Rattle.latchsym.specs.declared.requests.Job.{Job}
 use Rattle.latchsym.specs.declared.requests.Job.TheVariants as job
 use Rattle.latchsym.specs.declared.requests.Request.{Request}
 use Rattle.latchsym.specs.declared.requests.Subcommand.{Subcommand}
-use Rattle.latchsym.specs.declared.requests.Subcommand.TheVariants.{Lookup, Run}
+use Rattle.latchsym.specs.declared.requests.Subcommand.TheVariants.{Lookup, Record, Run}
 
 -- The bounds of a lookup: if modules are listed, the kernel lies between `_stext` and `_end` if no
 -- names are given.
@@ -61,6 +62,7 @@ lines_of_run q notes =
 abbrev pub lines_asked : Request → Subcommand → ListingNotes → List ℕ
 lines_asked q (Run r) notes = lines_of_run q.sources notes
 lines_asked q (Lookup l) notes = lines_of_lookup q.sources notes
+lines_asked q (Record r) notes = ended_lines q.sources.files.kallsyms.now notes.kallsyms
 lines_asked q _ notes = note_lines q.sources.kernel q.sources.files notes
 
 abbrev pub notes_text : Job → ListingNotes → List ℕ

@@ -36,6 +36,7 @@ use Rattle.catalog_engines.specs.declared.sources.ListingFiles.{ListingFiles}
 use Rattle.catalog_engines.specs.declared.sources.SymbolSource.{SymbolSource}
 use Rattle.catalog_engines.specs.declared.sources.SymbolSource.TheVariants.{History, Listing}
 use Rattle.latchsym.specs.declared.requests.Lookup.{Lookup}
+use Rattle.latchsym.specs.declared.requests.Record.{Record}
 use Rattle.latchsym.specs.declared.requests.Request.{Request}
 use Rattle.latchsym.specs.declared.requests.Run.{Run}
 use Rattle.latchsym.specs.declared.requests.Subcommand.{Subcommand}
@@ -255,6 +256,11 @@ pub record IsAddressIn (rows : List Row) (address : Address) : Type 0 where
   pub json : address.form.json ≡ has_flag (codes "json") rows
   pub higher : IsOffsetIn rows address.form.higher
 
+-- the events that are recorded, and whether that is appended to a history
+pub record IsRecordIn (rows : List Row) (r : Record) : Type 0 where
+  pub appended : r.is_appended ≡ has_flag (codes "append") rows
+  pub events : first_of (codes "events") rows ≡ Some r.events.now
+
 -- a subcommand of this name asks for this
 abbrev pub IsSubcommandIn : Text → List Row → Subcommand → Type 0
 IsSubcommandIn name rows (sub.Lookup lookup) = (name ≡ codes "lookup") × IsLookupIn rows lookup
@@ -264,6 +270,7 @@ IsSubcommandIn name rows (sub.Annotate annotate) =
 IsSubcommandIn name rows sub.Check = name ≡ codes "check"
 IsSubcommandIn name rows (sub.Address address) =
     (name ≡ codes "address") × IsAddressIn rows address
+IsSubcommandIn name rows (sub.Record r) = (name ≡ codes "record") × IsRecordIn rows r
 
 -- ---- the job
 
@@ -291,13 +298,14 @@ needed_by name =
     if bytes_eq name (codes "trace") then codes "file" ∷ []
     else if bytes_eq name (codes "run")
     then codes "modules" ∷ codes "readers" ∷ codes "script" ∷ []
+    else if bytes_eq name (codes "record") then codes "events" ∷ []
     else []
 
 -- the names of the subcommands
 abbrev pub subcommand_names : List Text
 subcommand_names =
     codes "trace" ∷ codes "lookup" ∷ codes "run" ∷ codes "annotate" ∷ codes "check"
-    ∷ codes "address" ∷ []
+    ∷ codes "address" ∷ codes "record" ∷ []
 
 -- there is no such subcommand, or it lacks a word that it needs, or there are bounds that are not
 -- two

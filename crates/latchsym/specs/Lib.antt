@@ -3,6 +3,8 @@
 pub mod CommandLine
 -- the job that the words of a command line ask for
 pub mod Jobs
+-- events that are recorded: what is known of their files, and what is said of a listing
+pub mod RecordedEvents
 -- the lines that say what is noted of the listings of a job
 pub mod JobNotes
 -- what the system said of a failed call, and which commands write it

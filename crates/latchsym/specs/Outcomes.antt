@@ -12,6 +12,8 @@ use Rattle.catalog_engines.specs.LastingLogs.{Seen}
 use Rattle.catalog_engines.specs.HistoryAnnotations.{AnnotatesByHistory}
 use Rattle.catalog_engines.specs.OwnOffsets.{WritesByOwnOffset, all_failures}
 use Rattle.latchsym.specs.Files.{Held, held_given}
+use Rattle.latchsym.specs.RecordedEvents.{seen_again}
+use Rattle.recordings.specs.Recorder.{RecordsEvents}
 use Rattle.catalog_engines.specs.GivenAnswers.{AnswersGiven, AnswersListings}
 use Rattle.command_io.specs.Faults.{with_notes, with_status, without_notes}
 use Rattle.listing.specs.ListingNotes.{no_notes}
@@ -43,6 +45,7 @@ use Rattle.catalog_engines.specs.declared.sources.Sources.{Sources}
 use Rattle.catalog_engines.specs.declared.sources.SymbolSource.{SymbolSource}
 use Rattle.catalog_engines.specs.declared.sources.SymbolSource.TheVariants.{History, Listing}
 use Rattle.latchsym.specs.declared.requests.Lookup.{Lookup}
+use Rattle.latchsym.specs.declared.requests.Record.{Record}
 use Rattle.latchsym.specs.declared.requests.Subcommand.{Subcommand}
 use Rattle.latchsym.specs.declared.requests.Subcommand.TheVariants as sub
 
@@ -154,6 +157,13 @@ IsOutcomeOfLog remaining held contents errors s a symbols l l' i i' w w' e e' ou
     HoldsOfInput (IsLogOf remaining held contents errors s a symbols l l' w w' e e' outcome)
     i i' outcome
 
+-- Events are recorded, by the listing that is read behind them.
+abbrev pub IsRecordedBy : {R W : Type 0} → (R → Option (List ℕ)) → Held → (W → Option (List ℕ))
+    → Sources → Record → Counted R → Output W → Output W → Result Finished Fault → Type 0
+IsRecordedBy remaining held contents s r events w w' outcome =
+    (after : Seen) × RecordsEvents contents r.is_appended
+    (seen_again remaining held s.files events) after w w' outcome
+
 -- how addresses are looked up that are asked for over these listings
 abbrev pub query_of : Sources → Lookup → Query
 query_of s l =
@@ -180,6 +190,9 @@ IsOutcomeBy remaining held contents errors s (sub.Address a) l l' i i' w w' e e'
     AnswersSources remaining contents
     (λ _. IsAddressed a.form s.kernel (map (λ n. n.now) a.names.items)) s.symbols l l' w w' outcome
     × (e' ≡ e)
+IsOutcomeBy remaining held contents errors s (sub.Record r) l l' i i' w w' e e' outcome =
+    HoldsOfInput (λ events events'. IsRecordedBy remaining held contents s r events w w' outcome)
+    i i' outcome × (e' ≡ e)
 
 -- The status or the fault of a job, over what its readers had. A trace that succeeds has status 0.
 abbrev pub IsOutcome : {R W E : Type 0} → (R → Option (List ℕ)) → Held → (W → Option (List ℕ))

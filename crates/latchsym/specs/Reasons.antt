@@ -37,6 +37,7 @@ abbrev pub does_tell : Subcommand → Bool
 does_tell (sub.Annotate annotate) = true
 does_tell sub.Check = true
 does_tell (sub.Address address) = true
+does_tell (sub.Record r) = true
 does_tell _ = false
 
 abbrev pub tells_errors : {R : Type 0} → OpenedJob R → Bool

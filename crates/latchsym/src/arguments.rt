@@ -6,14 +6,14 @@ ghost use Rattle.latchsym.specs.CommandLine.{row_of};
 ghost use Rattle.latchsym.specs.Jobs.{AnswersMatches, AnswersSubcommand, AnswersWords, AreBoundsIn};
 ghost use Rattle.latchsym.specs.Jobs.{AreFilesIn, AreNumbersIn, Gives, IsAddressIn, IsAnnotateIn};
 ghost use Rattle.latchsym.specs.Jobs.{IsFaultOf, IsJobIn, IsLogOffsetIn, IsLookupIn, IsOffsetIn};
-ghost use Rattle.latchsym.specs.Jobs.{IsRequestIn, IsSourceIn, IsTimeIn, is_followed_whole};
+ghost use Rattle.latchsym.specs.Jobs.{IsRequestIn, IsRecordIn, IsSourceIn, IsTimeIn, is_followed_whole};
 ghost use Rattle.latchsym.specs.Jobs.{is_own_offset, reading_in};
 ghost use Rattle.latchsym.specs.Jobs.{IsRunIn, IsSubcommandIn, callers_in, clash_in, clash_of};
 ghost use Rattle.latchsym.specs.Jobs.{form_in, has_flag, is_like_address, is_present, readers_of};
 ghost use Rattle.latchsym.specs.Jobs.{rows_in, symbols_in, values_in};
 
 use crate::command_line::latchsym_command;
-use crate::requests::{Address, Job, JobFault, Lookup, Request, Run, Subcommand};
+use crate::requests::{Address, Job, JobFault, Lookup, Record, Request, Run, Subcommand};
 use crate::rows::{Argument, KALLSYMS, Kind, LOG, arguments_of};
 use catalog_engines::{AddressForm, Annotate, ListingFiles, LogReading, Sources, SymbolSource};
 use clap::error::ErrorKind;
@@ -234,6 +234,7 @@ fn subcommand_in<'a>(
         "annotate" => Ok(Subcommand::Annotate(annotate_in(found)?)),
         "check" => Ok(Subcommand::Check),
         "address" => Ok(Subcommand::Address(address_in(alloc, found)?)),
+        "record" => Ok(Subcommand::Record(record_in(found)?)),
         _ => Err(JobFault::NoJob),
     }
 }
@@ -397,6 +398,20 @@ fn address_in<'a>(alloc: Global, found: &ArgMatches<'a>) -> Result<Address<'a>, 
     Ok(Address {
         names,
         form: AddressForm { json, higher },
+    })
+}
+
+/// The events that are recorded.
+fn record_in<'a>(found: &ArgMatches<'a>) -> Result<Record<'a>, JobFault<'a>>
+    ensures { Gives IsRecordIn (codes "record") (rows_in found.now) result }
+{
+    let Some(events) = value_of(found, "events") else {
+        return Err(JobFault::NoJob);
+    };
+    let is_appended = is_given(found, "append");
+    Ok(Record {
+        is_appended,
+        events,
     })
 }
 

@@ -27,6 +27,8 @@ const ADDRESS: &str = "Say where the symbols of a name are, and how long they ar
 
 const CHECK: &str = "Say what is wrong with listings, and how many of their lines are usable";
 
+const RECORD: &str = "Write the history of a boot, from the events of its modules";
+
 const TRACE: &str = "Play the steps of a trace, and write what its lookups found";
 
 const RUN: &str = "Run concurrent loads and lookups from a script";
@@ -44,6 +46,7 @@ pub fn latchsym_command<'a>(alloc: Global) -> Result<Command<'a>, AllocError>
     let command = with_subcommand(alloc, command, "lookup", LOOKUP)?;
     let command = with_subcommand(alloc, command, "address", ADDRESS)?;
     let command = with_subcommand(alloc, command, "check", CHECK)?;
+    let command = with_subcommand(alloc, command, "record", RECORD)?;
     let command = with_subcommand(alloc, command, "trace", TRACE)?;
     with_subcommand(alloc, command, "run", RUN)
 }

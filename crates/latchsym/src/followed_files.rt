@@ -49,6 +49,33 @@ impl<'f, 'a, F: FileSource> FollowedFiles<'f, 'a, F> {
     }
 }
 
+impl<'f, 'a, F: FileSource> FollowedFiles<'f, 'a, F> {
+    ghost use Rattle.std.specs.Prelude.{◌≡◌, true};
+
+    /// These readers, of files with these names. The listings are opened each time that they are
+    /// read, also the first: then they are as they are behind what was read of the log.
+    pub fn reopened(
+        files: &'f F,
+        names: &'f ListingFiles<'a>,
+        listings: &'f mut ListingReaders<F::File, F::File, F::File>,
+        log: &'f mut Counted<F::File>,
+    ) -> FollowedFiles<'f, 'a, F>
+        ensures files { result.files.now ≡ files.now }
+        ensures names { result.names.now ≡ names.now }
+        ensures log { result.log.now ≡ log.entry.now }
+        ensures read { result.is_read ≡ true }
+    {
+        let is_read = true;
+        FollowedFiles {
+            files,
+            names,
+            listings,
+            log,
+            is_read,
+        }
+    }
+}
+
 impl<'f, 'a, F: FileSource> LastingLog for FollowedFiles<'f, 'a, F> {
     ghost use Rattle.std.specs.Prelude.{None, if◌then◌else◌};
     ghost use Rattle.texts.specs.Counted.{device_of};

@@ -4,6 +4,7 @@ ghost use Rattle.texts.specs.Output.{Says};
 ghost use Rattle.latchsym.specs.JobNotes.{is_overlap, lines_asked, lines_of_lookup, lines_of_run};
 ghost use Rattle.latchsym.specs.JobNotes.{notes_text, overlap_line, run_line, run_lines};
 
+use crate::recorded_events::put_ended;
 use crate::requests::{Job, Request, Subcommand};
 use catalog_engines::{Sources, put_if_noted, put_listing_notes, put_note_head, put_notes_of};
 use listing::{ListingNote, ListingNotes};
@@ -36,6 +37,7 @@ fn put_notes_asked<W: Write>(writer: &mut Output<W>, request: &Request<'_>, note
         Subcommand::Annotate(_) | Subcommand::Check | Subcommand::Address(_) => {
             put_notes_of(writer, sources, notes)
         }
+        Subcommand::Record(_) => put_ended(writer, sources.files.kallsyms, notes.kallsyms),
     }
 }
 

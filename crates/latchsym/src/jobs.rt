@@ -19,6 +19,7 @@ ghost use Rattle.latchsym.specs.Outcomes.{IsOutcomeOfLog, IsOutcomeOfRun, query_
 ghost use Rattle.latchsym.specs.Reasons.{error_if_given, error_of_listings, error_of_request};
 
 use crate::followed_files::FollowedFiles;
+use crate::recorded_events::do_record;
 use crate::requests::{Address, Job, Lookup, Request, Run, Subcommand};
 use catalog_engines::{
     Annotate, ListingFiles, LogReading, Sources, SymbolSource, address_engine, address_engine_at,
@@ -71,7 +72,7 @@ pub enum OpenedJob<'j, 'a, R> {
 }
 
 /// What a run, or a log, comes to whose file has no reader.
-const UNREAD: Fault = Fault::Read { place: 3 };
+pub(crate) const UNREAD: Fault = Fault::Read { place: 3 };
 
 /// Opens the files that a job names.
 pub fn open_job<'j, 'a, F: FileSource>(
@@ -148,6 +149,9 @@ fn do_request<T: Threads + Wait + Sync, F: FileSource, W: Write, E: Write>(
         }
         Subcommand::Check => do_check(alloc, sources, listings, writer),
         Subcommand::Address(address) => do_address(alloc, sources, address, listings, writer),
+        Subcommand::Record(record) => {
+            do_record(alloc, files, sources, record, listings, input, writer)
+        }
     }
 }
 

@@ -8,6 +8,7 @@
 //! - `annotate` writes a log again, with the symbol after each address, and may follow it
 //! - `check` says what is wrong with listings, and how many of their lines are of use
 //! - `address` says where the symbols of some names are
+//! - `record` writes the history of a boot, from the events of its modules
 //!
 //! The options of each are in `rows`, and what they ask for in `requests`.
 //!
@@ -24,6 +25,7 @@ mod jobs;
 mod misuse;
 mod operands;
 mod programs;
+mod recorded_events;
 mod reports;
 mod requests;
 mod rows;

@@ -40,6 +40,8 @@ pub enum Subcommand<'a> {
     Check,
     /// `latchsym address`: write the places of the symbols of some names.
     Address(Address<'a>),
+    /// `latchsym record`: write the history of a boot, from the events of its modules.
+    Record(Record<'a>),
 }
 
 /// Which addresses are looked up, how they are taken, and how the answers are written.
@@ -71,6 +73,15 @@ pub struct Address<'a> {
     pub names: Vec<&'a str>,
     /// How the addresses are written.
     pub form: AddressForm,
+}
+
+/// Which events are recorded.
+#[derive(Debug, Drop)]
+pub struct Record<'a> {
+    /// Whether what is written is appended to a history.
+    pub is_appended: bool,
+    /// The file of the events; `-` is the standard input.
+    pub events: &'a str,
 }
 
 impl<'a> Job<'a> {
@@ -121,6 +132,7 @@ impl<'a> Subcommand<'a> {
             Subcommand::Lookup(lookup) => lookup.file,
             Subcommand::Run(run) => Some(run.script),
             Subcommand::Annotate(annotate) => Some(annotate.log),
+            Subcommand::Record(record) => Some(record.events),
             Subcommand::Check | Subcommand::Address(_) => None,
         }
     }
@@ -130,7 +142,10 @@ impl<'a> Subcommand<'a> {
         ensures { result ≡ does_tell self.now }
     {
         match self {
-            Subcommand::Annotate(_) | Subcommand::Check | Subcommand::Address(_) => true,
+            Subcommand::Annotate(_)
+            | Subcommand::Check
+            | Subcommand::Address(_)
+            | Subcommand::Record(_) => true,
             Subcommand::Lookup(_) | Subcommand::Run(_) => false,
         }
     }

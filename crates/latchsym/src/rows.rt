@@ -250,6 +250,13 @@ SYMBOL, SYMBOL+0xOFFSET or SYMBOL+0xOFFSET/0xSIZE; of one module after MODULE: o
 ' [MODULE]', of the kernel after -:", is_required: true),
 ];
 
+const RECORD: &[Argument] = &[
+    KALLSYMS,
+    row!(Flag "append" []: "Append to a history: leave its first line out"),
+    row!(Operand "events" ["EVENTS"]:
+        "What ftrace writes of modules and of marks; - is standard input", is_required: true),
+];
+
 const TRACE: &[Argument] = &[
     row!(Flag "steps" []: "Write what each step did instead, as JSON, one object per line"),
     row!(Operand "file" ["FILE"]: "The trace", is_required: true),
@@ -265,6 +272,7 @@ pub fn arguments_of(name: &str) -> &'static [Argument]
         "annotate" => ANNOTATE,
         "check" => CHECK,
         "address" => ADDRESS,
+        "record" => RECORD,
         "trace" => TRACE,
         _ => &[],
     }

@@ -9,4 +9,5 @@ returns c =
     let three = c.in_ok-command-3.ensures _ two in
     let four = c.in_ok-command-4.ensures _ three in
     let five = c.in_ok-command-5.ensures _ four in
-    c.with_subcommand-6.ensures _ five
+    let six = c.in_ok-command-6.ensures _ five in
+    c.with_subcommand-7.ensures _ six
