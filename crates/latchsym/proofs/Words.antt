@@ -42,7 +42,7 @@ pub use Rattle.latchsym.specs.CommandLine.{IsCommand, IsPlainArg, command_app, l
 pub use Rattle.latchsym.specs.JobNotes.{notes_text, bounds_of_lookup, run_lines, run_line}
 pub use Rattle.latchsym.specs.Jobs.{AnswersMatches, AnswersWords, Gives, IsAddressIn, IsAnnotateIn, IsFaultOf, IsLookupIn, IsRequestIn, IsSourceIn, IsUnparsed, clash_of, is_no_address, rows_in}
 pub use Rattle.latchsym.specs.Operands.{ends_options, is_kernel_name, operand_place}
-pub use Rattle.latchsym.specs.Outcomes.{AnswersSources, HoldsOfInput, IsLogBy, IsLookedUpBy, IsOutcomeOfRun}
+pub use Rattle.latchsym.specs.Outcomes.{AnswersSources, HoldsOfInput, IsLogBy, IsLogOf, IsLookedUpBy, IsOutcomeOfRun}
 pub use Rattle.latchsym.specs.Reports.{IsConcluded, message_text}
 pub use Rattle.latchsym.specs.declared.requests.Job.{Job}
 pub use Rattle.latchsym.specs.declared.requests.JobFault.{JobFault}

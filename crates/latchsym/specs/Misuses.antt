@@ -17,6 +17,7 @@ use Rattle.latchsym.specs.declared.requests.JobFault.TheVariants.{BadEnd, BadOff
 use Rattle.latchsym.specs.declared.requests.JobFault.TheVariants.{BadReaders, BadTime, NoJob}
 use Rattle.latchsym.specs.declared.requests.JobFault.TheVariants.{NoText}
 use Rattle.latchsym.specs.declared.requests.JobFault.TheVariants.{Clash, FollowedByOwnOffset}
+use Rattle.latchsym.specs.declared.requests.JobFault.TheVariants.{HistoryByOwnOffset}
 use Rattle.command_io.specs.declared.fault.Fault.TheVariants.{Refused, Write}
 use Rattle.latchsym.specs.declared.misuse.TheConstants as text
 
@@ -84,6 +85,8 @@ IsNoJob contents errors w w' e e' (BadOffset word) status =
     IsMisusedAlone errors w w' e e' (offset_message word.now) word.now status
 IsNoJob contents errors w w' e e' FollowedByOwnOffset status =
     IsMisusedAlone errors w w' e e' text.FOLLOWED_OFFSET.now [] status
+IsNoJob contents errors w w' e e' HistoryByOwnOffset status =
+    IsMisusedAlone errors w w' e e' text.HISTORY_OFFSET.now [] status
 IsNoJob contents errors w w' e e' (BadEnd word) status =
     IsMisusedAlone errors w w' e e' text.BAD_BOUND.now word.now status
 IsNoJob contents errors w w' e e' (BadReaders word) status =

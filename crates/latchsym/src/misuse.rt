@@ -22,6 +22,8 @@ const BAD_TIME: &[u8] = b"bad time ";
 
 const FOLLOWED_OFFSET: &[u8] = b"--offset auto and --follow exclude each other";
 
+const HISTORY_OFFSET: &[u8] = b"--offset auto and --history exclude each other";
+
 const BAD_BOUND: &[u8] = b"--kernel takes two names of symbols, and its END is ";
 
 const BAD_READERS: &[u8] = b"bad number of readers ";
@@ -58,7 +60,8 @@ pub fn refuse<W: Write, E: Write>(
         JobFault::Clash(message) => misused(message.as_bytes(), "", errors),
         JobFault::BadTime(word) => misused(BAD_TIME, word, errors),
         JobFault::BadOffset(word) => misused(offset_message(word), word, errors),
-        JobFault::FollowedByOwnOffset => { misused(FOLLOWED_OFFSET, "", errors) }
+        JobFault::FollowedByOwnOffset => misused(FOLLOWED_OFFSET, "", errors),
+        JobFault::HistoryByOwnOffset => misused(HISTORY_OFFSET, "", errors),
         JobFault::BadEnd(word) => misused(BAD_BOUND, word, errors),
         JobFault::BadReaders(word) => misused(BAD_READERS, word, errors),
         JobFault::NoJob => misused(NO_COMMAND, "", errors),
