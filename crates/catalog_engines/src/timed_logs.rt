@@ -369,9 +369,8 @@ pub(crate) fn name_to_end<'a, L: Read, W: Write>(
         → IsNamedOn (option_copied catalogs.now.kernel) catalogs.now.rule catalogs.now.history.now
         L.remaining W.contents first begun log.new result reader.new writer.new }
 {
-    match asked {
-        Ok(Turn::Ended(names, times)) => Ok((names, times)),
-        Ok(Turn::Other(time)) => name_on(alloc, catalogs, last, time, log, reader, writer),
-        Err(fault) => Err(fault),
+    match asked? {
+        Turn::Ended(names, times) => Ok((names, times)),
+        Turn::Other(time) => name_on(alloc, catalogs, last, time, log, reader, writer),
     }
 }
