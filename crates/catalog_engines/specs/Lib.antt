@@ -19,7 +19,7 @@ pub mod KernelNames
 pub mod LogIndexes
 -- what is written for a log, and noted of its listings
 pub mod Annotations
--- a log of which each line is named by the listing at its time
+-- a log whose lines are each named by the listing at its time
 pub mod TimedLogs
 -- what is written for a log by a history
 pub mod HistoryAnnotations

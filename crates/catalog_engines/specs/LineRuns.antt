@@ -25,7 +25,7 @@ times_after narrow t line =
       is_asked = t.is_asked || (not last.is_known && has_address narrow line);
     }
 
--- the same of a line that may be too long to be named: it changes nothing
+-- likewise after a line that may be too long to be named: it changes nothing
 abbrev pub times_behind : Bool → LogTimes → List ℕ → LogTimes
 times_behind narrow t line = option_map_or (times_after narrow t) (unless_long line) t
 
@@ -43,7 +43,7 @@ abbrev pub ended_in : List ℕ → List (List ℕ)
 ended_in bytes = filter has_end (lines bytes)
 
 module _ (parts : List HistoryPart) (narrow : Bool) (count : ℕ) where
-  -- after these times the listing after so many parts is the one at the last time
+  -- after these times the listing after this many parts is the one at the last time
   abbrev pub is_at : LogTimes → Bool
   is_at t = count == count_at (Some t.last.nanoseconds) parts
 

@@ -1,4 +1,4 @@
--- A log of which each line is named by the listing that a history has at its time.
+-- A log whose lines are each named by the listing that a history has at its time.
 use Rattle.std.specs.Prelude.{◌≡◌, ◌≤◌, ◌⊎◌, ℕ, ◌+◌, ◌-◌, ◌^◌, Bool, true, false, List, [], ◌++◌}
 use Rattle.std.specs.Prelude.{length, take, Option, Some, None, Result, Ok, Err}
 use Rattle.std.specs.Option.{option_map_or}
@@ -64,7 +64,7 @@ module _ (kernel : Option BoundNames) (rule : LogRule) (parts : List HistoryPart
   abbrev pub narrow : Bool
   narrow = is_narrow_history parts
 
-  -- these are the answers of the catalog of the listing after so many parts
+  -- these are the answers of the catalog of the listing after this many parts
   abbrev pub AreAnswersAfter : ℕ → Answering → Type 0
   AreAnswersAfter count answer =
       (count ≤ length parts)
@@ -86,7 +86,7 @@ module _ (kernel : Option BoundNames) (rule : LogRule) (parts : List HistoryPart
     pub put : put_of p.line ++ text
         ≡ annotated_lines answer p.held (lines ended) ++ put_of p'.line
 
-  -- So many runs, each named by one listing, took a log with these bytes to this point, and this
+  -- This many runs, each named by one listing, took a log with these bytes to this point, and this
   -- text was put for them.
   pub data AreNamed : ℕ → TimedPoint → List ℕ → List ℕ → Type 0 where
     no_run : AreNamed 0 first_point [] []
@@ -111,7 +111,8 @@ module _ (kernel : Option BoundNames) (rule : LogRule) (parts : List HistoryPart
 
   module _ {L W : Type 0} (remaining : L → Option (List ℕ)) (contents : W → Option (List ℕ))
       (l : Counted L) (w : Output W) where
-    -- From the beginning of a log on, so many runs took it here: these lines were named and written,
+    -- From the beginning of a log on, this many runs took it here: these lines were named and
+    -- written,
     -- these bytes were read besides, and these are its first bytes.
     pub record IsNamedTo (n : ℕ) (lines : TimedLines) (left head : List ℕ) (l' : Counted L)
         (w' : Output W) : Type 0 where
@@ -154,7 +155,7 @@ module _ (kernel : Option BoundNames) (rule : LogRule) (parts : List HistoryPart
       pub none_back : KeepsNothingBack w w'
       pub appended : Appends (contents_of contents w) (contents_of contents w') (text ++ last)
 
-    -- Some of the log was named by so many runs, and what was put for it was written, and nothing
+    -- Some of the log was named by this many runs, and what was put for it was written, and nothing
     -- else; what else was read is not.
     abbrev pub IsUpTo : ℕ → Counted L → Output W → Type 0
     IsUpTo n l' w' =
@@ -164,7 +165,7 @@ module _ (kernel : Option BoundNames) (rule : LogRule) (parts : List HistoryPart
         × (has_failed w' ≡ has_failed w) × KeepsNothingBack w w'
         × Appends (contents_of contents w) (contents_of contents w') text
 
-    -- A text was put for some of the log, of which the last line may be one without an end.
+    -- A text was put for some of the log; the last line may be one without an end.
     abbrev pub IsPut : List ℕ → List ℕ → Type 0
     IsPut log text =
         (n : ℕ) × (point : TimedPoint)
@@ -203,13 +204,13 @@ module _ (kernel : Option BoundNames) (rule : LogRule) (parts : List HistoryPart
     IsNamedOn s (Err fault) l' w' = IsStopped fault l' w'
 
     -- What is returned after lines that one listing names: the log is at its end, or another listing
-    -- names the next line, after so many runs at least; or why it goes no further.
+    -- names the next line, after this many runs at least; or why it goes no further.
     abbrev pub IsTurn : ℕ → TimedLog → Result Turn LogFault → Counted L → Output W → Type 0
     IsTurn n s (Ok (turn.Ended names times)) l' w' = IsNamedWhole names times s.head.items l' w'
     IsTurn n s (Ok (turn.Other time)) l' w' = (m : ℕ) × (n ≤ m) × IsTimedTo m s l' w'
     IsTurn n s (Err fault) l' w' = IsStopped fault l' w'
 
--- One run was put of bytes by these answers, which are of the listing after so many parts, and this
+-- One run was put of bytes by these answers, which are of the listing after this many parts, and this
 -- was left.
 abbrev pub PutsRun : List HistoryPart → ℕ → Answering → TimedLines → TimedLines → List ℕ
     → Option Pending → List ℕ → Type 0
@@ -223,7 +224,7 @@ module _ {L : Type 0} (remaining : L → Option (List ℕ)) (l l' : Counted L) (
   abbrev pub HasLines : Type 0
   HasLines = (s'.lines ≡ s.lines) × (s'.left.items ≡ s.left.items)
 
-  -- A block was read, of which these are the bytes, none at the end of the log; or why not.
+  -- A block was read, with these bytes, none at the end of the log; or why not.
   abbrev pub ReadsOn : Result ℕ LogFault → Type 0
   ReadsOn (Ok count) =
       HasLines × NoneFailed l l'
@@ -242,7 +243,7 @@ module _ {L : Type 0} (remaining : L → Option (List ℕ)) (l l' : Counted L) (
       × Consumes (remaining (device_of l)) (remaining (device_of l')) bytes)
   ReadsOn (Err _) = ⊥
 
--- A log of which some runs were named is named on, by this many runs at least, up to a line that
+-- A log that was named in part is named on, by this many runs at least, up to a line that
 -- another listing names or to its end.
 abbrev pub TakesTurn : {L W : Type 0} → (L → Option (List ℕ)) → (W → Option (List ℕ)) → ℕ
     → Option BoundNames → LogRule → List HistoryPart → TimedLog → TimedLog → Counted L
@@ -271,7 +272,7 @@ PutsLast contents parts count answer s w w' (Err fault) =
     Puts {X = LogNames × LogTimes} contents (λ x. EndsBy parts count answer s x.0 x.1) w w'
     (Err fault)
 
--- A log of which some runs were named is named to its end, or as far as it goes.
+-- A log that was named in part is named to its end, or as far as it goes.
 abbrev pub NamesOn : {L W : Type 0} → (L → Option (List ℕ)) → (W → Option (List ℕ))
     → Option BoundNames → LogRule → List HistoryPart → TimedLog → TimedLog → Counted L
     → Counted L → Output W → Output W → Result (LogNames × LogTimes) LogFault → Type 0

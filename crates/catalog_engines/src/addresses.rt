@@ -18,7 +18,7 @@ use std::alloc::Global;
 use std::io::{Read, Write};
 use texts::{Counted, Output};
 
-/// Writes where the kept symbols of each name are, in the order listed, as objects of JSON or as
+/// Writes the places of the kept symbols of each name, in the order listed, as objects of JSON or as
 /// lines of text. Returns what is noted of the listings, and the status 1 if no name has a line. A
 /// name may have the module in front of it, and an offset after it.
 ///

@@ -92,7 +92,7 @@ pub const LOG_PLACE: u64 = 3;
 /// written, and the writer flushed, after the block that its end is in was read; so whatever ends
 /// it, what was written is a beginning of the annotated log. The status is 1 if nobody reads any
 /// more what is written, as before `head`. After a log that was annotated to its end it is noted if
-/// it is packed or of wide characters, if the names that it has itself are not those of the
+/// it is packed or of wide characters, if the names that it has itself are not in the
 /// listing, or if none of its addresses has a name. docs/FORMATS.md has the listings, and says what
 /// is inserted.
 pub fn annotate_engine<M: Read, K: Read, R: Read, L: Read, E: Write, W: Write>(

@@ -1,6 +1,6 @@
 //! A log that is annotated by the offset of its kernel, which it says itself.
 //!
-//! A kernel is moved at boot, so the addresses of a log are not those of the listing of another
+//! A kernel is moved at boot, so the addresses of a log are others than in the listing of another
 //! boot, or of the build. What a panic says of it gives the difference:
 //!
 //! ```text
@@ -35,7 +35,7 @@ use texts::{Counted, Output};
 /// Writes a log again as [`annotate_engine`](crate::annotate_engine) does, by the offset that the
 /// log itself says in place of the job's. The log is read whole first, and written in one piece.
 ///
-/// If the log does not give the place of its kernel, or the listing not that of its own, `errors`
+/// If the log does not give the place of its kernel, or the listing not its own, `errors`
 /// gets the reason, nothing is written, and the status is 1. docs/FORMATS.md says which texts of a
 /// log count.
 pub fn own_offset_engine<M: Read, K: Read, R: Read, L: Read, E: Write, W: Write>(

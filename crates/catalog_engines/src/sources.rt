@@ -27,7 +27,7 @@ pub enum SymbolSource {
 /// The files of listings.
 #[derive(Debug, Drop)]
 pub struct ListingFiles<'a> {
-    /// The listing of modules; if there is none, the symbols say where modules are.
+    /// The listing of modules; if there is none, the symbols give the places of modules.
     pub modules: Option<&'a str>,
     /// The listing of symbols.
     pub kallsyms: &'a str,

@@ -1,4 +1,4 @@
-//! A log of which each line is named by the listing that a history has at its time.
+//! A log whose lines are each named by the listing that a history has at its time.
 //!
 //! ```text
 //!     history    listing 0.5                     change 7.3              change 9.1
@@ -94,7 +94,7 @@ impl TimedLog {
     ghost use Rattle.logs.specs.AnnotatedLogs.{first_held};
     ghost use Rattle.catalog_engines.specs.LineRuns.{first_times};
 
-    /// A log of which nothing was read.
+    /// A log that was not read yet.
     pub(crate) fn new(alloc: Global) -> Result<TimedLog, AllocError>
         ensures held { IfOk result (λ s. held_in s.lines.annotator ≡ first_held) }
         ensures open { IfOk result (λ s. IsOpen s.lines.annotator []) }
@@ -319,7 +319,7 @@ fn name_by_listing<L: Read, W: Write>(
     name_by(alloc, history, listing, &mut answers, log, reader, writer)
 }
 
-/// Names the rest of a log by the listings of a history, of which this one was asked last. The line
+/// Names the rest of a log by the listings of a history. This one was asked last. The line
 /// that comes next has this time, in nanoseconds.
 fn name_on<'a, L: Read, W: Write>(
     alloc: Global,
@@ -349,7 +349,7 @@ fn name_on<'a, L: Read, W: Write>(
     Err(LogFault::TooLong)
 }
 
-/// Names the rest of a log by the listings of a history, of which this one was asked last and came
+/// Names the rest of a log by the listings of a history. This one was asked last, and came
 /// to this.
 pub(crate) fn name_to_end<'a, L: Read, W: Write>(
     alloc: Global,

@@ -25,7 +25,7 @@ texts_among names now = flat_map (λ m. if is_among names m.name then m.text els
 abbrev pub gone_line_of : List SomeLines → List ℕ → List ℕ
 gone_line_of now name = if nat_eq (length (text_of now name)) 0 then gone_line name else []
 
--- those of these names that are gone
+-- the names among these that are gone
 abbrev pub gone_lines : List (List ℕ) → List SomeLines → List ℕ
 gone_lines names now = flat_map (gone_line_of now) names
 

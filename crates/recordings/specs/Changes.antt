@@ -23,7 +23,7 @@ with_changed named now old names name =
     if not (is_among names name) && is_changed named now old name then names ++ name ∷ []
     else names
 
--- all that have changed, each once: those of the listing first
+-- all that have changed, each once: the ones of the listing first
 abbrev pub changed_names : List (List ℕ) → List SomeLines → List SomeLines → List (List ℕ)
 changed_names named now old =
     fold (with_changed named now old) (fold (with_changed named now old) [] (names_of now))
@@ -38,7 +38,7 @@ abbrev pub own_part : List ℕ → List ℕ → List SomeLines
 own_part name own =
     if nat_eq (length own) 0 then [] else record { name = name; text = own } ∷ []
 
--- those of the modules of these names
+-- the lines of the modules of these names
 abbrev pub parts_among : List (List ℕ) → List SomeLines → List SomeLines
 parts_among others now = filter (λ m. is_among others m.name) now
 

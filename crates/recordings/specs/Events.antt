@@ -54,7 +54,7 @@ moved_by text = elim (after (codes "module_load: ") text) [
   | None ↦ freed_by text
 ]
 
--- what a text tells, and of which module
+-- what a text says, and its module
 abbrev pub told_by : List ℕ → Option (EventKind × List ℕ)
 told_by text = elim (after (codes "tracing_mark_write: latchsym") text) [
   | Some rest ↦ marked rest
@@ -71,14 +71,14 @@ event_with t bytes told = record {
   name = told.1;
 }
 
--- the event whose TIME begins here: behind it are `: ` and what it tells
+-- the event whose TIME begins here: after it come `: ` and what it says
 abbrev pub event_here : List ℕ → Option KernelEvent
 event_here bytes =
     option_and_then (λ t. option_and_then (λ text.
     option_map (event_with t bytes) (told_by text))
     (after (codes ": ") (drop t.length bytes))) (timestamp_in bytes)
 
--- the first event whose TIME begins here or later, behind a blank or tab
+-- the first event whose TIME begins here or later, after a blank or tab
 abbrev pub event_after : Bool → List ℕ → Option KernelEvent
 event_after gap [] = None
 event_after gap (b ∷ bytes) =
@@ -88,7 +88,7 @@ event_after gap (b ∷ bytes) =
 abbrev pub event_in : List ℕ → Option KernelEvent
 event_in line = event_after false line
 
--- a line tells that events were lost
+-- a line says that events were lost
 abbrev pub has_lost : List ℕ → Bool
 has_lost [] = false
 has_lost (b ∷ bytes) = starts_with nat_eq (b ∷ bytes) (codes "LOST") || has_lost bytes

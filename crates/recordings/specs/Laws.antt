@@ -1,4 +1,4 @@
--- What a history has of modules after events, by the listing that was read behind them.
+-- What a history has of modules after events, by the listing that was read after them.
 use Rattle.std.specs.Prelude.{◌≡◌, ℕ, Bool, true, false, List, [], Some, is_some, flat_map}
 use Rattle.std.specs.Prelude.{if◌then◌else◌}
 use Rattle.std.specs.Option.{option_map_or}
@@ -30,7 +30,7 @@ pub record IsOfModule (b : BlockRead) (p : BlockWritten) (e : KernelEvent) : Typ
   pub named : is_among b.names e.name ≡ true
   pub own : is_listed_by p.carried e ≡ false
 
--- Of an event of a block behind which this listing was read:
+-- Of an event of a block after which this listing was read:
 module _ (b : BlockRead) (text : List ℕ) (p : BlockWritten) (e : KernelEvent) where
   -- after it a history has of its module the lines of the listing, or none if it was freed;
   abbrev pub HasOwn : Type 0
@@ -39,14 +39,14 @@ module _ (b : BlockRead) (text : List ℕ) (p : BlockWritten) (e : KernelEvent) 
       → lines_after (after_event b p e) e.name
       ≡ (if is_freed e.kind then [] else lines_of_name e.name text)
 
-  -- after the first change, of each module that no event of the block names those of the listing;
+  -- after the first change, of each module that no event of the block names, the listing's lines;
   abbrev pub HasOthers : Type 0
   HasOthers =
       b.listing ≡ Some text → IsOfModule b p e → p.has_change ≡ false
       → (after_event b p e).has_change ≡ true → (name : List ℕ) → is_among b.names name ≡ false
       → lines_after (after_event b p e) name ≡ lines_of_name name text
 
-  -- and if it is written as a listing, those of the listing of every module.
+  -- and if it is written as a listing, the lines of the listing of every module.
   abbrev pub HasAll : Type 0
   HasAll =
       b.listing ≡ Some text → is_listed_by p.carried e ≡ true

@@ -10,7 +10,7 @@ pub record SomeLines : Type 0 where
   pub name : List ℕ
   pub text : List ℕ
 
--- lines before others: those of the same module go on
+-- lines before others: lines of this module go on
 abbrev pub joined : SomeLines → List SomeLines → List SomeLines
 joined m [] = m ∷ []
 joined m (next ∷ more) =

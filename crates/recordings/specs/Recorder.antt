@@ -38,7 +38,7 @@ abbrev pub listing_of : Option Event → Option (List ℕ)
 listing_of (Some (Listings g)) = Some (recorded_text (lines g.kallsyms))
 listing_of _ = None
 
--- what is written of lines behind which this was read, and what is carried on
+-- what is written of lines after which this was read, and what is carried on
 abbrev pub written_of : CarriedOn → List EventLine → Option Event → BlockWritten
 written_of c said reading = after_block said (listing_of reading) c
 
@@ -135,8 +135,8 @@ pub record Point : Type 0 where
 abbrev pub first_point : Point
 first_point = record { carried = first_carried; line = [] }
 
--- After these turns events were recorded to this point, and this text is what they tell: for each
--- block what the lines say that have their end in it, by the listing as it was read behind it.
+-- After these turns events were recorded to this point, and this text is what they say: for each
+-- block what the lines say that have their end in it, by the listing as it was read after it.
 pub data IsRecorded : List Turn → Point → List ℕ → Type 0 where
   no_turn : IsRecorded [] first_point []
   one_more : (turns : List Turn) (p : Point) (text ended line' : List ℕ) (t : Turn)
@@ -147,7 +147,7 @@ pub data IsRecorded : List Turn → Point → List ℕ → Type 0 where
       (text ++ (written_of p.carried (said_in ended) t.reading).text)
 
 module _ {W : Type 0} (contents : W → Option (List ℕ)) where
-  -- Events were recorded through these turns to this point, and what they tell was written.
+  -- Events were recorded through these turns to this point, and what they say was written.
   pub record IsRecordedTo (turns : List Turn) (p : Point) (before after : Seen) (w w' : Output W)
       : Type 0 where
     pub written : List ℕ

@@ -48,7 +48,7 @@ at_time c e =
 
 -- ---- a block
 
--- the modules that its events name, and the listing that was read behind it
+-- the modules that its events name, and the listing that was read after it
 pub record BlockRead : Type 0 where
   pub names : List (List ℕ)
   pub listing : Option (List ℕ)
@@ -90,7 +90,7 @@ abbrev pub after_listing : BlockRead → BlockWritten → KernelEvent → BlockW
 after_listing b p e =
     option_map_or (λ text. with_listing (at_time p.carried e) text p) b.listing p
 
--- a change: its lines behind its header, and the lines of the modules after it
+-- a change: its lines after its header, and the lines of the modules after it
 pub record ChangeWritten : Type 0 where
   pub text : List ℕ
   pub modules : List SomeLines
@@ -153,7 +153,7 @@ first_written c = record { carried = c; has_change = false; text = [] }
 abbrev pub block_of : List EventLine → Option (List ℕ) → BlockRead
 block_of said listing = record { names = named_in said; listing = listing }
 
--- what is written of lines, behind which this listing was read, and what is carried on
+-- what is written of lines, after which this listing was read, and what is carried on
 abbrev pub after_block : List EventLine → Option (List ℕ) → CarriedOn → BlockWritten
 after_block said listing c = fold (after_line (block_of said listing)) (first_written c) said
 

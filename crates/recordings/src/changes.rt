@@ -51,7 +51,7 @@ fn is_changed(
     Ok(text.as_slice() != before.as_slice())
 }
 
-/// Puts the name of a module of which this is so, unless it is there.
+/// Puts the name of a module for which this holds, unless it is there.
 fn put_if_changed<'m>(
     alloc: Global,
     named: &[&[u8]],
@@ -69,7 +69,7 @@ fn put_if_changed<'m>(
     Ok(())
 }
 
-/// Puts the names of modules of which this is so, each once.
+/// Puts the names of modules for which this holds, each once.
 fn put_changed<'m>(
     alloc: Global,
     named: &[&[u8]],
@@ -126,7 +126,7 @@ fn copy_among(
     Ok(())
 }
 
-/// Puts copies of the lines of the modules but for this one and those of these names.
+/// Puts copies of the lines of the modules but for this one and the ones of these names.
 fn copy_others(
     alloc: Global,
     modules: &mut Vec<ModuleLines>,

@@ -6,7 +6,7 @@
 //!                          a gap before it
 //! ```
 //!
-//! Times have any number of decimals, and stand where they may: no column is counted on.
+//! Times have any number of decimals, and are anywhere: no column is counted on.
 ghost use Rattle.std.specs.Prelude.{◌≡◌, ◌≤◌, length, option_map};
 ghost use Rattle.std.specs.Option.{option_copied};
 ghost use Rattle.recordings.specs.Events.{after, event_here, event_in, first_word};
@@ -62,9 +62,9 @@ impl<'a> Model for Event<'a> {
 /// What a line says.
 #[derive(Debug, Drop)]
 pub struct EventLine<'a> {
-    /// The event that it tells, if it tells one.
+    /// The event that it says, if it says one.
     pub event: Option<Event<'a>>,
-    /// Whether it tells that events were lost.
+    /// Whether it says that events were lost.
     pub is_lost: bool,
 }
 
@@ -97,7 +97,7 @@ fn named(kind: EventKind, name: &[u8]) -> Option<(EventKind, &[u8])>
     }
 }
 
-/// What the text after a time tells, and of which module.
+/// What the text after a time says, and its module.
 fn told_by(text: &[u8]) -> Option<(EventKind, &[u8])>
     ensures { option_map (λ t. (t.0, t.1.now)) result ≡ told_by text.now }
 {
@@ -107,7 +107,7 @@ fn told_by(text: &[u8]) -> Option<(EventKind, &[u8])>
     }
 }
 
-/// The module that a text tells was loaded or freed.
+/// The module that a text says was loaded or freed.
 fn moved_by(text: &[u8]) -> Option<(EventKind, &[u8])>
     ensures { option_map (λ t. (t.0, t.1.now)) result ≡ moved_by text.now }
 {
@@ -124,7 +124,7 @@ fn first_word(text: &[u8]) -> &[u8]
     cut_word(text).0
 }
 
-/// What a mark tells that goes on like this.
+/// What a mark says that goes on like this.
 fn marked(rest: &[u8]) -> Option<(EventKind, &[u8])>
     ensures { option_map (λ t. (t.0, t.1.now)) result ≡ marked rest.now }
 {
@@ -168,7 +168,7 @@ fn event_in(line: &[u8]) -> Option<Event<'_>>
     None
 }
 
-/// Whether the bytes have the word that tells of lost events.
+/// Whether the bytes have the word for lost events.
 fn has_lost(bytes: &[u8]) -> bool
     ensures { result ≡ has_lost bytes.now }
 {

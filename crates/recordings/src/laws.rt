@@ -4,7 +4,7 @@ ghost use Rattle.recordings.specs.KernelEvents.{KernelEvent};
 ghost use Rattle.recordings.specs.Laws.{HasAll, HasOthers, HasOwn};
 ghost use Rattle.recordings.specs.Recordings.{BlockRead, BlockWritten};
 
-/// After an event a history has of its module the lines that the listing had which was read behind
+/// After an event a history has of its module the lines of the listing that was read after
 /// it, or none if the module was freed.
 #[tactic(auto, using(crate::proofs::LawLemmas::has_own))]
 pub fn the_module_has_its_lines()

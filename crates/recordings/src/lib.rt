@@ -9,7 +9,7 @@
 //!     [002] .. 9.104290: module_free: ext4                change 9.104290    gone ext4
 //! ```
 //!
-//! A time is that of the event, so a line of a log is named by the modules that were there; what
+//! A time is the event's own, so a line of a log is named by the modules that were there; what
 //! they had is read after the event.
 #![tactic(auto)]
 

@@ -57,7 +57,7 @@ impl ModuleLines {
         Ok(lines)
     }
 
-    /// The same lines.
+    /// Its lines, with this name.
     pub(crate) fn copy(&self, alloc: Global) -> Result<ModuleLines, AllocError>
         ensures { IfOk result (λ m. m ≡ self.now) }
     {

@@ -5,10 +5,10 @@
 //!     listing                      A                            A'
 //!     EVENTS     |      block      |    block    |    block     |
 //!     written            listing whole    nothing     changes by A'
-//!                        by A             to tell
+//!                        by A             to say
 //! ```
 //!
-//! The listing is read at most once for a block, behind it, and only if an event of it asks for it.
+//! The listing is read at most once for a block, after it, and only if an event of it asks for it.
 //! What is written of a block is one write, and the writer is flushed. So whatever ends it, what
 //! was written is a history.
 ghost use Rattle.std.specs.Prelude.{◌≡◌, ◌<◌, length, Ok, Err};
@@ -64,9 +64,9 @@ impl From<AllocError> for Stop {
     }
 }
 
-/// Writes the history that events tell, or what is appended to one.
+/// Writes the history that events say, or what is appended to one.
 ///
-/// The events are read by blocks, and the listing at most once for a block, behind it, if a line
+/// The events are read by blocks, and the listing at most once for a block, after it, if a line
 /// of it asks for it. What is written of a block is one write, and the writer is flushed. The
 /// status is 1 if nobody reads any more what is written, or if the listing shows no address, which
 /// is then noted of it; what was written stays.
@@ -100,7 +100,7 @@ fn finished(end: Result<(), Stop>) -> Result<Finished, Fault>
     Ok(Finished { status, notes })
 }
 
-/// Writes the first line, unless it is there, and then what events tell.
+/// Writes the first line, unless it is there, and then what events say.
 fn record<L: LastingLog, W: Write>(
     alloc: Global,
     events: &mut L,
@@ -124,7 +124,7 @@ fn first_text(is_appended: bool) -> &'static [u8]
     if is_appended { &[] } else { FIRST_LINE }
 }
 
-/// Writes what events tell, block by block.
+/// Writes what events say, block by block.
 fn record_blocks<L: LastingLog, W: Write>(
     alloc: Global,
     events: &mut L,
@@ -150,7 +150,7 @@ fn record_blocks<L: LastingLog, W: Write>(
     Err(Stop::Failed(Fault::TooLong { place: LOG_PLACE }))
 }
 
-/// Writes what the lines of a text tell. Returns what is carried on.
+/// Writes what the lines of a text say. Returns what is carried on.
 fn put_lines<L: LastingLog, W: Write>(
     alloc: Global,
     events: &mut L,

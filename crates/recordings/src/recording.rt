@@ -7,7 +7,7 @@
 //!     written         change 7.360695           change 7.401100
 //!                     the lines of xfs          gone nf
 //!                     the lines of ext4
-//!                     ^ behind the first change what no event names
+//!                     ^ after the first change what no event names
 //! ```
 //!
 //! Carried on are the lines that each module has in the history so far. After events were lost the
@@ -57,7 +57,7 @@ impl Model for Recording {
     } };
 }
 
-/// A block: the modules that its events name, and the listing that was read behind it.
+/// A block: the modules that its events name, and the listing that was read after it.
 #[derive(Drop)]
 pub struct Block<'b> {
     pub(crate) names: Vec<&'b [u8]>,
@@ -113,7 +113,7 @@ fn named_in<'a>(alloc: Global, said: &[EventLine<'a>]) -> Result<Vec<&'a [u8]>, 
     Ok(names)
 }
 
-/// A change: its lines behind its header, and those that modules have after it.
+/// A change: its lines after its header, and those that modules have after it.
 #[derive(Drop)]
 pub(crate) struct Change {
     text: Vec<u8>,
