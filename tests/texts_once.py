@@ -10,7 +10,7 @@ import re
 import sys
 
 TOP = os.path.dirname(os.path.dirname(os.path.abspath(__file__)))
-MOST = 52
+MOST = 56
 LITERAL = r'"((?:[^"\\]|\\.)*)"'
 
 

@@ -12,6 +12,7 @@ use Rattle.histories.specs.declared.times.Timestamp.{Timestamp}
 use Rattle.recordings.specs.declared.events.EventKind.{EventKind}
 use Rattle.recordings.specs.declared.events.EventKind.TheVariants.{Mark, MarkOf, Loaded, Freed}
 use Rattle.recordings.specs.declared.events.EventLine.{EventLine}
+use Rattle.recordings.specs.declared.events.TheConstants.{FREED, LOADED, LOST, MARK}
 use Rattle.recordings.specs.KernelEvents.{KernelEvent}
 
 -- ---- words
@@ -45,18 +46,18 @@ marked (b ∷ name) = if b == 32 then named MarkOf name else None
 -- a module was freed, perhaps
 abbrev pub freed_by : List ℕ → Option (EventKind × List ℕ)
 freed_by text =
-    option_and_then (λ rest. named Freed (first_word rest)) (after (codes "module_free: ") text)
+    option_and_then (λ rest. named Freed (first_word rest)) (after FREED.now text)
 
 -- a module was loaded, or freed, perhaps
 abbrev pub moved_by : List ℕ → Option (EventKind × List ℕ)
-moved_by text = elim (after (codes "module_load: ") text) [
+moved_by text = elim (after LOADED.now text) [
   | Some rest ↦ named Loaded (first_word rest)
   | None ↦ freed_by text
 ]
 
 -- what a text says, and its module
 abbrev pub told_by : List ℕ → Option (EventKind × List ℕ)
-told_by text = elim (after (codes "tracing_mark_write: latchsym") text) [
+told_by text = elim (after MARK.now text) [
   | Some rest ↦ marked rest
   | None ↦ moved_by text
 ]
@@ -91,7 +92,7 @@ event_in line = event_after false line
 -- a line says that events were lost
 abbrev pub has_lost : List ℕ → Bool
 has_lost [] = false
-has_lost (b ∷ bytes) = starts_with nat_eq (b ∷ bytes) (codes "LOST") || has_lost bytes
+has_lost (b ∷ bytes) = starts_with nat_eq (b ∷ bytes) LOST.now || has_lost bytes
 
 -- what a line says, which is nothing if it is too long
 abbrev pub said_by : List ℕ → EventLine

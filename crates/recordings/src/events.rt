@@ -21,6 +21,14 @@ use texts::cut_word;
 /// The most bytes of a line that is read, with its end.
 pub(crate) const LONGEST: usize = 1 << 16;
 
+const MARK: &[u8] = b"tracing_mark_write: latchsym";
+
+const LOADED: &[u8] = b"module_load: ";
+
+const FREED: &[u8] = b"module_free: ";
+
+const LOST: &[u8] = b"LOST";
+
 /// What happened.
 #[derive(Clone, Copy, Debug, PartialEq, Eq, Drop)]
 pub enum EventKind {
@@ -101,7 +109,7 @@ fn named(kind: EventKind, name: &[u8]) -> Option<(EventKind, &[u8])>
 fn told_by(text: &[u8]) -> Option<(EventKind, &[u8])>
     ensures { option_map (λ t. (t.0, t.1.now)) result ≡ told_by text.now }
 {
-    match after(b"tracing_mark_write: latchsym", text) {
+    match after(MARK, text) {
         Some(rest) => marked(rest),
         None => moved_by(text),
     }
@@ -111,9 +119,9 @@ fn told_by(text: &[u8]) -> Option<(EventKind, &[u8])>
 fn moved_by(text: &[u8]) -> Option<(EventKind, &[u8])>
     ensures { option_map (λ t. (t.0, t.1.now)) result ≡ moved_by text.now }
 {
-    match after(b"module_load: ", text) {
+    match after(LOADED, text) {
         Some(rest) => named(EventKind::Loaded, first_word(rest)),
-        None => named(EventKind::Freed, first_word(after(b"module_free: ", text)?)),
+        None => named(EventKind::Freed, first_word(after(FREED, text)?)),
     }
 }
 
@@ -174,7 +182,7 @@ fn has_lost(bytes: &[u8]) -> bool
 {
     let mut rest = bytes;
     while let [_, more @ ..] = rest {
-        if rest.starts_with(b"LOST") {
+        if rest.starts_with(LOST) {
             return true;
         }
         rest = more;
