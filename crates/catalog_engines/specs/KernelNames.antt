@@ -1,4 +1,4 @@
--- The links of symbols by the numbers of their names, from the last symbol of a number to the first.
+-- The links of symbols by the numbers of their names, from the last one of a number to the first.
 use Rattle.std.specs.Prelude.{◌≡◌, ℕ, suc, zero, ◌<◌, Bool, false, if◌then◌else◌, List, length}
 use Rattle.std.specs.Prelude.{IfSome, nat_eq, slice_get, slice_index_or}
 use Rattle.std.specs.Option.{option_map_or}
@@ -21,7 +21,7 @@ pub record Links : Type 0 where
   pub last : List ℕ
   pub before : List ℕ
 
--- They are those of all symbols for each number, and for each symbol of those before it for its own.
+-- They are those of all symbols for each number, and of those before a symbol for its own.
 pub record AreLinked (symbols : List SymbolEntry) (links : Links) : Type 0 where
   pub numbers : length links.last ≡ 1048576
   pub places : length links.before ≡ length symbols
