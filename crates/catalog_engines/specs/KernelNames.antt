@@ -9,7 +9,7 @@ use Rattle.catalog_engines.specs.NameFilters.{number_of}
 abbrev pub has_number : ℕ → SymbolEntry → Bool
 has_number number s = nat_eq (number_of s.name) number
 
--- of the symbols before a place, the place behind the last one whose name has this number, or 0
+-- of the symbols before a place, the place after the last one whose name has this number, or 0
 abbrev pub behind_last : List SymbolEntry → ℕ → ℕ → ℕ
 behind_last symbols number zero = zero
 behind_last symbols number (suc place) =
@@ -21,7 +21,7 @@ pub record Links : Type 0 where
   pub last : List ℕ
   pub before : List ℕ
 
--- They are those of all symbols for each number, and of those before a symbol for its own.
+-- For each number they are of all symbols, and for each symbol of the ones before it, for its own.
 pub record AreLinked (symbols : List SymbolEntry) (links : Links) : Type 0 where
   pub numbers : length links.last ≡ 1048576
   pub places : length links.before ≡ length symbols

@@ -33,6 +33,6 @@ has_size_among c symbols name size =
     if list_any (has_name name) symbols then Some (list_any (is_sized c name size) symbols)
     else None
 
--- the same of the symbols of the kernel itself
+-- likewise of the symbols of the kernel itself
 abbrev pub has_size_by : CatalogEntries → List ℕ → ℕ → Option Bool
 has_size_by c name size = has_size_among c (kernel_symbols c) name size

@@ -1,7 +1,7 @@
 //! The symbols of the kernel itself by their names, for the sizes of functions that a log says.
 //!
 //! Each name has a number, and the symbols of a number are linked, from the last one back to the
-//! first. A link is the place behind a symbol, or 0 if there is none:
+//! first. A link is the place after a symbol, or 0 if there is none:
 //!
 //! ```text
 //!     place      0        1        2          3
@@ -25,9 +25,9 @@ use std::marker::Model;
 /// The links of symbols by the numbers of their names.
 #[derive(Drop)]
 pub(crate) struct KernelNames {
-    /// For each number, the place behind the last symbol whose name has it, or 0.
+    /// For each number, the place after the last symbol whose name has it, or 0.
     last: Vec<usize>,
-    /// For each symbol, the place behind the last one before it whose name has its number, or 0.
+    /// For each symbol, the place after the last one before it whose name has its number, or 0.
     before: Vec<usize>,
 }
 
