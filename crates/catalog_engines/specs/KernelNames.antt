@@ -1,4 +1,4 @@
--- The links of symbols by the numbers of their names, from the last symbol of a number to the first.
+-- The links of symbols by the numbers of their names, from the last one of a number to the first.
 use Rattle.std.specs.Prelude.{◌≡◌, ℕ, suc, zero, ◌<◌, Bool, false, if◌then◌else◌, List, length}
 use Rattle.std.specs.Prelude.{IfSome, nat_eq, slice_get, slice_index_or}
 use Rattle.std.specs.Option.{option_map_or}

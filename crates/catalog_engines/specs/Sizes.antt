@@ -27,7 +27,7 @@ has_name name s = bytes_eq s.name name
 abbrev pub is_sized : CatalogEntries → List ℕ → ℕ → SymbolEntry → Bool
 is_sized c name size s = has_name name s && has_size_at c size s.addr
 
--- Of the symbols with this name one has this size, or none; there is no answer if none has the name.
+-- Of the symbols with this name one has this size, or none; no answer if none has the name.
 abbrev pub has_size_among : CatalogEntries → List SymbolEntry → List ℕ → ℕ → Option Bool
 has_size_among c symbols name size =
     if list_any (has_name name) symbols then Some (list_any (is_sized c name size) symbols)

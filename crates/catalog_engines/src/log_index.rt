@@ -1,10 +1,10 @@
 //! The catalog that the addresses of a log are answered from.
 //!
 //! Each word that a log has itself after an address, and that is not the answer's name, is sought
-//! among the symbols at the address. So that symbols are not asked for each word, it is found once for
-//! a log which names they may have, from its second block on: to go through all symbols does not pay
-//! for one. The kernel's symbols are linked by their names only for a log that may say the sizes of
-//! functions.
+//! among the symbols at the address. So that symbols are not asked for each word, it is found once
+//! for a log which names they may have, from its second block on: for one it does not pay to go
+//! through all symbols. The kernel's symbols are linked by their names only for a log that may say
+//! the sizes of functions.
 ghost use Rattle.std.specs.Prelude.{◌≡◌, false};
 ghost use Rattle.modules.specs.Items.{item_of_address};
 ghost use Rattle.catalog_engines.specs.LogAnswers.{is_reached};
@@ -101,8 +101,8 @@ impl<'i, 'c> LogIndex<'i, 'c> {
         }
     }
 
-    /// Finds which names symbols may have, unless it is known or there is no memory for it. No answer
-    /// changes.
+    /// Finds which names symbols may have, unless it is known or there is no memory for it. No
+    /// answer changes.
     pub(crate) fn mark_names(&mut self, alloc: Global)
         ensures { self.new ≡ self.old }
     {

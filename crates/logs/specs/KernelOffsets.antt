@@ -22,7 +22,8 @@ number_at text = numeral 16 16 (take (digits_at text) text)
 abbrev pub from_at : ℕ → List ℕ → Option KernelOffset
 from_at offset text =
     if starts_with nat_eq text FROM.now
-    then option_map (λ from. record { offset = offset; from = from }) (number_at (drop (length FROM.now) text))
+    then option_map (λ from. record { offset = offset; from = from })
+    (number_at (drop (length FROM.now) text))
     else None
 
 -- `Kernel Offset: 0xA from 0xB` begins the text

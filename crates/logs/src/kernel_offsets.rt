@@ -17,9 +17,9 @@ use crate::places::{Kind, first_of};
 use memchr::memmem;
 use texts::hexadecimal;
 
-/// What stands before the offset.
+/// The text before the offset.
 pub(crate) const OFFSET: &[u8] = b"Kernel Offset: 0x";
-/// What stands between the offset and the address from which the kernel was moved.
+/// The text between the offset and the address from which the kernel was moved.
 const FROM: &[u8] = b" from 0x";
 
 /// The place of a log's kernel.

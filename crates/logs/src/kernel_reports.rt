@@ -47,7 +47,7 @@ pub enum Said {
     Nothing,
     /// How long functions are.
     Sizes,
-    /// That, and where the kernel lay.
+    /// That, and the place of the kernel.
     All,
 }
 
@@ -200,7 +200,8 @@ pub fn says_nothing(bytes: &[u8]) -> bool
     lacks(bytes, b"/0x") && lacks_offset(bytes)
 }
 
-/// Whether it is plain that the bytes do not say where their kernel lay. A line has mostly no `K`.
+/// Whether it is plain that the bytes say nothing of the place of their kernel. A line has mostly
+/// no `K`.
 #[tactic(auto, using(crate::proofs::KernelReportLemmas::lacks_without_letter))]
 fn lacks_offset(bytes: &[u8]) -> bool
     ensures { IsTrue result → Lacks bytes.now OFFSET.now }

@@ -41,8 +41,8 @@ pub(crate) struct Progress {
     pub(crate) names: LogNames,
 }
 
-/// Puts a line with the texts of its answers. What it is known not to say of its kernel is not sought
-/// in it.
+/// Puts a line with the texts of its answers. What it is known not to say of its kernel is not
+/// sought in it.
 #[tactic(auto, unfolding(crate::specs::AnnotatedLogs::annotated_line, crate::specs::AnnotatedLogs::held_behind))]
 pub(crate) fn put_line<A: Answers>(
     answers: &A,
