@@ -123,9 +123,11 @@ abbrev pub annotate_rows : List ArgumentRow
 annotate_rows =
     listing (option (codes "kallsyms")) ∷ listed (codes "modules")
     ∷ bounds_rows
+    (history_rows
     (excluded_by (codes "exact") said.CALLERS_OR_EXACT.now (flag (codes "callers"))
-    ∷ flag (codes "exact") ∷ option (codes "offset") ∷ flag (codes "follow")
-    ∷ plain Operand 1 (codes "log") ∷ [])
+    ∷ flag (codes "exact") ∷ option (codes "offset")
+    ∷ instead_of (codes "history") said.HISTORY_OR_FOLLOW.now (flag (codes "follow"))
+    ∷ plain Operand 1 (codes "log") ∷ []))
 
 abbrev pub check_rows : List ArgumentRow
 check_rows =

@@ -1,7 +1,7 @@
 //! The parser of the command line, from the rows of the commands.
 ghost use Rattle.std.specs.Prelude.{IfOk};
 ghost use Rattle.clap.specs.Words.{App, with_subcommand};
-ghost use Rattle.latchsym.specs.CommandLine.{IsCommand, IsPlainArg, command_app, latchsym_app};
+ghost use Rattle.latchsym.specs.CommandLine.{IsCommand, IsPlainArg, command_app, latchsym_app, top_app};
 ghost use Rattle.latchsym.specs.CommandLine.{row_of};
 
 use crate::rows::{Argument, Kind, arguments_of};
@@ -37,11 +37,7 @@ const RUN: &str = "Run concurrent loads and lookups from a script";
 pub fn latchsym_command<'a>(alloc: Global) -> Result<Command<'a>, AllocError>
     ensures { IfOk result (IsCommand latchsym_app) }
 {
-    let command = Command::new(alloc, "latchsym")
-        .about("Says which symbol and which module of a Linux kernel hold an address")
-        .after_help(STATUSES)
-        .version(VERSION)
-        .subcommand_required(true);
+    let command = top_command(alloc);
     let command = with_subcommand(alloc, command, "annotate", ANNOTATE)?;
     let command = with_subcommand(alloc, command, "lookup", LOOKUP)?;
     let command = with_subcommand(alloc, command, "address", ADDRESS)?;
@@ -49,6 +45,17 @@ pub fn latchsym_command<'a>(alloc: Global) -> Result<Command<'a>, AllocError>
     let command = with_subcommand(alloc, command, "record", RECORD)?;
     let command = with_subcommand(alloc, command, "trace", TRACE)?;
     with_subcommand(alloc, command, "run", RUN)
+}
+
+/// The command without its subcommands.
+fn top_command<'a>(alloc: Global) -> Command<'a>
+    ensures { IsCommand top_app result }
+{
+    Command::new(alloc, "latchsym")
+        .about("Says which symbol and which module of a Linux kernel hold an address")
+        .after_help(STATUSES)
+        .version(VERSION)
+        .subcommand_required(true)
 }
 
 /// The command with the subcommand of this name, which the help describes so.

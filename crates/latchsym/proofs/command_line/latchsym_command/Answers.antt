@@ -1,10 +1,8 @@
-use Rattle.latchsym.proofs.Words.{rules, IsCommand, top_app}
 use Rattle.latchsym.proofs.command_line.latchsym_command.Goals as goal
 
 pub returns : goal.returns
 returns c =
-    let top : IsCommand top_app c.subcommand_required-command.result = search rules in
-    let one = c.in_ok-command.ensures _ top in
+    let one = c.in_ok-command.ensures _ c.top_command-command.ensures in
     let two = c.in_ok-command-2.ensures _ one in
     let three = c.in_ok-command-3.ensures _ two in
     let four = c.in_ok-command-4.ensures _ three in
