@@ -105,16 +105,16 @@ while IFS= read -r recipe; do
     recipes=$((recipes + 1))
     grep -qxF -- "$recipe" "$work/joined" || fail "no example of the page is the recipe $recipe"
 done < <(awk '/^## Recipes/ { here = 1; next } /^## / { here = 0 } here && sub(/^    /, "")' "$top/docs/LISTINGS.md" | joined)
-[ $recipes -ge 6 ] || fail "docs/LISTINGS.md has $recipes recipes"
+[ $recipes -ge 4 ] || fail "docs/LISTINGS.md has $recipes recipes"
 
-# README.md: what it tries, from the top of the repository, and the log that it begins with, of
-# examples/logs
+# README.md: what it tries, from the top of the repository, and the logs that it begins with, of
+# examples/logs and examples/histories
 mapfile -t blocks < <(awk '/^## Try it/ { here = 1 } /^As root/ { here = 0 } here' "$top/README.md" |
     awk '/^    / { printf "%s%s", sep, substr($0, 5); sep = "\\n"; next } sep { print ""; sep = "" }')
 [ ${#blocks[@]} = 2 ] || fail "README.md has ${#blocks[@]} blocks below Try it"
 same 'what README.md tries' "$(printf '%b' "${blocks[1]}")" \
     "$(cd "$top" && PATH=$work/bin:$PATH bash -c "${blocks[0]//\\\\n/ }" 2>&1)"
-same 'the log of README.md' "$(cat "$top"/examples/logs/oops.{log,expected})" \
+same 'the logs of README.md' "$(cat "$top"/examples/logs/oops.{log,expected} "$top/tests/cases/an_example_of_a_history/stdout")" \
     "$(sed -n 's/^    \(\[ .*\)/\1/p' "$top/README.md")"
 same 'the log of the archive'"'"'s README.md' "$(cat "$top/examples/logs/oops.expected")" \
     "$(sed -n 's/^    \(\[ .*\)/\1/p' "$top/packaging/archive.md")"
