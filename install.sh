@@ -11,8 +11,8 @@ set -euo pipefail
 usage='usage: install.sh [--static] [--target PROCESSOR] [--uninstall] PREFIX
 
 Puts the program latchsym and the library for C and C++ under PREFIX: bin/latchsym, and the script
-bin/latchsym-record beside it, the headers in include, liblatchsym.a and liblatchsym.so in lib with latchsym.pc for pkg-config and a package for
-CMake; and the man pages and the completions for bash, zsh and fish, each in its folder of share. In
+bin/latchsym-record beside it; the headers in include; liblatchsym.a and liblatchsym.so in lib, with
+latchsym.pc for pkg-config and a package for CMake; and the man pages and the completions for bash, zsh and fish, each in its folder of share. In
 the repository it builds them, which takes the Rattle kit and gcc; a release has them.
 All files are copied first and then renamed, so running programs keep the old files, and a
 copy that fails changes nothing.
