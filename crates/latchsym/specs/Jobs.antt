@@ -30,7 +30,8 @@ use Rattle.latchsym.specs.declared.requests.JobFault.{JobFault}
 use Rattle.latchsym.specs.declared.requests.JobFault.TheVariants.{BadAddress, BadEnd, BadOffset}
 use Rattle.latchsym.specs.declared.requests.JobFault.TheVariants.{BadReaders, BadTime, Clash}
 use Rattle.latchsym.specs.declared.requests.JobFault.TheVariants.{CommandLine}
-use Rattle.latchsym.specs.declared.requests.JobFault.TheVariants.{FollowedByOwnOffset, HistoryByOwnOffset}
+use Rattle.latchsym.specs.declared.requests.JobFault.TheVariants.{FollowedByOwnOffset}
+use Rattle.latchsym.specs.declared.requests.JobFault.TheVariants.{HistoryByOwnOffset}
 use Rattle.latchsym.specs.declared.requests.JobFault.TheVariants.{NoAddress, NoJob, OutOfMemory}
 use Rattle.catalog_engines.specs.declared.sources.ListingFiles.{ListingFiles}
 use Rattle.catalog_engines.specs.declared.sources.SymbolSource.{SymbolSource}

@@ -137,8 +137,8 @@ IsLogBy remaining held contents errors s a Whole l l' w w' e e' outcome r r' =
     (known_given remaining remaining remaining l) (remaining (device_of r))
     (all_failures (listing_failures l l') r r')) (with_notes no_notes) outcome
 
--- A log is annotated by listings, or by a history, each line by the listing at its time or at the one
--- that is given.
+-- A log is annotated by listings, or by a history: each line by the listing at its time, or at the
+-- one that is given.
 abbrev pub IsLogOf : {R W E : Type 0} → (R → Option (List ℕ)) → Held → (W → Option (List ℕ))
     → (E → Option (List ℕ)) → Sources → Annotate → SymbolSource → ListingReaders R R R
     → ListingReaders R R R → Output W → Output W → Output E → Output E

@@ -1,4 +1,5 @@
--- Events that are recorded: what is known of their files, and what is said of a listing that ended it.
+-- Events that are recorded: what is known of their files, and what is said of a listing that ended
+-- it.
 use Rattle.std.specs.Prelude.{ℕ, List, [], ◌++◌, codes, Option, Some, None, unwrap_or}
 use Rattle.texts.specs.Counted.{device_of}
 use Rattle.texts.specs.declared.counted.Counted.{Counted}
@@ -9,8 +10,8 @@ use Rattle.listing.specs.NoteTexts.{plain_text}
 use Rattle.listing.specs.declared.listing_notes.ListingNote.{ListingNote}
 use Rattle.latchsym.specs.Files.{Held, held_given}
 
--- What is known of events before they are recorded: what they have, and what the files of the listings
--- hold, which are opened each time that they are read. In which order all of it is read is not.
+-- What is known of events before they are recorded: what they have, and what the files of the
+-- listings hold, which are opened each time that they are read. In which order all of it is read is not.
 abbrev pub seen_again : {R : Type 0} → (R → Option (List ℕ)) → Held → ListingFiles → Counted R → Seen
 seen_again remaining held files r = record {
   events = None;

@@ -1,8 +1,8 @@
 //! The parser of the command line, from the rows of the commands.
 ghost use Rattle.std.specs.Prelude.{IfOk};
 ghost use Rattle.clap.specs.Words.{App, with_subcommand};
-ghost use Rattle.latchsym.specs.CommandLine.{IsCommand, IsPlainArg, command_app, latchsym_app, top_app};
-ghost use Rattle.latchsym.specs.CommandLine.{row_of};
+ghost use Rattle.latchsym.specs.CommandLine.{IsCommand, IsPlainArg, command_app, latchsym_app};
+ghost use Rattle.latchsym.specs.CommandLine.{row_of, top_app};
 
 use crate::rows::{Argument, Kind, arguments_of};
 use clap::{Arg, ArgAction, Command};
