@@ -37,6 +37,8 @@ pub mod FromSymbols
 pub mod Starts
 -- what a load, an unload, and the end of a module's start change
 pub mod Loads
+-- which of several catalogs is current at a time
+pub mod LastBegun
 -- an item for each region of a catalog, and that of an address
 pub mod Items
 -- from a name to the symbols of all modules that have it
