@@ -1,8 +1,9 @@
 -- Catalogs by generation and by stamp.
 use Rattle.std.specs.Prelude.{◌≡◌, ℕ, ◌+◌, ◌≤◌, ◌<◌, List, [], ◌∷◌, All, IfSome, drop}
-use Rattle.std.specs.Prelude.{if◌then◌else◌, nat_le, unwrap_or, Option, Some, None}
+use Rattle.std.specs.Prelude.{Option, Some, None}
 use Rattle.std.specs.List.Sorted.{IsNonDecreasingBy}
 use Rattle.modules.specs.Entries.{CatalogEntries}
+use Rattle.modules.specs.LastBegun.{last_begun}
 use Rattle.follower.specs.declared.catalogs.DatedCatalog.{DatedCatalog}
 use Rattle.follower.specs.declared.catalogs.Moment.{Moment}
 use Rattle.follower.specs.declared.catalogs.Moment.TheVariants.{Generation, Stamp}
@@ -29,11 +30,7 @@ pub record AreInOrder (dated : List DatedCatalog) : Type 0 where
 
 -- the last of the catalogs that were shown at or before the moment
 abbrev pub standing_at : List DatedCatalog → Moment → Option DatedCatalog
-standing_at [] moment = None
-standing_at (d ∷ rest) moment =
-    if nat_le (start_by moment d) (number_of moment)
-    then Some (unwrap_or (standing_at rest moment) d)
-    else standing_at rest moment
+standing_at dated moment = last_begun (start_by moment) (number_of moment) dated
 
 -- the oldest catalog is gone, and the next one is current at the moment: at that and at each later
 -- one of its clock the current catalog is as before

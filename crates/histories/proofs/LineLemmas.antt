@@ -1,5 +1,5 @@
 -- Lines that are cut off.
-use Rattle.histories.proofs.Words.{◌≡◌, ◌∙◌, ℕ, zero, suc, ◌+◌, ◌<◌, List, [], ◌∷◌, ◌++◌, None, Some, length, take, drop, sym, ap, arith, cond, append_assoc, onto_first, take-add, drop-drop, lines, without_end, header_of, body_of, parts_of, time_text, later, Nowhere, Passes, is_byte}
+use Rattle.histories.proofs.Words.{◌≡◌, ◌∙◌, ℕ, zero, suc, ◌+◌, ◌<◌, List, [], ◌∷◌, ◌++◌, None, Some, length, take, drop, sym, ap, arith, cond, append_assoc, onto_first, take-add, drop-drop, lines, without_end, header_of, body_of, first_bad, option_map_or, option_or, parts_of, time_text, later, Nowhere, Passes, is_byte}
 use Rattle.texts.proofs.LineCutLemmas.{first_fails}
 use Rattle.std.proofs.lemmas.List.{take_all, drop_all}
 use Rattle.std.proofs.Common.{Bool, true, false, ◌&&◌, ◌==◌, not, nat_lt, Option, refl}
@@ -9,7 +9,9 @@ use Rattle.texts.specs.Lines.{longest_line}
 use Rattle.listing.specs.ModuleListing.{is_gap}
 use Rattle.listing.specs.SymbolListing.{address_in, owner_in_line, symbol_before, symbol_of_text, symbol_with}
 use Rattle.listing.proofs.SymbolLineLemmas.{cut_nowhere}
+use Rattle.histories.specs.Grammar.{is_understood_after, may_follow}
 use Rattle.histories.specs.ListingLines.{module_of}
+use Rattle.histories.specs.declared.grammar.Header.{Header}
 
 pub first_line : (xs : List ℕ) (k : ℕ) → k < length xs → Passes (is_byte 10) xs k → Nowhere (Passes (is_byte 10) xs) 0 k → lines xs ≡ take (k + 1) xs ∷ lines (drop (k + 1) xs)
 first_line [] k h passes none = absurd (omega arith)
@@ -53,6 +55,40 @@ parts_more text rest i n here is none =
     let more = lines (drop n rest) in
     let then : lines (drop (i + n) text) ≡ more = ap lines (sym (drop-drop n i text) ∙ ap (drop n) (sym here)) in
     ap parts_of then ∙ sym (parts_here (take n rest) more none) ∙ ap parts_of (sym is) ∙ ap (λ (r : List ℕ). parts_of (lines r)) here
+
+-- likewise of the first line that is not understood, if this one is
+bad_here : (header : Header) (number : ℕ) (line : List ℕ) (ls : List (List ℕ)) → header_of (without_end line) ≡ None → is_understood_after header (without_end line) ≡ true
+    → first_bad (Some header) number (line ∷ ls) ≡ first_bad (Some header) (number + 1) ls
+bad_here header number line ls none good =
+    ap (λ h. cond (elim h [ Some next ↦ may_follow (Some header) next | None ↦ is_understood_after header (without_end line) ]) (first_bad (option_or h (Some header)) (number + 1) ls) (Some number)) none
+    ∙ ap (λ b. cond b (first_bad (Some header) (number + 1) ls) (Some number)) good
+
+pub bad_more : (header : Header) (number : ℕ) (text rest : List ℕ) (i n : ℕ) → rest ≡ drop i text → lines rest ≡ take n rest ∷ lines (drop n rest) → header_of (without_end (take n rest)) ≡ None → is_understood_after header (without_end (take n rest)) ≡ true
+    → first_bad (Some header) (number + 1) (lines (drop (i + n) text)) ≡ first_bad (Some header) number (lines (drop i text))
+bad_more header number text rest i n here is none good =
+    let more = lines (drop n rest) in
+    let then : lines (drop (i + n) text) ≡ more = ap lines (sym (drop-drop n i text) ∙ ap (drop n) (sym here)) in
+    ap (first_bad (Some header) (number + 1)) then ∙ sym (bad_here header number (take n rest) more none good) ∙ ap (first_bad (Some header) number) (sym is) ∙ ap (λ (r : List ℕ). first_bad (Some header) number (lines r)) here
+
+-- a header, and what follows it
+pub part_here : (header : Header) (text rest : List ℕ) (n : ℕ) → rest ≡ drop n text → lines text ≡ take n text ∷ lines (drop n text) → header_of (without_end (take n text)) ≡ Some header
+    → parts_of (lines text) ≡ record { header = header; time_text = time_text (without_end (take n text)); text = body_of (lines rest) } ∷ parts_of (lines rest)
+part_here header text rest n here is some =
+    let line = take n text in
+    let more = lines (drop n text) in
+    ap parts_of is
+    ∙ ap (λ h. elim h [ None ↦ parts_of more | Some header ↦ record { header = header; time_text = time_text (without_end line); text = body_of more } ∷ parts_of more ]) some
+    ∙ ap (λ (r : List ℕ). record { header = header; time_text = time_text (without_end line); text = body_of (lines r) } ∷ parts_of (lines r)) (sym here)
+
+pub bad_after : (before : Option Header) (header : Header) (number : ℕ) (text rest : List ℕ) (n : ℕ) → rest ≡ drop n text → lines text ≡ take n text ∷ lines (drop n text) → header_of (without_end (take n text)) ≡ Some header → may_follow before header ≡ true
+    → first_bad before number (lines text) ≡ first_bad (Some header) (number + 1) (lines rest)
+bad_after before header number text rest n here is some follows =
+    let line = take n text in
+    let more = lines (drop n text) in
+    ap (first_bad before number) is
+    ∙ ap (λ h. cond (elim h [ Some next ↦ may_follow before next | None ↦ option_map_or (λ h. is_understood_after h (without_end line)) before false ]) (first_bad (option_or h before) (number + 1) more) (Some number)) some
+    ∙ ap (λ b. cond b (first_bad (Some header) (number + 1) more) (Some number)) follows
+    ∙ ap (λ (r : List ℕ). first_bad (Some header) (number + 1) (lines r)) (sym here)
 
 -- ---- a line without a tab is of no module
 

@@ -1,10 +1,10 @@
 -- Times that do not fall.
-use Rattle.histories.proofs.Words.{◌≡◌, ◌∙◌, ℕ, zero, suc, ◌+◌, ◌<◌, ◌≤◌, Bool, true, false, List, [], ◌∷◌, length, Option, None, Some, refl, sym, ap, arith, cond, get_or, prefix_len, without_end, header_of, first_bad, parts_of, count_at, HistoryPart, true≢false, ⊎_elim, cases_order, nat_le, option_map_or, option_or, prefix_len_passes, prefix_len-le-length, AreInOrder, time_text}
+use Rattle.histories.proofs.Words.{◌≡◌, ◌∙◌, ℕ, zero, suc, ◌+◌, ◌<◌, ◌≤◌, Bool, true, false, List, [], ◌∷◌, length, Option, None, Some, refl, sym, ap, subst, arith, cond, get_or, prefix_len, without_end, header_of, first_bad, parts_of, count_at, HistoryPart, true≢false, ⊎_elim, cases_order, nat_le, option_map_or, option_or, prefix_len_passes, prefix_len-le-length, AreInOrder, time_text}
 use Rattle.std.proofs.lemmas.Bool.{leb-true}
-use Rattle.std.specs.Prelude.{is_some}
+use Rattle.std.specs.Prelude.{is_some, Result, Ok, Err}
 use Rattle.std.specs.List.Sorted.{IsPartitionPoint}
 use Rattle.std.proofs.lemmas.List.Sums.{prefix_len_stops}
-use Rattle.histories.specs.Grammar.{body_of, may_follow, is_understood_after}
+use Rattle.histories.specs.Grammar.{body_of, may_follow, is_understood_after, parts_from}
 use Rattle.histories.specs.declared.grammar.Header.{Header}
 
 -- likewise by recursion, with none below the least
@@ -53,6 +53,14 @@ falls_not above n (line ∷ more) good =
 
 pub in_order : (n : ℕ) (ls : List (List ℕ)) → first_bad None n ls ≡ None → AreInOrder (parts_of ls)
 in_order n ls good = rising 0 (parts_of ls) (falls_not None n ls good)
+
+-- so it is with the parts of a history
+pub in_order_from : (n : ℕ) (ls : List (List ℕ)) (parts : List HistoryPart) → parts_from n ls ≡ Ok parts → AreInOrder parts
+in_order_from n ls parts is = by_fault (first_bad None n ls) refl is
+  where
+    by_fault : (bad : Option ℕ) → first_bad None n ls ≡ bad → option_map_or (λ (k : ℕ). Err k) bad (Ok (parts_of ls)) ≡ Ok parts → AreInOrder parts
+    by_fault None good is = subst (λ (ps : List HistoryPart). AreInOrder ps) (ap (λ (r : Result (List HistoryPart) ℕ). elim r [ Ok ps ↦ ps | Err k ↦ parts ]) is) (in_order n ls good)
+    by_fault (Some k) bad is = absurd (true≢false (sym (ap (λ (r : Result (List HistoryPart) ℕ). elim r [ Ok ps ↦ true | Err k ↦ false ]) is)))
 
 -- the place that divides the list is how many come first
 pub point_is : {X : Type 0} (p : X → Bool) (xs : List X) (i : ℕ) (d : X) → i ≤ length xs → IsPartitionPoint (λ x. p x ≡ true) (λ x. p x ≡ false) xs i → prefix_len p xs ≡ i

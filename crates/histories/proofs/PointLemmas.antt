@@ -7,7 +7,7 @@ use Rattle.std.specs.Prelude.{nat_eq, codes, ◌==◌, if◌then◌else◌, ◌&
 use Rattle.std.specs.List.{starts_with}
 use Rattle.std.specs.Option.{option_and_then, option_map}
 use Rattle.histories.specs.LineTimes.{after_point, before_next, may_end, time_here}
-use Rattle.histories.specs.Times.{leading_digits, timestamp_in, timestamp_of}
+use Rattle.histories.specs.Times.{begins_digit, leading_digits, timestamp_in, timestamp_of}
 use Rattle.histories.specs.declared.line_times.Before.{Before}
 use Rattle.histories.specs.declared.times.Timestamp.{Timestamp}
 
@@ -51,6 +51,11 @@ no_time bytes undated = by_count (prefix_len is_decimal (take 10 bytes)) refl
 none_here : (before : Before) (bytes : List ℕ) → IsUndated bytes → time_here before bytes ≡ None
 none_here before bytes undated =
     ap (option_and_then (λ (t : Timestamp). if (t.decimals == 6 || t.decimals == 9) && may_end before (drop t.length bytes) then Some t.nanoseconds else None)) (no_time bytes undated)
+
+-- a time begins with a digit
+pub no_digit : (before : Before) (bytes : List ℕ) → begins_digit bytes ≡ false → time_here before bytes ≡ None
+no_digit before [] none = none_here before [] (λ c digits point. true≢false (sym (digits 0 (omega arith))))
+no_digit before (b ∷ bytes) none = none_here before (b ∷ bytes) (λ c digits point. true≢false (sym (digits 0 (omega arith)) ∙ none))
 
 whether_asked : (asked : Bool) (found : Option ℕ) → option_or (cond asked None None) found ≡ found
 whether_asked true found = refl

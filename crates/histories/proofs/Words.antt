@@ -12,7 +12,7 @@ pub use Rattle.logs.specs.Lines.{lines}
 pub use Rattle.histories.specs.Times.{is_decimal}
 pub use Rattle.histories.specs.LineTimes.{line_time, first_time}
 pub use Rattle.histories.specs.ListingLines.{without_end}
-pub use Rattle.histories.specs.Grammar.{header_of, is_understood, body_of, first_bad, history_of, parts_of, HistoryPart, AreInOrder, time_text}
+pub use Rattle.histories.specs.Grammar.{header_of, body_of, first_bad, history_of, parts_of, HistoryPart, AreInOrder, time_text}
 pub use Rattle.histories.specs.Changes.{changed_by, is_among, is_named, kept_lines, added_lines, named_module, with_named}
 pub use Rattle.histories.specs.ListingsAt.{kernel_lines, after_parts, after_part, listing_after, count_at}
 pub use Rattle.memchr.specs.Find.{Nowhere, Passes, is_byte}

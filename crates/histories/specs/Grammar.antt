@@ -31,6 +31,11 @@ begins_gap (b ∷ bytes) = is_gap b
 abbrev pub is_first_word : List ℕ → List ℕ → Bool
 is_first_word word line = starts_with nat_eq line word && begins_gap (drop (length word) line)
 
+-- a line that may begin so, by its first byte: `l`, `c` or `g`
+abbrev pub may_be_reserved : List ℕ → Bool
+may_be_reserved [] = false
+may_be_reserved (b ∷ bytes) = b == 108 || b == 99 || b == 103
+
 -- a line that is of no listing
 abbrev pub is_reserved : List ℕ → Bool
 is_reserved line =
@@ -123,10 +128,13 @@ parts_of (line ∷ more) = elim (header_of (without_end line)) [
 abbrev pub AreInOrder : List HistoryPart → Type 0
 AreInOrder parts = IsNonDecreasingBy (λ part. part.header.time) parts
 
--- the parts of a history, or the number of the first line that is not understood
+-- the parts of these lines, the first of which has this number; or the number of the first line that
+-- is not understood
+abbrev pub parts_from : ℕ → List (List ℕ) → Result (List HistoryPart) ℕ
+parts_from first ls = option_map_or (λ n. Err n) (first_bad None first ls) (Ok (parts_of ls))
+
+-- those of a history
 abbrev pub history_of : List (List ℕ) → Result (List HistoryPart) ℕ
 history_of [] = Err 1
 history_of (first ∷ more) =
-    if bytes_eq (without_end first) (codes "latchhistory 1")
-    then option_map_or (λ n. Err n) (first_bad None 2 more) (Ok (parts_of more))
-    else Err 1
+    if bytes_eq (without_end first) (codes "latchhistory 1") then parts_from 2 more else Err 1

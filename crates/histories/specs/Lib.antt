@@ -7,6 +7,8 @@ pub mod LineTimes
 pub mod ListingLines
 -- the grammar of the file
 pub mod Grammar
+-- how it is read, part by part
+pub mod Readings
 -- what a change makes of a listing
 pub mod Changes
 -- the listing at a time

@@ -3,6 +3,8 @@ use Rattle.std.specs.Prelude.{◌≡◌, ◌≤◌, ℕ, ◌-◌, ◌==◌, if�
 use Rattle.std.specs.Prelude.{List, [], ◌∷◌, get_or, Option, Some, None}
 use Rattle.std.specs.Prelude.{All, true, Result, Ok, Err}
 use Rattle.std.specs.List.{flat_map, prefix_len}
+use Rattle.std.specs.Option.{option_map_or}
+use Rattle.modules.specs.LastBegun.{last_begun}
 use Rattle.logs.specs.Lines.{lines}
 use Rattle.histories.specs.Changes.{changed_by}
 use Rattle.histories.specs.Grammar.{HistoryPart, history_of}
@@ -56,6 +58,26 @@ listing_in time file = elim (history_of file) [
   | Ok parts ↦ Ok (listing_at time parts)
   | Err n ↦ Err n
 ]
+
+-- ---- each listing with the time from which on it holds
+
+pub record DatedListing : Type 0 where
+  pub since : ℕ
+  pub text : List ℕ
+
+-- the listing of each of these parts, if this one was before them
+abbrev pub dated_listings : List ℕ → List HistoryPart → List DatedListing
+dated_listings before [] = []
+dated_listings before (part ∷ parts) =
+    let text = after_part before part in
+    record { since = part.header.time; text = text } ∷ dated_listings text parts
+
+-- The last of them that began at or before the time, or the kernel itself before the first. It is
+-- `listing_at` of parts in the order of time (a law of this crate).
+abbrev pub last_listing : ℕ → List HistoryPart → List ℕ
+last_listing time parts =
+    option_map_or (λ l. l.text) (last_begun (λ l. l.since) time (dated_listings [] parts))
+    (before_all parts)
 
 -- ---- what a history has
 

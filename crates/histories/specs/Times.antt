@@ -1,6 +1,6 @@
 -- A TIME: seconds, a `.`, and its decimals.
-use Rattle.std.specs.Prelude.{ℕ, ◌+◌, ◌-◌, ◌*◌, ◌^◌, ◌==◌, Bool, if◌then◌else◌, nat_eq}
-use Rattle.std.specs.Prelude.{List, length, take, drop, codes, Option, Some, None}
+use Rattle.std.specs.Prelude.{ℕ, ◌+◌, ◌-◌, ◌*◌, ◌^◌, ◌==◌, Bool, false, if◌then◌else◌}
+use Rattle.std.specs.Prelude.{nat_eq, List, [], ◌∷◌, length, take, drop, codes, Option, Some, None}
 use Rattle.std.specs.Char.{is_digit}
 use Rattle.std.specs.List.{prefix_len, starts_with}
 use Rattle.std.specs.Option.{option_and_then, option_map}
@@ -9,6 +9,10 @@ use Rattle.histories.specs.declared.times.Timestamp.{Timestamp}
 
 abbrev pub is_decimal : ℕ → Bool
 is_decimal b = is_digit b 10
+
+abbrev pub begins_digit : List ℕ → Bool
+begins_digit [] = false
+begins_digit (b ∷ bytes) = is_decimal b
 
 -- the digits with which the bytes begin, and how many they are, if there are any: at most as many
 -- as `most` count

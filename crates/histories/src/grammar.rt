@@ -11,8 +11,9 @@
 ghost use Rattle.std.specs.Prelude.{◌≡◌, length};
 ghost use Rattle.std.specs.Option.{option_copied};
 ghost use Rattle.histories.specs.Grammar.{begins_gap, gone_of, header_at, header_of};
-ghost use Rattle.histories.specs.Grammar.{is_first_word, is_reserved, is_understood};
-ghost use Rattle.histories.specs.Grammar.{is_understood_after, may_follow, time_text};
+ghost use Rattle.histories.specs.Grammar.{is_first_word, is_reserved};
+ghost use Rattle.histories.specs.Grammar.{is_understood_after, may_follow, may_be_reserved};
+ghost use Rattle.histories.specs.Grammar.{time_text};
 ghost use Rattle.histories.specs.Times.{time_of};
 
 use crate::listing_lines::is_of_kernel;
@@ -44,10 +45,25 @@ fn is_first_word(word: &[u8], line: &[u8]) -> bool
     line.starts_with(word) && begins_gap(&line[word.len()..])
 }
 
+/// Whether the first word of the line can be one of a history, by its first byte. Most lines begin
+/// with an address, and are read no further.
+fn may_be_reserved(line: &[u8]) -> bool
+    ensures { result ≡ may_be_reserved line.now }
+{
+    match line {
+        [] => false,
+        [byte, ..] => *byte == b'l' || *byte == b'c' || *byte == b'g',
+    }
+}
+
 /// Whether the first word of the line is one of a history.
+#[tactic(auto, using(crate::proofs::WordLemmas::no_reserved))]
 fn is_reserved(line: &[u8]) -> bool
     ensures { result ≡ is_reserved line.now }
 {
+    if !may_be_reserved(line) {
+        return false;
+    }
     is_first_word(b"listing", line)
         || is_first_word(b"change", line)
         || is_first_word(b"gone", line)
@@ -61,8 +77,8 @@ fn header_at(is_change: bool, text: &[u8]) -> Option<Header>
     Some(Header { is_change, time })
 }
 
-/// The header that a line is, if it is one.
-pub(crate) fn header_in(line: &[u8]) -> Option<Header>
+/// The header that a line is, if it is one, by its first word.
+fn header_by_word(line: &[u8]) -> Option<Header>
     ensures { result ≡ header_of line.now }
 {
     if line.starts_with(b"listing ") {
@@ -72,6 +88,18 @@ pub(crate) fn header_in(line: &[u8]) -> Option<Header>
         return header_at(true, &line[7..]);
     }
     None
+}
+
+/// The header that a line is, if it is one.
+#[tactic(auto, using(crate::proofs::WordLemmas::no_header))]
+pub(crate) fn header_in(line: &[u8]) -> Option<Header>
+    ensures { result ≡ header_of line.now }
+{
+    if may_be_reserved(line) {
+        header_by_word(line)
+    } else {
+        None
+    }
 }
 
 /// The TIME of a header as it is written: what follows its first blank.
@@ -84,8 +112,8 @@ pub(crate) fn time_text(header: &[u8]) -> &[u8]
     }
 }
 
-/// The module that `gone NAME` names.
-pub(crate) fn gone_in(line: &[u8]) -> Option<&[u8]>
+/// The module that `gone NAME` names, by the first word.
+fn gone_by_word(line: &[u8]) -> Option<&[u8]>
     ensures { option_copied result ≡ gone_of line.now }
 {
     if !line.starts_with(b"gone ") {
@@ -99,8 +127,20 @@ pub(crate) fn gone_in(line: &[u8]) -> Option<&[u8]>
     }
 }
 
+/// The module that `gone NAME` names.
+#[tactic(auto, using(crate::proofs::WordLemmas::no_gone))]
+pub(crate) fn gone_in(line: &[u8]) -> Option<&[u8]>
+    ensures { option_copied result ≡ gone_of line.now }
+{
+    if may_be_reserved(line) {
+        gone_by_word(line)
+    } else {
+        None
+    }
+}
+
 /// Whether a header may follow this one, or be the first.
-fn may_follow(before: Option<Header>, header: Header) -> bool
+pub(crate) fn may_follow(before: Option<Header>, header: Header) -> bool
     ensures { result ≡ may_follow before header }
 {
     match before {
@@ -110,25 +150,12 @@ fn may_follow(before: Option<Header>, header: Header) -> bool
 }
 
 /// Whether a line that is no header is understood after this header.
-fn is_understood_after(header: Header, line: &[u8]) -> bool
+pub(crate) fn is_understood_after(header: Header, line: &[u8]) -> bool
     ensures { result ≡ is_understood_after header line.now }
 {
     if gone_in(line).is_some() {
         header.is_change
     } else {
         !is_reserved(line) && !(header.is_change && is_of_kernel(line))
-    }
-}
-
-/// Whether a line is understood after this header, or before any.
-pub(crate) fn is_understood(header: Option<Header>, line: &[u8]) -> bool
-    ensures { result ≡ is_understood header line.now }
-{
-    if let Some(next) = header_in(line) {
-        return may_follow(header, next);
-    }
-    match header {
-        None => false,
-        Some(header) => is_understood_after(header, line),
     }
 }

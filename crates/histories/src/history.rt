@@ -12,9 +12,10 @@ ghost use Rattle.std.specs.Prelude.{◌≡◌, ◌≤◌, ◌<◌, ◌^◌, ◌+
 ghost use Rattle.texts.specs.Said.{GivesInGrammar};
 ghost use Rattle.logs.specs.Lines.{lines};
 ghost use Rattle.histories.specs.ListingsAt.{changes_in};
-ghost use Rattle.histories.specs.Grammar.{body_of, first_bad, history_of, parts_of};
+ghost use Rattle.histories.specs.Grammar.{history_of, parts_from};
+ghost use Rattle.histories.specs.Readings.{BeginsPart, IsBodyIn, IsPartIn};
 
-use crate::grammar::{Header, header_in, is_understood, time_text};
+use crate::grammar::{Header, header_in, is_understood_after, may_follow, time_text};
 use crate::lines::{line_length, without_end};
 use std::alloc::{AllocError, Global};
 use std::marker::Model;
@@ -101,66 +102,93 @@ impl<'a> History<'a> {
     }
 }
 
-/// The number of the first line that is not understood, before any header. The first line of these
-/// has the number `first`.
-fn first_bad(first: u64, text: &[u8]) -> Option<u64>
-    requires { first + length text.now < 2 ^ 64 }
-    ensures { result ≡ first_bad None first (lines text.now) }
-{
-    let mut header: Option<Header> = None;
-    let mut number = first;
-    let mut rest = text;
-    while !rest.is_empty() {
-        let end = line_length(rest);
-        let line = without_end(&rest[..end]);
-        if !is_understood(header, line) {
-            return Some(number);
-        }
-        if let Some(next) = header_in(line) {
-            header = Some(next);
-        }
-        rest = &rest[end..];
-        number += 1;
-    }
-    None
+/// The lines that follow a header, up to the next one or to the end of the text.
+#[derive(Clone, Copy, Debug, Drop)]
+struct Body<'a> {
+    text: &'a [u8],
+    /// The next header and what follows it.
+    rest: &'a [u8],
+    /// The number of the line with which this begins.
+    number: u64,
 }
 
-/// The bytes before the first header, and the others.
-fn cut_body(text: &[u8]) -> (&[u8], &[u8])
-    ensures body { result.0.now ≡ body_of (lines text.now) }
-    ensures rest { parts_of (lines result.1.now) ≡ parts_of (lines text.now) }
-    ensures shorter { length result.1.now ≤ length text.now }
+/// The lines that follow a header, the first of which has this number; or else the number of the
+/// first of them that is not understood.
+fn body_in<'a>(header: Header, first: u64, text: &'a [u8]) -> Result<Body<'a>, u64>
+    requires { first + length text.now < 2 ^ 64 }
+    ensures { IsBodyIn header first text.now result }
 {
     let mut i = 0;
+    let mut number = first;
     while i < text.len() {
         let rest = &text[i..];
         let end = line_length(rest);
-        if let Some(_) = header_in(without_end(&rest[..end])) {
-            return (&text[..i], rest);
+        let line = without_end(&rest[..end]);
+        if let Some(_) = header_in(line) {
+            let text = &text[..i];
+            return Ok(Body { text, rest, number });
+        }
+        if !is_understood_after(header, line) {
+            return Err(number);
         }
         i += end;
+        number += 1;
     }
-    (text, &[])
+    Ok(Body {
+        text,
+        rest: &[],
+        number,
+    })
 }
 
-/// The parts that these lines have.
-fn parts_in<'a>(alloc: Global, text: &'a [u8]) -> Result<Vec<Part<'a>>, AllocError>
-    ensures { IfOk result (λ parts. parts.items ≡ parts_of (lines text.now)) }
+/// The part with which these lines begin, after a part with this header or at the first line of all,
+/// and the lines that follow it. The first of these has this number. If one is not understood, its
+/// number is returned.
+fn part_in<'a>(
+    before: Option<Header>,
+    number: u64,
+    text: &'a [u8],
+) -> Result<(Part<'a>, Body<'a>), u64>
+    requires numbered { number + length text.now < 2 ^ 64 }
+    requires some { 0 < length text.now }
+    requires begins { BeginsPart before text.now }
+    ensures { IsPartIn before number text.now result }
+{
+    let end = line_length(text);
+    let line = without_end(&text[..end]);
+    let Some(header) = header_in(line) else {
+        return Err(number);
+    };
+    if !may_follow(before, header) {
+        return Err(number);
+    }
+    let body = body_in(header, number + 1, &text[end..])?;
+    let part = Part {
+        header,
+        time_text: time_text(line),
+        text: body.text,
+    };
+    Ok((part, body))
+}
+
+/// The parts that these lines have, the first of which has this number.
+fn parts_in<'a>(alloc: Global, first: u64, text: &'a [u8]) -> Result<Vec<Part<'a>>, LineFault>
+    requires { first + length text.now < 2 ^ 64 }
+    ensures { GivesInGrammar (λ parts. parts.items) result (parts_from first (lines text.now)) }
 {
     let mut parts = Vec::new(alloc);
+    let mut before = None;
+    let mut number = first;
     let mut rest = text;
     while !rest.is_empty() {
-        let end = line_length(rest);
-        let line = without_end(&rest[..end]);
-        rest = &rest[end..];
-        if let Some(header) = header_in(line) {
-            let (text, more) = cut_body(rest);
-            parts.push(Part {
-                header,
-                time_text: time_text(line),
-                text,
-            })?;
-            rest = more;
+        match part_in(before, number, rest) {
+            Ok((part, body)) => {
+                before = Some(part.header);
+                number = body.number;
+                rest = body.rest;
+                parts.push(part)?;
+            }
+            Err(bad) => return Err(LineFault::BadLine(bad)),
         }
     }
     Ok(parts)
@@ -182,10 +210,6 @@ pub fn read_history<'a>(alloc: Global, text: &'a [u8]) -> Result<History<'a>, Li
     if without_end(&text[..end]) != b"latchhistory 1".as_slice() {
         return Err(LineFault::BadLine(1));
     }
-    let rest = &text[end..];
-    if let Some(number) = first_bad(2, rest) {
-        return Err(LineFault::BadLine(number));
-    }
-    let parts = parts_in(alloc, rest)?;
+    let parts = parts_in(alloc, 2, &text[end..])?;
     Ok(History { parts })
 }

@@ -13,6 +13,7 @@ ghost use Rattle.std.specs.Option.{option_or};
 ghost use Rattle.memchr.specs.Find.{IsFirstByte, is_byte};
 ghost use Rattle.histories.specs.LineTimes.{after_point, before_next, first_time, line_time};
 ghost use Rattle.histories.specs.LineTimes.{may_end, time_after, time_here};
+ghost use Rattle.histories.specs.Times.{begins_digit};
 
 use crate::times::timestamp_in;
 use memchr::memchr;
@@ -56,13 +57,35 @@ fn may_end(before: Before, rest: &[u8]) -> bool
     }
 }
 
-/// The time that begins here, if one does, in nanoseconds.
-fn time_here(before: Before, bytes: &[u8]) -> Option<u64>
+/// The time that begins here with a digit, if one does, in nanoseconds.
+fn time_from_digit(before: Before, bytes: &[u8]) -> Option<u64>
     ensures { result ≡ time_here before bytes.now }
 {
     let time = timestamp_in(bytes)?;
     if (time.decimals == 6 || time.decimals == 9) && may_end(before, &bytes[time.length..]) {
         Some(time.nanoseconds)
+    } else {
+        None
+    }
+}
+
+/// Whether the first byte is a digit.
+fn begins_digit(bytes: &[u8]) -> bool
+    ensures { result ≡ begins_digit bytes.now }
+{
+    match bytes {
+        [] => false,
+        [byte, ..] => digit_of(*byte) < 10,
+    }
+}
+
+/// The time that begins here, if one does, in nanoseconds.
+#[tactic(auto, using(crate::proofs::PointLemmas::no_digit))]
+fn time_here(before: Before, bytes: &[u8]) -> Option<u64>
+    ensures { result ≡ time_here before bytes.now }
+{
+    if begins_digit(bytes) {
+        time_from_digit(before, bytes)
     } else {
         None
     }

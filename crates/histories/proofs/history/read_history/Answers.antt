@@ -1,5 +1,5 @@
-use Rattle.histories.proofs.Words.{◌∙◌, ◌-◌, List, ℕ, sym, subst, take, drop, length, lines, HistoryPart, AreInOrder}
-use Rattle.histories.proofs.OrderLemmas.{in_order}
+use Rattle.histories.proofs.Words.{◌-◌, List, ℕ, take, drop, length, lines}
+use Rattle.histories.proofs.OrderLemmas.{in_order_from}
 use Rattle.histories.proofs.history.read_history.Goals as goal
 
 pub invariant_of-result : goal.invariant_of-result
@@ -7,5 +7,4 @@ invariant_of-result c =
     let text = c.args.text.now in
     let end = c.line_length-end.result in
     let rest : List ℕ = take (length text - end) (drop end text) in
-    subst (λ (parts : List HistoryPart). AreInOrder parts) (sym c.in_ok-parts.ensures)
-    (in_order 2 (lines rest) (sym c.first_bad.ensures ∙ c.in_default.is))
+    in_order_from 2 (lines rest) c.in_ok-parts.parts.items c.in_ok-parts.ensures
