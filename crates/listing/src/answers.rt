@@ -55,7 +55,7 @@ impl Answer<'_, '_> {
     }
 }
 
-/// The same symbol with `bytes` added to its offset.
+/// What was found, with `bytes` added to the offset.
 #[inline(always)]
 pub fn farther<'c, 'a>(found: FoundSymbol<'c, 'a>, bytes: u64) -> FoundSymbol<'c, 'a>
     requires { found.offset + bytes < 2 ^ 64 }
