@@ -125,7 +125,8 @@ fn walk<O: TreeOrder, W: Loads>(
     let left = places::left_of(copy, 0);
     let mut link = words.load(seat, places::root_of(copy), 0);
     let mut loads = 2;
-    // Link 0 wraps round to a number that no node has, so one comparison finds a node.
+    // Link 0 wraps round to a number that no node has, so one comparison shows whether a link leads
+    // to a node.
     while link.wrapping_sub(1) < l.capacity() as u64 && loads < 4 * l.capacity() + 2 {
         // The words of node 0, and as many words further as the nodes before this one have: seven
         // for each node that its link counts, but for itself.

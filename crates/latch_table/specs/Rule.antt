@@ -97,7 +97,7 @@ Opens o from words =
     KnowledgeHolds {S = Unit {0}} o (capacity_in from) (base_in from)
     (opening words [] (first_knowledge from))
 
--- what a reader learns by a load of word 0, when it then knows these updates
+-- what a reader learns by a load of word 0: it then knows these updates
 pub record LoadsSequence {K : Type 0} (o : Order K) (e : ReaderKnowledge) (s : ℕ)
     (known : List Update) : Type 0 where
   pub begins : IsPrefix e.known known

@@ -56,7 +56,8 @@ with_lines g (Ok lines) =
     Ok (record { modules = g.modules; kallsyms = g.kallsyms; regions = Some lines })
 with_lines g (Err n) = Err n
 
--- the listings with these texts, and a listing of regions with this text, if it is one
+-- the listings with these texts and this text of a listing of regions, if there is one, or the
+-- number of its first bad line
 abbrev pub listings_with : Given → Option (List ℕ) → Result Listed ℕ
 listings_with g None =
     Ok (record { modules = g.modules; kallsyms = g.kallsyms; regions = None })

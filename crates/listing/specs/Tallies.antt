@@ -72,8 +72,8 @@ found_tally built = record {
   rows = (REGIONS.now, built.regions) ∷ [];
 }
 
--- of a listing of modules, if there is one, with the numbers of its skipped lines, of a listing of
--- symbols, and of a listing of regions, if there is one
+-- of a listing of modules, with the numbers of its skipped lines, or of symbols alone; of a listing
+-- of symbols; and of a listing of regions, if there is one
 abbrev pub tallies_by : Option (List ℕ) → List ℕ → Bool → BuildCounts → Tallies
 tallies_by modules symbols given built = record {
   modules = option_map_or (λ skipped. modules_tally skipped built) modules (found_tally built);

@@ -17,7 +17,7 @@ use texts::Output;
 /// without their places in memory.
 #[derive(Drop)]
 pub struct Answer<'c, 'a> {
-    /// The symbol that the address belongs to, with the offset that is told.
+    /// The symbol that the address belongs to, with the offset of the answer.
     pub found: Option<FoundSymbol<'c, 'a>>,
     /// The name of its module, if that is not the kernel itself.
     pub owner: Option<&'a [u8]>,
