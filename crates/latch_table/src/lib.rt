@@ -21,7 +21,7 @@
 //! }
 //! let generation = update.finish();
 //!
-//! // in a reader's thread: latch_tree_find, until there is an answer
+//! // in the thread of one of the readers: latch_tree_find, until there is an answer
 //! let (answer, generation) = reader.find(&rt, 20);
 //! // or one attempt at most, which comes to nothing if the writer flips meanwhile
 //! if let Try::Answered(answer, generation) = reader.look(20) { .. }

@@ -14,7 +14,7 @@
 //!
 //! impl<'a> Form<'a> for NumberForm {
 //!     type Entry = u64;
-//!     ghost entry_of = { λ _ line. number line };
+//!     ghost entry_of = { λ _ line. number_of line };
 //!
 //!     fn entry(&self, line: &'a [u8]) -> Result<Option<u64>, AllocError> {
 //!         Ok(number(line))
