@@ -5,7 +5,7 @@
 # "returns" or "writes" for "tells". If you replace some, lower the number here.
 set -euo pipefail
 cd "$(dirname "$0")/.."
-most=381
+most=9
 phrases='where|behind|so many|of which|the same|for who|told of|that of|those of|stands?|tells?'
 mark='[[:space:]]*(///|//!|//|--)'
 

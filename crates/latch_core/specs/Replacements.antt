@@ -47,7 +47,7 @@ update_found d items table =
     (d.erase.items ++ map (λ x. x.a) (not_among rest table))
     (d.insert.items ++ not_among table rest)
 
--- a difference from these items was told the next items of a table
+-- a difference from these items was given the next items of a table
 abbrev pub Tells : {K : Type 0} → Order K → List Item → Difference → List Item → Difference → Type 0
 Tells o items d told d' =
     (more : List Item) → is_rising o (told ++ more) ≡ true

@@ -79,8 +79,8 @@ pub trait Loads {
         ensures { end_gives self.now seat.old result seat.new };
 }
 
-/// How many words after the left link lies the link that a walk follows from an item that the
-/// key is not in. It is a number, since the processor would mispredict a branch at every other node.
+/// How many words after the left link lies the link that a walk follows from an item that the key
+/// is not in. It is a number, since the processor would mispredict a branch at every other node.
 #[inline(always)]
 fn words_aside(compared: Ordering) -> usize
     ensures less { compared ≡ Less → result ≡ 0 }
@@ -125,10 +125,11 @@ fn walk<O: TreeOrder, W: Loads>(
     let left = places::left_of(copy, 0);
     let mut link = words.load(seat, places::root_of(copy), 0);
     let mut loads = 2;
-    // Link 0 wraps round to a number that no node has, so one comparison tells a node.
+    // Link 0 wraps round to a number that no node has, so one comparison shows whether a link leads
+    // to a node.
     while link.wrapping_sub(1) < l.capacity() as u64 && loads < 4 * l.capacity() + 2 {
-        // Node 0's words, and as many further as the nodes before this one have: those of as many
-        // nodes as its link counts, but for its own.
+        // The words of node 0, and as many words further as the nodes before this one have: seven
+        // for each node that its link counts, but for itself.
         let skipped = places::WORDS_PER_NODE * link as usize - places::WORDS_PER_NODE;
         let a = words.load(seat, places::a_of(0), skipped);
         let b = words.load(seat, places::b_of(0), skipped);

@@ -36,8 +36,35 @@
 //!
 //! **Not promised:** that a reader beside a writer that never rests ever returns, though it tries
 //! again at most once for each flip; anything of weak memory orders. Here a reader is given one
-//! value of one word at a time and the writer hands out one store at a time; neither knows where
-//! the words are kept, nor how steps interleave.
+//! value of one word at a time and the writer hands out one store at a time; neither knows how the
+//! words are kept, nor how steps interleave.
+//!
+//! A user of the kernel's latch gives it `less` and `comp`, and calls `latch_tree_insert`,
+//! `latch_tree_erase` and `latch_tree_find`. Here a [`TreeOrder`](order_laws::TreeOrder) has the
+//! two functions, and the caller makes each store and each load:
+//!
+//! ```text
+//! let l = Layout::new(1000)?;
+//! let mut words = vec![in alloc; 0; l.words()]?;
+//! let mut writer = WriterCore::<HalfOpen>::open(alloc, l, 0)?;
+//!
+//! // latch_tree_insert
+//! writer.begin(&Update::Insert(Item { a: 16, b: 32, tag: 7 }))?;
+//! while let Some(store) = writer.step() {
+//!     apply(words.as_mut_slice(), store);
+//! }
+//!
+//! // latch_tree_erase, up to its first store
+//! writer.begin(&Update::Erase(16))?;
+//!
+//! // latch_tree_find, load by load: between two of them the writer may make stores
+//! let lookup = ReaderCore::<HalfOpen>::start(l, 20);
+//! let value = words[lookup.wanted()];
+//! match lookup.take(value) {
+//!     Taken::Going(lookup) | Taken::Retrying(lookup) => ..,   // it goes on with the next load
+//!     Taken::Returned(answer, generation) => ..,              // it ends
+//! }
+//! ```
 #![tactic(auto)]
 
 pub mod attempts;

@@ -22,10 +22,10 @@ pub fn rises<O: TreeOrder>(items: &[Item]) -> bool
     true
 }
 
-/// What a table differs in from a list of items that rise, as far as the table was told.
+/// What a table differs in from a list of items that rise, as far as the table was given.
 ///
-/// The table is told item by item, in order ([`Difference::tell`]), and each item of it and of the
-/// list is looked at once. Memory is taken for what differs alone.
+/// The table is given item by item, in order, and each item of it and of the list is looked at
+/// once. Memory is taken for what differs alone.
 #[derive(Drop)]
 pub struct Difference {
     place: usize,

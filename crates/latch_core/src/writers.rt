@@ -41,8 +41,8 @@ use word_layout::{Layout, Store, TreeCopy};
 ///
 /// An update flips the sequence, changes copy 0, flips again and changes copy 1 likewise, so
 /// one picture serves both copies. All stores are planned when the update begins, and all memory is
-/// taken then; after that [`next`](WriterCore::next) tells one store and [`did`](WriterCore::did)
-/// is told that it was made. One update is pending at a time.
+/// taken then; after that [`next`](WriterCore::next) returns one store, and
+/// [`did`](WriterCore::did) is called when it was made. One update is pending at a time.
 #[derive(Drop)]
 pub struct WriterCore<O: TreeOrder> {
     layout: Layout,
@@ -310,7 +310,7 @@ impl<O: TreeOrder> WriterCore<O> {
     /// Plans to insert an item in a free node, which both copies then link. Returns whether it
     /// could.
     ///
-    /// The way down to the item's place tells whether it meets one of the table, so that is not
+    /// The way down to the item's place shows whether it meets one of the table, so that is not
     /// asked before.
     fn insert(&mut self, item: Item) -> bool
         ensures accepted { IsTrue result
@@ -408,7 +408,7 @@ impl<O: TreeOrder> WriterCore<O> {
         self.plan.next()
     }
 
-    /// The store that [`next`](WriterCore::next) told was made.
+    /// Passes over the store that [`next`](WriterCore::next) returned, which was made.
     #[inline(always)]
     pub fn did(&mut self)
         requires { IsSome (next_store self.old) }
@@ -506,8 +506,8 @@ impl<O: TreeOrder> WriterCore<O> {
         self.shape.len()
     }
 
-    /// What the table differs in from other items, before any is given: whoever keeps the
-    /// words tells it the items. Takes no memory.
+    /// What the table differs in from other items, before any is given: whoever keeps the words
+    /// gives it the items. Takes no memory.
     pub fn difference(&self) -> Difference
         ensures { (table items : List Item) → update_found result items table
             ≡ replacement table items }

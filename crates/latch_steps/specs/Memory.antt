@@ -1,4 +1,4 @@
--- What the item that a lookup returned still tells, by one load of word 0.
+-- Whether the item that a lookup returned is still right, by one load of word 0.
 use Rattle.std.specs.Prelude.{◌≡◌, ℕ, ◌≤◌, List, length, Some}
 use Rattle.std.specs.List.{AllByRecursion}
 use Rattle.std.specs.declared.cmp.Ordering.TheVariants.{Equal}

@@ -38,8 +38,8 @@ outcome_of o n w d = record {
   sequence = at d.after.latch.words 0;
 }
 
--- Each event of a run from a moment was reported: `reports` says what one report makes of what takes
--- them.
+-- Each event of a run from a moment was reported: `reports` says what one report makes of what
+-- takes them.
 abbrev pub AreReported : {K T : Type 0} → Order K → ℕ → (T → Event K → Outcome K → T → Type 0)
     → Moment K → List (Done K) → T → T → Type 0
 AreReported o n reports w [] a b = b ≡ a

@@ -65,8 +65,8 @@ impl<O: TreeOrder> Driver<O> {
         self.recording.forget_notes();
     }
 
-    /// The notes that were not taken, and the sequence as it is now. With those that were taken they
-    /// are those of a run of the events that the commands stand for, under the promise of
+    /// The notes that were not taken, and the sequence as it is now. With the notes that were taken
+    /// they are the notes of a run of the commands' events, under the promise of
     /// [`run`](crate::run). A run of 2 to the power 64 events less one, or of more, is refused as
     /// too large.
     pub fn finish(self) -> Result<Notes<O>, Refusal>

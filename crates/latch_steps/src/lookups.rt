@@ -57,7 +57,8 @@ impl<O: TreeOrder> Lookup<O> {
         }
     }
 
-    /// What it loads next of these words. It is part of each loop over loads, which need not have it.
+    /// What it loads next of these words. It is part of each loop over loads, which need not have
+    /// it.
     #[inline(always)]
     pub(crate) fn next_load(&self, words: &[u64]) -> NextLoad<O::Key>
         ensures { LoadsNextFrom O.order self.now words.now result }
@@ -120,7 +121,7 @@ impl<O: TreeOrder> Lookup<O> {
 
     /// One load of the reader, which is event number `last`.
     ///
-    /// It is part of each loop over loads, so that these go on with a lookup that is where it was.
+    /// It is part of each loop over loads, so that these go on with a lookup that is not moved.
     #[inline(always)]
     pub(crate) fn load(self, words: &[u64], reader: u32, last: u64) -> LoadOutcome<O>
         ensures { LoadsFromAny O.order self words.now reader last result }

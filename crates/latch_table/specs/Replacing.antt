@@ -16,7 +16,7 @@ use Rattle.latch_table.specs.Writers.{WriterState, writer_refusal, Begins}
 abbrev pub LeadsToFew : List ℕ → ℕ → ℕ → ℕ → Type 0
 LeadsToFew m n link most = (t : Nodes) × Leads m n 0 link t × (length (listed t) ≤ most)
 
--- a difference from a list was told the items of the tree that a link of copy 0 leads to
+-- a difference from a list was given the items of the tree that a link of copy 0 leads to
 abbrev pub TellsTree : {K : Type 0} → Order K → List Item → List ℕ → ℕ → ℕ → Difference → Difference
     → Type 0
 TellsTree o list m n link d d' = (t : Nodes) → Leads m n 0 link t → Tells o list d (items m t) d'

@@ -1,4 +1,4 @@
--- The rule over the words and the views of all seats, and what each step tells its seat.
+-- The rule over the words and the views of all seats, and what a seat learns by each step.
 use Rattle.std.specs.Prelude.{◌≡◌, ℕ, ◌+◌, ◌*◌, ◌≤◌, List, [], ◌∷◌, ◌++◌, length, Option, Some}
 use Rattle.std.specs.Prelude.{None}
 use mathlib.Core.Option as maybe
@@ -97,7 +97,7 @@ Opens o from words =
     KnowledgeHolds {S = Unit {0}} o (capacity_in from) (base_in from)
     (opening words [] (first_knowledge from))
 
--- what a load of word 0 tells a reader that then knows these updates
+-- what a reader learns by a load of word 0: it then knows these updates
 pub record LoadsSequence {K : Type 0} (o : Order K) (e : ReaderKnowledge) (s : ℕ)
     (known : List Update) : Type 0 where
   pub begins : IsPrefix e.known known

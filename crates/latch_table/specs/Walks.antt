@@ -26,7 +26,7 @@ module _ {S : Type 0} where
   abbrev pub IsWriting : TableId → TableId → Me S Knowledge → Type 0
   IsWriting table own me = (own ≡ table) × (me ≡ (writer_knowledge (writer_of me.0), []))
 
-  -- what a load tells them
+  -- what they learn by a load
   abbrev pub LearnsWord : Me S Knowledge → ℕ → ℕ → Me S Knowledge → Type 0
   LearnsWord me w x me' = me' ≡ (reader_knowledge (with_word w x (reader_of me.0)), [])
 

@@ -1,7 +1,7 @@
 //! One more reader of a table.
 //!
-//! A reader's seat is parted from the writer's, with what the writer knows: so a reader can be added
-//! at every step of an update.
+//! A reader's seat is parted from the writer's, with what the writer knows: so a reader can be
+//! added at every step of an update.
 
 ghost use Rattle.std.specs.Prelude.{◌≡◌, ◌<◌, ◌-◌, OnErr, IfOk, IfErr};
 ghost use Rattle.latch_table.specs.Adding.{AddsReader, RefusesReader};

@@ -1,9 +1,31 @@
 //! The latched table over words that threads share: one writer, and readers that never wait.
 //!
-//! [`open`] makes a row of atomic words with one [`Writer`] and some [`Reader`]s, each of which may
+//! [`open`] makes a row of atomic words with one [`Writer`] and some [`Reader`]s. Each of these may
 //! go to a thread of its own. Readers look keys up while the writer changes the tree; neither takes
-//! a lock. The algorithm is latch_core's: here each of its loads and stores is one atomic
-//! step on a word.
+//! a lock. The algorithm is latch_core's: here each of its loads and stores is one atomic step on a
+//! word.
+//!
+//! A user of the kernel's latch (include/linux/rbtree_latch.h) gives it `less` and `comp`, and
+//! calls `latch_tree_insert`, `latch_tree_erase` and `latch_tree_find`. Here a
+//! [`TreeOrder`](order_laws::TreeOrder) has the two functions:
+//!
+//! ```text
+//! // up to 1000 items, an opening sequence 0, 2 readers
+//! let (mut writer, readers) = open::<HalfOpen>(alloc, Layout::new(1000)?, 0, 2)?;
+//!
+//! // in the writer's thread: latch_tree_insert, and latch_tree_erase step by step
+//! writer.begin(Update::Insert(Item { a: 16, b: 32, tag: 7 }))?.finish();
+//! let mut update = writer.begin(Update::Erase(16))?;
+//! while let Some(did) = update.step() {
+//!     // a store or a flip was made
+//! }
+//! let generation = update.finish();
+//!
+//! // in the thread of one of the readers: latch_tree_find, until there is an answer
+//! let (answer, generation) = reader.find(&rt, 20);
+//! // or one attempt at most, which comes to nothing if the writer flips meanwhile
+//! if let Try::Answered(answer, generation) = reader.look(20) { .. }
+//! ```
 //!
 //! ```text
 //!                      words that all threads share
@@ -30,7 +52,7 @@
 //! | a reader loads another word | the value, as one more load of its attempt |
 //! | the writer loads a word | the value, which it knew; at the start of an update, the update |
 //! | the writer stores a word | the words with this one changed |
-//! | the writer flips the sequence | the same; from the second flip on, the update as shown |
+//! | the writer flips the sequence | this, too; from the second flip on, the update as shown |
 //! | a reader meets the writer ([`meet`]) | the reader: all updates that were shown |
 //! | the writer copies a word | nothing more |
 //!

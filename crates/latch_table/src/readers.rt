@@ -1,7 +1,7 @@
 //! Readers.
 //!
 //! A reader's table is seen in [`seated`] alone, and the words of an attempt in [`words`] alone,
-//! where they are loaded one by one, each load a step that the seat knows of. So nothing that an
+//! which loads them one by one, each load a step that the seat knows of. So nothing that an
 //! attempt does, or a search of several, can look at a word in another way.
 
 use order_laws::Item;

@@ -1,4 +1,4 @@
--- An attempt of a reader whose view is kept in numbers, each load of which a schedule chooses.
+-- An attempt of a reader whose view is kept in numbers. A schedule chooses each of its loads.
 use Rattle.std.specs.Prelude.{◌≡◌, ℕ, ◌+◌, ◌%◌, ◌^◌, ◌≤◌, List, [], ◌∷◌}
 use Rattle.std.specs.Prelude.{length, get_or, max}
 use Rattle.order_laws.specs.Orders.{Order}
@@ -101,8 +101,8 @@ abbrev pub last_of : Glance → List Glance → Glance
 last_of last [] = last
 last_of last (g ∷ gs) = last_of g gs
 
--- a whole attempt: its loads, each of which the schedule chose, its outcome, the view that it
--- leaves, and that the reader goes on after its last load
+-- a whole attempt: its loads, each as the schedule chose it, its outcome, the view that it leaves,
+-- and that the reader goes on after its last load
 pub record HasAttempted {K : Type 0} (chooses : Choice) (b : Barriers) (o : Order K) (n : ℕ)
     (m : List ℕ) (ss : List Store) (r : ReaderView) (k : K) (out : Outcome) (r' : ReaderView)
     : Type 0 where

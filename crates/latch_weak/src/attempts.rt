@@ -171,7 +171,7 @@ impl<S: LoadSchedule> Moments<'_, S> {
         self.look(reader, word)
     }
 
-    /// One attempt, each load of which gives what the schedule chooses among what the reader may
+    /// One attempt. Each of its loads gives what the schedule chooses among what the reader may
     /// see.
     pub fn attempt<O: TreeOrder>(
         &self,

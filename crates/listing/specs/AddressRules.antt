@@ -6,12 +6,12 @@ use Rattle.listing.specs.declared.address_rules.Callers.{Callers}
 use Rattle.listing.specs.declared.address_rules.Callers.TheVariants.{ByPlace, Every, Never}
 use Rattle.listing.specs.declared.address_rules.LogRule.{LogRule}
 
--- the address so many bytes lower, if there is one
+-- the address this many bytes lower, if there is one
 abbrev pub lower_by : ℕ → ℕ → Option ℕ
 lower_by bytes addr = if nat_le bytes addr then Some (addr - bytes) else None
 
--- how many bytes before the address that is told of the looked up one lies: one, if it is a
--- return address
+-- how many bytes the looked up address lies before the one that is answered about: one, if this is
+-- a return address
 abbrev pub before_of : AddressRule → ℕ
 before_of rule = if rule.callers then 1 else 0
 

@@ -12,8 +12,8 @@ use Rattle.modules.specs.Found.{Found, found_in, symbols_from}
 
 -- ---- what is known
 
--- the symbol that an address belongs to, as it is told of it, and the name of its module, if
--- that is not the kernel itself
+-- the symbol that an address belongs to, with the address's offset in it, and the name of its
+-- module, unless it is the kernel itself
 pub record Known : Type 0 where
   pub found : Option Found
   pub owner : Option (List ℕ)
@@ -24,11 +24,11 @@ nothing = record { found = None; owner = None }
 abbrev pub is_nothing : Known → Bool
 is_nothing k = is_none k.found && is_none k.owner
 
--- the symbol, as it is told of an address so many bytes farther on
+-- the symbol, with the offset of an address this many bytes farther on
 abbrev pub farther : ℕ → Found → Found
 farther bytes f = record f { offset = f.offset + bytes }
 
--- of an address in a region of the module, told of one that lies `before` bytes farther on
+-- of an address in a region of the module, for an answer about one `before` bytes farther on
 abbrev pub answer_in : ModuleEntry → Item → ℕ → ℕ → Known
 answer_in m item before addr = record {
   found =

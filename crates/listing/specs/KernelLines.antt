@@ -1,4 +1,4 @@
--- What the text of a listing of symbols shows, where the kernel lies by it, and its own lines alone.
+-- What the text of a listing of symbols shows, the kernel's base by it, and the kernel's own lines.
 use Rattle.std.specs.Prelude.{ℕ, Bool, false, not, filter, flat_map, is_some, List, [], ◌∷◌, ◌++◌}
 use Rattle.std.specs.Prelude.{Option, Result, Ok, Err}
 use Rattle.std.specs.List.{list_any}
@@ -14,7 +14,7 @@ use Rattle.listing.specs.declared.symbol_listing.SkippedSymbol.{SkippedSymbol}
 abbrev pub shows_symbol : List (List ℕ) → Bool
 shows_symbol lines = list_any (λ l. is_shown_symbol (symbol_of l)) lines
 
--- where the kernel lies: at its first symbol that is called `_text`, or else `_stext`
+-- the kernel's base: the address of its first symbol that is called `_text`, or else `_stext`
 abbrev pub kernel_base : List (List ℕ) → Option ℕ
 kernel_base lines =
     option_or (first_address TEXT.now (symbols_in lines))

@@ -9,7 +9,7 @@ pub mod Skipping
 pub mod ModuleListing
 -- the lines of a listing of symbols, in the form of /proc/kallsyms
 pub mod SymbolListing
--- what a listing looks like of which no line is of use
+-- what a listing without a line of use looks like
 pub mod Looks
 -- listed modules that are not in the catalog
 pub mod Overlaps
@@ -21,11 +21,11 @@ pub mod ListingNotes
 pub mod NoteTexts
 -- what a listing of regions says
 pub mod RegionListing
--- what listings say: a catalog, how many of their lines went where, and what is noted of them
+-- what listings say: a catalog, how many of their lines are used, and what is noted of them
 pub mod Opening
--- where the lines of listings went
+-- how many lines of listings are used and how many are not, by cause
 pub mod Tallies
 -- what a file of addresses says
 pub mod Addresses
--- what a listing of symbols shows, and where the kernel lies by it
+-- what a listing of symbols shows, and the kernel's base by it
 pub mod KernelLines

@@ -1,4 +1,4 @@
--- What is noted of a listing of which nothing is of use.
+-- What is noted of a listing without a line of use.
 use Rattle.std.specs.Prelude.{◌≡◌, ℕ, Bool, true, false, not, ◌&&◌, ◌||◌, nat_eq, nat_lt, List, [], ◌∷◌}
 use Rattle.std.specs.Prelude.{length, Option, Some, None, is_some}
 use Rattle.std.specs.List.{list_any}
@@ -73,8 +73,8 @@ is_of_modules mapping text kallsyms c (UnlistedOwner owner) =
     (unlisted_owner (modules_in (lines_of text)) (symbols_with mapping (symbols_in (lines_of kallsyms))))
 is_of_modules mapping text kallsyms c _ = false
 
--- what is noted of a listing of symbols with this text, of which so many are kept, if these
--- names bound the kernel; it is alone if there is no listing of modules
+-- what is noted of a listing of symbols with this text, if `kept` of them are kept and these names
+-- bound the kernel; it is alone if there is no listing of modules
 abbrev pub is_of_kallsyms : BoundNames → Bool → List ℕ → ℕ → ListingNote → Bool
 is_of_kallsyms names alone text kept Empty = alone && nat_eq (length text) 0
 is_of_kallsyms names alone text kept Gzip = is_gzip text

@@ -1,4 +1,4 @@
--- What a listing looks like of which no line is of use.
+-- What a listing without a line of use looks like.
 use Rattle.std.specs.Prelude.{◌≡◌, ℕ, Bool, true, false, not, ◌||◌, ◌&&◌, nat_eq, nat_lt, is_none}
 use Rattle.std.specs.Prelude.{find, length, take, List, [], ◌∷◌, Result, Ok, Err}
 use Rattle.std.specs.Char.{is_digit}
@@ -15,11 +15,11 @@ use Rattle.listing.specs.declared.module_listing.SkippedModule.TheVariants as mo
 use Rattle.listing.specs.declared.symbol_listing.SkippedSymbol.{SkippedSymbol}
 use Rattle.listing.specs.declared.symbol_listing.SkippedSymbol.TheVariants as symbol_cause
 
--- the first two bytes are those of a file that gzip made
+-- the first two bytes are as in a file that gzip made
 abbrev pub is_gzip : List ℕ → Bool
 is_gzip text = starts_with nat_eq text (31 ∷ 139 ∷ [])
 
--- or those of a text in UTF-16
+-- the first two bytes are as in a text in UTF-16
 abbrev pub is_utf_16 : List ℕ → Bool
 is_utf_16 text =
     starts_with nat_eq text (255 ∷ 254 ∷ []) || starts_with nat_eq text (254 ∷ 255 ∷ [])
@@ -73,8 +73,8 @@ is_symbol_line line = is_hidden_symbol (symbol_of line) || is_shown_symbol (symb
 abbrev pub begins_wide : List ℕ → Bool
 begins_wide line = nat_lt 8 (length line) && list_all (λ b. is_digit b 16) (take 9 line)
 
--- The listing is that of a 32-bit kernel: a line is well formed, and none of these has an address
--- that is written with more than 8 digits.
+-- The listing is a 32-bit kernel's: a line is well formed, and no such line has an address that is
+-- written with more than 8 digits.
 abbrev pub is_narrow : List (List ℕ) → Bool
 is_narrow lines =
     list_any is_symbol_line lines

@@ -5,7 +5,7 @@ use Rattle.listing.specs.declared.listing_notes.ListingNote.{ListingNote}
 use Rattle.listing.specs.declared.listing_notes.ListingNote.TheVariants as note
 use Rattle.listing.specs.declared.note_texts.TheConstants as says
 
--- a text, of which the last byte is a 0, as C wants it
+-- a text with a last byte 0, as C wants it
 abbrev pub ended_text : ListingNote → Option (List ℕ)
 ended_text note.Empty = Some says.EMPTY.now
 ended_text note.Gzip = Some says.GZIP.now

@@ -1,4 +1,4 @@
--- What listings say: a catalog, how many of their lines went where, and what is noted of them.
+-- What listings say: a catalog, how many of their lines are used, and what is noted of them.
 use Rattle.std.specs.Prelude.{◌≡◌, ℕ, Bool, ◌&&◌, false, true, length, List, [], find, is_none, is_some}
 use Rattle.std.specs.Prelude.{Option, Some, None, Result, Ok, Err, if◌then◌else◌, unwrap_or}
 use Rattle.std.specs.Option.{option_and_then, option_copied, option_map, option_map_or}
@@ -26,7 +26,7 @@ use Rattle.listing.specs.declared.opening.OpenedCatalog.{OpenedCatalog}
 
 -- ---- what is given
 
--- the texts of listings, of which only that of symbols must be there
+-- the texts of listings; only the listing of symbols must be there
 pub record Given : Type 0 where
   pub modules : Option (List ℕ)
   pub kallsyms : List ℕ
@@ -36,13 +36,13 @@ abbrev pub given : Option (List ℕ) → List ℕ → Option (List ℕ) → Give
 given modules kallsyms regions =
     record { modules = modules; kallsyms = kallsyms; regions = regions }
 
--- listings with the lines of that of regions
+-- the texts of listings of modules and of symbols, and the lines of a listing of regions
 pub record Listed : Type 0 where
   pub modules : Option (List ℕ)
   pub kallsyms : List ℕ
   pub regions : Option (List ListedRegion)
 
--- those that the program has
+-- the listings that the program has
 abbrev pub listed_in : Listings → Listed
 listed_in l = record {
   modules = option_copied l.modules;
@@ -56,17 +56,18 @@ with_lines g (Ok lines) =
     Ok (record { modules = g.modules; kallsyms = g.kallsyms; regions = Some lines })
 with_lines g (Err n) = Err n
 
--- the listings with these texts, if that of regions may be one of them
+-- the listings with these texts and this text of a listing of regions, if there is one, or the
+-- number of its first bad line
 abbrev pub listings_with : Given → Option (List ℕ) → Result Listed ℕ
 listings_with g None =
     Ok (record { modules = g.modules; kallsyms = g.kallsyms; regions = None })
 listings_with g (Some text) = with_lines g (regions_of_text text)
 
--- the listings with these texts, or the number of the first bad line of that of regions
+-- the listings with these texts, or the number of the first bad line of the listing of regions
 abbrev pub listings_of : Given → Result Listed ℕ
 listings_of g = listings_with g g.regions
 
--- there is a listing of regions beside that of modules
+-- there are listings of regions and of modules
 abbrev pub has_regions : Listed → Bool
 has_regions l = is_some l.modules && is_some l.regions
 
@@ -74,14 +75,14 @@ has_regions l = is_some l.modules && is_some l.regions
 abbrev pub lines_beside : Listed → List ListedRegion
 lines_beside l = if is_some l.modules then unwrap_or l.regions [] else []
 
--- ---- the catalog, and how many lines went where
+-- ---- the catalog, and how many lines are used
 
 -- the symbols that a catalog may keep: mapping symbols among them or not
 abbrev pub symbols_of : Bool → List ℕ → List ListedSymbol
 symbols_of mapping text = symbols_with mapping (symbols_in (lines_of text))
 
--- The catalog and the counts are those of a listing of modules with this text, of these region
--- lines and of these symbols. The names of the kernel's bounds may be given.
+-- The catalog and the counts are built from a listing of modules with this text, these region lines
+-- and these symbols. The names of the kernel's bounds may be given.
 pub record AreByModules (kernel : Option BoundNames) (text : List ℕ) (lines : List ListedRegion)
     (symbols : List ListedSymbol) (c : CatalogEntries) (n : BuildCounts)
     : Type 0 where
@@ -89,7 +90,7 @@ pub record AreByModules (kernel : Option BoundNames) (text : List ℕ) (lines : 
   pub catalog : c ≡ catalog_of kernel (modules_in (lines_of text)) lines symbols
   pub counts : n ≡ counts_of kernel (modules_in (lines_of text)) lines symbols
 
--- The catalog and the counts are those of these symbols alone.
+-- The catalog and the counts are built from these symbols alone.
 pub record AreBySymbols (kernel : Option BoundNames) (symbols : List ListedSymbol)
     (c : CatalogEntries) (n : BuildCounts)
     : Type 0 where
@@ -98,16 +99,15 @@ pub record AreBySymbols (kernel : Option BoundNames) (symbols : List ListedSymbo
   pub catalog : c ≡ catalog_with modules symbols
   pub counts : n ≡ kept_counts modules symbols
 
--- The catalog and the counts are those of listings, of whose symbols these may be kept. Without one
--- of modules the symbols say where modules lie.
+-- The catalog and the counts are built from listings, of whose symbols these may be kept. Without a
+-- listing of modules, the symbols give the regions of modules.
 abbrev pub AreBy : Option BoundNames → Listed → List ListedSymbol → Option (List ℕ)
     → CatalogEntries → BuildCounts → Type 0
 AreBy kernel l symbols (Some text) c n =
     AreByModules kernel text (unwrap_or l.regions []) symbols c n
 AreBy kernel l symbols None c n = AreBySymbols kernel symbols c n
 
--- Listings say this catalog, and that so many of their lines went where. A symbol that is not kept
--- is stray.
+-- Listings say this catalog, and these counts of their lines. A symbol that is not kept is stray.
 pub record Say (kernel : Option BoundNames) (mapping : Bool) (l : Listed) (c : CatalogEntries)
     (n : BuildCounts)
     : Type 0 where
@@ -117,12 +117,12 @@ pub record Say (kernel : Option BoundNames) (mapping : Bool) (l : Listed) (c : C
 
 -- ---- what is noted
 
--- the first note that applies to a listing of modules, if there is one beside that of symbols
+-- the first note that applies to the listing of modules, if there is one
 abbrev pub note_on_modules : Bool → Listed → CatalogEntries → Option ListingNote
 note_on_modules mapping l c =
     option_and_then (λ text. find (is_of_modules mapping text l.kallsyms c) all_notes) l.modules
 
--- the first note that applies to a listing of symbols, of which so many lines are kept
+-- the first note that applies to a listing of symbols, if `kept` of its lines are kept
 abbrev pub note_on_symbols : Option BoundNames → Bool → Listed → ℕ → Option ListingNote
 note_on_symbols kernel mapping l kept =
     find (is_of_kallsyms (bounds_for kernel (symbols_of mapping l.kallsyms)) (is_none l.modules)
@@ -142,8 +142,7 @@ notes_of kernel mapping l c n = record {
 abbrev pub hides_modules : Listed → Bool
 hides_modules l = option_map_or (λ text. are_modules_hidden (lines_of text)) l.modules false
 
--- the owner of the first symbol that no listing of modules has, if there is one beside that of
--- symbols
+-- the owner of the first symbol whose owner the listing of modules lacks, if there is one
 abbrev pub unlisted_in : Bool → Listed → Option Owner
 unlisted_in mapping l =
     option_and_then

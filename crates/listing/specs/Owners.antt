@@ -19,11 +19,11 @@ owner_name Kprobes = KPROBES.now
 abbrev pub owner_called : List ℕ → Option Owner
 owner_called name = find (λ o. bytes_eq (owner_name o) name) (Bpf ∷ Ftrace ∷ Kprobes ∷ [])
 
--- the name is that of such an owner, and no listed module has it
+-- such an owner has the name, and no listed module does
 abbrev pub is_unlisted : List ListedModule → List ℕ → Bool
 is_unlisted modules name = is_some (owner_called name) && not (is_listed_name modules name)
 
--- the owner of the first symbol that has such a name in the place of a module's
+-- the owner of the first symbol that has such a name in the place of a module's name
 abbrev pub unlisted_owner : List ListedModule → List ListedSymbol → Option Owner
 unlisted_owner modules symbols =
     option_and_then owner_called (first_owner (is_unlisted modules) symbols)

@@ -20,7 +20,7 @@ part_of word =
     else if bytes_eq word INIT.now then Some Init
     else None
 
--- a region, if there is one of so many bytes at this address
+-- a region, if there is one of this size at this address
 abbrev pub placed_region : ListedRegion → Option ListedRegion
 placed_region r = if region_fits r then Some r else None
 

@@ -64,7 +64,7 @@ symbol_of line =
     if nat_lt longest_line (length line) then Err Long
     else checked_symbol (symbol_before (cut_at 9 line) line)
 
--- the module of a line, or none where it is of the kernel itself, if the line is well formed, with
+-- the module of a line, or none if it is of the kernel itself, if the line is well formed, with
 -- its address shown or hidden
 abbrev pub owner_in_line : List ℕ → Option (Option (List ℕ))
 owner_in_line line =

@@ -1,4 +1,4 @@
--- Where the lines of listings went.
+-- How many lines of listings are used and how many are not, by cause.
 use Rattle.std.specs.Prelude.{ℕ, Bool, if◌then◌else◌, List, [], ◌∷◌, ◌++◌, codes, decimal}
 use Rattle.std.specs.Prelude.{drop, flat_map, map, slice_index, take, Option, Some, None}
 use Rattle.std.specs.Option.{option_map, option_map_or}
@@ -25,7 +25,7 @@ pub record Tallies : Type 0 where
   pub symbols : Tally
   pub regions : Option Tally
 
--- causes, of which each is known by its place, with their counts
+-- causes with their counts, each cause known by its place
 abbrev pub rows_of : {E : Type 0} → (E → ℕ) → (E → List ℕ) → List ℕ → List E → List (List ℕ × ℕ)
 rows_of place name counts causes = map (λ c. (name c, slice_index counts (place c))) causes
 
@@ -43,7 +43,7 @@ modules_tally skipped built = record {
       (drop (module_place module_cause.Long) module_causes);
 }
 
--- of a listing of symbols, of which so many are kept or stray
+-- of a listing of symbols, with the numbers of kept and of stray ones
 abbrev pub symbols_tally : List ℕ → ℕ → ℕ → Tally
 symbols_tally skipped kept stray = record {
   title = SYMBOLS.now;
@@ -72,8 +72,8 @@ found_tally built = record {
   rows = (REGIONS.now, built.regions) ∷ [];
 }
 
--- of a listing of modules, of which so many lines are skipped, or of symbols alone, and of one of
--- regions if there is one
+-- of a listing of modules, with the numbers of its skipped lines, or of symbols alone; of a listing
+-- of symbols; and of a listing of regions, if there is one
 abbrev pub tallies_by : Option (List ℕ) → List ℕ → Bool → BuildCounts → Tallies
 tallies_by modules symbols given built = record {
   modules = option_map_or (λ skipped. modules_tally skipped built) modules (found_tally built);
@@ -81,7 +81,7 @@ tallies_by modules symbols given built = record {
   regions = if given then Some (regions_tally built) else None;
 }
 
--- of listings of whose lines so many went where
+-- of listings with these counts of lines
 abbrev pub tallies_with : Listed → BuildCounts → Tallies
 tallies_with l built =
     tallies_by (skipped_modules_of l) (symbol_counts (lines_of l.kallsyms)) (has_regions l) built

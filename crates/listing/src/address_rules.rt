@@ -9,7 +9,7 @@ ghost use Rattle.listing.specs.AddressRules.{place_of, rule_at};
 pub struct AddressRule {
     /// Whether they are return addresses. Such a one lies after the call that it belongs to, which
     /// may be the last instruction of its symbol; so the address one byte lower is looked up, and
-    /// the offset told is that of the return address itself.
+    /// the answer has the offset of the return address itself.
     pub callers: bool,
     /// How many bytes lower the listings have what lies at an address.
     pub offset: u64,
@@ -29,7 +29,7 @@ impl AddressRule {
         lower_by(lower_by(addr, self.offset)?, self.before())
     }
 
-    /// How many bytes before the address that is told of the looked up one lies.
+    /// How many bytes the looked up address lies before the one that is answered about.
     pub fn before(self) -> u64
         ensures { result ≡ before_of self }
     {

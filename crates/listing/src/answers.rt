@@ -17,7 +17,7 @@ use texts::Output;
 /// without their places in memory.
 #[derive(Drop)]
 pub struct Answer<'c, 'a> {
-    /// The symbol that the address belongs to, with the offset that is told.
+    /// The symbol that the address belongs to, with the offset of the answer.
     pub found: Option<FoundSymbol<'c, 'a>>,
     /// The name of its module, if that is not the kernel itself.
     pub owner: Option<&'a [u8]>,
@@ -55,7 +55,7 @@ impl Answer<'_, '_> {
     }
 }
 
-/// The same symbol with `bytes` added to its offset.
+/// What was found, with `bytes` added to the offset.
 #[inline(always)]
 pub fn farther<'c, 'a>(found: FoundSymbol<'c, 'a>, bytes: u64) -> FoundSymbol<'c, 'a>
     requires { found.offset + bytes < 2 ^ 64 }

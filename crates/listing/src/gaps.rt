@@ -6,7 +6,7 @@ ghost use Rattle.listing.specs.ModuleListing.{is_gap, runs_of};
 use arrayvec::ArrayVec;
 use memchr::memchr2;
 
-/// Cuts the line at its first blank or tab, and gives what stands after it.
+/// Cuts the line at its first blank or tab, and returns what comes before and after it.
 #[tactic(auto, using(crate::proofs::SymbolLineLemmas::cut_lines))]
 fn cut_at_gap(line: &[u8]) -> (&[u8], Option<&[u8]>)
     ensures cut { MatchOption result.1 (slice_split is_gap line.now ≡ result.0.now ∷ [])

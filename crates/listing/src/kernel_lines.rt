@@ -1,4 +1,5 @@
-//! What the text of a listing of symbols shows, where the kernel lies by it, and its own lines alone.
+//! What the text of a listing of symbols shows, the kernel's base by it, and the kernel's own
+//! lines.
 ghost use Rattle.std.specs.Prelude.{◌≡◌, ◌∷◌, [], IfOk};
 ghost use Rattle.memchr.specs.Find.{IsFirstByte, is_byte};
 ghost use Rattle.texts.specs.Lines.{lines_of};
@@ -39,8 +40,7 @@ fn is_shown(line: &[u8], tab: Option<usize>) -> bool
     symbol_of_line(line, tab).is_ok()
 }
 
-/// The address at which the kernel lies, by the first of its symbols that is called `_text`, or else
-/// `_stext`.
+/// The kernel's base: the address of its first symbol that is called `_text`, or else `_stext`.
 pub fn kernel_base(text: &[u8]) -> Option<u64>
     ensures { result ≡ kernel_base (lines_of text.now) }
 {

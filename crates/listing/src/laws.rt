@@ -16,9 +16,9 @@ use crate::module_listing::SkippedModule;
 use crate::symbol_listing::SkippedSymbol;
 use modules::{ModuleLine, SymbolLine};
 
-/// A text is a listing of regions exactly if each of its lines is in the grammar, and its
-/// regions are then those of its lines, in their order; otherwise the line that is named is the
-/// first one that is not.
+/// A text is a listing of regions exactly if each of its lines is in the grammar, and its regions
+/// are then its lines' regions, in their order; otherwise the line that is named is the first one
+/// that is not.
 #[tactic(auto, using(crate::proofs::RegionLineLemmas::regions_by_lines))]
 pub fn regions_by_their_lines()
     ensures { (text : List ℕ)

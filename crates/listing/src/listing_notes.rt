@@ -1,6 +1,6 @@
 //! Notes on unusable listings, so that a run over one does not look like a success.
 //!
-//! Notes are decided when the catalog is built, mostly from what was counted for it. That of
+//! Notes are decided when the catalog is built, mostly from what was counted for it. The listing of
 //! symbols is gone through again only if none of its lines is kept, if the kernel itself has no
 //! region or if a module is left out.
 ghost use Rattle.std.specs.Prelude.{◌≡◌, find, true};
@@ -28,7 +28,7 @@ use modules::{Catalog, KernelBounds, Module};
 pub enum ListingNote {
     /// There is no byte, and no listing of modules beside it.
     Empty,
-    /// The text is that of a file which gzip made.
+    /// The text is a file that gzip made.
     Gzip,
     /// The text is in UTF-16.
     Utf16,

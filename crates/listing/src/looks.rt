@@ -19,14 +19,14 @@ use memchr::memchr;
 use modules::{KernelBounds, SymbolLine};
 use texts::{cut_line, digit_of};
 
-/// Whether the first two bytes are those of a file that gzip made.
+/// Whether the first two bytes are as in a file that gzip made.
 pub fn is_gzip(text: &[u8]) -> bool
     ensures { result ≡ is_gzip text.now }
 {
     text.starts_with(b"\x1f\x8b")
 }
 
-/// Whether the first two bytes are those of a text in UTF-16.
+/// Whether the first two bytes are as in a text in UTF-16.
 pub fn is_utf_16(text: &[u8]) -> bool
     ensures { result ≡ is_utf_16 text.now }
 {
@@ -101,8 +101,8 @@ fn is_symbol_line(line: &[u8]) -> bool
 /// The most digits that a 32-bit kernel writes of an address.
 const NARROW_DIGITS: usize = 8;
 
-/// Whether a listing of symbols is that of a 32-bit kernel: it has a well-formed line, and none
-/// whose address is written with more than 8 digits. It is read up to the first that is.
+/// Whether a listing of symbols is a 32-bit kernel's: it has a well-formed line, and none whose
+/// address is written with more than 8 digits. It is read up to the first that is.
 pub fn is_narrow(text: &[u8]) -> bool
     ensures { result ≡ is_narrow (lines_of text.now) }
 {

@@ -148,8 +148,8 @@ pub(crate) fn module_in<'a>(line: &'a [u8]) -> Result<ModuleLine<'a>, SkippedMod
 /// has more than [`LONGEST_LINE`](texts::LONGEST_LINE) bytes, else as malformed if it has fewer
 /// than six words, or the second is not 1 to 20 decimal digits of a 64-bit number (the size) or the
 /// sixth not `0x` and 1 to 16 hexadecimal digits (the base), else as hidden if the base is 0, as
-/// empty if the size is 0, and as one that wraps if the region goes past the greatest
-/// address. The names are those of the text.
+/// empty if the size is 0, and as one that wraps if the region goes past the greatest address. The
+/// names are parts of the text.
 pub fn read_modules<'a>(
     alloc: Global,
     text: &'a [u8],

@@ -1,5 +1,5 @@
-//! What notes say that name nothing: the commands and the library for C say the same. The other notes
-//! name a symbol or what to leave out, and each says them in its own words.
+//! The texts of the notes that name nothing, for both the commands and the library for C. The other
+//! notes name a symbol or what to leave out, and each of the two has its own texts for them.
 ghost use Rattle.std.specs.Prelude.{◌≡◌, ◌++◌, ◌∷◌, [], IfSome};
 ghost use Rattle.std.specs.Option.{option_copied};
 ghost use Rattle.listing.specs.NoteTexts.{ended_text, plain_text, without_last};

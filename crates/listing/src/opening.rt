@@ -1,4 +1,4 @@
-//! From listings to the catalog that they say, with how many of their lines went where and what is
+//! From listings to the catalog that they say, with how many of their lines are used and what is
 //! noted of them: the one way in which the commands and the library open listings.
 //!
 //! ```text
@@ -31,11 +31,11 @@ use order_laws::Refusal;
 use std::alloc::Global;
 use texts::LineFault;
 
-/// The listings that are given: the texts of those of modules and of symbols, and the lines of that
-/// of regions.
+/// The listings that are given: the texts of the listings of modules and of symbols, and the lines
+/// of the listing of regions.
 #[derive(Drop)]
 pub struct Listings<'a> {
-    /// The text of the listing of modules; if there is none, the symbols say where modules lie.
+    /// The text of the listing of modules; if there is none, the symbols give the modules' regions.
     pub modules: Option<&'a [u8]>,
     /// The text of the listing of symbols.
     pub kallsyms: &'a [u8],
@@ -47,7 +47,7 @@ pub struct Listings<'a> {
 impl<'a> Listings<'a> {
     ghost use Rattle.listing.specs.Opening.{given, has_regions};
 
-    /// The listings with these texts. Each line of that of regions has to be understood.
+    /// The listings with these texts. Each line of the listing of regions has to be understood.
     pub fn of(
         alloc: Global,
         modules: Option<&'a [u8]>,
@@ -71,7 +71,7 @@ impl<'a> Listings<'a> {
         })
     }
 
-    /// Whether there is a listing of regions beside that of modules.
+    /// Whether there are listings of regions and of modules.
     fn has_regions(&self) -> bool
         ensures { result ≡ has_regions (listed_in self.now) }
     {
@@ -82,22 +82,22 @@ impl<'a> Listings<'a> {
     }
 }
 
-/// A catalog, how many lines of its listings went where, and what is noted of them.
+/// A catalog, how many lines of its listings are used, and what is noted of them.
 #[derive(Drop)]
 pub struct OpenedCatalog<'a> {
     pub catalog: Catalog<'a>,
-    /// How many lines went where.
+    /// How many lines are used, and how many are not, by cause.
     pub built: BuildCounts,
     /// How many lines of the listing of modules were skipped, if there is one.
     pub skipped_modules: Option<ModuleCounts>,
     /// How many lines of the listing of symbols were skipped.
     pub skipped_symbols: SymbolCounts,
-    /// Whether there is a listing of regions beside that of modules.
+    /// Whether there are listings of regions and of modules.
     pub has_regions: bool,
     /// There is a well-formed line of a listing of modules, and all of them are hidden.
     pub modules_hidden: bool,
-    /// The owner of the first symbol that may be kept and is of what no listing of modules has, if
-    /// there is such a listing.
+    /// The owner of the first symbol that may be kept and whose owner the listing of modules lacks,
+    /// if there is such a listing.
     pub unlisted: Option<Owner>,
     /// There is a well-formed line of the listing of symbols, and all of them are hidden.
     pub symbols_hidden: bool,
@@ -107,7 +107,7 @@ pub struct OpenedCatalog<'a> {
     pub notes: ListingNotes,
 }
 
-/// A catalog, and what is known of the listing of modules beside that of symbols.
+/// A catalog, and what is known of the listing of modules, if there is one.
 #[derive(Drop)]
 struct BuiltCatalog<'a> {
     catalog: Catalog<'a>,
@@ -118,7 +118,7 @@ struct BuiltCatalog<'a> {
     note: Option<ListingNote>,
 }
 
-/// The region lines, of which there are none without a listing of them.
+/// The region lines; none without a listing of them.
 fn lines_in<'i, 'a>(listings: &'i Listings<'a>) -> &'i [RegionLine<'a>]
     ensures { result.now ≡ unwrap_or (listed_in listings.now).regions [] }
 {
@@ -128,8 +128,8 @@ fn lines_in<'i, 'a>(listings: &'i Listings<'a>) -> &'i [RegionLine<'a>]
     }
 }
 
-/// Builds the catalog that the listings say, of whose symbols these may be kept, with mapping symbols
-/// or without.
+/// Builds the catalog that the listings say, of whose symbols these may be kept, with mapping
+/// symbols or without.
 fn build<'a>(
     alloc: Global,
     listings: &Listings<'a>,

@@ -1,7 +1,7 @@
 //! Names that symbols have in the place of a module's, and that no listing of modules has.
 //!
-//! The kernel makes code as it runs, and lists it under names that are no modules': programs of BPF,
-//! and the pages of ftrace and of kprobes.
+//! The kernel makes code as it runs, and lists it under names that are no modules': programs of
+//! BPF, and the pages of ftrace and of kprobes.
 //!
 //! ```text
 //! ffffffffc0500000 t bpf_prog_6deef7357e7b4530<tab>[bpf]
@@ -91,8 +91,8 @@ impl<'t> NameTest for Unlisted<'t> {
     }
 }
 
-/// The owner of the first of the symbols that has such a name, and one that no module has which this
-/// text lists.
+/// The owner of the first of the symbols that has such a name, and one that no module has in this
+/// text.
 pub(crate) fn unlisted_owner(modules: &[u8], symbols: &SymbolLines) -> Option<Owner>
     ensures { result ≡ unlisted_owner (modules_in (lines_of modules.now)) symbols.now }
 {

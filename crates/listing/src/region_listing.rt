@@ -96,7 +96,7 @@ impl<'a> Form<'a> for RegionForm {
 /// than 0 (as [`number`] reads them) with a sum of at most the greatest `u64`. No line has more
 /// than [`LONGEST_LINE`](texts::LONGEST_LINE) bytes. Any other line is [`LineFault::BadLine`], the
 /// first of them, and a text of no bytes has a bad line 1. No reader is asked here, so that
-/// [`LineFault::Read`] is never returned. The names are those of the text.
+/// [`LineFault::Read`] is never returned. The names are parts of the text.
 pub fn read_regions<'a>(alloc: Global, text: &'a [u8]) -> Result<Vec<RegionLine<'a>>, LineFault>
     ensures regions { GivesInGrammar (λ regions. regions.items) result (regions_of_text text.now) }
     ensures fit { IfOk result (λ regions. All (λ r. region_fits r ≡ true) regions.items) }

@@ -76,8 +76,8 @@ impl Cause<3> for SkippedSymbol {
 /// How many lines of a listing of symbols were skipped, by cause.
 pub type SymbolCounts = Counts<SkippedSymbol, 3>;
 
-/// Where the first line has its first tab, and where it ends, each if it does. Both are sought at
-/// once, since a search pays off in a long text, and most lines have no tab.
+/// The places of the first line's first tab and of its end, each if there is one. Both are sought
+/// at once, since a search pays off in a long text, and most lines have no tab.
 #[inline(always)]
 fn tab_and_end(bytes: &[u8]) -> (Option<usize>, Option<usize>)
     ensures tab { IsFirst (Passes (is_byte 9) bytes.now) 0
@@ -96,7 +96,7 @@ fn tab_and_end(bytes: &[u8]) -> (Option<usize>, Option<usize>)
     }
 }
 
-/// Cuts off the first line of the bytes. The place is that of the line's first tab, if it has one.
+/// Cuts off the first line of the bytes. The place is its first tab's, if it has one.
 #[tactic(auto, using(crate::proofs::SymbolLineLemmas::cut_lines))]
 #[inline(always)]
 pub fn cut_tabbed_line(bytes: &[u8]) -> (&[u8], Option<usize>, &[u8])
@@ -205,8 +205,8 @@ pub fn symbol_of_line<'a>(
     }
 }
 
-/// The module of a line whose first tab is at this place, or none if it is one of the kernel itself;
-/// of a line that is well formed, with its address shown or hidden.
+/// The module of a line whose first tab is at this place, or none if it is a line of the kernel
+/// itself; of a line that is well formed, with its address shown or hidden.
 pub fn module_of_line<'a>(line: &'a [u8], tab: Option<usize>) -> Option<Option<&'a [u8]>>
     requires { IsFirstByte (is_byte 9) line.now tab }
     ensures { option_map (λ m. option_copied m) result ≡ owner_in_line line.now }
@@ -229,7 +229,7 @@ pub struct ListedSymbols<'a> {
     pub skipped: SymbolCounts,
 }
 
-/// Whether a name is that of a mapping symbol, which marks code or data within a function: the
+/// Whether a name is a mapping symbol's, which marks code or data within a function: the
 /// listings of arm64, arm and riscv are full of them, and the kernel never answers with one.
 pub fn is_mapping(name: &[u8]) -> bool
     ensures { result ≡ is_mapping name.now }
@@ -259,7 +259,7 @@ fn put_symbol<'a>(
 /// A line is 1 to 16 hexadecimal digits, a blank, a letter, a blank and a name, and if the
 /// symbol is one of a module, a tab and the module's name in brackets. A line is skipped as long
 /// if it has more than [`LONGEST_LINE`](texts::LONGEST_LINE) bytes, else as malformed if it
-/// is not of that form, else as hidden if its address is 0. The names are those of the text.
+/// is not of that form, else as hidden if its address is 0. The names are parts of the text.
 pub fn read_kallsyms<'a>(
     alloc: Global,
     text: &'a [u8],

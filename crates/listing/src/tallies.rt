@@ -1,4 +1,5 @@
-//! Where the lines of listings went, as rows of names and counts, and their lines of text.
+//! How many lines of listings are used and how many are not, as rows of names and counts, and as
+//! text.
 
 ghost use Rattle.std.specs.Prelude.{◌≡◌, ◌+◌, ◌≤◌, ◌<◌, ◌∷◌, ◌++◌, [], flat_map, length};
 ghost use Rattle.texts.specs.Output.{Says};
@@ -28,7 +29,7 @@ const DOUBLE: &str = "double";
 
 const STRAY: &str = "stray";
 
-/// The most rows of a tally: those of a listing of modules.
+/// The most rows of a tally, which a listing of modules has.
 const MOST_ROWS: usize = 7;
 
 /// How many lines went somewhere, or how many regions were found.
@@ -46,14 +47,14 @@ impl Model for Row {
     ghost view = { λ r. (r.name.now, r.count) };
 }
 
-/// Where the lines of a listing went.
+/// How many lines of a listing are used, and how many are not, by cause.
 #[derive(Drop)]
 pub struct LineTally {
     /// What is listed.
     pub title: &'static str,
     /// How many are kept.
     pub kept: u64,
-    /// What else is counted, in the order in which it is told.
+    /// What else is counted, in the order in which it is written.
     pub rows: ArrayVec<Row, MOST_ROWS>,
 }
 
@@ -100,7 +101,7 @@ impl LineTally {
     }
 }
 
-/// Where the lines of all listings went.
+/// How many lines of all listings are used, and how many are not, by cause.
 #[derive(Drop)]
 pub struct LineTallies {
     pub modules: LineTally,
@@ -124,8 +125,8 @@ impl Model for LineTallies {
 impl OpenedCatalog<'_> {
     ghost use Rattle.listing.specs.Tallies.{tallies_of};
 
-    /// Where the lines of the listings went; of symbols alone, how many modules and regions they
-    /// say.
+    /// How many lines of the listings are used, and how many are not, by cause; of symbols alone,
+    /// how many modules and regions they say.
     pub fn tallies(&self) -> LineTallies
         ensures { result ≡ tallies_of self.now }
     {
@@ -145,7 +146,7 @@ impl OpenedCatalog<'_> {
 }
 
 /// Of a listing of modules: the accepted ones, and the others by the cause for which they were
-/// skipped. Causes of a line's content come before those of its form, the first of which is that
+/// skipped. Causes in a line's content come before causes in its form; the first of these is that
 /// it is long.
 fn modules_tally(skipped: &ModuleCounts, built: &BuildCounts) -> LineTally
     ensures { result ≡ modules_tally skipped.now.by_place built.now }

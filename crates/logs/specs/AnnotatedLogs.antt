@@ -93,7 +93,7 @@ is_address_byte b = is_digit b 16 || digit_value b == 33
 abbrev pub is_begun : List ℕ → ℕ → ℕ → Bool
 is_begun line from start = nat_lt from start && is_word_byte (slice_index_or line (start - 1) 0)
 
--- these words of a line have the same addresses
+-- the two lists of words of a line have equal addresses
 abbrev pub SameAddresses : Bool → List ℕ → List Word → List Word → Type 0
 SameAddresses narrow line words words' =
     (held : LogContext) (last : Option AddressWord)

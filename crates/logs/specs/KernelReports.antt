@@ -95,7 +95,7 @@ reported answer line r =
 abbrev pub Lacks : List ℕ → List ℕ → Type 0
 Lacks bytes text = (k : ℕ) → OccursAt bytes text k → ⊥
 
--- No text in the bytes may be the size of a function, or where the kernel lay.
+-- No text in the bytes may be the size of a function, or the place of the kernel.
 abbrev pub SaysNothing : List ℕ → Type 0
 SaysNothing bytes = Lacks bytes (codes "/0x") × Lacks bytes OFFSET.now
 

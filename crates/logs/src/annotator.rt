@@ -60,8 +60,8 @@ impl Annotator {
     }
 
     /// Takes a block in, and writes each line that has its end now, named by these answers. The
-    /// writer is flushed. What lines say of their kernel is not sought in a block that is known to be
-    /// silent on it.
+    /// writer is flushed. What lines say of their kernel is not sought in a block that is known to
+    /// be silent on it.
     pub fn pass<A: Answers, W: Write>(
         &mut self,
         alloc: Global,
@@ -107,7 +107,8 @@ impl Annotator {
     }
 
     /// Takes a block in, and writes each line that has its end now, which nothing names. The writer
-    /// is flushed. What the lines say for later ones is carried on, but nothing is counted of names.
+    /// is flushed. What the lines say for later ones is carried on, but nothing is counted of
+    /// names.
     pub fn pass_unnamed<W: Write>(
         &mut self,
         alloc: Global,

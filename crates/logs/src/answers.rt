@@ -15,8 +15,8 @@ pub trait Answers {
     fn is_narrow(&self) -> bool
         ensures { result ≡ (answering self.now).is_narrow };
 
-    /// Prepares what bytes of a log may ask for, unless they say nothing of the kernel that wrote it.
-    /// No answer changes.
+    /// Prepares what bytes of a log may ask for, unless they say nothing of the kernel that wrote
+    /// it. No answer changes.
     fn prepare(&mut self, is_silent: bool) -> Result<(), AllocError>
         ensures { answering self.new ≡ answering self.old };
 

@@ -1,6 +1,6 @@
 //! What a log says itself of the place of its kernel.
 //!
-//! A kernel that was moved at boot prints in a panic how far it was moved, and from where:
+//! A kernel that was moved at boot prints in a panic how far it was moved, and from what address:
 //!
 //! ```text
 //! Kernel Offset: 0x1a600000 from 0xffffffff81000000 (relocation range: ...)

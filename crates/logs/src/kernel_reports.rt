@@ -192,8 +192,8 @@ impl KernelReport {
     }
 }
 
-/// Whether it is plain that no line of these bytes says where its kernel lay or how long a function
-/// is.
+/// Whether it is plain that no line of these bytes says the place of its kernel or the length of a
+/// function.
 pub fn says_nothing(bytes: &[u8]) -> bool
     ensures { IsTrue result → SaysNothing bytes.now }
 {

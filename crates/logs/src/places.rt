@@ -146,7 +146,7 @@ pub(crate) fn end_of(kind: Kind, bytes: &[u8]) -> &[u8]
     &bytes[bytes.len() - last_of(kind, bytes)..]
 }
 
-/// The bytes without those of a kind that they end in, and these.
+/// The bytes up to the ones of a kind that they end in, and these.
 fn cut_end(kind: Kind, bytes: &[u8]) -> (&[u8], &[u8])
     ensures front { result.0.now ≡ without_end kind bytes.now }
     ensures end { result.1.now ≡ end_of kind bytes.now }

@@ -19,7 +19,7 @@ pub record Accepted : Type 0 where
 abbrev pub names_of : List PlacedModule → List (List ℕ)
 names_of modules = map (λ m. m.name) modules
 
--- the regions that are taken: those of the kernel itself, and those of the accepted modules
+-- the regions that are taken: the regions of the kernel itself, and of the accepted modules
 abbrev pub taken_regions : Accepted → List (ℕ × ℕ)
 taken_regions a = a.built_in ++ flat_map (λ m. m.regions) a.modules
 

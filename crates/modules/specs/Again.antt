@@ -1,4 +1,4 @@
--- For which addresses the same is found as was found last, and what a finder keeps.
+-- The addresses that belong to the symbol that was found last, and what a finder keeps.
 use Rattle.std.specs.Prelude.{◌≡◌, ℕ, ◌-◌, ◌<◌, ◌≤◌, IfSome, Some}
 use Rattle.order_laws.specs.declared.items.Item.{Item}
 use Rattle.modules.specs.Catalogs.{module_of}

@@ -11,7 +11,7 @@ abbrev pub kernel_at : List (ℕ × ℕ) → PlacedModule
 kernel_at regions =
     record { name = codes "-"; regions = regions; parts = map (λ _. Core) regions }
 
--- a module where it lies, with these symbols
+-- a placed module with these symbols
 abbrev pub module_with : PlacedModule → List SymbolEntry → ModuleEntry
 module_with m symbols = record {
   name = m.name;
@@ -24,7 +24,7 @@ module_with m symbols = record {
 abbrev pub placed_module_of : ModuleEntry → PlacedModule
 placed_module_of m = record { name = m.name; regions = m.regions; parts = m.parts }
 
--- the kernel itself with these symbols, where it has regions
+-- the kernel itself with these symbols, if it has regions
 abbrev pub built_in_with : List (ℕ × ℕ) → List SymbolEntry → Option ModuleEntry
 built_in_with [] symbols = None
 built_in_with (r ∷ rs) symbols = Some (module_with (kernel_at (r ∷ rs)) symbols)

@@ -6,7 +6,7 @@ use Rattle.std.specs.List.Sorted.{IsSortedBy}
 use Rattle.std.specs.Ordering.{nat_cmp, is_lt}
 use Rattle.std.specs.Str.{bytes_eq}
 
--- the name of the one is less than that of the other
+-- the name of the first is less than the name of the second
 abbrev pub comes_first : {X : Type 0} → (X → List ℕ) → X → X → Bool
 comes_first name x y = is_lt (slice_cmp nat_cmp (name x) (name y))
 

@@ -27,7 +27,7 @@ built_in_of built_in symbols = built_in_with built_in (symbols_that (is_built_in
 abbrev pub entry_for : List ListedSymbol → PlacedModule → ModuleEntry
 entry_for symbols m = module_with m (symbols_that (belongs m) symbols)
 
--- the kernel itself where it has regions, and the accepted modules
+-- the kernel itself if it has regions, and the accepted modules
 abbrev pub catalog_with : Accepted → List ListedSymbol → CatalogEntries
 catalog_with a symbols = record {
   built_in = built_in_of a.built_in symbols;
@@ -40,7 +40,7 @@ abbrev pub catalog_of : Option BoundNames → List ListedModule → List ListedR
 catalog_of names modules regions symbols =
     catalog_with (accepted_of (kernel_regions names symbols) regions modules) symbols
 
--- how many lines went where
+-- how many lines are used, and how many are not, by cause
 abbrev pub counts_with : Accepted → List ListedRegion → List ListedSymbol → BuildCounts
 counts_with a regions symbols = record {
   modules = length a.modules;
@@ -57,7 +57,7 @@ abbrev pub counts_of : Option BoundNames → List ListedModule → List ListedRe
 counts_of names modules regions symbols =
     counts_with (accepted_of (kernel_regions names symbols) regions modules) regions symbols
 
--- how many modules, how many regions these have, and how many lines of symbols went where
+-- how many modules, how many regions these have, and how many symbols are kept and how many stray
 abbrev pub kept_counts : Accepted → List ListedSymbol → BuildCounts
 kept_counts a symbols = record {
   modules = length a.modules;
@@ -69,11 +69,11 @@ kept_counts a symbols = record {
   stray = count_by (λ s. not (is_kept a s)) symbols;
 }
 
--- the counts where so many symbols are listed: those that are not kept are stray
+-- the counts if `listed` symbols are listed: the symbols that are not kept are stray
 abbrev pub build_of_listed : ℕ → BuildCounts → BuildCounts
 build_of_listed listed b = record b { stray = listed - b.symbols }
 
--- the kernel itself where it has regions, and then the modules
+-- the kernel itself if it has regions, and then the modules
 abbrev pub entries_of : CatalogEntries → List ModuleEntry
 entries_of c = option_to_list c.built_in ++ c.modules
 
@@ -104,11 +104,11 @@ module_number_of c name =
     if bytes_eq name (codes "-") then option_map (λ _. 0) c.built_in
     else option_map (λ place. place + 1) (position_from (bytes_eq name) 0 (names_in c.modules))
 
--- the number that stands for a module which a catalog lacks
+-- the number of a module that a catalog lacks
 abbrev pub absent_module : ℕ
 absent_module = 4294967295
 
--- the number of the module of this name, or that of an absent one
+-- the number of the module of this name, or the number of an absent one
 abbrev pub number_for : CatalogEntries → List ℕ → ℕ
 number_for c name = unwrap_or (module_number_of c name) absent_module
 

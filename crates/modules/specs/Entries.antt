@@ -16,7 +16,7 @@ pub record ModuleEntry : Type 0 where
   pub parts : List Part
   pub symbols : List SymbolEntry
 
--- the kernel itself, where it has regions, and the modules from number 1 on
+-- the kernel itself, if it has regions, and the modules from number 1 on
 pub record CatalogEntries : Type 0 where
   pub built_in : Option ModuleEntry
   pub modules : List ModuleEntry

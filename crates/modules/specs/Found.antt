@@ -38,7 +38,7 @@ symbol_at c item addr =
     (λ m. found_in (symbols_from m.symbols item.a item.b) item.b addr)
     (module_of c item.tag)
 
--- the symbol reaches to the least address of a symbol above its own, or to the region's end where
+-- the symbol reaches to the least address of a symbol above its own, or to the region's end if
 -- there is none
 abbrev pub ReachesUpTo : List SymbolEntry → ℕ → SymbolEntry → ℕ → Type 0
 ReachesUpTo symbols end s size =

@@ -1,4 +1,4 @@
--- Symbols that are put where they are kept.
+-- Symbols in the lists of the modules that keep them.
 use Rattle.std.specs.Prelude.{◌≡◌, ◌≢◌, ℕ, ◌<◌, false, Bool, List, ◌++◌, length}
 use Rattle.std.specs.Prelude.{filter, slice_index_or, slice_get, Option, Some, None}
 use Rattle.std.specs.Vec.{vec_len}

@@ -10,7 +10,7 @@ use Rattle.modules.specs.Placed.{lines_named}
 abbrev pub lines_at : List (Bor ListedRegion) → List ListedRegion
 lines_at index = map (λ l. l.now) index
 
--- the lines in the order of their names, those of one name as they were listed
+-- the lines in the order of their names, and the lines of one name as they were listed
 pub record IsGrouped (regions : List ListedRegion) (index : List (Bor ListedRegion)) : Type 0 where
   pub sorted : IsSortedBy (comes_first (λ l. l.now.name)) index
   pub listed : (name : List ℕ) → lines_named name (lines_at index) ≡ lines_named name regions

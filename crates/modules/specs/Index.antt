@@ -27,7 +27,7 @@ pub record IsSplitBy {A : Type 0} (measure : A → ℕ) (xs : List A) (addr plac
   pub below : (k : ℕ) (d : A) → k < place → measure (slice_index_or xs k d) ≤ addr
   pub above : (k : ℕ) (d : A) → place ≤ k → k < length xs → addr < measure (slice_index_or xs k d)
 
--- what stands before the place is by its measure not above the address, and what stands at it is
+-- by its measure, the entry before the place is not above the address, and the entry at it is
 pub record IsBorder {A : Type 0} (measure : A → ℕ) (xs : List A) (addr place : ℕ) : Type 0 where
   pub bound : place ≤ length xs
   pub below : (d : A) → 0 < place → measure (slice_index_or xs (place - 1) d) ≤ addr
@@ -37,7 +37,7 @@ pub record IsBorder {A : Type 0} (measure : A → ℕ) (xs : List A) (addr place
 abbrev pub IsSplit : List IndexEntry → ℕ → ℕ → Type 0
 IsSplit index addr place = IsSplitBy (λ e. e.addr) index addr place
 
--- the symbols stand by rising address
+-- the symbols are listed by rising address
 abbrev pub IsRising : List SymbolEntry → Type 0
 IsRising symbols = IsNonDecreasingBy (λ s. s.addr) symbols
 
@@ -48,14 +48,14 @@ pub record IsFirstOf (symbols : List SymbolEntry) (addr place : ℕ) : Type 0 wh
   pub others : (k : ℕ) (d : SymbolEntry) → place ≤ k → k < length symbols
       → addr ≤ (slice_index_or symbols k d).addr
 
--- what stands before the place is by its measure below the address, and what stands at it is not
+-- by its measure, the entry before the place is below the address, and the entry at it is not
 pub record IsFirstBorder {A : Type 0} (measure : A → ℕ) (xs : List A) (addr place : ℕ)
     : Type 0 where
   pub bound : place ≤ length xs
   pub below : (d : A) → 0 < place → measure (slice_index_or xs (place - 1) d) < addr
   pub others : (d : A) → place < length xs → addr ≤ measure (slice_index_or xs place d)
 
--- the symbol that an entry of their index stands for
+-- the symbol of an entry of their index
 abbrev pub symbol_of_entry : List SymbolEntry → IndexEntry → SymbolEntry
 symbol_of_entry symbols e =
     slice_index_or symbols e.place (record { addr = e.addr; letter = 0; name = [] })
@@ -66,7 +66,7 @@ pub record IsOrdered (symbols ordered : List SymbolEntry) : Type 0 where
   pub is : IsIndex symbols index
   pub each : ordered ≡ map (symbol_of_entry symbols) index
 
--- where there is a copy of the symbols in order, it is theirs
+-- if there is a copy of the symbols in order, it is theirs
 abbrev pub HasOrdered : List SymbolEntry → Option (Vec SymbolEntry) → Type 0
 HasOrdered symbols by_address =
     (v : Vec SymbolEntry) → by_address ≡ Some v → IsOrdered symbols v.items

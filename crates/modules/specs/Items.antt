@@ -17,7 +17,7 @@ items_at c number = option_map_or (λ m. map (item_of number) m.regions) (module
 abbrev pub items_below : CatalogEntries → ℕ → List Item
 items_below c number = flat_map (items_at c) (range_with_len 0 number)
 
--- the items of all regions, those of the kernel itself first
+-- the items of all regions, first the items of the kernel itself
 abbrev pub items_of : CatalogEntries → List Item
 items_of c = items_below c (length c.modules + 1)
 

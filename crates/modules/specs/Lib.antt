@@ -5,11 +5,11 @@ pub mod Listed
 pub mod SymbolTexts
 -- the parts of a module
 pub mod Parts
--- what the lines of the listings stand for
+-- what the lines of the listings say
 pub mod Lines
 -- regions of addresses, from a first address up to an end that is excluded
 pub mod Regions
--- where the modules of the listing lie
+-- the regions of the modules of the listing
 pub mod Placed
 -- which lines of the listing of modules are accepted
 pub mod Accepted
@@ -33,20 +33,20 @@ pub mod Found
 pub mod Owners
 -- the modules of such a listing, and their regions
 pub mod FromSymbols
--- where the regions of a module begin, by their parts
+-- the first addresses of a module's regions, by their parts
 pub mod Starts
 -- what a load, an unload, and the end of a module's start change
 pub mod Loads
 -- which of several catalogs is current at a time
 pub mod LastBegun
--- an item for each region of a catalog, and that of an address
+-- an item for each region of a catalog, and the item of an address
 pub mod Items
 -- from a name to the symbols of all modules that have it
 pub mod SymbolNames
 -- From here on how the crate keeps all this: no public clause cites it.
--- marks, and the regions that they stand for
+-- marks, and the regions that they make
 pub mod Marks
--- modules whose regions are those of marks
+-- modules whose regions marks make
 pub mod MarkedModules
 -- the marks of the lines of a listing, by the numbers of their modules
 pub mod LineMarks
@@ -60,9 +60,9 @@ pub mod ByName
 pub mod Grouped
 -- modules in their regions
 pub mod PlacedModules
--- what the lines accepted so far stand for
+-- which modules are accepted so far
 pub mod Admissions
--- symbols that are put where they are kept
+-- symbols in the lists of the modules that keep them
 pub mod Gathering
 -- symbols by rising address
 pub mod Index
@@ -72,5 +72,5 @@ pub mod Modules
 pub mod Sound
 -- the items of all regions by rising first address, and the catalog that has them
 pub mod RegionIndexes
--- for which addresses the same is found, and what a finder keeps
+-- the addresses of the symbol that was found last, and what a finder keeps
 pub mod Again

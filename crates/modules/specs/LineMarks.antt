@@ -18,7 +18,7 @@ use Rattle.modules.specs.Placed.{PlacedModule}
 use Rattle.modules.specs.Regions.{lies_in_any}
 use Rattle.modules.specs.declared.marks.Mark.{Mark}
 
--- the number of a name, from 1 on by its first place; 0 where it is not among the names
+-- the number of a name, from 1 on by its first place; 0 if it is not among the names
 abbrev pub number_in : List (List ℕ) → List ℕ → ℕ
 number_in names name = option_map_or suc (position_from (bytes_eq name) 0 names) 0
 
@@ -38,11 +38,11 @@ mark_of names l = record { addr = l.addr; owner = number_for names l.owner }
 abbrev pub kernel_marks : List (ℕ × ℕ) → List Mark
 kernel_marks kernel = map (λ r. record { addr = r.0; owner = 0 }) kernel
 
--- those of the lines of modules outside its regions
+-- the marks of the lines of modules outside the kernel's regions
 abbrev pub line_marks : List (ℕ × ℕ) → List (List ℕ) → List ListedSymbol → List Mark
 line_marks kernel names lines = map (mark_of names) (filter (is_outside kernel) lines)
 
--- first those of the kernel itself
+-- all marks, first the marks of the kernel itself
 abbrev pub marks_of : List (ℕ × ℕ) → List (List ℕ) → List ListedSymbol → List Mark
 marks_of kernel names lines = kernel_marks kernel ++ line_marks kernel names lines
 
@@ -86,7 +86,7 @@ abbrev pub kept_numbers : List Item → List Mark → List ℕ
 kept_numbers items marks =
     fold with_number [] (map (λ m. m.owner) (filter (is_kept_mark items) marks))
 
--- a list for each number below this one: empty where the number is among those taken, and else with
+-- a list for each number below this one: empty if the number is among the taken ones, and else with
 -- the ranges of its items
 abbrev pub AreLeft : ℕ → List Item → List ℕ → List (Vec (ℕ × ℕ)) → Type 0
 AreLeft count items taken lists =

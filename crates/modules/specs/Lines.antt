@@ -1,4 +1,4 @@
--- What the lines of the listings stand for.
+-- What the lines of the listings say.
 use Rattle.std.specs.Prelude.{ℕ, ◌+◌, ◌^◌, Bool, false, not, ◌&&◌, nat_lt, nat_eq, is_none, is_some}
 use Rattle.std.specs.Prelude.{if◌then◌else◌, List, [], ◌∷◌, ◌++◌, find, Option, Some, None, codes}
 use Rattle.std.specs.List.{list_all}
@@ -11,11 +11,11 @@ use Rattle.modules.specs.Regions.{is_apart}
 abbrev pub is_region : ℕ → ℕ → Bool
 is_region base size = not (nat_eq base 0) && not (nat_eq size 0) && nat_lt (base + size) (2 ^ 64)
 
--- the line of a module stands for a region
+-- the line of a module has a region
 abbrev pub fits : ListedModule → Bool
 fits l = is_region l.base l.size
 
--- the line of a region stands for one
+-- the line of a region has one
 abbrev pub region_fits : ListedRegion → Bool
 region_fits l = is_region l.base l.size
 
@@ -36,7 +36,7 @@ abbrev pub first_owner : (List ℕ → Bool) → List ListedSymbol → Option (L
 first_owner passes lines =
     option_and_then (λ l. l.owner) (find (λ l. option_map_or passes l.owner false) lines)
 
--- from the first symbol of the one name up to the first of the other, where both are there in this
+-- from the first symbol of the one name up to the first of the other, if both are there in this
 -- order
 abbrev pub built_in_region : BoundNames → List ListedSymbol → Option (ℕ × ℕ)
 built_in_region names lines =
@@ -57,13 +57,13 @@ text_bounds = record { start = codes "_stext"; end = codes "_etext" }
 abbrev pub start_bounds : BoundNames
 start_bounds = record { start = codes "_sinittext"; end = codes "_einittext" }
 
--- the regions with this one after them, where it is there and apart from them
+-- the regions with this one after them, if it is there and apart from them
 abbrev pub with_apart : List (ℕ × ℕ) → Option (ℕ × ℕ) → List (ℕ × ℕ)
 with_apart regions None = regions
 with_apart regions (Some r) =
     if list_all (is_apart r) regions then regions ++ r ∷ [] else regions
 
--- the regions of the kernel's code, as the kernel itself takes them where its listing has no end
+-- the regions of the kernel's code, as the kernel itself takes them if its listing has no end
 abbrev pub code_regions : List ListedSymbol → List (ℕ × ℕ)
 code_regions lines =
     with_apart (with_apart [] (built_in_region text_bounds lines))
@@ -81,7 +81,7 @@ abbrev pub usual_end : List ListedSymbol → List ℕ
 usual_end lines =
     if is_some (first_address (codes "_end") lines) then codes "_end" else codes "_etext"
 
--- the names that are noted where a listing has no symbol of one of them
+-- the names that are noted if a listing has no symbol of one of them
 abbrev pub usual_bounds_of : List ListedSymbol → BoundNames
 usual_bounds_of lines = record { start = codes "_stext"; end = usual_end lines }
 

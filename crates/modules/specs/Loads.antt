@@ -26,7 +26,7 @@ update_of (a ∷ []) [] = Erase a
 update_of (a ∷ []) (i ∷ rest) = Batch (a ∷ []) (i ∷ rest)
 update_of (a ∷ b ∷ rest) items = Batch (a ∷ b ∷ rest) items
 
--- what a list has where it has just one thing
+-- the entry of a list that has just one
 abbrev pub only_of : {A : Type 0} → List A → Option A
 only_of [] = None
 only_of (x ∷ []) = Some x
@@ -41,7 +41,7 @@ abbrev pub load_update : ℕ → Held → ModuleEntry → Result Update Refusal
 load_update number held m =
     if held.core then Err AlreadyLoaded else Ok (update_of [] (map (item_of number) m.regions))
 
--- of a module that is held the core regions are taken out, and the init regions where they are held
+-- of a module that is held the core regions are taken out, and the init regions if they are held
 abbrev pub unload_update : Held → ModuleEntry → Result Update Refusal
 unload_update held m =
     if held.core then Ok (update_of (starts_of true held.init m.regions m.parts) [])
@@ -89,11 +89,11 @@ abbrev pub has_no_items : {A : Type 0} → List A → Bool
 has_no_items [] = true
 has_no_items (x ∷ xs) = false
 
--- the item is that of the region
+-- the item is the region's, with this number
 abbrev pub is_item_of : ℕ → ℕ × ℕ → Item → Bool
 is_item_of number r i = nat_eq i.a r.0 && nat_eq i.b r.1 && nat_eq i.tag number
 
--- the items are those of the regions
+-- the items are the regions', in order, with this number
 abbrev pub same_items : ℕ → List (ℕ × ℕ) → List Item → Bool
 same_items number [] items = has_no_items items
 same_items number (r ∷ rs) [] = false

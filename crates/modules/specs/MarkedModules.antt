@@ -1,4 +1,4 @@
--- Modules whose regions are those of marks.
+-- Modules whose regions marks make.
 use Rattle.std.specs.Prelude.{◌≡◌, ℕ, ◌-◌, ◌<◌, ◌^◌, ◌↔◌, nat_eq, List, map, filter, Some}
 use Rattle.order_laws.specs.declared.items.Item.{Item}
 use Rattle.modules.specs.Listed.{ListedSymbol}
@@ -17,7 +17,7 @@ abbrev pub numbered_module : ℕ → List ℕ → List Item → PlacedModule
 numbered_module n name items =
     record { name = name; regions = ranges_of n items; parts = map (λ _. Core) (ranges_of n items) }
 
--- the marks of the number stand for the lines of the module of this name
+-- the marks give this number the addresses that the lines give the module of this name
 abbrev pub StandsFor : List Mark → List ListedSymbol → ℕ → List ℕ → Type 0
 StandsFor marks lines n name =
     (addr : ℕ) → addr < 2 ^ 64 - 1

@@ -1,4 +1,4 @@
--- Marks, and the regions that they stand for.
+-- Marks, and the regions that they make.
 use Rattle.std.specs.Prelude.{◌≡◌, ◌≢◌, ℕ, ◌+◌, ◌-◌, ◌<◌, ◌≤◌, ◌^◌, ◌⊎◌, ◌↔◌, All, Contains, List}
 use Rattle.std.specs.Prelude.{length, slice_index_or, true}
 use Rattle.std.specs.List.{AllPairs}
@@ -32,8 +32,8 @@ pub record GoesOn (marks : List Mark) (addr : ℕ) (m : Mark) : Type 0 where
   pub its : mark.owner ≡ m.owner
   pub near : mark.addr < m.addr + reach
 
--- the address is that of the owner of the nearest mark, in whose page it lies or which goes on, and
--- this owner is not the kernel itself
+-- the address is this owner's, which is not the kernel itself: the nearest mark is the owner's, and
+-- the address lies in the page of the mark, or the mark goes on
 pub record Owns (marks : List Mark) (owner addr : ℕ) : Type 0 where
   pub mark : Mark
   pub nearest : IsNearestMark marks addr mark
@@ -41,7 +41,7 @@ pub record Owns (marks : List Mark) (owner addr : ℕ) : Type 0 where
   pub reached : (is_in_page mark.addr addr ≡ true) ⊎ GoesOn marks addr mark
   pub some : owner ≢ 0
 
--- the first ends before the second begins, or where it begins if they are of two owners
+-- the first ends before the second begins, or just there if they are of two owners
 pub record Follows (i j : Item) : Type 0 where
   pub apart : i.b ≤ j.a
   pub longest : i.b ≡ j.a → i.tag ≢ j.tag

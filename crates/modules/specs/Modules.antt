@@ -14,7 +14,7 @@ module_view m = record {
   symbols = m.symbols.items;
 }
 
--- it has regions of its core, its symbols rise where it says so, and a copy in order is theirs
+-- it has regions of its core, its symbols rise if it says so, and a copy in order is theirs
 pub record IsWholeModule (m : Inside) : Type 0 where
   pub placed : IsPlaced (placed_module_of (module_view m))
   pub rising : m.rising ≡ true → IsRising m.symbols.items

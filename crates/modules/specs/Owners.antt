@@ -55,7 +55,7 @@ goes_on lines addr l =
     option_map_or (λ t. is_of_one_module l t && nat_lt t.addr (l.addr + reach))
     (post_above lines addr) false
 
--- the name of the module whose address it is; none where it is the kernel's own or nobody's: the
+-- the name of the module whose address it is; none if it is the kernel's own or nobody's: the
 -- module of the post below has the page of its post, and what lies between two posts of its own
 abbrev pub module_of_address : List ListedSymbol → ℕ → Option (List ℕ)
 module_of_address lines addr =

@@ -1,4 +1,4 @@
--- Where the modules of the listing lie.
+-- The regions of the modules of the listing.
 use Rattle.std.specs.Prelude.{◌≡◌, ℕ, ◌<◌, Bool, true, All, List, [], ◌∷◌, length, map, filter}
 use Rattle.std.specs.Prelude.{nat_le, if◌then◌else◌}
 use Rattle.std.specs.List.{list_any, list_all}
@@ -27,12 +27,12 @@ has_core lines = list_any (λ r. is_core r.part) lines
 abbrev pub are_few : List ListedRegion → Bool
 are_few regions = list_all (λ r. nat_le (length (lines_named r.name regions)) 7) regions
 
--- a module that lies where its own line says
+-- a module in the region of its own line
 abbrev pub placed_alone : ListedModule → PlacedModule
 placed_alone line =
     record { name = line.name; regions = module_line_region line ∷ []; parts = Core ∷ [] }
 
--- a module that lies where region lines say
+-- a module in the regions of region lines
 abbrev pub placed_by : List ListedRegion → ListedModule → PlacedModule
 placed_by lines line = record {
   name = line.name;
@@ -40,7 +40,8 @@ placed_by lines line = record {
   parts = map (λ r. r.part) lines;
 }
 
--- a module lies where the region lines of its name say, if one of them is of a core region
+-- a module lies in the regions of the region lines of its name if one of them is of a core region,
+-- and else in the region of its own line
 abbrev pub placed_with : List ListedRegion → ListedModule → PlacedModule
 placed_with lines line = if has_core lines then placed_by lines line else placed_alone line
 

@@ -1,4 +1,4 @@
--- Where the regions of a module begin, by their parts.
+-- The first addresses of a module's regions, by their parts.
 use Rattle.std.specs.Prelude.{ℕ, Bool, if◌then◌else◌, List, [], ◌∷◌, position, slice_get, Option}
 use Rattle.std.specs.Option.{option_and_then, option_map}
 use Rattle.modules.specs.Entries.{ModuleEntry}
@@ -16,8 +16,8 @@ start_where passes regions parts = option_and_then (start_at regions) (position 
 abbrev pub first_start : (Part → Bool) → ModuleEntry → Option ℕ
 first_start passes m = start_where passes m.regions m.parts
 
--- the first addresses of the core regions, where these are asked for, and of the init regions,
--- where these are, in order
+-- the first addresses of the core regions, if these are asked for, and of the init regions, if
+-- these are, in order
 abbrev pub starts_of : Bool → Bool → List (ℕ × ℕ) → List Part → List ℕ
 starts_of core init [] parts = []
 starts_of core init (r ∷ rs) [] = []

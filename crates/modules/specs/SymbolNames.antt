@@ -17,12 +17,12 @@ abbrev pub names_of_symbols : ℕ → List SymbolEntry → List SymbolName
 names_of_symbols number symbols =
     map (λ p. record { name = p.1.name; number = number; place = p.0 }) (enumerate_from 0 symbols)
 
--- those of the module of a number, if there is one
+-- the symbols of the module of a number, if there is one
 abbrev pub names_in_module : CatalogEntries → ℕ → List SymbolName
 names_in_module c number =
     option_map_or (λ m. names_of_symbols number m.symbols) (module_of c number) []
 
--- those of the modules whose numbers are below this one
+-- the symbols of the modules whose numbers are below this one
 abbrev pub names_below : CatalogEntries → ℕ → List SymbolName
 names_below c number = flat_map (names_in_module c) (range_with_len 0 number)
 
@@ -39,6 +39,6 @@ all_of_name name symbols = filter (λ s. bytes_eq s.name name) symbols
 abbrev pub symbols_named : CatalogEntries → List ℕ → List SymbolName
 symbols_named c name = all_of_name name (named_symbols c)
 
--- of each name these are those of the catalog, in this order
+-- of each name these are the symbols of the catalog, in its order
 abbrev pub IsNamesOf : CatalogEntries → List SymbolName → Type 0
 IsNamesOf c names = (name : List ℕ) → all_of_name name names ≡ symbols_named c name

@@ -6,7 +6,7 @@ abbrev pub letter_in : List ℕ → ℕ
 letter_in [] = 0
 letter_in (letter ∷ rest) = letter
 
--- its name, behind the letter and a blank
+-- its name, after the letter and a blank
 abbrev pub name_in : List ℕ → List ℕ
 name_in (letter ∷ blank ∷ name) = name
 name_in _ = []

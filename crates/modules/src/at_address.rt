@@ -1,7 +1,7 @@
 //! Whether one of a module's symbols has an address and a name.
 //!
-//! Where symbols stand by rising address, those at one address lie side by side, so that no others
-//! need to be gone through:
+//! If symbols are listed by rising address, the ones at one address lie side by side, so that no
+//! others need to be gone through:
 //!
 //! ```text
 //! symbols:   10 a   20 b   20 c   20 d   40 e
@@ -15,7 +15,7 @@ ghost use Rattle.modules.specs.Index.{IsFirstOf, IsRising};
 use crate::buckets::{is_first, split_at};
 use crate::symbols::{Symbol, first_back};
 
-/// How many symbols are below the address, of symbols by rising address of which mostly so many are
+/// How many symbols are below the address, of symbols by rising address. Mostly `end` of them are
 /// not above it.
 fn first_from(symbols: &[Symbol], end: usize, addr: u64) -> usize
     requires { IsRising symbols.now }
@@ -28,8 +28,8 @@ fn first_from(symbols: &[Symbol], end: usize, addr: u64) -> usize
     }
 }
 
-/// The symbols at the address, of symbols by rising address. A place is tried first, as that of the
-/// first symbol above the address.
+/// The symbols at the address, of symbols by rising address. `near` is tried first, as the place of
+/// the first symbol above the address.
 #[tactic(auto, using(crate::proofs::AtAddressLemmas::within_range))]
 fn all_at<'s, 'a>(symbols: &'s [Symbol<'a>], near: usize, addr: u64) -> &'s [Symbol<'a>]
     requires { IsRising symbols.now }
@@ -41,8 +41,8 @@ fn all_at<'s, 'a>(symbols: &'s [Symbol<'a>], near: usize, addr: u64) -> &'s [Sym
     &symbols[first..end]
 }
 
-/// Whether one of the symbols, which stand by rising address, has the address and the name. A place
-/// is tried first.
+/// Whether one of the symbols, which are listed by rising address, has the address and the name.
+/// The place `near` is tried first.
 pub(crate) fn lists_in_order(symbols: &[Symbol], near: usize, addr: u64, name: &[u8]) -> bool
     requires { IsRising symbols.now }
     ensures { result ≡ lists_symbol symbols.now addr name.now }

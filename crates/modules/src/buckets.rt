@@ -1,8 +1,8 @@
-//! Where one is to be sought in a long list by rising address.
+//! From which place on an entry is to be sought in a long list by rising address.
 //!
 //! A binary search through a million symbols waits for memory at most of its twenty steps. So the
 //! addresses from the first to the last are cut into buckets of equally many, about as many as
-//! there are symbols, and a table tells how many symbols lie below each bucket. A search reads one
+//! there are symbols, and a table has the number of symbols below each bucket. A search reads one
 //! place of the table, and then the few symbols of its bucket:
 //!
 //! ```text
@@ -37,8 +37,8 @@ const MOST_IN_BUCKET: usize = 4;
 
 /// The place of the first from a place on that is above the address, if it is one of the next `N`.
 ///
-/// Those at or below the address are counted and not sought, since a processor that guesses wrongly
-/// where a search ends loses what it has begun of the next.
+/// The ones at or below the address are counted and not sought, since a processor that wrongly
+/// guesses the end of a search loses what it has begun of the next.
 pub(crate) fn place_near<T: Addressed, const N: usize>(
     listed: &[T],
     from: usize,
@@ -162,7 +162,7 @@ impl Buckets {
         self.below.clone()
     }
 
-    /// From where on the first above an address is to be sought.
+    /// From which place on the first above an address is to be sought.
     pub(crate) fn start_of(&self, addr: u64) -> usize {
         self.below(self.bucket_of(addr))
     }
@@ -220,7 +220,7 @@ pub(crate) fn split_of<T: Addressed>(listed: &[T], addr: u64) -> usize
     listed.partition_point(|it| it.addr() <= addr)
 }
 
-/// The same, apart from the code that mostly needs no search.
+/// As [`split_of`], apart from the code that mostly needs no search.
 #[cold]
 #[inline(never)]
 fn seek_split<T: Addressed>(listed: &[T], addr: u64) -> usize

@@ -82,8 +82,8 @@ fn sizes_of(of_kernel: usize, modules: &[Module]) -> (usize, usize)
     (regions, symbols)
 }
 
-/// Puts each symbol where it is kept, and indexes symbols, where it pays. Counts the modules, their
-/// regions and the symbols.
+/// Puts each symbol into the module that keeps it, and indexes symbols if it pays. Counts the
+/// modules, their regions and the symbols.
 fn catalog_with<'a>(
     alloc: Global,
     placed: PlacedModules<'a>,
@@ -138,7 +138,8 @@ fn used_in(accepted: &PlacedModules, regions: &RegionLines) -> usize
         .count()
 }
 
-/// How many lines of modules and of regions went where. No lines of symbols are counted yet.
+/// How many lines of modules and of regions are used, and how many are not, by cause. No lines of
+/// symbols are counted yet.
 #[tactic(auto, using(crate::proofs::CountLemmas::either_counted))]
 fn module_counts(admission: &Admission, regions: &RegionLines) -> BuildCounts
     ensures { result ≡ counts_with (admission_view admission.now) regions.now [] }

@@ -1,7 +1,7 @@
 //! What has a name, in the order of names.
 //!
-//! A list is sorted by name once, and what has one name keeps its order, so that it lies side by side
-//! as it was listed:
+//! A list is sorted by name once, and what has one name keeps its order, so that it lies side by
+//! side as it was listed:
 //!
 //! ```text
 //! listed:  ext4 core   nfs core   ext4 init

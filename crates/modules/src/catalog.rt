@@ -31,7 +31,7 @@ use table_updates::Update;
 /// fewer regions, as in every catalog that a table can hold.
 pub const ABSENT_MODULE: u64 = 4294967295;
 
-/// How many lines went where. Each line of a listing is counted once.
+/// How many lines are used, and how many are not, by cause. Each line of a listing is counted once.
 #[derive(Clone, Copy, Debug, PartialEq, Eq, Drop)]
 pub struct BuildCounts {
     /// Accepted lines of the listing of modules; the modules if symbols alone are listed.
@@ -100,7 +100,7 @@ impl<'a> Model for Catalog<'a> {
 }
 
 impl<'a> Catalog<'a> {
-    /// Builds the catalog of three listings, of which each module line and each region line has a
+    /// Builds the catalog of three listings. Each module line and each region line must have a
     /// region ([`ModuleLine::fits`], [`RegionLine::fits`]).
     ///
     /// A module lies in the regions of the region lines of its name, in their order, if one of them
@@ -145,11 +145,11 @@ impl<'a> Catalog<'a> {
     /// Builds the catalog of a listing of symbols alone.
     ///
     /// The kernel's region is between the two symbols of `names`, or else its regions are the usual
-    /// ones ([`SymbolLines::kernel_regions`]). The lines that count are those without a module
-    /// inside of them, and those of modules outside of them and below the greatest address. Of the
-    /// nearest of these lines at or below an address the first listed is asked: if it is a
-    /// module's, the address is that module's if it lies in the page of the line, or if the
-    /// first listed of the nearest lines above is the same module's and less than 1048576 above the
+    /// ones ([`SymbolLines::kernel_regions`]). The lines that count are the lines without a module
+    /// inside of them, and the lines of modules outside of them and below the greatest address. Of
+    /// the nearest of these lines at or below an address the first listed is asked: if it is a
+    /// module's, the address is that module's if it lies in the page of the line, or if the first
+    /// listed of the nearest lines above is this module's, too, and less than 1048576 above the
     /// line. The regions of a module are the longest runs of addresses that are its own, by rising
     /// address, all of its core.
     ///
@@ -182,8 +182,8 @@ impl<'a> Catalog<'a> {
         }
     }
 
-    /// The number of the module of this name. The name `-` is that of the kernel itself alone, even
-    /// if a module has it.
+    /// The number of the module of this name. The name `-` is the kernel's alone, even if a module
+    /// has it.
     pub fn number_of(&self, name: &[u8]) -> Option<u64>
         ensures { result ≡ module_number_of self.now name.now }
     {

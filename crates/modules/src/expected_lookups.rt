@@ -10,8 +10,8 @@ const MOST_SCANS: usize = 8;
 /// For how many symbols one search without buckets costs less than to put them into buckets.
 const SYMBOLS_A_SEARCH: usize = 64;
 
-/// The addresses that a catalog is asked about: it gives the same answers whatever is said here, in
-/// more or less time.
+/// The addresses that a catalog is asked about. Its answers do not depend on what is said here, but
+/// the time that they take does.
 #[derive(Clone, Copy, Drop)]
 pub enum ExpectedLookups<'q> {
     /// Any, and any number of them.
@@ -21,8 +21,8 @@ pub enum ExpectedLookups<'q> {
 }
 
 impl ExpectedLookups<'_> {
-    /// Whether there are so many lookups that it costs less to put the symbols into buckets than to
-    /// seek each in the whole list.
+    /// Whether it costs less to put the symbols into buckets than to seek each address in the whole
+    /// list.
     pub(crate) fn pays_buckets(self, symbols: usize) -> bool {
         match self {
             ExpectedLookups::Any => true,
@@ -30,8 +30,9 @@ impl ExpectedLookups<'_> {
         }
     }
 
-    /// Whether more of the addresses lie in these regions than so many symbols are gone through
-    /// for. They are counted only if that costs less than the copies.
+    /// Whether to copy the symbols by rising address costs less than to go through them for each of
+    /// the addresses that lie in these regions. They are counted only if that costs less than the
+    /// copies.
     pub(crate) fn pays_copies(self, regions: &[Region], symbols: usize) -> bool {
         match self {
             ExpectedLookups::Any => true,

@@ -25,7 +25,8 @@ struct LastRegion<'c, 'a> {
     owner: &'c Module<'a>,
 }
 
-/// What was found last, from which address on the same is found, and up to which.
+/// The region and the symbol that were found last. The addresses from `from` up to `to` belong to
+/// the symbol.
 #[derive(Clone, Copy, Drop)]
 struct LastFound<'c, 'a> {
     item: Item,
@@ -52,7 +53,7 @@ fn owner_of<'c, 'a>(
     catalog.module(item.tag)
 }
 
-/// Where the same is found as for an address.
+/// What was found for an address, with the addresses that belong to the symbol, too.
 fn same_within<'c, 'a>(
     catalog: &'c IndexedCatalog<'a>,
     addr: u64,
@@ -114,8 +115,8 @@ impl<'c, 'a> Finder<'c, 'a> {
         }
     }
 
-    /// Tells it all addresses that come next. It makes ready for [`MOST_EXPECTED`] of them, and is
-    /// to be told again after so many.
+    /// Makes ready for the addresses that come next, for [`MOST_EXPECTED`] of them at most. Call it
+    /// again after these.
     #[inline(never)]
     pub fn expect(&mut self, addrs: &[u64])
         ensures { self.new ≡ self.old }
@@ -150,8 +151,8 @@ impl<'c, 'a> Finder<'c, 'a> {
         self.seek(addr)
     }
 
-    /// The symbol of an address in a region, tried first at a place by rising address. It is kept
-    /// where the next address may lie near.
+    /// The symbol of an address in a region. The place `near` by rising address is tried first. The
+    /// symbol is kept if the next address may lie near.
     #[inline(always)]
     fn find_in(
         &mut self,

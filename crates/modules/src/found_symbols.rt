@@ -44,7 +44,7 @@ pub fn symbol_in<'c, 'a>(
     symbol_around(owner, owner.place_of(addr), start, end, addr)
 }
 
-/// The same, tried first at a place by rising address.
+/// As [`symbol_in`]. The place `near` by rising address is tried first.
 #[inline(always)]
 #[tactic(auto, using(crate::proofs::NearestLemmas::found_around))]
 pub(crate) fn symbol_around<'c, 'a>(

@@ -1,8 +1,8 @@
-//! The modules of a listing of symbols alone, and where they lie.
+//! The modules of a listing of symbols alone, and their regions.
 //!
 //! A sweep over the marks of the lines gives the regions, each with the number of its module. They
 //! are dealt out by number, and a module takes its own at its first kept line, so that the modules
-//! stand in the order of these:
+//! are in the order of these:
 //!
 //! ```text
 //! lines:   a1 ext4   a2 nfs   a1 bpf   a3 ext4        a1 < a2 < a3

@@ -47,7 +47,7 @@ pub(crate) struct SymbolLists<'a> {
     pub(crate) modules: Vec<Vec<Symbol<'a>>>,
 }
 
-/// So many lists with nothing in them.
+/// `count` lists with nothing in them.
 pub(crate) fn empty_lists<T: Drop>(alloc: Global, count: usize) -> Result<Vec<Vec<T>>, AllocError>
     ensures { IfOk result
         (λ v. (length v.items ≡ count) × All (λ list. list.items ≡ []) v.items) }

@@ -1,4 +1,4 @@
-//! Guesses where addresses lie, made for several of them at once.
+//! Guesses at the places of addresses, made for several of them at once.
 //!
 //! A search through a million symbols waits for memory. Searches that take their steps by turns
 //! wait together:
@@ -35,7 +35,7 @@ impl Guess {
     };
 }
 
-/// The module of the region that was gone to last. The next address mostly lies in the same.
+/// The module of the region that was gone to last. The next address mostly lies in it, too.
 #[derive(Drop)]
 struct LastModule<'c, 'a> {
     region: usize,
@@ -43,7 +43,7 @@ struct LastModule<'c, 'a> {
 }
 
 impl<'c, 'a> LastModule<'c, 'a> {
-    /// That of the first region.
+    /// The module of the first region.
     fn first(catalog: &'c IndexedCatalog<'a>) -> LastModule<'c, 'a> {
         LastModule {
             region: 0,
@@ -61,7 +61,7 @@ impl<'c, 'a> LastModule<'c, 'a> {
     }
 }
 
-/// The first step of each search: reads from where on the symbol is to be sought.
+/// The first step of each search: reads from which place on the symbol is to be sought.
 fn begin_all(guesses: &mut [Guess], catalog: &IndexedCatalog, addrs: &[u64]) {
     let mut last = LastModule::first(catalog);
     for (guess, addr) in guesses.iter_mut().zip(addrs) {
@@ -94,7 +94,7 @@ fn guess_near(catalog: &IndexedCatalog, region: usize, addr: u64) -> Guess {
 }
 
 /// Guesses for the next addresses, and how many of these have been asked for; and the last guess,
-/// where each is made from the one before it.
+/// if each is made from the one before it.
 #[derive(Drop)]
 pub(crate) struct Guesses {
     all: [Guess; TURNS],
@@ -152,8 +152,8 @@ impl Guesses {
         }
     }
 
-    /// The next, which is of this address: its place in the module, which is that of the region
-    /// where the one before was found.
+    /// The next, which is of this address: its place in the module, which has the region that the
+    /// address before was found in.
     #[inline(always)]
     pub(crate) fn next_in(&mut self, module: &Module, addr: u64) -> usize {
         let place = self.taken;

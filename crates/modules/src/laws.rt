@@ -85,7 +85,7 @@ pub fn no_module_is_absent()
 
 /// What is found for an address is the symbol at or below it that no other lies between, the first
 /// of those listed, and it reaches to the next symbol above its own address or to the region's end.
-/// Nothing is found exactly where all symbols lie above the address.
+/// Nothing is found exactly if all symbols lie above the address.
 #[tactic(auto, using(crate::proofs::FindLemmas::found_by_place))]
 pub fn a_found_symbol_is_the_nearest()
     ensures { (symbols : List SymbolEntry) (end addr : ℕ)

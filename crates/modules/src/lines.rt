@@ -17,7 +17,7 @@ fn is_region(base: u64, size: u64) -> bool
     base != 0 && size != 0 && size <= u64::MAX - base
 }
 
-/// A line of the listing of modules, in the form of /proc/modules: a module, and where it lies.
+/// A line of the listing of modules, in the form of /proc/modules: a module and its region.
 #[derive(Debug, Drop)]
 pub struct ModuleLine<'a> {
     /// The module's name, any bytes of the text that was read.

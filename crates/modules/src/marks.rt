@@ -35,8 +35,8 @@ pub(crate) struct Mark {
     pub(crate) owner: u64,
 }
 
-/// Puts a piece of a region after the regions. One that begins where the last region ends, and has
-/// its owner, makes that region longer.
+/// Puts a piece of a region after the regions. One that begins at the end of the last region, and
+/// has its owner, makes that region longer.
 fn put(items: &mut Vec<Item>, piece: Item) -> Result<(), AllocError>
     requires valid { piece.a < piece.b }
     requires laid { AreLaid items.old.items }

@@ -1,4 +1,4 @@
-//! A module: its name, where it lies, and its symbols.
+//! A module: its name, its regions, and its symbols.
 
 ghost use Rattle.std.specs.Prelude.{◌≡◌, [], position, IfOk, Ok};
 ghost use Rattle.std.specs.List.{list_any};
@@ -177,8 +177,8 @@ impl<'a> Module<'a> {
         self.parts.as_slice()
     }
 
-    /// The first address of its first region of the core, and that of its first init region, if it
-    /// has one.
+    /// The first address of its first region of the core, and of its first init region, if it has
+    /// one.
     pub fn starts(&self) -> (u64, Option<u64>)
         ensures core { Some result.0 ≡ first_start is_core self.now }
         ensures init { result.1 ≡ first_start is_init self.now }
@@ -250,8 +250,8 @@ impl<'a> Module<'a> {
     }
 
     /// The symbol of the greatest address that is not above `addr`, the first listed among equal
-    /// addresses; and the least address of a symbol above `addr`. A place by rising address is tried
-    /// first.
+    /// addresses; and the least address of a symbol above `addr`. The place `near` by rising
+    /// address is tried first.
     #[inline(always)]
     pub(crate) fn around_near(&self, near: usize, addr: u64) -> (Option<&Symbol<'a>>, Option<u64>)
         ensures below { option_copied result.0 ≡ symbol_below self.now.symbols addr }
@@ -278,15 +278,15 @@ impl<'a> Module<'a> {
         self.buckets.place_of(self.by_address(), addr)
     }
 
-    /// The same, where it is known from which place on the first symbol above the address is to be
-    /// sought.
+    /// As [`Module::place_of`], if the first symbol above the address is to be sought from this
+    /// place on.
     #[inline(always)]
     pub(crate) fn place_from(&self, from: usize, addr: u64) -> usize {
         self.buckets.place_from(self.by_address(), from, addr)
     }
 
-    /// The same, where the symbols below a place are not above the address, and the one that is
-    /// sought is one of the next few, or else where it is sought from anew.
+    /// As [`Module::place_of`], if the symbols below a place are not above the address. The next
+    /// few symbols are tried first.
     #[inline(always)]
     pub(crate) fn next_place(&self, from: usize, addr: u64) -> usize {
         match place_near::<Symbol<'a>, MOST_NEXT>(self.by_address(), from, addr) {

@@ -1,5 +1,5 @@
-//! Names that are found: those of the modules of a catalog, and of the modules that a listing of
-//! symbols or a change of one has lines of.
+//! Names that are found: of the modules of a catalog, and of the modules that a listing of symbols
+//! or a change of one has lines of.
 //!
 //! In a listing of symbols the modules are numbered from 1 on by their first lines; 0 is the kernel
 //! itself:

@@ -1,4 +1,4 @@
-//! The modules of a catalog where they lie, before their symbols are put in.
+//! The modules of a catalog with their regions, before their symbols are put in.
 
 ghost use Rattle.std.specs.Prelude.{◌≡◌, ◌++◌, ◌∷◌, [], false, length, IfOk, OnErr, OnOk};
 ghost use Rattle.std.specs.List.{list_any, position_from};

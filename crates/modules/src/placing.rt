@@ -1,8 +1,8 @@
-//! Where the modules of a listing lie.
+//! The regions of the modules of a listing.
 //!
-//! The region lines are sorted by name once, so that the lines of a module lie side by side. A module
-//! has up to seven regions there, in the order of its lines. One of symbols alone may have many, but
-//! they rise, and then a binary search tells whether an address lies in one.
+//! The region lines are sorted by name once, so that the lines of a module lie side by side. A
+//! module has up to seven regions there, in the order of its lines. One of symbols alone may have
+//! many, but they rise, and then a binary search finds whether an address lies in one.
 
 ghost use Rattle.std.specs.Prelude.{◌≡◌, ◌<◌, nat_le, true, [], ◌∷◌, length, All, IfOk, map};
 ghost use Rattle.std.specs.List.{AllPairs, list_any};
@@ -139,7 +139,7 @@ impl<'a> PlacedModule<'a> {
         })
     }
 
-    /// A module that lies where these region lines say.
+    /// A module in the regions of these lines.
     fn in_lines(
         alloc: Global,
         name: &'a [u8],
@@ -252,7 +252,7 @@ impl<'l, 'a> RegionLines<'l, 'a> {
         has_core(self.named(name))
     }
 
-    /// Where a module lies: in the regions of its lines if one of them is of its core, or else in
+    /// A module with its regions: the regions of its lines if one of them is of its core, or else
     /// the region of its own line.
     pub(crate) fn place(
         &self,

@@ -1,8 +1,8 @@
 //! Entries of an index that are brought near their places before they are sorted.
 //!
 //! The symbols of a module are listed in no order, but their addresses lie about evenly. So buckets
-//! of equally many addresses tell to a few places where each entry belongs. It is swapped there,
-//! and what stood there is swapped on in turn; then each goes down past the few before it that come
+//! of equally many addresses give the place of each entry, to a few places. It is swapped there,
+//! and what was there is swapped on in turn; then each goes down past the few before it that come
 //! after it:
 //!
 //! ```text
@@ -12,7 +12,7 @@
 //! ```
 //!
 //! Mostly they are in order then, as a sort sees by going over them once. Each step is a swap, and
-//! that the entries stay the same is all that contracts say.
+//! contracts say only that no entry is lost, added or changed.
 #![tactic(auto, using(crate::proofs::IndexLemmas::moved_on))]
 
 ghost use Rattle.std.specs.List.Sorted.{IsPermutation};

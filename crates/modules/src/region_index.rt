@@ -117,7 +117,7 @@ impl<'a> IndexedCatalog<'a> {
     }
 
     /// The region that an address lies in, with the number of its module as the tag. The first is
-    /// asked first: it is mostly the kernel's own, where most addresses lie.
+    /// tried first: it is mostly the kernel's own, and has most addresses.
     pub fn find(&self, addr: u64) -> Option<Item>
         ensures is { result ≡ item_of_address self.now addr }
         ensures holds { IfSome result (λ i. (i.a ≤ addr) × (addr < i.b)) }
@@ -125,7 +125,7 @@ impl<'a> IndexedCatalog<'a> {
         self.find_near(self.region_near(0, addr), addr)
     }
 
-    /// The same, tried first at a place by rising address.
+    /// As [`IndexedCatalog::find`]. The place `near` by rising address is tried first.
     #[tactic(auto, using(crate::proofs::RegionIndexLemmas::found_by_split))]
     pub(crate) fn find_near(&self, near: usize, addr: u64) -> Option<Item>
         ensures is { result ≡ item_of_address self.now addr }
@@ -145,7 +145,7 @@ impl<'a> IndexedCatalog<'a> {
         self.buckets.place_of(&self.items, addr).saturating_sub(1)
     }
 
-    /// The same, tried first at a place.
+    /// The place of the region that an address may lie in. The place `near` is tried first.
     #[inline(always)]
     pub(crate) fn region_near(&self, near: usize, addr: u64) -> usize {
         match self.items.get(near) {

@@ -82,7 +82,7 @@ pub(crate) fn is_apart_from(region: Region, others: &[Region]) -> bool
     others.iter().all(|other| region.is_apart(*other))
 }
 
-/// Regions by their first addresses. They lie apart, so that one neighbour tells whether a further
+/// Regions by their first addresses. They lie apart, so that one neighbour shows whether a further
 /// region is apart from all of them.
 #[derive(Drop)]
 pub(crate) struct Regions {

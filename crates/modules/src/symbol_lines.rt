@@ -178,10 +178,10 @@ impl<'a> SymbolLines<'a> {
     }
 
     /// The regions of the kernel itself: the one between these names, if both are listed in this
-    /// order, or else the usual ones. These are the region from `_stext` up to `_end` or, if
-    /// there is none, the regions of the kernel's code: `_stext` up to `_etext` and `_sinittext` up to
-    /// `_einittext`, each if both are listed in this order, and the second only if it is apart
-    /// from the first.
+    /// order, or else the usual ones. These are the region from `_stext` up to `_end` or, if there
+    /// is none, the regions of the kernel's code: `_stext` up to `_etext` and `_sinittext` up to
+    /// `_einittext`, each if both are listed in this order, and the second only if it is apart from
+    /// the first.
     pub fn kernel_regions(
         &self,
         alloc: Global,
@@ -215,8 +215,8 @@ impl<'a> SymbolLines<'a> {
         }
     }
 
-    /// The names of both ends of the usual regions, one of which a listing may lack: `_stext`, and
-    /// `_end` if it is listed or else `_etext`.
+    /// The names of both ends of the usual regions, though a listing may lack one of them:
+    /// `_stext`, and `_end` if it is listed or else `_etext`.
     pub fn usual_bounds(&self) -> KernelBounds<'static>
         ensures { result ≡ usual_bounds_of self.now }
     {

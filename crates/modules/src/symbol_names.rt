@@ -16,8 +16,8 @@ use crate::symbols::Symbol;
 use std::alloc::{AllocError, Global};
 use std::marker::Model;
 
-/// A symbol by its name: the number of its module, and its place among the symbols of this module in
-/// the order listed.
+/// A symbol by its name: the number of its module, and its place among the symbols of this module
+/// in the order listed.
 #[derive(Debug, Drop)]
 pub struct NamedSymbol<'a> {
     pub name: &'a [u8],

@@ -34,7 +34,7 @@ use std::marker::Model;
 /// the letter takes no memory of its own.
 #[derive(Debug, Drop)]
 pub struct Symbol<'a> {
-    /// Where the symbol begins.
+    /// The first address of the symbol.
     pub addr: u64,
     /// What the listing says of the symbol after its address: a letter, a blank, and the name.
     pub(crate) text: &'a [u8],
@@ -79,10 +79,10 @@ impl<'a> Addressed for Symbol<'a> {
     }
 }
 
-/// An entry of an index of symbols, of which contracts speak.
+/// An entry of an index of symbols. Contracts speak of it.
 #[derive(Clone, Copy, Debug, Drop)]
 pub struct IndexEntry {
-    /// Where the symbol begins.
+    /// The first address of the symbol.
     pub addr: u64,
     /// Its place in the order of the listing.
     pub place: usize,
@@ -111,8 +111,8 @@ fn listed_entries(alloc: Global, symbols: &[Symbol]) -> Result<Vec<IndexEntry>, 
 }
 
 /// The entries of the symbols by rising address, and their buckets. Of equal addresses the one that
-/// is listed first comes last, so that the last entry that is not above an address is that of the
-/// one to be found.
+/// is listed first comes last, so that the last entry that is not above an address is the entry of
+/// the symbol to be found.
 fn by_address(alloc: Global, symbols: &[Symbol]) -> Result<(Vec<IndexEntry>, Buckets), AllocError>
     ensures { IfOk result (λ r. IsIndex symbols.now r.0.items) }
 {
@@ -201,7 +201,7 @@ fn listed_below(symbols: &[Symbol], addr: u64) -> usize
     symbols.partition_point(|symbol| symbol.addr < addr)
 }
 
-/// The same. A place is tried first.
+/// As [`listed_below`]. The place `near` is tried first.
 fn first_near(symbols: &[Symbol], near: usize, addr: u64) -> usize
     requires { IsRising symbols.now }
     ensures { IsFirstOf symbols.now addr result }
@@ -228,7 +228,7 @@ fn back_from(symbols: &[Symbol], place: usize, addr: u64) -> usize {
     first
 }
 
-/// How many symbols are below the address, where the one at a place has it and another before it.
+/// How many symbols are below the address, if the one at a place has it and another before it.
 #[cold]
 #[inline(never)]
 fn first_far(symbols: &[Symbol], place: usize, addr: u64) -> usize
@@ -239,7 +239,8 @@ fn first_far(symbols: &[Symbol], place: usize, addr: u64) -> usize
     first_near(symbols, near, addr)
 }
 
-/// The same, where the one at a place has it, and mostly none before it or just one.
+/// How many symbols are below the address, if the one at a place has it, and mostly none before it
+/// or just one.
 #[inline(always)]
 pub(crate) fn first_back(symbols: &[Symbol], place: usize, addr: u64) -> usize
     requires { IsRising symbols.now }
@@ -288,7 +289,7 @@ fn around_as_listed<'s, 'a>(
     (symbol_at(symbols, first), above)
 }
 
-/// The symbol below an address, if that of symbols is known and one more is listed.
+/// The symbol below an address if one symbol more is listed; `first` is the answer without it.
 #[tactic(auto, using(crate::proofs::AnyOrderLemmas::one_more_below))]
 fn higher<'s, 'a>(
     first: Option<&'s Symbol<'a>>,
@@ -306,7 +307,8 @@ fn higher<'s, 'a>(
     }
 }
 
-/// The same of the least address above.
+/// The least address above an address if one symbol more is listed; `first` is the answer without
+/// it.
 #[tactic(auto, using(crate::proofs::AnyOrderLemmas::one_more_above))]
 fn lower(first: Option<u64>, second: &Symbol, addr: u64) -> Option<u64>
     ensures { (symbols : List SymbolEntry) → first ≡ address_above symbols addr

@@ -1,4 +1,4 @@
--- How items are ordered, and where a key lies among them.
+-- How items are ordered, and how a key compares with them.
 use Rattle.std.specs.Prelude.{◌≡◌, ◌≢◌, ◌↔◌, ◌<◌, ℕ, Bool, true, false, not, ◌||◌}
 use Rattle.std.specs.Prelude.{nat_lt, nat_le, if◌then◌else◌}
 use Rattle.std.specs.declared.cmp.Ordering.{Ordering}
@@ -7,7 +7,7 @@ use Rattle.std.proofs.Common.{arith}
 use Rattle.std.proofs.lemmas.Bool.Decides.{nat_tests}
 use Rattle.order_laws.specs.declared.items.Item.{Item}
 
--- what an order gives; `comp` says where a key lies against any three words
+-- the functions of an order; `comp` compares a key with any three words
 pub record Order (K : Type 0) : Type 0 where
   pub key_of : Item → K
   pub valid : Item → Bool
@@ -15,7 +15,7 @@ pub record Order (K : Type 0) : Type 0 where
   pub less : Item → Item → Bool
   pub comp : K → Item → Ordering
 
--- two valid items that are apart, of which the first is less
+-- both items are valid, they are apart, and the first is less
 pub record Precedes {K : Type 0} (o : Order K) (x y : Item) : Type 0 where
   pub first_valid : o.valid x ≡ true
   pub second_valid : o.valid y ≡ true

@@ -17,7 +17,7 @@ abbrev pub look : {K : Type 0} → Order K → K → List Item → Option Item
 look o k [] = None
 look o k (x ∷ xs) = if is_eq (o.comp k x) then Some x else look o k xs
 
--- the same said of an answer
+-- the answer is right: an item of the table that the key is in, or none if it is in no item
 abbrev pub IsLook : {K : Type 0} → Order K → K → List Item → Option Item → Type 0
 IsLook o k table (Some x) = Contains table x × (o.comp k x ≡ Equal)
 IsLook o k table None = (x : Item) → Contains table x → o.comp k x ≢ Equal

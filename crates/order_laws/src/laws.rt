@@ -33,7 +33,8 @@ pub fn without_leaves_the_others()
         Contains (without a table) x ↔ (Contains table x × (x.a ≢ a)) }
 {}
 
-/// Two tables of the same items are one list, so a table says no more than the set of its items.
+/// Two tables with one set of items are one list, so a table says no more than the set of its
+/// items.
 pub fn a_table_is_its_items<O: TreeOrder>()
     ensures { (table other : List Item) → IsTable O.order table → IsTable O.order other →
         ((x : Item) → Contains table x ↔ Contains other x) → table ≡ other }

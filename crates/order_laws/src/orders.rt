@@ -1,4 +1,4 @@
-//! Orders of items, and where a key lies among them.
+//! Orders of items, and how a key compares with them.
 
 ghost use Rattle.std.specs.Prelude.{◌≡◌, IsTrue};
 ghost use Rattle.order_laws.specs.Orders.{Order, IsLawful, IsInLine};
@@ -10,9 +10,9 @@ use std::cmp::Ordering;
 /// latch_tree_ops`.
 ///
 /// `lawful` has what the functions owe each other on valid items that are apart. They return
-/// something for any three words, even those of no item, since a reader may load the words of two
-/// items mixed. Nothing more is asked of an order; what it offers by [`TreeOrder::in_line`] makes a
-/// table's own searches faster, and no answer different.
+/// something for any three words, even if no item has them, since a reader may load the words of
+/// two items mixed. Nothing more is asked of an order; what it offers by [`TreeOrder::in_line`]
+/// makes a table's own searches faster, and no answer different.
 pub trait TreeOrder {
     /// What is looked up.
     type Key: Copy;
@@ -43,7 +43,7 @@ pub trait TreeOrder {
     /// Whether first words rise along the order, and an item beyond a neighbour is apart, as ranges
     /// lie on a line.
     ///
-    /// An order need not say so: where it does not, a table goes through all of its items to find a
+    /// An order need not say so: if it does not, a table goes through all of its items to find a
     /// first word or an item that meets another.
     fn in_line() -> bool
         ensures { IsTrue result → IsInLine order }

@@ -44,8 +44,8 @@ impl Refusal {
     ghost use Rattle.std.specs.Prelude.{◌≡◌};
     ghost use Rattle.order_laws.specs.Refusals.{refusal_number};
 
-    /// The number that stands for the refusal in texts: 1 to 14, and 17. (15 and 16 are those of
-    /// bad lines and of failed devices, which no table refuses by.)
+    /// The number of the refusal in texts: 1 to 14, and 17. (15 and 16 are for bad lines and failed
+    /// devices; no table refuses by them.)
     pub fn number(self) -> u32
         ensures { result ≡ refusal_number self }
     {

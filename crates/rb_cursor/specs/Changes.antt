@@ -35,16 +35,15 @@ pub record AddsLinks {Z : Type 0} (others : ℕ → Type 0) (copy : ℕ) (t u : 
   pub stores : Adds old links new
   pub lead : Lead others copy (shape t) (shape u) links
 
--- a climb stores so many links at most: where the subtree is short at first, one to it, eight of a
--- fill and one to what was filled
+-- the most links that a climb stores: if the subtree is short at first, one to it, eight of a fill
+-- and one to what was filled; else one
 abbrev pub most_on_climb : Bool → ℕ
 most_on_climb true = 10
 most_on_climb false = 1
 
 -- the climb of an erase up to a depth: before is the link that led to the tree in hand
 module _ (copy depth before : ℕ) (was_short : Bool) where
-  -- from a tree that lost some nodes, and stands at the end of a part of the path, to the whole of
-  -- that part
+  -- from a tree that lost some nodes, at the end of a part of the path, to the whole of that part
   pub record Climbs (from to : Zipper) (short : Bool) (links : List Store) : Type 0 where
     pub few : length links ≤ most_on_climb was_short
     pub climbs : (part base : List Above) (whole was : ColouredTree) (rs : List Record)

@@ -9,7 +9,7 @@ abbrev pub closed_zipper : Bool → ColouredTree → List Above → ℕ → Zipp
 closed_zipper red t [] room = record { tree = t; path = []; room = room }
 closed_zipper red t (a ∷ p) room = record { tree = joined a red t; path = p; room = room }
 
--- the same in the colour that it has
+-- one step up: the nearest node above is in hand, in the colour that it has
 abbrev pub risen_from : ColouredTree → List Above → ℕ → Zipper
 risen_from t [] room = record { tree = t; path = []; room = room }
 risen_from t (a ∷ p) room = record { tree = joined a a.red t; path = p; room = room }
@@ -17,7 +17,7 @@ risen_from t (a ∷ p) room = record { tree = joined a a.red t; path = p; room =
 abbrev pub risen : Zipper → Zipper
 risen z = risen_from z.tree z.path z.room
 
--- up until only so many nodes are above, in the colours that they have
+-- up until only d nodes are above, in the colours that they have
 abbrev pub closed_to : ℕ → ColouredTree → List Above → ℕ → Zipper
 closed_to d t [] room = record { tree = t; path = []; room = room }
 closed_to d t (a ∷ p) room =

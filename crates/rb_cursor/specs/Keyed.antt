@@ -9,12 +9,12 @@ use Rattle.rb_trees.specs.declared.Side.{Side}
 use Rattle.rb_trees.specs.declared.Side.TheVariants.{Left, Right}
 use Rattle.rb_trees.specs.Paths.{Above}
 
--- a tree whose nodes stand at keys
+-- a tree with the key of each of its nodes
 pub data Keyed : Type 0 where
   nil : Keyed
   keyed : Bool → Keyed → ℕ → Record → Keyed → Keyed
 
--- a node above whose node stands at a key
+-- a node above, with its key
 pub record Level : Type 0 where
   pub side : Side
   pub red : Bool
@@ -53,7 +53,7 @@ abbrev pub path_size : List Level → ℕ
 path_size [] = 0
 path_size (a ∷ path) = suc (size a.other + path_size path)
 
--- how often a key stands there
+-- how often a key is there
 abbrev pub at_key : ℕ → ℕ → ℕ
 at_key i k = if i == k then 1 else 0
 
@@ -78,7 +78,7 @@ node_with red x left right =
 abbrev pub node_of : Bool → Keyed → Record → Keyed → Node
 node_of red l x r = node_with red x (link_of l) (link_of r)
 
--- the nodes of a tree stand at their keys
+-- the slab has the nodes of a tree at their keys
 abbrev pub IsLinked : Slab Node → Keyed → Type 0
 IsLinked s nil = Unit {0}
 IsLinked s (keyed red l k x r) =
@@ -89,15 +89,15 @@ abbrev pub sided_node : Side → Bool → Record → ℕ → ℕ → Node
 sided_node Left red x link other = node_with red x link other
 sided_node Right red x link other = node_with red x other link
 
--- the nodes of a path stand at their keys, the nearest leads by this link, and each of the others
--- to the next nearer one
+-- the slab has the nodes of a path at their keys: the nearest leads by this link, and each of the
+-- others to the next nearer one
 abbrev pub IsPath : Slab Node → ℕ → List Level → Type 0
 IsPath s link [] = Unit {0}
 IsPath s link (a ∷ path) =
     (get s a.key ≡ Some (sided_node a.side a.red a.row link (link_of a.other)))
     × IsLinked s a.other × IsPath s (suc a.key) path
 
--- blank nodes stand at these keys, each leading to the next by its left link
+-- the slab has blank nodes at these keys, each leading to the next by its left link
 abbrev pub IsChain : Slab Node → List ℕ → Type 0
 IsChain s [] = Unit {0}
 IsChain s (k ∷ ks) = ((n : Node) × (get s k ≡ Some n) × (n.left ≡ link_to ks)) × IsChain s ks

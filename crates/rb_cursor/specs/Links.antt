@@ -5,7 +5,7 @@ use Rattle.rb_trees.specs.Trees.{ColouredTree}
 use Rattle.rb_cursor.specs.declared.nodes.Node.{Node}
 use Rattle.rb_cursor.specs.Keyed.{Keyed, link_of, size, IsLinked, tree_from}
 
--- the link leads to a tree that stands in the slab
+-- the link leads to a tree that is in the slab
 pub record IsLink (s : Slab Node) (link : ℕ) : Type 0 where
   pub tree : Keyed
   pub link_is : link ≡ link_of tree

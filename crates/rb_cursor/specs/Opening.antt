@@ -25,7 +25,7 @@ pub record OpensSide (side : Side) (old new : Zipper) (top : Top) : Type 0 where
   pub room : new.room ≡ old.room
   pub less : weight new.tree < weight old.tree
 
--- nothing is done where there is no node
+-- if there is no node, nothing is done
 abbrev pub Opened : Side → Zipper → Zipper → Option Top → Type 0
 Opened side old new None = (old.tree ≡ tip) × (new ≡ old)
 Opened side old new (Some top) = OpensSide side old new top

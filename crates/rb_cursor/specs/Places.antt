@@ -12,7 +12,7 @@ use Rattle.rb_cursor.specs.Keyed.{Keyed, Level, link_of, link_to, size, path_siz
 use Rattle.rb_cursor.specs.Keyed.{uses, path_uses, list_uses, IsLinked, IsPath, IsChain, tree_from}
 use Rattle.rb_cursor.specs.Writes.{key_of, step_at}
 
--- all nodes stand in the tree in hand, on the path or among the blank ones, each in one place
+-- each node is in one place: in the tree in hand, on the path or among the blank ones
 pub record IsPlace (s : Slab Node) (hand : Keyed) (path : List Level) (blanks : List ℕ) :
     Type 0 where
   pub hand_linked : IsLinked s hand
@@ -62,7 +62,7 @@ node_or (Some n) = n
 abbrev pub above_at : Slab Node → ℕ → Step → Above
 above_at s fuel step = above_with s fuel step.side (node_or (get s (key_of step.link)))
 
--- the path that so many steps are, the last first
+-- the path that the first `depth` steps are, the last of them first
 abbrev pub path_from : Slab Node → ℕ → List Step → ℕ → List Above
 path_from s fuel steps zero = []
 path_from s fuel steps (suc depth) =

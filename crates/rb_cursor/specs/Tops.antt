@@ -40,7 +40,7 @@ abbrev pub red_over_black : ColouredTree → ColouredTree
 red_over_black tip = tip
 red_over_black (branch red l y r) = branch true (blackened l) y (blackened r)
 
--- a red node in hand, where there was none, and room for one less
+-- a red leaf with this record in hand, and room for one less
 abbrev pub planted : Record → Zipper → Zipper
 planted x z = record { tree = branch true tip x tip; path = z.path; room = z.room - 1 }
 

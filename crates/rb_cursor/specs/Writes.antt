@@ -21,19 +21,19 @@ abbrev pub with_step_link : Slab Node → Step → ℕ → Slab Node
 with_step_link s step link =
     with_node_link s (key_of step.link) step.side link (get s (key_of step.link))
 
--- what stands for a step that is not there
+-- what is read for a step that is not there
 abbrev pub no_step : Step
 no_step = record { link = 0; side = Left }
 
 abbrev pub step_at : List Step → ℕ → Step
 step_at steps i = slice_index_or steps i no_step
 
--- the last of so many steps leads to a node
+-- the last of `depth` steps leads to a node
 abbrev pub LastLeadsOn : List Step → ℕ → Type 0
 LastLeadsOn steps zero = Unit {0}
 LastLeadsOn steps (suc depth) = 0 < (step_at steps depth).link
 
--- the slab in which the last of so many steps leads by this link
+-- the slab in which the last of `depth` steps leads by this link
 abbrev pub with_last_link : Slab Node → List Step → ℕ → ℕ → Slab Node
 with_last_link s steps zero link = s
 with_last_link s steps (suc depth) link = with_step_link s (step_at steps depth) link

@@ -12,7 +12,7 @@
 //!         /  \
 //!       15    30
 //!
-//! Where another node takes the place of the top of the tree in hand, `lead` writes the link of the
+//! If another node takes the place of the top of the tree in hand, `lead` writes the link of the
 //! nearest node above.
 
 ghost use Rattle.std.specs.Prelude.{◌≡◌, ◌+◌, ◌<◌, ◌≤◌, ◌==◌, [], length, slice_set};
@@ -93,9 +93,8 @@ impl Cursor {
         self.depth
     }
 
-    /// Makes sure that `more` nodes can be planted. It fails where there is no memory, or where a
-    /// key would not fit a link: then there may be more room than before, and nothing else has
-    /// changed.
+    /// Makes sure that `more` nodes can be planted. It fails if there is no memory, or if a key
+    /// would not fit a link: then there may be more room than before, and nothing else has changed.
     #[inline(always)]
     pub fn reserve(&mut self, more: usize) -> Result<(), AllocError>
         ensures tree { self.new.tree ≡ self.old.tree }
@@ -143,8 +142,8 @@ impl Cursor {
         Reading::new(&self.nodes, self.tree)
     }
 
-    /// Opens the node in hand: its subtree on a side is in hand then. Nothing is done where there
-    /// is no node.
+    /// Opens the node in hand: its subtree on a side is in hand then. If there is no node, nothing
+    /// is done.
     #[inline(always)]
     pub fn open(&mut self, side: Side) -> Option<Top>
         requires { length self.old.path < 64 }
@@ -324,7 +323,7 @@ impl Cursor {
         node.node = row.node;
     }
 
-    /// Puts a red node in hand, where there is none.
+    /// Puts a red leaf with this record in hand; no node may be in hand before.
     #[inline]
     #[tactic(auto, using(crate::proofs::TurnLemmas::leads_on))]
     pub fn plant(&mut self, row: Record)
@@ -405,7 +404,7 @@ pub(crate) fn set_step(steps: &mut [Step; 64], depth: usize, link: u32, side: Si
     step.side = side;
 }
 
-// The link of a node that is not 0, where one of them is.
+// The left link of a node, or the right one if the left one is 0.
 #[inline(always)]
 fn only_link(left: u32, right: u32) -> u32
     ensures { result ≡ (if left == 0 then right else left) }
@@ -413,7 +412,7 @@ fn only_link(left: u32, right: u32) -> u32
     if left == 0 { right } else { left }
 }
 
-// Makes the last of so many steps lead by this link.
+// Makes the last of `depth` steps lead by this link.
 #[inline(always)]
 fn lead(nodes: &mut Slab<Node>, steps: &[Step; 64], depth: usize, link: u32)
     requires few { depth ≤ 64 }

@@ -1,11 +1,11 @@
 //! Erases.
 //!
-//! An erase goes down once to the node. Where it has no right subtree, its left one takes its
-//! place; else the next node in order does, the first of its right subtree, which is taken out
-//! there. Where the place lost a black node, the subtree there is short: each way down has one
-//! black node less than it had. On the way up, the link to the subtree is stored where it changed,
-//! and a short one is filled (`fills`). As soon as the subtree in hand has the link that it had and
-//! is not short, nothing above changes any more, and the rest of the way is one jump.
+//! An erase goes down once to the node. If it has no right subtree, its left one takes its place;
+//! else the next node in order does, the first of its right subtree, which is taken out there. If
+//! the place lost a black node, the subtree there is short: each way down has one black node less
+//! than it had. On the way up, the link to the subtree is stored if it changed, and a short one is
+//! filled (`fills`). As soon as the subtree in hand has the link that it had and is not short,
+//! nothing above changes any more, and the rest of the way is one jump.
 //!
 //!           50                     60                      60
 //!          /  \                   /  \                    /  \
@@ -76,8 +76,8 @@ pub fn erase<P: Probe>(
     Some(row)
 }
 
-// Takes the node in hand out: the next node in order takes its place. Returns whether what stands
-// there is short.
+// Takes the node in hand out: the next node in order takes its place, or its left subtree if it has
+// no right one. Returns whether the tree in hand is short then.
 fn take_node(out: &mut Vec<Store>, copy: TreeCopy, cursor: &mut Cursor) -> bool
     requires fork { is_fork cursor.old.tree ≡ true }
     requires steps { depth (shape cursor.old.tree) + length cursor.old.path ≤ 64 }

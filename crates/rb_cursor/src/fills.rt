@@ -1,5 +1,5 @@
 //! A node one of whose subtrees has one black node less on each way down than the other is mended
-//! by rotations (the drawings stand in `rb_trees/specs/Erased`).
+//! by rotations (`rb_trees/specs/Erased` has the drawings).
 
 ghost use Rattle.std.specs.Prelude.{◌≡◌, ◌+◌, ◌<◌, length, vec_capacity};
 ghost use Rattle.rb_trees.specs.Erased.{lowered, filled, fill_links, filled_black};
@@ -15,8 +15,8 @@ use crate::turns::turn;
 use rb_trees::Side;
 use word_layout::{Store, TreeCopy};
 
-/// What stands in the place of a node of this colour that had the tree in hand alone. Returns
-/// whether that is one black node short.
+/// Lets the tree in hand take the place of a node of this colour that had no other subtree: if the
+/// node was black, the top becomes black. Returns whether the tree is one black node short then.
 pub(crate) fn lower(cursor: &mut Cursor, red: bool) -> bool
     ensures short { result ≡ (lowered red cursor.old.tree).short }
     ensures cursor { cursor.new ≡ holding (lowered red cursor.old.tree).tree cursor.old }
@@ -31,7 +31,7 @@ pub(crate) fn lower(cursor: &mut Cursor, red: bool) -> bool
     !top.red
 }
 
-// Mends the node in hand, whose subtree on a side is one black node short, where its other child is
+// Mends the node in hand, whose subtree on a side is one black node short and whose other child is
 // black. Returns whether the whole is one black node short then.
 #[inline(always)]
 fn fill_black(out: &mut Vec<Store>, copy: TreeCopy, cursor: &mut Cursor, side: Side) -> bool
@@ -75,7 +75,7 @@ fn fill_black(out: &mut Vec<Store>, copy: TreeCopy, cursor: &mut Cursor, side: S
     !red
 }
 
-// As `fill` does; where the side is known, the compiler leaves no choice by it.
+// As `fill`; the compiler knows the side here, and leaves no choice by it.
 #[inline(always)]
 fn fill_on(out: &mut Vec<Store>, copy: TreeCopy, cursor: &mut Cursor, side: Side) -> bool
     requires steps { length cursor.old.path + 1 < 64 }

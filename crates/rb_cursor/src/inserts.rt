@@ -1,7 +1,7 @@
 //! Inserts.
 //!
 //! An insert goes down once to the place of the new leaf, plants it red, and goes up. At each node
-//! above, the link to the subtree is stored where it changed, and two red nodes in line are mended
+//! above, the link to the subtree is stored if it changed, and two red nodes in line are mended
 //! (`mends`). As soon as the subtree in hand has the link that it had and a black top, nothing
 //! above changes any more, and the rest of the way is one jump.
 //!
@@ -101,8 +101,8 @@ pub fn insert_apart<O: TreeOrder>(
     false
 }
 
-// Plants a record where no node is in hand, and goes all the way up to the root, to which the link
-// was `root`.
+// Plants a record, with no node in hand, and goes all the way up to the root, to which the link was
+// `root`.
 #[inline(always)]
 fn grow(out: &mut Vec<Store>, copy: TreeCopy, cursor: &mut Cursor, added: Record, root: u64)
     requires leaf { cursor.old.tree ≡ tip }

@@ -1,5 +1,5 @@
 //! A black node one of whose children is red with a red child is mended: it is recoloured with its
-//! children, or turned (the drawings stand in `rb_trees/specs/Inserted`).
+//! children, or turned (`rb_trees/specs/Inserted` has the drawings).
 
 ghost use Rattle.std.specs.Prelude.{◌≡◌, ◌<◌, length, vec_capacity};
 ghost use Rattle.rb_trees.specs.Inserted.{mended, mend_links};
@@ -33,7 +33,7 @@ fn recolour(cursor: &mut Cursor)
     cursor.close(true);
 }
 
-// As `mend` does; where the side is known, the compiler leaves no choice by it.
+// As `mend`; the compiler knows the side here, and leaves no choice by it.
 #[inline(always)]
 fn mend_on(out: &mut Vec<Store>, copy: TreeCopy, cursor: &mut Cursor, side: Side)
     requires steps { length cursor.old.path < 64 }

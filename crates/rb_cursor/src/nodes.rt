@@ -1,4 +1,4 @@
-//! Nodes as the slab has them, and what a cursor tells of one.
+//! Nodes as the slab has them, and what a cursor shows of one.
 
 ghost use Rattle.std.specs.Prelude.{◌≡◌};
 ghost use Rattle.rb_trees.specs.Sides.{opposite};
@@ -86,7 +86,7 @@ pub struct Top {
 /// The nearest node above the tree in hand.
 #[derive(Clone, Copy, Debug, PartialEq, Eq, Drop)]
 pub struct Nearest {
-    /// On which side of it the tree in hand stands.
+    /// On which side of it the tree in hand is.
     pub side: Side,
     /// Whether it is red.
     pub red: bool,

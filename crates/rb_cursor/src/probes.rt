@@ -1,4 +1,4 @@
-//! What is sought in a tree: where it lies against the item of a node.
+//! What is sought in a tree, and how it compares with the item of a node.
 
 ghost use Rattle.std.specs.Prelude.{◌≡◌, ℕ, false};
 ghost use Rattle.std.specs.Ordering.{is_eq, is_lt};

@@ -58,7 +58,7 @@ impl<'a> Reading<'a> {
         Reading { nodes, link }
     }
 
-    /// The same tree, once more.
+    /// A copy of this reading.
     #[inline(always)]
     pub fn again(&self) -> Reading<'a>
         ensures { result ≡ self.now }
@@ -126,7 +126,7 @@ impl<'a> Reading<'a> {
         }
     }
 
-    /// Where two red nodes stand in line at the top, seen from the side where the tree stands.
+    /// Whether the top and a child of it are red, and which child, for a tree on this side.
     #[inline(always)]
     pub fn clash(&self, side: Side) -> Clash
         ensures { result ≡ clash side self.now }

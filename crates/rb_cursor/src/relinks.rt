@@ -1,4 +1,4 @@
-//! The store of a link, where it is another than before.
+//! The store of a link, if it changed.
 
 ghost use Rattle.std.specs.Prelude.{◌≡◌, vec_capacity};
 ghost use Rattle.rb_trees.specs.Sides.{link_word};
@@ -21,7 +21,7 @@ pub(crate) fn link_of(copy: TreeCopy, side: Side, node: u32) -> usize
     }
 }
 
-/// Stores the link of a node on a side, where it is another than before.
+/// Stores the link of a node on a side, if it changed.
 #[inline(always)]
 pub(crate) fn relink(
     out: &mut Vec<Store>,
@@ -43,7 +43,7 @@ pub(crate) fn relink(
     }
 }
 
-/// Stores the link of the root, where it is another than before.
+/// Stores the link of the root, if it changed.
 #[inline(always)]
 pub(crate) fn relink_root(out: &mut Vec<Store>, copy: TreeCopy, before: u64, after: u64)
     requires { Fits out.old (relink_root (copy_number copy) before after) }

@@ -43,7 +43,7 @@ pub fn find_any(tree: &Reading<'_>, a: u64) -> Option<Item>
     }
 }
 
-// Whether a first word is among these, by halves where they are known to rise.
+// Whether a first word is among these, by halves if they are known to rise.
 fn is_left_out(a: u64, but: &[u64], rising: bool) -> bool
     requires { IsTrue rising → IsNonDecreasing but.now }
     ensures { result ≡ list_any (λ x. x == a) but.now }
@@ -55,9 +55,9 @@ fn is_left_out(a: u64, but: &[u64], rising: bool) -> bool
     }
 }
 
-/// Whether some item, those with one of the first words `but` left out, is not apart from this one,
-/// where no item beyond one that is apart can meet the item. Where the words are `rising`, each of
-/// the items that is met costs a search by halves among them.
+/// Whether some item with none of the first words `but` is not apart from this one, in a tree in
+/// which no item beyond one that is apart can meet it. If the words are `rising`, each item that is
+/// met costs a search by halves among them.
 pub fn meets<O: TreeOrder>(tree: &Reading<'_>, item: &Item, but: &[u64], rising: bool) -> bool
     requires { IsTrue rising → IsNonDecreasing but.now }
     ensures { result ≡ meets_on_the_way O.order item.now but.now tree.now }
@@ -78,8 +78,8 @@ pub fn meets<O: TreeOrder>(tree: &Reading<'_>, item: &Item, but: &[u64], rising:
     false
 }
 
-/// Whether some item, those with one of the first words `but` left out, is not apart from this one;
-/// goes through all.
+/// Whether some item with none of the first words `but` is not apart from this one; goes through
+/// all.
 pub fn meets_any<O: TreeOrder>(tree: &Reading<'_>, item: &Item, but: &[u64], rising: bool) -> bool
     requires { IsTrue rising → IsNonDecreasing but.now }
     ensures { result ≡ meets_anywhere O.order item.now but.now tree.now }

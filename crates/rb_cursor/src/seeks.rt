@@ -13,8 +13,8 @@ use rb_trees::Side;
 use std::marker::PhantomData;
 
 impl Cursor {
-    /// Goes down to where an item belongs: after those that are not greater, in a tree that is in
-    /// order. No node is in hand then.
+    /// Goes down to the place of an item: after the items that are not greater, in a tree that is
+    /// in order. No node is in hand then.
     #[inline]
     #[tactic(auto, using(rb_trees::proofs::PathLemmas::place_leaf))]
     pub fn seek_leaf<O: TreeOrder>(&mut self, item: &Item)
@@ -26,8 +26,8 @@ impl Cursor {
         self.seek(&LeafProbe::<O>(*item, PhantomData));
     }
 
-    /// Goes down to where an item belongs, unless it meets one on the way: then that one is in
-    /// hand. Returns whether it does, in a tree where no item beyond one that is apart can meet it.
+    /// Goes down to the place of an item, unless it meets one on the way: then that one is in hand.
+    /// Returns whether it does, in a tree in which no item beyond one that is apart can meet it.
     #[inline]
     #[tactic(auto, using(crate::proofs::SeekLemmas::apart_ways))]
     pub fn seek_apart<O: TreeOrder>(&mut self, item: &Item) -> bool
@@ -43,7 +43,7 @@ impl Cursor {
         !self.tree().is_empty()
     }
 
-    /// Goes down to the node of what is sought. No node is in hand then where there is none.
+    /// Goes down to the node of what is sought. If there is none, no node is in hand then.
     #[inline]
     pub fn seek<P: Probe>(&mut self, sought: &P)
         requires { depth (shape self.old.tree) + length self.old.path ≤ 64 }

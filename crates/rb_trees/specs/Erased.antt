@@ -1,10 +1,10 @@
--- An erase: a node with no right subtree gives its place to the left one, any other to the next node
--- in order, which has no left subtree; going up, a node is filled whose subtree on a side is short:
--- each way down in it has one black node less than before.
+-- An erase: if a node has no right subtree, its left one takes its place; else the next node in
+-- order does, which has no left subtree. Going up, a node is filled if its subtree on a side is
+-- short: each way down in that subtree has one black node less than before.
 --
--- The short subtree is near, the node y, the other child x. Where x is black with a red child on
--- the outer side, y is turned to the side of near; a red child on the inner side takes the place of
--- x first. Where x and its children are black, x becomes red, and the whole is short unless y was
+-- The short subtree is near, the node y, the other child x. If x is black with a red child on the
+-- outer side, y is turned to the side of near; if the inner child alone is red, it takes the place
+-- of x first. If x and its children are black, x becomes red, and the whole is short unless y was
 -- red. (A star marks a red node; the top keeps the colour of y.)
 --
 --       y              x               y                z               y             y
@@ -43,7 +43,7 @@ pub record Remainder : Type 0 where
 abbrev pub whole : ColouredTree → Remainder
 whole t = record { tree = t; short = false }
 
--- what stands in the place of a node of this colour that had one subtree at most
+-- what takes the place of a node of this colour that had one subtree at most
 abbrev pub lowered : Bool → ColouredTree → Remainder
 lowered true t = whole t
 lowered false tip = record { tree = tip; short = true }
@@ -112,15 +112,15 @@ fill_links s copy tip = []
 fill_links s copy (branch red l y r) =
     fill_links_over s copy (on s l r) y (on (opposite s) l r)
 
--- where a first word lies against a record
+-- how a first word compares with the item of a record
 abbrev pub first_word_at : ℕ → Record → Ordering
 first_word_at a y = if a == y.item.a then Equal else if nat_lt a y.item.a then Less else Greater
 
--- where an item of the tree lies against a record, by an order's `less`
+-- how an item of the tree compares with the item of a record, by an order's `less`
 abbrev pub item_lies : (Item → Item → Bool) → Item → Record → Ordering
 item_lies less i y = if y.item.a == i.a then Equal else if less i y.item then Less else Greater
 
--- the record where the function leads
+-- the record to which the function leads
 abbrev pub record_found_at : Ordering → Record → Option Record → Option Record → Option Record
 record_found_at Less y less more = less
 record_found_at Equal y less more = Some y

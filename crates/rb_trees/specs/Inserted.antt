@@ -1,7 +1,7 @@
 -- An insert: the new node is a red leaf; going up, a black node is mended that has a red child with
 -- a red child.
 --
--- The child on one side is x, the node y. Where the other child is red, too, the three change their
+-- The child on one side is x, the node y. If the other child is red, too, the three change their
 -- colours, and nothing moves. Else y is turned to the other side; a red child on the inner side
 -- takes the place of x first. (A star marks a red node.)
 --
@@ -22,7 +22,7 @@ use Rattle.rb_trees.specs.Trees.{ColouredTree, tip, branch, is_red, blackened, s
 use Rattle.rb_trees.specs.Sides.{opposite, on, sided}
 use Rattle.rb_trees.specs.Turns.{link, relink, turned, turn_links}
 
--- where the top of a tree on this side and a child of it are red
+-- whether the top of a tree on this side and a child of it are red, and which child
 abbrev pub clash : Side → ColouredTree → Clash
 clash s tip = Nowhere
 clash s (branch red l x r) =

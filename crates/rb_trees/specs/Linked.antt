@@ -7,7 +7,7 @@ use Rattle.word_layout.specs.Words.{words_for, Leads}
 use Rattle.word_layout.specs.Stores.{words_after_all, AreLinkStores}
 use Rattle.rb_trees.specs.Turns.{link}
 
--- the links inside a tree stand in the words of its nodes
+-- the words of a tree's nodes have the links inside the tree
 abbrev pub Inner : List ℕ → ℕ → Nodes → Type 0
 Inner m copy none = Unit {0}
 Inner m copy (fork l i r) =
@@ -19,7 +19,7 @@ abbrev pub Among : Nodes → ℕ → Type 0
 Among none i = ⊥
 Among (fork l j r) i = (i ≡ j) ⊎ Among l i ⊎ Among r i
 
--- no node stands twice in the tree
+-- no node is in the tree twice
 abbrev pub IsSeparate : Nodes → Type 0
 IsSeparate none = Unit {0}
 IsSeparate (fork l i r) =
@@ -30,7 +30,7 @@ IsSeparate (fork l i r) =
 abbrev pub With : (ℕ → Type 0) → Nodes → ℕ → Type 0
 With others t i = others i ⊎ Among t i
 
--- a memory of n nodes has those of the tree, none twice, and some others beside them
+-- a memory of n nodes has the nodes of the tree, none twice, and some others beside them
 pub record HasRoom (n : ℕ) (others : ℕ → Type 0) (t : Nodes) : Type 0 where
   pub below : (i : ℕ) → With others t i → i < n
   pub free : (i : ℕ) → others i → Among t i → ⊥

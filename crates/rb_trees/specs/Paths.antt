@@ -17,7 +17,7 @@ pub record Above : Type 0 where
   pub row : Record
   pub other : ColouredTree
 
--- the node above in this colour, with the tree where the way went on
+-- the node above in this colour, with the tree on the side on which the way went on
 abbrev pub joined : Above → Bool → ColouredTree → ColouredTree
 joined a red t = sided a.side red t a.row a.other
 
@@ -33,7 +33,7 @@ past_left red y r = record { side = Left; red = red; row = y; other = r }
 abbrev pub past_right : Bool → ColouredTree → Record → Above
 past_right red l y = record { side = Right; red = red; row = y; other = l }
 
--- the place where a record lies, by where it lies against each: its node, or none
+-- the place to which comparisons with records lead: a node, or none
 abbrev pub place_from : Ordering → ColouredTree → ColouredTree → ColouredTree → ColouredTree
 place_from Less left here right = left
 place_from Equal left here right = here
@@ -56,7 +56,7 @@ way_at seen (branch red l y r) path =
     way_from (seen y) (way_at seen l (past_left red y r ∷ path)) path
     (way_at seen r (past_right red l y ∷ path))
 
--- where an item belongs, by an order's `less`: after each record that it is not less than
+-- an item belongs after each record that it is not less than, by an order's `less`
 abbrev pub leaf_lies : (Item → Item → Bool) → Item → Record → Ordering
 leaf_lies less x y = if less x y.item then Less else Greater
 

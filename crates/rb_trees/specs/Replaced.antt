@@ -24,8 +24,8 @@ Own others gone t i = With others t i × (gone i → ⊥)
 
 -- of the whole old tree these records are to be left, and some nodes are gone
 module _ (c : ℕ) (others gone : ℕ → Type 0) (whole : ColouredTree) (rs : List Record) where
-  -- at the end of this path one tree stands for another, a part of the whole: with it the records
-  -- are those, and the stores lead its links there
+  -- at the end of this path a new tree takes the place of an old one, a part of the whole: the
+  -- records are these then, and the stores make the old tree the new one
   pub record Replaced (path : List Above) (was t : ColouredTree) (ss : List Store) : Type 0 where
     pub old : plugged path was ≡ whole
     pub in_order : rows (plugged path t) ≡ rs
@@ -38,7 +38,7 @@ pub record Sound (t : ColouredTree) (h : ℕ) : Type 0 where
   pub calm : HasNoClash t
   pub high : HasBlackHeight t h
 
--- what may stand in the place of a sound tree of this colour and height: one that is not short, or
+-- what may take the place of a sound tree of this colour and height: a tree that is not short, or
 -- one that is
 abbrev pub Fits : Bool → ℕ → ColouredTree → Bool → Type 0
 Fits red h t false = Sound t h × (red ≡ false → is_red t ≡ false)

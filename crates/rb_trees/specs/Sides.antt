@@ -1,4 +1,4 @@
--- The two sides of a node: what stands on each, so that a case is told once for both.
+-- The two sides of a node: what is on each, so that a case is written once for both.
 use Rattle.std.specs.Prelude.{ℕ, Bool}
 use Rattle.word_layout.specs.declared.stores.Store.{Store}
 use Rattle.word_layout.specs.Words.{left_word, right_word}

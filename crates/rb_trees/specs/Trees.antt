@@ -30,7 +30,7 @@ abbrev pub rows : ColouredTree → List Record
 rows tip = []
 rows (branch red l x r) = rows l ++ x ∷ rows r
 
--- every way down has so many black nodes
+-- every way down has h black nodes
 abbrev pub HasBlackHeight : ColouredTree → ℕ → Type 0
 HasBlackHeight tip h = h ≡ 0
 HasBlackHeight (branch true l x r) h = HasBlackHeight l h × HasBlackHeight r h

@@ -17,7 +17,7 @@ pub struct Record {
 pub enum Clash {
     /// No.
     Nowhere,
-    /// With the child on the same side.
+    /// With the child on that side.
     Outer,
     /// With the child on the other side alone.
     Inner,

@@ -124,9 +124,9 @@ impl<O: TreeOrder> Shape<O> {
         }
     }
 
-    /// Whether some item, those with one of the first words `but` left out, is not apart from this
-    /// one; `rising` says that these words rise. Then each item that is met costs a search by halves
-    /// among them, so k of them cost O((k + 1) log n + k log k) in an order of items in line
+    /// Whether some item with none of the first words `but` is not apart from this one; `rising`
+    /// says that these words rise. Then each item that is met costs a search by halves among them,
+    /// so k of them cost O((k + 1) log n + k log k) in an order of items in line
     /// ([`TreeOrder::in_line`]).
     pub fn meets(&self, item: &Item, but: &[u64], rising: bool) -> bool
         requires { IsTrue rising → IsNonDecreasing but.now }
@@ -262,7 +262,7 @@ impl<O: TreeOrder> Shape<O> {
 
 // Takes the record of a first word out of the tree, if there is one, and appends the stores of
 // links. Returns its node. In an order that is in no line the item is looked for among all first,
-// since its first word tells nothing of its place there.
+// since its first word says nothing about its place there.
 fn without_word<O: TreeOrder>(
     out: &mut Vec<Store>,
     copy: TreeCopy,

@@ -48,7 +48,7 @@ most_steps n u = 64 * (n + 1) * (size_of u + 1)
 abbrev pub some_invalid : {K : Type 0} → Order K → List Item → Bool
 some_invalid o items = list_any (λ i. not (o.valid i)) items
 
--- some first word is in no item of the table, and some stands twice
+-- some first word is in no item of the table; some first word is listed twice
 abbrev pub some_missing : List ℕ → List Item → Bool
 some_missing words table = list_any (λ a. not (has a table)) words
 
@@ -68,12 +68,12 @@ some_overlap o (i ∷ rest) = meets o i rest || some_overlap o rest
 abbrev pub some_meet : {K : Type 0} → Order K → List Item → List Item → Bool
 some_meet o items table = list_any (λ i. meets o i table) items
 
--- some item cannot be inserted where the items of these first words go
+-- some item cannot be inserted into the table without the items of these first words
 abbrev pub cannot_insert : {K : Type 0} → Order K → List ℕ → List Item → List Item → Bool
 cannot_insert o words items table =
     some_overlap o items || some_meet o items (without_all words table)
 
--- a test, and the refusal that it stands for; the first that holds gives its own
+-- a test and its refusal; the first test that holds gives the refusal
 abbrev pub Test : Type 0
 Test = Bool × Refusal
 

@@ -7,9 +7,9 @@ use std::marker::Model;
 
 /// First words or items of one update.
 ///
-/// A contract sees the list of them: two of the same list are equal, whatever room lies after
-/// either. The list stands behind a pointer, so that a batch makes no update larger than an item
-/// does: a trace keeps many updates, and few of them are batches.
+/// A contract sees the list of them: two with equal lists are equal, whatever room lies after
+/// either. The list is in a box, so that a batch makes no update larger than an item does: a trace
+/// keeps many updates, and few of them are batches.
 #[derive(Debug, Drop)]
 pub struct Entries<T> {
     items: Box<Vec<T>>,
@@ -70,7 +70,7 @@ impl<T: Copy> Entries<T> {
         Entries::new(Vec::from_slice(alloc, items)?)
     }
 
-    /// The same entries once more.
+    /// A copy of these entries.
     pub fn copy(&self) -> Result<Self, AllocError>
         ensures { IfOk result (λ entries. entries ≡ self.now) }
     {

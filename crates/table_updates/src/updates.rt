@@ -31,7 +31,7 @@ impl Update {
         })
     }
 
-    /// The same update once more. Refused by [`Refusal::OutOfMemory`] alone.
+    /// A copy of this update. Refused by [`Refusal::OutOfMemory`] alone.
     pub fn copy(&self) -> Result<Update, Refusal>
         ensures same { IfOk result (λ u. u ≡ self.now) }
         ensures refusal { IfErr result (λ e. e ≡ Refusal.OutOfMemory) }

@@ -1,4 +1,4 @@
--- What a clause reads of a writer whose calls tell what they came to.
+-- What a clause reads of a writer whose calls return success or failure.
 use Rattle.std.specs.Prelude.{ℕ, nat_eq, Bool, true, false, Option, Some, Result, Ok, Err}
 use Rattle.std.specs.declared.io.Error.{Error}
 use Rattle.texts.specs.declared.device.Device.{Device}
@@ -19,12 +19,12 @@ error_kept d = d.error
 abbrev pub is_settled : {W : Type 0} → Device W → Bool
 is_settled d = d.flushed
 
--- whether an answer to bytes tells of a failed call: none were taken, or an error came
+-- whether the answer to bytes is a failure: none were taken, or an error came
 abbrev pub is_failed_write : {E : Type 0} → Result ℕ E → Bool
 is_failed_write (Ok taken) = nat_eq taken 0
 is_failed_write (Err e) = true
 
--- whether an answer to a flush does
+-- whether the answer to a flush is a failure
 abbrev pub is_failed_flush : {E : Type 0} → Result (Unit {0}) E → Bool
 is_failed_flush (Ok u) = false
 is_failed_flush (Err e) = true

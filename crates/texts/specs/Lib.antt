@@ -3,7 +3,7 @@
 pub mod Counted
 -- the text of an address
 pub mod Exact
--- what a clause reads of a writer whose calls tell what they came to
+-- what a clause reads of a writer whose calls return success or failure
 pub mod Device
 -- what is said to an output, and what its device takes of it
 pub mod Output

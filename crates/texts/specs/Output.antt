@@ -80,7 +80,8 @@ Delivered contents old new text =
     × Appends (contents_of contents old) (contents_of contents new) text
     × (is_flushed new ≡ true)
 
--- This is the writer of an output that was opened over another one, after it took all that was said.
+-- This is the writer of an output that was opened over another one, after it took all that was
+-- said.
 abbrev pub TookAll : {W : Type 0} → (W → Option (List ℕ)) → Output W → W → Type 0
 TookAll {W} contents o w =
     (device : W) (opened : Output W) (text : List ℕ) → IsOpenedOver device opened

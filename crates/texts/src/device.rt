@@ -3,7 +3,7 @@
 //! Whatever else is said to fail, or not to, rests on the three calls by themselves: `write` and
 //! `flush` here, and `read` of [`crate::Counted`]. A clause can say what becomes of the answer of
 //! such a call, but not that the answer is what the writer or the reader itself gave. So nothing
-//! else stands in this file, whose functions alone can say that a call failed.
+//! else is in this file, whose functions alone can say that a call failed.
 ghost use Rattle.std.specs.Prelude.{◌≡◌, ◌<◌, None, Some, false, true, length, is_ok};
 ghost use Rattle.std.specs.Io.{WritesAtMost};
 ghost use Rattle.std.specs.Io.KnownBytes.{Keeps, WriteAppends};

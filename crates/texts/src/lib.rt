@@ -6,6 +6,33 @@
 //! A fault of input or output may be reported only if a call of the device failed. So a reader is
 //! called through [`Counted`] and a writer through [`Output`], and each contract that speaks of a
 //! fault speaks of what these count or keep.
+//!
+//! A caller has a form of lines, reads a text by it, and says its answers to an output:
+//!
+//! ```text
+//! struct NumberForm;
+//!
+//! impl<'a> Form<'a> for NumberForm {
+//!     type Entry = u64;
+//!     ghost entry_of = { λ _ line. number_of line };
+//!
+//!     fn entry(&self, line: &'a [u8]) -> Result<Option<u64>, AllocError> {
+//!         Ok(number(line))
+//!     }
+//! }
+//!
+//! let mut reader = Counted::new(rt.stdin());
+//! let bytes = read_whole(alloc, &mut reader)?;
+//! // Err(LineFault::BadLine(4)) if line 4 is the first that is not a number
+//! let numbers = entries_in(alloc, &NumberForm, 1, &bytes)?;
+//!
+//! let mut output = Output::with_capacity(alloc, BLOCK, rt.stdout())?;
+//! for n in &numbers {
+//!     output.put_hexadecimal(*n);
+//!     output.put(b"\n");
+//! }
+//! let done = output.finish().is_some(); // false if a call of the device failed
+//! ```
 #![tactic(auto)]
 
 mod counted;

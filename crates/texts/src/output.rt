@@ -126,7 +126,7 @@ impl<W: Write> Output<W> {
         append(&mut self.kept, bytes);
     }
 
-    /// Says bytes, none of which is kept back.
+    /// Says bytes, and keeps none of them back.
     fn put_past(&mut self, bytes: &[u8])
         ensures { Says W.contents self.old self.new bytes.now }
     {
@@ -150,8 +150,8 @@ impl<W: Write> Output<W> {
         remove_front(&mut self.kept, taken);
     }
 
-    /// Says bytes, keeps nothing back, and lets the writer keep nothing back. They go to the writer as
-    /// they are, so that a long text is not copied.
+    /// Says bytes, keeps nothing back, and lets the writer keep nothing back. They go to the writer
+    /// as they are, so that a long text is not copied.
     pub fn deliver(&mut self, bytes: &[u8])
         ensures { Delivers W.contents self.old self.new bytes.now }
     {
@@ -210,7 +210,7 @@ impl<W: Write> Output<W> {
 }
 
 /// Calls the writer until it has taken all of these bytes or a call failed, and returns how many it
-/// took. It stands apart from the device, so that no failure can be said here but by a call.
+/// took. It is apart from the device, so that no failure can be said here but by a call.
 fn write_all<W: Write>(device: &mut Device<W>, bytes: &[u8]) -> usize
     requires sound { is_broken device.old ≡ false }
     ensures bound { result ≤ length bytes.now }

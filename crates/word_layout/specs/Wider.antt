@@ -2,6 +2,6 @@
 use Rattle.std.specs.Prelude.{ℕ, ◌-◌, ◌*◌, List, ◌++◌, replicate}
 use Rattle.word_layout.specs.Words.{words_per_node}
 
--- after its words, those of the nodes that come in addition, all 0
+-- its words, and after them the words of the added nodes, all 0
 abbrev pub wider_words : ℕ → ℕ → List ℕ → List ℕ
 wider_words n n' m = m ++ replicate (words_per_node * (n' - n)) 0

@@ -7,7 +7,7 @@ use Rattle.order_laws.specs.declared.items.Item.{Item}
 abbrev pub words_per_node : ℕ
 words_per_node = 7
 
--- where the words lie; copy is 0 or 1
+-- the number of each word; copy is 0 or 1
 abbrev pub root_word : ℕ → ℕ
 root_word copy = 1 + copy
 

@@ -11,7 +11,7 @@ use crate::places::{TreeCopy, a_of, b_of, left_of, right_of, root_of, tag_of};
 use order_laws::Item;
 use std::alloc::{AllocError, Global};
 
-/// The items that a copy holds, from left to right in its tree; none where its links lead to no
+/// The items that a copy holds, from left to right in its tree; none if its links lead to no
 /// tree, or to one of more nodes than there are.
 pub fn held_in(
     alloc: Global,
@@ -35,7 +35,7 @@ pub fn held_in(
 }
 
 // Appends the items of the tree that a link leads to, and returns how many of `left` visits are
-// left; none where there is no such tree of at most `left` nodes.
+// left; none if there is no such tree of at most `left` nodes.
 fn walk(
     l: Layout,
     copy: TreeCopy,

@@ -1,4 +1,4 @@
-//! Where words lie, as contracts of a function that does nothing.
+//! That words differ, as contracts of a function that does nothing.
 
 ghost use Rattle.std.specs.Prelude.{◌≡◌, ◌≢◌, ◌<◌, ◌+◌, ◌*◌, ℕ};
 ghost use Rattle.word_layout.specs.Words.{root_word, a_word, b_word, tag_word, words_per_node};

@@ -3,7 +3,7 @@
 //! A memory is a row of 64-bit words. Word 0 holds the sequence; words 1 and 2 the roots of copy 0
 //! and copy 1; then come seven words for each node: the item's `a`, `b` and `tag`, which serve both
 //! copies, and the left and right link of copy 0 and of copy 1. A link is 0 for none, or a node's
-//! number plus 1. The numbering is told in docs/FORMATS.md.
+//! number plus 1. docs/FORMATS.md has the numbering.
 #![tactic(auto)]
 
 pub mod held;

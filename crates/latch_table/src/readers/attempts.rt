@@ -38,8 +38,8 @@ pub(super) fn attempt<O: TreeOrder>(
     }
 }
 
-/// What is remembered, if one load of the sequence tells that it is the answer; else one
-/// attempt, which begins with that load.
+/// What is remembered, if one load of the sequence shows that it is the answer; else one attempt,
+/// which begins with that load.
 #[inline(always)]
 pub(super) fn look<O: TreeOrder>(
     words: ReadWords<'_, O>,

@@ -111,8 +111,8 @@ impl<O: TreeOrder> Reader<O> {
         tried
     }
 
-    /// What a key lies in, if memory tells: it lies in the item that was found last, and no
-    /// update was shown since. One load of the sequence shows whether.
+    /// What a key lies in, if that is the item that was found last, and no update was shown since.
+    /// One load of the sequence shows whether.
     pub fn recall(&mut self, k: O::Key) -> Option<(Item, u64)>
         ensures place { self.new.place ≡ self.old.place }
         ensures memory { self.new.memory ≡ self.old.memory }

@@ -1,7 +1,7 @@
 //! The items of a table replaced by others, as one update.
 //!
 //! With no pending update the writer's seat reads the table from the words of copy 0, item by item
-//! from left to right, and tells each to a difference, which finds what is to be erased and what to
+//! from left to right, and gives each to a difference, which finds what is to be erased and what to
 //! be inserted. Memory is taken for what differs alone.
 
 ghost use Rattle.std.specs.Prelude.{◌≡◌, ◌<◌, [], true, IfOk, IfErr, OnOk};
@@ -52,7 +52,7 @@ fn copied_item<O: TreeOrder>(words: &Words<O>, seat: &mut TableSeat, l: Layout, 
     Item { a, b, tag }
 }
 
-/// Tells a difference from a list the items of the tree that a link of copy 0 leads to, from left
+/// Gives a difference from a list the items of the tree that a link of copy 0 leads to, from left
 /// to right. The tree has `most` nodes at most.
 fn tell_tree<O: TreeOrder>(
     words: &Words<O>,
