@@ -128,12 +128,12 @@ parts_of (line ∷ more) = elim (header_of (without_end line)) [
 abbrev pub AreInOrder : List HistoryPart → Type 0
 AreInOrder parts = IsNonDecreasingBy (λ part. part.header.time) parts
 
--- the parts of these lines, the first of which has this number; or the number of the first line that
--- is not understood
+-- the parts of these lines, if their first has this number; or the number of the first line that is
+-- not understood
 abbrev pub parts_from : ℕ → List (List ℕ) → Result (List HistoryPart) ℕ
 parts_from first ls = option_map_or (λ n. Err n) (first_bad None first ls) (Ok (parts_of ls))
 
--- those of a history
+-- the parts of a history, whose first line is no part
 abbrev pub history_of : List (List ℕ) → Result (List HistoryPart) ℕ
 history_of [] = Err 1
 history_of (first ∷ more) =

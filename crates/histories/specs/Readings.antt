@@ -20,8 +20,8 @@ BeginsHeader text = (text ≡ []) ⊎ (is_some (first_header (lines text)) ≡ t
 abbrev pub BeginsPart : Option Header → List ℕ → Type 0
 BeginsPart before text = (before ≡ None) ⊎ BeginsHeader text
 
--- The lines of a text go on as those of another one, with these numbers: what is understood of the
--- one, after this header or before any, is what is understood of the other after that one.
+-- The lines of a text go on as the lines of a rest, with these numbers: what is understood of the
+-- text, after one header or before any, is what is understood of the rest after another.
 pub record GoesOn (before after : Option Header) (first next : ℕ) (text rest : List ℕ) : Type 0 where
   pub bad : first_bad before first (lines text) ≡ first_bad after next (lines rest)
   pub numbered : next + length rest ≤ first + length text

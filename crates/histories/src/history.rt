@@ -112,8 +112,8 @@ struct Body<'a> {
     number: u64,
 }
 
-/// The lines that follow a header, the first of which has this number; or else the number of the
-/// first of them that is not understood.
+/// The lines that follow a header, if their first has this number; or else the number of the first
+/// of them that is not understood.
 fn body_in<'a>(header: Header, first: u64, text: &'a [u8]) -> Result<Body<'a>, u64>
     requires { first + length text.now < 2 ^ 64 }
     ensures { IsBodyIn header first text.now result }
@@ -171,7 +171,7 @@ fn part_in<'a>(
     Ok((part, body))
 }
 
-/// The parts that these lines have, the first of which has this number.
+/// The parts that these lines have, if their first has this number.
 fn parts_in<'a>(alloc: Global, first: u64, text: &'a [u8]) -> Result<Vec<Part<'a>>, LineFault>
     requires { first + length text.now < 2 ^ 64 }
     ensures { GivesInGrammar (λ parts. parts.items) result (parts_from first (lines text.now)) }

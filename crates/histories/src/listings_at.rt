@@ -209,8 +209,8 @@ impl<'a> History<'a> {
         Ok(ListingAt { count, text })
     }
 
-    /// The first listing, as the file has it. It says where the kernel itself lies, which does not
-    /// move in a boot.
+    /// The first listing, as the file has it. It shows the place of the kernel itself, which does
+    /// not move in a boot.
     pub fn first_listing(&self, alloc: Global) -> Result<ListingAt<'a>, AllocError>
         ensures first { IfOk result (λ l. l.count ≡ first_count self.now) }
         ensures of { IfOk result (IsOf self.now) }

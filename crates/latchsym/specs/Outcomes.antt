@@ -157,7 +157,7 @@ IsOutcomeOfLog remaining held contents errors s a symbols l l' i i' w w' e e' ou
     HoldsOfInput (IsLogOf remaining held contents errors s a symbols l l' w w' e e' outcome)
     i i' outcome
 
--- Events are recorded, by the listing that is read behind them.
+-- Events are recorded, by the listing that is read after them.
 abbrev pub IsRecordedBy : {R W : Type 0} → (R → Option (List ℕ)) → Held → (W → Option (List ℕ))
     → Sources → Record → Counted R → Output W → Output W → Result Finished Fault → Type 0
 IsRecordedBy remaining held contents s r events w w' outcome =

@@ -53,7 +53,7 @@ impl<'f, 'a, F: FileSource> FollowedFiles<'f, 'a, F> {
     ghost use Rattle.std.specs.Prelude.{◌≡◌, true};
 
     /// These readers, of files with these names. The listings are opened each time that they are
-    /// read, also the first: then they are as they are behind what was read of the log.
+    /// read, also the first: so they are as they are after what was read of the log.
     pub fn reopened(
         files: &'f F,
         names: &'f ListingFiles<'a>,

@@ -40,7 +40,7 @@ use std::sync::Wait;
 use std::thread::Threads;
 use texts::{Counted, Output};
 
-/// Where the files of a job are found. A file that cannot be opened is one whose reader fails, so
+/// The opener of the files of a job. A file that cannot be opened is one whose reader fails, so
 /// that the first file that fails, in the order of reading, is reported.
 pub trait FileSource {
     /// A reader of a file.

@@ -7,7 +7,7 @@
 //! - `run` does what a script says, each writer and each reader on a thread of its own
 //! - `annotate` writes a log again, with the symbol after each address, and may follow it
 //! - `check` says what is wrong with listings, and how many of their lines are of use
-//! - `address` says where the symbols of some names are
+//! - `address` gives the addresses of symbols by their names
 //! - `record` writes the history of a boot, from the events of its modules
 //!
 //! The options of each are in `rows`, and what they ask for in `requests`.

@@ -6,13 +6,13 @@
 //! something else, is an answer and no fault.
 //!
 //! ```text
-//! C's handle: kind, pointer       the pointer is that of a box, whose content is that of the
-//!                   |             model: the clauses of an export say the Rust call's clauses
-//!                   v             of it
+//! C's handle: kind, pointer       the pointer is a box's, and the model is the box's content: the
+//!                   |             clauses of an export say of it what the Rust call's clauses say
+//!                   v
 //!               content: a catalog, a writer or a reader
 //! ```
 //!
-//! The answers are numbers, of which each means one thing (`Answer`): 0 is success, those below 20
+//! The answers are numbers, and each means one thing (`Answer`): 0 is success, the others below 20
 //! are the refusals that the program prints, and 101 is for a handle that does not hold what is
 //! wanted. include/latchsym.h documents each call.
 #![tactic(auto)]

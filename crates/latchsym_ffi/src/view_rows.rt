@@ -4,7 +4,7 @@
 //! ```text
 //! view:      the regions, by rising first address
 //! region:    a, b, module | symbols: addr, place, name      by rising address
-//!                         | addresses: addr                 the same, closer together
+//!                         | addresses: addr                 once more, closer together
 //! ```
 //!
 //! A search goes through the addresses alone, and reads one symbol.
