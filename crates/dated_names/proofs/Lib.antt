@@ -1,0 +1,2 @@
+-- the law
+pub mod SameNames
