@@ -63,7 +63,7 @@ reasons() {
             FAILURE=4 once FAILED_WRITE=1 "$@"
             wanted="latchsym: cannot write"
             case $1 in
-                annotate | address | check) wanted+=" (${said[4]})" ;;
+                annotate | address | check | record) wanted+=" (${said[4]})" ;;
             esac
             { [ $status = 0 ] && [ ! -s err ] && cmp -s out ample; } ||
                 { [ $status = 1 ] && [ "$(cat err)" = "$wanted" ] && [ ! -s out ]; } ||
@@ -71,10 +71,10 @@ reasons() {
         else
             FAILURE=$error once FAILED_WRITES=1 "$@"
             case $1 in
-                annotate | address | check) wanted="latchsym: cannot write (${said[$error]})" ;;
+                annotate | address | check | record) wanted="latchsym: cannot write (${said[$error]})" ;;
                 *) wanted='latchsym: cannot write' ;;
             esac
-            [ "$1" != annotate ] || [ $error != 32 ] || wanted=
+            [[ $1 != annotate && $1 != record ]] || [ $error != 32 ] || wanted=
             [ $status = 1 ] && [ "$(cat err)" = "$wanted" ] && [ ! -s out ] ||
                 fail "latchsym $*: all writes fail with error $error: status $status, $(cat err)"
         fi
@@ -83,12 +83,16 @@ reasons() {
         [ "$name" != input ] || name=-
         wanted="latchsym: $name: cannot be read"
         case $1 in
-            annotate | address | check) wanted+=" (${said[$error]})" ;;
+            annotate | address | check | record) wanted+=" (${said[$error]})" ;;
         esac
-        [ $status = 1 ] && [ "$(cat err)" = "$wanted" ] && [ ! -s out ] ||
+        [ "$1" != record ] || echo 'latchhistory 1' | cmp -s - out || fail "latchsym $*: begins with $(head -c 200 out)"
+        [ $status = 1 ] && [ "$(cat err)" = "$wanted" ] && { [ ! -s out ] || [ "$1" = record ]; } ||
             fail "latchsym $*: the first read fails with error $error: status $status, $(cat err)"
     done
 }
+
+# streams ARGUMENT..: whether the command writes before it has read all
+streams() { [ "$1" = record ] || [[ $1 = annotate && $* != *"--offset auto"* ]]; }
 
 # tried READS WRITES ARGUMENT..: each call of the run is failed; so many reads and writes there are at
 # least
@@ -96,7 +100,7 @@ tried() {
     local reads=$1 writes=$2 call name before=0 reason= again=0
     shift 2
     case $1 in
-        annotate | address | check) reason=' (Input/output error)' ;;
+        annotate | address | check | record) reason=' (Input/output error)' ;;
     esac
     "$program" "$@" <input >ample 2>err && [ ! -s err ] || fail "latchsym $*: $(cat err)"
     pieces "$@"
@@ -112,7 +116,7 @@ tried() {
         fi
         [ $status = 1 ] && [ "$(cat err)" = "latchsym: $name: cannot be read$reason" ] && is_begun ||
             fail "latchsym $*: read $call fails: status $status, $(cat err)"
-        if [ "$1" != annotate ]; then
+        if ! streams "$@"; then
             [ ! -s out ] || fail "latchsym $*: read $call fails: $(head -c 200 out)"
         elif [ "$(stat -c %s out)" -lt $before ]; then
             fail "latchsym $*: read $call fails, and less is written than before"
@@ -123,7 +127,7 @@ tried() {
     [ $status = 0 ] && cmp -s out ample || fail "latchsym $*: no read fails: status $status, $(cat err)"
     [[ $* != *--follow* ]] || [ $again -ge 3 ] || fail "latchsym $*: $again reads of listings again, fewer than 3"
     [ $((call - 1)) -ge "$reads" ] || fail "latchsym $*: $((call - 1)) reads, fewer than $reads"
-    [ "$1" != annotate ] || [ $before -gt 0 ] || fail "latchsym $*: nothing was written before the last read"
+    ! streams "$@" || [ $before -gt 0 ] || fail "latchsym $*: nothing was written before the last read"
     calls=$((calls + call - 1))
     for ((call = 1; ; call++)); do
         once FAILED_WRITES=$call "$@"
@@ -149,6 +153,10 @@ long kallsyms '1000 T _stext\n2000 T _end\n3010 t a_run\t[a]\n'
 long regions 'latchregions 1\na core 0x3000 4096\n'
 long script 'unload 1 b\nlook 1 0x2000\n'
 long log 'at ffffffff81000108, 00003018, 0x000003018\n'
+long history 'latchhistory 1\nlisting 0.5\n1000 T _stext\n2000 T _end\n3010 t a_run\t[a]\n'
+long timed '1.000000: at ffffffff81000108, 00003018, 0x000003018\n'
+long moved '1.000000: Kernel Offset: 0x0 from 0x1000 at 00003018\n'
+long events ' 1.000000: tracing_mark_write: latchsym\n'
 long asked ''
 for _ in {1..5000}; do echo 0x3018; done >>asked
 cp asked input
@@ -167,6 +175,9 @@ tried 12 2 annotate "${both[@]}" log
 tried 5 1 annotate --kallsyms kallsyms -
 tried 9 2 annotate --follow --kallsyms kallsyms log
 tried 21 2 annotate --follow "${both[@]}" log
+tried 5 2 annotate --history history timed
+tried 5 1 annotate --history history --offset auto moved
+tried 5 2 record --kallsyms kallsyms events
 tried 9 1 check "${both[@]}"
 tried 3 1 check --kallsyms kallsyms
 tried 9 1 address "${both[@]}" a:a_run none
@@ -185,6 +196,7 @@ once_each trace trace
 once_each lookup "${both[@]}" --addresses asked
 once_each run "${both[@]}" --readers 1 script
 once_each annotate "${both[@]}" log
+once_each annotate --history history timed
 once_each check "${both[@]}"
 once_each address "${both[@]}" a:a_run
 

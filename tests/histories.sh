@@ -9,3 +9,10 @@ PROVED= build history_answers
 python3 "$top/tests/histories/compared.py" "$program" "${RUNS:-4000}" "${SEED:-1}"
 build latchsym
 python3 "$top/tests/histories/commands.py" "$program" "$((${RUNS:-4000} / 4))" "${SEED:-1}"
+
+# an example adds BPF programs, as perf saw them come and go, to a history
+examples=$top/examples/histories
+awk -f "$examples/bpf.awk" "$examples/bpf.perf" "$examples/history" >"$work/bpf"
+printf '%s: [<ffffffffc0005010>]\n' 8.200000 8.500000 9.500000 | "$program" annotate --history "$work/bpf" >"$work/named"
+printf '8.500000: [<ffffffffc0005010>] bpf_prog_7be49e3934a125ba_count+0x10/0x1000 [bpf]\n' |
+    cmp -s - <(grep bpf_prog "$work/named") || { echo "histories: a BPF program: $(cat "$work/named")"; exit 1; }

@@ -2,7 +2,8 @@
 # Runs the program on a long trace and on long listings under limits of its memory (`ulimit -v`),
 # from 6 MiB on, each twice the one before, until a limit is enough. Each run has to give what it
 # gives without a limit, or nothing on standard output, `latchsym: refused 7` on standard error and
-# status 1; of the steps of a trace, which are written as they are done, a beginning may stand there.
+# status 1; of the steps of a trace and of what is recorded, which are written as they come, a beginning may
+# stand there.
 #
 # LINES_OF_INPUT is the number of the trace's lines and of the listing's symbols.
 set -eu
@@ -10,9 +11,9 @@ set -eu
 build latchsym
 lines=${LINES_OF_INPUT:-200000}
 
-# is_begun ARGUMENT..: whether nothing was written, or of steps a beginning
+# is_begun ARGUMENT..: whether nothing was written, or of steps and of what is recorded a beginning
 is_begun() {
-    [ ! -s "$work/out" ] || [ "$2" = --steps ] && cmp -s -n "$(stat -c %s "$work/out")" "$work/out" "$work/ample"
+    [ ! -s "$work/out" ] || [[ $2 = --steps || $1 = record ]] && cmp -s -n "$(stat -c %s "$work/out")" "$work/out" "$work/ample"
 }
 
 # limited NAME ARGUMENT..: the program with these arguments, at each limit
@@ -63,3 +64,8 @@ awk -v lines="$lines" 'BEGIN {
 limited "a listing" lookup --modules "$work/none" --kallsyms "$work/input" --addresses "$work/asked"
 echo '[<ffffffff80001008>]' >"$work/log"
 limited "the symbols of a log" annotate --kallsyms "$work/input" "$work/log"
+echo ' 1.000000: tracing_mark_write: latchsym' >"$work/events"
+limited "a listing that is recorded" record --kallsyms "$work/input" "$work/events"
+sed -i '1i latchhistory 1\nlisting 0.5' "$work/input"
+echo '1.000000: [<ffffffff80001008>]' >"$work/log"
+limited "the history of a log" annotate --history "$work/input" "$work/log"

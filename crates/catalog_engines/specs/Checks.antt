@@ -26,7 +26,8 @@ abbrev pub lines_on_modules : BoundNames → ListingFiles → Option (List ℕ) 
     → List ℕ
 lines_on_modules names files modules kallsyms c =
     option_map_or
-    (λ text. applying_lines names (modules_name files) (is_of_modules false text kallsyms c)) modules []
+    (λ text. applying_lines names (modules_name files) (is_of_modules false text kallsyms c))
+    modules []
 
 -- the first and the last time of a history, as they are written
 abbrev pub span_text : Option (List ℕ × List ℕ) → List ℕ
@@ -43,9 +44,9 @@ history_line parts =
 abbrev pub history_text : Option (List HistoryPart) → List ℕ
 history_text history = option_map_or history_line history []
 
--- The notes that apply to listings with these texts in these files, first on the modules; the counts
--- of a history, if they are from one; and the counts of their lines. These names bound the kernel, and
--- this number of symbols is kept.
+-- The notes that apply to listings with these texts in these files, first on the modules; the
+-- counts of a history, if they are from one; and the counts of their lines. These names bound the
+-- kernel, and this number of symbols is kept.
 abbrev pub report_by : BoundNames → ListingFiles → Option (List HistoryPart) → Option (List ℕ)
     → List ℕ → CatalogEntries → ℕ → Tallies → List ℕ
 report_by names files history modules kallsyms c kept tallies =

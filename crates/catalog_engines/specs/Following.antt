@@ -49,8 +49,8 @@ use Rattle.catalog_engines.specs.declared.sources.Sources.{Sources}
 
 -- ---- what is read
 
--- A turn: a block, and, if a line that ends in it has an address word, what a reading of the listings
--- after it came to.
+-- A turn: a block, and, if a line that ends in it has an address word, what a reading of the
+-- listings after it came to.
 pub record Turn : Type 0 where
   pub block : List ℕ
   pub reading : Option Event
@@ -98,8 +98,8 @@ abbrev pub is_unnamed : Naming → Bool
 is_unnamed (By answer) = false
 is_unnamed (Unnamed narrow) = true
 
--- Listings with these texts give no names for this reason: no symbol of theirs is shown, or they say
--- no catalog.
+-- Listings with these texts give no names for this reason: no symbol of theirs is shown, or they
+-- say no catalog.
 abbrev pub IsNoCatalog : Fault → NoNames → Type 0
 IsNoCatalog (BadLine place n) why = why ≡ no.BadLine place n
 IsNoCatalog (Refused refusal.TooManyRegions) why = why ≡ no.TooManyRegions
@@ -145,8 +145,8 @@ is_told_after told reading n = told || (is_some reading && is_unnamed n)
 
 -- ---- how lines are written
 
--- With a block, after a line that is open, the lines that have their end now are put, each named so,
--- and what is put of the line that is open after them.
+-- With a block, after a line that is open, the lines that have their end now are put, each named
+-- so, and what is put of the line that is open after them.
 pub record NamesBlock (n : Naming) (held held' : LogContext)
     (line block line' text : List ℕ)
     : Type 0 where
@@ -267,8 +267,8 @@ IsStarved w w' e e' (Ok x) = ⊥
 IsStarved w w' e e' (Err why) =
     (w' ≡ w) × (e' ≡ e) × (why ≡ stop.Failed (Refused refusal.OutOfMemory))
 
--- The listings were read again, and their texts show a symbol, or there are no names for a reason; or
--- there is no memory.
+-- The listings were read again, and their texts show a symbol, or there are no names for a reason;
+-- or there is no memory.
 abbrev pub ReadsAgain : Seen → Seen → Result (Result ListingTexts NoNames) Stop → Type 0
 ReadsAgain before after (Ok (Ok texts)) =
     ReadsOnce before after (Some (Listings (texts_in texts)))
@@ -338,8 +338,8 @@ module _ {W E : Type 0} (contents : W → Option (List ℕ)) (errors : E → Opt
       (λ x text. GoesOn s (Some event) n x.0 × PutsPart p b b' n x.1 text) w w' result)
 
   -- This was read of the listings, its note was written, and the part was put, named by it.
-  abbrev pub NamesPart : Part → Followed → Annotator → Annotator → Option Event → Output W → Output W
-      → Output E → Output E → Result (Followed × LogNames) Stop → Type 0
+  abbrev pub NamesPart : Part → Followed → Annotator → Annotator → Option Event → Output W
+      → Output W → Output E → Output E → Result (Followed × LogNames) Stop → Type 0
   NamesPart p s b b' reading w w' e e' result =
       (n : Naming) × (note : List ℕ) × IsAskedFor p s.is_narrow b reading
       × IsNamingOf q a s.is_narrow reading n note × Says errors e e' (told_once s.is_told note)

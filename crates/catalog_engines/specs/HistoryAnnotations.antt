@@ -27,8 +27,8 @@ use Rattle.catalog_engines.specs.declared.log_notes.ListedKernel.{ListedKernel}
 use Rattle.catalog_engines.specs.declared.sources.Sources.{Sources}
 use Rattle.catalog_engines.specs.declared.timed_logs.TimedEnd.{TimedEnd}
 
--- What is said at the end of a log in this file, whose lines have times. The status 1 means that the
--- reader of the output is gone; then nothing is said.
+-- What is said at the end of a log in this file, whose lines have times. The status 1 means that
+-- the reader of the output is gone; then nothing is said.
 abbrev pub IsTimedEndTold : {E : Type 0} → (E → Option (List ℕ)) → List ℕ → ListedKernel
     → Output E → Output E → Result TimedEnd LogFault → Result ℕ Fault → Type 0
 IsTimedEndTold errors log kernel e e' (Ok end) result =
@@ -39,7 +39,8 @@ IsTimedEndTold errors log kernel e e' (Err fault) result =
     IsEndTold errors log kernel e e' (Err (stop_of fault)) result
 
 -- what was found of a log with these first bytes, if it was named to its end; or why it was not
-abbrev pub IsEndOf : Result (LogNames × LogTimes) LogFault → List ℕ → Result TimedEnd LogFault → Type 0
+abbrev pub IsEndOf : Result (LogNames × LogTimes) LogFault → List ℕ → Result TimedEnd LogFault
+    → Type 0
 IsEndOf (Ok x) head (Ok end) =
     (end.found.names ≡ x.0) × (end.times ≡ x.1) × (end.found.head.items ≡ head)
 IsEndOf (Err fault) head (Err f) = f ≡ fault

@@ -16,8 +16,8 @@ pub data Event : Type 0 where
   Listings : Given → Event
   Failed : Fault → Event
 
--- What was read of a log and of its listings, in order; the bytes of the log that are left; what the
--- listings give that are read next; and what they give after that. Each may be unknown.
+-- What was read of a log and of its listings, in order; the bytes of the log that are left; what
+-- the listings give that are read next; and what they give after that. Each may be unknown.
 pub record Seen : Type 0 where
   pub events : Option (List Event)
   pub left : Option (List ℕ)

@@ -25,6 +25,8 @@ pub mod TimedLogs
 pub mod HistoryAnnotations
 -- a log that is annotated by the offset that it says itself
 pub mod OwnOffsets
+-- likewise by a history
+pub mod HistoryOffsets
 -- why listings that are read again give no names
 pub mod NoNames
 -- what is read of a log that lasts, and of its listings

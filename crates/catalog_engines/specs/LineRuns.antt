@@ -15,8 +15,8 @@ use Rattle.catalog_engines.specs.declared.line_runs.LogTimes.{LogTimes}
 abbrev pub first_times : LogTimes
 first_times = record { last = before_log; is_asked = false }
 
--- after a line: its own time is the last one, if it has one; and it may be the first with an address
--- word while no time is known
+-- after a line: its own time is the last one, if it has one; and it may be the first with an
+-- address word while no time is known
 abbrev pub times_after : Bool → LogTimes → List ℕ → LogTimes
 times_after narrow t line =
     let last = time_after t.last line in
@@ -47,8 +47,8 @@ module _ (parts : List HistoryPart) (narrow : Bool) (count : ℕ) where
   abbrev pub is_at : LogTimes → Bool
   is_at t = count == count_at (Some t.last.nanoseconds) parts
 
-  -- It may name a line: it is the one at the line's time, or the line has no address word, or is too
-  -- long to be named.
+  -- It may name a line: it is the one at the line's time, or the line has no address word, or is
+  -- too long to be named.
   abbrev pub may_name : LogTimes → List ℕ → Bool
   may_name t line =
       option_map_or (λ l. is_at (times_after narrow t l) || not (has_address narrow l))

@@ -81,8 +81,8 @@ note_of_log head names kernel =
     option_or (option_map Form (note_of_head head))
     (option_or (kernel_note names.kernel kernel) (names_note names))
 
--- the first that applies to a log that was named by a history: whether a line has a time comes before
--- what names say
+-- the first that applies to a log that was named by a history: whether a line has a time comes
+-- before what names say
 abbrev pub note_of_timed_log : List ℕ → LogTimes → LogNames → ListedKernel → Option LogNote
 note_of_timed_log head times names kernel =
     option_or (option_map Form (note_of_head head))

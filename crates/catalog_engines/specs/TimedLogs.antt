@@ -203,15 +203,15 @@ module _ (kernel : Option BoundNames) (rule : LogRule) (parts : List HistoryPart
     IsNamedOn s (Ok x) l' w' = IsNamedWhole x.0 x.1 s.head.items l' w'
     IsNamedOn s (Err fault) l' w' = IsStopped fault l' w'
 
-    -- What is returned after lines that one listing names: the log is at its end, or another listing
-    -- names the next line, after this many runs at least; or why it goes no further.
+    -- What is returned after lines that one listing names: the log is at its end, or another
+    -- listing names the next line, after this many runs at least; or why it goes no further.
     abbrev pub IsTurn : ℕ → TimedLog → Result Turn LogFault → Counted L → Output W → Type 0
     IsTurn n s (Ok (turn.Ended names times)) l' w' = IsNamedWhole names times s.head.items l' w'
     IsTurn n s (Ok (turn.Other time)) l' w' = (m : ℕ) × (n ≤ m) × IsTimedTo m s l' w'
     IsTurn n s (Err fault) l' w' = IsStopped fault l' w'
 
--- One run was put of bytes by these answers, which are of the listing after this many parts, and this
--- was left.
+-- One run was put of bytes by these answers, which are of the listing after this many parts, and
+-- this was left.
 abbrev pub PutsRun : List HistoryPart → ℕ → Answering → TimedLines → TimedLines → List ℕ
     → Option Pending → List ℕ → Type 0
 PutsRun parts count answer s s' bytes pending text =

@@ -18,9 +18,9 @@ use std::alloc::Global;
 use std::io::{Read, Write};
 use texts::{Counted, Output};
 
-/// Writes the places of the kept symbols of each name, in the order listed, as objects of JSON or as
-/// lines of text. Returns what is noted of the listings, and the status 1 if no name has a line. A
-/// name may have the module in front of it, and an offset after it.
+/// Writes the places of the kept symbols of each name, in the order listed, as objects of JSON or
+/// as lines of text. Returns what is noted of the listings, and the status 1 if no name has a line.
+/// A name may have the module in front of it, and an offset after it.
 ///
 /// All is read, and the catalog is there, before the first byte is written; so every fault but a
 /// failed write leaves the writer as it was. docs/FORMATS.md has the names and the lines.

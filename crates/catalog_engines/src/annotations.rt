@@ -176,7 +176,8 @@ pub(crate) fn listed_kernel(kallsyms: &[u8], offset: u64) -> ListedKernel
     }
 }
 
-/// That place, sought only if the log says the place of its own kernel: nothing else is noted by it.
+/// That place, sought only if the log says the place of its own kernel: nothing else is noted by
+/// it.
 #[tactic(auto, using(crate::proofs::AnnotationLemmas::unsaid))]
 pub(crate) fn kernel_if_said(
     end: &Result<Findings, Stop>,

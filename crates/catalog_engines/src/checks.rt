@@ -113,9 +113,9 @@ fn status_of_kept(kept: u64) -> u8
     if kept == 0 { FAILED } else { SUCCEEDED }
 }
 
-/// Writes what applies to the listings with these texts, if these names bound the kernel, the counts
-/// of a history, if they are from one, and the counts of their lines, and lets the writer keep nothing
-/// back.
+/// Writes what applies to the listings with these texts, if these names bound the kernel, the
+/// counts of a history, if they are from one, and the counts of their lines, and lets the writer
+/// keep nothing back.
 fn put_report<W: Write>(
     writer: &mut Output<W>,
     names: &KernelBounds,

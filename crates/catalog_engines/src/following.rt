@@ -9,8 +9,9 @@
 //!                             named by A'  address         by A''
 //! ```
 //!
-//! So a module that was loaded since has its name, a line is named by the listings as they were read
-//! after the block that its end is in, and a log in which nothing asks for a name costs no reading.
+//! So a module that was loaded since has its name, a line is named by the listings as they were
+//! read after the block that its end is in, and a log in which nothing asks for a name costs no
+//! reading.
 ghost use Rattle.std.specs.Prelude.{◌≡◌, ◌<◌, length, false, true, IfErr, IfOk, List, ℕ, Some};
 ghost use Rattle.texts.specs.Lines.{lines_of};
 ghost use Rattle.texts.specs.Output.{Says};
@@ -164,7 +165,8 @@ fn follow_blocks<L: LastingLog, E: Write, W: Write>(
     Err(Stop::Failed(Fault::TooLong { place: LOG_PLACE }))
 }
 
-/// Writes a part of a log, named by the listings as they are now if one of its lines has an address.
+/// Writes a part of a log, named by the listings as they are now if one of its lines has an
+/// address.
 fn put_part<L: LastingLog, E: Write, W: Write>(
     alloc: Global,
     log: &mut L,

@@ -31,8 +31,8 @@ use texts::{Counted, Output};
 /// docs/FORMATS.md says which time a line has.
 ///
 /// The history is read whole, and the notes on its first listing are written, or on the one at the
-/// given time, before the log is begun. After a log that was annotated to its end it is noted if none
-/// of its lines has a time though one has an address: then only the kernel itself has names.
+/// given time, before the log is begun. After a log that was annotated to its end it is noted if
+/// none of its lines has a time though one has an address: then only the kernel itself has names.
 pub fn history_annotate_engine<H: Read, L: Read, E: Write, W: Write>(
     alloc: Global,
     history: &mut Counted<H>,
@@ -60,7 +60,7 @@ pub fn history_annotate_engine<H: Read, L: Read, E: Write, W: Write>(
 
 /// Writes the notes on the first listing of a history, and then a log again, each line by the
 /// listing at its time.
-fn annotate_timed<L: Read, E: Write, W: Write>(
+pub(crate) fn annotate_timed<L: Read, E: Write, W: Write>(
     alloc: Global,
     history: &History<'_>,
     log: &mut Counted<L>,

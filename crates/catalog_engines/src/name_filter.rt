@@ -1,8 +1,8 @@
 //! Which names symbols may have.
 //!
 //! A log may have any word after an address, and mostly no symbol is called so. Not to go through
-//! symbols for it, the name of each symbol has a mark at a number of its bytes. A word without one is
-//! no symbol's name:
+//! symbols for it, the name of each symbol has a mark at a number of its bytes. A word without one
+//! is no symbol's name:
 //!
 //! ```text
 //!     symbols    do_one -> 3    do_two -> 7    do_alias -> 3

@@ -59,7 +59,7 @@ pub fn own_offset_engine<M: Read, K: Read, R: Read, L: Read, E: Write, W: Write>
 }
 
 /// Writes a log with this text again by the offset that it says.
-fn write_by_own_offset<E: Write, W: Write>(
+pub(crate) fn write_by_own_offset<E: Write, W: Write>(
     alloc: Global,
     texts: ListingTexts,
     log: &[u8],
@@ -124,7 +124,7 @@ fn put_failure<E: Write>(writer: &mut Output<E>, file: &str, message: &[u8])
 }
 
 /// How much higher the log's kernel lay than the listing's, by what the log says.
-fn own_offset(log: &[u8], kallsyms: &[u8]) -> Result<u64, NoOffset>
+pub(crate) fn own_offset(log: &[u8], kallsyms: &[u8]) -> Result<u64, NoOffset>
     ensures { result ≡ own_offset log.now kallsyms.now }
 {
     match (kernel_offset_in(log), kernel_base(kallsyms)) {
@@ -149,7 +149,7 @@ fn asked_by(alloc: Global, offset: u64, texts: ListingTexts) -> Result<ListingTe
 }
 
 /// The rule with this offset.
-fn by_offset(offset: u64, rule: LogRule) -> LogRule
+pub(crate) fn by_offset(offset: u64, rule: LogRule) -> LogRule
     ensures { result ≡ by_offset offset rule }
 {
     LogRule { offset, ..rule }

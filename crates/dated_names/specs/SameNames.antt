@@ -27,8 +27,8 @@ module _ (kernel : Option BoundNames) where
   abbrev pub ShowsHistory : List HistoryPart → List DatedCatalog → Type 0
   ShowsHistory parts dated = AreOpenedOf (dated_listings [] parts) dated
 
-  -- At a time the follower's catalog is of the history's listing. Before its first time the follower
-  -- has none, and the history has the kernel itself alone.
+  -- At a time the follower's catalog is of the history's listing. Before its first time the
+  -- follower has none, and the history has the kernel itself alone.
   abbrev pub AgreeAt : List HistoryPart → ℕ → Option DatedCatalog → Type 0
   AgreeAt parts time (Some d) = IsOpenedOf (listing_at (Some time) parts) d.catalog
   AgreeAt parts time None = listing_at (Some time) parts ≡ before_all parts

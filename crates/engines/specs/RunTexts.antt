@@ -38,7 +38,8 @@ refusals_text names outcomes =
 unfoldable pub answered_text : CatalogEntries → Answer → List ℕ
 answered_text c a =
     decimal (a.reader + 1) ++ codes " " ++ hexadecimal a.key ++ text.ARROW.now
-    ++ answer_text_by c as_given a.item a.key ++ count_text text.GENERATION.now a.generation ++ codes "\n"
+    ++ answer_text_by c as_given a.item a.key ++ count_text text.GENERATION.now a.generation
+    ++ codes "\n"
 
 -- the answers of a reader
 abbrev pub answers_text : CatalogEntries → Vec Answer → List ℕ

@@ -39,4 +39,5 @@ note_text (Refused refusal) = refused_text (refusal_number refusal)
 -- the last line: the sequence, and the generation, which is half of it
 abbrev pub end_text : ℕ → List ℕ
 end_text sequence =
-    text.SEQUENCE.now ++ decimal sequence ++ text.GENERATION.now ++ decimal (sequence / 2) ++ codes "\n"
+    text.SEQUENCE.now ++ decimal sequence ++ text.GENERATION.now ++ decimal (sequence / 2)
+    ++ codes "\n"

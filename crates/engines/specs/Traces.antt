@@ -7,7 +7,7 @@ use Rattle.texts.specs.declared.output.Output.{Output}
 use Rattle.texts.specs.Output.{Delivered, WrotePart, has_failed, Says}
 use Rattle.order_laws.specs.Orders.{Order, closed, half_open}
 use Rattle.order_laws.specs.declared.refusals.Refusal.{Refusal}
-use Rattle.order_laws.specs.declared.refusals.Refusal.TheVariants as refusal
+use Rattle.order_laws.specs.declared.refusals.Refusal.TheVariants.{BadCapacity, OutOfMemory}
 use Rattle.word_layout.specs.Limits.{most_nodes, greatest_sequence, greatest_wide_sequence}
 use Rattle.word_layout.specs.Words.{at}
 use Rattle.latch_steps.specs.Runs.{Done, history, last_of, opening}
@@ -52,8 +52,8 @@ HeaderMayNotOpen h = ¬ HeaderMayOpen h
 
 -- a header asks for a table, and none is opened
 abbrev pub IsNotOpened : Header → Refusal → Type 0
-IsNotOpened h refusal.OutOfMemory = Unit {0}
-IsNotOpened h refusal.BadCapacity = HeaderMayNotOpen h
+IsNotOpened h OutOfMemory = Unit {0}
+IsNotOpened h BadCapacity = HeaderMayNotOpen h
 IsNotOpened h _ = ⊥
 
 -- the order of items that a header names
@@ -97,17 +97,17 @@ pub record IsTraceWith (P : Header → Type 0) (read : List ℕ) : Type 0 where
   pub header : P said.header
 
 -- What an engine returns that was given what the lines of a trace say: `IsRun` says what a run
--- writes, `IsBegun` what is said of it until a call of the writer fails, and `IsRefused` what became
--- of the writer if memory ran out. A bad line leaves the writer as it was.
+-- writes, `IsBegun` what is said of it until a call of the writer fails, and `IsRefused` what
+-- became of the writer if memory ran out. A bad line leaves the writer as it was.
 abbrev pub AnswersSaidBy : {W : Type 0} → (Contents → List ℕ → Type 0)
     → (Contents → List ℕ → Type 0) → (Output W → Output W → Type 0) → (W → Option (List ℕ))
     → Result Contents ℕ → Output W → Output W → Result (Unit {0}) Fault → Type 0
 AnswersSaidBy IsRun IsBegun IsRefused contents said w w' (Ok _) =
     (c : Contents) × (said ≡ Ok c) × HeaderMayOpen c.header
     × ((text : List ℕ) × IsRun c text × Delivered contents w w' text)
-AnswersSaidBy IsRun IsBegun IsRefused contents said w w' (Err (Refused refusal.OutOfMemory)) =
+AnswersSaidBy IsRun IsBegun IsRefused contents said w w' (Err (Refused OutOfMemory)) =
     IsRefused w w'
-AnswersSaidBy IsRun IsBegun IsRefused contents said w w' (Err (Refused refusal.BadCapacity)) =
+AnswersSaidBy IsRun IsBegun IsRefused contents said w w' (Err (Refused BadCapacity)) =
     (w' ≡ w) × ((c : Contents) × (said ≡ Ok c) × HeaderMayNotOpen c.header)
 AnswersSaidBy IsRun IsBegun IsRefused contents said w w' (Err (BadLine place n)) =
     (w' ≡ w) × (place ≡ 0) × (said ≡ Err n)
@@ -125,9 +125,9 @@ AnswersReadBy IsText IsBegun IsRefused remaining contents r r' w w' (Ok _) =
     NoneFailed r r' × (has_failed w' ≡ false)
     × IfSome (remaining (device_of r)) (λ read. (text : List ℕ) × IsText read text
     × Delivered contents w w' text)
-AnswersReadBy IsText IsBegun IsRefused remaining contents r r' w w' (Err (Refused refusal.OutOfMemory)) =
+AnswersReadBy IsText IsBegun IsRefused remaining contents r r' w w' (Err (Refused OutOfMemory)) =
     NoneFailed r r' × IsRefused w w'
-AnswersReadBy IsText IsBegun IsRefused remaining contents r r' w w' (Err (Refused refusal.BadCapacity)) =
+AnswersReadBy IsText IsBegun IsRefused remaining contents r r' w w' (Err (Refused BadCapacity)) =
     NoneFailed r r' × (w' ≡ w) × IfSome (remaining (device_of r)) (IsTraceWith HeaderMayNotOpen)
 AnswersReadBy IsText IsBegun IsRefused remaining contents r r' w w' (Err (Refused _)) = ⊥
 AnswersReadBy IsText IsBegun IsRefused remaining contents r r' w w' (Err (BadLine place n)) =
@@ -179,7 +179,7 @@ pub record AreTaken (lines : LinesLeft) (taken : List NumberedCommand) (left : L
 
 -- memory ran out, or a line is bad
 abbrev pub IsLinesFault : Result (List (Command ℕ)) ℕ → Fault → Type 0
-IsLinesFault said (Refused refusal.OutOfMemory) = Unit {0}
+IsLinesFault said (Refused OutOfMemory) = Unit {0}
 IsLinesFault said (BadLine place n) = (place ≡ 0) × (said ≡ Err n)
 IsLinesFault said _ = ⊥
 

@@ -121,7 +121,8 @@ fn run_lines<T: Threads + Wait + Sync, W: Write>(
     writer: &mut Output<W>,
 ) -> Result<u8, Fault>
     requires { All (λ l. has_actor readers l ≡ true) lines.items }
-    ensures { AnswersLines W.contents catalog.now readers lines.entry.items writer.old writer.new result }
+    ensures { AnswersLines W.contents catalog.now readers lines.entry.items writer.old writer.new
+        result }
 {
     let assigned = assign(alloc, catalog, &lines, readers);
     give_back(lines);

@@ -128,8 +128,8 @@ impl<'a> Catalogs<'a> {
         self.dated.last().is_none_or(|newest| newest.since <= since)
     }
 
-    /// Keeps a catalog that was shown after the others, and whose stamp is not below theirs. Takes no
-    /// memory: there is room.
+    /// Keeps a catalog that was shown after the others, and whose stamp is not below theirs. Takes
+    /// no memory: there is room.
     pub fn keep_reserved(&mut self, dated: DatedCatalog<'a>)
         requires later { All (λ d. d.previous < dated.previous) self.old.items }
         requires since { All (λ d. d.since ≤ dated.since) self.old.items }

@@ -137,12 +137,12 @@ impl<'a> Follower<'a> {
         Ok((Follower { writer, catalogs }, readers))
     }
 
-    /// Shows the regions of a catalog in place of those in the table, in one whole update, and keeps
-    /// the catalog with `since`, the caller's stamp of now, and the caller's tag. Returns the
+    /// Shows the regions of a catalog in place of those in the table, in one whole update, and
+    /// keeps the catalog with `since`, the caller's stamp of now, and the caller's tag. Returns the
     /// generation of the update.
     ///
-    /// Refused by [`NotShown::StampFalls`], else as [`Writer::begin_replace`] refuses the regions. A
-    /// refusal changes nothing.
+    /// Refused by [`NotShown::StampFalls`], else as [`Writer::begin_replace`] refuses the regions.
+    /// A refusal changes nothing.
     pub fn show(
         &mut self,
         catalog: &SharedCatalog<'a>,

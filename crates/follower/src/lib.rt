@@ -2,10 +2,10 @@
 //! when it was given.
 //!
 //! Modules come and go. A [`Follower`] shows the regions of each new listing to all readers in one
-//! whole update, and keeps the catalog of the listing with the generation of that update and a stamp
-//! of the caller's clock. A reader gives the generation of its answer, and a sample that comes out of
-//! a ring its stamp: so the symbols of the address are asked of the catalog that stood then, however
-//! many came since:
+//! whole update, and keeps the catalog of the listing with the generation of that update and a
+//! stamp of the caller's clock. A reader gives the generation of its answer, and a sample that
+//! comes out of a ring its stamp: so the symbols of the address are asked of the catalog that stood
+//! then, however many came since:
 //!
 //! ```text
 //!   generation     1        2        3

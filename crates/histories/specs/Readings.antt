@@ -22,7 +22,8 @@ BeginsPart before text = (before ≡ None) ⊎ BeginsHeader text
 
 -- The lines of a text go on as the lines of a rest, with these numbers: what is understood of the
 -- text, after one header or before any, is what is understood of the rest after another.
-pub record GoesOn (before after : Option Header) (first next : ℕ) (text rest : List ℕ) : Type 0 where
+pub record GoesOn (before after : Option Header) (first next : ℕ) (text rest : List ℕ)
+    : Type 0 where
   pub bad : first_bad before first (lines text) ≡ first_bad after next (lines rest)
   pub numbered : next + length rest ≤ first + length text
   pub begins : BeginsHeader rest

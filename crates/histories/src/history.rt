@@ -141,9 +141,9 @@ fn body_in<'a>(header: Header, first: u64, text: &'a [u8]) -> Result<Body<'a>, u
     })
 }
 
-/// The part with which these lines begin, after a part with this header or at the first line of all,
-/// and the lines that follow it. The first of these has this number. If one is not understood, its
-/// number is returned.
+/// The part with which these lines begin, after a part with this header or at the first line of
+/// all, and the lines that follow it. The first of these has this number. If one is not understood,
+/// its number is returned.
 fn part_in<'a>(
     before: Option<Header>,
     number: u64,

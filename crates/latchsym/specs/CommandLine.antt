@@ -46,7 +46,10 @@ abbrev pub row_of : Argument → ArgumentRow
 row_of a = record {
   rule =
       with_kind a.kind
-      (record (new_rule a.name.now) { value_names = length a.values.now; required = a.is_required });
+      (record (new_rule a.name.now) {
+        value_names = length a.values.now;
+        required = a.is_required;
+      });
   excluded_by = option_map beside_of a.excluded_by;
   instead_of = option_map beside_of a.instead_of;
   needs = option_map beside_of a.needs;

@@ -31,7 +31,6 @@ use Rattle.latchsym.specs.declared.requests.JobFault.TheVariants.{BadAddress, Ba
 use Rattle.latchsym.specs.declared.requests.JobFault.TheVariants.{BadReaders, BadTime, Clash}
 use Rattle.latchsym.specs.declared.requests.JobFault.TheVariants.{CommandLine}
 use Rattle.latchsym.specs.declared.requests.JobFault.TheVariants.{FollowedByOwnOffset}
-use Rattle.latchsym.specs.declared.requests.JobFault.TheVariants.{HistoryByOwnOffset}
 use Rattle.latchsym.specs.declared.requests.JobFault.TheVariants.{NoAddress, NoJob, OutOfMemory}
 use Rattle.catalog_engines.specs.declared.sources.ListingFiles.{ListingFiles}
 use Rattle.catalog_engines.specs.declared.sources.SymbolSource.{SymbolSource}
@@ -242,10 +241,6 @@ reading_in rows =
 abbrev pub is_followed_whole : List Row → Bool
 is_followed_whole rows = is_own_offset rows && has_flag (codes "follow") rows
 
--- a log is named by the history of its own boot, in which its kernel is not moved
-abbrev pub is_history_whole : List Row → Bool
-is_history_whole rows = is_own_offset rows && is_some (first_of (codes "history") rows)
-
 -- the log, which is the standard input if none is named, how its addresses are taken, and how it is
 -- read
 pub record IsAnnotateIn (rows : List Row) (annotate : Annotate) : Type 0 where
@@ -253,7 +248,6 @@ pub record IsAnnotateIn (rows : List Row) (annotate : Annotate) : Type 0 where
   pub lower : IsLogOffsetIn rows annotate.rule.offset
   pub reading : annotate.reading ≡ reading_in rows
   pub one : is_followed_whole rows ≡ false
-  pub unmoved : is_history_whole rows ≡ false
   pub log : annotate.log.now ≡ unwrap_or (first_of (codes "log") rows) (codes "-")
 
 -- the names, and how their addresses are written
@@ -331,8 +325,6 @@ HasBadValue name rows (BadOffset word) =
     × ((bytes_eq name (codes "annotate") && is_own_offset rows) ≡ false)
 HasBadValue name rows FollowedByOwnOffset =
     (name ≡ codes "annotate") × (is_followed_whole rows ≡ true)
-HasBadValue name rows HistoryByOwnOffset =
-    (name ≡ codes "annotate") × (is_history_whole rows ≡ true)
 HasBadValue name rows NoAddress = (name ≡ codes "lookup") × (lacks_addresses rows ≡ true)
 HasBadValue name rows (BadAddress word) =
     (name ≡ codes "lookup")

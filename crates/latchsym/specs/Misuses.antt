@@ -17,7 +17,6 @@ use Rattle.latchsym.specs.declared.requests.JobFault.TheVariants.{BadEnd, BadOff
 use Rattle.latchsym.specs.declared.requests.JobFault.TheVariants.{BadReaders, BadTime, NoJob}
 use Rattle.latchsym.specs.declared.requests.JobFault.TheVariants.{NoText}
 use Rattle.latchsym.specs.declared.requests.JobFault.TheVariants.{Clash, FollowedByOwnOffset}
-use Rattle.latchsym.specs.declared.requests.JobFault.TheVariants.{HistoryByOwnOffset}
 use Rattle.command_io.specs.declared.fault.Fault.TheVariants.{Refused, Write}
 use Rattle.latchsym.specs.declared.misuse.TheConstants as text
 
@@ -58,7 +57,8 @@ IsExplained contents errors w w' e e' error status =
     (IsParseFault error × (status ≡ 2) × (w' ≡ w) × (text : List ℕ) × Says errors e e' text)
     ⊎ ((IsParseFault error → ⊥)
     × (text : List ℕ) × IsHelped contents errors w w' e e' text status)
-    ⊎ ((status ≡ 1) × (w' ≡ w) × Says errors e e' (fault_text [] None (Refused refusal.OutOfMemory)))
+    ⊎ ((status ≡ 1) × (w' ≡ w)
+    × Says errors e e' (fault_text [] None (Refused refusal.OutOfMemory)))
 
 -- nothing was written, and this is wrong with the command line
 abbrev pub IsMisusedAlone : {W E : Type 0} → (E → Option (List ℕ)) → Output W → Output W → Output E
@@ -85,8 +85,6 @@ IsNoJob contents errors w w' e e' (BadOffset word) status =
     IsMisusedAlone errors w w' e e' (offset_message word.now) word.now status
 IsNoJob contents errors w w' e e' FollowedByOwnOffset status =
     IsMisusedAlone errors w w' e e' text.FOLLOWED_OFFSET.now [] status
-IsNoJob contents errors w w' e e' HistoryByOwnOffset status =
-    IsMisusedAlone errors w w' e e' text.HISTORY_OFFSET.now [] status
 IsNoJob contents errors w w' e e' (BadEnd word) status =
     IsMisusedAlone errors w w' e e' text.BAD_BOUND.now word.now status
 IsNoJob contents errors w w' e e' (BadReaders word) status =

@@ -10,6 +10,7 @@ use Rattle.catalog_engines.specs.Checks.{IsChecked}
 use Rattle.catalog_engines.specs.Following.{FollowsLog}
 use Rattle.catalog_engines.specs.LastingLogs.{Seen}
 use Rattle.catalog_engines.specs.HistoryAnnotations.{AnnotatesByHistory}
+use Rattle.catalog_engines.specs.HistoryOffsets.{WritesByHistoryOffset}
 use Rattle.catalog_engines.specs.OwnOffsets.{WritesByOwnOffset, all_failures}
 use Rattle.latchsym.specs.Files.{Held, held_given}
 use Rattle.latchsym.specs.RecordedEvents.{seen_again}
@@ -54,8 +55,8 @@ abbrev pub bounds_of : Sources → BoundNames
 bounds_of s = unwrap_or s.kernel usual_bounds
 
 -- an engine returned what it may, and the outcome is this of it
-abbrev pub Ends : {A : Type 0} → (Result A Fault → Type 0) → (Result A Fault → Result Finished Fault)
-    → Result Finished Fault → Type 0
+abbrev pub Ends : {A : Type 0} → (Result A Fault → Type 0)
+    → (Result A Fault → Result Finished Fault) → Result Finished Fault → Type 0
 Ends {A} May finish outcome = (result : Result A Fault) × May result × (outcome ≡ finish result)
 
 -- This holds of the reader of a request's own file, before and after. If it has none, the file
@@ -137,8 +138,17 @@ IsLogBy remaining held contents errors s a Whole l l' w w' e e' outcome r r' =
     (known_given remaining remaining remaining l) (remaining (device_of r))
     (all_failures (listing_failures l l') r r')) (with_notes no_notes) outcome
 
--- A log is annotated by listings, or by a history: each line by the listing at its time, or at the
--- one that is given.
+-- A log is annotated by a history: each line by the listing at its time, or at the one that is
+-- given; or it is read as a whole for the offset that it says.
+abbrev pub IsLogAt : {R W E : Type 0} → (R → Option (List ℕ)) → (W → Option (List ℕ))
+    → (E → Option (List ℕ)) → Sources → Annotate → LogReading → Option ℕ → Counted R → Counted R
+    → Output W → Output W → Output E → Output E → Counted R → Counted R → Result ℕ Fault → Type 0
+IsLogAt remaining contents errors s a Whole time h h' w w' e e' r r' result =
+    WritesByHistoryOffset contents errors s a w w' e e' remaining remaining time h h' r r' result
+IsLogAt remaining contents errors s a _ time h h' w w' e e' r r' result =
+    AnnotatesByHistory remaining contents errors s a r r' w w' e e' time remaining h h' result
+
+-- A log is annotated by listings, or by a history.
 abbrev pub IsLogOf : {R W E : Type 0} → (R → Option (List ℕ)) → Held → (W → Option (List ℕ))
     → (E → Option (List ℕ)) → Sources → Annotate → SymbolSource → ListingReaders R R R
     → ListingReaders R R R → Output W → Output W → Output E → Output E
@@ -146,8 +156,8 @@ abbrev pub IsLogOf : {R W E : Type 0} → (R → Option (List ℕ)) → Held →
 IsLogOf remaining held contents errors s a Listing l l' w w' e e' outcome r r' =
     IsLogBy remaining held contents errors s a a.reading l l' w w' e e' outcome r r'
 IsLogOf remaining held contents errors s a (History time) l l' w w' e e' outcome r r' =
-    Ends (AnnotatesByHistory remaining contents errors s a r r' w w' e e' time remaining l.kallsyms
-    l'.kallsyms) (with_notes no_notes) outcome
+    Ends (IsLogAt remaining contents errors s a a.reading time l.kallsyms l'.kallsyms w w' e e'
+    r r') (with_notes no_notes) outcome
 
 abbrev pub IsOutcomeOfLog : {R W E : Type 0} → (R → Option (List ℕ)) → Held → (W → Option (List ℕ))
     → (E → Option (List ℕ)) → Sources → Annotate → SymbolSource → ListingReaders R R R
@@ -205,5 +215,6 @@ IsOutcome remaining held contents errors (Steps r) (Steps r') w w' e e' outcome 
     Ends (AnswersSteps remaining contents r r' w w') (λ x. with_status (without_notes x)) outcome
     × (e' ≡ e)
 IsOutcome remaining held contents errors (Request q l i) (Request _ l' i') w w' e e' outcome =
-    IsOutcomeBy remaining held contents errors q.now.sources q.now.subcommand l l' i i' w w' e e' outcome
+    IsOutcomeBy remaining held contents errors q.now.sources q.now.subcommand l l' i i' w w' e e'
+    outcome
 IsOutcome remaining held contents errors _ _ w w' e e' outcome = ⊥

@@ -11,8 +11,10 @@ use Rattle.listing.specs.declared.listing_notes.ListingNote.{ListingNote}
 use Rattle.latchsym.specs.Files.{Held, held_given}
 
 -- What is known of events before they are recorded: what they have, and what the files of the
--- listings hold, which are opened each time that they are read. In which order all of it is read is not.
-abbrev pub seen_again : {R : Type 0} → (R → Option (List ℕ)) → Held → ListingFiles → Counted R → Seen
+-- listings hold, which are opened each time that they are read. In which order all of it is read is
+-- not.
+abbrev pub seen_again : {R : Type 0} → (R → Option (List ℕ)) → Held → ListingFiles → Counted R
+    → Seen
 seen_again remaining held files r = record {
   events = None;
   left = remaining (device_of r);

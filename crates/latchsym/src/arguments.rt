@@ -7,7 +7,7 @@ ghost use Rattle.latchsym.specs.Jobs.{AnswersMatches, AnswersSubcommand, Answers
 ghost use Rattle.latchsym.specs.Jobs.{AreFilesIn, AreNumbersIn, Gives, IsAddressIn, IsAnnotateIn};
 ghost use Rattle.latchsym.specs.Jobs.{IsFaultOf, IsJobIn, IsLogOffsetIn, IsLookupIn, IsOffsetIn};
 ghost use Rattle.latchsym.specs.Jobs.{IsRequestIn, IsRecordIn, IsSourceIn, IsTimeIn};
-ghost use Rattle.latchsym.specs.Jobs.{is_followed_whole, is_history_whole};
+ghost use Rattle.latchsym.specs.Jobs.{is_followed_whole};
 ghost use Rattle.latchsym.specs.Jobs.{is_own_offset, reading_in};
 ghost use Rattle.latchsym.specs.Jobs.{IsRunIn, IsSubcommandIn, callers_in, clash_in, clash_of};
 ghost use Rattle.latchsym.specs.Jobs.{form_in, has_flag, is_like_address, is_present, readers_of};
@@ -318,9 +318,6 @@ fn annotate_in<'a>(found: &ArgMatches<'a>) -> Result<Annotate<'a>, JobFault<'a>>
     if is_followed_whole(found) {
         return Err(JobFault::FollowedByOwnOffset);
     }
-    if is_history_whole(found) {
-        return Err(JobFault::HistoryByOwnOffset);
-    }
     let offset = log_offset_in(found)?;
     Ok(annotate_with(found, offset))
 }
@@ -330,13 +327,6 @@ fn is_followed_whole(found: &ArgMatches<'_>) -> bool
     ensures { result ≡ is_followed_whole (rows_in found.now) }
 {
     is_own_offset(found) && is_given(found, "follow")
-}
-
-/// Whether a log that is read as a whole is to be named by a history.
-fn is_history_whole(found: &ArgMatches<'_>) -> bool
-    ensures { result ≡ is_history_whole (rows_in found.now) }
-{
-    is_own_offset(found) && value_of(found, "history").is_some()
 }
 
 /// Whether the offset is that which the log says itself.
@@ -372,7 +362,6 @@ fn reading_in(found: &ArgMatches<'_>) -> LogReading
 /// The log that is annotated, by addresses that are moved by this offset.
 fn annotate_with<'a>(found: &ArgMatches<'a>, offset: u64) -> Annotate<'a>
     ensures { is_followed_whole (rows_in found.now) ≡ false
-        → is_history_whole (rows_in found.now) ≡ false
         → IsLogOffsetIn (rows_in found.now) offset → IsAnnotateIn (rows_in found.now) result }
 {
     Annotate {

@@ -14,7 +14,7 @@ ghost use Rattle.latchsym.specs.Files.{IsOpenedFor};
 ghost use Rattle.latchsym.specs.Files.{IsOpenedIfGiven};
 ghost use Rattle.latchsym.specs.Files.{or_standard};
 ghost use Rattle.latchsym.specs.Outcomes.{AnswersSources, Ends, IsLookedUpBy, IsOutcome};
-ghost use Rattle.latchsym.specs.Outcomes.{IsLogBy, IsOutcomeBy};
+ghost use Rattle.latchsym.specs.Outcomes.{IsLogAt, IsLogBy, IsOutcomeBy};
 ghost use Rattle.latchsym.specs.Outcomes.{IsOutcomeOfLog, IsOutcomeOfRun, query_of, seen_first};
 ghost use Rattle.latchsym.specs.Reasons.{error_if_given, error_of_listings, error_of_request};
 
@@ -24,7 +24,7 @@ use crate::requests::{Address, Job, Lookup, Request, Run, Subcommand};
 use catalog_engines::{
     Annotate, ListingFiles, LogReading, Sources, SymbolSource, address_engine, address_engine_at,
     annotate_engine, check_engine, check_engine_at, follow_engine, history_annotate_engine,
-    own_offset_engine,
+    history_own_offset_engine, own_offset_engine,
 };
 use command_io::{Fault, Finished, ListingReaders, with_notes, with_status, without_notes};
 use engines::{
@@ -251,11 +251,33 @@ fn do_annotate<F: FileSource, W: Write, E: Write>(
         }
         SymbolSource::History { time } => {
             let history = &mut listings.kallsyms;
-            let done = history_annotate_engine(
-                alloc, history, time, log, sources, job, errors, writer,
-            );
+            let done = annotate_at(alloc, history, time, log, sources, job, errors, writer);
             with_notes(done, ListingNotes::none())
         }
+    }
+}
+
+/// Annotates a log by a history, or reads it whole for the offset that it says.
+fn annotate_at<R: Read, W: Write, E: Write>(
+    alloc: Global,
+    history: &mut Counted<R>,
+    time: Option<u64>,
+    log: &mut Counted<R>,
+    sources: &Sources<'_>,
+    job: &Annotate<'_>,
+    errors: &mut Output<E>,
+    writer: &mut Output<W>,
+) -> Result<u8, Fault>
+    ensures { IsLogAt R.remaining W.contents E.contents sources.now job.now job.now.reading time
+        history.old history.new writer.old writer.new errors.old errors.new log.old log.new result }
+{
+    match job.reading {
+        LogReading::Whole => history_own_offset_engine(
+            alloc, history, time, log, sources, job, errors, writer,
+        ),
+        LogReading::Blocks | LogReading::Followed => history_annotate_engine(
+            alloc, history, time, log, sources, job, errors, writer,
+        ),
     }
 }
 
@@ -450,8 +472,8 @@ fn error_if_given<R>(reader: &Option<Counted<R>>) -> Option<io::Error>
     }
 }
 
-/// Opens the files of the listings of a request, or its history alone. A history `-` is the standard
-/// input.
+/// Opens the files of the listings of a request, or its history alone. A history `-` is the
+/// standard input.
 fn open_sources<F: FileSource>(
     files: &F,
     sources: &Sources<'_>,

@@ -22,8 +22,6 @@ const BAD_TIME: &[u8] = b"bad time ";
 
 const FOLLOWED_OFFSET: &[u8] = b"--offset auto and --follow exclude each other";
 
-const HISTORY_OFFSET: &[u8] = b"--offset auto and --history exclude each other";
-
 const BAD_BOUND: &[u8] = b"--kernel takes two names of symbols, and its END is ";
 
 const BAD_READERS: &[u8] = b"bad number of readers ";
@@ -61,7 +59,6 @@ pub fn refuse<W: Write, E: Write>(
         JobFault::BadTime(word) => misused(BAD_TIME, word, errors),
         JobFault::BadOffset(word) => misused(offset_message(word), word, errors),
         JobFault::FollowedByOwnOffset => misused(FOLLOWED_OFFSET, "", errors),
-        JobFault::HistoryByOwnOffset => misused(HISTORY_OFFSET, "", errors),
         JobFault::BadEnd(word) => misused(BAD_BOUND, word, errors),
         JobFault::BadReaders(word) => misused(BAD_READERS, word, errors),
         JobFault::NoJob => misused(NO_COMMAND, "", errors),

@@ -171,8 +171,6 @@ pub enum JobFault<'a> {
     BadOffset(&'a str),
     /// The offset that a log says itself, of one that is followed.
     FollowedByOwnOffset,
-    /// The offset that a log says itself, of one that is named by the history of its own boot.
-    HistoryByOwnOffset,
     /// An END of `--kernel` that begins with `0x`, as an address does.
     BadEnd(&'a str),
     /// A value of `--readers` that is no NUMBER from 1 to 64.

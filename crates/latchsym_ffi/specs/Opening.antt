@@ -71,7 +71,8 @@ IsCounted kernel c counts l =
 
 -- they are of what C gives
 abbrev pub AreRead : CatalogListings → CatalogEntries → CatalogCounts → Type 0
-AreRead given c counts = IsOkAnd (listings_of (texts_in given)) (IsCounted (kernel_in given) c counts)
+AreRead given c counts =
+    IsOkAnd (listings_of (texts_in given)) (IsCounted (kernel_in given) c counts)
 
 -- why no catalog is opened if the listing of regions is not read
 abbrev pub fault_of : LineFault → CatalogFault

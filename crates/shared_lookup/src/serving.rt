@@ -101,8 +101,8 @@ fn times_for(alloc: Global, changes: &[Vec<Change>]) -> Result<Vec<u8>, AllocErr
 }
 
 /// Runs the threads over a ledger that was opened with these readers, lets each reader that came
-/// back meet its writer, and counts what is wrong. Refused by [`Refusal::OutOfMemory`] alone, before
-/// the first thread starts.
+/// back meet its writer, and counts what is wrong. Refused by [`Refusal::OutOfMemory`] alone,
+/// before the first thread starts.
 fn serve_from<K: NamesTable + Send + Sync, R: Threads + Wait + Sync, G: Gate + Sync>(
     rt: &R,
     alloc: Global,
@@ -209,9 +209,9 @@ fn layout_for(c: &Catalog<'_>) -> Result<Layout, Refusal>
 /// the generations of a list never fall. For each answer the list's reader looked: it loaded the
 /// sequence at the start and at the end of each attempt, or once if it remembered the item.
 ///
-/// The changes of a list follow the log: each is accepted as a later update of it than those before,
-/// or refused as a beginning of the log refuses it that is no shorter than theirs. For that a reader
-/// of its own is beside each list, and meets the writer before and after each change.
+/// The changes of a list follow the log: each is accepted as a later update of it than those
+/// before, or refused as a beginning of the log refuses it that is no shorter than theirs. For that
+/// a reader of its own is beside each list, and meets the writer before and after each change.
 ///
 /// Counted as wrong are each answer whose generation is above the log's length or that is not what
 /// the key lies in after as many updates of the log: there is none; each accepted change

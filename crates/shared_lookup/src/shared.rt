@@ -118,8 +118,8 @@ impl<K: NamesTable> SharedWriter<K> {
         }
     }
 
-    /// One [`Ledger::change`] in one taking of the lock: what it returns, the change returns at some
-    /// ledger.
+    /// One [`Ledger::change`] in one taking of the lock: what it returns, the change returns at
+    /// some ledger.
     pub fn change<R: Wait, G: Gate>(
         &self,
         rt: &R,

@@ -7,4 +7,4 @@ returns-in_err-offset c =
     handed_on (Gives IsAnnotateIn (codes "annotate") rows) c.from_residual.result c.in_err-offset.field-0.0 c.from_residual.ensures.1 c.in_err-offset.ensures
 
 pub returns : goal.returns
-returns c = c.annotate_with.ensures (sym c.is_followed_whole.ensures ∙ c.if-is_followed_whole.false) (sym c.is_history_whole.ensures ∙ c.if-is_history_whole.false) c.in_ok-offset.ensures
+returns c = c.annotate_with.ensures (sym c.is_followed_whole.ensures ∙ c.if-is_followed_whole.false) c.in_ok-offset.ensures
