@@ -9,8 +9,9 @@
 #     benches/gate.sh CRATE..
 #
 # With --page the table takes the place of benches/gate/times.txt, which has the crates and scripts
-# that took 100 seconds or more; what stands there was measured before `catalog_engines` was parted
-# from `latchsym`. With names of crates it is of the proofs of these and of those below.
+# that took 100 seconds or more; what stands there was measured before `command_listings` and
+# `command_line` were parted from `latchsym`, and `command_traces` from `command_tables`, which was
+# called `engines`. With names of crates it is of the proofs of these and of those below.
 set -euo pipefail
 top=$(cd "$(dirname "$0")/.." && pwd)
 processors=${PROCESSORS:-0,1}

@@ -1,7 +1,7 @@
 #!/usr/bin/env python3
-"""Writes what is made from the rows of crates/latchsym/src/rows.rt: the completions for bash, zsh and
-fish, the synopses of docs/FORMATS.md and docs/latchsym.1, and in the latter an entry, with the help as
-its text, for an option that has none.
+"""Writes what is made from the rows of crates/command_line/src/rows.rt: the completions for bash,
+zsh and fish, the synopses of docs/FORMATS.md and docs/latchsym.1, and in the latter an entry, with
+the help as its text, for an option that has none.
 
     completions/write.py            # writes them
     completions/write.py --check    # writes nothing, and fails if one of them would change
@@ -32,7 +32,7 @@ Command = namedtuple("Command", "about rows options")
 
 def commands():
     """Each command with what the help says of it and its rows, in the order of the help."""
-    text = (TOP / "crates/latchsym/src/rows.rt").read_text().replace("\\\n", "")
+    text = (TOP / "crates/command_line/src/rows.rt").read_text().replace("\\\n", "")
     clashes = dict(re.findall(r'const (\w+): Option<Clash> = Some\(Clash \{\s+other: "([\w-]+)"', text))
     row = r'row!\((\w+) "([\w-]+)" \[(.*?)\]:\s+"(.*?)"((?:,\s+\w+: [\w"/-]+)*)\)'
 
@@ -46,7 +46,7 @@ def commands():
         table: [named.get(name) or read(*parts) for *parts, name in re.findall(row + r"|(\b[A-Z]+\b)", lines)]
         for table, lines in re.findall(r"const (\w+): &\[Argument\] = &\[(.*?)\];\n", text, re.DOTALL)
     }
-    text = (TOP / "crates/latchsym/src/command_line.rt").read_text()
+    text = (TOP / "crates/command_line/src/parser.rt").read_text()
     abouts = dict(re.findall(r'const (\w+): &str = "(.*)";', text))
     for name, table in re.findall(r'alloc, command, "(\w+)", (\w+)\)', text):
         yield name, Command(abouts[table], tables[table], [it for it in tables[table] if "Oper" not in it.kind])

@@ -94,9 +94,9 @@ PATHS = {
     "headline": "latch_steps/src/runs.rt run but IsTraceOf MayOpen IsOpeningRefused",
     "steps": """latch_steps/src/runs.rt run drive
         latch_steps/src/laws.rt every_answer_is_remembered beyond headline""",
-    "lookup": "engines/src/lookup.rt lookup_engine but json_line json_counts notes_of symbol_note",
-    "json": "engines/src/lookup.rt lookup_engine beyond lookup",
-    "annotate": "catalog_engines/src/annotations.rt annotate_engine beyond lookup json",
+    "lookup": "command_tables/src/lookup.rt lookup_engine but json_line json_counts notes_of symbol_note",
+    "json": "command_tables/src/lookup.rt lookup_engine beyond lookup",
+    "annotate": "command_listings/src/annotations.rt annotate_engine beyond lookup json",
     "table": """latch_table/src/readers/seated.rt try_find recall
         latch_table/src/writers/updates.rt begin step finish latch_table/src/writers/lookups.rt find
         latch_table/src/meeting.rt meet latch_table/src/enlarging.rt enlarge

@@ -43,7 +43,7 @@ REFUSED, NOT_REFUSED, BAD = "refused", "NOT REFUSED", "BAD EDIT"
 
 # How many edits of a crate make a share of at most some eight minutes: fewer of one that takes long
 # to prove, and of those that a build tries.
-SHARES = {"latchsym": 4, "catalog_engines": 8, "modules": 4, "engines": 4, "listing": 6, "shared_lookup": 6, "latchsym_ffi": 6}
+SHARES = {"latchsym": 4, "command_listings": 8, "modules": 4, "command_tables": 6, "command_traces": 12, "listing": 6, "shared_lookup": 6, "latchsym_ffi": 6}
 SHARE, SHARE_OF_TESTS = 16, 4
 
 # (antt could not read the edited text, or it names what is not there)

@@ -5,8 +5,8 @@ use Rattle.modules.specs.Listed.{BoundNames}
 use Rattle.listing.specs.declared.listing_notes.ListingNotes.{ListingNotes}
 use Rattle.histories.specs.Grammar.{HistoryPart}
 use Rattle.histories.specs.ListingsAt.{DatedListing, before_all, dated_listings, listing_at}
-use Rattle.command_io.specs.HistoryFiles.{symbols_alone}
-use Rattle.command_io.specs.OpenedCatalogs.{IsCatalogOf}
+use Rattle.command_parts.specs.HistoryFiles.{symbols_alone}
+use Rattle.command_parts.specs.OpenedCatalogs.{IsCatalogOf}
 use Rattle.follower.specs.Catalogs.{standing_at}
 use Rattle.follower.specs.declared.catalogs.DatedCatalog.{DatedCatalog}
 use Rattle.follower.specs.declared.catalogs.Moment.TheVariants.{Stamp}

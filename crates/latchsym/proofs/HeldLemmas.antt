@@ -3,11 +3,11 @@ use Rattle.latchsym.proofs.Words.{◌≡◌, ◌∙◌, ap, Bool, false, true, L
 use Rattle.std.specs.Prelude.{if◌then◌else◌}
 use Rattle.texts.specs.Counted.{device_of}
 use Rattle.texts.specs.declared.counted.Counted.{Counted}
-use Rattle.command_io.specs.OpenedCatalogs.{known_given}
-use Rattle.command_io.specs.declared.opened_catalogs.ListingReaders.{ListingReaders}
-use Rattle.catalog_engines.specs.LastingLogs.{Seen}
-use Rattle.catalog_engines.specs.declared.sources.ListingFiles.{ListingFiles}
-use Rattle.catalog_engines.specs.declared.sources.Sources.{Sources}
+use Rattle.command_parts.specs.OpenedCatalogs.{known_given}
+use Rattle.command_parts.specs.declared.opened_catalogs.ListingReaders.{ListingReaders}
+use Rattle.command_listings.specs.LastingLogs.{Seen}
+use Rattle.command_listings.specs.declared.sources.ListingFiles.{ListingFiles}
+use Rattle.command_listings.specs.declared.sources.Sources.{Sources}
 use Rattle.latchsym.specs.Files.{Held, held_given}
 use Rattle.latchsym.specs.Outcomes.{seen_first}
 use Rattle.latchsym.specs.RecordedEvents.{seen_again}

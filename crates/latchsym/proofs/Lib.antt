@@ -1,10 +1,4 @@
 -- the words that the proofs of this crate use
 mod Words
--- what a parse by the program's command gives
-mod ParseLemmas
 -- what is known of a log before it is followed
 mod HeldLemmas
--- words that are numbers, one after the other
-mod AddressLemmas
--- options that do not go together, row after row
-mod ClashLemmas

@@ -1,55 +1,24 @@
 -- The words that the proofs of this crate use, of whatever crate.
-pub use Rattle.std.proofs.Common.{Bool, Err, List, None, Ok, Option, Result, Some, [], ap, arith, codes, cond, drop, false, get_or, inl, inr, insert, length, map, nat_eq, option_map, refl, rules, subst, sym, take, tests, true, ℕ, ◌&&◌, ◌++◌, ◌+◌, ◌<◌, ◌||◌, ◌∙◌, ◌∷◌, ◌≡◌}
-pub use Rattle.std.proofs.lemmas.Bool.{false≢true}
-pub use Rattle.std.proofs.lemmas.Bool.Decides.{nat_tests}
-pub use Rattle.std.proofs.lemmas.Grind.{common_steps}
-pub use Rattle.std.proofs.lemmas.Iterator.Adapters.{position_from-zero}
-pub use Rattle.std.proofs.lemmas.List.{get_or-map, map-append, take-append-drop, take_all, take_more}
-pub use Rattle.std.proofs.lemmas.List.Elements.{filter_map-append}
-pub use Rattle.std.proofs.lemmas.List.Folds.{find-append}
-pub use Rattle.std.proofs.lemmas.List.Quantifiers.{position-Some}
-pub use Rattle.std.proofs.lemmas.List.Sums.{fold-append}
+pub use Rattle.std.proofs.Common.{Bool, Err, List, None, Option, Some, [], ap, cond, false, inl, inr, map, refl, subst, sym, true, ℕ, ◌∙◌, ◌≡◌}
 pub use Rattle.std.specs.Borrow.{Bor}
-pub use Rattle.std.specs.Box.{box_value}
-pub use Rattle.std.specs.List.{filter_map, fold, position_from}
-pub use Rattle.std.specs.Option.{UnwrapsOrElse, option_copied, option_map_or, option_or}
-pub use Rattle.std.specs.Prelude.{Box, not, IfOk, find, is_none, is_some, option_and_then, position, slice_get, slice_index_or, unwrap_or}
-pub use Rattle.catalog_engines.specs.Addresses.{IsAddressed}
-pub use Rattle.catalog_engines.specs.Checks.{IsChecked}
-pub use Rattle.catalog_engines.specs.GivenAnswers.{AnswersGiven, AnswersListings}
-pub use Rattle.catalog_engines.specs.declared.sources.SymbolSource.{SymbolSource}
-pub use Rattle.catalog_engines.specs.NoteTexts.{line_if_noted, IsNoted, lines_by}
-pub use Rattle.clap.proofs.WalkLemmas.{first_value-rows, raw_values-rows}
-pub use Rattle.clap.specs.Built.{AddsSubcommand}
-pub use Rattle.clap.specs.Simple.{shape_of, with_subcommand}
-pub use Rattle.clap.specs.Words.{AddsArg, App, HasKind, HasMatchesOf, IsAmong, Row, Text, fault_of, found_of, is_simple, is_simple_and_free, kind_of, new_app, rows_of, rule_of, subcommand_name_of, subcommand_of, subcommand_rows, subcommand_rows_of, with_rule}
-pub use Rattle.clap.specs.declared.builder.arg.Arg.{Arg}
-pub use Rattle.clap.specs.declared.builder.command.Command.{Command}
-pub use Rattle.clap.specs.declared.builder.command.Command.TheViews.{out-Command}
-pub use Rattle.clap.specs.declared.error.Error.{Error}
-pub use Rattle.clap.specs.declared.parser.matches.ArgMatches.{ArgMatches}
-pub use Rattle.clap.specs.declared.parser.matches.ArgMatches.TheViews.{out-ArgMatches, out-SubCommand}
-pub use Rattle.clap.specs.declared.parser.matches.SubCommand.{SubCommand}
-pub use Rattle.command_io.proofs.FaultLemmas.{handed_on}
-pub use Rattle.command_io.specs.Faults.{with_notes}
-pub use Rattle.command_io.specs.HistoryFiles.{AnswersHistory, symbols_alone}
-pub use Rattle.command_io.specs.OpenedCatalogs.{known_given, listing_failures}
-pub use Rattle.facts.proofs.Lists.{map-insert}
-pub use Rattle.facts.proofs.Options.{Some-from_parts}
+pub use Rattle.std.specs.Option.{option_copied, option_map_or}
+pub use Rattle.std.specs.Prelude.{unwrap_or}
+pub use Rattle.command_listings.specs.Addresses.{IsAddressed}
+pub use Rattle.command_listings.specs.Checks.{IsChecked}
+pub use Rattle.command_listings.specs.GivenAnswers.{AnswersGiven, AnswersListings}
+pub use Rattle.command_listings.specs.declared.sources.SymbolSource.{SymbolSource}
+pub use Rattle.command_listings.specs.NoteTexts.{line_if_noted, IsNoted, lines_by}
+pub use Rattle.clap.specs.Words.{Text}
+pub use Rattle.command_parts.specs.Faults.{with_notes}
+pub use Rattle.command_parts.specs.HistoryFiles.{AnswersHistory, symbols_alone}
+pub use Rattle.command_parts.specs.OpenedCatalogs.{known_given, listing_failures}
 pub use Rattle.histories.specs.Grammar.{HistoryPart}
 pub use Rattle.histories.specs.ListingsAt.{listing_at}
-pub use Rattle.latchsym.specs.CommandLine.{IsCommand, IsPlainArg, command_app, latchsym_app, row_of, top_app}
 pub use Rattle.latchsym.specs.JobNotes.{notes_text, bounds_of_lookup, run_lines, run_line}
-pub use Rattle.latchsym.specs.Jobs.{AnswersMatches, AnswersWords, Gives, IsAddressIn, IsAnnotateIn, IsFaultOf, IsLookupIn, IsRequestIn, IsSourceIn, IsUnparsed, clash_of, is_no_address, rows_in}
-pub use Rattle.latchsym.specs.Operands.{ends_options, is_kernel_name, operand_place}
 pub use Rattle.latchsym.specs.Outcomes.{AnswersSources, HoldsOfInput, IsLogBy, IsLogOf, IsLookedUpBy, IsOutcomeOfRun}
 pub use Rattle.latchsym.specs.Reports.{IsConcluded, message_text}
-pub use Rattle.latchsym.specs.declared.requests.Job.{Job}
-pub use Rattle.latchsym.specs.declared.requests.JobFault.{JobFault}
-pub use Rattle.latchsym.specs.declared.requests.JobFault.TheVariants.{CommandLine, OutOfMemory}
-pub use Rattle.latchsym.specs.declared.rows.Argument.{Argument}
+pub use Rattle.command_line.specs.declared.requests.JobFault.TheVariants.{OutOfMemory}
 pub use Rattle.listing.proofs.ListingNoteLemmas.{given_or}
-pub use Rattle.listing.specs.Addresses.{address_of_text}
 pub use Rattle.modules.specs.Lines.{usual_bounds}
 pub use Rattle.modules.specs.Listed.{BoundNames}
 pub use Rattle.texts.proofs.OutputLemmas.{same_text, then}

@@ -1,51 +1,21 @@
--- The files of a job: their names, what these hold, and the readers that are opened on them.
-use Rattle.std.specs.Prelude.{◌≡◌, ℕ, List, [], ◌∷◌, codes, Option, Some, None, if◌then◌else◌}
-use Rattle.std.specs.Prelude.{option_and_then, slice_get}
+-- The files of a job: what these hold, and the readers that are opened on them.
+use Rattle.std.specs.Prelude.{◌≡◌, ℕ, List, codes, Option, Some, None, if◌then◌else◌}
 use Rattle.std.specs.Option.{option_map}
 use Rattle.std.specs.Str.{bytes_eq}
 use Rattle.clap.specs.Words.{Text}
 use Rattle.texts.specs.declared.counted.Counted.{Counted}
 use Rattle.texts.specs.Counted.{device_of, failures_of}
+use Rattle.command_line.specs.Requests.{input_of}
 use Rattle.latchsym.specs.declared.jobs.OpenedJob.{OpenedJob}
 use Rattle.latchsym.specs.declared.jobs.OpenedJob.TheVariants as opened
-use Rattle.latchsym.specs.declared.requests.Job.{Job}
-use Rattle.latchsym.specs.declared.requests.Job.TheVariants as job
-use Rattle.catalog_engines.specs.declared.sources.ListingFiles.{ListingFiles}
-use Rattle.catalog_engines.specs.declared.sources.SymbolSource.{SymbolSource}
-use Rattle.catalog_engines.specs.declared.sources.SymbolSource.TheVariants.{History, Listing}
-use Rattle.latchsym.specs.declared.requests.Request.{Request}
-use Rattle.latchsym.specs.declared.requests.Subcommand.{Subcommand}
-use Rattle.latchsym.specs.declared.requests.Subcommand.TheVariants as sub
-use Rattle.command_io.specs.OpenedCatalogs.{given_of}
-use Rattle.command_io.specs.declared.opened_catalogs.ListingReaders.{ListingReaders}
+use Rattle.command_line.specs.declared.requests.Job.{Job}
+use Rattle.command_line.specs.declared.requests.Job.TheVariants as job
+use Rattle.command_listings.specs.declared.sources.ListingFiles.{ListingFiles}
+use Rattle.command_listings.specs.declared.sources.SymbolSource.{SymbolSource}
+use Rattle.command_listings.specs.declared.sources.SymbolSource.TheVariants.{History, Listing}
+use Rattle.command_parts.specs.OpenedCatalogs.{given_of}
+use Rattle.command_parts.specs.declared.opened_catalogs.ListingReaders.{ListingReaders}
 use Rattle.listing.specs.Opening.{Given}
-
--- the file that is read after the listings
-abbrev pub input_of : Subcommand → Option Text
-input_of (sub.Lookup lookup) = option_map (λ f. f.now) lookup.file
-input_of (sub.Run run) = Some run.script.now
-input_of (sub.Annotate annotate) = Some annotate.log.now
-input_of sub.Check = None
-input_of (sub.Address address) = None
-input_of (sub.Record r) = Some r.events.now
-
--- the files that are read, in order; the place of one that is not given stays empty
-abbrev pub files_of_request : Request → List (Option Text)
-files_of_request q =
-    option_map (λ f. f.now) q.sources.files.modules ∷ Some q.sources.files.kallsyms.now
-    ∷ option_map (λ f. f.now) q.sources.files.regions ∷ input_of q.subcommand ∷ []
-
-abbrev pub files_of : Job → List (Option Text)
-files_of (job.Trace file) = Some file.now ∷ []
-files_of (job.Steps file) = Some file.now ∷ []
-files_of (job.Request q) = files_of_request q
-
--- the file at a place among them
-abbrev pub request_file_at : Request → ℕ → Option Text
-request_file_at q place = option_and_then (λ f. f) (slice_get (files_of_request q) place)
-
-abbrev pub file_at : Job → ℕ → Option Text
-file_at job place = option_and_then (λ f. f) (slice_get (files_of job) place)
 
 -- what the file of each name holds, if that is known
 abbrev pub Held : Type 0

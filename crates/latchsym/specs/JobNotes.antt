@@ -9,16 +9,16 @@ use Rattle.modules.specs.Listed.{BoundNames}
 use Rattle.listing.specs.declared.listing_notes.ListingNote.{ListingNote}
 use Rattle.listing.specs.declared.listing_notes.ListingNote.TheVariants.{ModulesOverlap}
 use Rattle.listing.specs.declared.listing_notes.ListingNotes.{ListingNotes}
-use Rattle.catalog_engines.specs.NoteTexts.{line_if_noted, lines_by, note_head, note_lines}
-use Rattle.catalog_engines.specs.NoteTexts.{noted_bounds}
-use Rattle.catalog_engines.specs.declared.sources.Sources.{Sources}
+use Rattle.command_listings.specs.NoteTexts.{line_if_noted, lines_by, note_head, note_lines}
+use Rattle.command_listings.specs.NoteTexts.{noted_bounds}
+use Rattle.command_listings.specs.declared.sources.Sources.{Sources}
 use Rattle.latchsym.specs.RecordedEvents.{ended_lines}
 use Rattle.latchsym.specs.declared.job_notes.TheConstants.{GIVE_REGIONS}
-use Rattle.latchsym.specs.declared.requests.Job.{Job}
-use Rattle.latchsym.specs.declared.requests.Job.TheVariants as job
-use Rattle.latchsym.specs.declared.requests.Request.{Request}
-use Rattle.latchsym.specs.declared.requests.Subcommand.{Subcommand}
-use Rattle.latchsym.specs.declared.requests.Subcommand.TheVariants.{Lookup, Record, Run}
+use Rattle.command_line.specs.declared.requests.Job.{Job}
+use Rattle.command_line.specs.declared.requests.Job.TheVariants as job
+use Rattle.command_line.specs.declared.requests.Request.{Request}
+use Rattle.command_line.specs.declared.requests.Subcommand.{Subcommand}
+use Rattle.command_line.specs.declared.requests.Subcommand.TheVariants.{Lookup, Record, Run}
 
 -- The bounds of a lookup: if modules are listed, the kernel lies between `_stext` and `_end` if no
 -- names are given.

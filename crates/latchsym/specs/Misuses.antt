@@ -10,14 +10,14 @@ use Rattle.texts.specs.declared.output.Output.{Output}
 use Rattle.texts.specs.Output.{Delivers, Says, has_failed}
 use Rattle.order_laws.specs.declared.refusals.Refusal.TheVariants as refusal
 use Rattle.latchsym.specs.Reports.{fault_text}
-use Rattle.latchsym.specs.declared.requests.JobFault.{JobFault}
-use Rattle.latchsym.specs.declared.requests.JobFault.TheVariants.{OutOfMemory, CommandLine}
-use Rattle.latchsym.specs.declared.requests.JobFault.TheVariants.{BadAddress, NoAddress}
-use Rattle.latchsym.specs.declared.requests.JobFault.TheVariants.{BadEnd, BadOffset}
-use Rattle.latchsym.specs.declared.requests.JobFault.TheVariants.{BadReaders, BadTime, NoJob}
-use Rattle.latchsym.specs.declared.requests.JobFault.TheVariants.{NoText}
-use Rattle.latchsym.specs.declared.requests.JobFault.TheVariants.{Clash, FollowedByOwnOffset}
-use Rattle.command_io.specs.declared.fault.Fault.TheVariants.{Refused, Write}
+use Rattle.command_line.specs.declared.requests.JobFault.{JobFault}
+use Rattle.command_line.specs.declared.requests.JobFault.TheVariants.{OutOfMemory, CommandLine}
+use Rattle.command_line.specs.declared.requests.JobFault.TheVariants.{BadAddress, NoAddress}
+use Rattle.command_line.specs.declared.requests.JobFault.TheVariants.{BadEnd, BadOffset}
+use Rattle.command_line.specs.declared.requests.JobFault.TheVariants.{BadReaders, BadTime, NoJob}
+use Rattle.command_line.specs.declared.requests.JobFault.TheVariants.{NoText}
+use Rattle.command_line.specs.declared.requests.JobFault.TheVariants.{Clash, FollowedByOwnOffset}
+use Rattle.command_parts.specs.declared.fault.Fault.TheVariants.{Refused, Write}
 use Rattle.latchsym.specs.declared.misuse.TheConstants as text
 
 -- what is wrong with the command line, and with which word

@@ -4,51 +4,52 @@ use Rattle.std.specs.Prelude.{unwrap_or}
 use Rattle.texts.specs.Counted.{device_of, failures_of}
 use Rattle.texts.specs.declared.counted.Counted.{Counted}
 use Rattle.texts.specs.declared.output.Output.{Output}
-use Rattle.catalog_engines.specs.Addresses.{IsAddressed}
-use Rattle.catalog_engines.specs.Annotations.{AnnotatesLog}
-use Rattle.catalog_engines.specs.Checks.{IsChecked}
-use Rattle.catalog_engines.specs.Following.{FollowsLog}
-use Rattle.catalog_engines.specs.LastingLogs.{Seen}
-use Rattle.catalog_engines.specs.HistoryAnnotations.{AnnotatesByHistory}
-use Rattle.catalog_engines.specs.HistoryOffsets.{WritesByHistoryOffset}
-use Rattle.catalog_engines.specs.OwnOffsets.{WritesByOwnOffset, all_failures}
+use Rattle.command_listings.specs.Addresses.{IsAddressed}
+use Rattle.command_listings.specs.Annotations.{AnnotatesLog}
+use Rattle.command_listings.specs.Checks.{IsChecked}
+use Rattle.command_listings.specs.Following.{FollowsLog}
+use Rattle.command_listings.specs.LastingLogs.{Seen}
+use Rattle.command_listings.specs.HistoryAnnotations.{AnnotatesByHistory}
+use Rattle.command_listings.specs.HistoryOffsets.{WritesByHistoryOffset}
+use Rattle.command_listings.specs.OwnOffsets.{WritesByOwnOffset, all_failures}
 use Rattle.latchsym.specs.Files.{Held, held_given}
 use Rattle.latchsym.specs.RecordedEvents.{seen_again}
 use Rattle.recordings.specs.Recorder.{RecordsEvents}
-use Rattle.catalog_engines.specs.GivenAnswers.{AnswersGiven, AnswersListings}
-use Rattle.command_io.specs.Faults.{with_notes, with_status, without_notes}
+use Rattle.command_listings.specs.GivenAnswers.{AnswersGiven, AnswersListings}
+use Rattle.command_parts.specs.Faults.{with_notes, with_status, without_notes}
 use Rattle.listing.specs.ListingNotes.{no_notes}
 use Rattle.listing.specs.declared.listing_notes.ListingNotes.{ListingNotes}
-use Rattle.command_io.specs.HistoryFiles.{AnswersHistory, symbols_alone}
-use Rattle.command_io.specs.OpenedCatalogs.{known_given, listing_failures}
-use Rattle.command_io.specs.Readings.{failures_in, known_text, last_failures}
-use Rattle.engines.specs.Inputs.{failures_behind, inputs_of, known_inputs}
-use Rattle.engines.specs.Lookups.{AnswersLookup, addresses_known}
-use Rattle.engines.specs.Runs.{AnswersRun, script_known}
-use Rattle.engines.specs.StepTraces.{AnswersSteps}
-use Rattle.engines.specs.Traces.{AnswersTrace}
+use Rattle.command_parts.specs.HistoryFiles.{AnswersHistory, symbols_alone}
+use Rattle.command_parts.specs.OpenedCatalogs.{known_given, listing_failures}
+use Rattle.command_parts.specs.Readings.{failures_in, known_text, last_failures}
+use Rattle.command_tables.specs.Inputs.{failures_behind, inputs_of, known_inputs}
+use Rattle.command_tables.specs.Lookups.{AnswersLookup, addresses_known}
+use Rattle.command_tables.specs.Runs.{AnswersRun, script_known}
+use Rattle.command_traces.specs.StepTraces.{AnswersSteps}
+use Rattle.command_traces.specs.Traces.{AnswersTrace}
 use Rattle.histories.specs.Grammar.{HistoryPart}
 use Rattle.histories.specs.ListingsAt.{listing_at}
 use Rattle.listing.specs.Opening.{Given}
 use Rattle.modules.specs.Lines.{usual_bounds}
 use Rattle.modules.specs.Listed.{BoundNames}
-use Rattle.command_io.specs.declared.fault.Fault.{Fault}
-use Rattle.command_io.specs.declared.fault.Fault.TheVariants.{Read}
-use Rattle.command_io.specs.declared.fault.Finished.{Finished}
-use Rattle.command_io.specs.declared.opened_catalogs.ListingReaders.{ListingReaders}
-use Rattle.engines.specs.LookupTexts.{Query}
+use Rattle.command_parts.specs.declared.fault.Fault.{Fault}
+use Rattle.command_parts.specs.declared.fault.Fault.TheVariants.{Read}
+use Rattle.command_parts.specs.declared.fault.Finished.{Finished}
+use Rattle.command_parts.specs.declared.opened_catalogs.ListingReaders.{ListingReaders}
+use Rattle.command_tables.specs.LookupTexts.{Query}
 use Rattle.latchsym.specs.declared.jobs.OpenedJob.{OpenedJob}
 use Rattle.latchsym.specs.declared.jobs.OpenedJob.TheVariants.{Request, Trace, Steps}
-use Rattle.catalog_engines.specs.declared.annotations.Annotate.{Annotate}
-use Rattle.catalog_engines.specs.declared.annotations.LogReading.{LogReading}
-use Rattle.catalog_engines.specs.declared.annotations.LogReading.TheVariants.{Blocks, Followed, Whole}
-use Rattle.catalog_engines.specs.declared.sources.Sources.{Sources}
-use Rattle.catalog_engines.specs.declared.sources.SymbolSource.{SymbolSource}
-use Rattle.catalog_engines.specs.declared.sources.SymbolSource.TheVariants.{History, Listing}
-use Rattle.latchsym.specs.declared.requests.Lookup.{Lookup}
-use Rattle.latchsym.specs.declared.requests.Record.{Record}
-use Rattle.latchsym.specs.declared.requests.Subcommand.{Subcommand}
-use Rattle.latchsym.specs.declared.requests.Subcommand.TheVariants as sub
+use Rattle.command_listings.specs.declared.annotations.Annotate.{Annotate}
+use Rattle.command_listings.specs.declared.annotations.LogReading.{LogReading}
+use Rattle.command_listings.specs.declared.annotations.LogReading.TheVariants.{Blocks, Followed}
+use Rattle.command_listings.specs.declared.annotations.LogReading.TheVariants.{Whole}
+use Rattle.command_listings.specs.declared.sources.Sources.{Sources}
+use Rattle.command_listings.specs.declared.sources.SymbolSource.{SymbolSource}
+use Rattle.command_listings.specs.declared.sources.SymbolSource.TheVariants.{History, Listing}
+use Rattle.command_line.specs.declared.requests.Lookup.{Lookup}
+use Rattle.command_line.specs.declared.requests.Record.{Record}
+use Rattle.command_line.specs.declared.requests.Subcommand.{Subcommand}
+use Rattle.command_line.specs.declared.requests.Subcommand.TheVariants as sub
 
 -- the names of the kernel's bounds in a run
 abbrev pub bounds_of : Sources → BoundNames

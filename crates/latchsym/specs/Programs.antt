@@ -7,18 +7,18 @@ use Rattle.clap.specs.Words.{Text}
 use Rattle.texts.specs.declared.output.Output.{Output}
 use Rattle.texts.specs.Output.{error_in}
 use Rattle.latchsym.specs.Files.{Held, IsOpenedFor}
-use Rattle.latchsym.specs.Jobs.{AnswersWords}
+use Rattle.command_line.specs.Jobs.{AnswersWords}
 use Rattle.latchsym.specs.Misuses.{IsNoJob}
-use Rattle.latchsym.specs.Operands.{with_operands}
+use Rattle.command_line.specs.Operands.{with_operands}
 use Rattle.latchsym.specs.Outcomes.{IsOutcome}
 use Rattle.latchsym.specs.Reasons.{error_behind}
 use Rattle.latchsym.specs.Reports.{IsConcluded}
 use Rattle.latchsym.specs.declared.jobs.OpenedJob.{OpenedJob}
-use Rattle.latchsym.specs.declared.requests.Job.{Job}
-use Rattle.latchsym.specs.declared.requests.JobFault.{JobFault}
-use Rattle.latchsym.specs.declared.requests.JobFault.TheVariants.{OutOfMemory}
-use Rattle.command_io.specs.declared.fault.Fault.{Fault}
-use Rattle.command_io.specs.declared.fault.Finished.{Finished}
+use Rattle.command_line.specs.declared.requests.Job.{Job}
+use Rattle.command_line.specs.declared.requests.JobFault.{JobFault}
+use Rattle.command_line.specs.declared.requests.JobFault.TheVariants.{OutOfMemory}
+use Rattle.command_parts.specs.declared.fault.Fault.{Fault}
+use Rattle.command_parts.specs.declared.fault.Finished.{Finished}
 
 -- the error that made a job fail, if it did
 abbrev pub error_of_outcome : {R : Type 0} → OpenedJob R → Option Error → Result Finished Fault

@@ -1,16 +1,15 @@
--- What the system said of a failed call, and which commands write it.
-use Rattle.std.specs.Prelude.{ℕ, Bool, true, false, nat_eq, List, [], ◌++◌, codes}
+-- What the system said of a failed call, if the job's command writes it.
+use Rattle.std.specs.Prelude.{ℕ, Bool, false, nat_eq, List, [], ◌++◌, codes}
 use Rattle.std.specs.Prelude.{Option, Some, None, if◌then◌else◌}
 use Rattle.std.specs.declared.io.Error.{Error}
 use Rattle.texts.specs.declared.counted.Counted.{Counted}
 use Rattle.texts.specs.Counted.{error_of}
-use Rattle.command_io.specs.declared.opened_catalogs.ListingReaders.{ListingReaders}
-use Rattle.command_io.specs.declared.fault.Fault.{Fault}
-use Rattle.command_io.specs.declared.fault.Fault.TheVariants.{Read, Write}
+use Rattle.command_parts.specs.declared.opened_catalogs.ListingReaders.{ListingReaders}
+use Rattle.command_parts.specs.declared.fault.Fault.{Fault}
+use Rattle.command_parts.specs.declared.fault.Fault.TheVariants.{Read, Write}
+use Rattle.command_line.specs.Requests.{does_tell}
 use Rattle.latchsym.specs.declared.jobs.OpenedJob.{OpenedJob}
 use Rattle.latchsym.specs.declared.jobs.OpenedJob.TheVariants.{Request}
-use Rattle.latchsym.specs.declared.requests.Subcommand.{Subcommand}
-use Rattle.latchsym.specs.declared.requests.Subcommand.TheVariants as sub
 
 -- the error that a reader gave last, if there is a reader
 abbrev pub error_if_given : {R : Type 0} → Option (Counted R) → Option Error
@@ -31,14 +30,6 @@ error_of_request r input place =
 abbrev pub error_of_listings : {R : Type 0} → ListingReaders R R R → Fault → Option Error
 error_of_listings r (Read place) = error_of_request r None place
 error_of_listings r _ = None
-
--- the commands that write what the system said
-abbrev pub does_tell : Subcommand → Bool
-does_tell (sub.Annotate annotate) = true
-does_tell sub.Check = true
-does_tell (sub.Address address) = true
-does_tell (sub.Record r) = true
-does_tell _ = false
 
 abbrev pub tells_errors : {R : Type 0} → OpenedJob R → Bool
 tells_errors (Request q r input) = does_tell q.now.subcommand

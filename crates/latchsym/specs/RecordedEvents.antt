@@ -4,8 +4,8 @@ use Rattle.std.specs.Prelude.{ℕ, List, [], ◌++◌, codes, Option, Some, None
 use Rattle.texts.specs.Counted.{device_of}
 use Rattle.texts.specs.declared.counted.Counted.{Counted}
 use Rattle.clap.specs.Words.{Text}
-use Rattle.catalog_engines.specs.LastingLogs.{Seen}
-use Rattle.catalog_engines.specs.declared.sources.ListingFiles.{ListingFiles}
+use Rattle.command_listings.specs.LastingLogs.{Seen}
+use Rattle.command_listings.specs.declared.sources.ListingFiles.{ListingFiles}
 use Rattle.listing.specs.NoteTexts.{plain_text}
 use Rattle.listing.specs.declared.listing_notes.ListingNote.{ListingNote}
 use Rattle.latchsym.specs.Files.{Held, held_given}

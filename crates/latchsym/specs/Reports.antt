@@ -6,17 +6,18 @@ use Rattle.clap.specs.Words.{Text}
 use Rattle.texts.specs.declared.output.Output.{Output}
 use Rattle.texts.specs.Output.{Says}
 use Rattle.order_laws.specs.Refusals.{refusal_number}
-use Rattle.latchsym.specs.Files.{file_at}
+use Rattle.command_line.specs.Requests.{file_at}
 use Rattle.latchsym.specs.Reasons.{reason_text}
 use Rattle.listing.specs.ListingNotes.{is_some_noted}
-use Rattle.catalog_engines.specs.NoteTexts.{IsNoted}
+use Rattle.command_listings.specs.NoteTexts.{IsNoted}
 use Rattle.latchsym.specs.JobNotes.{notes_text}
-use Rattle.engines.specs.TraceTexts.{refused_text}
-use Rattle.latchsym.specs.declared.requests.Job.{Job}
-use Rattle.command_io.specs.declared.fault.Fault.{Fault}
-use Rattle.command_io.specs.declared.fault.Finished.{Finished}
-use Rattle.command_io.specs.declared.fault.Fault.TheVariants.{Refused, BadLine, Read, TooLong, Write}
-use Rattle.command_io.specs.Faults.{fault_place}
+use Rattle.command_traces.specs.TraceTexts.{refused_text}
+use Rattle.command_line.specs.declared.requests.Job.{Job}
+use Rattle.command_parts.specs.declared.fault.Fault.{Fault}
+use Rattle.command_parts.specs.declared.fault.Finished.{Finished}
+use Rattle.command_parts.specs.declared.fault.Fault.TheVariants.{Refused, BadLine, Read, TooLong}
+use Rattle.command_parts.specs.declared.fault.Fault.TheVariants.{Write}
+use Rattle.command_parts.specs.Faults.{fault_place}
 use Rattle.latchsym.specs.declared.reports.TheConstants as text
 
 abbrev pub bad_line_text : Text → ℕ → List ℕ

@@ -1,11 +1,11 @@
 //! The files of a log that lasts and of its listings.
 
 ghost use Rattle.std.specs.Prelude.{◌≡◌};
-ghost use Rattle.command_io.specs.declared.fault.Fault.TheVariants.{Refused};
+ghost use Rattle.command_parts.specs.declared.fault.Fault.TheVariants.{Refused};
 
 use crate::jobs::{FileSource, error_of_listings, open_files};
-use catalog_engines::{LOG_PLACE, LastingLog, ListingFiles, Unlisted};
-use command_io::{Fault, ListingReaders, ListingTexts, read_given};
+use command_listings::{LOG_PLACE, LastingLog, ListingFiles, Unlisted};
+use command_parts::{Fault, ListingReaders, ListingTexts, read_given};
 use order_laws::Refusal;
 use std::alloc::Global;
 use std::io::Read;
@@ -79,7 +79,7 @@ impl<'f, 'a, F: FileSource> FollowedFiles<'f, 'a, F> {
 impl<'f, 'a, F: FileSource> LastingLog for FollowedFiles<'f, 'a, F> {
     ghost use Rattle.std.specs.Prelude.{None, if◌then◌else◌};
     ghost use Rattle.texts.specs.Counted.{device_of};
-    ghost use Rattle.command_io.specs.OpenedCatalogs.{known_given};
+    ghost use Rattle.command_parts.specs.OpenedCatalogs.{known_given};
     ghost use Rattle.latchsym.specs.Files.{held_given};
 
     ghost seen = { λ s. record {

@@ -5,8 +5,8 @@ ghost use Rattle.latchsym.specs.JobNotes.{is_overlap, lines_asked, lines_of_look
 ghost use Rattle.latchsym.specs.JobNotes.{notes_text, overlap_line, run_line, run_lines};
 
 use crate::recorded_events::put_ended;
-use crate::requests::{Job, Request, Subcommand};
-use catalog_engines::{Sources, put_if_noted, put_listing_notes, put_note_head, put_notes_of};
+use command_line::{Job, Request, Subcommand};
+use command_listings::{Sources, put_if_noted, put_listing_notes, put_note_head, put_notes_of};
 use listing::{ListingNote, ListingNotes};
 use modules::KernelBounds;
 use std::io::Write;

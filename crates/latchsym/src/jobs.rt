@@ -3,12 +3,12 @@
 ghost use Rattle.std.specs.Prelude.{◌≡◌, IfOk, IfErr, List, ℕ, None, Option, map};
 ghost use Rattle.std.specs.Option.{option_map};
 ghost use Rattle.texts.specs.Output.{error_in};
-ghost use Rattle.command_io.specs.Faults.{with_notes, with_status};
+ghost use Rattle.command_parts.specs.Faults.{with_notes, with_status};
 ghost use Rattle.listing.specs.ListingNotes.{no_notes};
-ghost use Rattle.catalog_engines.specs.Addresses.{IsAddressed};
-ghost use Rattle.catalog_engines.specs.Checks.{IsChecked};
-ghost use Rattle.catalog_engines.specs.Following.{FollowsLog};
-ghost use Rattle.catalog_engines.specs.LastingLogs.{Seen};
+ghost use Rattle.command_listings.specs.Addresses.{IsAddressed};
+ghost use Rattle.command_listings.specs.Checks.{IsChecked};
+ghost use Rattle.command_listings.specs.Following.{FollowsLog};
+ghost use Rattle.command_listings.specs.LastingLogs.{Seen};
 ghost use Rattle.latchsym.specs.Files.{AreListingFiles, AreSourceFiles, IsNew, IsOpened};
 ghost use Rattle.latchsym.specs.Files.{IsOpenedFor};
 ghost use Rattle.latchsym.specs.Files.{IsOpenedIfGiven};
@@ -20,16 +20,15 @@ ghost use Rattle.latchsym.specs.Reasons.{error_if_given, error_of_listings, erro
 
 use crate::followed_files::FollowedFiles;
 use crate::recorded_events::do_record;
-use crate::requests::{Address, Job, Lookup, Request, Run, Subcommand};
-use catalog_engines::{
+use command_line::{Address, Job, Lookup, Request, Run, Subcommand};
+use command_listings::{
     Annotate, ListingFiles, LogReading, Sources, SymbolSource, address_engine, address_engine_at,
     annotate_engine, check_engine, check_engine_at, follow_engine, history_annotate_engine,
     history_own_offset_engine, own_offset_engine,
 };
-use command_io::{Fault, Finished, ListingReaders, with_notes, with_status, without_notes};
-use engines::{
-    LookupOptions, lookup_engine, lookup_engine_at, run_engine, steps_engine, trace_engine,
-};
+use command_parts::{Fault, Finished, ListingReaders, with_notes, with_status, without_notes};
+use command_tables::{LookupOptions, lookup_engine, lookup_engine_at, run_engine};
+use command_traces::{steps_engine, trace_engine};
 use listing::ListingNotes;
 use modules::KernelBounds;
 use order_laws::Refusal;

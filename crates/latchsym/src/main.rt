@@ -10,32 +10,27 @@
 //! - `address` gives the addresses of symbols by their names
 //! - `record` writes the history of a boot, from the events of its modules
 //!
-//! The options of each are in `rows`, and what they ask for in `requests`.
+//! The options of each, and the job that words ask for, are in `command_line`.
 //!
-//! What `trace`, `lookup` and `run` do is in `engines`, and what needs no table in
-//! `catalog_engines`.
+//! What `trace` does is in `command_traces`, what `lookup` and `run` do in `command_tables`, what
+//! `record` does in `recordings`, and the others in `command_listings`.
 #![tactic(auto)]
 
-mod arguments;
-mod command_line;
 mod followed_files;
 mod input;
 mod job_notes;
 mod jobs;
 mod misuse;
-mod operands;
 mod programs;
 mod recorded_events;
 mod reports;
-mod requests;
-mod rows;
 
-use command_io::Fault;
+use command_line::JobFault;
+use command_parts::Fault;
 use input::FileSystem;
 use order_laws::Refusal;
 use programs::program;
 use reports::report_before_job;
-use requests::JobFault;
 use std::env;
 use std::io::ErrorKind;
 use std::process::ExitCode;

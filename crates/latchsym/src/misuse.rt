@@ -5,9 +5,9 @@ ghost use Rattle.latchsym.specs.Misuses.{IsExplained, IsHelped, IsMisused, IsNoJ
 ghost use Rattle.latchsym.specs.Misuses.{offset_message};
 
 use crate::reports::report_before_job;
-use crate::requests::JobFault;
 use clap::Error;
-use command_io::{Fault, SUCCEEDED};
+use command_line::JobFault;
+use command_parts::{Fault, SUCCEEDED};
 use order_laws::Refusal;
 use std::alloc::Global;
 use std::io::Write;

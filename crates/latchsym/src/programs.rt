@@ -15,13 +15,11 @@ ghost use Rattle.texts.specs.Output.{error_in};
 ghost use Rattle.latchsym.specs.Programs.{AnswersArguments, AnswersCommand, ComesOf, IsDoneOver};
 ghost use Rattle.latchsym.specs.Programs.{error_of_outcome};
 
-use crate::arguments::job_of;
 use crate::jobs::{FileSource, OpenedJob, do_job, open_job};
 use crate::misuse::refuse;
-use crate::operands::with_operands;
 use crate::reports::conclude;
-use crate::requests::{Job, JobFault};
-use command_io::{Fault, Finished};
+use command_line::{Job, JobFault, job_of, with_operands};
+use command_parts::{Fault, Finished};
 use std::alloc::Global;
 use std::convert::AsStr;
 use std::io;

@@ -6,9 +6,9 @@ ghost use Rattle.latchsym.specs.RecordedEvents.{ended_line, ended_lines};
 
 use crate::followed_files::FollowedFiles;
 use crate::jobs::{FileSource, UNREAD};
-use crate::requests::Record;
-use catalog_engines::Sources;
-use command_io::{Fault, Finished, ListingReaders};
+use command_line::Record;
+use command_listings::Sources;
+use command_parts::{Fault, Finished, ListingReaders};
 use listing::{ListingNote, plain_text};
 use recordings::record_engine;
 use std::alloc::Global;

@@ -7,13 +7,13 @@ ghost use Rattle.latchsym.specs.Reports.{IsConcluded, IsFaultTold};
 ghost use Rattle.latchsym.specs.Reports.{bad_line_text, fault_text, file_of, message_text};
 ghost use Rattle.latchsym.specs.Reports.{failed_text};
 ghost use Rattle.listing.specs.ListingNotes.{is_some_noted};
-ghost use Rattle.catalog_engines.specs.NoteTexts.{IsNoted};
+ghost use Rattle.command_listings.specs.NoteTexts.{IsNoted};
 ghost use Rattle.latchsym.specs.JobNotes.{notes_text};
 
 use crate::job_notes::put_job_notes;
-use crate::requests::Job;
-use command_io::{FAILED, Fault, Finished, words_of};
-use engines::put_refused;
+use command_line::Job;
+use command_parts::{FAILED, Fault, Finished, words_of};
+use command_traces::put_refused;
 use listing::ListingNotes;
 use std::io;
 use std::io::Write;

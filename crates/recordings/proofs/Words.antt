@@ -28,11 +28,11 @@ pub use Rattle.std.proofs.lemmas.List.Concat.{flat_map-append}
 pub use Rattle.std.specs.Prelude.{IfSome, IsErrAnd}
 pub use Rattle.std.specs.Option.{option_to_list}
 pub use Rattle.texts.specs.declared.output.Output.{Output}
-pub use Rattle.command_io.proofs.FaultLemmas.{handed_on}
-pub use Rattle.command_io.specs.declared.fault.Fault.{Fault}
-pub use Rattle.command_io.specs.declared.fault.Fault.TheVariants.{Read, Refused, TooLong}
-pub use Rattle.catalog_engines.specs.LastingLogs.{Block, Event, Failed, Happen, Listings, ReadsBlock, Seen}
-pub use Rattle.catalog_engines.specs.Following.{AreAsKnown, ReadsOnce, Turn, events_of, read_in}
+pub use Rattle.command_parts.proofs.FaultLemmas.{handed_on}
+pub use Rattle.command_parts.specs.declared.fault.Fault.{Fault}
+pub use Rattle.command_parts.specs.declared.fault.Fault.TheVariants.{Read, Refused, TooLong}
+pub use Rattle.command_listings.specs.LastingLogs.{Block, Event, Failed, Happen, Listings, ReadsBlock, Seen}
+pub use Rattle.command_listings.specs.Following.{AreAsKnown, ReadsOnce, Turn, events_of, read_in}
 pub use Rattle.recordings.specs.Recordings.{CarriedOn}
 pub use Rattle.recordings.specs.declared.events.EventLine.{EventLine}
 pub use Rattle.recordings.specs.declared.recorder.Stop.{Stop}

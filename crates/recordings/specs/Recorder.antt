@@ -14,12 +14,12 @@ use Rattle.logs.specs.Annotation.{IsWriteFault, KeepsNothingBack}
 use Rattle.logs.specs.Lines.{lines}
 use Rattle.logs.specs.declared.annotation.LogFault.{LogFault}
 use Rattle.logs.specs.declared.annotation.LogFault.TheVariants as log_fault
-use Rattle.command_io.specs.declared.fault.Fault.{Fault}
-use Rattle.command_io.specs.declared.fault.Fault.TheVariants.{Read, Refused, TooLong, Write}
-use Rattle.command_io.specs.declared.fault.Finished.{Finished}
-use Rattle.catalog_engines.specs.Following.{AreAsKnown, ReadsOnce, Turn, events_of, read_in}
-use Rattle.catalog_engines.specs.LastingLogs.{Block, Event, Failed, Happen, IsFaultOfListings}
-use Rattle.catalog_engines.specs.LastingLogs.{Listings, Seen}
+use Rattle.command_parts.specs.declared.fault.Fault.{Fault}
+use Rattle.command_parts.specs.declared.fault.Fault.TheVariants.{Read, Refused, TooLong, Write}
+use Rattle.command_parts.specs.declared.fault.Finished.{Finished}
+use Rattle.command_listings.specs.Following.{AreAsKnown, ReadsOnce, Turn, events_of, read_in}
+use Rattle.command_listings.specs.LastingLogs.{Block, Event, Failed, Happen, IsFaultOfListings}
+use Rattle.command_listings.specs.LastingLogs.{Listings, Seen}
 use Rattle.recordings.specs.EventLines.{EndsLines, said_in}
 use Rattle.recordings.specs.ListingTexts.{recorded_text}
 use Rattle.recordings.specs.Recordings.{BlockWritten, CarriedOn, after_block, first_carried, needs}

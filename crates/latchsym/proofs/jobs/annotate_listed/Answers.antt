@@ -1,5 +1,5 @@
 use Rattle.latchsym.proofs.Words.{ap, subst, sym, ◌∙◌, with_notes, IsLogBy}
-use Rattle.catalog_engines.specs.declared.annotations.LogReading.{LogReading}
+use Rattle.command_listings.specs.declared.annotations.LogReading.{LogReading}
 use Rattle.latchsym.proofs.jobs.annotate_listed.Goals as goal
 
 pub returns-in-Blocks : goal.returns-in-Blocks

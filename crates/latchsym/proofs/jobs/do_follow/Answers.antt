@@ -1,6 +1,6 @@
 use Rattle.latchsym.proofs.Words.{ap, ◌∙◌, subst, with_notes}
 use Rattle.latchsym.proofs.HeldLemmas.{first_is, seen_by}
-use Rattle.catalog_engines.specs.Following.{FollowsLog}
+use Rattle.command_listings.specs.Following.{FollowsLog}
 use Rattle.latchsym.proofs.jobs.do_follow.Goals as goal
 
 pub returns : goal.returns

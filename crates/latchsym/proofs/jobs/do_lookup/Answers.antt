@@ -1,5 +1,5 @@
 use Rattle.latchsym.proofs.Words.{List, ℕ, Option, option_copied, subst, BoundNames, IsLookedUpBy}
-use Rattle.engines.specs.LookupTexts.{Query}
+use Rattle.command_tables.specs.LookupTexts.{Query}
 use Rattle.latchsym.proofs.jobs.do_lookup.Goals as goal
 
 pub returns : goal.returns

@@ -1,7 +1,7 @@
 use Rattle.latchsym.proofs.Words.{◌∙◌, Some, ap, subst, sym, unwrap_or, given_or, known_given, listing_failures, IsOutcomeOfRun}
 use Rattle.texts.specs.Counted.{device_of, failures_of}
-use Rattle.engines.specs.Inputs.{failures_behind, known_inputs}
-use Rattle.engines.specs.Runs.{AnswersRun, script_known}
+use Rattle.command_tables.specs.Inputs.{failures_behind, known_inputs}
+use Rattle.command_tables.specs.Runs.{AnswersRun, script_known}
 use Rattle.latchsym.proofs.jobs.do_run.Goals as goal
 
 pub returns : goal.returns

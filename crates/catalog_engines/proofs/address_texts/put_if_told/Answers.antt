@@ -1,5 +1,0 @@
-use Rattle.catalog_engines.proofs.Words.{◌∙◌, sym}
-use Rattle.catalog_engines.proofs.address_texts.put_if_told.Goals as goal
-
-pub put_told-requires : goal.put_told-requires
-put_told-requires g c = sym c.is_told.ensures ∙ c.if-is_told.true

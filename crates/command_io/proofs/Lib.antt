@@ -1,8 +1,0 @@
--- the words of all proofs of this crate
-mod Words
--- a fault that a function hands on
-pub mod FaultLemmas
--- what holds of a catalog that was opened
-pub mod OpenedLemmas
--- what is returned where a history is read
-pub mod HistoryLemmas

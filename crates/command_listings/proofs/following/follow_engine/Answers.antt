@@ -1,0 +1,26 @@
+use Rattle.command_listings.proofs.Words.{◌∙◌, FollowsTurns, IsEndTold, listed_kernel, ap, inr, is_narrow, lines_of, subst, texts_in}
+use Rattle.command_listings.proofs.following.follow_engine.Goals as goal
+
+pub returns : goal.returns
+returns g c =
+    let a = c.args in
+    let listings = c.in_ok-texts.ensures.listings in
+    let sized = c.is_narrow-is_narrow.ensures ∙ ap (λ t. is_narrow (lines_of t)) c.deref.ensures.value in
+    inr (inr (
+      texts_in c.in_ok-texts.texts,
+      g.L.LastingLog.seen c.read_listings.new.self,
+      listings.event,
+      listings.texts,
+      inr (
+        c.tell_notes.new.errors,
+        c.in_ok-tell_notes.ensures,
+        listings.left,
+        listings.later,
+        c.follow_blocks-end.new.errors,
+        c.follow_blocks-end.result,
+        subst (λ narrow. FollowsTurns g.W.Write.contents g.E.Write.contents a.sources.now a.job.now narrow (g.L.LastingLog.seen c.read_listings.new.self) (g.L.LastingLog.seen c.follow_blocks-end.new.log) a.writer.now c.follow_blocks-end.new.writer
+            c.tell_notes.new.errors c.follow_blocks-end.new.errors c.follow_blocks-end.result) sized c.follow_blocks-end.ensures,
+        subst (λ kernel. IsEndTold g.E.Write.contents a.job.now.log.now kernel c.follow_blocks-end.new.errors c.tell_end.new.errors c.follow_blocks-end.result c.tell_end.result)
+            (c.listed_kernel-kernel.ensures ∙ ap (λ t. listed_kernel t a.job.now.rule.offset) c.deref-2.ensures.value) c.tell_end.ensures,
+      ),
+    ))

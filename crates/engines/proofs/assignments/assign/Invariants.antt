@@ -1,6 +1,0 @@
-use Rattle.engines.proofs.Words.{take, IsAssigned}
-use Rattle.engines.proofs.assignments.assign.Given as goal
-
--- the lines so far are assigned
-abbrev pub invariant-loop-line : goal.invariant-loop-line
-invariant-loop-line l = IsAssigned l.catalog l.readers (take l.line-index l.lines) l.assigned

@@ -1,5 +1,0 @@
-use Rattle.engines.proofs.Words.{[], AreListed}
-use Rattle.engines.proofs.assignments.empty_lists.Given as goal
-
-abbrev pub invariant-loop : goal.invariant-loop
-invariant-loop g l = AreListed l.counter [] l.lists.items

@@ -1,7 +1,0 @@
-use Rattle.engines.proofs.Words.{flat_map, take, Says}
-use Rattle.engines.specs.RunTexts.{answered_text}
-use Rattle.engines.proofs.run_texts.put_list.Given as goal
-
--- the lines of the answers so far were written
-abbrev pub invariant-loop-answer : goal.invariant-loop-answer
-invariant-loop-answer g l = Says g.W.Write.contents l.fn.writer l.writer (flat_map (answered_text l.catalog) (take l.answer-index l.answers))

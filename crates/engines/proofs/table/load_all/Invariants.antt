@@ -1,5 +1,0 @@
-use Rattle.engines.proofs.Words.{HoldsBelow}
-use Rattle.engines.proofs.table.load_all.Given as goal
-
-abbrev pub invariant-loop-number : goal.invariant-loop-number
-invariant-loop-number l = HoldsBelow l.catalog l.number l.world

@@ -1,5 +1,0 @@
-use Rattle.latchsym.proofs.Words.{◌∙◌, found_of, first_value-rows}
-use Rattle.latchsym.proofs.arguments.value_of.Goals as goal
-
-pub returns : goal.returns
-returns c = c.get_str.ensures ∙ first_value-rows (found_of c.args.found.now) c.args.id.now
