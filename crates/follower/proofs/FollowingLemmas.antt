@@ -14,6 +14,10 @@ use Rattle.latch_core.specs.Invariants.{IsPendingOf, IsSound}
 use Rattle.latch_core.specs.Replacements.{replacement}
 use Rattle.latch_core.specs.Sequences.{generation_of as sequence_generation}
 use Rattle.word_layout.specs.Words.{at}
+use Rattle.order_laws.specs.declared.refusals.Refusal.{Refusal}
+use Rattle.std.specs.Prelude.{IfOk, OnErr, Result, Ok, Err}
+use Rattle.latch_table.specs.Adding.{AddsReader}
+use Rattle.latch_table.specs.Readers.{ReaderState}
 use Rattle.latch_table.specs.Replacing.{BeginsReplacing}
 use Rattle.latch_table.specs.Writers.{Finishes, WriterState, state_with_update}
 use Rattle.follower.proofs.CatalogLemmas.{newest_too, right_too, still_stands}
@@ -27,6 +31,15 @@ index_looks c items sound index addr =
     found : (r : Option Item) → IsLook half_open addr (items_of c) r → r ≡ item_of_address c addr
     found None h = none_found c sound addr (item_of_address c addr) (λ y m le lt. h y m (equal_inside addr y le lt)) (look_is half_open addr (items_of c))
     found (Some i) h = some_found c sound addr i (item_of_address c addr) h.0 (begins addr i h.1) (ends addr i h.1) (look_is half_open addr (items_of c))
+
+-- how many readers a table has makes no difference
+pub other_readers : (w w' : WriterState) (n : ℕ) (ds : List DatedCatalog) → w' ≡ record w { readers = n } → IsFollowed w ds → IsFollowed w' ds
+other_readers w w' n ds is followed =
+    subst (λ (x : WriterState). IsFollowed x ds) (sym is) (record { rests = followed.rests; stands = followed.stands })
+
+pub reader_added : (w w' : WriterState) (ds : List DatedCatalog) (added : Result ReaderState Refusal) → IfOk added (AddsReader w w') → OnErr added (w' ≡ w) → IsFollowed w ds → IsFollowed w' ds
+reader_added w w' ds (Ok r) adds same followed = other_readers w w' (w.readers + 1) ds adds.writer followed
+reader_added w w' ds (Err e) adds same followed = subst (λ (x : WriterState). IsFollowed x ds) (sym same) followed
 
 -- one update more leaves the table of each generation before it
 module _ (w w' : WriterState) (u : Update) (base : w'.base ≡ w.base) (history : w'.history ≡ w.history ++ u ∷ []) where
