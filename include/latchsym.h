@@ -111,9 +111,9 @@ enum {
     LATCHSYM_NOTE_UNLISTED_OWNER = 54, /* lists no module of some symbols, which are left out; give
                                         * no modules. They are of bpf, __builtin__ftrace or
                                         * __builtin__kprobes */
-    LATCHSYM_BAD_HANDLE = 101, /* the handle does not hold what is wanted. It is closed and should be
-                                * open, or open and should be closed, or of another kind */
-    LATCHSYM_BAD_LENGTH = 102, /* the room is not for as many answers as there are addresses */
+    LATCHSYM_BAD_HANDLE = 101, /* the handle does not fit the call. It is closed and should be open,
+                                * or open and should be closed, or of another kind */
+    LATCHSYM_BAD_LENGTH = 102, /* an array has another length than is needed */
     LATCHSYM_BAD_LISTINGS = 103, /* the listings are not as this version has them. Or there are bytes
                                   * of modules or of regions, and has_modules is 0 */
     LATCHSYM_BAD_STAMP = 104     /* the stamp lies below that of a listing shown before */

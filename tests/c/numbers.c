@@ -40,8 +40,8 @@ static const struct { uint32_t number; const char *text; } texts[] = {
     {LATCHSYM_NOTE_EMPTY, "is empty"},
     {LATCHSYM_NOTE_UTF_16, "is UTF-16; convert it first"},
     {LATCHSYM_NOTE_UNLISTED_OWNER, "lists no module of some symbols, which are left out; give no modules"},
-    {LATCHSYM_BAD_HANDLE, "the handle does not hold what is wanted"},
-    {LATCHSYM_BAD_LENGTH, "the room is not for as many answers as there are addresses"},
+    {LATCHSYM_BAD_HANDLE, "the handle does not fit the call"},
+    {LATCHSYM_BAD_LENGTH, "an array has another length than is needed"},
     {LATCHSYM_BAD_LISTINGS, "the listings are not as this version has them"},
     {LATCHSYM_BAD_STAMP, "the stamp lies below that of a listing shown before"},
 };

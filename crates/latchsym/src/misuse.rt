@@ -1,13 +1,14 @@
 //! What is said of a command line that gives no job, and the program's status.
-ghost use Rattle.std.specs.Prelude.{◌≡◌};
+ghost use Rattle.std.specs.Prelude.{◌≡◌, List, ℕ};
 ghost use Rattle.texts.specs.Output.{Says};
 ghost use Rattle.latchsym.specs.Misuses.{IsExplained, IsHelped, IsMisused, IsNoJob, misuse_text};
-ghost use Rattle.latchsym.specs.Misuses.{offset_message};
+ghost use Rattle.latchsym.specs.Misuses.{LeavesOut, offset_message};
 
 use crate::reports::report_before_job;
 use clap::Error;
 use command_line::JobFault;
 use command_parts::{Fault, SUCCEEDED};
+use memchr::{memchr, memmem};
 use order_laws::Refusal;
 use std::alloc::Global;
 use std::io::Write;
@@ -93,10 +94,41 @@ fn explain<W: Write, E: Write>(
         return report_before_job(&Fault::Refused(Refusal::OutOfMemory), errors);
     };
     if error.use_stderr() {
-        errors.put(text.as_bytes());
+        put_without_tip(text.as_bytes(), errors);
         return MISUSED;
     }
     help(&text, writer, errors)
+}
+
+/// How the parser begins the line that tells how to pass a word as a value. For a word behind an
+/// option it is wrong, and for a negative number it quotes another word.
+const VALUE_TIP: &[u8] = b"\n  tip: to pass '";
+
+/// Writes what the parser says without that line.
+fn put_without_tip<E: Write>(text: &[u8], errors: &mut Output<E>)
+    ensures { (said : List ℕ) × Says E.contents errors.old errors.new said }
+{
+    let (before, after) = around_tip(text);
+    errors.put(before);
+    errors.put(after);
+}
+
+/// The bytes before that line and those after it, or all bytes and none. No second empty line is
+/// left.
+fn around_tip(text: &[u8]) -> (&[u8], &[u8])
+    ensures { LeavesOut text.now result.0.now result.1.now }
+{
+    let Some(start) = memmem::find(text, VALUE_TIP) else {
+        return (text, &[]);
+    };
+    let before = &text[..start];
+    let tip = &text[start + 1..];
+    let end = memchr(b'\n', tip).unwrap_or(tip.len());
+    if before.ends_with(b"\n") && end < tip.len() {
+        (before, &tip[end + 1..])
+    } else {
+        (before, &tip[end..])
+    }
 }
 
 /// Writes help that was asked for, and returns the program's status.

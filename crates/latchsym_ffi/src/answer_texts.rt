@@ -28,9 +28,9 @@ const FLIP: &[u8] = b"a flip of the sequence\0";
 
 const STORE: &[u8] = b"a store of a word\0";
 
-const BAD_HANDLE: &[u8] = b"the handle does not hold what is wanted\0";
+const BAD_HANDLE: &[u8] = b"the handle does not fit the call\0";
 
-const BAD_LENGTH: &[u8] = b"the room is not for as many answers as there are addresses\0";
+const BAD_LENGTH: &[u8] = b"an array has another length than is needed\0";
 
 const BAD_LISTINGS: &[u8] = b"the listings are not as this version has them\0";
 
