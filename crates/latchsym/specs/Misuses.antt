@@ -36,10 +36,6 @@ abbrev pub IsMisused : {D : Type 0} → (D → Option (List ℕ)) → Output D �
 IsMisused contents old new message word status =
     (status ≡ 2) × Says contents old new (misuse_text message word)
 
--- these are the beginning and the end of a text, without what is between
-abbrev pub LeavesOut : List ℕ → List ℕ → List ℕ → Type 0
-LeavesOut text before after = (gone : List ℕ) × (text ≡ before ++ (gone ++ after))
-
 -- the parser found a fault, and did not stop for help that was asked for
 abbrev pub IsParseFault : Error → Type 0
 IsParseFault e = (kind_of e ≢ kind.DisplayHelp) × (kind_of e ≢ kind.DisplayVersion)

@@ -1,8 +1,8 @@
 //! What is said of a command line that gives no job, and the program's status.
-ghost use Rattle.std.specs.Prelude.{◌≡◌, List, ℕ};
+ghost use Rattle.std.specs.Prelude.{◌≡◌, ◌++◌};
 ghost use Rattle.texts.specs.Output.{Says};
 ghost use Rattle.latchsym.specs.Misuses.{IsExplained, IsHelped, IsMisused, IsNoJob, misuse_text};
-ghost use Rattle.latchsym.specs.Misuses.{LeavesOut, offset_message};
+ghost use Rattle.latchsym.specs.Misuses.{offset_message};
 
 use crate::reports::report_before_job;
 use clap::Error;
@@ -94,30 +94,20 @@ fn explain<W: Write, E: Write>(
         return report_before_job(&Fault::Refused(Refusal::OutOfMemory), errors);
     };
     if error.use_stderr() {
-        put_without_tip(text.as_bytes(), errors);
+        let (before, after) = around_tip(text.as_bytes());
+        put_both(before, after, errors);
         return MISUSED;
     }
     help(&text, writer, errors)
 }
 
-/// How the parser begins the line that tells how to pass a word as a value. For a word behind an
-/// option it is wrong, and for a negative number it quotes another word.
+/// How the parser begins the line on passing a word as a value. After an option the line is wrong, and
+/// of a negative number it quotes a part.
 const VALUE_TIP: &[u8] = b"\n  tip: to pass '";
-
-/// Writes what the parser says without that line.
-fn put_without_tip<E: Write>(text: &[u8], errors: &mut Output<E>)
-    ensures { (said : List ℕ) × Says E.contents errors.old errors.new said }
-{
-    let (before, after) = around_tip(text);
-    errors.put(before);
-    errors.put(after);
-}
 
 /// The bytes before that line and those after it, or all bytes and none. No second empty line is
 /// left.
-fn around_tip(text: &[u8]) -> (&[u8], &[u8])
-    ensures { LeavesOut text.now result.0.now result.1.now }
-{
+fn around_tip(text: &[u8]) -> (&[u8], &[u8]) {
     let Some(start) = memmem::find(text, VALUE_TIP) else {
         return (text, &[]);
     };
@@ -129,6 +119,13 @@ fn around_tip(text: &[u8]) -> (&[u8], &[u8])
     } else {
         (before, &tip[end..])
     }
+}
+
+fn put_both<E: Write>(first: &[u8], second: &[u8], writer: &mut Output<E>)
+    ensures { Says E.contents writer.old writer.new (first.now ++ second.now) }
+{
+    writer.put(first);
+    writer.put(second);
 }
 
 /// Writes help that was asked for, and returns the program's status.
