@@ -13,7 +13,7 @@ pub returns-in-History : goal.returns-in-History
 returns-in-History g c =
     let a = c.args in
     let l = a.listings.now in
-    let done = c.history_annotate_engine-done in
+    let done = c.annotate_at-done in
     let Of : SymbolSource → _ = λ symbols. IsLogOf g.F.File.Read.remaining (g.F.FileSource.held a.files.now) g.W.Write.contents g.E.Write.contents a.sources.now a.job.now symbols l (record l { kallsyms = done.new.history }) a.writer.now done.new.writer a.errors.now done.new.errors c.with_notes.result in
     subst (λ log. HoldsOfInput (Of a.sources.now.symbols) log (Some done.new.log) c.with_notes.result) (sym c.in-Some.is)
     (subst (λ symbols. Of symbols c.in-Some.log done.new.log) (sym c.in-History.is) (done.result, done.ensures, c.with_notes.ensures ∙ ap (λ n. with_notes n done.result) c.none.ensures))
