@@ -14,6 +14,7 @@ from typing import Iterable, List, NamedTuple, Tuple
 from . import _library as it
 from ._buffers import Closing
 from ._catalog import Catalog, Item, Symbol, has_new_note, symbol_by, warn_of
+from ._errors import Closed
 from ._library import check, lib, word
 from ._table import Reader
 
@@ -92,7 +93,7 @@ class Follower(Closing):
         self._newest = 0
         handles = (it.Handle * 2)()
         self._handle = handles[1]
-        check(lib.latchsym_follower_open(word(nodes, 32), self._handle, handles, 1))
+        check(lib.latchsym_follower_open(word(nodes, "nodes", 32), self._handle, handles, 1))
         self._reader = Reader(handles, handles[0], lib.latchsym_reader_close)
         self.poll()
         warn_of(self._shown[self._newest].counts, self._paths, 3)
@@ -124,7 +125,10 @@ class Follower(Closing):
             owners = {one.name for one in catalog.modules() if one.number and one.symbols}
             tag, stamp, shown = self._newest + 1, time.monotonic_ns(), c_uint64()
             with self._lock:
-                check(lib.latchsym_follower_show(self._handle, catalog._handle, stamp, tag, shown))
+                check(
+                    lib.latchsym_follower_show(self._handle, catalog._handle, stamp, tag, shown),
+                    self,
+                )
                 self._shown[tag], self._newest = catalog, tag
             refused.pop_all()
             self._texts, self._owners = texts, owners
@@ -155,7 +159,11 @@ class Follower(Closing):
 
     def find(self, address: int) -> Sample:
         """The region that the address lies in now, with the generation of this answer."""
-        found = self._reader.find(address)
+        address = word(address, "address")
+        try:
+            found = self._reader.find(address)
+        except Closed:
+            raise it.error_of(it.BAD_HANDLE, self) from None
         return Sample(address, found.item, found.generation)
 
     def find_many(self, addresses: Iterable[int]) -> list[Sample]:
@@ -165,20 +173,26 @@ class Follower(Closing):
     def name(self, sample: Sample) -> Symbol | None:
         """The symbol of a sample, by the listing that stood at its generation. Raises `Forgotten`
         where that listing is gone."""
-        return self._name(lib.latchsym_follower_find, sample.generation, sample.address)
+        generation = word(sample.generation, "generation")
+        return self._name(lib.latchsym_follower_find, generation, sample.address)
 
     def name_at(self, time_ns: int, address: int) -> Symbol | None:
         """The symbol of an address by the listing that stood at a time of `time.monotonic_ns`, as
         perf gives it with CLOCK_MONOTONIC."""
-        return self._name(lib.latchsym_follower_find_since, time_ns, address)
+        return self._name(lib.latchsym_follower_find_since, word(time_ns, "time_ns"), address)
 
     def _name(self, find: it.Call, moment: int, address: int) -> Symbol | None:
+        address = word(address, "address")
         with self._lock:
-            return symbol_by(find, self._handle, word(moment), word(address), modules={})
+            return symbol_by(find, self._handle, moment, address, modules={}, asked=self)
+
+    def __repr__(self) -> str:
+        count = len(self._shown)
+        return f"<Follower of {self._paths[0]}{f': listings {count}' if count else ', closed'}>"
 
     def forget_below(self, generation: int) -> None:
         """Closes each listing that no sample of this generation or a later one needs."""
-        self._close_each(lib.latchsym_follower_forget, word(generation))
+        self._close_each(lib.latchsym_follower_forget, word(generation, "generation"))
 
     def close(self) -> None:
         """Closes the table and all listings."""
