@@ -9,13 +9,13 @@ import tempfile
 import unittest
 
 import latchsym
-from latchsym import _catalog, _follow, _library, _table
+from latchsym import _catalog, _follow, _history, _library, _table
 
 from .samples import EXT4_A, SYMBOLS
 
 
 def load_tests(loader, tests, pattern):
-    for module in (latchsym, _catalog, _follow, _table):
+    for module in (latchsym, _catalog, _follow, _history, _table):
         tests.addTests(doctest.DocTestSuite(module))
     readme = pathlib.Path(__file__).parents[1] / "README.md"
     tests.addTests(doctest.DocFileSuite(str(readme), module_relative=False))
