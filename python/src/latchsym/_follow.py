@@ -82,6 +82,7 @@ class Follower(Closing):
         if watched is None and os.fspath(kallsyms) == "/proc/kallsyms":
             watched = "/proc/modules"
         self._watched, self._every = watched, every
+        self._read: tuple[bytes, Loads] = b"", []  # what it had when it was read last
         self._seen: Loads | None = None  # what the watched file said before the last reading
         self._is_settled = False  # whether a poll may be content with that
         self._due = 0.0  # when it reads the listings all the same
@@ -138,12 +139,17 @@ class Follower(Closing):
     def _watch(self) -> Loads | None:
         """What the watched file says of each module: of none where it is missing. None where it
         cannot be read, or no file is watched."""
+        if self._watched is None:
+            return None
         try:
-            return None if self._watched is None else _loads(Path(self._watched).read_bytes())
+            text = Path(self._watched).read_bytes()
         except FileNotFoundError:
             return []
         except OSError:
             return None
+        if text != self._read[0]:
+            self._read = text, _loads(text)
+        return self._read[1]
 
     def _settle(self, seen: Loads | None, is_again: bool) -> None:
         """Lets polls be content with the watched file if it says what it said before the listings
