@@ -1,7 +1,7 @@
 /* SPDX-License-Identifier: MIT OR Apache-2.0 */
 /* Follows the files of a kernel's listings with a follower of latchsym.h: reads them again if they
- * may have changed, and shows the follower those that have. This stands apart from latchsym.h
- * because it needs files and malloc of the program that includes it.
+ * may have changed, and shows the follower those that have. Since 1.3. This stands apart from
+ * latchsym.h because it needs files and malloc of the program that includes it.
  *
  *     struct latchsym_followed files = LATCHSYM_FOLLOWED_INIT;      (/proc/kallsyms)
  *     latchsym_follower_open(4096, &follower, readers, 1);

@@ -109,7 +109,7 @@ def _numbers_of(addresses: Any) -> array[int]:
     """The numbers of an iterable."""
     if not hasattr(addresses, "__iter__"):
         raise TypeError(f"addresses are no buffer and no iterable: {addresses!r}")
-    words = list(addresses)
+    words = addresses if isinstance(addresses, list) else list(addresses)
     try:
         return array("Q", words)
     except (TypeError, OverflowError):

@@ -118,13 +118,14 @@ def encoded(name: str | bytes) -> bytes:
 def word(number: int, name: str, bits: int = 64) -> int:
     """The number, if it has so few bits: ctypes would cut it short and not say so. `name` is that
     of the argument."""
-    try:
-        whole = operator.index(number)
-    except TypeError:
-        raise TypeError(f"{name} is no whole number: {number!r}") from None
-    if whole >> bits:
-        raise OverflowError(f"{name} is not a number of {bits} bits without a sign: {whole}")
-    return whole
+    if type(number) is not int:
+        try:
+            number = operator.index(number)
+        except TypeError:
+            raise TypeError(f"{name} is no whole number: {number!r}") from None
+    if number >> bits:
+        raise OverflowError(f"{name} is not a number of {bits} bits without a sign: {number}")
+    return number
 
 
 def text_of(number: int) -> str:
