@@ -69,7 +69,7 @@ esac
 here=$(cd "$(dirname "${BASH_SOURCE[0]}")" && pwd)
 version=$(cat "$here/VERSION")
 
-files=(bin/latchsym bin/latchsym-record include/latchsym.h include/latchsym.hpp include/latchsym_read.h
+files=(bin/latchsym bin/latchsym-record include/latchsym.h include/latchsym.hpp include/latchsym_{follow,read}.h
     "$lib"/{liblatchsym.a,"liblatchsym.so.$version",pkgconfig/latchsym.pc}
     "$lib"/cmake/latchsym/latchsym-config{,-version}.cmake
     share/bash-completion/completions/latchsym share/fish/vendor_completions.d/latchsym.fish

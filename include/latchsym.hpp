@@ -1,6 +1,7 @@
 // SPDX-License-Identifier: MIT OR Apache-2.0
 /* latchsym for C++17: the calls of latchsym.h with handles that close themselves, names as
- * std::string_view, and refusals as exceptions. It is this header alone; link as for latchsym.h.
+ * std::string_view, and refusals as exceptions; and a follower of files over latchsym_follow.h. Link
+ * as for latchsym.h.
  *
  *     latchsym::listings listings;
  *     listings.kallsyms = text; // which stays where it is, unchanged, while the catalog is open
@@ -15,7 +16,10 @@
 #ifndef LATCHSYM_HPP
 #define LATCHSYM_HPP
 #include <latchsym.h>
+#include <latchsym_follow.h>
 
+#include <cerrno>
+#include <chrono>
 #include <cstddef>
 #include <cstdint>
 #include <memory>
@@ -23,6 +27,7 @@
 #include <stdexcept>
 #include <string>
 #include <string_view>
+#include <system_error>
 #include <thread>
 #include <type_traits>
 #include <utility>
@@ -682,7 +687,111 @@ struct followed_table {
     }
 };
 
-/* The same with 1 to 64 readers that threads and signal handlers share: `auto [writer, pool] =
+/* The files that a follower reads. */
+struct files {
+    std::string kallsyms = "/proc/kallsyms";
+    std::optional<std::string> modules; /* none: modules come from the symbols */
+    /* In the form of /proc/modules. None: that file itself if kallsyms is /proc/kallsyms; else each
+     * poll reads the listings. */
+    std::optional<std::string> watched;
+    /* After so long a poll reads the listings, whatever the watched file says. */
+    std::chrono::nanoseconds every = std::chrono::minutes(1);
+};
+
+/* Something is noted of a file that was not noted of the listing shown, which stays: number() is the
+ * note, and file() the name. */
+class noted : public error {
+public:
+    noted(std::uint32_t note, const std::string &file)
+        : error(note, file + ": " + latchsym_text(note)), file_(file) {}
+    const std::string &file() const noexcept { return file_; }
+
+private:
+    std::string file_;
+};
+
+/* A follower of files, and its readers: poll() reads the files again if they may have changed, as
+ * latchsym_follow.h says, and shows what has. It keeps the bytes of each listing until forget or
+ * forget_since. Stamps are those of now(), nanoseconds of CLOCK_MONOTONIC. */
+class file_follower {
+public:
+    /* Follows the files, of which the first listings are shown. A note on these is no error. */
+    explicit file_follower(files from = {}, std::uint32_t nodes = 4096, std::size_t count = 1,
+                           std::size_t most_readers = 64)
+        : all_(new parts(std::move(from), nodes, count, most_readers)) {
+        poll();
+    }
+
+    /* Returns whether the files had other bytes, which are shown now. Throws std::system_error if
+     * one cannot be read, `noted`, or an error as follower::show does; then what was shown stays,
+     * and the next poll reads the files again. */
+    bool poll() {
+        std::uint64_t generation = 0;
+        const int number =
+            latchsym_followed_poll(&all_->followed, get(), now(), &generation);
+        const char *file = all_->followed.at_fault;
+        if (number < 0) throw std::system_error(errno, std::generic_category(), file);
+        if (file) throw noted(static_cast<std::uint32_t>(number), file);
+        return detail::is_there(static_cast<std::uint32_t>(number));
+    }
+
+    static std::uint64_t now() {
+        using namespace std::chrono;
+        const auto time = steady_clock::now().time_since_epoch();
+        return static_cast<std::uint64_t>(duration_cast<nanoseconds>(time).count());
+    }
+
+    latchsym_follower *get() noexcept { return all_->table.follower.get(); }
+    latchsym::readers &readers() noexcept { return all_->table.readers; }
+    reader add_reader() { return all_->table.follower.add_reader(readers()); }
+
+    /* What is noted of the file of symbols, and of that of modules; LATCHSYM_NOTHING if nothing. */
+    std::uint32_t symbols_note() const noexcept { return all_->followed.shown->notes[0]; }
+    std::uint32_t modules_note() const noexcept { return all_->followed.shown->notes[1]; }
+
+    /* The symbol of an address, or of a return address, as a follower finds it. Its names can be
+     * read until their listing is forgotten. */
+    std::optional<symbol> find(std::uint64_t generation, std::uint64_t addr) {
+        return all_->table.follower.find(generation, addr);
+    }
+    std::optional<symbol> find_caller(std::uint64_t generation, std::uint64_t addr) {
+        return all_->table.follower.find_caller(generation, addr);
+    }
+    std::optional<symbol> find_since(std::uint64_t at, std::uint64_t addr) {
+        return all_->table.follower.find_since(at, addr);
+    }
+    std::optional<symbol> find_caller_since(std::uint64_t at, std::uint64_t addr) {
+        return all_->table.follower.find_caller_since(at, addr);
+    }
+
+    /* Forgets each listing that no sample of this generation, or stamp, or a later one needs. */
+    void forget(std::uint64_t generation) { latchsym_followed_forget(get(), generation); }
+    void forget_since(std::uint64_t at) { latchsym_followed_forget_since(get(), at); }
+
+private:
+    /* They stay in place when the follower is moved, as the names of files are pointed to. */
+    struct parts {
+        parts(files &&given, std::uint32_t nodes, std::size_t count, std::size_t most_readers)
+            : from(std::move(given)), table(nodes, count, most_readers) {
+            if (!from.watched && from.kallsyms == "/proc/kallsyms") from.watched = "/proc/modules";
+            followed.kallsyms = from.kallsyms.c_str();
+            followed.modules = from.modules ? from.modules->c_str() : nullptr;
+            followed.watched = from.watched ? from.watched->c_str() : nullptr;
+            followed.every = static_cast<std::uint64_t>(from.every.count());
+        }
+        parts(const parts &) = delete;
+        parts &operator=(const parts &) = delete;
+        ~parts() { latchsym_followed_close(&followed, table.follower.get()); }
+
+        files from;
+        latchsym_followed followed = LATCHSYM_FOLLOWED_INIT;
+        followed_table table;
+    };
+
+    std::unique_ptr<parts> all_;
+};
+
+/* A table with 1 to 64 readers that threads and signal handlers share: `auto [writer, pool] =
  * latchsym::pooled_table(64, 4)`. */
 struct pooled_table {
     latchsym::writer writer;

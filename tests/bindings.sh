@@ -1,9 +1,10 @@
 #!/usr/bin/env bash
 # Tests what stands on the library for C: the package for Python, with its examples, installed by
-# pip without a network; the header for C++, under the sanitizers too; the crate for Rust; their
-# example programs, over a listing of examples/ as `latchsym lookup` answers; what README.md has in
-# each language; and the example for many machines on a cluster of two workers. What needs a tool that is
-# not there is skipped, with a line that says so (tools.sh). Needs g++ and python3.
+# pip without a network, and what it says of random histories (RUNS and SEED set their number and the
+# seed); the header for C++, under the sanitizers too; the crate for Rust; their example programs, over
+# a listing of examples/ as `latchsym lookup` answers; what README.md has in each language; and the
+# example for many machines on a cluster of two workers. What needs a tool that is not there is
+# skipped, with a line that says so (tools.sh). Needs g++ and python3.
 set -euo pipefail
 . "$(dirname "$0")/program.sh"
 . "$top/tests/library.sh"
@@ -33,6 +34,7 @@ addr=0xffffffff81000108
 named=do_one+0x8/0x1f00
 
 (cd "$top/python" && PYTHONPATH=src python3 -W error -m unittest --quiet) 2>"$work/out" || { cat "$work/out"; exit 1; }
+PYTHONPATH=$top/python/src python3 "$top/tests/histories/of_python.py" "${RUNS:-500}" "${SEED:-1}"
 # shellcheck disable=SC2016
 if has 'python3 -m venv "$work/venv"' python3-venv; then
     cp -r "$top/python" "$work/python"

@@ -3,7 +3,8 @@
 # each number, null pointers, which refusal comes first, what is found of addresses, views on
 # several threads, the table on threads, beside signals and at each stop of its writer, calls inside
 # calls, readers that are added and taken back, readers that calls share, each order of such calls' steps,
-# each request for memory refused, files that are read and each call for that refused, items replaced, code that is sampled
+# each request for memory refused, files that are read and each call for that refused, which polls read a
+# listing, items replaced, code that is sampled
 # while it comes and goes, a listing that is followed while it changes and named by its time, the listings of examples/ as
 # `latchsym lookup` answers, its logs as `latchsym annotate` writes them, and addresses of this
 # machine's kernel as libbcc answers; under valgrind and sanitizers where these are there, and names of
@@ -20,7 +21,7 @@ compile() {
     gcc -std=gnu11 -Wall -Wextra -Werror -O2 -I"$top/include" "$top/tests/c/$1.c" "$library" -lpthread -o "$work/$1" "${@:2}"
 }
 
-for name in numbers nulls order find view table adding placements claims pool stops nested replace refused following; do
+for name in numbers nulls order find view table adding placements claims pool stops nested replace refused following polls; do
     compile $name
     "$work/$name"
 done
@@ -36,22 +37,31 @@ is_right() {
     gcc -std=gnu11 -w -O2 -I"$1" "$top/tests/c/$2.c" "$library" -lpthread -o "$1/$2" "${@:3}" || exit 1
     timeout 60 "$1/$2" >"$work/lines" 2>&1
 }
+# is_unseen EDIT PROGRAM: whether the command PROGRAM passes with the headers that the edit makes, in the folder $wrong
+is_unseen() {
+    wrong=$work/wrong/include
+    rm -rf "$work/wrong"
+    mkdir -p "$wrong"
+    cp "$top"/include/*.h "$wrong"
+    "$top/tests/edits.py" --put "$work/wrong" "$1"
+    if "$2"; then echo "clib: ${1##*/} is not seen"; fi
+}
+claims_pass() { is_right "$wrong" placements && is_right "$wrong" claims -fsanitize=thread && is_right "$wrong" pool; }
+polls_pass() { is_right "$wrong" polls; }
 
-# What claims readers for a call is of the header, and no proof sees what is wrong there: one of these does.
+# What claims readers for a call, and when files are read again, is of the headers, and no proof sees
+# what is wrong there: one of these does.
+unseen=
+for edit in $(grep -l '^file: include/latchsym_follow.h$' "$top"/tests/wrong_headers/*.edit); do
+    unseen+=$(is_unseen "$edit" polls_pass)
+done
 if compile claims -g -fsanitize=thread 2>/dev/null; then
     "$work/claims"
-    for edit in "$top"/tests/wrong_headers/*.edit; do
-        rm -rf "$work/wrong"
-        mkdir -p "$work/wrong/include"
-        cp "$top/include/latchsym.h" "$work/wrong/include"
-        "$top/tests/edits.py" --put "$work/wrong" "$edit"
-        if is_right "$work/wrong/include" placements && is_right "$work/wrong/include" claims -fsanitize=thread &&
-            is_right "$work/wrong/include" pool; then
-            echo "clib: ${edit##*/} is not seen"
-            exit 1
-        fi
+    for edit in $(grep -L '^file: include/latchsym_follow.h$' "$top"/tests/wrong_headers/*.edit); do
+        unseen+=$(is_unseen "$edit" claims_pass)
     done
 fi
+[ -z "$unseen" ] || { echo "$unseen"; exit 1; }
 if has 'command -v valgrind' valgrind; then
     for name in nulls view refused; do
         valgrind -q --error-exitcode=1 --leak-check=full "$work/$name"
@@ -60,7 +70,7 @@ if has 'command -v valgrind' valgrind; then
 fi
 compile table -g
 compile adding -g
-for name in nulls find view following; do
+for name in nulls find view following polls; do
     if compile $name -g -fsanitize=address,undefined 2>/dev/null; then
         "$work/$name"
     fi
@@ -80,12 +90,12 @@ if compile view -g -fsanitize=thread 2>/dev/null; then
     "$work/view"
 fi
 
-echo '#include <latchsym_read.h>
+echo '#include <latchsym_follow.h>
 int main() { latchsym_catalog c = {}; latchsym_catalog_close(&c); }' >"$work/guards.cc"
 g++ -Wall -Wextra -Wpedantic -Werror -I"$top/include" "$work/guards.cc" "$library" -o "$work/guards"
 "$work/guards"
-echo '#include <latchsym_read.h>
-int main(void) { struct latchsym_listings none = LATCHSYM_LISTINGS_INIT; return none.size != sizeof none || !latchsym_text(0) || !latchsym_read_file("/", &none.kallsyms); }' >"$work/guards.c"
+echo '#include <latchsym_follow.h>
+int main(void) { struct latchsym_listings none = LATCHSYM_LISTINGS_INIT; struct latchsym_followed files = LATCHSYM_FOLLOWED_INIT; return none.size != sizeof none || !latchsym_text(0) || !latchsym_read_file("/", &none.kallsyms) || !files.every; }' >"$work/guards.c"
 for standard in c99 c11 c17; do
     gcc -std=$standard -Wall -Wextra -Wpedantic -Werror -I"$top/include" "$work/guards.c" "$library" -o "$work/guards"
     "$work/guards"

@@ -17,7 +17,7 @@ fail() {
 # installed FOLDER: what lies under it
 installed() { (cd "$1" && find . ! -type d | LC_ALL=C sort | tr '\n' ' '); }
 version=$(cat "$top/VERSION")
-whole='./bin/latchsym ./bin/latchsym-record ./include/latchsym.h ./include/latchsym.hpp ./include/latchsym_read.h '
+whole='./bin/latchsym ./bin/latchsym-record ./include/latchsym.h ./include/latchsym.hpp ./include/latchsym_follow.h ./include/latchsym_read.h '
 whole+='./lib/cmake/latchsym/latchsym-config-version.cmake ./lib/cmake/latchsym/latchsym-config.cmake ./lib/liblatchsym.a ./lib/liblatchsym.so '
 whole+="./lib/liblatchsym.so.${version%%.*} ./lib/liblatchsym.so.$version ./lib/pkgconfig/latchsym.pc "
 whole+='./share/bash-completion/completions/latchsym ./share/fish/vendor_completions.d/latchsym.fish '

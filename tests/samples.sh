@@ -1,9 +1,10 @@
 #!/usr/bin/env bash
 # Runs the samples of the pages as they stand there, in the repository and in a release archive, as
-# this user and, where this is root, as nobody: commands, and programs in C, C++, Python and Rust. A
-# sample over a listing of examples/ prints what its page says. One over /proc/kallsyms prints the name
-# that `latchsym lookup` does, or, to a user who sees no addresses there, why there is none. Needs g++,
-# pkg-config and python3; without cargo the samples in Rust are passed over.
+# this user and, where this is root, as nobody: commands, and programs in C, C++, Python and Rust; and
+# the examples that write folded stacks and a profile of pprof's. A sample over a listing of examples/
+# prints what its page says. One over /proc/kallsyms prints the name that `latchsym lookup` does, or,
+# to a user who sees no addresses there, why there is none. Needs g++, pkg-config and python3; without
+# cargo the samples in Rust are passed over.
 set -euo pipefail
 . "$(dirname "$0")/program.sh"
 . "$top/tests/library.sh"
@@ -126,6 +127,29 @@ for tree in "$repository" "$archive"; do
         prints "$name: examples/$folder" "$tree/examples/$folder" "$(cat "$tree/examples/$folder/$sample.expected")" \
             bash -c "$(block "$tree/examples/$folder/README.md" "latchsym $command" | sed "s/NAME/$sample/g")"
     done
+
+    # profiles: of a file, and of this machine where perf may sample it
+    profiles=$tree/examples/profiles
+    prints "$name: folded stacks" "$profiles" "$(cat "$profiles/perf.folded")" \
+        "${python[@]}" folded.py --kallsyms ../listings/alone.kallsyms perf.script
+    with_protobuf=(env PYTHONPATH="$tree/python/src${PYTHONPATH:+:$PYTHONPATH}" LATCHSYM_LIBRARY="$work/lib/liblatchsym.so.1")
+    # shellcheck disable=SC2016
+    if has 'for it in python3 /usr/bin/python3; do $it -c "import google.protobuf" && break; done' python3-protobuf; then
+        samples=$((samples + 1))
+        (cd "$profiles" && "${with_protobuf[@]}" "$it" pprof.py --kallsyms ../listings/alone.kallsyms perf.script) >"$work/profile"
+        "$top/tests/pprof.py" "$work/profile" | cmp - "$profiles/perf.folded" || fail "$name: a profile of pprof's"
+    fi
+    # shellcheck disable=SC2016
+    if has 'perf record -o "$work/perf.data" -a -g -- sleep 0.3 && perf script -i "$work/perf.data" -F comm,ip >"$work/perf.script"' linux-perf; then
+        samples=$((samples + 1))
+        "${python[@]}" "$profiles/folded.py" "$work/perf.script" >"$work/folded"
+        [ "$(awk '{ count += $NF } END { print count + 0 }' "$work/folded")" = "$(grep -c '^[^[:space:]]' "$work/perf.script")" ] ||
+            fail "$name: another number of samples than perf has"
+        # the address that most samples were taken at
+        leaf=$(awk 'is_first && /^[ \t]*ffff/ { print $1 } { is_first = /^[^ \t]/ }' "$work/perf.script" | sort | uniq -c | sort -n | awk 'END { print $2 }')
+        leaf=$([ -z "$leaf" ] || "$program" lookup --no-counts "0x$leaf" | sed -nE 's/^0x[0-9a-f]+ ([^+ ]+)[+].*/\1/p')
+        grep -qE "[; ]${leaf:-.*}( \[[^]]*\])? [0-9]+$" "$work/folded" || fail "$name: no stack ends with $leaf"
+    fi
 
     # C and C++
     {

@@ -11,7 +11,7 @@ if [ ! -e "$library" ] || is_older "$library" "$top"/crates/*/src; then
     "$top/tests/build.py" library "$library.new"
     mv "$library.new" "$library"
 fi
-for name in numbers nulls find view adding placements claims nested replace following; do
+for name in numbers nulls find view adding placements claims nested replace following polls; do
     gcc -std=gnu11 -Wall -Wextra -Werror -O2 -I"$top/include" "$top/tests/c/$name.c" "$library" -lpthread -o "$work/$name"
     "$work/$name"
 done
@@ -21,4 +21,6 @@ gcc -shared -o "$work/liblatchsym.so.1" -Wl,--version-script="$top/packaging/lib
     -Wl,--whole-archive "$library" -Wl,--no-whole-archive
 (cd "$top/python" && LATCHSYM_LIBRARY=$work/liblatchsym.so.1 PYTHONPATH=src PYTHONDONTWRITEBYTECODE=1 \
     python3 -W error -m unittest --quiet) 2>"$work/out" || { cat "$work/out"; exit 1; }
+LATCHSYM_LIBRARY=$work/liblatchsym.so.1 PYTHONPATH=$top/python/src PYTHONDONTWRITEBYTECODE=1 \
+    python3 "$top/tests/histories/of_python.py" "${RUNS:-500}" "${SEED:-1}"
 echo "unproved_library: programs of tests/c and the package for Python"

@@ -1,15 +1,16 @@
 /* SPDX-License-Identifier: MIT OR Apache-2.0 */
-/* A profiler that follows a listing: `follow KALLSYMS MODULES` (an empty name of MODULES: modules come from the symbols).
- * One thread reads the listing again each second, and when a line says so; where its bytes have changed (the time of
- * /proc/kallsyms does not) it shows the follower its catalog. A listing that cannot be read, or of which something is
- * noted that is not noted of the one shown, is told of and not taken. (Nothing is noted of one cut after _etext.)
+/* A profiler that follows a listing: `follow KALLSYMS MODULES [WATCHED]` (an empty name of MODULES: modules come from the
+ * symbols). One thread polls the files by latchsym_follow.h each second, and when a line says so. WATCHED is in the form of
+ * /proc/modules: while it says the same, no listing is read again for a minute. It is /proc/modules where KALLSYMS is
+ * /proc/kallsyms. A listing that cannot be read, or of which something is noted that is not noted of the one shown, is
+ * told of and not taken.
  *
  * SIGPROF samples other threads, which look an address up in the handler (drawn here, as there is no kernel below) and
  * keep it with the generation of the answer. The main thread names each sample by the listing that stood then, and
  * frees those that no sample can need any more.  cc follow.c $(pkg-config --cflags --libs latchsym) -lpthread */
 #define _GNU_SOURCE
 #include <inttypes.h>
-#include <latchsym_read.h>
+#include <latchsym_follow.h>
 #include <poll.h>
 #include <pthread.h>
 #include <signal.h>
@@ -23,8 +24,6 @@
 
 enum { THREADS = 3, NODES = 4096, ROOM = 4096, MOST_TRIES = 1000, SECOND = 1000 };
 
-/* The bytes of a listing, which its catalog points into: of the symbols and of the modules, and what is noted. */
-struct listing { struct latchsym_place bytes[2]; uint32_t notes[2]; };
 struct sample { uint64_t addr, generation; };
 
 /* Each thread has a reader for its handler, which puts samples into the ring at `put`; the main thread takes them out at
@@ -38,12 +37,10 @@ struct thread {
     atomic_ullong lost;
 };
 
-static const char *names[2];
-static int files; /* how many names there are */
+static struct latchsym_followed files = LATCHSYM_FOLLOWED_INIT;
 static struct thread threads[THREADS];
 static struct latchsym_follower follower;
 static pthread_mutex_t following = PTHREAD_MUTEX_INITIALIZER; /* one call on the follower at a time */
-static struct listing *shown; /* the newest, which is the watcher's alone */
 static atomic_ullong first_addr, span = 1;
 static atomic_int ended;
 static _Thread_local struct thread *self;
@@ -78,67 +75,53 @@ static void *work(void *thread) {
     return self = NULL;
 }
 
-static void free_listing(struct listing *old) { free((void *)old->bytes[0].at), free((void *)old->bytes[1].at), free(old); }
+static uint64_t now(void) {
+    struct timespec time;
+    clock_gettime(CLOCK_MONOTONIC, &time);
+    return (uint64_t)time.tv_sec * 1000000000u + (uint64_t)time.tv_nsec;
+}
 
-/* Shows the catalog to all readers, in one update. The follower keeps it, and returns the listing once it is gone. */
-static void show(struct listing *new, struct latchsym_catalog *catalog) {
+/* Shows the listing that was read to all readers, in one update. */
+static void show(void) {
     static struct latchsym_item items[NODES];
+    const size_t bytes = files.read->bytes[0].len;
     struct latchsym_sizes sizes;
-    struct timespec now;
     uint64_t generation;
-    must(latchsym_catalog_sizes(catalog, &sizes));
+    must(latchsym_catalog_sizes(&files.catalog, &sizes));
     if (sizes.regions > NODES) must(LATCHSYM_FULL);
-    must(latchsym_catalog_items(catalog, items, sizes.regions));
-    clock_gettime(CLOCK_MONOTONIC, &now);
+    must(latchsym_catalog_items(&files.catalog, items, sizes.regions));
     pthread_mutex_lock(&following);
-    must(latchsym_follower_show(&follower, catalog, now.tv_sec * 1000000000ull + (uint64_t)now.tv_nsec,
-                                (uintptr_t)new, &generation));
+    must(latchsym_followed_show(&files, &follower, now(), &generation));
     pthread_mutex_unlock(&following);
-    shown = new;
     if (sizes.regions) /* where addresses are drawn from */
         atomic_store(&first_addr, items[0].a), atomic_store(&span, items[sizes.regions - 1].b - items[0].a);
-    printf("listing %" PRIu64 ": %zu regions of %zu bytes\n", generation, sizes.regions, new->bytes[0].len);
+    printf("listing %" PRIu64 ": %zu regions of %zu bytes\n", generation, sizes.regions, bytes);
     fflush(stdout);
 }
 
-/* Reads the files, and returns whether their listing is to be shown: the first one, and each that is another than the one
- * shown and of which nothing more is noted, which is told. Its catalog is open then. */
-static int is_to_be_shown(struct listing *new, struct latchsym_catalog *catalog) {
-    struct latchsym_listings given = LATCHSYM_LISTINGS_INIT;
-    struct latchsym_counts counts;
-    uint64_t line;
-    int is_worse = 0, is_same = shown != NULL;
-    for (int i = 0; i < files; i++) {
-        struct latchsym_place *bytes = &new->bytes[i];
-        if (latchsym_read_file(names[i], bytes)) return fprintf(stderr, "follow: %s: %s\n", names[i], strerror(errno)), 0;
-        is_same = is_same && bytes->len == shown->bytes[i].len && !memcmp(bytes->at, shown->bytes[i].at, bytes->len);
-    }
-    if (is_same) return 0;
-    given.kallsyms = new->bytes[0], given.modules = new->bytes[1], given.has_modules = files == 2;
-    must(latchsym_catalog_open(&given, catalog, &counts, &line));
-    new->notes[0] = counts.symbols_note, new->notes[1] = counts.modules_note;
-    for (int i = 0; i < files; i++) {
-        if (new->notes[i] == LATCHSYM_NOTHING || (shown && new->notes[i] == shown->notes[i])) continue;
-        fprintf(stderr, "follow: note: %s: %s\n", names[i], latchsym_text(new->notes[i]));
-        is_worse = shown != NULL;
-    }
-    return !is_worse;
+static void note(const char *name, uint32_t number) {
+    if (number != LATCHSYM_NOTHING) fprintf(stderr, "follow: note: %s: %s\n", name, latchsym_text(number));
 }
 
-static void read_listing(void) {
-    struct listing *new = calloc(1, sizeof *new);
-    struct latchsym_catalog catalog = {0};
-    if (!new) must(LATCHSYM_OUT_OF_MEMORY);
-    if (is_to_be_shown(new, &catalog)) return show(new, &catalog);
-    latchsym_catalog_close(&catalog); /* and only now the bytes that it points into */
-    free_listing(new);
+/* Polls, without the lock while the files are read, and tells of a listing that is not taken. */
+static void poll_files(void) {
+    const int answer = latchsym_followed_read(&files, now());
+    if (answer < 0) {
+        fprintf(stderr, "follow: %s: %s\n", files.at_fault, strerror(errno));
+    } else if (files.at_fault) {
+        note(files.at_fault, (uint32_t)answer);
+    } else if (answer != LATCHSYM_NOTHING) {
+        must((uint32_t)answer);
+        if (!files.shown) note(files.kallsyms, files.read->notes[0]), note(files.modules, files.read->notes[1]);
+        show();
+    }
 }
 
-/* Reads the listing again each time that a line says so, and each second. */
+/* Polls each time that a line says so, and each second. */
 static void *watch(void *unused) {
     struct pollfd told = {STDIN_FILENO, POLLIN, 0};
     char bytes[256];
-    while (poll(&told, 1, SECOND) <= 0 || read(STDIN_FILENO, bytes, sizeof bytes) > 0) read_listing();
+    while (poll(&told, 1, SECOND) <= 0 || read(STDIN_FILENO, bytes, sizeof bytes) > 0) poll_files();
     return atomic_store(&ended, 1), unused;
 }
 
@@ -157,7 +140,7 @@ static void name_sample(const struct sample *it) {
 /* Names the samples of all threads, and frees each listing whose successor every thread has passed: a reader's
  * generations never fall, so no sample before that of the last one comes any more. */
 static uint64_t name_samples(void) {
-    uint64_t passed = UINT64_MAX, named = 0, tag;
+    uint64_t passed = UINT64_MAX, named = 0;
     for (struct thread *thread = threads; thread < threads + THREADS; thread++) {
         for (size_t put = atomic_load(&thread->put); thread->taken != put; atomic_fetch_add(&thread->taken, 1), named++) {
             name_sample(&thread->ring[thread->taken % ROOM]);
@@ -166,7 +149,7 @@ static uint64_t name_samples(void) {
         if (thread->passed < passed) passed = thread->passed;
     }
     pthread_mutex_lock(&following);
-    while (latchsym_follower_forget(&follower, passed, &tag) == LATCHSYM_DONE) free_listing((void *)(uintptr_t)tag);
+    latchsym_followed_forget(&follower, passed);
     pthread_mutex_unlock(&following);
     return named;
 }
@@ -176,11 +159,13 @@ int main(int count, char **words) {
     struct sigaction action = {.sa_handler = sample, .sa_flags = SA_RESTART};
     struct itimerval each_ms = {{0, 1000}, {0, 1000}}, never = {0};
     pthread_t watcher;
-    uint64_t tag, named = 0, lost = 0;
-    if (count != 3) return fprintf(stderr, "usage: follow KALLSYMS MODULES\n"), 2;
-    names[0] = words[1], names[1] = words[2], files = *words[2] ? 2 : 1;
+    uint64_t named = 0, lost = 0;
+    if (count != 3 && count != 4) return fprintf(stderr, "usage: follow KALLSYMS MODULES [WATCHED]\n"), 2;
+    if (strcmp(words[1], files.kallsyms)) files.kallsyms = words[1], files.watched = NULL;
+    if (*words[2]) files.modules = words[2];
+    if (count == 4) files.watched = words[3];
     must(latchsym_follower_open(NODES, &follower, readers, THREADS));
-    if (read_listing(), !shown) return 1;
+    if (poll_files(), !files.shown) return 1;
     sigaction(SIGPROF, &action, NULL);
     for (int i = 0; i < THREADS; i++) {
         threads[i].reader = readers[i], threads[i].drawn = 88172645463325252u + (uint64_t)i, threads[i].passed = 1;
@@ -194,7 +179,7 @@ int main(int count, char **words) {
     for (int i = 0; i < THREADS; i++)
         pthread_join(threads[i].id, NULL), lost += threads[i].lost, latchsym_reader_close(&threads[i].reader);
     named += name_samples();
-    while (latchsym_follower_close(&follower, &tag) == LATCHSYM_DONE) free_listing((void *)(uintptr_t)tag);
+    latchsym_followed_close(&files, &follower);
     fprintf(stderr, "follow: %" PRIu64 " samples named, %" PRIu64 " lost\n", named, lost);
     return 0;
 }

@@ -175,3 +175,147 @@ class Following(unittest.TestCase):
         self.assertEqual(self.file.stat().st_size, before.st_size)
         self.assertTrue(follower.poll())
         self.assertEqual(follower.name(follower.find(START)).name, "later")
+
+
+class Watching(unittest.TestCase):
+    """Polls that read a file in the form of /proc/modules first."""
+
+    def setUp(self):
+        folder = tempfile.TemporaryDirectory()
+        self.addCleanup(folder.cleanup)
+        self.file, self.watched = (pathlib.Path(folder.name, name) for name in ("kallsyms", "modules"))
+        self.reads, self.meanwhile = 0, {}
+        self.load("first")
+        read = pathlib.Path.read_bytes
+
+        def counted(path):
+            text = read(path)
+            if path == self.file:
+                self.reads += 1
+                self.meanwhile.pop(self.reads, int)()
+            return text
+
+        patch = mock.patch("pathlib.Path.read_bytes", counted)
+        patch.start()
+        self.addCleanup(patch.stop)
+
+    def list(self, *names, users="0 -"):
+        self.watched.write_text("".join(f"{name} 4096 {users} Live 0x{START:016x}\n" for name in names))
+
+    def show(self, *names):
+        self.file.write_text("".join([*KERNEL, *(line(page, name) for page, name in enumerate(names))]))
+
+    def load(self, *names):
+        self.list(*names)
+        self.show(*names)
+
+    def follower(self, **words):
+        follower = Follower(self.file, watched=self.watched, **words)
+        self.addCleanup(follower.close)
+        return follower
+
+    def reads_of(self, follower):
+        """How many of ten polls read the listing."""
+        before = self.reads
+        for _ in range(10):
+            follower.poll()
+        return self.reads - before
+
+    def names(self, follower):
+        found = (follower.name(follower.find(START + page * PAGE)) for page in range(3))
+        return [symbol.name for symbol in found if symbol]
+
+    def test_nothing_is_read_while_modules_stay(self):
+        follower = self.follower()
+        self.show("first", "bpf")
+        self.assertEqual((self.reads_of(follower), self.names(follower)), (0, ["first"]))
+        self.list("first", users="3 second,third,")
+        self.assertEqual(self.reads_of(follower), 0)
+        self.list("first", "second")
+        self.show("first", "second")
+        self.assertTrue(follower.poll())
+        self.assertEqual((self.reads_of(follower), self.names(follower)), (0, ["first", "second"]))
+        # the same module, at another address or of another size
+        for words in ("4096 0 - Live 0xffffffffc0009000", "8192 0 - Live 0xffffffffc0009000"):
+            self.watched.write_text(f"first {words}\nsecond 4096 0 - Live 0x{START:016x}\n")
+            self.assertEqual(self.reads_of(follower), 1)
+
+    def test_what_is_no_module_is_looked_at_every_so_often(self):
+        clock = time.monotonic()
+        with mock.patch("time.monotonic", lambda: clock):
+            follower = self.follower(every=60)
+            self.show("first", "bpf")
+            clock += 59.9
+            self.assertEqual(self.reads_of(follower), 0)
+            clock += 0.2
+            self.assertTrue(follower.poll())
+            self.assertEqual((self.reads_of(follower), self.names(follower)), (0, ["first", "bpf"]))
+        self.assertEqual(self.reads_of(self.follower(every=0)), 10)
+
+    def test_a_module_that_comes_while_the_listing_is_read_is_not_missed(self):
+        self.meanwhile[1] = lambda: self.load("first", "second")
+        follower = self.follower()
+        self.assertEqual(self.names(follower), ["first"])
+        self.assertTrue(follower.poll())
+        self.assertEqual((self.reads_of(follower), self.names(follower)), (0, ["first", "second"]))
+
+    def test_a_module_that_came_and_went_while_the_listing_was_read_is_not_kept(self):
+        self.show("first", "second")
+        self.meanwhile[1] = lambda: self.show("first")
+        follower = self.follower()
+        self.assertEqual(self.names(follower), ["first", "second"])
+        self.assertTrue(follower.poll())
+        self.assertEqual((self.reads_of(follower), self.names(follower)), (0, ["first"]))
+
+    def test_a_module_that_is_loaded_anew_while_the_listing_is_read_is_not_missed(self):
+        self.list("first", "second")
+        self.meanwhile[1] = lambda: self.show("first", "second")
+        follower = self.follower()
+        self.assertEqual(self.names(follower), ["first"])
+        self.assertTrue(follower.poll())
+        self.assertEqual((self.reads_of(follower), self.names(follower)), (0, ["first", "second"]))
+        # gone, and back while the listing is read that has it: which is as the one before
+        self.list("first")
+        self.meanwhile[self.reads + 1] = lambda: self.show("first")
+        self.assertFalse(follower.poll())
+        self.assertTrue(follower.poll())
+        self.assertEqual((self.reads_of(follower), self.names(follower)), (0, ["first"]))
+
+    def test_a_module_without_symbols_is_read_for_once_more(self):
+        self.list("first", "silent")
+        self.assertEqual(self.reads_of(self.follower()), 1)
+
+    def test_a_listing_that_was_not_taken_is_read_again(self):
+        follower = self.follower()
+        self.load("first", "second")
+        good = self.file.read_text()
+        self.file.write_text("".join(f"{0:016x}{text[16:]}\n" for text in good.splitlines()))
+        with self.assertWarns(UserWarning):
+            self.assertFalse(follower.poll())
+        self.file.write_text(good)
+        self.assertTrue(follower.poll())
+        self.file.unlink()
+        later = time.monotonic() + 100
+        with mock.patch("time.monotonic", lambda: later):
+            self.assertRaises(OSError, follower.poll)
+        self.show("first")
+        self.assertTrue(follower.poll())
+        self.list("first")
+        self.assertEqual((self.reads_of(follower), self.names(follower)), (1, ["first"]))
+
+    def test_a_watched_file_that_is_missing_or_cannot_be_read(self):
+        self.watched.unlink()
+        self.show()
+        self.assertEqual(self.reads_of(self.follower()), 0)
+        self.watched.mkdir()
+        self.assertEqual(self.reads_of(self.follower()), 10)
+
+    def test_which_file_is_watched(self):
+        self.assertEqual(self.reads_of(Follower(self.file)), 10)
+        texts = {"/proc/kallsyms": self.file.read_bytes(), "/proc/modules": self.watched.read_bytes()}
+        asked = []
+        with mock.patch("pathlib.Path.read_bytes", lambda path: asked.append(str(path)) or texts[str(path)]):
+            follower = Follower()
+            self.addCleanup(follower.close)
+            follower.poll()
+        self.assertEqual(asked, ["/proc/modules", "/proc/kallsyms", "/proc/modules", "/proc/modules"])

@@ -8,9 +8,10 @@ the sample's generation, and its symbol has to lie there by this file's own acco
 hold 20 MB more in the end than after a tenth of the rounds; 1,000 listings take some 150.
 
 Before that: a listing that is cut, hidden or gone leaves the one before in its place, and is told
-of; and one is taken whose bytes alone have changed, without a line that says so.
+of; and one is taken whose bytes alone have changed, without a line that says so. Where a file of
+modules is watched, none is taken before that changes.
 """
-import os, pathlib, random, subprocess, sys, tempfile, threading
+import os, pathlib, random, subprocess, sys, tempfile, threading, time
 
 PAGE, START, MODULES, SYMBOLS, MARK = 0x1000, 0xFFFFFFFFC0000000, 60, 40, 1 << 16
 
@@ -46,10 +47,10 @@ class Listing:
 class Follower:
     """The program with what it has said: the version that each generation shows, and the samples."""
 
-    def __init__(self, program, file, modules="", **pipes):
+    def __init__(self, program, file, modules="", watched=(), **pipes):
         self.file, self.versions, self.samples, self.memory = file, {}, {}, []
         self.process = subprocess.Popen(
-            [program, file, modules], stdin=subprocess.PIPE, stdout=subprocess.PIPE, text=True, **pipes)
+            [program, file, modules, *watched], stdin=subprocess.PIPE, stdout=subprocess.PIPE, text=True, **pipes)
 
     def hear(self, line):
         """Takes a line; the version that it names, if it is one of a listing."""
@@ -173,8 +174,28 @@ def live(program, folder):
     return shown == [len(of_symbols) + 2, len(of_modules) + 2]
 
 
+def watches(program, folder):
+    """Whether a listing is read again once the watched file has changed, and not before."""
+    file, watched = os.path.join(folder, "kallsyms"), os.path.join(folder, "watched")
+    put(file, whole(1000))
+    put(watched, f"m 4096 1 - Live 0x{START:016x}\n")
+    follower = Follower(program, file, watched=[watched])
+    follower.hear_of(1000)
+    put(file, whole(1001))
+    follower.tell()
+    time.sleep(0.3)
+    put(file, whole(1002))
+    put(watched, f"m 8192 1 - Live 0x{START:016x}\n")
+    follower.tell()
+    follower.hear_of(1002)
+    return not follower.end() and sorted(follower.versions.values()) == [1000, 1002]
+
+
 def main(program, latchsym, rounds):
     listing, kept = Listing(), {}
+    with tempfile.TemporaryDirectory() as folder:
+        if not watches(program, folder):
+            sys.exit("follow: a listing was read again while the watched file stayed")
     with tempfile.TemporaryDirectory() as folder:
         if not live(program, folder):
             sys.exit("follow: a listing of no use was shown")

@@ -105,6 +105,13 @@ static void name_samples(struct thread *thread, uint64_t newest) {
     }
 }
 
+/* How many samples there are, with those that have no name yet. */
+static long samples(void) {
+    long count = named_by_time;
+    for (int i = 0; i < THREADS; i++) count += (long)(atomic_load(&threads[i].put) - threads[i].taken);
+    return count;
+}
+
 static void forget(uint64_t newest) {
     struct latchsym_symbol found = LATCHSYM_SYMBOL_INIT;
     uint64_t tag = 0, upto = newest > KEPT ? newest - KEPT : 0;
@@ -133,7 +140,9 @@ int main(void) {
     }
     setitimer(ITIMER_PROF, &each, NULL);
     for (uint64_t load = 2; load <= SHOWN; load++) {
-        for (uint64_t until = now() + 300000; now() < until;) {}
+        /* (on a busy machine a listing stands longer, as there are fewer samples) */
+        const uint64_t start = now();
+        while (now() < start + 300000 || (samples() * SHOWN < 200 * (long)load && now() < start + 20000000)) {}
         show(load);
         forget(load);
         for (int i = 0; i < THREADS; i++) name_samples(&threads[i], load);

@@ -7,6 +7,7 @@
 #include <atomic>
 #include <cstdio>
 #include <cstdlib>
+#include <fstream>
 #include <memory>
 #include <string>
 #include <thread>
@@ -236,8 +237,75 @@ static void follows() {
     CHECK(moved.find(2, addr)->name == "two");
 }
 
+/* A file of the text, which is gone with the object. */
+struct file {
+    explicit file(const std::string &text) {
+        std::snprintf(name, sizeof name, "/tmp/latchsym.XXXXXX");
+        close(mkstemp(name));
+        put(text);
+    }
+    ~file() { std::remove(name); }
+    void put(const std::string &text) { std::ofstream(name) << text; }
+    char name[32];
+};
+
+static void follows_files() {
+    const std::uint64_t addr = 0xffffffffc0000018;
+    const auto listing = [](const char *name) { return "ffffffffc0000010 t " + std::string(name) + "\t[a]\n"; };
+    file kallsyms(listing("one")), modules("a 4096 0 - Live 0xffffffffc0000000\n");
+    latchsym::files files;
+    files.kallsyms = kallsyms.name;
+    files.watched = modules.name;
+    latchsym::file_follower first(files, 8, 1, 2), follower = std::move(first);
+    const std::uint64_t early = follower.now();
+    follower.add_reader();
+    kallsyms.put(listing("two"));
+    CHECK(!follower.poll() && follower.readers().size() == 2 && follower.readers()[1].find(addr).generation == 1);
+    modules.put("a 8192 1 - Live 0xffffffffc0000000\n");
+    CHECK(follower.poll() && !follower.poll() && follower.readers()[1].find(addr).generation == 2);
+    CHECK(follower.find(1, addr)->name == "one" && follower.find_since(early, addr)->name == "one");
+    CHECK(follower.find_caller(2, addr)->name == "two" && follower.find_caller_since(follower.now(), addr)->name == "two");
+    CHECK(follower.symbols_note() == LATCHSYM_NOTHING && follower.modules_note() == LATCHSYM_NOTHING);
+    follower.forget(2);
+    CHECK(refused([&] { follower.find(1, addr); }) == LATCHSYM_FORGOTTEN);
+
+    /* a listing that is not taken: it has a note, it is missing, or the table has too few nodes */
+    files.watched = std::nullopt;
+    latchsym::file_follower each(files, 2);
+    kallsyms.put("0000000000000000 T _stext\n");
+    try {
+        each.poll();
+        CHECK(!"a listing with a note was taken");
+    } catch (const latchsym::noted &note) {
+        CHECK(note.file() == kallsyms.name && note.number() == LATCHSYM_NOTE_HIDDEN);
+        CHECK(std::string(note.what()).find(note.file() + ": every address is 0") == 0);
+    }
+    kallsyms.put(listing("two") + "ffffffffd0000000 t b\t[b]\nffffffffe0000000 t c\t[c]\n");
+    CHECK(refused([&] { each.poll(); }) == LATCHSYM_FULL);
+    kallsyms.put(listing("three"));
+    CHECK(each.poll() && each.find(2, addr)->name == "three");
+    each.forget_since(each.now());
+    CHECK(refused([&] { each.find(1, addr); }) == LATCHSYM_FORGOTTEN);
+    std::remove(kallsyms.name);
+    for (int is_new = 0; is_new < 2; is_new++) {
+        try {
+            is_new ? (void)latchsym::file_follower(files) : (void)each.poll();
+            CHECK(!"a file that is missing was read");
+        } catch (const std::system_error &error) {
+            CHECK(error.code().value() == ENOENT && std::string(error.what()).find(kallsyms.name) == 0);
+        }
+    }
+    kallsyms.put(listing("x") + "ffffffffd0000000 t b\t[b]\n");
+    CHECK(refused([&] { latchsym::file_follower(files, 1); }) == LATCHSYM_FULL);
+    files.modules = modules.name;
+    CHECK(latchsym::file_follower(files).find(1, addr)->name == "x");
+    modules.put("a 4096 0 - Live 0x0000000000000000\n");
+    CHECK(latchsym::file_follower(files).modules_note() == LATCHSYM_NOTE_HIDDEN);
+}
+
 int main() {
     follows();
+    follows_files();
     finds();
     finds_in_a_view();
     refuses_listings();

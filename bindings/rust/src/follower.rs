@@ -1,5 +1,5 @@
 // SPDX-License-Identifier: MIT OR Apache-2.0
-use crate::{catalog::symbol_found, sys, Error, Listings, Readers, Symbol};
+use crate::{catalog::symbol_found, sys, Catalog, Error, Listings, Readers, Symbol};
 use std::{cell::UnsafeCell, collections::BTreeMap, fmt};
 
 /// Opens a follower without a listing over an empty table of 1 to 65536 nodes with 1 to 64 readers.
@@ -59,9 +59,21 @@ impl Follower {
         modules: Option<Vec<u8>>,
         since: u64,
     ) -> Result<u64, Error> {
+        self.show_if(kallsyms, modules, since, |_| Ok(())).map(|(generation, ())| generation)
+    }
+
+    /// Shows a listing likewise unless `look` refuses its catalog, and returns what that gives, too.
+    pub(crate) fn show_if<T, E: From<Error>>(
+        &mut self,
+        kallsyms: Vec<u8>,
+        modules: Option<Vec<u8>>,
+        since: u64,
+        look: impl FnOnce(&Catalog<'_>) -> Result<T, E>,
+    ) -> Result<(u64, T), E> {
         let mut listings = Listings::new(&kallsyms);
         listings.modules = modules.as_deref();
         let catalog = listings.open()?;
+        let looked = look(&catalog)?;
         let (tag, mut generation) = (self.newest + 1, 0);
         // SAFETY: both handles are in no other call. The bytes stay where they are until their tag
         // is told: a vector that is moved keeps its place in memory.
@@ -77,7 +89,13 @@ impl Follower {
         drop(catalog);
         self.shown.insert(tag, (kallsyms, modules));
         self.newest = tag;
-        Ok(generation)
+        Ok((generation, looked))
+    }
+
+    /// Whether these bytes are those of the listing that was shown last.
+    pub(crate) fn shows(&self, kallsyms: &[u8], modules: Option<&[u8]>) -> bool {
+        let newest = self.shown.get(&self.newest);
+        newest.map_or(false, |it| (&it.0[..], it.1.as_deref()) == (kallsyms, modules))
     }
 
     /// The symbol of an address by the listing that stood at a generation. Refused by

@@ -53,6 +53,7 @@
 
 mod catalog;
 mod error;
+mod files;
 mod follower;
 mod pool;
 mod table;
@@ -64,6 +65,7 @@ mod sys;
 
 pub use catalog::{Answer, Catalog, Counts, Entry, Listings, Module, Region, Symbol};
 pub use error::Error;
+pub use files::{file_follower, file_follower_with_room, FileFollower, Files, PollError};
 pub use follower::{follower, follower_with_room, Follower};
 pub use pool::{pooled_table, Pool};
 pub use table::{table, table_with_room, Found, Item, Reader, Readers, Step, Writer};

@@ -3,8 +3,10 @@
 
 `Catalog` says which symbol and which module of a Linux kernel hold an address, from listings in the
 form of /proc/kallsyms and /proc/modules. `Table` is a table of address ranges whose readers never
-wait for its writer, and `Follower` one that has the regions of a listing as it changes. They are
-those of the library for C, `liblatchsym.so.1`, which is looked for where the environment's LATCHSYM_LIBRARY says and else where the system looks for libraries.
+wait for its writer, and `Follower` one that has the regions of a listing as it changes. `History`
+names addresses by the listings of a file that `latchsym record` wrote. They are those of the library
+for C, `liblatchsym.so.1`, which is looked for where the environment's LATCHSYM_LIBRARY says and else
+where the system looks for libraries.
 """
 
 from ._catalog import (
@@ -39,6 +41,7 @@ from ._errors import (
     UpdateInHand,
 )
 from ._follow import Follower, Sample
+from ._history import History
 from ._library import lib as _lib
 from ._table import Found, Reader, Step, Table, Writer
 
@@ -74,6 +77,7 @@ __all__ = [
     "Forgotten",
     "Found",
     "Full",
+    "History",
     "Item",
     "Module",
     "NoSuchItem",

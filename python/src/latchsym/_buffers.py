@@ -12,7 +12,7 @@ from ctypes import POINTER, c_char_p, c_int, c_ssize_t, c_void_p
 from types import TracebackType
 from typing import Any, Type, TypeVar
 
-from ._library import EMPTY_AT
+from ._library import EMPTY_AT, word
 
 
 _Self = TypeVar("_Self", bound="Closing")
@@ -93,12 +93,27 @@ class Pinned:
     __del__ = release
 
 
-def listing(buffer: Any) -> Pinned:
-    """The bytes of a listing, which must not change: one that may be written to is copied."""
-    view = memoryview(buffer)
+def listing(buffer: Any, name: str) -> Pinned:
+    """The bytes of a listing, which must not change: one that may be written to is copied. `name`
+    is that of the argument."""
+    try:
+        view = memoryview(buffer)
+    except TypeError:
+        raise TypeError(f"{name} has no bytes: it is of type {type(buffer).__name__}") from None
     if not view.c_contiguous or not view.readonly:
         return Pinned(view.tobytes())
     return Pinned(view)
+
+
+def _numbers_of(addresses: Any) -> array[int]:
+    """The numbers of an iterable."""
+    if not hasattr(addresses, "__iter__"):
+        raise TypeError(f"addresses are no buffer and no iterable: {addresses!r}")
+    words = addresses if isinstance(addresses, list) else list(addresses)
+    try:
+        return array("Q", words)
+    except (TypeError, OverflowError):
+        return array("Q", [word(addr, "an address") for addr in words])
 
 
 def numbers(addresses: Any) -> memoryview:
@@ -106,7 +121,7 @@ def numbers(addresses: Any) -> memoryview:
     try:
         view = memoryview(addresses)
     except TypeError:
-        return memoryview(array("Q", addresses))
+        return memoryview(_numbers_of(addresses))
     if view.itemsize != 8 or view.format.lstrip("@=<") not in tuple("QqLlNnP"):
         raise TypeError(f"a buffer of 64-bit numbers is wanted, and this is one of {view.format!r}")
     if not view.c_contiguous or view.ndim != 1:

@@ -172,6 +172,9 @@ class Answers(Sequence[Answer]):
     def __len__(self) -> int:
         return len(self._told)
 
+    def __repr__(self) -> str:
+        return f"<Answers: addresses {len(self)}>"
+
     @overload
     def __getitem__(self, place: int) -> Answer: ...
     @overload
@@ -197,12 +200,14 @@ class Factors(NamedTuple):
     """For each address how far it lies above its symbol; a column of `Answers`."""
 
 
-def symbol_of(number: int, found: it.Symbol, modules: dict[int, str]) -> Symbol | None:
+def symbol_of(
+    number: int, found: it.Symbol, modules: dict[int, str], asked: object
+) -> Symbol | None:
     """What a search has told by its number. `modules` keeps the names by their modules' numbers."""
     if number == it.NOTHING:
         return None
     if number != it.NO_SYMBOL:
-        check(number)
+        check(number, asked)
     name = it.text_at(found.name_at, found.name_len) if number == it.DONE else None
     owner = found.module_number
     module = modules.get(owner)
@@ -211,10 +216,12 @@ def symbol_of(number: int, found: it.Symbol, modules: dict[int, str]) -> Symbol 
     return Symbol(name, found.offset, found.size, module, owner)
 
 
-def symbol_by(call: it.Call, *words: Any, modules: dict[int, str]) -> Symbol | None:
+def symbol_by(
+    call: it.Call, *words: Any, modules: dict[int, str], asked: object
+) -> Symbol | None:
     """The answer of a search, in memory of its own."""
     found = it.no_symbol()
-    return symbol_of(call(*words, found), found, modules)
+    return symbol_of(call(*words, found), found, modules, asked)
 
 
 def _rows(row: Any, count: int) -> ctypes.Array[Any]:
@@ -236,10 +243,10 @@ class View:
     ext4_a+0x8/0x30 [ext4]
     """
 
-    def __init__(self, handle: it.Handle, listings: Sequence[Pinned]) -> None:
-        sizes = it.Sizes()
-        check(lib.latchsym_catalog_sizes(handle, sizes))
-        self._listings = listings
+    def __init__(self, catalog: Catalog) -> None:
+        handle, sizes, listings = catalog._handle, it.Sizes(), catalog._listings
+        check(lib.latchsym_catalog_sizes(handle, sizes), catalog)
+        self._listings, self._sizes = listings, sizes
         regions = _rows(it.no_view_region(), sizes.regions)
         symbols = _rows(it.no_view_symbol(), sizes.symbols)
         addresses = _rows(c_uint64(), sizes.symbols)
@@ -261,12 +268,18 @@ class View:
 
     def find(self, addr: int) -> Symbol | None:
         """The symbol of an address, or None where nothing is."""
-        return symbol_by(lib.latchsym_view_find, self._view, word(addr), modules=self._modules)
+        return self._find(lib.latchsym_view_find, addr)
 
     def find_caller(self, addr: int) -> Symbol | None:
         """The symbol of a return address, as `Catalog.find_caller` finds it."""
-        call = lib.latchsym_view_find_caller
-        return symbol_by(call, self._view, word(addr), modules=self._modules)
+        return self._find(lib.latchsym_view_find_caller, addr)
+
+    def _find(self, call: it.Call, addr: int) -> Symbol | None:
+        addr = word(addr, "addr")
+        return symbol_by(call, self._view, addr, modules=self._modules, asked=self)
+
+    def __repr__(self) -> str:
+        return f"<View: regions {self._sizes.regions}, symbols {self._sizes.symbols}>"
 
 
 def _close(handle: it.Handle, listings: Sequence[Pinned]) -> None:
@@ -314,7 +327,9 @@ class Catalog(Closing):
         kernel: tuple[str, str] | None = None,
     ) -> None:
         start, end = map(it.encoded, kernel or ("", ""))
-        pinned = [listing(text or b"") for text in (kallsyms, modules, regions, start, end)]
+        texts = {"kallsyms": kallsyms, "modules": modules, "regions": regions}
+        pinned = [listing(text or b"", name) for name, text in texts.items()]
+        pinned += [listing(name, "kernel") for name in (start, end)]
         places = [it.Place(text.at, text.len) for text in pinned]
         given = it.Listings(ctypes.sizeof(it.Listings), *places, modules is not None)
         handle, counts, bad_line = it.Handle(), it.Counts(), c_uint64()
@@ -358,7 +373,7 @@ class Catalog(Closing):
         """Another handle of the same catalog, for another thread: nothing is read again."""
         handle = it.Handle()
         with self._lock:
-            check(lib.latchsym_catalog_share(self._handle, handle))
+            check(lib.latchsym_catalog_share(self._handle, handle), self)
             other = type(self).__new__(type(self))
             other._keep(handle, self._listings, self.counts)
         return other
@@ -366,7 +381,7 @@ class Catalog(Closing):
     def view(self) -> View:
         """The catalog in memory of its own, in which any number of threads find at once."""
         with self._lock:
-            return View(self._handle, self._listings)
+            return View(self)
 
     def close(self) -> None:
         """Closes the catalog. A second close does nothing."""
@@ -374,6 +389,11 @@ class Catalog(Closing):
             self._closing()
             self._listings = ()
             self._found = it.no_symbol()  # whose places led into the listings
+
+    def __repr__(self) -> str:
+        if not self._closing.alive:
+            return "<Catalog, closed>"
+        return f"<Catalog: modules {self.counts.modules}, symbols {self.counts.symbols}>"
 
     def find(self, addr: int) -> Symbol | None:
         """The symbol of an address, or None where nothing is."""
@@ -388,10 +408,10 @@ class Catalog(Closing):
         return self._find(lib.latchsym_catalog_find_caller, addr)
 
     def _find(self, call: Callable[..., int], addr: int) -> Symbol | None:
-        word(addr)
+        addr = word(addr, "addr")
         with self._lock:
             number = call(self._handle, addr, self._found)
-            return symbol_of(number, self._found, self._modules)
+            return symbol_of(number, self._found, self._modules, self)
 
     def find_many(self, addresses: Any, out: Answers | None = None) -> Answers:
         """What is told of many addresses, in numbers alone.
@@ -415,7 +435,8 @@ class Catalog(Closing):
             check(
                 lib.latchsym_catalog_find_many(
                     self._handle, first, len(view), answers._told, rooms
-                )
+                ),
+                self,
             )
         return answers
 
@@ -488,7 +509,7 @@ class Catalog(Closing):
         """The modules by their numbers: the kernel itself, 0, where it has a region, then from 1 on."""
         count = c_uint64()
         with self._lock:
-            check(lib.latchsym_catalog_modules(self._handle, byref(count)))
+            check(lib.latchsym_catalog_modules(self._handle, byref(count)), self)
         for number in range(count.value + 1):
             module = it.Module(it.no_place(), 0, 0)
             if self._is_there(lib.latchsym_catalog_module, number, module):
@@ -498,10 +519,10 @@ class Catalog(Closing):
         """An item for each region, each below the next, with the number of its module as the tag."""
         sizes = it.Sizes()
         with self._lock:
-            check(lib.latchsym_catalog_sizes(self._handle, byref(sizes)))
+            check(lib.latchsym_catalog_sizes(self._handle, byref(sizes)), self)
             # (an array of no length may have no place, and no pointer may be null)
             rooms = (it.Item * (sizes.regions + 1))()
-            check(lib.latchsym_catalog_items(self._handle, rooms, sizes.regions))
+            check(lib.latchsym_catalog_items(self._handle, rooms, sizes.regions), self)
         return [Item(room.a, room.b, room.tag) for room in rooms[: sizes.regions]]
 
     def regions(self, number: int) -> Iterator[Region]:
@@ -541,7 +562,7 @@ class Catalog(Closing):
     def _is_there(self, call: Callable[..., int], number: int, *words: Any) -> bool:
         """Whether a call for the module of a number has written its answer."""
         with self._lock:
-            got = call(self._handle, word(number), *words)
+            got = call(self._handle, word(number, "number"), *words)
         if got != it.NOTHING:
-            check(got)
+            check(got, self)
         return bool(got == it.DONE)

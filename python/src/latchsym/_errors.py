@@ -85,7 +85,7 @@ class Forgotten(Error, LookupError):
 
 
 class Closed(Error, ValueError):
-    """What the call is of has been closed."""
+    """What the call is of is closed: by its `close`, or at the end of its `with` statement."""
 
 
 class BadLength(Error, ValueError):

@@ -9,13 +9,27 @@ import time
 from contextlib import ExitStack
 from ctypes import c_uint64
 from pathlib import Path
-from typing import Iterable, NamedTuple
+from typing import Iterable, List, NamedTuple, Tuple
 
 from . import _library as it
 from ._buffers import Closing
 from ._catalog import Catalog, Item, Symbol, has_new_note, symbol_by, warn_of
+from ._errors import Closed
 from ._library import check, lib, word
 from ._table import Reader
+
+
+# what owns symbols and is no module that a listing of modules has
+_UNLISTED = {"bpf", "__builtin__ftrace", "__builtin__kprobes"}
+
+Loads = List[Tuple[bytes, ...]]
+
+
+def _loads(modules: bytes) -> Loads:
+    """What a text in the form of /proc/modules says of each module, but for its users, which come
+    and go while it stays loaded."""
+    lines = (line.split() for line in modules.splitlines())
+    return [(*words[:2], *words[4:]) for words in lines]
 
 
 class Sample(NamedTuple):
@@ -44,8 +58,15 @@ class Follower(Closing):
     xfs_a
 
     `poll` reads the files again, and shows the regions that they have then to all readers in one
-    update. Each listing is kept until `forget_below`, with the time at which it was shown. Any thread
-    may call. What is noted of the first listings is warned of.
+    update. Each listing is kept until `forget_below`, with the time at which it was shown. Any
+    thread may call. What is noted of the first listings is warned of.
+
+    A poll first reads the file `watched`, which has the form of /proc/modules. If that says of each
+    module what it said at the last reading, the poll reads nothing else, until `every` seconds have
+    passed since: for BPF programs and trampolines, which stand in /proc/kallsyms alone, and for a
+    module that was loaded anew with the same size at the same address. Where `watched` is not
+    given, it is /proc/modules for /proc/kallsyms (a kernel without that file loads no module), and
+    no file for another: then each poll reads the listings.
     """
 
     def __init__(
@@ -54,8 +75,18 @@ class Follower(Closing):
         modules: str | os.PathLike[str] | None = None,
         *,
         nodes: int = 4096,
+        watched: str | os.PathLike[str] | None = None,
+        every: float = 60.0,
     ) -> None:
         self._paths = (kallsyms, modules)
+        if watched is None and os.fspath(kallsyms) == "/proc/kallsyms":
+            watched = "/proc/modules"
+        self._watched, self._every = watched, every
+        self._read: tuple[bytes, Loads] = b"", []  # what it had when it was read last
+        self._seen: Loads | None = None  # what the watched file said before the last reading
+        self._is_settled = False  # whether a poll may be content with that
+        self._due = 0.0  # when it reads the listings all the same
+        self._owners: set[str] = set()  # the modules that own symbols of the listing that is shown
         self._texts: list[bytes | None] = []
         self._polling = threading.RLock()
         self._lock = threading.RLock()
@@ -63,13 +94,13 @@ class Follower(Closing):
         self._newest = 0
         handles = (it.Handle * 2)()
         self._handle = handles[1]
-        check(lib.latchsym_follower_open(word(nodes, 32), self._handle, handles, 1))
+        check(lib.latchsym_follower_open(word(nodes, "nodes", 32), self._handle, handles, 1))
         self._reader = Reader(handles, handles[0], lib.latchsym_reader_close)
         self.poll()
         warn_of(self._shown[self._newest].counts, self._paths, 3)
 
     def poll(self) -> bool:
-        """Reads the files again; whether their bytes had changed and are shown.
+        """Reads the files again where they may have changed; whether their bytes had and are shown.
 
         Files of which something is noted that is not noted of those shown, as of one read without
         rights, are warned of and not taken: those shown stay. (Of a listing that is cut after
@@ -78,25 +109,67 @@ class Follower(Closing):
         beside old ones.
         """
         with self._polling, ExitStack() as refused:
+            now, seen = time.monotonic(), self._watch()
+            is_as_seen = seen is not None and seen == self._seen
+            if is_as_seen and self._is_settled and now < self._due:
+                return False
+            self._seen, self._is_settled, self._due = None, False, now + self._every
             texts = [None if path is None else Path(path).read_bytes() for path in self._paths]
             if texts == self._texts:
+                self._settle(seen, is_as_seen)
                 return False
             catalog = Catalog(*texts)
             refused.callback(catalog.close)
             if self._shown and has_new_note(catalog.counts, self._shown[self._newest].counts):
                 warn_of(catalog.counts, self._paths, 3)
                 return False
-            tag, now, shown = self._newest + 1, time.monotonic_ns(), c_uint64()
+            owners = {one.name for one in catalog.modules() if one.number and one.symbols}
+            tag, stamp, shown = self._newest + 1, time.monotonic_ns(), c_uint64()
             with self._lock:
-                check(lib.latchsym_follower_show(self._handle, catalog._handle, now, tag, shown))
+                check(
+                    lib.latchsym_follower_show(self._handle, catalog._handle, stamp, tag, shown),
+                    self,
+                )
                 self._shown[tag], self._newest = catalog, tag
             refused.pop_all()
-            self._texts = texts
+            self._texts, self._owners = texts, owners
+            self._settle(seen, False)
             return True
+
+    def _watch(self) -> Loads | None:
+        """What the watched file says of each module: of none where it is missing. None where it
+        cannot be read, or no file is watched."""
+        if self._watched is None:
+            return None
+        try:
+            text = Path(self._watched).read_bytes()
+        except FileNotFoundError:
+            return []
+        except OSError:
+            return None
+        if text != self._read[0]:
+            self._read = text, _loads(text)
+        return self._read[1]
+
+    def _settle(self, seen: Loads | None, is_again: bool) -> None:
+        """Lets polls be content with the watched file if it says what it said before the listings
+        were read, and the modules that own symbols are those that it has.
+
+        A module that comes or goes while they are read may stand in one of the two alone. Then the
+        next poll reads again; if that reading is as this one, the module has no symbols.
+        """
+        self._seen = seen
+        if seen is not None and self._watch() == seen:
+            listed = {it.decoded(words[0]) for words in seen if words}
+            self._is_settled = is_again or self._owners - _UNLISTED == listed
 
     def find(self, address: int) -> Sample:
         """The region that the address lies in now, with the generation of this answer."""
-        found = self._reader.find(address)
+        address = word(address, "address")
+        try:
+            found = self._reader.find(address)
+        except Closed:
+            raise it.error_of(it.BAD_HANDLE, self) from None
         return Sample(address, found.item, found.generation)
 
     def find_many(self, addresses: Iterable[int]) -> list[Sample]:
@@ -106,20 +179,26 @@ class Follower(Closing):
     def name(self, sample: Sample) -> Symbol | None:
         """The symbol of a sample, by the listing that stood at its generation. Raises `Forgotten`
         where that listing is gone."""
-        return self._name(lib.latchsym_follower_find, sample.generation, sample.address)
+        generation = word(sample.generation, "generation")
+        return self._name(lib.latchsym_follower_find, generation, sample.address)
 
     def name_at(self, time_ns: int, address: int) -> Symbol | None:
         """The symbol of an address by the listing that stood at a time of `time.monotonic_ns`, as
         perf gives it with CLOCK_MONOTONIC."""
-        return self._name(lib.latchsym_follower_find_since, time_ns, address)
+        return self._name(lib.latchsym_follower_find_since, word(time_ns, "time_ns"), address)
 
     def _name(self, find: it.Call, moment: int, address: int) -> Symbol | None:
+        address = word(address, "address")
         with self._lock:
-            return symbol_by(find, self._handle, word(moment), word(address), modules={})
+            return symbol_by(find, self._handle, moment, address, modules={}, asked=self)
+
+    def __repr__(self) -> str:
+        count = len(self._shown)
+        return f"<Follower of {self._paths[0]}{f': listings {count}' if count else ', closed'}>"
 
     def forget_below(self, generation: int) -> None:
         """Closes each listing that no sample of this generation or a later one needs."""
-        self._close_each(lib.latchsym_follower_forget, word(generation))
+        self._close_each(lib.latchsym_follower_forget, word(generation, "generation"))
 
     def close(self) -> None:
         """Closes the table and all listings."""

@@ -5,6 +5,7 @@ from __future__ import annotations
 
 import ctypes
 import ctypes.util
+import operator
 import os
 import shutil
 import site
@@ -114,10 +115,16 @@ def encoded(name: str | bytes) -> bytes:
     return name if isinstance(name, bytes) else name.encode("utf-8", "surrogateescape")
 
 
-def word(number: int, bits: int = 64) -> int:
-    """The number, where it has so few bits: ctypes would cut it short without a word."""
+def word(number: int, name: str, bits: int = 64) -> int:
+    """The number, if it has so few bits: ctypes would cut it short and not say so. `name` is that
+    of the argument."""
+    if type(number) is not int:
+        try:
+            number = operator.index(number)
+        except TypeError:
+            raise TypeError(f"{name} is no whole number: {number!r}") from None
     if number >> bits:
-        raise OverflowError(f"{number} is not a number of {bits} bits without a sign")
+        raise OverflowError(f"{name} is not a number of {bits} bits without a sign: {number}")
     return number
 
 
@@ -128,11 +135,16 @@ def text_of(number: int) -> str:
     return ctypes.string_at(place.at).decode()
 
 
-def error_of(number: int) -> _errors.Error:
-    return _errors.CLASSES.get(number, _errors.Error)(number, text_of(number))
+def error_of(number: int, closed: object = None) -> _errors.Error:
+    """The exception of a number. What may be closed is named: by its class, or in words."""
+    if number != BAD_HANDLE or closed is None:
+        text = text_of(number)
+    else:
+        text = f"{closed if isinstance(closed, str) else 'this ' + type(closed).__name__} is closed"
+    return _errors.CLASSES.get(number, _errors.Error)(number, text)
 
 
-def check(number: int) -> None:
-    """Raises the exception of a number that is not 0."""
+def check(number: int, closed: object = None) -> None:
+    """Raises the exception of a number that is not 0, as `error_of` words it."""
     if number:
-        raise error_of(number)
+        raise error_of(number, closed)

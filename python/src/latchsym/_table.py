@@ -44,7 +44,8 @@ def _found(number: int, found: it.Found) -> Found:
 
 
 def _word_item(item: Iterable[int]) -> it.Item:
-    return it.Item(*map(word, item))
+    a, b, tag = item
+    return it.Item(word(a, "a"), word(b, "b"), word(tag, "tag"))
 
 
 class _Part:
@@ -60,6 +61,9 @@ class _Part:
         """Closes this end of the table. A second close does nothing."""
         with self._lock:
             self._closing()
+
+    def __repr__(self) -> str:
+        return f"<{type(self).__name__} of a table{'' if self._closing.alive else ', closed'}>"
 
 
 def _close_part(close: Callable[[it.Handle], None], handle: it.Handle, table: ctypes.Array[it.Handle]) -> None:
@@ -93,14 +97,14 @@ class Writer(_Part):
     def begin_insert(self, a: int, b: int, tag: int) -> None:
         item = _word_item((a, b, tag))
         with self._lock:
-            check(lib.latchsym_writer_begin_insert(self._handle, item))
+            check(lib.latchsym_writer_begin_insert(self._handle, item), self)
 
     def begin_erase(self, a: int) -> None:
         with self._lock:
-            check(lib.latchsym_writer_begin_erase(self._handle, word(a)))
+            check(lib.latchsym_writer_begin_erase(self._handle, word(a, "a")), self)
 
     def begin_batch(self, erase: Iterable[int] = (), insert: Iterable[Iterable[int]] = ()) -> None:
-        erased, inserted = [word(a) for a in erase], [_word_item(item) for item in insert]
+        erased, inserted = [word(a, "a") for a in erase], [_word_item(item) for item in insert]
         # (an array of no length may have no place, and no pointer may be null)
         starts = (c_uint64 * (len(erased) + 1))(*erased)
         items = (it.Item * (len(inserted) + 1))(*inserted)
@@ -108,7 +112,8 @@ class Writer(_Part):
             check(
                 lib.latchsym_writer_begin_batch(
                     self._handle, starts, len(erased), items, len(inserted)
-                )
+                ),
+                self,
             )
 
     def replace(self, items: Iterable[Iterable[int]]) -> int:
@@ -122,30 +127,30 @@ class Writer(_Part):
         # (an array of no length may have no place, and no pointer may be null)
         array = (it.Item * (len(listed) + 1))(*listed)
         with self._lock:
-            check(lib.latchsym_writer_begin_replace(self._handle, array, len(listed)))
+            check(lib.latchsym_writer_begin_replace(self._handle, array, len(listed)), self)
 
     def step(self) -> Step:
         """Takes one step of the pending update."""
         with self._lock:
             number = lib.latchsym_writer_step(self._handle)
         if number == it.BAD_HANDLE:
-            check(number)
+            check(number, self)
         return Step(number)
 
     def finish(self) -> int:
         """Takes the steps that are left, and returns the generation after them."""
         generation = c_uint64()
         with self._lock:
-            check(lib.latchsym_writer_finish(self._handle, byref(generation)))
+            check(lib.latchsym_writer_finish(self._handle, byref(generation)), self)
         return generation.value
 
     def find(self, addr: int) -> Found:
         """What readers find now, also amid an update."""
         found = it.Found()
         with self._lock:
-            number = lib.latchsym_writer_find(self._handle, word(addr), found)
+            number = lib.latchsym_writer_find(self._handle, word(addr, "addr"), found)
         if number != it.NOTHING:
-            check(number)
+            check(number, self)
         return _found(number, found)
 
 
@@ -158,9 +163,9 @@ class Reader(_Part):
         """One attempt. Raises `Retry` where the writer flipped meanwhile."""
         found = it.Found()
         with self._lock:
-            number = lib.latchsym_reader_try_find(self._handle, word(addr), found)
+            number = lib.latchsym_reader_try_find(self._handle, word(addr, "addr"), found)
         if number != it.NOTHING:
-            check(number)
+            check(number, self)
         return _found(number, found)
 
     def find(self, addr: int) -> Found:
@@ -174,17 +179,18 @@ class Reader(_Part):
     def try_find_name(self, catalog: Catalog, addr: int) -> tuple[Found, Symbol | None]:
         """The same attempt, and the symbol in the item that was found, whose tag is taken as the
         number of a module of the catalog."""
+        addr = word(addr, "addr")
         found, answer, room = it.Found(), it.Answer(), self._ROOM
         while True:
             name, module = (ctypes.create_string_buffer(room) for _ in range(2))
             with self._lock, catalog._lock:
                 number = lib.latchsym_reader_find_name(
-                    self._handle, catalog._handle, word(addr), found, answer, name, room, module, room
+                    self._handle, catalog._handle, addr, found, answer, name, room, module, room
                 )
             if number == it.NOTHING:
                 return _found(number, found), None
             if number != it.NO_SYMBOL:
-                check(number)
+                check(number, self if catalog._closing.alive else catalog)
             if max(answer.name_len, answer.module_len) <= room:
                 break
             room = max(answer.name_len, answer.module_len)
@@ -221,13 +227,15 @@ class Table(Closing):
     writer: Writer
 
     def __init__(self, nodes: int, readers: int = 1, *, most_readers: int = 256) -> None:
+        nodes, readers = word(nodes, "nodes", 32), word(readers, "readers")
+        most_readers = word(most_readers, "most_readers")
         # (the call itself refuses no readers, or too many)
         self._room = max(most_readers, min(readers, 64), 1)
         # The handles of all readers lie in one row, as enlarging takes them, and never move.
         self._handles = (it.Handle * (self._room + 1))()
         check(
             lib.latchsym_table_open(
-                word(nodes, 32), self._handles[self._room], self._handles, word(readers)
+                nodes, self._handles[self._room], self._handles, readers
             )
         )
         self.writer = Writer(self._handles, self._handles[self._room], lib.latchsym_writer_close)
@@ -236,6 +244,10 @@ class Table(Closing):
 
     def _reader(self, place: int) -> Reader:
         return Reader(self._handles, self._handles[place], lib.latchsym_reader_close)
+
+    def __repr__(self) -> str:
+        is_open = self.writer._closing.alive
+        return f"<Table: readers {len(self._readers)}>" if is_open else "<Table, closed>"
 
     @property
     def readers(self) -> tuple[Reader, ...]:
@@ -266,7 +278,8 @@ class Table(Closing):
             place = len(self._readers)
             if place == self._room:
                 raise it.error_of(it.BAD_CAPACITY)
-            check(lib.latchsym_writer_add_reader(self.writer._handle, self._handles[place]))
+            number = lib.latchsym_writer_add_reader(self.writer._handle, self._handles[place])
+            check(number, self)
             self._readers.append(self._reader(place))
             return self._readers[place]
 
@@ -277,7 +290,8 @@ class Table(Closing):
                 raise it.error_of(it.BAD_CAPACITY)
             reader = self._readers[-1]
             with reader._lock:
-                check(lib.latchsym_writer_take_reader(self.writer._handle, reader._handle))
+                number = lib.latchsym_writer_take_reader(self.writer._handle, reader._handle)
+                check(number, "the writer of this Table, or its last reader,")
             self._readers.pop()
 
     def enlarge(self, nodes: int) -> None:
@@ -288,8 +302,9 @@ class Table(Closing):
                 locks.enter_context(part._lock)
             check(
                 lib.latchsym_table_enlarge(
-                    word(nodes, 32), self.writer._handle, self._handles, len(self._readers)
-                )
+                    word(nodes, "nodes", 32), self.writer._handle, self._handles, len(self._readers)
+                ),
+                "the writer of this Table, or one of its readers,",
             )
 
     def close(self) -> None:
