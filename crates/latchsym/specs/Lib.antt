@@ -5,6 +5,8 @@ pub mod RecordedEvents
 pub mod JobNotes
 -- what the system said of a failed call, if the job's command writes it
 pub mod Reasons
+-- what is said of names with `*` or `?`
+pub mod Wildcards
 -- what is said at the end of a run
 pub mod Reports
 -- what is said of a command line that gives no job

@@ -11,6 +11,7 @@ use Rattle.latchsym.specs.Reasons.{reason_text}
 use Rattle.listing.specs.ListingNotes.{is_some_noted}
 use Rattle.command_listings.specs.NoteTexts.{IsNoted}
 use Rattle.latchsym.specs.JobNotes.{notes_text}
+use Rattle.latchsym.specs.Wildcards.{IsWildcardNoted, wildcard_in}
 use Rattle.command_traces.specs.TraceTexts.{refused_text}
 use Rattle.command_line.specs.declared.requests.Job.{Job}
 use Rattle.command_parts.specs.declared.fault.Fault.{Fault}
@@ -52,11 +53,13 @@ IsFaultTold contents old new file error fault =
     × Says contents old new (fault_text file words fault)
 
 -- The program's status after a job with this outcome, and what it has said: the notes on the
--- listings if the job came to a status, and else the fault with its error.
+-- listings and on names if the job came to a status, and else the fault with its error.
 abbrev pub IsConcluded : {D : Type 0} → (D → Option (List ℕ)) → Job → Option Error → Output D
     → Output D → Result Finished Fault → ℕ → Type 0
-IsConcluded contents job error old new (Ok own) status =
+IsConcluded {D} contents job error old new (Ok own) status =
     (status ≡ own.status)
-    × IsNoted contents old new (is_some_noted own.notes) (notes_text job own.notes)
-IsConcluded contents job error old new (Err fault) status =
+    × ((noted : Output D)
+    × IsNoted contents old noted (is_some_noted own.notes) (notes_text job own.notes)
+    × IsWildcardNoted contents noted new (wildcard_in own.status job))
+IsConcluded {D} contents job error old new (Err fault) status =
     (status ≡ 1) × IsFaultTold contents old new (file_of job fault) error fault

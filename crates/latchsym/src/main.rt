@@ -24,6 +24,7 @@ mod misuse;
 mod programs;
 mod recorded_events;
 mod reports;
+mod wildcards;
 
 use command_line::JobFault;
 use command_parts::Fault;

@@ -11,6 +11,7 @@ ghost use Rattle.command_listings.specs.NoteTexts.{IsNoted};
 ghost use Rattle.latchsym.specs.JobNotes.{notes_text};
 
 use crate::job_notes::put_job_notes;
+use crate::wildcards::note_wildcard;
 use command_line::Job;
 use command_parts::{FAILED, Fault, Finished, words_of};
 use command_traces::put_refused;
@@ -33,8 +34,8 @@ const NOT_UNDERSTOOD: &[u8] = b" is not understood\n";
 const PROGRAM: &[u8] = b"latchsym: ";
 
 /// Ends a job: returns the program's status, which is the job's own if it came to one. Writes the
-/// notes on its listings or, if it failed, the line that says why, with the system's words for the
-/// error.
+/// notes on its listings and names or, if it failed, the line that says why, with the system's words
+/// for the error.
 pub fn conclude<W: Write>(
     outcome: Result<Finished, Fault>,
     job: &Job<'_>,
@@ -46,6 +47,7 @@ pub fn conclude<W: Write>(
     match outcome {
         Ok(finished) => {
             note(&finished.notes, job, writer);
+            note_wildcard(finished.status, job, writer);
             finished.status
         }
         Err(fault) => report(&fault, job, error, writer),
