@@ -15,8 +15,8 @@ const VERSION: &str = "1.2.0";
 const STATUSES: &str = "\
 ADDR and N are numbers: decimal, or hexadecimal after 0x.
 
-Status 0: done. 1: an error; or `run` found a wrong answer; or `check` found no usable symbol. 2: an
-error in the command line.";
+Status 0: done. 1: an error; or `run` found a wrong answer, `check` no usable symbol, or `address`
+no symbol. 2: an error in the command line.";
 
 /// What the help says of each command.
 const ANNOTATE: &str = "Copy a log, adding the symbol after each address";
