@@ -73,7 +73,7 @@ files=(bin/latchsym bin/latchsym-record include/latchsym.h include/latchsym.hpp 
     "$lib"/{liblatchsym.a,"liblatchsym.so.$version",pkgconfig/latchsym.pc}
     "$lib"/cmake/latchsym/latchsym-config{,-version}.cmake
     share/bash-completion/completions/latchsym share/fish/vendor_completions.d/latchsym.fish
-    share/man/man1/latchsym.1 share/man/man3/latchsym.3 share/zsh/site-functions/_latchsym)
+    share/man/man1/latchsym{,-record}.1 share/man/man3/latchsym.3 share/zsh/site-functions/_latchsym)
 # each link, and the file beside it that it leads to
 declare -A links=(
     [$lib/liblatchsym.so.${version%%.*}]=liblatchsym.so.$version

@@ -21,7 +21,7 @@ whole='./bin/latchsym ./bin/latchsym-record ./include/latchsym.h ./include/latch
 whole+='./lib/cmake/latchsym/latchsym-config-version.cmake ./lib/cmake/latchsym/latchsym-config.cmake ./lib/liblatchsym.a ./lib/liblatchsym.so '
 whole+="./lib/liblatchsym.so.${version%%.*} ./lib/liblatchsym.so.$version ./lib/pkgconfig/latchsym.pc "
 whole+='./share/bash-completion/completions/latchsym ./share/fish/vendor_completions.d/latchsym.fish '
-whole+='./share/man/man1/latchsym.1 ./share/man/man3/latchsym.3 ./share/zsh/site-functions/_latchsym '
+whole+='./share/man/man1/latchsym-record.1 ./share/man/man1/latchsym.1 ./share/man/man3/latchsym.3 ./share/zsh/site-functions/_latchsym '
 
 # run ARGUMENT..: install.sh with these arguments; what it writes is in out and err
 run() {
@@ -49,6 +49,7 @@ run "$prefix"
 [ $status = 0 ] || fail "$(cat "$work/err")"
 [ "$(installed "$prefix")" = "$whole" ] || fail "installed: $(installed "$prefix")"
 cmp "$top/docs/latchsym.1" "$prefix/share/man/man1/latchsym.1"
+cmp "$top/docs/latchsym-record.1" "$prefix/share/man/man1/latchsym-record.1"
 cmp "$top/scripts/latchsym-record" "$prefix/bin/latchsym-record"
 cmp "$top/docs/latchsym.3" "$prefix/share/man/man3/latchsym.3"
 cmp "$top/completions/latchsym.bash" "$prefix/share/bash-completion/completions/latchsym"

@@ -110,7 +110,7 @@ if [ "$(id -u)" = 0 ] && has 'command -v debootstrap' debootstrap &&
     rm -r "$root/debs"
     chroot "$root" latchsym lookup "${lookup[@]}" | cmp - "$wanted" || fail 'the installed program'
     chroot "$root" /waits /basic.modules || fail 'a program over the installed library'
-    for file in /usr/share/{man/man1/latchsym.1.gz,bash-completion/completions/latchsym}; do
+    for file in /usr/share/{man/man1/latchsym{,-record}.1.gz,bash-completion/completions/latchsym}; do
         [ "$(chroot "$root" dpkg -S "$file")" = "latchsym: $file" ] || fail "no package has $file"
     done
     chroot "$root" dpkg --purge latchsym liblatchsym-dev liblatchsym1 >"$work/out" 2>&1 ||

@@ -143,8 +143,10 @@ for script in "bash .ci/run" "bash install.sh $work/prefix" "bash "tests/{cases,
 done
 
 # the page of the library, whose calls and numbers bindings/write.py makes
-warnings=$({ groff -man -ww -Tutf8 -z "$top/docs/latchsym.3"; } 2>&1)
+warnings=$({ groff -man -ww -Tutf8 -z "$top"/docs/latchsym{,-record}.[13]; } 2>&1)
 [ -z "$warnings" ] || fail "$warnings"
+groff -man -Tutf8 -P-cbou "$top/docs/latchsym-record.1" | tail -n 1 | grep -q "^$("$program" --version) " ||
+    fail "the page of the recorder is of another version"
 groff -man -Tutf8 -P-cbou -rLL=400n "$top/docs/latchsym.3" >"$work/page"
 tail -n 1 "$work/page" | grep -q "^$("$program" --version) " || fail "the page of the library is of another version"
 

@@ -25,7 +25,7 @@ cmp "$work/first/$name.tar.xz" "$work/second/$name.tar.xz" || fail 'two releases
 tar -C "$work" -xf "$work/first/$name.tar.xz"
 cp "$top"/examples/listings/basic.{modules,kallsyms,addresses} "$work/$name"
 for file in LICENSE-MIT LICENSE-APACHE CHANGELOG.md include/latchsym.h include/latchsym.hpp include/latchsym_follow.h include/latchsym_read.h lib/liblatchsym.a \
-    lib/cmake/latchsym/latchsym-config.cmake share/man/man1/latchsym.1 share/man/man3/latchsym.3 python/pyproject.toml bindings/rust/Cargo.toml \
+    lib/cmake/latchsym/latchsym-config.cmake share/man/man1/latchsym{,-record}.1 share/man/man3/latchsym.3 python/pyproject.toml bindings/rust/Cargo.toml \
     bindings/rust/lib/x86_64/liblatchsym.a examples/fleet/README.md debian/rules latchsym.spdx.json \
     licences/memchr/LICENSE-MIT licences/glibc/LGPL-2.1; do
     [ -s "$work/$name/$file" ] || fail "it has no $file"
