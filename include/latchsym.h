@@ -763,7 +763,13 @@ static inline uint32_t latchsym_pool_close(struct latchsym_pool *pool) {
  * keeps each catalog with the generation of its update and with a stamp of the caller's: any
  * number that does not fall, as a time of CLOCK_MONOTONIC. So a sample is named by the listing of
  * its moment: by the generation that a reader gave with it, or by its stamp. Keep the bytes of a
- * catalog's listings until a call gives its tag back. */
+ * catalog's listings until a call gives its tag back.
+ *
+ * A stack has one moment: name all of its frames by the generation of its first lookup, since a
+ * later lookup may be answered by a listing that was shown after the sample. In a handler look a
+ * return address up one lower, for a call may be the last instruction of a region; the calls
+ * .._find_caller take the address as it is. A thread that looks nothing up stays at its generation,
+ * and holds up who forgets by generation; who forgets by stamp does not wait for it. */
 
 /* Opens a follower without a catalog, over an empty table of 1 to 65536 nodes, and a reader of it
  * in each of 1 to 64 closed handles. Refuses what latchsym_table_open refuses. Until an update is
