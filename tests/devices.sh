@@ -4,7 +4,8 @@
 # standard output, where a beginning of an annotated log may stand; but where listings are read again it
 # is a note, and the lines have no names. A write that fails is told, and a beginning was written. Calls
 # fail with several errors: of a broken pipe `annotate` says nothing. A write that takes a few bytes
-# alone is no failed one. Each file is opened once. Then reads logs and listings a few bytes at a time.
+# alone is no failed one. Each file is opened once. A standard input that is closed cannot be read. Then
+# reads logs and listings a few bytes at a time.
 #
 # The program is linked to the C library dynamically, so a library in front of it can fail a call.
 # Needs a C compiler.
@@ -199,6 +200,26 @@ once_each annotate "${both[@]}" log
 once_each annotate --history history timed
 once_each check "${both[@]}"
 once_each address "${both[@]}" a:a_run
+
+# closed ARGUMENT..: a standard input that is closed cannot be read, and no file that is opened takes
+# its place
+closed() {
+    local reason=
+    case $1 in
+        annotate | record) reason=' (Bad file descriptor)' ;;
+    esac
+    status=0
+    "$program" "$@" <&- >out 2>err || status=$?
+    [ $status = 1 ] && [ "$(cat err)" = "latchsym: -: cannot be read$reason" ] ||
+        fail "latchsym $* without a standard input: status $status, $(cat err)"
+    [ ! -s out ] || [ "$1" = record ] || fail "latchsym $* without a standard input: $(head -c 200 out)"
+}
+closed annotate --kallsyms kallsyms -
+closed annotate --follow --kallsyms kallsyms -
+closed annotate --history - timed
+closed lookup --modules modules --kallsyms kallsyms --addresses - 1
+closed record --kallsyms kallsyms -
+"$program" check "${both[@]}" <&- >out 2>err && [ ! -s err ] || fail "a check without a standard input: $(cat err)"
 
 # portions ARGUMENT..: what is read a few bytes at a time is answered as in one piece
 portions() {

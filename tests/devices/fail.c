@@ -10,7 +10,8 @@
  *   LONGEST_WRITE  the most bytes that a write to standard output takes
  *   OPENED_FILES   a file that gets the path of each file that is opened, one a line
  *
- * A call that fails does nothing else. */
+ * A call that fails does nothing else. A read of no byte, which asks whether a file is open, is not
+ * counted. */
 #include <errno.h>
 #include <fcntl.h>
 #include <stdarg.h>
@@ -39,6 +40,7 @@ static ssize_t fail(int file) {
 }
 
 ssize_t read(int file, void *bytes, size_t count) {
+    if (!count) return syscall(SYS_read, file, bytes, count);
     if (__atomic_add_fetch(&reads, 1, __ATOMIC_SEQ_CST) == failed_read) return fail(file);
     if (longest_read > 0 && count > (size_t)longest_read) count = (size_t)longest_read;
     return syscall(SYS_read, file, bytes, count);

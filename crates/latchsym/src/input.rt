@@ -29,7 +29,18 @@ impl Read for Input {
 /// The files of the host, whose contents no clause knows.
 #[derive(Drop)]
 pub struct FileSystem<'a> {
-    pub rt: &'a HostRuntime,
+    rt: &'a HostRuntime,
+    /// Why the standard input cannot be read, if it is closed.
+    closed: Option<io::Error>,
+}
+
+impl<'a> FileSystem<'a> {
+    /// The files of the host, of which none has been opened: one that is opened takes the place of
+    /// a standard input that is closed, so whether it is has to be known before.
+    pub fn new(rt: &'a HostRuntime) -> FileSystem<'a> {
+        let closed = rt.stdin().read(&mut []).err();
+        FileSystem { rt, closed }
+    }
 }
 
 impl FileSource for FileSystem<'_> {
@@ -50,6 +61,9 @@ impl FileSource for FileSystem<'_> {
     }
 
     fn standard_input(&self) -> Counted<Input> {
-        Counted::new(Input::Standard(self.rt.stdin()))
+        Counted::new(match self.closed {
+            Some(error) => Input::Unopened(error),
+            None => Input::Standard(self.rt.stdin()),
+        })
     }
 }

@@ -27,7 +27,7 @@ mod reports;
 mod wildcards;
 
 use command_line::JobFault;
-use command_parts::Fault;
+use command_parts::{Fault, Outputs};
 use input::FileSystem;
 use order_laws::Refusal;
 use programs::program;
@@ -40,7 +40,7 @@ use texts::{BLOCK, Output};
 /// Runs the program over the words, the files and the outputs of the process.
 fn main(rt: HostRuntime) -> ExitCode {
     let mut errors = Output::new(rt.alloc(), rt.stderr());
-    let Ok(mut writer) = Output::with_capacity(rt.alloc(), BLOCK, rt.stdout()) else {
+    let Ok(writer) = Output::with_capacity(rt.alloc(), BLOCK, rt.stdout()) else {
         let no_memory = Fault::Refused(Refusal::OutOfMemory);
         return ExitCode::from(report_before_job(&no_memory, &mut errors));
     };
@@ -50,8 +50,9 @@ fn main(rt: HostRuntime) -> ExitCode {
         Err(ErrorKind::OutOfMemory) => Err(JobFault::OutOfMemory),
         Err(_) => Err(JobFault::NoText),
     };
-    let files = FileSystem { rt: &rt };
-    ExitCode::from(program(&rt, rt.alloc(), words, &files, &mut writer, &mut errors))
+    let files = FileSystem::new(&rt);
+    let mut outputs = Outputs { writer, errors };
+    ExitCode::from(program(&rt, rt.alloc(), words, &files, &mut outputs))
 }
 
 /// The words of the command line; the first is the program's name.
