@@ -1,13 +1,13 @@
 -- Which lines a listing may name, line by line.
-use Rattle.command_listings.proofs.Words.{◌≡◌, ◌∙◌, ℕ, ◌+◌, ◌-◌, ◌&&◌, Bool, true, false, List, [], ◌∷◌, ◌++◌, length, take, Option, Some, None, refl, sym, ap, subst, arith, append_assoc, append-nil, length-append, and_parts}
+use Rattle.command_listings.proofs.Words.{◌≡◌, ◌∙◌, ℕ, ◌+◌, ◌-◌, Bool, true, false, List, [], ◌∷◌, ◌++◌, length, take, refl, sym, ap, subst, arith, append_assoc, append-nil, length-append}
 use Rattle.std.specs.Prelude.{filter}
 use Rattle.std.proofs.Math.Seq.{take-append-add, take-append_seam}
 use Rattle.logs.proofs.LineLemmas.{last_line, line_has_end, line_then, no_end_behind, opened_line}
 use Rattle.logs.specs.Annotation.{IsOpen}
-use Rattle.logs.specs.Lines.{IsLine, has_end, lines}
+use Rattle.logs.specs.Lines.{IsLine, has_end}
 use Rattle.logs.specs.declared.annotator.Annotator.{Annotator}
 use Rattle.histories.specs.Grammar.{HistoryPart}
-use Rattle.command_listings.specs.LineRuns.{IsRun, IsRunAfter, ended_in, may_name, may_name_all, times_behind, times_over}
+use Rattle.command_listings.specs.LineRuns.{IsRun, IsRunAfter, ended_in, may_name, times_behind, times_over}
 use Rattle.command_listings.specs.declared.line_runs.LogTimes.{LogTimes}
 
 -- a line that ends, and then others

@@ -1,13 +1,12 @@
 -- Runs of a log that are named, and what is read and written for them.
-use Rattle.command_listings.proofs.Words.{◌≡◌, ◌∙◌, ◌+◌, ◌-◌, ◌≤◌, ◌^◌, ℕ, List, [], ◌++◌, ◌⊎◌, Option, Some, None, Result, Ok, Err, Bool, true, false, refl, sym, ap, subst, inl, inr, arith, length, take, append-nil, append_assoc, Output, Counted, LogFault, CatalogEntries, answered_by, WrotePart, Delivered, has_failed}
-use Rattle.std.specs.Io.KnownBytes.{Consumes, IsAtEnd, Keeps}
+use Rattle.command_listings.proofs.Words.{◌≡◌, ◌∙◌, ◌+◌, ◌-◌, ◌≤◌, ◌^◌, ℕ, List, [], ◌++◌, ◌⊎◌, Option, Result, Ok, Err, Bool, true, false, refl, sym, ap, subst, inl, inr, arith, take, append-nil, append_assoc, Output, Counted, LogFault, CatalogEntries, answered_by, WrotePart}
+use Rattle.std.specs.Io.KnownBytes.{Consumes, IsAtEnd}
 use Rattle.std.proofs.Common.{true≢false}
 use Rattle.std.proofs.KnownBytes.{Appends-nil, Appends-trans, Consumes-kept, Consumes-nil, Consumes-trans}
-use Rattle.texts.specs.Counted.{NoneFailed, Rose, device_of, failures_of}
-use Rattle.texts.specs.Output.{contents_of, error_in}
+use Rattle.texts.specs.Counted.{Rose, device_of, failures_of}
 use Rattle.modules.specs.Listed.{BoundNames}
 use Rattle.listing.specs.declared.address_rules.LogRule.{LogRule}
-use Rattle.logs.specs.Annotation.{IsOpen, IsWriteFault, Puts, held_in}
+use Rattle.logs.specs.Annotation.{IsOpen, Puts, held_in}
 use Rattle.logs.specs.AnnotatedLogs.{first_held}
 use Rattle.logs.specs.Answering.{Answering}
 use Rattle.logs.specs.declared.annotation.LogFault.TheVariants as fault
@@ -18,7 +17,7 @@ use Rattle.command_parts.specs.HistoryFiles.{symbols_alone}
 use Rattle.command_parts.specs.OpenedCatalogs.{IsCatalogOf}
 use Rattle.listing.specs.declared.listing_notes.ListingNotes.{ListingNotes}
 use Rattle.command_listings.specs.LineRuns.{IsRun, ended_in, first_times, may_name, times_behind}
-use Rattle.command_listings.specs.TimedLogs.{AreAnswersAfter, AreNamed, EndsBy, IsCutOff, IsNamedOn, IsNamedTo, IsTimed, IsNamedWhole, IsPut, IsStopped, IsTimedTo, IsTurn, IsUpTo, NamesEnd, NamesRun, PutsLast, PutsRun, ReadsOn, TimedPoint, first_point, is_narrow_history, left_of, no_run, one_more}
+use Rattle.command_listings.specs.TimedLogs.{AreAnswersAfter, AreNamed, EndsBy, IsCutOff, IsNamedOn, IsNamedTo, IsTimed, IsNamedWhole, IsStopped, IsTimedTo, IsTurn, IsUpTo, NamesEnd, NamesRun, PutsLast, PutsRun, ReadsOn, TimedPoint, first_point, is_narrow_history, left_of, no_run, one_more}
 use Rattle.command_listings.specs.declared.line_runs.LogTimes.{LogTimes}
 use Rattle.command_listings.specs.HistoryAnnotations.{IsEndOf}
 use Rattle.command_listings.specs.declared.timed_logs.Pending.{Pending}

@@ -54,13 +54,14 @@ IsEndTold errors log kernel e e' (Ok found) result =
 IsEndTold errors log kernel e e' (Err stop.Closed) result = (result ≡ Ok 1) × (e' ≡ e)
 IsEndTold errors log kernel e e' (Err (stop.Failed f)) result = (result ≡ Err f) × (e' ≡ e)
 
--- the log in this file was annotated to its end or not, and this was said
-abbrev pub AnnotatesBy : {L W E : Type 0} → (L → Option (List ℕ)) → (W → Option (List ℕ))
-    → (E → Option (List ℕ)) → List ℕ → ListedKernel → Answering → Counted L → Counted L → Output W
-    → Output W → Output E → Output E → Result ℕ Fault → Type 0
-AnnotatesBy remaining contents errors log kernel answer l l' w w' e e' result =
-    (end : Result Findings LogFault) × Annotates remaining contents answer l l' w w' end
-    × IsEndTold errors log kernel e e' (stopped end) result
+module _ {L W E : Type 0} (remaining : L → Option (List ℕ)) (contents : W → Option (List ℕ))
+    (errors : E → Option (List ℕ)) (log : List ℕ) where
+  -- the log in this file was annotated to its end or not, and this was said
+  abbrev pub AnnotatesBy : ListedKernel → Answering → Counted L → Counted L → Output W → Output W
+      → Output E → Output E → Result ℕ Fault → Type 0
+  AnnotatesBy kernel answer l l' w w' e e' result =
+      (end : Result Findings LogFault) × Annotates remaining contents answer l l' w w' end
+      × IsEndTold errors log kernel e e' (stopped end) result
 
 -- the place of the kernel by a listing of symbols with this text, for addresses that are looked up
 -- this many bytes lower
@@ -112,15 +113,15 @@ AnnotatesAfter known counts Untouched Told (Err Write) =
     NoReaderFailed counts × Told (Err Write)
 AnnotatesAfter known counts Untouched Told (Err _) = ⊥
 
--- What the engine returns. After the notes on the listings, the log is annotated by the answers of
--- their catalog.
-abbrev pub AnnotatesLog : {L W E : Type 0} → (L → Option (List ℕ)) → (W → Option (List ℕ))
-    → (E → Option (List ℕ)) → Sources → Annotate → Option Given → Failures
-    → Counted L → Counted L → Output W → Output W → Output E → Output E
-    → Result ℕ Fault → Type 0
-AnnotatesLog remaining contents errors q a known counts l l' w w' e e' result =
-    AnnotatesAfter known counts (IsUntouched l l' w w' e e')
-    (λ r. IsTold errors q.kernel q.files a.rule.offset known e
-    (λ c narrow listed noted. AnnotatesBy remaining contents errors a.log.now listed
-    (answered_by c a.rule narrow) l l' w w' noted e' r))
-    result
+module _ {L W E : Type 0} (remaining : L → Option (List ℕ)) (contents : W → Option (List ℕ))
+    (errors : E → Option (List ℕ)) (q : Sources) (a : Annotate) where
+  -- What the engine returns. After the notes on the listings, the log is annotated by the answers
+  -- of their catalog.
+  abbrev pub AnnotatesLog : Option Given → Failures → Counted L → Counted L → Output W → Output W
+      → Output E → Output E → Result ℕ Fault → Type 0
+  AnnotatesLog known counts l l' w w' e e' result =
+      AnnotatesAfter known counts (IsUntouched l l' w w' e e')
+      (λ r. IsTold errors q.kernel q.files a.rule.offset known e
+      (λ c narrow listed noted. AnnotatesBy remaining contents errors a.log.now listed
+      (answered_by c a.rule narrow) l l' w w' noted e' r))
+      result

@@ -327,32 +327,33 @@ module _ {W : Type 0} (contents : W → Option (List ℕ)) (q : Sources) (a : An
 
 module _ {W E : Type 0} (contents : W → Option (List ℕ)) (errors : E → Option (List ℕ))
     (q : Sources) (a : Annotate) where
-  -- After the listings were read with this result, its note was written, and the part was put,
-  -- named by it; or there is no memory.
-  abbrev pub NamesAfter : Part → Followed → Annotator → Annotator → Event → Output W → Output W
-      → Output E → Output E → Result (Followed × LogNames) Stop → Type 0
-  NamesAfter p s b b' event w w' e e' result =
-      IsStarved w w' e e' result
-      ⊎ ((n : Naming) × (note : List ℕ) × IsNamingAfter q a s.is_narrow event n note
-      × Says errors e e' (told_once s.is_told note)
-      × PutsAs contents
-      (λ x text. GoesOn s (Some event) n x.0 × PutsPart p b b' n x.1 text) w w' result)
+  module _ (p : Part) (s : Followed) (b b' : Annotator) where
+    -- After the listings were read with this result, its note was written, and the part was put,
+    -- named by it; or there is no memory.
+    abbrev pub NamesAfter : Event → Output W → Output W → Output E → Output E
+        → Result (Followed × LogNames) Stop → Type 0
+    NamesAfter event w w' e e' result =
+        IsStarved w w' e e' result
+        ⊎ ((n : Naming) × (note : List ℕ) × IsNamingAfter q a s.is_narrow event n note
+        × Says errors e e' (told_once s.is_told note)
+        × PutsAs contents
+        (λ x text. GoesOn s (Some event) n x.0 × PutsPart p b b' n x.1 text) w w' result)
 
-  -- This was read of the listings, its note was written, and the part was put, named by it.
-  abbrev pub NamesPart : Part → Followed → Annotator → Annotator → Option Event → Output W
-      → Output W → Output E → Output E → Result (Followed × LogNames) Stop → Type 0
-  NamesPart p s b b' reading w w' e e' result =
-      (n : Naming) × (note : List ℕ) × IsAskedFor p s.is_narrow b reading
-      × IsNamingOf q a s.is_narrow reading n note × Says errors e e' (told_once s.is_told note)
-      × PutsAs contents
-      (λ x text. GoesOn s reading n x.0 × PutsPart p b b' n x.1 text) w w' result
+    -- This was read of the listings, its note was written, and the part was put, named by it.
+    abbrev pub NamesPart : Option Event → Output W → Output W → Output E → Output E
+        → Result (Followed × LogNames) Stop → Type 0
+    NamesPart reading w w' e e' result =
+        (n : Naming) × (note : List ℕ) × IsAskedFor p s.is_narrow b reading
+        × IsNamingOf q a s.is_narrow reading n note × Says errors e e' (told_once s.is_told note)
+        × PutsAs contents
+        (λ x text. GoesOn s reading n x.0 × PutsPart p b b' n x.1 text) w w' result
 
-  -- So it was, or there is no memory.
-  abbrev pub TakesPart : Part → Followed → Annotator → Annotator → Seen → Seen → Output W → Output W
-      → Output E → Output E → Result (Followed × LogNames) Stop → Type 0
-  TakesPart p s b b' before after w w' e e' result =
-      (reading : Option Event) × ReadsOnce before after reading
-      × (IsStarved w w' e e' result ⊎ NamesPart p s b b' reading w w' e e' result)
+    -- So it was, or there is no memory.
+    abbrev pub TakesPart : Seen → Seen → Output W → Output W → Output E → Output E
+        → Result (Followed × LogNames) Stop → Type 0
+    TakesPart before after w w' e e' result =
+        (reading : Option Event) × ReadsOnce before after reading
+        × (IsStarved w w' e e' result ⊎ NamesPart reading w w' e e' result)
 
   -- ---- a log that lasts
 

@@ -21,7 +21,6 @@ use Rattle.command_listings.specs.LogNotes.{IsLogNoted, note_of_timed_log}
 use Rattle.command_listings.specs.NoteTexts.{IsNoted, note_lines}
 use Rattle.command_listings.specs.TimedLogs.{IsTimed, first_listing}
 use Rattle.command_listings.specs.declared.annotations.Annotate.{Annotate}
-use Rattle.command_listings.specs.declared.annotations.Stop.{Stop}
 use Rattle.command_listings.specs.declared.annotations.Stop.TheVariants as stop
 use Rattle.command_listings.specs.declared.log_notes.ListedKernel.{ListedKernel}
 use Rattle.command_listings.specs.declared.sources.Sources.{Sources}

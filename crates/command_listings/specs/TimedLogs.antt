@@ -1,11 +1,11 @@
 -- A log whose lines are each named by the listing that a history has at its time.
 use Rattle.std.specs.Prelude.{◌≡◌, ◌≤◌, ◌⊎◌, ℕ, ◌+◌, ◌-◌, ◌^◌, Bool, true, false, List, [], ◌++◌}
-use Rattle.std.specs.Prelude.{length, take, Option, Some, None, Result, Ok, Err}
+use Rattle.std.specs.Prelude.{length, take, Option, Result, Ok, Err}
 use Rattle.std.specs.Option.{option_map_or}
 use Rattle.std.specs.Io.KnownBytes.{Appends, Consumes, IsAtEnd, Keeps}
 use Rattle.texts.specs.Counted.{NoneFailed, Rose, device_of, failures_of}
 use Rattle.texts.specs.Lines.{lines_of}
-use Rattle.texts.specs.Output.{WrotePart, contents_of, error_in, has_failed}
+use Rattle.texts.specs.Output.{contents_of, error_in, has_failed}
 use Rattle.texts.specs.declared.counted.Counted.{Counted}
 use Rattle.texts.specs.declared.output.Output.{Output}
 use Rattle.modules.specs.Entries.{CatalogEntries}
@@ -243,15 +243,16 @@ module _ {L : Type 0} (remaining : L → Option (List ℕ)) (l l' : Counted L) (
       × Consumes (remaining (device_of l)) (remaining (device_of l')) bytes)
   ReadsOn (Err _) = ⊥
 
--- A log that was named in part is named on, by this many runs at least, up to a line that
--- another listing names or to its end.
-abbrev pub TakesTurn : {L W : Type 0} → (L → Option (List ℕ)) → (W → Option (List ℕ)) → ℕ
-    → Option BoundNames → LogRule → List HistoryPart → TimedLog → TimedLog → Counted L
-    → Counted L → Output W → Output W → Result Turn LogFault → Type 0
-TakesTurn {L} {W} remaining contents runs kernel rule parts s s' l l' w w' result =
-    (first : Counted L) (begun : Output W) (n : ℕ)
-    → IsTimedTo kernel rule parts remaining contents first begun n s l w
-    → IsTurn kernel rule parts remaining contents first begun (n + runs) s' result l' w'
+module _ {L W : Type 0} (remaining : L → Option (List ℕ)) (contents : W → Option (List ℕ))
+    (runs : ℕ) (kernel : Option BoundNames) (rule : LogRule) (parts : List HistoryPart) where
+  -- A log that was named in part is named on, by this many runs at least, up to a line that
+  -- another listing names or to its end.
+  abbrev pub TakesTurn : TimedLog → TimedLog → Counted L → Counted L → Output W → Output W
+      → Result Turn LogFault → Type 0
+  TakesTurn s s' l l' w w' result =
+      (first : Counted L) (begun : Output W) (n : ℕ)
+      → IsTimedTo kernel rule parts remaining contents first begun n s l w
+      → IsTurn kernel rule parts remaining contents first begun (n + runs) s' result l' w'
 
 -- The line that is open at the end of a log is put by these answers, whose listing may name it.
 abbrev pub EndsBy : List HistoryPart → ℕ → Answering → TimedLines → LogNames → LogTimes → List ℕ
@@ -272,11 +273,12 @@ PutsLast contents parts count answer s w w' (Err fault) =
     Puts {X = LogNames × LogTimes} contents (λ x. EndsBy parts count answer s x.0 x.1) w w'
     (Err fault)
 
--- A log that was named in part is named to its end, or as far as it goes.
-abbrev pub NamesOn : {L W : Type 0} → (L → Option (List ℕ)) → (W → Option (List ℕ))
-    → Option BoundNames → LogRule → List HistoryPart → TimedLog → TimedLog → Counted L
-    → Counted L → Output W → Output W → Result (LogNames × LogTimes) LogFault → Type 0
-NamesOn {L} {W} remaining contents kernel rule parts s s' l l' w w' result =
-    (first : Counted L) (begun : Output W) (n : ℕ)
-    → IsTimedTo kernel rule parts remaining contents first begun n s l w
-    → IsNamedOn kernel rule parts remaining contents first begun s' result l' w'
+module _ {L W : Type 0} (remaining : L → Option (List ℕ)) (contents : W → Option (List ℕ))
+    (kernel : Option BoundNames) (rule : LogRule) (parts : List HistoryPart) where
+  -- A log that was named in part is named to its end, or as far as it goes.
+  abbrev pub NamesOn : TimedLog → TimedLog → Counted L → Counted L → Output W → Output W
+      → Result (LogNames × LogTimes) LogFault → Type 0
+  NamesOn s s' l l' w w' result =
+      (first : Counted L) (begun : Output W) (n : ℕ)
+      → IsTimedTo kernel rule parts remaining contents first begun n s l w
+      → IsNamedOn kernel rule parts remaining contents first begun s' result l' w'

@@ -6,9 +6,8 @@
 ghost use Rattle.std.specs.Prelude.{◌≡◌, [], ℕ, List, Ok, Some};
 ghost use Rattle.logs.specs.declared.annotation.Findings.{Findings};
 ghost use Rattle.command_listings.specs.LogNotes.{note_of_log};
-ghost use Rattle.command_listings.specs.Annotations.{AnnotatesBy, AnnotatesLog, IsEndTold};
+ghost use Rattle.command_listings.specs.Annotations.{AnnotatesLog, IsEndTold};
 ghost use Rattle.command_listings.specs.Annotations.{listed_kernel, stop_of, stopped};
-ghost use Rattle.command_listings.specs.LogAnswers.{answered_by};
 ghost use Rattle.command_parts.specs.OpenedCatalogs.{known_given, listing_failures, texts_in};
 
 use crate::log_answers::CatalogAnswers;
@@ -16,7 +15,7 @@ use crate::log_notes::{ListedKernel, note_log};
 use crate::notes::note_listings;
 use crate::sources::Sources;
 use command_parts::{
-    FAILED, Fault, ListingReaders, ListingTexts, SUCCEEDED, open_catalog, read_given,
+    FAILED, Fault, ListingReaders, ListingTexts, Outputs, SUCCEEDED, open_catalog, read_given,
 };
 use listing::{LogRule, is_narrow, kernel_base};
 use logs::{Findings, LogFault, annotate};
@@ -47,6 +46,13 @@ pub struct Annotate<'a> {
     pub reading: LogReading,
     /// The file of the log; `-` is the standard input.
     pub log: &'a str,
+}
+
+/// What is asked for of a log: the listings that name its addresses, and how it is annotated.
+#[derive(Clone, Copy, Debug, Drop)]
+pub struct LogRequest<'j, 'a> {
+    pub sources: &'j Sources<'a>,
+    pub job: &'j Annotate<'a>,
 }
 
 /// Why a log is annotated no further.
@@ -87,82 +93,59 @@ pub const LOG_PLACE: u64 = 3;
 /// The sources say between which symbols the kernel itself lies, and the job how the addresses are
 /// taken; the listing of symbols says whether the log is of a 32-bit kernel.
 ///
-/// The notes on the listings are written to `errors` before the log is begun. Every fault that
-/// comes before that leaves the log, the writer and `errors` as they were. Each line of the log is
-/// written, and the writer flushed, after the block that its end is in was read; so whatever ends
-/// it, what was written is a beginning of the annotated log. The status is 1 if nobody reads any
-/// more what is written, as before `head`. After a log that was annotated to its end it is noted if
-/// it is packed or of wide characters, if the names that it has itself are not in the
-/// listing, or if none of its addresses has a name. docs/FORMATS.md has the listings, and says what
-/// is inserted.
+/// The notes on the listings are written before the log is begun. Every fault that comes before
+/// that leaves the log and both outputs as they were. Each line of the log is written, and the
+/// writer flushed, after the block that its end is in was read; so whatever ends it, what was
+/// written is a beginning of the annotated log. The status is 1 if nobody reads any more what is
+/// written, as before `head`. After a log that was annotated to its end it is noted if it is packed
+/// or of wide characters, if the names that it has itself are not in the listing, or if none of its
+/// addresses has a name. docs/FORMATS.md has the listings, and says what is inserted.
 pub fn annotate_engine<M: Read, K: Read, R: Read, L: Read, E: Write, W: Write>(
     alloc: Global,
     listings: &mut ListingReaders<M, K, R>,
     log: &mut Counted<L>,
-    sources: &Sources<'_>,
-    job: &Annotate<'_>,
-    errors: &mut Output<E>,
-    writer: &mut Output<W>,
+    request: LogRequest<'_, '_>,
+    outputs: &mut Outputs<W, E>,
 ) -> Result<u8, Fault>
-    ensures { AnnotatesLog L.remaining W.contents E.contents sources.now job.now
+    ensures { AnnotatesLog L.remaining W.contents E.contents request.sources.now
+        request.job.now
         (known_given M.remaining K.remaining R.remaining listings.old)
         (listing_failures listings.old listings.new)
-        log.old log.new writer.old writer.new errors.old errors.new result }
+        log.old log.new outputs.old.writer outputs.new.writer
+        outputs.old.errors outputs.new.errors result }
 {
     let texts = read_given(alloc, listings)?;
-    annotate_over(alloc, &texts, sources, job, errors, log, writer)
+    annotate_over(alloc, &texts, request, log, outputs)
 }
 
-/// Writes the notes on the listings with these texts, and then the log again by their catalog.
+/// Writes the notes on the listings with these texts, and then the log again by their catalog; and
+/// notes if the log is packed, or if the listing is another one.
 pub(crate) fn annotate_over<L: Read, E: Write, W: Write>(
     alloc: Global,
     texts: &ListingTexts,
-    sources: &Sources<'_>,
-    job: &Annotate<'_>,
-    errors: &mut Output<E>,
+    request: LogRequest<'_, '_>,
     log: &mut Counted<L>,
-    writer: &mut Output<W>,
+    outputs: &mut Outputs<W, E>,
 ) -> Result<u8, Fault>
-    ensures { AnnotatesLog L.remaining W.contents E.contents sources.now job.now
-        (Some (texts_in texts.now)) [] log.old log.new writer.old writer.new
-        errors.old errors.new result }
+    ensures { AnnotatesLog L.remaining W.contents E.contents request.sources.now
+        request.job.now
+        (Some (texts_in texts.now)) [] log.old log.new
+        outputs.old.writer outputs.new.writer outputs.old.errors outputs.new.errors result }
 {
-    let opened = open_catalog(alloc, texts, sources.kernel.as_ref(), ExpectedLookups::Any)?;
+    let opened = open_catalog(
+        alloc,
+        texts,
+        request.sources.kernel.as_ref(),
+        ExpectedLookups::Any,
+    )?;
     let notes = opened.notes;
     let index = IndexedCatalog::new(alloc, opened.catalog)?;
-    note_listings(&notes, sources, errors);
+    note_listings(&notes, request.sources, &mut outputs.errors);
     let is_narrow = is_narrow(&texts.kallsyms);
-    let mut answers = CatalogAnswers::new(alloc, &index, job.rule, is_narrow);
-    annotate_by(
-        alloc,
-        &mut answers,
-        &texts.kallsyms,
-        job,
-        errors,
-        log,
-        writer,
-    )
-}
-
-/// Writes the log again by these answers, and notes if it is packed, or if the listing is another
-/// one.
-fn annotate_by<L: Read, E: Write, W: Write>(
-    alloc: Global,
-    answers: &mut CatalogAnswers<'_, '_>,
-    kallsyms: &[u8],
-    job: &Annotate<'_>,
-    errors: &mut Output<E>,
-    log: &mut Counted<L>,
-    writer: &mut Output<W>,
-) -> Result<u8, Fault>
-    ensures { AnnotatesBy L.remaining W.contents E.contents job.now.log.now
-        (listed_kernel kallsyms.now job.now.rule.offset)
-        (answered_by answers.old.index answers.old.rule answers.old.is_narrow)
-        log.old log.new writer.old writer.new errors.old errors.new result }
-{
-    let end = stopped(annotate(alloc, answers, log, writer));
-    let kernel = kernel_if_said(&end, kallsyms, job.rule.offset);
-    tell_end(end, job.log, kernel, errors)
+    let mut answers = CatalogAnswers::new(alloc, &index, request.job.rule, is_narrow);
+    let end = stopped(annotate(alloc, &mut answers, log, &mut outputs.writer));
+    let kernel = kernel_if_said(&end, &texts.kallsyms, request.job.rule.offset);
+    tell_end(end, request.job.log, kernel, &mut outputs.errors)
 }
 
 /// The place of the kernel by a listing of symbols with this text, for addresses that are looked up

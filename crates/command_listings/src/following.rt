@@ -29,13 +29,13 @@ ghost use Rattle.command_listings.specs.LastingLogs.{Event, Listings};
 ghost use Rattle.command_listings.specs.NoNames.{TellsUnread};
 ghost use Rattle.command_listings.specs.declared.annotations.Stop.TheVariants.{Failed};
 
-use crate::annotations::{Annotate, LOG_PLACE, Stop, listed_kernel, stopped, tell_end};
+use crate::annotations::{LOG_PLACE, LogRequest, Stop, listed_kernel, stopped, tell_end};
 use crate::lasting_log::LastingLog;
 use crate::log_answers::CatalogAnswers;
 use crate::no_names::{NoNames, put_unread};
 use crate::notes::note_listings;
 use crate::sources::{ListingFiles, Sources};
-use command_parts::{Fault, ListingTexts, open_catalog};
+use command_parts::{Fault, ListingTexts, Outputs, open_catalog};
 use listing::{is_narrow, shows_symbol};
 use logs::{Annotator, Answers, Findings, LogFault, LogNames, keep_head, says_nothing};
 use modules::{ExpectedLookups, IndexedCatalog};
@@ -67,34 +67,33 @@ pub enum Part<'b> {
 ///
 /// The listings are read before the log is begun, and again after each block in which a line with
 /// an address ends: these name the lines that end in it. The notes on the first reading are written
-/// to `errors` before the log is begun. If a later one fails, or shows no symbol, the lines that it
+/// before the log is begun. If a later one fails, or shows no symbol, the lines that it
 /// is for are written without names, which is noted the first time. All else is as in
 /// `annotate_engine`.
 pub fn follow_engine<L: LastingLog, E: Write, W: Write>(
     alloc: Global,
     log: &mut L,
-    sources: &Sources<'_>,
-    job: &Annotate<'_>,
-    errors: &mut Output<E>,
-    writer: &mut Output<W>,
+    request: LogRequest<'_, '_>,
+    outputs: &mut Outputs<W, E>,
 ) -> Result<u8, Fault>
-    ensures { FollowsLog W.contents E.contents sources.now job.now (L.seen log.old)
-        (L.seen log.new) writer.old writer.new errors.old errors.new result }
+    ensures { FollowsLog W.contents E.contents request.sources.now request.job.now
+        (L.seen log.old) (L.seen log.new) outputs.old.writer outputs.new.writer
+        outputs.old.errors outputs.new.errors result }
 {
     let mut room = Vec::new(alloc);
     room.resize(BLOCK, 0)?;
     let texts = log.read_listings(alloc)?;
-    tell_notes(alloc, &texts, sources, errors)?;
+    tell_notes(alloc, &texts, request.sources, &mut outputs.errors)?;
     let is_narrow = is_narrow(&texts.kallsyms);
-    let kernel = listed_kernel(&texts.kallsyms, job.rule.offset);
+    let kernel = listed_kernel(&texts.kallsyms, request.job.rule.offset);
     let followed = Followed {
         is_narrow,
         is_told: false,
     };
     drop(texts);
     let room = room.as_mut_slice();
-    let end = follow_blocks(alloc, log, followed, room, sources, job, errors, writer);
-    tell_end(end, job.log, kernel, errors)
+    let end = follow_blocks(alloc, log, followed, room, request, outputs);
+    tell_end(end, request.job.log, kernel, &mut outputs.errors)
 }
 
 /// Writes the notes on the listings with these texts.
@@ -117,16 +116,15 @@ fn follow_blocks<L: LastingLog, E: Write, W: Write>(
     log: &mut L,
     first: Followed,
     room: &mut [u8],
-    sources: &Sources<'_>,
-    job: &Annotate<'_>,
-    errors: &mut Output<E>,
-    writer: &mut Output<W>,
+    request: LogRequest<'_, '_>,
+    outputs: &mut Outputs<W, E>,
 ) -> Result<Findings, Stop>
     requires room { 0 < length room.old }
     requires told { first.is_told ≡ false }
     requires known { (L.seen log.old).next ≡ (L.seen log.old).later }
-    ensures { FollowsTurns W.contents E.contents sources.now job.now first.is_narrow
-        (L.seen log.old) (L.seen log.new) writer.old writer.new errors.old errors.new result }
+    ensures { FollowsTurns W.contents E.contents request.sources.now request.job.now
+        first.is_narrow (L.seen log.old) (L.seen log.new) outputs.old.writer outputs.new.writer
+        outputs.old.errors outputs.new.errors result }
 {
     let mut followed = first;
     let mut annotator = Annotator::new(alloc);
@@ -137,13 +135,11 @@ fn follow_blocks<L: LastingLog, E: Write, W: Write>(
             let (_, names) = put_part(
                 alloc,
                 log,
-                sources,
-                job,
+                request,
                 followed,
                 &mut annotator,
                 Part::Last,
-                errors,
-                writer,
+                outputs,
             )?;
             return Ok(Findings { names, head });
         }
@@ -152,13 +148,11 @@ fn follow_blocks<L: LastingLog, E: Write, W: Write>(
         let (now, _) = put_part(
             alloc,
             log,
-            sources,
-            job,
+            request,
             followed,
             &mut annotator,
             Part::Lines(block),
-            errors,
-            writer,
+            outputs,
         )?;
         followed = now;
     }
@@ -170,25 +164,27 @@ fn follow_blocks<L: LastingLog, E: Write, W: Write>(
 fn put_part<L: LastingLog, E: Write, W: Write>(
     alloc: Global,
     log: &mut L,
-    sources: &Sources<'_>,
-    job: &Annotate<'_>,
+    request: LogRequest<'_, '_>,
     followed: Followed,
     annotator: &mut Annotator,
     part: Part<'_>,
-    errors: &mut Output<E>,
-    writer: &mut Output<W>,
+    outputs: &mut Outputs<W, E>,
 ) -> Result<(Followed, LogNames), Stop>
-    ensures { TakesPart W.contents E.contents sources.now job.now part.entry followed
-        annotator.old annotator.new (L.seen log.old) (L.seen log.new)
-        writer.old writer.new errors.old errors.new result }
+    ensures { TakesPart W.contents E.contents request.sources.now request.job.now
+        part.entry followed annotator.old annotator.new (L.seen log.old) (L.seen log.new)
+        outputs.old.writer outputs.new.writer outputs.old.errors outputs.new.errors result }
 {
     let asks = asks_for_names(alloc, annotator, followed.is_narrow, part)?;
     if asks {
-        return put_after_reading(
-            alloc, log, sources, job, followed, annotator, part, errors, writer,
-        );
+        return put_after_reading(alloc, log, request, followed, annotator, part, outputs);
     }
-    let names = put_unnamed(alloc, followed.is_narrow, annotator, part, writer)?;
+    let names = put_unnamed(
+        alloc,
+        followed.is_narrow,
+        annotator,
+        part,
+        &mut outputs.writer,
+    )?;
     Ok((followed, names))
 }
 
@@ -197,24 +193,36 @@ fn put_part<L: LastingLog, E: Write, W: Write>(
 fn put_after_reading<L: LastingLog, E: Write, W: Write>(
     alloc: Global,
     log: &mut L,
-    sources: &Sources<'_>,
-    job: &Annotate<'_>,
+    request: LogRequest<'_, '_>,
     followed: Followed,
     annotator: &mut Annotator,
     part: Part<'_>,
-    errors: &mut Output<E>,
-    writer: &mut Output<W>,
+    outputs: &mut Outputs<W, E>,
 ) -> Result<(Followed, LogNames), Stop>
     ensures { (event : Event) × ReadsOnce (L.seen log.old) (L.seen log.new) (Some event)
-        × NamesAfter W.contents E.contents sources.now job.now part.entry followed annotator.old
-        annotator.new event writer.old writer.new errors.old errors.new result }
+        × NamesAfter W.contents E.contents request.sources.now request.job.now part.entry followed
+        annotator.old annotator.new event outputs.old.writer outputs.new.writer
+        outputs.old.errors outputs.new.errors result }
 {
-    let outcome = put_again(alloc, log, sources, job, followed, annotator, part, writer)?;
+    let outcome = put_again(
+        alloc,
+        log,
+        request,
+        followed,
+        annotator,
+        part,
+        &mut outputs.writer,
+    )?;
     match outcome {
         Ok(put) => Ok(put),
         Err(why) => {
-            tell_once(errors, &sources.files, &why, followed.is_told);
-            put_nameless(alloc, followed, annotator, part, writer)
+            tell_once(
+                &mut outputs.errors,
+                &request.sources.files,
+                &why,
+                followed.is_told,
+            );
+            put_nameless(alloc, followed, annotator, part, &mut outputs.writer)
         }
     }
 }
@@ -257,21 +265,18 @@ fn tell_once<E: Write>(
 fn put_again<L: LastingLog, W: Write>(
     alloc: Global,
     log: &mut L,
-    sources: &Sources<'_>,
-    job: &Annotate<'_>,
+    request: LogRequest<'_, '_>,
     followed: Followed,
     annotator: &mut Annotator,
     part: Part<'_>,
     writer: &mut Output<W>,
 ) -> Result<Result<(Followed, LogNames), NoNames>, Stop>
     ensures { (event : Event) × ReadsOnce (L.seen log.old) (L.seen log.new) (Some event)
-        × PutsIfNamed W.contents sources.now job.now part.entry followed annotator.old
+        × PutsIfNamed W.contents request.sources.now request.job.now part.entry followed annotator.old
         annotator.new event writer.old writer.new result }
 {
     match read_again(alloc, log)? {
-        Ok(texts) => put_named(
-            alloc, &texts, sources, job, followed, annotator, part, writer,
-        ),
+        Ok(texts) => put_named(alloc, &texts, request, followed, annotator, part, writer),
         Err(why) => Ok(Err(why)),
     }
 }
@@ -318,23 +323,22 @@ fn read_again<L: LastingLog>(
 fn put_named<W: Write>(
     alloc: Global,
     texts: &ListingTexts,
-    sources: &Sources<'_>,
-    job: &Annotate<'_>,
+    request: LogRequest<'_, '_>,
     followed: Followed,
     annotator: &mut Annotator,
     part: Part<'_>,
     writer: &mut Output<W>,
 ) -> Result<Result<(Followed, LogNames), NoNames>, Stop>
     requires { shows_symbol (lines_of (texts_in texts.now).kallsyms) ≡ true }
-    ensures { PutsIfNamed W.contents sources.now job.now part.entry followed annotator.old
+    ensures { PutsIfNamed W.contents request.sources.now request.job.now part.entry followed annotator.old
         annotator.new (Listings (texts_in texts.now)) writer.old writer.new result }
 {
-    let index = match index_of(alloc, sources, texts) {
+    let index = match index_of(alloc, request.sources, texts) {
         Ok(index) => index,
         Err(fault) => return Ok(Err(no_catalog(fault)?)),
     };
     let is_narrow = is_narrow(&texts.kallsyms);
-    let mut answers = CatalogAnswers::new(alloc, &index, job.rule, is_narrow);
+    let mut answers = CatalogAnswers::new(alloc, &index, request.job.rule, is_narrow);
     let names = stopped(put_by(alloc, &mut answers, annotator, part, writer))?;
     let is_told = followed.is_told;
     Ok(Ok((Followed { is_narrow, is_told }, names)))

@@ -5,20 +5,20 @@
 //!     history    read_at, history_in    its first listing    notes
 //!     log                               block by block       each line by the listing at its time
 //! ```
-ghost use Rattle.std.specs.Prelude.{◌≡◌};
 ghost use Rattle.command_listings.specs.HistoryAnnotations.{AnnotatesBy, AnnotatesByHistory};
 ghost use Rattle.command_listings.specs.HistoryAnnotations.{IsEndOf, IsTimedEndTold};
 
-use crate::annotations::{Annotate, Stop, annotate_over, listed_kernel, stop_of};
+use crate::annotations::{LogRequest, Stop, annotate_over, listed_kernel, stop_of};
 use crate::line_runs::LogTimes;
 use crate::log_answers::CatalogAnswers;
 use crate::log_notes::{ListedKernel, note_timed_log};
 use crate::notes::note_listings;
-use crate::sources::Sources;
 use crate::timed_logs::{
     HistoryCatalogs, TimedEnd, TimedLog, listing_catalog, name_by, name_to_end,
 };
-use command_parts::{FAILED, Fault, KALLSYMS_PLACE, SUCCEEDED, history_in, read_at, texts_at};
+use command_parts::{
+    FAILED, Fault, KALLSYMS_PLACE, Outputs, SUCCEEDED, history_in, read_at, texts_at,
+};
 use histories::History;
 use listing::is_narrow;
 use logs::{Findings, LogFault, LogNames};
@@ -38,22 +38,21 @@ pub fn history_annotate_engine<H: Read, L: Read, E: Write, W: Write>(
     history: &mut Counted<H>,
     time: Option<u64>,
     log: &mut Counted<L>,
-    sources: &Sources<'_>,
-    job: &Annotate<'_>,
-    errors: &mut Output<E>,
-    writer: &mut Output<W>,
+    request: LogRequest<'_, '_>,
+    outputs: &mut Outputs<W, E>,
 ) -> Result<u8, Fault>
-    ensures { AnnotatesByHistory L.remaining W.contents E.contents sources.now job.now
-        log.old log.new writer.old writer.new errors.old errors.new
+    ensures { AnnotatesByHistory L.remaining W.contents E.contents request.sources.now
+        request.job.now log.old log.new outputs.old.writer outputs.new.writer
+        outputs.old.errors outputs.new.errors
         time H.remaining history.old history.new result }
 {
     let file = read_at(alloc, history, KALLSYMS_PLACE)?;
     let history = history_in(alloc, &file)?;
     match time {
-        None => annotate_timed(alloc, &history, log, sources, job, errors, writer),
+        None => annotate_timed(alloc, &history, log, request, outputs),
         Some(_) => {
             let texts = texts_at(alloc, &history, time)?;
-            annotate_over(alloc, &texts, sources, job, errors, log, writer)
+            annotate_over(alloc, &texts, request, log, outputs)
         }
     }
 }
@@ -64,26 +63,25 @@ pub(crate) fn annotate_timed<L: Read, E: Write, W: Write>(
     alloc: Global,
     history: &History<'_>,
     log: &mut Counted<L>,
-    sources: &Sources<'_>,
-    job: &Annotate<'_>,
-    errors: &mut Output<E>,
-    writer: &mut Output<W>,
+    request: LogRequest<'_, '_>,
+    outputs: &mut Outputs<W, E>,
 ) -> Result<u8, Fault>
-    ensures { AnnotatesBy L.remaining W.contents E.contents sources.now job.now
-        log.old log.new writer.old writer.new errors.old errors.new history.now result }
+    ensures { AnnotatesBy L.remaining W.contents E.contents request.sources.now
+        request.job.now log.old log.new outputs.old.writer outputs.new.writer
+        outputs.old.errors outputs.new.errors history.now result }
 {
     let first = history.first_listing(alloc)?;
     let catalogs = HistoryCatalogs {
         history,
-        kernel: sources.kernel.as_ref(),
-        rule: job.rule,
+        kernel: request.sources.kernel.as_ref(),
+        rule: request.job.rule,
         is_narrow: is_narrow(first.text()),
     };
-    let kernel = listed_kernel(first.text(), job.rule.offset);
+    let kernel = listed_kernel(first.text(), request.job.rule.offset);
     let mut timed = TimedLog::new(alloc)?;
     let (index, notes) = listing_catalog(alloc, first.text(), catalogs.kernel)?;
-    note_listings(&notes, sources, errors);
-    let mut answers = CatalogAnswers::new(alloc, &index, job.rule, catalogs.is_narrow);
+    note_listings(&notes, request.sources, &mut outputs.errors);
+    let mut answers = CatalogAnswers::new(alloc, &index, request.job.rule, catalogs.is_narrow);
     let asked = name_by(
         alloc,
         history,
@@ -91,13 +89,21 @@ pub(crate) fn annotate_timed<L: Read, E: Write, W: Write>(
         &mut answers,
         &mut timed,
         log,
-        writer,
+        &mut outputs.writer,
     );
     drop(answers);
     drop(index);
-    let named = name_to_end(alloc, &catalogs, first, asked, &mut timed, log, writer);
+    let named = name_to_end(
+        alloc,
+        &catalogs,
+        first,
+        asked,
+        &mut timed,
+        log,
+        &mut outputs.writer,
+    );
     let end = timed_end(named, timed.head);
-    tell_timed_end(end, job.log, kernel, errors)
+    tell_timed_end(end, request.job.log, kernel, &mut outputs.errors)
 }
 
 /// What was found of a log with these first bytes, if it was named to its end.

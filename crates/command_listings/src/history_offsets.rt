@@ -5,20 +5,18 @@
 //!     another one     it is of another boot               the kernel itself, by the first listing
 //! ```
 ghost use Rattle.std.specs.Prelude.{◌≡◌};
-ghost use Rattle.texts.specs.Counted.{device_of};
 ghost use Rattle.command_listings.specs.HistoryOffsets.{WritesByHistoryOffset, WritesTimed, job_by};
 ghost use Rattle.command_listings.specs.OwnOffsets.{own_offset};
 ghost use Rattle.command_listings.specs.TimedLogs.{first_listing};
 
-use crate::annotations::{Annotate, LOG_PLACE};
+use crate::annotations::{Annotate, LOG_PLACE, LogRequest};
 use crate::history_annotations::annotate_timed;
 use crate::own_offsets::{by_offset, own_offset, write_by_own_offset};
-use crate::sources::Sources;
-use command_parts::{Fault, KALLSYMS_PLACE, ListingTexts, history_in, read_at, texts_at};
+use command_parts::{Fault, KALLSYMS_PLACE, ListingTexts, Outputs, history_in, read_at, texts_at};
 use histories::History;
 use std::alloc::Global;
 use std::io::{Read, Write};
-use texts::{Counted, Output};
+use texts::Counted;
 
 /// Writes a log again as [`history_annotate_engine`](crate::history_annotate_engine) does, by the
 /// offset that the log itself says in place of the job's. The history and then the log are read
@@ -32,23 +30,21 @@ pub fn history_own_offset_engine<H: Read, L: Read, E: Write, W: Write>(
     history: &mut Counted<H>,
     time: Option<u64>,
     log: &mut Counted<L>,
-    sources: &Sources<'_>,
-    job: &Annotate<'_>,
-    errors: &mut Output<E>,
-    writer: &mut Output<W>,
+    request: LogRequest<'_, '_>,
+    outputs: &mut Outputs<W, E>,
 ) -> Result<u8, Fault>
-    ensures { WritesByHistoryOffset W.contents E.contents sources.now job.now
-        writer.old writer.new errors.old errors.new
+    ensures { WritesByHistoryOffset W.contents E.contents request.sources.now
+        request.job.now outputs.old.writer outputs.new.writer outputs.old.errors outputs.new.errors
         H.remaining L.remaining time history.old history.new log.old log.new result }
 {
     let file = read_at(alloc, history, KALLSYMS_PLACE)?;
     let history = history_in(alloc, &file)?;
     let log = read_at(alloc, log, LOG_PLACE)?;
     match time {
-        None => write_timed(alloc, &history, &log, sources, job, errors, writer),
+        None => write_timed(alloc, &history, &log, request, outputs),
         Some(_) => {
             let texts = texts_at(alloc, &history, time)?;
-            write_by_own_offset(alloc, texts, &log, sources, job, errors, writer)
+            write_by_own_offset(alloc, texts, &log, request, outputs)
         }
     }
 }
@@ -58,27 +54,30 @@ fn write_timed<E: Write, W: Write>(
     alloc: Global,
     history: &History<'_>,
     log: &[u8],
-    sources: &Sources<'_>,
-    job: &Annotate<'_>,
-    errors: &mut Output<E>,
-    writer: &mut Output<W>,
+    request: LogRequest<'_, '_>,
+    outputs: &mut Outputs<W, E>,
 ) -> Result<u8, Fault>
-    ensures { WritesTimed W.contents E.contents sources.now job.now
-        writer.old writer.new errors.old errors.new history.now log.now
+    ensures { WritesTimed W.contents E.contents request.sources.now
+        request.job.now outputs.old.writer outputs.new.writer outputs.old.errors outputs.new.errors
+        history.now log.now
         (own_offset log.now (first_listing history.now)) result }
 {
     let first = history.first_listing(alloc)?;
     if let Ok(0) = own_offset(log, first.text()) {
-        let job = job_by(0, job);
+        let job = job_by(0, request.job);
+        let request = LogRequest {
+            sources: request.sources,
+            job: &job,
+        };
         let mut log = Counted::new(log);
-        return annotate_timed(alloc, history, &mut log, sources, &job, errors, writer);
+        return annotate_timed(alloc, history, &mut log, request, outputs);
     }
     let texts = ListingTexts {
         modules: None,
         kallsyms: first.into_text(alloc)?,
         regions: None,
     };
-    write_by_own_offset(alloc, texts, log, sources, job, errors, writer)
+    write_by_own_offset(alloc, texts, log, request, outputs)
 }
 
 /// The job with this offset.

@@ -31,7 +31,7 @@ mod timed_logs;
 
 pub use address_texts::AddressForm;
 pub use addresses::{address_engine, address_engine_at};
-pub use annotations::{Annotate, LOG_PLACE, LogReading, annotate_engine};
+pub use annotations::{Annotate, LOG_PLACE, LogReading, LogRequest, annotate_engine};
 pub use checks::{check_engine, check_engine_at};
 pub use following::{Followed, Part, follow_engine};
 pub use history_annotations::history_annotate_engine;

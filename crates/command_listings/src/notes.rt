@@ -1,5 +1,4 @@
 //! What is noted of listings, said if something is.
-ghost use Rattle.std.specs.Prelude.{◌≡◌};
 ghost use Rattle.listing.specs.ListingNotes.{is_some_noted};
 ghost use Rattle.command_listings.specs.NoteTexts.{IsNoted, note_lines};
 

@@ -20,12 +20,11 @@ ghost use Rattle.command_listings.specs.OwnOffsets.{WritesByOwnOffset, all_failu
 ghost use Rattle.command_listings.specs.OwnOffsets.{by_offset, failure_line, no_offset_line};
 ghost use Rattle.command_listings.specs.OwnOffsets.{own_offset};
 
-use crate::annotations::{Annotate, LOG_PLACE, kernel_if_said, stopped, tell_end};
+use crate::annotations::{LOG_PLACE, LogRequest, kernel_if_said, stopped, tell_end};
 use crate::log_answers::CatalogAnswers;
 use crate::notes::note_listings;
-use crate::sources::Sources;
 use command_parts::{
-    FAILED, Fault, ListingReaders, ListingTexts, open_catalog, read_at, read_given,
+    FAILED, Fault, ListingReaders, ListingTexts, Outputs, open_catalog, read_at, read_given,
 };
 use listing::{LogRule, is_narrow, kernel_base, without_modules};
 use logs::{annotate_text, kernel_offset_in};
@@ -37,27 +36,25 @@ use texts::{Counted, Output};
 /// Writes a log again as [`annotate_engine`](crate::annotate_engine) does, by the offset that the
 /// log itself says in place of the job's. The log is read whole first, and written in one piece.
 ///
-/// If the log does not give the place of its kernel, or the listing not its own, `errors`
-/// gets the reason, nothing is written, and the status is 1. docs/FORMATS.md says which texts of a
-/// log count.
+/// If the log does not give the place of its kernel, or the listing not its own, the output for
+/// errors gets the reason, nothing else is written, and the status is 1. docs/FORMATS.md says which
+/// texts of a log count.
 pub fn own_offset_engine<M: Read, K: Read, R: Read, L: Read, E: Write, W: Write>(
     alloc: Global,
     listings: &mut ListingReaders<M, K, R>,
     log: &mut Counted<L>,
-    sources: &Sources<'_>,
-    job: &Annotate<'_>,
-    errors: &mut Output<E>,
-    writer: &mut Output<W>,
+    request: LogRequest<'_, '_>,
+    outputs: &mut Outputs<W, E>,
 ) -> Result<u8, Fault>
-    ensures { WritesByOwnOffset W.contents E.contents sources.now job.now
-        writer.old writer.new errors.old errors.new
+    ensures { WritesByOwnOffset W.contents E.contents request.sources.now
+        request.job.now outputs.old.writer outputs.new.writer outputs.old.errors outputs.new.errors
         (known_given M.remaining K.remaining R.remaining listings.old)
         (L.remaining (device_of log.old))
         (all_failures (listing_failures listings.old listings.new) log.old log.new) result }
 {
     let texts = read_given(alloc, listings)?;
     let log = read_at(alloc, log, LOG_PLACE)?;
-    write_by_own_offset(alloc, texts, &log, sources, job, errors, writer)
+    write_by_own_offset(alloc, texts, &log, request, outputs)
 }
 
 /// Writes a log with this text again by the offset that it says.
@@ -65,22 +62,21 @@ pub(crate) fn write_by_own_offset<E: Write, W: Write>(
     alloc: Global,
     texts: ListingTexts,
     log: &[u8],
-    sources: &Sources<'_>,
-    job: &Annotate<'_>,
-    errors: &mut Output<E>,
-    writer: &mut Output<W>,
+    request: LogRequest<'_, '_>,
+    outputs: &mut Outputs<W, E>,
 ) -> Result<u8, Fault>
-    ensures { WritesByOffset W.contents E.contents sources.now job.now
-        writer.old writer.new errors.old errors.new (texts_in texts) log.now
+    ensures { WritesByOffset W.contents E.contents request.sources.now
+        request.job.now outputs.old.writer outputs.new.writer outputs.old.errors outputs.new.errors
+        (texts_in texts) log.now
         (own_offset log.now (texts_in texts).kallsyms) result }
 {
     let offset = match own_offset(log, &texts.kallsyms) {
         Ok(offset) => offset,
-        Err(why) => return Ok(tell_no_offset(why, sources, job, errors)),
+        Err(why) => return Ok(tell_no_offset(why, request, &mut outputs.errors)),
     };
     let asked = asked_by(alloc, offset, texts)?;
-    let rule = by_offset(offset, job.rule);
-    open_and_write(alloc, &asked, log, sources, job, rule, errors, writer)
+    let rule = by_offset(offset, request.job.rule);
+    open_and_write(alloc, &asked, log, request, rule, outputs)
 }
 
 const PROGRAM: &[u8] = b"latchsym: ";
@@ -101,17 +97,16 @@ pub enum NoOffset {
 /// Writes why there is no offset, and returns the program's status.
 fn tell_no_offset<E: Write>(
     why: NoOffset,
-    sources: &Sources<'_>,
-    job: &Annotate<'_>,
+    request: LogRequest<'_, '_>,
     errors: &mut Output<E>,
 ) -> u8
     ensures status { result ≡ 1 }
     ensures line { Says E.contents errors.old errors.new
-        (no_offset_line sources.now job.now why) }
+        (no_offset_line request.sources.now request.job.now why) }
 {
     match why {
-        NoOffset::Unsaid => put_failure(errors, job.log, NO_OFFSET_SAID),
-        NoOffset::NoBase => put_failure(errors, sources.files.kallsyms, NO_BASE_LISTED),
+        NoOffset::Unsaid => put_failure(errors, request.job.log, NO_OFFSET_SAID),
+        NoOffset::NoBase => put_failure(errors, request.sources.files.kallsyms, NO_BASE_LISTED),
     }
     FAILED
 }
@@ -162,21 +157,25 @@ fn open_and_write<E: Write, W: Write>(
     alloc: Global,
     texts: &ListingTexts,
     log: &[u8],
-    sources: &Sources<'_>,
-    job: &Annotate<'_>,
+    request: LogRequest<'_, '_>,
     rule: LogRule,
-    errors: &mut Output<E>,
-    writer: &mut Output<W>,
+    outputs: &mut Outputs<W, E>,
 ) -> Result<u8, Fault>
-    ensures { OpensAndWrites W.contents E.contents sources.now job.now
-        writer.old writer.new errors.old errors.new rule (texts_in texts.now) log.now result }
+    ensures { OpensAndWrites W.contents E.contents request.sources.now
+        request.job.now outputs.old.writer outputs.new.writer outputs.old.errors outputs.new.errors
+        rule (texts_in texts.now) log.now result }
 {
-    let opened = open_catalog(alloc, texts, sources.kernel.as_ref(), ExpectedLookups::Any)?;
+    let opened = open_catalog(
+        alloc,
+        texts,
+        request.sources.kernel.as_ref(),
+        ExpectedLookups::Any,
+    )?;
     let index = IndexedCatalog::new(alloc, opened.catalog)?;
-    note_listings(&opened.notes, sources, errors);
+    note_listings(&opened.notes, request.sources, &mut outputs.errors);
     let mut answers = CatalogAnswers::new(alloc, &index, rule, is_narrow(&texts.kallsyms));
     answers.index.mark_names(alloc);
-    let end = stopped(annotate_text(alloc, &mut answers, log, writer));
+    let end = stopped(annotate_text(alloc, &mut answers, log, &mut outputs.writer));
     let kernel = kernel_if_said(&end, &texts.kallsyms, rule.offset);
-    tell_end(end, job.log, kernel, errors)
+    tell_end(end, request.job.log, kernel, &mut outputs.errors)
 }

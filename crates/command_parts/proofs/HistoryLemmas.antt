@@ -1,15 +1,13 @@
 -- What is returned where a history is read.
 use Rattle.command_parts.proofs.Words.{◌≡◌, ℕ, List, Option, Some, None, Result, Ok, Err, IfSome, inl, refl, subst, sym, IsErrAnd}
 use Rattle.std.specs.Global.{Vec}
-use Rattle.texts.specs.Counted.{NoneFailed, Rose, device_of, failures_of}
+use Rattle.texts.specs.Counted.{NoneFailed, device_of, failures_of}
 use Rattle.texts.specs.declared.counted.Counted.{Counted}
 use Rattle.texts.specs.declared.output.Output.{Output}
 use Rattle.logs.specs.Lines.{lines}
 use Rattle.histories.specs.Grammar.{HistoryPart, history_of}
-use Rattle.histories.specs.ListingsAt.{listing_at}
 use Rattle.order_laws.specs.declared.refusals.Refusal.TheVariants as refusal
-use Rattle.command_parts.specs.HistoryFiles.{AnswersHistory, GivesHistory, IsHistoryRead, IsNoHistory, IsSaidBy, ReadsListingAt, symbols_alone}
-use Rattle.command_parts.specs.OpenedCatalogs.{texts_in}
+use Rattle.command_parts.specs.HistoryFiles.{AnswersHistory, GivesHistory, IsNoHistory, IsSaidBy, ReadsListingAt}
 use Rattle.command_parts.specs.Readings.{IsReadAs}
 use Rattle.command_parts.specs.declared.fault.Fault.{Fault}
 use Rattle.command_parts.specs.declared.fault.Fault.TheVariants.{Refused, BadLine, Read}

@@ -13,6 +13,7 @@ mod history_files;
 mod json;
 mod json_texts;
 mod opened_catalogs;
+mod outputs;
 mod readings;
 mod reasons;
 
@@ -28,5 +29,6 @@ pub use json_texts::{
     put_offset_members, put_symbol_members,
 };
 pub use opened_catalogs::{ListingReaders, ListingTexts, open_catalog, open_symbols, read_given};
+pub use outputs::Outputs;
 pub use readings::{KALLSYMS_PLACE, MODULES_PLACE, REGIONS_PLACE, read_at};
 pub use reasons::{LONGEST_WORDS, words_of};

@@ -1,5 +1,5 @@
 //! From the bytes of the listings to the lines that a lookup of addresses writes.
-ghost use Rattle.std.specs.Prelude.{◌≡◌, [], Err, Ok, All, Some, true, IfOk, unwrap_or};
+ghost use Rattle.std.specs.Prelude.{◌≡◌, [], Err, Ok, All, Some, true, unwrap_or};
 ghost use Rattle.std.specs.Option.{option_copied};
 ghost use Rattle.histories.specs.ListingsAt.{listing_at};
 ghost use Rattle.listing.specs.Opening.{listed_in};

@@ -1,8 +1,6 @@
 //! The lines that a run of a script writes, byte for byte, with no memory taken.
-ghost use Rattle.std.specs.Prelude.{◌++◌, ◌+◌, ◌≡◌, codes, decimal, flat_map, min};
-ghost use Rattle.texts.specs.Exact.{hexadecimal};
+ghost use Rattle.std.specs.Prelude.{◌+◌, ◌≡◌, flat_map, min};
 ghost use Rattle.texts.specs.Output.{Delivers, Says};
-ghost use Rattle.command_tables.specs.LookupTexts.{count_text};
 ghost use Rattle.command_tables.specs.RunTexts.{answered_text, answers_text, change_text};
 ghost use Rattle.command_tables.specs.RunTexts.{count_of_answers, refusals_text, run_text};
 ghost use Rattle.command_tables.specs.RunTexts.{totals_text, writer_text};

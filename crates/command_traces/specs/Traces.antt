@@ -116,30 +116,32 @@ AnswersSaidBy IsRun IsBegun IsRefused contents said w w' (Err Write) =
     × ((text : List ℕ) × IsBegun c text × WrotePart contents w w' text)
 AnswersSaidBy IsRun IsBegun IsRefused contents said w w' (Err _) = ⊥
 
--- What an engine returns that also read the trace, if the bytes of the reader are known: `IsText`
--- and `IsBegun` take them and those that are written. A bad line leaves the writer as it was.
-abbrev pub AnswersReadBy : {R W : Type 0} → (List ℕ → List ℕ → Type 0) → (List ℕ → List ℕ → Type 0)
-    → (Output W → Output W → Type 0) → (R → Option (List ℕ)) → (W → Option (List ℕ))
-    → Counted R → Counted R → Output W → Output W → Result (Unit {0}) Fault → Type 0
-AnswersReadBy IsText IsBegun IsRefused remaining contents r r' w w' (Ok _) =
-    NoneFailed r r' × (has_failed w' ≡ false)
-    × IfSome (remaining (device_of r)) (λ read. (text : List ℕ) × IsText read text
-    × Delivered contents w w' text)
-AnswersReadBy IsText IsBegun IsRefused remaining contents r r' w w' (Err (Refused OutOfMemory)) =
-    NoneFailed r r' × IsRefused w w'
-AnswersReadBy IsText IsBegun IsRefused remaining contents r r' w w' (Err (Refused BadCapacity)) =
-    NoneFailed r r' × (w' ≡ w) × IfSome (remaining (device_of r)) (IsTraceWith HeaderMayNotOpen)
-AnswersReadBy IsText IsBegun IsRefused remaining contents r r' w w' (Err (Refused _)) = ⊥
-AnswersReadBy IsText IsBegun IsRefused remaining contents r r' w w' (Err (BadLine place n)) =
-    NoneFailed r r' × (w' ≡ w) × (place ≡ 0)
-    × IfSome (remaining (device_of r)) (λ read. trace_of read ≡ Err n)
-AnswersReadBy IsText IsBegun IsRefused remaining contents r r' w w' (Err (Read place)) =
-    (w' ≡ w) × (place ≡ 0) × Rose (failures_of r) (failures_of r')
-AnswersReadBy IsText IsBegun IsRefused remaining contents r r' w w' (Err Write) =
-    NoneFailed r r' × (has_failed w' ≡ true)
-    × IfSome (remaining (device_of r)) (λ read. (text : List ℕ) × IsBegun read text
-    × WrotePart contents w w' text)
-AnswersReadBy IsText IsBegun IsRefused remaining contents r r' w w' (Err _) = ⊥
+module _ {R W : Type 0} (IsText IsBegun : List ℕ → List ℕ → Type 0)
+    (IsRefused : Output W → Output W → Type 0) (remaining : R → Option (List ℕ))
+    (contents : W → Option (List ℕ)) where
+  -- What an engine returns that also read the trace, if the bytes of the reader are known: `IsText`
+  -- and `IsBegun` take them and those that are written. A bad line leaves the writer as it was.
+  abbrev pub AnswersReadBy : Counted R → Counted R → Output W → Output W → Result (Unit {0}) Fault
+      → Type 0
+  AnswersReadBy r r' w w' (Ok _) =
+      NoneFailed r r' × (has_failed w' ≡ false)
+      × IfSome (remaining (device_of r)) (λ read. (text : List ℕ) × IsText read text
+      × Delivered contents w w' text)
+  AnswersReadBy r r' w w' (Err (Refused OutOfMemory)) =
+      NoneFailed r r' × IsRefused w w'
+  AnswersReadBy r r' w w' (Err (Refused BadCapacity)) =
+      NoneFailed r r' × (w' ≡ w) × IfSome (remaining (device_of r)) (IsTraceWith HeaderMayNotOpen)
+  AnswersReadBy r r' w w' (Err (Refused _)) = ⊥
+  AnswersReadBy r r' w w' (Err (BadLine place n)) =
+      NoneFailed r r' × (w' ≡ w) × (place ≡ 0)
+      × IfSome (remaining (device_of r)) (λ read. trace_of read ≡ Err n)
+  AnswersReadBy r r' w w' (Err (Read place)) =
+      (w' ≡ w) × (place ≡ 0) × Rose (failures_of r) (failures_of r')
+  AnswersReadBy r r' w w' (Err Write) =
+      NoneFailed r r' × (has_failed w' ≡ true)
+      × IfSome (remaining (device_of r)) (λ read. (text : List ℕ) × IsBegun read text
+      × WrotePart contents w w' text)
+  AnswersReadBy r r' w w' (Err _) = ⊥
 
 -- every fault but a failed write leaves the writer as it was
 abbrev pub Stays : {W : Type 0} → Output W → Output W → Type 0

@@ -9,7 +9,6 @@ ghost use Rattle.latch_table.specs.Readers.{new_reader};
 ghost use Rattle.latch_table.specs.Replacing.{RefusesReplacing};
 ghost use Rattle.latch_table.specs.Seats.{first_knowledge};
 ghost use Rattle.latch_table.specs.Writers.{MayOpenWith, RefusesOpening, new_writer};
-ghost use Rattle.modules.specs.Catalogs.{IsSoundCatalog};
 ghost use Rattle.follower.specs.Catalogs.{DropsOldest, Forgets, standing_at};
 ghost use Rattle.follower.specs.declared.catalogs.Moment.TheVariants.{Generation as At};
 ghost use Rattle.follower.specs.Following.{BeginsToShow, IsBegun, IsFollowed, IsShownAt};

@@ -8,7 +8,7 @@
 //!
 //! No TIME is below the one before. A line that is not well formed passes as a line of a listing,
 //! and is counted as skipped when the listing is read.
-ghost use Rattle.std.specs.Prelude.{◌≡◌, length};
+ghost use Rattle.std.specs.Prelude.{◌≡◌};
 ghost use Rattle.std.specs.Option.{option_copied};
 ghost use Rattle.histories.specs.Grammar.{begins_gap, gone_of, header_at, header_of};
 ghost use Rattle.histories.specs.Grammar.{is_first_word, is_reserved};

@@ -8,7 +8,7 @@
 //!     change 7.360695                       part 1: a change
 //!     gone ext4                             | its text
 //! ```
-ghost use Rattle.std.specs.Prelude.{◌≡◌, ◌≤◌, ◌<◌, ◌^◌, ◌+◌, length, IfOk};
+ghost use Rattle.std.specs.Prelude.{◌≡◌, ◌≤◌, ◌<◌, ◌^◌, ◌+◌, length};
 ghost use Rattle.texts.specs.Said.{GivesInGrammar};
 ghost use Rattle.logs.specs.Lines.{lines};
 ghost use Rattle.histories.specs.ListingsAt.{changes_in};

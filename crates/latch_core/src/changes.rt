@@ -1,11 +1,9 @@
 //! Several changes of one update, planned one after another.
 
-ghost use Rattle.std.specs.Prelude.{◌≡◌, ◌+◌, ◌*◌, ◌<◌, ◌≤◌, ◌++◌, [], false, List, length, take};
+ghost use Rattle.std.specs.Prelude.{◌≡◌, ◌+◌, ◌*◌, ◌<◌, ◌≤◌, ◌++◌, false, List, length, take};
 ghost use Rattle.std.specs.Prelude.{vec_len, vec_capacity};
-ghost use Rattle.order_laws.specs.Orders.{Order};
 ghost use Rattle.word_layout.specs.declared.stores.Store.{Store};
 ghost use Rattle.word_layout.specs.Words.{listed};
-ghost use Rattle.rb_words.specs.Pictures.{IsPicture};
 ghost use Rattle.table_updates.specs.Updates.{some_missing, some_twice, some_invalid, some_overlap};
 ghost use Rattle.table_updates.specs.Updates.{some_meet};
 ghost use Rattle.latch_core.specs.FreeNodes.{AreAllNodes};

@@ -1,7 +1,7 @@
 //! The items of a table replaced by others: which are to be erased, and which to be inserted.
 
-ghost use Rattle.std.specs.Prelude.{◌≡◌, ◌<◌, ◌≤◌, [], ◌∷◌, ◌++◌, true, false, List, length, IfOk};
-ghost use Rattle.std.specs.Prelude.{OnOk, get_or};
+ghost use Rattle.std.specs.Prelude.{◌≡◌, ◌<◌, [], ◌∷◌, true, false, List, IfOk};
+ghost use Rattle.std.specs.Prelude.{OnOk};
 ghost use Rattle.order_laws.specs.declared.items.Item.{Item};
 ghost use Rattle.latch_core.specs.Replacements.{replacement, is_rising, update_found, Tells};
 ghost use Rattle.latch_core.specs.Replacements.{StopsAt};

@@ -47,42 +47,6 @@ AreReported {K} {T} o n reports w (d ∷ run) a b =
     (mid : T) × reports a d.event (outcome_of o n w d) mid
     × AreReported o n reports d.after run mid b
 
--- from a moment that it shows a world did this run, over red-black trees, and reported its events
-pub record IsReportedRun {O K T : Type 0} (o : Order K)
-    (reports : T → Event K → Outcome K → T → Type 0) (old new : World O K) (a b : T)
-    (w : Moment K) (run : List (Done K)) : Type 0 where
-  pub layout : layout_in new ≡ layout_in old
-  pub steps : Run (machine_in o old) w run
-  pub shows : RepresentsMoment o new (last_of w run)
-  pub shallow : AreShallow (capacity_of (layout_in old)) run
-  pub reported : AreReported o (capacity_of (layout_in old)) reports w run a b
-
--- one event, from each moment that the world shows
-abbrev pub ReportsEvent : {O K T : Type 0} → Order K → (T → Event K → Outcome K → T → Type 0)
-    → Event K → World O K → World O K → T → T → Reply K → Type 0
-ReportsEvent {O} {K} o reports e old new a b reply =
-    (w : Moment K) → RepresentsMoment o old w
-    → (next : Moment K) × IsReportedRun o reports old new a b w (step_done e reply next ∷ [])
-
--- a command's event, at most so often as this count says
-abbrev pub Obeys : {O K T : Type 0} → Order K → (T → Event K → Outcome K → T → Type 0)
-    → Command K → World O K → World O K → T → T → Moment K → ℕ → Type 0
-Obeys {O} {K} o reports c old new a b w most =
-    (run : List (Done K)) × IsReportedRun o reports old new a b w run × Repeats c most run
-
--- From each moment that the world shows: a command's event as often as the command says; an event
--- for any command that asks for it once; and steps of the writer that a command asks for.
-abbrev pub ObeysFromAny : {O K T : Type 0} → Order K → (T → Event K → Outcome K → T → Type 0)
-    → Command K → World O K → World O K → T → T → Type 0
-ObeysFromAny {O} {K} o reports c old new a b =
-    (w : Moment K) → RepresentsMoment o old w → Obeys o reports c old new a b w (most_of w c)
-
-abbrev pub ObeysOnce : {O K T : Type 0} → Order K → (T → Event K → Outcome K → T → Type 0)
-    → Event K → World O K → World O K → T → T → Type 0
-ObeysOnce {O} {K} o reports e old new a b =
-    (c : Command K) → e ≡ event_of c
-    → (w : Moment K) → RepresentsMoment o old w → Obeys o reports c old new a b w 1
-
 -- whether this step of the writer, with the moment after it, is its last one for now
 abbrev pub ends_writing : {K : Type 0} → Bool → Reply K → Moment K → Bool
 ends_writing to_flip reply w = (to_flip && is_flip reply) || is_none w.latch.pending
@@ -93,11 +57,42 @@ IsWriting {K} to_flip c =
     (event_of c ≡ Write)
     × ((reply : Reply K) (w : Moment K) → ends c reply w ≡ ends_writing to_flip reply w)
 
-abbrev pub ObeysWriting : {O K T : Type 0} → Order K → (T → Event K → Outcome K → T → Type 0)
-    → Bool → ℕ → World O K → World O K → T → T → Type 0
-ObeysWriting {O} {K} o reports to_flip most old new a b =
-    (c : Command K) → IsWriting to_flip c
-    → (w : Moment K) → RepresentsMoment o old w → Obeys o reports c old new a b w most
+module _ {O K T : Type 0} (o : Order K) (reports : T → Event K → Outcome K → T → Type 0) where
+  -- from a moment that it shows a world did this run, over red-black trees, and reported its events
+  pub record IsReportedRun (old new : World O K) (a b : T) (w : Moment K) (run : List (Done K))
+      : Type 0 where
+    pub layout : layout_in new ≡ layout_in old
+    pub steps : Run (machine_in o old) w run
+    pub shows : RepresentsMoment o new (last_of w run)
+    pub shallow : AreShallow (capacity_of (layout_in old)) run
+    pub reported : AreReported o (capacity_of (layout_in old)) reports w run a b
+
+  -- one event, from each moment that the world shows
+  abbrev pub ReportsEvent : Event K → World O K → World O K → T → T → Reply K → Type 0
+  ReportsEvent e old new a b reply =
+      (w : Moment K) → RepresentsMoment o old w
+      → (next : Moment K) × IsReportedRun old new a b w (step_done e reply next ∷ [])
+
+  -- a command's event, at most so often as this count says
+  abbrev pub Obeys : Command K → World O K → World O K → T → T → Moment K → ℕ → Type 0
+  Obeys c old new a b w most =
+      (run : List (Done K)) × IsReportedRun old new a b w run × Repeats c most run
+
+  -- From each moment that the world shows: a command's event as often as the command says; an event
+  -- for any command that asks for it once; and steps of the writer that a command asks for.
+  abbrev pub ObeysFromAny : Command K → World O K → World O K → T → T → Type 0
+  ObeysFromAny c old new a b =
+      (w : Moment K) → RepresentsMoment o old w → Obeys c old new a b w (most_of w c)
+
+  abbrev pub ObeysOnce : Event K → World O K → World O K → T → T → Type 0
+  ObeysOnce e old new a b =
+      (c : Command K) → e ≡ event_of c
+      → (w : Moment K) → RepresentsMoment o old w → Obeys c old new a b w 1
+
+  abbrev pub ObeysWriting : Bool → ℕ → World O K → World O K → T → T → Type 0
+  ObeysWriting to_flip most old new a b =
+      (c : Command K) → IsWriting to_flip c
+      → (w : Moment K) → RepresentsMoment o old w → Obeys c old new a b w most
 
 -- of whatever moment a world shows: what an event loads, and whether the writer's steps end
 abbrev pub IsLoadBy : {O K : Type 0} → Order K → World O K → Event K → Option (NextLoad K) → Type 0
@@ -126,11 +121,11 @@ pub record LoadsOn {O K T : Type 0} (m : Machine K)
   pub reported : AreReported m.order m.capacity reports w run a b
   pub holding : ChangesOneLookup m.order m.capacity w (last_of w run) r loads.lookup loads.events
 
--- they came to it from each moment of these words that has this pending lookup, after `events`
--- events
-abbrev pub LoadsFrom : {O K T : Type 0} → Order K → (T → Event K → Outcome K → T → Type 0)
-    → List ℕ → Lookup O K → ℕ → ℕ → ℕ → T → LookupProgress O K → T → Type 0
-LoadsFrom {O} {K} o reports words c r most events a loads b =
-    (n limit : ℕ) (w : Moment K) → w.latch.words ≡ words
-    → IsPendingLookup o n (Some c) (get w.lookups r) → events ≡ w.events
-    → LoadsOn (machine o n limit) reports w r most a loads b
+module _ {O K T : Type 0} (o : Order K) (reports : T → Event K → Outcome K → T → Type 0) where
+  -- they came to it from each moment of these words that has this pending lookup, after `events`
+  -- events
+  abbrev pub LoadsFrom : List ℕ → Lookup O K → ℕ → ℕ → ℕ → T → LookupProgress O K → T → Type 0
+  LoadsFrom words c r most events a loads b =
+      (n limit : ℕ) (w : Moment K) → w.latch.words ≡ words
+      → IsPendingLookup o n (Some c) (get w.lookups r) → events ≡ w.events
+      → LoadsOn (machine o n limit) reports w r most a loads b

@@ -1,8 +1,5 @@
 //! A pending lookup, and what one load makes of it.
-
-ghost use Rattle.std.specs.Prelude.{◌≡◌, ℕ};
 ghost use Rattle.word_layout.specs.Layouts.{capacity_of};
-ghost use Rattle.latch_steps.specs.Runs.{PendingLookup};
 ghost use Rattle.latch_steps.specs.Steps.{new_lookup};
 
 use crate::events::Event;

@@ -1,13 +1,12 @@
 //! The words, their writer and the pending lookups, one step at a time.
 
-ghost use Rattle.std.specs.Prelude.{◌≡◌, ℕ, ◌-◌, ◌^◌, ◌<◌, true, List, [], ◌++◌, length, IfOk};
+ghost use Rattle.std.specs.Prelude.{◌≡◌, ◌-◌, ◌^◌, ◌<◌, true, [], length, IfOk};
 ghost use Rattle.std.specs.Prelude.{IfErr, IfSome, IfNone, OnSome, OnOk, is_some};
-ghost use Rattle.word_layout.specs.Words.{at};
 ghost use Rattle.word_layout.specs.Layouts.{capacity_of};
 ghost use Rattle.latch_core.specs.Writers.{MayOpen, IsOpeningRefused};
 ghost use Rattle.table_updates.specs.declared.updates.Update.{Update};
 ghost use Rattle.latch_steps.specs.declared.events.Event.TheVariants.{Begin, Write, Start, Read};
-ghost use Rattle.latch_steps.specs.Runs.{Moment, accepted, opening};
+ghost use Rattle.latch_steps.specs.Runs.{Moment, opening};
 
 use crate::events::Event;
 use crate::lookups::{LoadOutcome, Lookup, LookupProgress};

@@ -1,6 +1,4 @@
 //! The rule of the shared words, and what a seat learns by each step on them.
-
-ghost use Rattle.std.specs.Prelude.{[]};
 ghost use Rattle.table_updates.specs.declared.updates.Update.TheVariants.{Erase};
 
 use crate::knowledge::{Knowledge, Origin};

@@ -1,6 +1,6 @@
 //! The stores that a writer makes, one after another.
 
-ghost use Rattle.std.specs.Prelude.{◌≡◌, ℕ, List, ◌∷◌, ◌++◌, [], IfOk, IfErr, OnOk};
+ghost use Rattle.std.specs.Prelude.{◌∷◌, [], IfOk, IfErr, OnOk};
 ghost use Rattle.word_layout.specs.Layouts.{capacity_of, limit_of};
 ghost use Rattle.table_updates.specs.declared.updates.Update.{Update};
 ghost use Rattle.latch_weak.specs.Works.{AreStoresOf};

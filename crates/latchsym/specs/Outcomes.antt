@@ -68,47 +68,48 @@ HoldsOfInput P (Some r) (Some r') outcome = P r r'
 HoldsOfInput P None None outcome = outcome ≡ Err (Read 3)
 HoldsOfInput P _ _ outcome = ⊥
 
--- addresses are looked up in the listings, or in the one that a history has at a time, also the
--- addresses of a file, if there is one
-abbrev pub IsLookedUpBy : {R W : Type 0} → (R → Option (List ℕ)) → (W → Option (List ℕ))
-    → Query → SymbolSource → ListingReaders R R R → ListingReaders R R R → Option (Counted R)
-    → Option (Counted R) → Output W → Output W → Result ListingNotes Fault → Type 0
-IsLookedUpBy remaining contents query Listing l l' i i' w w' result =
-    AnswersLookup contents query
-    (known_inputs (addresses_known query (known_text remaining i))
-    (known_given remaining remaining remaining l))
-    (failures_behind (listing_failures l l') (failures_in i) (failures_in i')) w w' result
-IsLookedUpBy remaining contents query (History time) l l' i i' w w' result =
-    AnswersHistory remaining
-    (λ parts. AnswersLookup contents query
-    (inputs_of (addresses_known query (known_text remaining i))
-    (symbols_alone (listing_at time parts)))
-    (last_failures (failures_in i) (failures_in i')) w w')
-    l.kallsyms l'.kallsyms w w' result
+module _ {R W : Type 0} (remaining : R → Option (List ℕ)) (contents : W → Option (List ℕ)) where
+  -- addresses are looked up in the listings, or in the one that a history has at a time, also the
+  -- addresses of a file, if there is one
+  abbrev pub IsLookedUpBy : Query → SymbolSource → ListingReaders R R R → ListingReaders R R R
+      → Option (Counted R) → Option (Counted R) → Output W → Output W
+      → Result ListingNotes Fault → Type 0
+  IsLookedUpBy query Listing l l' i i' w w' result =
+      AnswersLookup contents query
+      (known_inputs (addresses_known query (known_text remaining i))
+      (known_given remaining remaining remaining l))
+      (failures_behind (listing_failures l l') (failures_in i) (failures_in i')) w w' result
+  IsLookedUpBy query (History time) l l' i i' w w' result =
+      AnswersHistory remaining
+      (λ parts. AnswersLookup contents query
+      (inputs_of (addresses_known query (known_text remaining i))
+      (symbols_alone (listing_at time parts)))
+      (last_failures (failures_in i) (failures_in i')) w w')
+      l.kallsyms l'.kallsyms w w' result
 
--- What is returned over the listings of a request, or over the one that its history has at a time.
--- `Is` says which text goes with which value, by the parts of the history if there is one.
-abbrev pub AnswersSources : {V R W : Type 0} → (R → Option (List ℕ)) → (W → Option (List ℕ))
-    → (Option (List HistoryPart) → Given → List ℕ → V → Type 0) → SymbolSource
-    → ListingReaders R R R → ListingReaders R R R → Output W → Output W → Result V Fault → Type 0
-AnswersSources remaining contents Is Listing l l' w w' result =
-    AnswersListings contents (Is None) (known_given remaining remaining remaining l)
-    (listing_failures l l') w w' result
-AnswersSources remaining contents Is (History time) l l' w w' result =
-    AnswersHistory remaining
-    (λ parts. AnswersGiven contents (Is (Some parts)) (symbols_alone (listing_at time parts)) w w')
-    l.kallsyms l'.kallsyms w w' result
+  -- What is returned over the listings of a request, or over the one that its history has at a
+  -- time. `Is` says which text goes with which value, by the parts of the history if there is one.
+  abbrev pub AnswersSources : {V : Type 0}
+      → (Option (List HistoryPart) → Given → List ℕ → V → Type 0) → SymbolSource
+      → ListingReaders R R R → ListingReaders R R R → Output W → Output W → Result V Fault → Type 0
+  AnswersSources Is Listing l l' w w' result =
+      AnswersListings contents (Is None) (known_given remaining remaining remaining l)
+      (listing_failures l l') w w' result
+  AnswersSources Is (History time) l l' w w' result =
+      AnswersHistory remaining
+      (λ parts. AnswersGiven contents (Is (Some parts)) (symbols_alone (listing_at time parts)) w w')
+      l.kallsyms l'.kallsyms w w' result
 
--- a script is run by a number of readers
-abbrev pub IsOutcomeOfRun : {R W : Type 0} → (R → Option (List ℕ)) → (W → Option (List ℕ))
-    → Sources → ℕ → ListingReaders R R R → ListingReaders R R R → Option (Counted R)
-    → Option (Counted R) → Output W → Output W → Result Finished Fault → Type 0
-IsOutcomeOfRun remaining contents s readers l l' i i' w w' outcome =
-    HoldsOfInput (λ r r'. AnswersRun contents (bounds_of s) readers
-    (known_inputs (script_known readers (remaining (device_of r)))
-    (known_given remaining remaining remaining l))
-    (failures_behind (listing_failures l l') (failures_of r) (failures_of r')) w w' outcome)
-    i i' outcome
+  -- a script is run by a number of readers
+  abbrev pub IsOutcomeOfRun : Sources → ℕ → ListingReaders R R R → ListingReaders R R R
+      → Option (Counted R) → Option (Counted R) → Output W → Output W
+      → Result Finished Fault → Type 0
+  IsOutcomeOfRun s readers l l' i i' w w' outcome =
+      HoldsOfInput (λ r r'. AnswersRun contents (bounds_of s) readers
+      (known_inputs (script_known readers (remaining (device_of r)))
+      (known_given remaining remaining remaining l))
+      (failures_behind (listing_failures l l') (failures_of r) (failures_of r')) w w' outcome)
+      i i' outcome
 
 -- What is known of a log before it is followed: what it has, what the listings give that are open,
 -- and what their files hold, which are opened again. In which order all of it is read is not.
@@ -120,53 +121,6 @@ seen_first remaining held s l r = record {
   next = known_given remaining remaining remaining l;
   later = held_given held s.files;
 }
-
--- A log is followed, or annotated by the listings as they are at its beginning, or read as a whole
--- for the offset that it says.
-abbrev pub IsLogBy : {R W E : Type 0} → (R → Option (List ℕ)) → Held → (W → Option (List ℕ))
-    → (E → Option (List ℕ)) → Sources → Annotate → LogReading → ListingReaders R R R
-    → ListingReaders R R R → Output W → Output W → Output E → Output E
-    → Result Finished Fault → Counted R → Counted R → Type 0
-IsLogBy remaining held contents errors s a Followed l l' w w' e e' outcome r r' =
-    (after : Seen)
-    × Ends (FollowsLog contents errors s a (seen_first remaining held s l r) after w w' e e')
-    (with_notes no_notes) outcome
-IsLogBy remaining held contents errors s a Blocks l l' w w' e e' outcome r r' =
-    Ends (AnnotatesLog remaining contents errors s a (known_given remaining remaining remaining l)
-    (listing_failures l l') r r' w w' e e') (with_notes no_notes) outcome
-IsLogBy remaining held contents errors s a Whole l l' w w' e e' outcome r r' =
-    Ends (WritesByOwnOffset contents errors s a w w' e e'
-    (known_given remaining remaining remaining l) (remaining (device_of r))
-    (all_failures (listing_failures l l') r r')) (with_notes no_notes) outcome
-
--- A log is annotated by a history: each line by the listing at its time, or at the one that is
--- given; or it is read as a whole for the offset that it says.
-abbrev pub IsLogAt : {R W E : Type 0} → (R → Option (List ℕ)) → (W → Option (List ℕ))
-    → (E → Option (List ℕ)) → Sources → Annotate → LogReading → Option ℕ → Counted R → Counted R
-    → Output W → Output W → Output E → Output E → Counted R → Counted R → Result ℕ Fault → Type 0
-IsLogAt remaining contents errors s a Whole time h h' w w' e e' r r' result =
-    WritesByHistoryOffset contents errors s a w w' e e' remaining remaining time h h' r r' result
-IsLogAt remaining contents errors s a _ time h h' w w' e e' r r' result =
-    AnnotatesByHistory remaining contents errors s a r r' w w' e e' time remaining h h' result
-
--- A log is annotated by listings, or by a history.
-abbrev pub IsLogOf : {R W E : Type 0} → (R → Option (List ℕ)) → Held → (W → Option (List ℕ))
-    → (E → Option (List ℕ)) → Sources → Annotate → SymbolSource → ListingReaders R R R
-    → ListingReaders R R R → Output W → Output W → Output E → Output E
-    → Result Finished Fault → Counted R → Counted R → Type 0
-IsLogOf remaining held contents errors s a Listing l l' w w' e e' outcome r r' =
-    IsLogBy remaining held contents errors s a a.reading l l' w w' e e' outcome r r'
-IsLogOf remaining held contents errors s a (History time) l l' w w' e e' outcome r r' =
-    Ends (IsLogAt remaining contents errors s a a.reading time l.kallsyms l'.kallsyms w w' e e'
-    r r') (with_notes no_notes) outcome
-
-abbrev pub IsOutcomeOfLog : {R W E : Type 0} → (R → Option (List ℕ)) → Held → (W → Option (List ℕ))
-    → (E → Option (List ℕ)) → Sources → Annotate → SymbolSource → ListingReaders R R R
-    → ListingReaders R R R → Option (Counted R) → Option (Counted R) → Output W → Output W
-    → Output E → Output E → Result Finished Fault → Type 0
-IsOutcomeOfLog remaining held contents errors s a symbols l l' i i' w w' e e' outcome =
-    HoldsOfInput (IsLogOf remaining held contents errors s a symbols l l' w w' e e' outcome)
-    i i' outcome
 
 -- Events are recorded, by the listing that is read after them.
 abbrev pub IsRecordedBy : {R W : Type 0} → (R → Option (List ℕ)) → Held → (W → Option (List ℕ))
@@ -180,42 +134,70 @@ abbrev pub query_of : Sources → Lookup → Query
 query_of s l =
     record { kernel = s.kernel; rule = l.rule; form = l.form; addresses = l.addresses.items }
 
--- What is asked for over listings comes to this. A lookup that succeeds has status 0; of a log or
--- of listings that are checked nothing is left to be noted. Only an annotation says something while
--- it is done.
-abbrev pub IsOutcomeBy : {R W E : Type 0} → (R → Option (List ℕ)) → Held → (W → Option (List ℕ))
-    → (E → Option (List ℕ)) → Sources → Subcommand → ListingReaders R R R → ListingReaders R R R
-    → Option (Counted R) → Option (Counted R) → Output W → Output W → Output E → Output E
-    → Result Finished Fault → Type 0
-IsOutcomeBy remaining held contents errors s (sub.Lookup lookup) l l' i i' w w' e e' outcome =
-    Ends (IsLookedUpBy remaining contents (query_of s lookup) s.symbols l l' i i' w w') with_status
-    outcome × (e' ≡ e)
-IsOutcomeBy remaining held contents errors s (sub.Run run) l l' i i' w w' e e' outcome =
-    IsOutcomeOfRun remaining contents s run.readers l l' i i' w w' outcome × (e' ≡ e)
-IsOutcomeBy remaining held contents errors s (sub.Annotate a) l l' i i' w w' e e' outcome =
-    IsOutcomeOfLog remaining held contents errors s a s.symbols l l' i i' w w' e e' outcome
-IsOutcomeBy remaining held contents errors s sub.Check l l' i i' w w' e e' outcome =
-    Ends (AnswersSources remaining contents (IsChecked s.kernel s.files) s.symbols l l' w w')
-    (with_notes no_notes) outcome × (e' ≡ e)
-IsOutcomeBy remaining held contents errors s (sub.Address a) l l' i i' w w' e e' outcome =
-    AnswersSources remaining contents
-    (λ _. IsAddressed a.form s.kernel (map (λ n. n.now) a.names.items)) s.symbols l l' w w' outcome
-    × (e' ≡ e)
-IsOutcomeBy remaining held contents errors s (sub.Record r) l l' i i' w w' e e' outcome =
-    HoldsOfInput (λ events events'. IsRecordedBy remaining held contents s r events w w' outcome)
-    i i' outcome × (e' ≡ e)
+module _ {R W E : Type 0} (remaining : R → Option (List ℕ)) (held : Held)
+    (contents : W → Option (List ℕ)) (errors : E → Option (List ℕ)) (w w' : Output W)
+    (e e' : Output E) where
+  module _ (s : Sources) (a : Annotate) where
+    -- A log is annotated by the listings as they are at its beginning, or followed, or read as a
+    -- whole for the offset that it says; or by a history, each line by the listing at its time, or
+    -- at the one that is given.
+    abbrev pub IsLogOf : SymbolSource → LogReading → ListingReaders R R R → ListingReaders R R R
+        → Counted R → Counted R → Result ℕ Fault → Type 0
+    IsLogOf Listing Blocks l l' r r' result =
+        AnnotatesLog remaining contents errors s a (known_given remaining remaining remaining l)
+        (listing_failures l l') r r' w w' e e' result
+    IsLogOf Listing Followed l l' r r' result =
+        (after : Seen)
+        × FollowsLog contents errors s a (seen_first remaining held s l r) after w w' e e' result
+    IsLogOf Listing Whole l l' r r' result =
+        WritesByOwnOffset contents errors s a w w' e e' (known_given remaining remaining remaining l)
+        (remaining (device_of r)) (all_failures (listing_failures l l') r r') result
+    IsLogOf (History time) Whole l l' r r' result =
+        WritesByHistoryOffset contents errors s a w w' e e' remaining remaining time l.kallsyms
+        l'.kallsyms r r' result
+    IsLogOf (History time) _ l l' r r' result =
+        AnnotatesByHistory remaining contents errors s a r r' w w' e e' time remaining l.kallsyms
+        l'.kallsyms result
 
--- The status or the fault of a job, over what its readers had. A trace that succeeds has status 0.
-abbrev pub IsOutcome : {R W E : Type 0} → (R → Option (List ℕ)) → Held → (W → Option (List ℕ))
-    → (E → Option (List ℕ)) → OpenedJob R → OpenedJob R → Output W → Output W → Output E
-    → Output E → Result Finished Fault → Type 0
-IsOutcome remaining held contents errors (Trace r) (Trace r') w w' e e' outcome =
-    Ends (AnswersTrace remaining contents r r' w w') (λ x. with_status (without_notes x)) outcome
-    × (e' ≡ e)
-IsOutcome remaining held contents errors (Steps r) (Steps r') w w' e e' outcome =
-    Ends (AnswersSteps remaining contents r r' w w') (λ x. with_status (without_notes x)) outcome
-    × (e' ≡ e)
-IsOutcome remaining held contents errors (Request q l i) (Request _ l' i') w w' e e' outcome =
-    IsOutcomeBy remaining held contents errors q.now.sources q.now.subcommand l l' i i' w w' e e'
-    outcome
-IsOutcome remaining held contents errors _ _ w w' e e' outcome = ⊥
+    abbrev pub IsOutcomeOfLog : ListingReaders R R R → ListingReaders R R R → Option (Counted R)
+        → Option (Counted R) → Result Finished Fault → Type 0
+    IsOutcomeOfLog l l' i i' outcome =
+        HoldsOfInput
+        (λ r r'. Ends (IsLogOf s.symbols a.reading l l' r r') (with_notes no_notes) outcome)
+        i i' outcome
+
+  -- What is asked for over listings comes to this. A lookup that succeeds has status 0; of a log or
+  -- of listings that are checked nothing is left to be noted. Only an annotation says something
+  -- while it is done.
+  abbrev pub IsOutcomeBy : Sources → Subcommand → ListingReaders R R R → ListingReaders R R R
+      → Option (Counted R) → Option (Counted R) → Result Finished Fault → Type 0
+  IsOutcomeBy s (sub.Lookup lookup) l l' i i' outcome =
+      Ends (IsLookedUpBy remaining contents (query_of s lookup) s.symbols l l' i i' w w')
+      with_status outcome × (e' ≡ e)
+  IsOutcomeBy s (sub.Run run) l l' i i' outcome =
+      IsOutcomeOfRun remaining contents s run.readers l l' i i' w w' outcome × (e' ≡ e)
+  IsOutcomeBy s (sub.Annotate a) l l' i i' outcome =
+      IsOutcomeOfLog s a l l' i i' outcome
+  IsOutcomeBy s sub.Check l l' i i' outcome =
+      Ends (AnswersSources remaining contents (IsChecked s.kernel s.files) s.symbols l l' w w')
+      (with_notes no_notes) outcome × (e' ≡ e)
+  IsOutcomeBy s (sub.Address a) l l' i i' outcome =
+      AnswersSources remaining contents
+      (λ _. IsAddressed a.form s.kernel (map (λ n. n.now) a.names.items)) s.symbols l l' w w'
+      outcome × (e' ≡ e)
+  IsOutcomeBy s (sub.Record r) l l' i i' outcome =
+      HoldsOfInput (λ events events'. IsRecordedBy remaining held contents s r events w w' outcome)
+      i i' outcome × (e' ≡ e)
+
+  -- The status or the fault of a job, over what its readers had. A trace that succeeds has status
+  -- 0.
+  abbrev pub IsOutcome : OpenedJob R → OpenedJob R → Result Finished Fault → Type 0
+  IsOutcome (Trace r) (Trace r') outcome =
+      Ends (AnswersTrace remaining contents r r' w w') (λ x. with_status (without_notes x)) outcome
+      × (e' ≡ e)
+  IsOutcome (Steps r) (Steps r') outcome =
+      Ends (AnswersSteps remaining contents r r' w w') (λ x. with_status (without_notes x)) outcome
+      × (e' ≡ e)
+  IsOutcome (Request q l i) (Request _ l' i') outcome =
+      IsOutcomeBy q.now.sources q.now.subcommand l l' i i' outcome
+  IsOutcome _ _ outcome = ⊥

@@ -26,56 +26,46 @@ abbrev pub error_of_outcome : {R : Type 0} → OpenedJob R → Option Error → 
 error_of_outcome job written (Ok finished) = None
 error_of_outcome job written (Err fault) = error_behind job written fault
 
--- The engine of a job came to this outcome over the readers of its files, which was reported, with
--- the status that it means.
-pub record IsDoneOver {R W E : Type 0} (remaining : R → Option (List ℕ)) (held : Held)
-    (contents : W → Option (List ℕ)) (errors : E → Option (List ℕ)) (job : Job)
-    (opened done : OpenedJob R) (w w' : Output W) (e e' : Output E) (status : ℕ) : Type 0 where
-  pub told : Output E
-  pub outcome : Result Finished Fault
-  pub is_done : IsOutcome remaining held contents errors opened done w w' e told outcome
-  pub is_told : IsConcluded errors job (error_of_outcome done (error_in w') outcome) told e' outcome
-      status
+module _ {F W E : Type 0} (remaining : F → Option (List ℕ)) (held : Held)
+    (contents : W → Option (List ℕ)) (errors : E → Option (List ℕ)) (w w' : Output W)
+    (e e' : Output E) where
+  -- The engine of a job came to this outcome over the readers of its files, which was reported,
+  -- with the status that it means.
+  pub record IsDoneOver (job : Job) (opened done : OpenedJob F) (status : ℕ) : Type 0 where
+    pub told : Output E
+    pub outcome : Result Finished Fault
+    pub is_done : IsOutcome remaining held contents errors w w' e told opened done outcome
+    pub is_told : IsConcluded errors job (error_of_outcome done (error_in w') outcome) told e'
+        outcome status
 
--- The job was opened over the readers of its own files, and done over them.
-abbrev pub IsJobDone : {F W E : Type 0} → (F → Option (List ℕ)) → Held → Option (List ℕ)
-    → (W → Option (List ℕ)) → (E → Option (List ℕ)) → Job → Output W → Output W → Output E
-    → Output E → ℕ → Type 0
-IsJobDone {F} {W} {E} remaining held standard contents errors job w w' e e' status =
-    (opened : OpenedJob F) × (done : OpenedJob F)
-    × IsOpenedFor remaining held standard job opened
-    × IsDoneOver remaining held contents errors job opened done w w' e e' status
+module _ {F W E : Type 0} (remaining : F → Option (List ℕ)) (held : Held)
+    (standard : Option (List ℕ)) (contents : W → Option (List ℕ))
+    (errors : E → Option (List ℕ)) (w w' : Output W) (e e' : Output E) where
+  -- The job was opened over the readers of its own files, and done over them.
+  abbrev pub IsJobDone : Job → ℕ → Type 0
+  IsJobDone job status =
+      (opened : OpenedJob F) × (done : OpenedJob F)
+      × IsOpenedFor remaining held standard job opened
+      × IsDoneOver remaining held contents errors w w' e e' job opened done status
 
--- What comes of a job: it is done, or memory ran out before it was begun.
-abbrev pub ComesOf : {F W E : Type 0} → (F → Option (List ℕ)) → Held → Option (List ℕ)
-    → (W → Option (List ℕ)) → (E → Option (List ℕ)) → Job → Output W → Output W → Output E
-    → Output E → ℕ → Type 0
-ComesOf remaining held standard contents errors job w w' e e' status =
-    IsJobDone remaining held standard contents errors job w w' e e' status
-    ⊎ IsNoJob contents errors w w' e e' OutOfMemory status
+  -- What comes of a job: it is done, or memory ran out before it was begun.
+  abbrev pub ComesOf : Job → ℕ → Type 0
+  ComesOf job status =
+      IsJobDone job status ⊎ IsNoJob contents errors w w' e e' OutOfMemory status
 
--- What comes of the answer to words: of their job, or of why they ask for none.
-abbrev pub ComesOfAnswer : {F W E : Type 0} → (F → Option (List ℕ)) → Held → Option (List ℕ)
-    → (W → Option (List ℕ)) → (E → Option (List ℕ)) → Result Job JobFault → Output W → Output W
-    → Output E → Output E → ℕ → Type 0
-ComesOfAnswer remaining held standard contents errors (Ok job) w w' e e' status =
-    ComesOf remaining held standard contents errors job w w' e e' status
-ComesOfAnswer remaining held standard contents errors (Err fault) w w' e e' status =
-    IsNoJob contents errors w w' e e' fault status
+  -- What comes of the answer to words: of their job, or of why they ask for none.
+  abbrev pub ComesOfAnswer : Result Job JobFault → ℕ → Type 0
+  ComesOfAnswer (Ok job) status = ComesOf job status
+  ComesOfAnswer (Err fault) status = IsNoJob contents errors w w' e e' fault status
 
--- The words of a command line were answered, and that came of it.
-abbrev pub AnswersArguments : {F W E : Type 0} → (F → Option (List ℕ)) → Held → Option (List ℕ)
-    → (W → Option (List ℕ)) → (E → Option (List ℕ)) → List Text → Output W → Output W
-    → Output E → Output E → ℕ → Type 0
-AnswersArguments remaining held standard contents errors words w w' e e' status =
-    (answer : Result Job JobFault) × AnswersWords (with_operands words) answer
-    × ComesOfAnswer remaining held standard contents errors answer w w' e e' status
+  -- The words of a command line were answered, and that came of it.
+  abbrev pub AnswersArguments : List Text → ℕ → Type 0
+  AnswersArguments words status =
+      (answer : Result Job JobFault) × AnswersWords (with_operands words) answer
+      × ComesOfAnswer answer status
 
--- The program's words, if it has them, were answered; else the reason was given.
-abbrev pub AnswersCommand : {S F W E : Type 0} → (S → Text) → (F → Option (List ℕ)) → Held
-    → Option (List ℕ) → (W → Option (List ℕ)) → (E → Option (List ℕ))
-    → Result (Bor (List S)) JobFault → Output W → Output W → Output E → Output E → ℕ → Type 0
-AnswersCommand text remaining held standard contents errors (Ok words) w w' e e' status =
-    AnswersArguments remaining held standard contents errors (map text words.now) w w' e e' status
-AnswersCommand text remaining held standard contents errors (Err fault) w w' e e' status =
-    IsNoJob contents errors w w' e e' fault status
+  -- The program's words, if it has them, were answered; else the reason was given.
+  abbrev pub AnswersCommand : {S : Type 0} → (S → Text) → Result (Bor (List S)) JobFault → ℕ
+      → Type 0
+  AnswersCommand text (Ok words) status = AnswersArguments (map text words.now) status
+  AnswersCommand text (Err fault) status = IsNoJob contents errors w w' e e' fault status

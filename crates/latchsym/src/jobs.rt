@@ -22,11 +22,13 @@ use crate::followed_files::FollowedFiles;
 use crate::recorded_events::do_record;
 use command_line::{Address, Job, Lookup, Request, Run, Subcommand};
 use command_listings::{
-    Annotate, ListingFiles, LogReading, Sources, SymbolSource, address_engine, address_engine_at,
+    ListingFiles, LogReading, LogRequest, Sources, SymbolSource, address_engine, address_engine_at,
     annotate_engine, check_engine, check_engine_at, follow_engine, history_annotate_engine,
     history_own_offset_engine, own_offset_engine,
 };
-use command_parts::{Fault, Finished, ListingReaders, with_notes, with_status, without_notes};
+use command_parts::{
+    Fault, Finished, ListingReaders, Outputs, with_notes, with_status, without_notes,
+};
 use command_tables::{LookupOptions, lookup_engine, lookup_engine_at, run_engine};
 use command_traces::{steps_engine, trace_engine};
 use listing::ListingNotes;
@@ -95,61 +97,49 @@ pub fn open_job<'j, 'a, F: FileSource>(
 
 /// Does the job over its readers: has its engine answer with the job's own options, addresses and
 /// number of readers. Returns the program's status and the notes on the listings, or why it failed.
-/// The notes on the listings of a log are written to `errors` before the log is begun. If it is
+/// The notes on the listings of a log are written before the log is begun. If it is
 /// followed, the files of its listings are opened again.
 pub fn do_job<T: Threads + Wait + Sync, F: FileSource, W: Write, E: Write>(
     threads: &T,
     alloc: Global,
     files: &F,
     job: &mut OpenedJob<'_, '_, F::File>,
-    writer: &mut Output<W>,
-    errors: &mut Output<E>,
+    outputs: &mut Outputs<W, E>,
 ) -> Result<Finished, Fault>
-    ensures { IsOutcome F.File.remaining (F.held files.now) W.contents E.contents job.old job.new
-        writer.old writer.new errors.old errors.new result }
+    ensures { IsOutcome F.File.remaining (F.held files.now) W.contents E.contents
+        outputs.old.writer outputs.new.writer outputs.old.errors outputs.new.errors
+        job.old job.new result }
 {
     match job {
         OpenedJob::Trace(reader) => {
-            with_status(without_notes(trace_engine(alloc, reader, writer)))
+            with_status(without_notes(trace_engine(alloc, reader, &mut outputs.writer)))
         }
         OpenedJob::Steps(reader) => {
-            with_status(without_notes(steps_engine(alloc, reader, writer)))
+            with_status(without_notes(steps_engine(alloc, reader, &mut outputs.writer)))
         }
         OpenedJob::Request(request, listings, input) => {
-            do_request(
-                threads, alloc, files, request, listings, input, writer, errors,
-            )
-        }
-    }
-}
-
-/// Does what is asked for over listings.
-fn do_request<T: Threads + Wait + Sync, F: FileSource, W: Write, E: Write>(
-    threads: &T,
-    alloc: Global,
-    files: &F,
-    request: &Request<'_>,
-    listings: &mut ListingReaders<F::File, F::File, F::File>,
-    input: &mut Option<Counted<F::File>>,
-    writer: &mut Output<W>,
-    errors: &mut Output<E>,
-) -> Result<Finished, Fault>
-    ensures { IsOutcomeBy F.File.remaining (F.held files.now) W.contents E.contents
-        request.now.sources
-        request.now.subcommand listings.old listings.new input.old input.new
-        writer.old writer.new errors.old errors.new result }
-{
-    let sources = &request.sources;
-    match &request.subcommand {
-        Subcommand::Lookup(lookup) => do_lookup(alloc, sources, lookup, listings, input, writer),
-        Subcommand::Run(run) => do_run(threads, alloc, sources, run, listings, input, writer),
-        Subcommand::Annotate(job) => {
-            do_annotate(alloc, files, sources, job, listings, input, writer, errors)
-        }
-        Subcommand::Check => do_check(alloc, sources, listings, writer),
-        Subcommand::Address(address) => do_address(alloc, sources, address, listings, writer),
-        Subcommand::Record(record) => {
-            do_record(alloc, files, sources, record, listings, input, writer)
+            let sources = &request.sources;
+            match &request.subcommand {
+                Subcommand::Lookup(lookup) => {
+                    do_lookup(alloc, sources, lookup, listings, input, &mut outputs.writer)
+                }
+                Subcommand::Run(run) => {
+                    let writer = &mut outputs.writer;
+                    do_run(threads, alloc, sources, run, listings, input, writer)
+                }
+                Subcommand::Annotate(job) => {
+                    let request = LogRequest { sources, job };
+                    do_annotate(alloc, files, request, listings, input, outputs)
+                }
+                Subcommand::Check => do_check(alloc, sources, listings, &mut outputs.writer),
+                Subcommand::Address(address) => {
+                    do_address(alloc, sources, address, listings, &mut outputs.writer)
+                }
+                Subcommand::Record(record) => {
+                    let writer = &mut outputs.writer;
+                    do_record(alloc, files, sources, record, listings, input, writer)
+                }
+            }
         }
     }
 }
@@ -226,108 +216,61 @@ fn do_run<T: Threads + Wait + Sync, R: Read, W: Write>(
     )
 }
 
-/// Annotates a log by listings, or by a history.
+/// Annotates a log by listings or by a history: block by block, followed, or read as a whole for the
+/// offset that it says.
 fn do_annotate<F: FileSource, W: Write, E: Write>(
     alloc: Global,
     files: &F,
-    sources: &Sources<'_>,
-    job: &Annotate<'_>,
+    request: LogRequest<'_, '_>,
     listings: &mut ListingReaders<F::File, F::File, F::File>,
     log: &mut Option<Counted<F::File>>,
-    writer: &mut Output<W>,
-    errors: &mut Output<E>,
+    outputs: &mut Outputs<W, E>,
 ) -> Result<Finished, Fault>
-    ensures { IsOutcomeOfLog F.File.remaining (F.held files.now) W.contents E.contents sources.now
-        job.now sources.now.symbols listings.old listings.new log.old log.new
-        writer.old writer.new errors.old errors.new result }
+    ensures { IsOutcomeOfLog F.File.remaining (F.held files.now) W.contents E.contents
+        outputs.old.writer outputs.new.writer outputs.old.errors outputs.new.errors
+        request.sources.now request.job.now listings.old listings.new log.old log.new result }
 {
     let Some(log) = log else {
         return Err(UNREAD);
     };
-    match sources.symbols {
-        SymbolSource::Listing => {
-            annotate_listed(alloc, files, sources, job, listings, log, writer, errors)
+    let done = match (request.sources.symbols, request.job.reading) {
+        (SymbolSource::Listing, LogReading::Blocks) => {
+            annotate_engine(alloc, listings, log, request, outputs)
         }
-        SymbolSource::History { time } => {
+        (SymbolSource::Listing, LogReading::Followed) => {
+            follow(alloc, files, request, listings, log, outputs)
+        }
+        (SymbolSource::Listing, LogReading::Whole) => {
+            own_offset_engine(alloc, listings, log, request, outputs)
+        }
+        (SymbolSource::History { time }, LogReading::Whole) => {
             let history = &mut listings.kallsyms;
-            let done = annotate_at(alloc, history, time, log, sources, job, errors, writer);
-            with_notes(done, ListingNotes::none())
+            history_own_offset_engine(alloc, history, time, log, request, outputs)
         }
-    }
-}
-
-/// Annotates a log by a history, or reads it whole for the offset that it says.
-fn annotate_at<R: Read, W: Write, E: Write>(
-    alloc: Global,
-    history: &mut Counted<R>,
-    time: Option<u64>,
-    log: &mut Counted<R>,
-    sources: &Sources<'_>,
-    job: &Annotate<'_>,
-    errors: &mut Output<E>,
-    writer: &mut Output<W>,
-) -> Result<u8, Fault>
-    ensures { IsLogAt R.remaining W.contents E.contents sources.now job.now job.now.reading time
-        history.old history.new writer.old writer.new errors.old errors.new log.old log.new result }
-{
-    match job.reading {
-        LogReading::Whole => history_own_offset_engine(
-            alloc, history, time, log, sources, job, errors, writer,
-        ),
-        LogReading::Blocks | LogReading::Followed => history_annotate_engine(
-            alloc, history, time, log, sources, job, errors, writer,
-        ),
-    }
-}
-
-/// Annotates a log by listings, or follows it, or reads it whole for the offset that it says.
-fn annotate_listed<F: FileSource, W: Write, E: Write>(
-    alloc: Global,
-    files: &F,
-    sources: &Sources<'_>,
-    job: &Annotate<'_>,
-    listings: &mut ListingReaders<F::File, F::File, F::File>,
-    log: &mut Counted<F::File>,
-    writer: &mut Output<W>,
-    errors: &mut Output<E>,
-) -> Result<Finished, Fault>
-    ensures { IsLogBy F.File.remaining (F.held files.now) W.contents E.contents sources.now
-        job.now job.now.reading listings.old listings.new writer.old writer.new
-        errors.old errors.new result log.old log.new }
-{
-    match job.reading {
-        LogReading::Blocks => {
-            let done = annotate_engine(alloc, listings, log, sources, job, errors, writer);
-            with_notes(done, ListingNotes::none())
+        (SymbolSource::History { time }, LogReading::Blocks | LogReading::Followed) => {
+            let history = &mut listings.kallsyms;
+            history_annotate_engine(alloc, history, time, log, request, outputs)
         }
-        LogReading::Followed => {
-            do_follow(alloc, files, sources, job, listings, log, writer, errors)
-        }
-        LogReading::Whole => {
-            let done = own_offset_engine(alloc, listings, log, sources, job, errors, writer);
-            with_notes(done, ListingNotes::none())
-        }
-    }
+    };
+    with_notes(done, ListingNotes::none())
 }
 
 /// Annotates a log that lasts. The files of its listings are opened again.
-fn do_follow<F: FileSource, W: Write, E: Write>(
+fn follow<F: FileSource, W: Write, E: Write>(
     alloc: Global,
     files: &F,
-    sources: &Sources<'_>,
-    job: &Annotate<'_>,
+    request: LogRequest<'_, '_>,
     listings: &mut ListingReaders<F::File, F::File, F::File>,
     log: &mut Counted<F::File>,
-    writer: &mut Output<W>,
-    errors: &mut Output<E>,
-) -> Result<Finished, Fault>
-    ensures { (after : Seen) × Ends (FollowsLog W.contents E.contents sources.now job.now
-        (seen_first F.File.remaining (F.held files.now) sources.now listings.old log.old) after
-        writer.old writer.new errors.old errors.new) (with_notes no_notes) result }
+    outputs: &mut Outputs<W, E>,
+) -> Result<u8, Fault>
+    ensures { (after : Seen) × FollowsLog W.contents E.contents request.sources.now
+        request.job.now (seen_first F.File.remaining (F.held files.now) request.sources.now
+        listings.old log.old) after outputs.old.writer outputs.new.writer
+        outputs.old.errors outputs.new.errors result }
 {
-    let mut log = FollowedFiles::new(files, &sources.files, listings, log);
-    let done = follow_engine(alloc, &mut log, sources, job, errors, writer);
-    with_notes(done, ListingNotes::none())
+    let mut log = FollowedFiles::new(files, &request.sources.files, listings, log);
+    follow_engine(alloc, &mut log, request, outputs)
 }
 
 /// Checks listings. The notes are its output, so no further note remains.

@@ -7,7 +7,7 @@ ghost use Rattle.latchsym.specs.Misuses.{offset_message};
 use crate::reports::report_before_job;
 use clap::Error;
 use command_line::JobFault;
-use command_parts::{Fault, SUCCEEDED};
+use command_parts::{Fault, Outputs, SUCCEEDED};
 use memchr::{memchr, memmem};
 use order_laws::Refusal;
 use std::alloc::Global;
@@ -45,15 +45,15 @@ const MISUSED: u8 = 2;
 pub fn refuse<W: Write, E: Write>(
     alloc: Global,
     fault: JobFault<'_>,
-    writer: &mut Output<W>,
-    errors: &mut Output<E>,
+    outputs: &mut Outputs<W, E>,
 ) -> u8
-    ensures { IsNoJob W.contents E.contents writer.old writer.new errors.old errors.new fault.entry
-        result }
+    ensures { IsNoJob W.contents E.contents outputs.old.writer outputs.new.writer
+        outputs.old.errors outputs.new.errors fault.entry result }
 {
+    let errors = &mut outputs.errors;
     match fault {
         JobFault::OutOfMemory => report_before_job(&Fault::Refused(Refusal::OutOfMemory), errors),
-        JobFault::CommandLine(error) => explain(alloc, &error, writer, errors),
+        JobFault::CommandLine(error) => explain(alloc, &error, outputs),
         JobFault::BadAddress(word) => misused(BAD_ADDRESS, word, errors),
         JobFault::NoAddress => misused(NO_ADDRESS, "", errors),
         JobFault::Clash(message) => misused(message.as_bytes(), "", errors),
@@ -80,25 +80,20 @@ fn offset_message(word: &str) -> &'static [u8]
 }
 
 /// Says what the parser of the command line has to say, and returns the program's status: help goes
-/// to the writer, a fault to `errors`.
-fn explain<W: Write, E: Write>(
-    alloc: Global,
-    error: &Error,
-    writer: &mut Output<W>,
-    errors: &mut Output<E>,
-) -> u8
-    ensures { IsExplained W.contents E.contents writer.old writer.new errors.old errors.new
-        error.now result }
+/// to the writer, a fault to the output for errors.
+fn explain<W: Write, E: Write>(alloc: Global, error: &Error, outputs: &mut Outputs<W, E>) -> u8
+    ensures { IsExplained W.contents E.contents outputs.old.writer outputs.new.writer
+        outputs.old.errors outputs.new.errors error.now result }
 {
     let Ok(text) = format!(in alloc; "{error}") else {
-        return report_before_job(&Fault::Refused(Refusal::OutOfMemory), errors);
+        return report_before_job(&Fault::Refused(Refusal::OutOfMemory), &mut outputs.errors);
     };
     if error.use_stderr() {
         let (before, after) = around_tip(text.as_bytes());
-        put_both(before, after, errors);
+        put_both(before, after, &mut outputs.errors);
         return MISUSED;
     }
-    help(&text, writer, errors)
+    help(&text, outputs)
 }
 
 /// How the parser begins the line on passing a word as a value. After an option the line is wrong, and
@@ -129,14 +124,15 @@ fn put_both<E: Write>(first: &[u8], second: &[u8], writer: &mut Output<E>)
 }
 
 /// Writes help that was asked for, and returns the program's status.
-fn help<W: Write, E: Write>(text: &str, writer: &mut Output<W>, errors: &mut Output<E>) -> u8
-    ensures { IsHelped W.contents E.contents writer.old writer.new errors.old errors.new text.now
-        result }
+fn help<W: Write, E: Write>(text: &str, outputs: &mut Outputs<W, E>) -> u8
+    ensures { IsHelped W.contents E.contents outputs.old.writer outputs.new.writer
+        outputs.old.errors outputs.new.errors text.now result }
 {
+    let writer = &mut outputs.writer;
     writer.put(text.as_bytes());
     writer.flush();
     if writer.has_failed() {
-        return report_before_job(&Fault::Write, errors);
+        return report_before_job(&Fault::Write, &mut outputs.errors);
     }
     SUCCEEDED
 }

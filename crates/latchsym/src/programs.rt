@@ -10,16 +10,16 @@
 //! ```
 //!
 //! `main` adds the words, the files and the outputs of the process.
-ghost use Rattle.std.specs.Prelude.{◌≡◌, map};
+ghost use Rattle.std.specs.Prelude.{◌≡◌};
 ghost use Rattle.texts.specs.Output.{error_in};
-ghost use Rattle.latchsym.specs.Programs.{AnswersArguments, AnswersCommand, ComesOf, IsDoneOver};
+ghost use Rattle.latchsym.specs.Programs.{AnswersCommand, ComesOf};
 ghost use Rattle.latchsym.specs.Programs.{error_of_outcome};
 
 use crate::jobs::{FileSource, OpenedJob, do_job, open_job};
 use crate::misuse::refuse;
 use crate::reports::conclude;
 use command_line::{Job, JobFault, job_of, with_operands};
-use command_parts::{Fault, Finished};
+use command_parts::{Fault, Finished, Outputs};
 use std::alloc::Global;
 use std::convert::AsStr;
 use std::io;
@@ -30,7 +30,7 @@ use texts::Output;
 
 /// Does what the words of a command line ask for, after the first, which is the program's name.
 /// Returns the program's status: 0, 1 if something failed, 2 if the words ask for nothing. What was
-/// asked for goes to the writer, notes and errors to `errors`.
+/// asked for goes to the writer, notes and errors to the output for errors.
 ///
 /// Words that are not there, since memory ran out or one is no text, are a fault as well.
 pub fn program<T: Threads + Wait + Sync, S: AsStr, F: FileSource, W: Write, E: Write>(
@@ -38,38 +38,22 @@ pub fn program<T: Threads + Wait + Sync, S: AsStr, F: FileSource, W: Write, E: W
     alloc: Global,
     words: Result<&[S], JobFault<'_>>,
     files: &F,
-    writer: &mut Output<W>,
-    errors: &mut Output<E>,
+    outputs: &mut Outputs<W, E>,
 ) -> u8
-    ensures { AnswersCommand S.text F.File.remaining (F.held files.now) (F.standard files.now)
-        W.contents E.contents words.entry writer.old writer.new errors.old
-        errors.new result }
+    ensures { AnswersCommand F.File.remaining (F.held files.now) (F.standard files.now)
+        W.contents E.contents outputs.old.writer outputs.new.writer outputs.old.errors
+        outputs.new.errors S.text words.entry result }
 {
-    match words {
-        Ok(words) => answer(threads, alloc, words, files, writer, errors),
-        Err(fault) => refuse(alloc, fault, writer, errors),
-    }
-}
-
-/// Does what these words ask for, and returns the program's status.
-fn answer<T: Threads + Wait + Sync, S: AsStr, F: FileSource, W: Write, E: Write>(
-    threads: &T,
-    alloc: Global,
-    words: &[S],
-    files: &F,
-    writer: &mut Output<W>,
-    errors: &mut Output<E>,
-) -> u8
-    ensures { AnswersArguments F.File.remaining (F.held files.now) (F.standard files.now)
-        W.contents E.contents (map S.text words.now) writer.old writer.new
-        errors.old errors.new result }
-{
+    let words = match words {
+        Ok(words) => words,
+        Err(fault) => return refuse(alloc, fault, outputs),
+    };
     let Ok(words) = with_operands(alloc, words) else {
-        return refuse(alloc, JobFault::OutOfMemory, writer, errors);
+        return refuse(alloc, JobFault::OutOfMemory, outputs);
     };
     match job_of(alloc, words.as_slice()) {
-        Ok(job) => do_whole(threads, alloc, &job, files, writer, errors),
-        Err(fault) => refuse(alloc, fault, writer, errors),
+        Ok(job) => do_whole(threads, alloc, &job, files, outputs),
+        Err(fault) => refuse(alloc, fault, outputs),
     }
 }
 
@@ -79,35 +63,18 @@ fn do_whole<T: Threads + Wait + Sync, F: FileSource, W: Write, E: Write>(
     alloc: Global,
     job: &Job<'_>,
     files: &F,
-    writer: &mut Output<W>,
-    errors: &mut Output<E>,
+    outputs: &mut Outputs<W, E>,
 ) -> u8
     ensures { ComesOf F.File.remaining (F.held files.now) (F.standard files.now)
-        W.contents E.contents job.now writer.old writer.new errors.old errors.new result }
+        W.contents E.contents outputs.old.writer outputs.new.writer outputs.old.errors
+        outputs.new.errors job.now result }
 {
     let Ok(mut opened) = open_job(files, job) else {
-        return refuse(alloc, JobFault::OutOfMemory, writer, errors);
+        return refuse(alloc, JobFault::OutOfMemory, outputs);
     };
-    do_opened(threads, alloc, files, job, &mut opened, writer, errors)
-}
-
-/// Does a job over the readers of its files, says how it ended, and returns the program's status.
-fn do_opened<T: Threads + Wait + Sync, F: FileSource, W: Write, E: Write>(
-    threads: &T,
-    alloc: Global,
-    files: &F,
-    job: &Job<'_>,
-    opened: &mut OpenedJob<'_, '_, F::File>,
-    writer: &mut Output<W>,
-    errors: &mut Output<E>,
-) -> u8
-    ensures { IsDoneOver F.File.remaining (F.held files.now) W.contents E.contents job.now
-        opened.old opened.new
-        writer.old writer.new errors.old errors.new result }
-{
-    let outcome = do_job(threads, alloc, files, opened, writer, errors);
-    let error = error_of_outcome(opened, writer, &outcome);
-    conclude(outcome, job, error, errors)
+    let outcome = do_job(threads, alloc, files, &mut opened, outputs);
+    let error = error_of_outcome(&opened, &outputs.writer, &outcome);
+    conclude(outcome, job, error, &mut outputs.errors)
 }
 
 /// The error that made a job fail, if it did.

@@ -1,5 +1,4 @@
 //! Events that are recorded, from their file and the file of the listing.
-ghost use Rattle.std.specs.Prelude.{◌≡◌};
 ghost use Rattle.texts.specs.Output.{Says};
 ghost use Rattle.latchsym.specs.Outcomes.{HoldsOfInput, IsRecordedBy};
 ghost use Rattle.latchsym.specs.RecordedEvents.{ended_line, ended_lines};

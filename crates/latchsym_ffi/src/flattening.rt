@@ -5,7 +5,7 @@ ghost use Rattle.modules.specs.Catalogs.{module_of};
 ghost use Rattle.modules.specs.Entries.{CatalogEntries};
 ghost use Rattle.modules.specs.Items.{items_at, items_below, items_of};
 ghost use Rattle.latchsym_ffi.specs.Flattening.{AreListed, AreRowsBelow};
-ghost use Rattle.latchsym_ffi.specs.Views.{AreRowsOf, IsViewOf, symbols_at, symbols_below};
+ghost use Rattle.latchsym_ffi.specs.Views.{AreRowsOf, IsViewOf, symbols_at};
 ghost use Rattle.latchsym_ffi.specs.Views.{symbols_of};
 
 use crate::view_rows::{CatalogView, ModuleRows, ViewRegion, ViewSymbol};

@@ -2,7 +2,7 @@
 
 ghost use Rattle.std.specs.Prelude.{◌≡◌, ◌≢◌, ◌⊎◌, [], Some};
 ghost use Rattle.follower.specs.declared.catalogs.Moment.TheVariants.{Generation, Stamp};
-ghost use Rattle.follower.specs.Catalogs.{DropsOldest, standing_at};
+ghost use Rattle.follower.specs.Catalogs.{DropsOldest};
 ghost use Rattle.follower.specs.Following.{Followed, Shows};
 ghost use Rattle.modules.specs.Entries.{CatalogEntries};
 ghost use Rattle.latchsym_ffi.specs.Finding.{known_as, known_at, known_call};

@@ -1,6 +1,6 @@
 //! What C calls, of a writer's updates.
 
-ghost use Rattle.std.specs.Prelude.{◌≡◌, ◌≢◌, ◌⊎◌, IfOk, Option, map};
+ghost use Rattle.std.specs.Prelude.{◌≡◌, ◌≢◌, IfOk, Option, map};
 ghost use Rattle.order_laws.specs.Orders.{half_open};
 ghost use Rattle.table_updates.specs.declared.updates.Update.TheVariants.{Batch, Erase, Insert};
 ghost use Rattle.latch_table.specs.declared.writers.Did.{Did};

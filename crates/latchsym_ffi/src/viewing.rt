@@ -1,6 +1,6 @@
 //! What C calls, of views: a catalog in memory of the caller's, for any number of threads at once.
 
-ghost use Rattle.std.specs.Prelude.{◌≡◌, ◌≢◌, ◌↔◌, IsTrue, length};
+ghost use Rattle.std.specs.Prelude.{◌≡◌, ◌≢◌, ◌↔◌, IsTrue};
 ghost use Rattle.modules.specs.Entries.{CatalogEntries};
 ghost use Rattle.latchsym_ffi.specs.Finding.{known_at, known_call};
 ghost use Rattle.latchsym_ffi.specs.Handles.{HoldsCatalog, RefusesOther, Stays};

@@ -1,5 +1,5 @@
 -- Bytes that are gone through from the last one to the first, and the things that begin a line.
-use Rattle.logs.proofs.Definitions.{take_rest, ne_eqb, ◌≡◌, ◌∙◌, ℕ, zero, suc, ◌+◌, ◌<◌, ◌≤◌, Bool, false, cond, not, ◌&&◌, ◌==◌, List, [], ◌∷◌, length, length-drop, take, get_or, get_or-drop, refl, sym, ap, arith, false_from_ne_true, nat_eq, reverse-append, take_more, ends_prefix, is_lead, is_of, last_of, lead_item, prefix_up_to}
+use Rattle.logs.proofs.Definitions.{take_rest, ne_eqb, ◌≡◌, ◌∙◌, ℕ, zero, suc, ◌+◌, ◌<◌, ◌≤◌, Bool, false, cond, not, ◌&&◌, ◌==◌, List, [], ◌∷◌, length, length-drop, take, get_or, get_or-drop, refl, sym, ap, arith, false_from_ne_true, nat_eq, ends_prefix, is_lead, lead_item, prefix_up_to}
 use Rattle.std.proofs.Common.{◌-◌, drop}
 use Rattle.std.proofs.lemmas.Slice.Eq.{bytes_eq-Decides}
 use Rattle.std.specs.List.{ends_with}

@@ -8,7 +8,7 @@
 //!     |----------|                                            prefix and marks: a frame
 //!                                   |------|                  a label: a caller's
 //! ```
-ghost use Rattle.std.specs.Prelude.{◌≡◌, ◌≤◌, ◌<◌, ◌||◌, ◌==◌, drop, false, length, reverse};
+ghost use Rattle.std.specs.Prelude.{◌≡◌, ◌≤◌, ◌<◌, ◌||◌, ◌==◌, false, length, reverse};
 ghost use Rattle.std.specs.List.{list_any};
 ghost use Rattle.std.specs.Option.{option_map_or};
 ghost use Rattle.logs.specs.TakenWords.{begins_dump, begins_pair, begins_user, continues_trace};

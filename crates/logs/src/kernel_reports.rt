@@ -9,7 +9,7 @@
 //! If functions have other sizes in a listing, it is one of another build.
 //!
 //! What no line of a block may say is sought in the block, and not again in each of its lines.
-ghost use Rattle.std.specs.Prelude.{◌≡◌, ◌≤◌, length, option_map, IfOk, IsTrue};
+ghost use Rattle.std.specs.Prelude.{◌≡◌, IfOk, IsTrue};
 ghost use Rattle.std.specs.Option.{option_or};
 ghost use Rattle.logs.specs.KernelOffsets.{kernel_offset_in};
 ghost use Rattle.logs.specs.KernelReports.{Lacks, SaysAtMost, SaysNothing, begins_module};

@@ -6,7 +6,7 @@
 //! [<ffffffff81000108>] (do_one) from        a name alone
 //! [<ffffffff81000108>] do_one+0x8, r3       a text of another form: no name
 //! ```
-ghost use Rattle.std.specs.Prelude.{◌≡◌, option_map};
+ghost use Rattle.std.specs.Prelude.{◌≡◌};
 ghost use Rattle.logs.specs.SaidNames.{are_digits, distance_at, distance_from, distance_in};
 ghost use Rattle.logs.specs.SaidNames.{ends_text, has_size_at, name_at, name_said, without_doubt};
 

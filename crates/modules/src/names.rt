@@ -31,7 +31,7 @@ pub struct Names<'a> {
 }
 
 impl<'a> Model for Names<'a> {
-    ghost use Rattle.std.specs.Prelude.{List, ℕ, map};
+    ghost use Rattle.std.specs.Prelude.{List, ℕ};
     ghost use Rattle.modules.specs.FoundNames.{names_at, HasPlaces};
 
     ghost Value = { List (List ℕ) };

@@ -5,7 +5,7 @@
 //! many, but they rise, and then a binary search finds whether an address lies in one.
 
 ghost use Rattle.std.specs.Prelude.{◌≡◌, ◌<◌, nat_le, true, [], ◌∷◌, length, All, IfOk, map};
-ghost use Rattle.std.specs.List.{AllPairs, list_any};
+ghost use Rattle.std.specs.List.{list_any};
 ghost use Rattle.modules.specs.Building.{kernel_at};
 ghost use Rattle.modules.specs.Grouped.{lines_at};
 ghost use Rattle.modules.specs.Kept.{lies_in};

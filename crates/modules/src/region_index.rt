@@ -10,7 +10,7 @@
 ghost use Rattle.std.specs.Prelude.{◌≡◌, ◌≤◌, ◌<◌, ◌++◌, map};
 ghost use Rattle.std.specs.Prelude.{IfOk, IfSome};
 ghost use Rattle.order_laws.specs.declared.items.Item.{Item};
-ghost use Rattle.modules.specs.Items.{items_at, items_below, items_of};
+ghost use Rattle.modules.specs.Items.{items_at, items_of};
 ghost use Rattle.modules.specs.Loads.{item_of};
 ghost use Rattle.modules.specs.RegionIndexes.{IsIndexOf};
 ghost use Rattle.modules.specs.Items.{item_of_address};

@@ -19,7 +19,7 @@
 
 ghost use Rattle.std.specs.Prelude.{◌≡◌, ◌+◌, ◌<◌, ◌≤◌, [], true, false, length};
 ghost use Rattle.std.specs.Prelude.{vec_capacity, vec_len, insert};
-ghost use Rattle.order_laws.specs.Tables.{IsTable, place_for};
+ghost use Rattle.order_laws.specs.Tables.{IsTable};
 ghost use Rattle.rb_trees.specs.Trees.{tip, branch, shape, depth, rows, IsRedBlack};
 ghost use Rattle.rb_trees.specs.Found.{items_of_records, meets_on_the_way};
 ghost use Rattle.rb_trees.specs.Paths.{plugged};

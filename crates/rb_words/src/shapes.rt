@@ -4,10 +4,10 @@
 //! nothing.
 
 ghost use Rattle.std.specs.Prelude.{◌≡◌, ◌+◌, ◌*◌, ◌<◌, ◌≤◌, ◌++◌, [], true, false, List};
-ghost use Rattle.std.specs.Prelude.{IsTrue, IfOk, IfErr, OnOk, IfSome, IsSome, is_some, Some, None};
+ghost use Rattle.std.specs.Prelude.{IsTrue, IfErr, OnOk, IfSome, IsSome, is_some, Some, None};
 ghost use Rattle.std.specs.Prelude.{Contains, length, vec_len, vec_capacity};
 ghost use Rattle.std.specs.List.Sorted.{IsNonDecreasing};
-ghost use Rattle.order_laws.specs.Tables.{IsTable, has, meets, without_all, place_for, place_of};
+ghost use Rattle.order_laws.specs.Tables.{IsTable, has, meets, without_all};
 ghost use Rattle.word_layout.specs.declared.stores.Store.{Store};
 ghost use Rattle.word_layout.specs.Layouts.{capacity_of};
 ghost use Rattle.word_layout.specs.Copies.{copy_number};

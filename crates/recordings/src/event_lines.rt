@@ -7,7 +7,7 @@
 //! ```
 //!
 //! Of a line that is too long so much is kept that it is still too long once it ends.
-ghost use Rattle.std.specs.Prelude.{◌≡◌, ◌≤◌, ◌++◌, List, ℕ, false, length, map, take, drop, IfOk, OnOk};
+ghost use Rattle.std.specs.Prelude.{◌≡◌, ◌≤◌, List, ℕ, false, length, map, take, drop, IfOk, OnOk};
 ghost use Rattle.logs.specs.Lines.{AreWhole, has_end, lines};
 ghost use Rattle.recordings.specs.EventLines.{IsOpen, TakesBlock, kept_with};
 ghost use Rattle.recordings.specs.Events.{said_by};

@@ -7,11 +7,11 @@
 //! ```
 //!
 //! Times have any number of decimals, and are anywhere: no column is counted on.
-ghost use Rattle.std.specs.Prelude.{◌≡◌, ◌≤◌, length, option_map};
+ghost use Rattle.std.specs.Prelude.{◌≡◌, length, option_map};
 ghost use Rattle.std.specs.Option.{option_copied};
 ghost use Rattle.recordings.specs.Events.{after, event_here, event_in, first_word};
 ghost use Rattle.recordings.specs.Events.{has_lost, is_word, marked, moved_by, named, said_by};
-ghost use Rattle.recordings.specs.Events.{freed_by, told_by};
+ghost use Rattle.recordings.specs.Events.{told_by};
 
 use crate::lines::without_end;
 use histories::timestamp_in;

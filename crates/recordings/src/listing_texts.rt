@@ -5,7 +5,7 @@
 ghost use Rattle.std.specs.Prelude.{◌≡◌, ◌++◌, IfOk, OnOk};
 ghost use Rattle.texts.specs.Lines.{lines_of};
 ghost use Rattle.memchr.specs.Find.{IsFirstByte, is_byte};
-ghost use Rattle.histories.specs.Grammar.{begins_gap, is_first_word, is_reserved};
+ghost use Rattle.histories.specs.Grammar.{is_first_word, is_reserved};
 ghost use Rattle.logs.specs.Lines.{lines};
 ghost use Rattle.listing.specs.Looks.{are_symbols_hidden, is_hidden_symbol};
 ghost use Rattle.listing.specs.SymbolListing.{symbol_of};

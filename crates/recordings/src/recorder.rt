@@ -12,7 +12,6 @@
 //! What is written of a block is one write, and the writer is flushed. So whatever ends it, what
 //! was written is a history.
 ghost use Rattle.std.specs.Prelude.{◌≡◌, ◌<◌, length, Ok, Err};
-ghost use Rattle.recordings.specs.Recordings.{first_carried};
 ghost use Rattle.recordings.specs.EventLines.{said_in};
 ghost use Rattle.recordings.specs.Recorder.{PutsLines, PutsText, ReadsFor, ReadsListing, Records};
 ghost use Rattle.recordings.specs.Recorder.{RecordsBlocks, RecordsEvents, finished, first_text};

@@ -12,7 +12,7 @@
 //!
 //! Carried on are the lines that each module has in the history so far. After events were lost the
 //! listing is written whole.
-ghost use Rattle.std.specs.Prelude.{◌≡◌, ◌++◌, List, ℕ, codes, is_some, IfOk};
+ghost use Rattle.std.specs.Prelude.{◌≡◌, is_some, IfOk};
 ghost use Rattle.std.specs.List.{fold};
 ghost use Rattle.std.specs.Option.{option_copied, option_map_or};
 ghost use Rattle.recordings.specs.Changes.{texts};

@@ -10,8 +10,8 @@ use crate::changes::Change;
 use crate::gates::Gate;
 use crate::shared::Changer;
 use crate::threads::{
-    ChangeResults, Changing, LookupResults, ReaderThread, WriterThread, join_reader, join_writer,
-    list_with_room, start_reader, start_writer,
+    ChangeResults, Changing, LookupResults, ReaderThread, ThreadContext, WriterThread, join_reader,
+    join_writer, list_with_room, start_reader, start_writer,
 };
 use latch_table::Reader;
 use order_laws::HalfOpen;
@@ -38,9 +38,7 @@ pub(crate) fn with_room<'s>(
 /// and adds them to a list.
 pub(crate) fn start_writers<'s, E, R: Threads + Wait + Sync, G: Gate + Sync, W: Changer + Sync>(
     scope: &Scope<'s, E>,
-    rt: &'s R,
-    alloc: Global,
-    g: &'s G,
+    context: &'s ThreadContext<'s, R, G>,
     changer: &'s W,
     changes: &[Vec<Change>],
     lists: Vec<Changing<'s>>,
@@ -55,7 +53,7 @@ pub(crate) fn start_writers<'s, E, R: Threads + Wait + Sync, G: Gate + Sync, W: 
 {
     for list in lists {
         let seat = seats.pop();
-        writers.push_reserved(start_writer(scope, rt, alloc, g, changer, list, seat));
+        writers.push_reserved(start_writer(scope, context, changer, list, seat));
     }
     writers
 }
@@ -63,9 +61,7 @@ pub(crate) fn start_writers<'s, E, R: Threads + Wait + Sync, G: Gate + Sync, W: 
 /// Starts the threads of lists of keys, one for each reader, and adds them to a list.
 pub(crate) fn start_readers<'s, E, R: Threads + Wait + Sync, G: Gate + Sync, W: Changer + Sync>(
     scope: &Scope<'s, E>,
-    rt: &'s R,
-    alloc: Global,
-    g: &'s G,
+    context: &'s ThreadContext<'s, R, G>,
     changer: &'s W,
     mut seats: Vec<Reader<HalfOpen>>,
     keys: &'s [Vec<u64>],
@@ -83,7 +79,7 @@ pub(crate) fn start_readers<'s, E, R: Threads + Wait + Sync, G: Gate + Sync, W: 
             unreachable!()
         };
         let reader = readers.len() as u32;
-        let thread = start_reader(scope, rt, alloc, g, changer, reader, seat, list.as_slice());
+        let thread = start_reader(scope, context, changer, reader, seat, list.as_slice());
         readers.push_reserved(thread);
     }
     readers

@@ -1,14 +1,13 @@
 //! The outcomes of the changes, compared with the log.
 
-ghost use Rattle.std.specs.Prelude.{◌≡◌, ◌↔◌, ◌+◌, ◌<◌, ◌≤◌, IsTrue, length, min, slice_index_or};
+ghost use Rattle.std.specs.Prelude.{◌≡◌, ◌↔◌, ◌+◌, ◌<◌, IsTrue, length, min};
 ghost use Rattle.std.specs.Prelude.{zip};
 ghost use Rattle.std.specs.List.{range_with_len};
-ghost use Rattle.std.specs.Prelude.{count_by};
 ghost use Rattle.shared_lookup.specs.Checks.{AreTallied, IsTalliedBy};
 ghost use Rattle.shared_lookup.specs.Counts.{CountsUpTo};
 ghost use Rattle.shared_lookup.specs.Servings.{AreAsLong, IsLogged, IsWrongChange};
 ghost use Rattle.shared_lookup.specs.Servings.{IsWrongEntry};
-ghost use Rattle.shared_lookup.specs.Servings.{entries, has_generation};
+ghost use Rattle.shared_lookup.specs.Servings.{entries};
 
 use crate::changes::Change;
 use modules::Catalog;

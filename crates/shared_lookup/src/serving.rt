@@ -20,7 +20,7 @@ use crate::lists::{join_readers, join_writers, start_readers, start_writers, wit
 use crate::meetings::{meet_all, settle_all};
 use crate::served::Served;
 use crate::shared::{CatalogWriter, Changer, NamesTable, SharedWriter};
-use crate::threads::{ChangeResults, LookupResults};
+use crate::threads::{ChangeResults, LookupResults, ThreadContext};
 use latch_table::{MOST_READERS, Reader};
 use modules::Catalog;
 use order_laws::{HalfOpen, Refusal};
@@ -41,9 +41,7 @@ struct ThreadResults {
 /// Runs a thread for each list that is not empty, all at once, and waits for them. Refused before
 /// the first thread starts, and never later.
 fn run_threads<R: Threads + Wait + Sync, G: Gate + Sync, W: Changer + Sync>(
-    rt: &R,
-    alloc: Global,
-    g: &G,
+    context: &ThreadContext<'_, R, G>,
     changer: &W,
     changes: &[Vec<Change>],
     keys: &[Vec<u64>],
@@ -62,7 +60,7 @@ fn run_threads<R: Threads + Wait + Sync, G: Gate + Sync, W: Changer + Sync>(
 {
     thread::scope(
         thread::scope_env(),
-        rt,
+        context.rt,
         |scope| -> Result<ThreadResults, AllocError>
             requires beside { All (λ r. W.table changer.now ≡ Some r.place) beside.items }
             requires seats { All (IsNewReaderOf (W.table changer.now)) seats.items }
@@ -74,17 +72,16 @@ fn run_threads<R: Threads + Wait + Sync, G: Gate + Sync, W: Changer + Sync>(
             ensures heard { IfOk result (λ r.
                 AreHeard (W.table changer.entry.now) keys.entry.now r.heard.items) }
         {
+            let alloc = context.alloc;
             let lists = with_room(alloc, changes)?;
             let made = Vec::with_capacity(alloc, changes.len())?;
             let heard = Vec::with_capacity(alloc, keys.len())?;
             let writers = Vec::with_capacity(alloc, changes.len())?;
             let readers = Vec::with_capacity(alloc, keys.len())?;
-            let writers = start_writers(
-                scope, rt, alloc, g, changer, changes, lists, beside, writers,
-            );
-            let readers = start_readers(scope, rt, alloc, g, changer, seats, keys, readers);
-            let made = join_writers(rt, changer, changes, writers, made);
-            let heard = join_readers(rt, alloc, changer, keys, readers, heard);
+            let writers = start_writers(scope, context, changer, changes, lists, beside, writers);
+            let readers = start_readers(scope, context, changer, seats, keys, readers);
+            let made = join_writers(context.rt, changer, changes, writers, made);
+            let heard = join_readers(context.rt, alloc, changer, keys, readers, heard);
             Ok(ThreadResults { made, heard })
         },
     )
@@ -104,9 +101,7 @@ fn times_for(alloc: Global, changes: &[Vec<Change>]) -> Result<Vec<u8>, AllocErr
 /// back meet its writer, and counts what is wrong. Refused by [`Refusal::OutOfMemory`] alone,
 /// before the first thread starts.
 fn serve_from<K: NamesTable + Send + Sync, R: Threads + Wait + Sync, G: Gate + Sync>(
-    rt: &R,
-    alloc: Global,
-    g: &G,
+    context: &ThreadContext<'_, R, G>,
     c: &Catalog<'_>,
     opened: (Ledger, Vec<Reader<HalfOpen>>),
     beside: Vec<Reader<HalfOpen>>,
@@ -132,6 +127,7 @@ fn serve_from<K: NamesTable + Send + Sync, R: Threads + Wait + Sync, G: Gate + S
     ensures refusal { IfErr result (λ e. e ≡ OutOfMemory) }
 {
     let (ledger, seats) = opened;
+    let alloc = context.alloc;
     let outcomes = Vec::with_capacity(alloc, changes.len())?;
     let answers = Vec::with_capacity(alloc, keys.len())?;
     let ended = Vec::with_capacity(alloc, keys.len())?;
@@ -142,7 +138,7 @@ fn serve_from<K: NamesTable + Send + Sync, R: Threads + Wait + Sync, G: Gate + S
         shared: &shared,
         catalog: c,
     };
-    let returned = run_threads(rt, alloc, g, &changer, &changes, &keys, beside, seats)?;
+    let returned = run_threads(context, &changer, &changes, &keys, beside, seats)?;
     let ThreadResults { made, heard } = returned;
     let ledger = shared.into_ledger();
     let (ledger, outcomes) = settle_all(ledger, c, &changes, made, outcomes);
@@ -250,5 +246,6 @@ pub fn serve<R: Threads + Wait + Sync, G: Gate + Sync>(
     let (mut ledger, readers) = Ledger::open(alloc, layout, 0, keys.len() as u32)?;
     let beside = readers_beside(alloc, &mut ledger, changes.len())?;
     let opened = (ledger, readers);
-    serve_from::<Brand, R, G>(rt, alloc, g, c, opened, beside, changes, keys)
+    let context = ThreadContext { rt, alloc, gate: g };
+    serve_from::<Brand, R, G>(&context, c, opened, beside, changes, keys)
 }

@@ -21,6 +21,14 @@ use std::alloc::{AllocError, Global};
 use std::sync::Wait;
 use std::thread::{Promise, PromisedHandle, Scope, Threads};
 
+/// What all threads share beside the table.
+#[derive(Drop)]
+pub(crate) struct ThreadContext<'s, R, G> {
+    pub(crate) rt: &'s R,
+    pub(crate) alloc: Global,
+    pub(crate) gate: &'s G,
+}
+
 /// How many bytes of stack each thread has.
 const STACK_SIZE: usize = 1 << 20;
 
@@ -139,8 +147,7 @@ fn refused(mut outcomes: Outcomes) -> Outcomes
 /// Makes the changes of one list beside a reader of the table, and puts each outcome into its
 /// place.
 fn make_changes<R: Wait, G: Gate, W: Changer>(
-    rt: &R,
-    g: &G,
+    context: &ThreadContext<'_, R, G>,
     changer: &W,
     writer: u32,
     changes: &[Change],
@@ -155,11 +162,17 @@ fn make_changes<R: Wait, G: Gate, W: Changer>(
     let mut outcomes = outcomes;
     let mut seat = seat;
     for place in 0..changes.len() {
-        let (outcome, back) = changer.change(rt, g, writer, seat, changes[place]);
+        let (outcome, back) = changer.change(
+            context.rt,
+            context.gate,
+            writer,
+            seat,
+            changes[place],
+        );
         outcomes[place] = outcome;
         seat = back;
     }
-    g.tell(Point::WriterDone { writer });
+    context.gate.tell(Point::WriterDone { writer });
     ChangeResults {
         outcomes,
         seat: Some(seat),
@@ -186,9 +199,7 @@ fn look_until<R: Wait>(rt: &R, seat: &mut Reader<HalfOpen>, key: u64) -> (Option
 /// Looks the keys of one list up, by a reader of the changer's table.
 #[tactic(auto, using(crate::proofs::FoundLemmas::none_found))]
 fn look_up<R: Wait, G: Gate, W: Changer>(
-    rt: &R,
-    alloc: Global,
-    g: &G,
+    context: &ThreadContext<'_, R, G>,
     _changer: &W,
     reader: u32,
     mut seat: Reader<HalfOpen>,
@@ -198,7 +209,7 @@ fn look_up<R: Wait, G: Gate, W: Changer>(
     ensures { IsHeard (W.table _changer.now) reader keys.now result.answers.items result.ended
         result.seat }
 {
-    let mut answers = Vec::new(alloc);
+    let mut answers = Vec::new(context.alloc);
     for (index, key) in keys.iter().enumerate() {
         if answers.reserve(1).is_err() {
             return LookupResults {
@@ -208,9 +219,9 @@ fn look_up<R: Wait, G: Gate, W: Changer>(
             };
         }
         let place = index as u64;
-        g.tell(Point::ReaderStart { reader, place });
-        let (item, generation) = look_until(rt, &mut seat, *key);
-        g.tell(Point::ReaderDone { reader, place });
+        context.gate.tell(Point::ReaderStart { reader, place });
+        let (item, generation) = look_until(context.rt, &mut seat, *key);
+        context.gate.tell(Point::ReaderDone { reader, place });
         answers.push_reserved(Answer {
             reader,
             place,
@@ -231,9 +242,7 @@ fn look_up<R: Wait, G: Gate, W: Changer>(
 /// once more before.
 pub(crate) fn start_writer<'s, E, R: Threads + Wait + Sync, G: Gate + Sync, W: Changer + Sync>(
     scope: &Scope<'s, E>,
-    rt: &'s R,
-    alloc: Global,
-    g: &'s G,
+    context: &'s ThreadContext<'s, R, G>,
     changer: &'s W,
     list: Changing<'s>,
     seat: Option<Reader<HalfOpen>>,
@@ -250,7 +259,7 @@ pub(crate) fn start_writer<'s, E, R: Threads + Wait + Sync, G: Gate + Sync, W: C
     let Some(seat) = seat else {
         return WriterThread::without(changer, changes, outcomes);
     };
-    let spare = match room_for(alloc, changes) {
+    let spare = match room_for(context.alloc, changes) {
         Ok(spare) if !changes.is_empty() => spare,
         _ => return WriterThread::without(changer, changes, outcomes),
     };
@@ -263,14 +272,14 @@ pub(crate) fn start_writer<'s, E, R: Threads + Wait + Sync, G: Gate + Sync, W: C
             ensures { AreMade (W.table changer.entry.now) (W.opened changer.entry.now)
                 (W.catalog changer.entry.now) changes.entry.now result.outcomes.items
                 result.seat }
-        { make_changes(rt, g, changer, writer, changes, outcomes, seat) },
+        { make_changes(context, changer, writer, changes, outcomes, seat) },
     );
     match started {
         Ok(thread) => WriterThread {
             changer,
             changes,
             thread: Some(thread),
-            outcomes: Vec::new(alloc),
+            outcomes: Vec::new(context.alloc),
         },
         Err(_) => WriterThread::without(changer, changes, spare),
     }
@@ -279,9 +288,7 @@ pub(crate) fn start_writer<'s, E, R: Threads + Wait + Sync, G: Gate + Sync, W: C
 /// Starts the thread of one list of keys, unless it is empty.
 pub(crate) fn start_reader<'s, E, R: Threads + Wait + Sync, G: Gate + Sync, W: Changer + Sync>(
     scope: &Scope<'s, E>,
-    rt: &'s R,
-    alloc: Global,
-    g: &'s G,
+    context: &'s ThreadContext<'s, R, G>,
     changer: &'s W,
     reader: u32,
     seat: Reader<HalfOpen>,
@@ -304,7 +311,7 @@ pub(crate) fn start_reader<'s, E, R: Threads + Wait + Sync, G: Gate + Sync, W: C
                 requires { IsNewReaderOf (W.table changer.now) seat }
                 ensures { IsHeard (W.table changer.entry.now) reader keys.entry.now
                     result.answers.items result.ended result.seat }
-            { look_up(rt, alloc, g, changer, reader, seat, keys) },
+            { look_up(context, changer, reader, seat, keys) },
         );
         thread = started.ok();
     }

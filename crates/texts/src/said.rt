@@ -1,5 +1,5 @@
 //! What the lines of a text say, if each has to be understood.
-ghost use Rattle.std.specs.Prelude.{◌≡◌, ◌≢◌, [], length, IfOk, IsErr};
+ghost use Rattle.std.specs.Prelude.{◌≡◌, ◌≢◌, [], IfOk, IsErr};
 ghost use Rattle.texts.specs.Lines.{lines_of};
 ghost use Rattle.texts.specs.Said.{entries_from, is_passed_over, is_too_long, said_by};
 ghost use Rattle.texts.specs.Said.{AreNumbered, GivesInGrammar, GivesNext, HasLine, LeavesFewer};

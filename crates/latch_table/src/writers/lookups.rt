@@ -1,9 +1,8 @@
 //! The writer's own lookups.
 
-ghost use Rattle.std.specs.Prelude.{◌≡◌, ◌+◌, ◌*◌, ◌≤◌, [], Some, length};
+ghost use Rattle.std.specs.Prelude.{◌≡◌, []};
 ghost use Rattle.word_layout.specs.Layouts.{capacity_of};
-ghost use Rattle.word_layout.specs.Words.{at, words_for};
-ghost use Rattle.latch_core.specs.Attempts.{Answer, attempt, IsAttempt};
+ghost use Rattle.word_layout.specs.Words.{words_for};
 ghost use Rattle.latch_core.specs.Latched.{IsLatched};
 ghost use Rattle.latch_table.specs.Seats.{writer_of, writer_knowledge, with_loads};
 ghost use Rattle.latch_table.specs.Writers.{Finds};

@@ -8,14 +8,14 @@ returns-in_err-texts g c =
     let known = known_given g.M.Read.remaining g.K.Read.remaining g.R.Read.remaining a.listings.now in
     let counts = listing_failures a.listings.now c.read_given.new.readers in
     let fault = c.in_err-texts.field-0.0 in
-    handed_on (AnnotatesLog g.L.Read.remaining g.W.Write.contents g.E.Write.contents a.sources.now a.job.now known counts a.log.now a.log.now a.writer.now a.writer.now a.errors.now a.errors.now)
+    handed_on (AnnotatesLog g.L.Read.remaining g.W.Write.contents g.E.Write.contents a.request.sources.now a.request.job.now known counts a.log.now a.log.now a.outputs.now.writer a.outputs.now.writer a.outputs.now.errors a.outputs.now.errors)
     c.from_residual.result fault c.from_residual.ensures.1
-    (not_read g.L.Read.remaining g.W.Write.contents g.E.Write.contents a.sources.now a.job.now known counts a.log.now a.writer.now a.errors.now fault c.in_err-texts.ensures.read)
+    (not_read g.L.Read.remaining g.W.Write.contents g.E.Write.contents a.request.sources.now a.request.job.now known counts a.log.now a.outputs.now.writer a.outputs.now.errors fault c.in_err-texts.ensures.read)
 
 pub returns : goal.returns
 returns g c =
     let a = c.args in
     let known = known_given g.M.Read.remaining g.K.Read.remaining g.R.Read.remaining a.listings.now in
     let counts = listing_failures a.listings.now c.read_given.new.readers in
-    readers_known g.L.Read.remaining g.W.Write.contents g.E.Write.contents a.sources.now a.job.now a.log.now c.annotate_over.new.log a.writer.now c.annotate_over.new.writer a.errors.now c.annotate_over.new.errors
+    readers_known g.L.Read.remaining g.W.Write.contents g.E.Write.contents a.request.sources.now a.request.job.now a.log.now c.annotate_over.new.log a.outputs.now.writer c.annotate_over.new.outputs.writer a.outputs.now.errors c.annotate_over.new.outputs.errors
     (texts_in c.in_ok-texts.texts) known c.in_ok-texts.ensures.bytes counts c.in_ok-texts.ensures.read c.annotate_over.result c.annotate_over.ensures

@@ -17,7 +17,7 @@ returns-in_err-names g c =
     let answer = answered_by r.index r.rule r.is_narrow in
     let followed : Followed = record { is_narrow = c.is_narrow-is_narrow.result; is_told = a.followed.is_told } in
     let s = c.in_err-names.field-0.0 in
-    let are = answers_are a.sources.now a.job.now (texts_in a.texts.now) c.in-Ok.index r.index r.rule r.is_narrow c.in-Ok.ensures c.new-answers.ensures.index c.new-answers.ensures.rule
+    let are = answers_are a.request.sources.now a.request.job.now (texts_in a.texts.now) c.in-Ok.index r.index r.rule r.is_narrow c.in-Ok.ensures c.new-answers.ensures.index c.new-answers.ensures.rule
     (c.new-answers.ensures.narrow ∙ c.is_narrow-is_narrow.ensures ∙ ap (λ t. is_narrow (lines_of t)) c.deref.ensures.value) in
     let (told, is, same) = err_from_is_err_and c.from_residual-in_err-names.result c.from_residual-in_err-names.ensures.1 in
     rw (is, same) (inr (
@@ -34,7 +34,7 @@ returns g c =
     let r = c.new-answers.result in
     let answer = answered_by r.index r.rule r.is_narrow in
     let followed : Followed = record { is_narrow = c.is_narrow-is_narrow.result; is_told = a.followed.is_told } in
-    let are = answers_are a.sources.now a.job.now (texts_in a.texts.now) c.in-Ok.index r.index r.rule r.is_narrow c.in-Ok.ensures c.new-answers.ensures.index c.new-answers.ensures.rule
+    let are = answers_are a.request.sources.now a.request.job.now (texts_in a.texts.now) c.in-Ok.index r.index r.rule r.is_narrow c.in-Ok.ensures c.new-answers.ensures.index c.new-answers.ensures.rule
     (c.new-answers.ensures.narrow ∙ c.is_narrow-is_narrow.ensures ∙ ap (λ t. is_narrow (lines_of t)) c.deref.ensures.value) in (
       answer,
       (c.requires, are, refl),

@@ -1,4 +1,4 @@
-use Rattle.command_listings.proofs.Words.{◌≡◌, ◌∙◌, ◌+◌, List, ℕ, ap, inr, is_narrow, lines_of, listed_kernel, subst, sym, IsCatalogOf, symbols_alone}
+use Rattle.command_listings.proofs.Words.{◌≡◌, ◌∙◌, ◌+◌, List, ℕ, ap, inr, is_narrow, lines_of, listed_kernel, subst, IsCatalogOf, symbols_alone}
 use Rattle.std.specs.Option.{option_copied}
 use Rattle.histories.specs.ListingsAt.{listing_after}
 use Rattle.command_listings.proofs.TimedLemmas.{answers_after, begun, ended_as}
@@ -9,8 +9,8 @@ use Rattle.command_listings.proofs.history_annotations.annotate_timed.Goals as g
 pub returns : goal.returns
 returns g c =
     let a = c.args in
-    let q = a.sources.now in
-    let rule = a.job.now.rule in
+    let q = a.request.sources.now in
+    let rule = a.request.job.now.rule in
     let parts = a.history.now in
     let first = c.in_ok-first.first in
     let remaining = g.L.Read.remaining in
@@ -24,10 +24,10 @@ returns g c =
     let listing_is : first.text ≡ first_listing parts = c.in_ok-first.ensures.of.1 ∙ ap (λ (k : ℕ). listing_after k parts) c.in_ok-first.ensures.first in
     let narrow_is = made.ensures.narrow ∙ c.is_narrow.ensures ∙ ap (λ (t : List ℕ). is_narrow (lines_of t)) (c.text.ensures ∙ listing_is) in
     let are = answers_after kernel rule parts first c.in_ok-index.index made.result.index c.in_ok-index.notes made.result.rule made.result.is_narrow c.text-3.result.now c.in_ok-first.ensures.of c.text-3.ensures c.in_ok-index.ensures made.ensures.index made.ensures.rule narrow_is in
-    let nothing = begun kernel rule parts remaining contents a.log.now a.writer.now timed.timed timed.ensures.held timed.ensures.open timed.ensures.times timed.ensures.left timed.ensures.on timed.ensures.head in
-    let turned = c.name_by-asked.ensures.turn kernel rule are a.log.now a.writer.now 0 nothing in
-    let named = c.name_to_end-named.ensures a.log.now a.writer.now (0 + 1) turned in
-    let is_timed : IsTimed kernel rule parts remaining contents a.log.now a.writer.now end reader writer = ended_as kernel rule parts remaining contents a.log.now a.writer.now c.name_to_end-named.new.log c.name_to_end-named.result end reader writer c.timed_end-end.ensures named in
+    let nothing = begun kernel rule parts remaining contents a.log.now a.outputs.now.writer timed.timed timed.ensures.held timed.ensures.open timed.ensures.times timed.ensures.left timed.ensures.on timed.ensures.head in
+    let turned = c.name_by-asked.ensures.turn kernel rule are a.log.now a.outputs.now.writer 0 nothing in
+    let named = c.name_to_end-named.ensures a.log.now a.outputs.now.writer (0 + 1) turned in
+    let is_timed : IsTimed kernel rule parts remaining contents a.log.now a.outputs.now.writer end reader writer = ended_as kernel rule parts remaining contents a.log.now a.outputs.now.writer c.name_to_end-named.new.log c.name_to_end-named.result end reader writer c.timed_end-end.ensures named in
     let kernel_is = c.listed_kernel-kernel.ensures ∙ ap (λ (t : List ℕ). listed_kernel t rule.offset) (c.text-2.ensures ∙ listing_is) in
     inr (record {
       catalog = c.in_ok-index.index;
@@ -37,6 +37,6 @@ returns g c =
       said = subst (λ k. IsCatalogOf k (symbols_alone (first_listing parts)) c.in_ok-index.index c.in_ok-index.notes) c.as_ref.ensures.value
           (subst (λ t. IsCatalogOf kernel (symbols_alone t) c.in_ok-index.index c.in_ok-index.notes) (c.text-3.ensures ∙ listing_is) c.in_ok-index.ensures);
       told = c.note_listings.ensures;
-      timed = subst (λ k. IsTimed k rule parts remaining contents a.log.now a.writer.now end reader writer) c.as_ref.ensures.value is_timed;
-      end_told = subst (λ k. IsTimedEndTold g.E.Write.contents a.job.now.log.now k c.note_listings.new.writer c.tell_timed_end.new.errors end c.tell_timed_end.result) kernel_is c.tell_timed_end.ensures;
+      timed = subst (λ k. IsTimed k rule parts remaining contents a.log.now a.outputs.now.writer end reader writer) c.as_ref.ensures.value is_timed;
+      end_told = subst (λ k. IsTimedEndTold g.E.Write.contents a.request.job.now.log.now k c.note_listings.new.writer c.tell_timed_end.new.errors end c.tell_timed_end.result) kernel_is c.tell_timed_end.ensures;
     })

@@ -14,7 +14,7 @@ returns-in-None g c =
     inr (
       c.in_ok-history.history,
       (c.in_ok-file.ensures.read, said),
-      subst (λ t. AnnotatesAt g.L.Read.remaining g.W.Write.contents g.E.Write.contents a.sources.now a.job.now a.log.now done.new.log a.writer.now done.new.writer a.errors.now done.new.errors t c.in_ok-history.history done.result) (sym c.in-None.is) done.ensures,
+      subst (λ t. AnnotatesAt g.L.Read.remaining g.W.Write.contents g.E.Write.contents a.request.sources.now a.request.job.now a.log.now done.new.log a.outputs.now.writer done.new.outputs.writer a.outputs.now.errors done.new.outputs.errors t c.in_ok-history.history done.result) (sym c.in-None.is) done.ensures,
     )
 
 pub returns : goal.returns
@@ -29,6 +29,6 @@ returns g c =
     inr (
       parts,
       (c.in_ok-file.ensures.read, said),
-      subst (λ t. AnnotatesAt g.L.Read.remaining g.W.Write.contents g.E.Write.contents a.sources.now a.job.now a.log.now done.new.log a.writer.now done.new.writer a.errors.now done.new.errors t parts done.result) (sym c.in-Some.is)
-          (subst (λ (given : Given). AnnotatesLog g.L.Read.remaining g.W.Write.contents g.E.Write.contents a.sources.now a.job.now (Some given) [] a.log.now done.new.log a.writer.now done.new.writer a.errors.now done.new.errors done.result) texts_are done.ensures),
+      subst (λ t. AnnotatesAt g.L.Read.remaining g.W.Write.contents g.E.Write.contents a.request.sources.now a.request.job.now a.log.now done.new.log a.outputs.now.writer done.new.outputs.writer a.outputs.now.errors done.new.outputs.errors t parts done.result) (sym c.in-Some.is)
+          (subst (λ (given : Given). AnnotatesLog g.L.Read.remaining g.W.Write.contents g.E.Write.contents a.request.sources.now a.request.job.now (Some given) [] a.log.now done.new.log a.outputs.now.writer done.new.outputs.writer a.outputs.now.errors done.new.outputs.errors done.result) texts_are done.ensures),
     )

@@ -10,7 +10,7 @@ returns-in_err-texts g c =
     let known = known_given g.M.Read.remaining g.K.Read.remaining g.R.Read.remaining a.listings.now in
     let counts = listing_failures a.listings.now c.read_given.new.readers in
     let fault = c.in_err-texts.field-0.0 in
-    handed_on (WritesByOwnOffset g.W.Write.contents g.E.Write.contents a.sources.now a.job.now a.writer.now a.writer.now a.errors.now a.errors.now known (g.L.Read.remaining (device_of a.log.now)) (all_failures counts a.log.now a.log.now))
+    handed_on (WritesByOwnOffset g.W.Write.contents g.E.Write.contents a.request.sources.now a.request.job.now a.outputs.now.writer a.outputs.now.writer a.outputs.now.errors a.outputs.now.errors known (g.L.Read.remaining (device_of a.log.now)) (all_failures counts a.log.now a.log.now))
     c.from_residual.result fault c.from_residual.ensures.1
     (inl (fault, listing_unread (failures_of a.log.now, failures_of a.log.now) counts fault c.in_err-texts.ensures.read refl, (refl, (refl, refl))))
 
@@ -20,7 +20,7 @@ returns-in_err-log g c =
     let known = known_given g.M.Read.remaining g.K.Read.remaining g.R.Read.remaining a.listings.now in
     let counts = listing_failures a.listings.now c.read_given.new.readers in
     let fault = c.in_err-log.field-0.0 in
-    handed_on (WritesByOwnOffset g.W.Write.contents g.E.Write.contents a.sources.now a.job.now a.writer.now a.writer.now a.errors.now a.errors.now known (g.L.Read.remaining (device_of a.log.now)) (all_failures counts a.log.now c.read_at.new.reader))
+    handed_on (WritesByOwnOffset g.W.Write.contents g.E.Write.contents a.request.sources.now a.request.job.now a.outputs.now.writer a.outputs.now.writer a.outputs.now.errors a.outputs.now.errors known (g.L.Read.remaining (device_of a.log.now)) (all_failures counts a.log.now c.read_at.new.reader))
     c.from_residual-in_err-log.result fault c.from_residual-in_err-log.ensures.1
     (inl (fault, log_unread (failures_of a.log.now, failures_of c.read_at.new.reader) _ _ _ c.in_ok-texts.ensures.read fault c.in_err-log.ensures.read, (refl, (refl, refl))))
 
@@ -36,5 +36,5 @@ returns g c =
       is_given = c.in_ok-texts.ensures.bytes;
       is_log = c.in_ok-log.ensures.bytes;
       read = none_then (failures_of a.log.now, failures_of c.read_at.new.reader) counts c.in_ok-texts.ensures.read c.in_ok-log.ensures.read;
-      writes = subst (λ log. WritesByOffset g.W.Write.contents g.E.Write.contents a.sources.now a.job.now a.writer.now done.new.writer a.errors.now done.new.errors given log (own_offset log given.kallsyms) done.result) c.deref.ensures.value done.ensures;
+      writes = subst (λ log. WritesByOffset g.W.Write.contents g.E.Write.contents a.request.sources.now a.request.job.now a.outputs.now.writer done.new.outputs.writer a.outputs.now.errors done.new.outputs.errors given log (own_offset log given.kallsyms) done.result) c.deref.ensures.value done.ensures;
     })

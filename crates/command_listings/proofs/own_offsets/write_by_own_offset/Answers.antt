@@ -7,15 +7,15 @@ pub returns-in-Err : goal.returns-in-Err
 returns-in-Err g c =
     let a = c.args in
     let is = sym c.in-Err.is ∙ c.own_offset.ensures ∙ ap (own_offset a.log.now) c.deref.ensures.value in
-    subst (λ o. WritesByOffset g.W.Write.contents g.E.Write.contents a.sources.now a.job.now a.writer.now a.writer.now a.errors.now c.tell_no_offset.new.errors (texts_in a.texts) a.log.now o (Ok c.tell_no_offset.result)) is
+    subst (λ o. WritesByOffset g.W.Write.contents g.E.Write.contents a.request.sources.now a.request.job.now a.outputs.now.writer a.outputs.now.writer a.outputs.now.errors c.tell_no_offset.new.errors (texts_in a.texts) a.log.now o (Ok c.tell_no_offset.result)) is
     (ap (λ n. Ok n) c.tell_no_offset.ensures.status, refl, c.tell_no_offset.ensures.line)
 
 pub returns-in_err-asked : goal.returns-in_err-asked
 returns-in_err-asked g c =
     let a = c.args in
     let is = sym c.in-Ok.is ∙ c.own_offset.ensures ∙ ap (own_offset a.log.now) c.deref.ensures.value in
-    subst (λ o. WritesByOffset g.W.Write.contents g.E.Write.contents a.sources.now a.job.now a.writer.now a.writer.now a.errors.now a.errors.now (texts_in a.texts) a.log.now o c.from_residual.result) is
-    (handed_on (WritesByOffset g.W.Write.contents g.E.Write.contents a.sources.now a.job.now a.writer.now a.writer.now a.errors.now a.errors.now (texts_in a.texts) a.log.now (Ok c.in-Ok.offset))
+    subst (λ o. WritesByOffset g.W.Write.contents g.E.Write.contents a.request.sources.now a.request.job.now a.outputs.now.writer a.outputs.now.writer a.outputs.now.errors a.outputs.now.errors (texts_in a.texts) a.log.now o c.from_residual.result) is
+    (handed_on (WritesByOffset g.W.Write.contents g.E.Write.contents a.request.sources.now a.request.job.now a.outputs.now.writer a.outputs.now.writer a.outputs.now.errors a.outputs.now.errors (texts_in a.texts) a.log.now (Ok c.in-Ok.offset))
     c.from_residual.result (Refused refusal.OutOfMemory) c.from_residual.ensures.1 (inl (refl, (refl, refl))))
 
 pub returns : goal.returns
@@ -23,6 +23,6 @@ returns g c =
     let a = c.args in
     let done = c.open_and_write in
     let is = sym c.in-Ok.is ∙ c.own_offset.ensures ∙ ap (own_offset a.log.now) c.deref.ensures.value in
-    subst (λ o. WritesByOffset g.W.Write.contents g.E.Write.contents a.sources.now a.job.now a.writer.now done.new.writer a.errors.now done.new.errors (texts_in a.texts) a.log.now o done.result) is
-    (inr (subst (λ rule. OpensAndWrites g.W.Write.contents g.E.Write.contents a.sources.now a.job.now a.writer.now done.new.writer a.errors.now done.new.errors rule (asked_by c.in-Ok.offset (texts_in a.texts)) a.log.now done.result) c.by_offset-rule.ensures
-    (subst (λ texts. OpensAndWrites g.W.Write.contents g.E.Write.contents a.sources.now a.job.now a.writer.now done.new.writer a.errors.now done.new.errors c.by_offset-rule.result texts a.log.now done.result) c.in_ok-asked.ensures done.ensures)))
+    subst (λ o. WritesByOffset g.W.Write.contents g.E.Write.contents a.request.sources.now a.request.job.now a.outputs.now.writer done.new.outputs.writer a.outputs.now.errors done.new.outputs.errors (texts_in a.texts) a.log.now o done.result) is
+    (inr (subst (λ rule. OpensAndWrites g.W.Write.contents g.E.Write.contents a.request.sources.now a.request.job.now a.outputs.now.writer done.new.outputs.writer a.outputs.now.errors done.new.outputs.errors rule (asked_by c.in-Ok.offset (texts_in a.texts)) a.log.now done.result) c.by_offset-rule.ensures
+    (subst (λ texts. OpensAndWrites g.W.Write.contents g.E.Write.contents a.request.sources.now a.request.job.now a.outputs.now.writer done.new.outputs.writer a.outputs.now.errors done.new.outputs.errors c.by_offset-rule.result texts a.log.now done.result) c.in_ok-asked.ensures done.ensures)))

@@ -1,4 +1,4 @@
-use Rattle.command_listings.proofs.Words.{◌≡◌, ◌∙◌, ◌+◌, List, ℕ, [], Option, Result, Ok, Err, LogFault, None, ap, arith, refl, subst, sym}
+use Rattle.command_listings.proofs.Words.{◌≡◌, ◌∙◌, ◌+◌, List, ℕ, Option, Result, Ok, Err, LogFault, ap, arith, refl, subst, sym}
 use Rattle.std.proofs.lemmas.Result.{err_from_is_err_and}
 use Rattle.logs.specs.Annotation.{Puts}
 use Rattle.logs.specs.Answering.{Answering}

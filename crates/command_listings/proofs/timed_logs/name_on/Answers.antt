@@ -1,4 +1,4 @@
-use Rattle.command_listings.proofs.Words.{◌≡◌, ◌∙◌, ◌+◌, ◌≤◌, ℕ, Result, Ok, Err, LogFault, ap, arith, refl, subst, sym}
+use Rattle.command_listings.proofs.Words.{◌∙◌, ◌+◌, Result, Ok, Err, LogFault, ap, arith, subst, sym}
 use Rattle.std.proofs.lemmas.Result.{err_from_is_err_and}
 use Rattle.std.specs.Option.{option_copied}
 use Rattle.logs.specs.declared.log_names.LogNames.{LogNames}
