@@ -33,16 +33,16 @@ pub record HasLoaded {S : Type 0} (gives : S → ℕ → ℕ → S → Type 0) (
   pub leads : Leads gives s r values m left
   pub counted : length values + 1 ≡ loads
 
--- a whole attempt: a walk, and the second reading of the sequence
-pub record HasTried {S K : Type 0} (gives : S → ℕ → ℕ → S → Type 0)
-    (ends : S → ℕ → S → Type 0) (o : Order K) (n : ℕ) (k : K) (first : ℕ) (s s' : S) (out : Outcome)
-    (loads : ℕ) : Type 0 where
-  pub values : List ℕ
-  pub last : ℕ
-  pub whole : IsAttempt o n k (first ∷ (values ++ last ∷ [])) out
-  pub m : S
-  pub found : WalkEnd
-  pub leads : Leads gives s (attempt_after o n k first) values m (last_load first found)
-  pub ended : ends m last s'
-  pub comes_to : out ≡ outcome first last found
-  pub counted : length values + 2 ≡ loads
+module _ {S K : Type 0} (gives : S → ℕ → ℕ → S → Type 0) (ends : S → ℕ → S → Type 0) (o : Order K)
+    (n : ℕ) where
+  -- a whole attempt: a walk, and the second reading of the sequence
+  pub record HasTried (k : K) (first : ℕ) (s s' : S) (out : Outcome) (loads : ℕ) : Type 0 where
+    pub values : List ℕ
+    pub last : ℕ
+    pub whole : IsAttempt o n k (first ∷ (values ++ last ∷ [])) out
+    pub m : S
+    pub found : WalkEnd
+    pub leads : Leads gives s (attempt_after o n k first) values m (last_load first found)
+    pub ended : ends m last s'
+    pub comes_to : out ≡ outcome first last found
+    pub counted : length values + 2 ≡ loads

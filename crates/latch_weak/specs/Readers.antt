@@ -101,15 +101,15 @@ abbrev pub last_of : Glance → List Glance → Glance
 last_of last [] = last
 last_of last (g ∷ gs) = last_of g gs
 
--- a whole attempt: its loads, each as the schedule chose it, its outcome, the view that it leaves,
--- and that the reader goes on after its last load
-pub record HasAttempted {K : Type 0} (chooses : Choice) (b : Barriers) (o : Order K) (n : ℕ)
-    (m : List ℕ) (ss : List Store) (r : ReaderView) (k : K) (out : Outcome) (r' : ReaderView)
-    : Type 0 where
-  pub glances : List Glance
-  pub tried : IsWeakAttempt b o n m ss (view_of r) r.last.made k glances out
-  pub chosen : AreChosenOf chooses b m ss (view_of r) r.loads r.last (attempt o n k) glances
-  pub leaves : view_of r' ≡ view_after b m ss (view_of r) (attempt o n k) glances
-  pub last : r'.last ≡ last_of r.last glances
-  pub counted : r'.loads ≡ loads_after r.loads glances
-  pub still : IsReaderOf m ss r'
+module _ {K : Type 0} (chooses : Choice) (b : Barriers) (o : Order K) (n : ℕ) (m : List ℕ)
+    (ss : List Store) where
+  -- a whole attempt: its loads, each as the schedule chose it, its outcome, the view that it leaves,
+  -- and that the reader goes on after its last load
+  pub record HasAttempted (r : ReaderView) (k : K) (out : Outcome) (r' : ReaderView) : Type 0 where
+    pub glances : List Glance
+    pub tried : IsWeakAttempt b o n m ss (view_of r) r.last.made k glances out
+    pub chosen : AreChosenOf chooses b m ss (view_of r) r.loads r.last (attempt o n k) glances
+    pub leaves : view_of r' ≡ view_after b m ss (view_of r) (attempt o n k) glances
+    pub last : r'.last ≡ last_of r.last glances
+    pub counted : r'.loads ≡ loads_after r.loads glances
+    pub still : IsReaderOf m ss r'
