@@ -5,4 +5,4 @@ mod ParseLemmas
 -- words that are numbers, one after the other
 mod AddressLemmas
 -- options that do not go together, row after row
-mod ClashLemmas
+mod ConflictLemmas

@@ -29,7 +29,7 @@ pub use Rattle.command_parts.proofs.FaultLemmas.{handed_on}
 pub use Rattle.facts.proofs.Lists.{map-insert}
 pub use Rattle.facts.proofs.Options.{Some-from_parts}
 pub use Rattle.command_line.specs.CommandLine.{IsCommand, IsPlainArg, command_app, latchsym_app, row_of}
-pub use Rattle.command_line.specs.Jobs.{AnswersMatches, AnswersWords, Gives, IsAddressIn, IsAnnotateIn, IsFaultOf, IsLookupIn, IsRequestIn, IsSourceIn, IsUnparsed, clash_of, is_no_address, rows_in}
+pub use Rattle.command_line.specs.Jobs.{AnswersMatches, AnswersWords, Gives, IsAddressIn, IsAnnotateIn, IsFaultOf, IsLookupIn, IsRequestIn, IsSourceIn, IsUnparsed, conflict_of, is_no_address, rows_in}
 pub use Rattle.command_line.specs.Operands.{ends_options, is_kernel_name, operand_place}
 pub use Rattle.command_line.specs.declared.requests.Job.{Job}
 pub use Rattle.command_line.specs.declared.requests.JobFault.{JobFault}

@@ -12,9 +12,9 @@ use Rattle.clap.specs.declared.builder.arg.Arg.{Arg}
 use Rattle.clap.specs.declared.builder.command.Command.{Command}
 use Rattle.clap.specs.declared.builder.command.Command.TheViews.{out-Command}
 use Rattle.command_line.specs.declared.rows.Argument.{Argument}
-use Rattle.command_line.specs.declared.rows.Clash.{Clash}
-use Rattle.command_line.specs.declared.rows.Kind.{Kind}
-use Rattle.command_line.specs.declared.rows.Kind.TheVariants.{Flag, Valued, Operand, Operands}
+use Rattle.command_line.specs.declared.rows.Conflict.{Conflict}
+use Rattle.command_line.specs.declared.rows.ArgumentKind.{ArgumentKind}
+use Rattle.command_line.specs.declared.rows.ArgumentKind.TheVariants.{Flag, Valued, Operand, Operands}
 use Rattle.command_line.specs.declared.rows.TheConstants as said
 
 -- another argument, and what is said if the two do not go together
@@ -32,14 +32,14 @@ pub record ArgumentRow : Type 0 where
 
 -- ---- a row of the program
 
-abbrev pub with_kind : Kind → Rule → Rule
+abbrev pub with_kind : ArgumentKind → Rule → Rule
 with_kind Flag rule = record rule { long = Some rule.id; action = Some SetTrue }
 with_kind Valued rule = record rule { long = Some rule.id }
 with_kind Operand rule = rule
 with_kind Operands rule =
     record rule { range = Some (record { start_inclusive = 1; end_inclusive = usize_max }) }
 
-abbrev pub beside_of : Clash → Beside
+abbrev pub beside_of : Conflict → Beside
 beside_of c = record { other = c.other.now; message = c.message.now }
 
 abbrev pub row_of : Argument → ArgumentRow
@@ -58,7 +58,7 @@ row_of a = record {
 -- ---- the rows of each command, in the order of its help
 
 -- an argument with this number of values that goes together with all others
-abbrev pub plain : Kind → ℕ → Text → ArgumentRow
+abbrev pub plain : ArgumentKind → ℕ → Text → ArgumentRow
 plain kind values id = record {
   rule = with_kind kind (record (new_rule id) { value_names = values });
   excluded_by = None;

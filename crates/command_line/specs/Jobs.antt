@@ -29,7 +29,7 @@ use Rattle.command_line.specs.declared.requests.Job.{Job}
 use Rattle.command_line.specs.declared.requests.Job.TheVariants as job
 use Rattle.command_line.specs.declared.requests.JobFault.{JobFault}
 use Rattle.command_line.specs.declared.requests.JobFault.TheVariants.{BadAddress, BadEnd, BadOffset}
-use Rattle.command_line.specs.declared.requests.JobFault.TheVariants.{BadReaders, BadTime, Clash}
+use Rattle.command_line.specs.declared.requests.JobFault.TheVariants.{BadReaders, BadTime, Conflict}
 use Rattle.command_line.specs.declared.requests.JobFault.TheVariants.{CommandLine}
 use Rattle.command_line.specs.declared.requests.JobFault.TheVariants.{FollowedByOwnOffset}
 use Rattle.command_line.specs.declared.requests.JobFault.TheVariants.{NoAddress, NoJob, OutOfMemory}
@@ -72,8 +72,8 @@ said_if is_so (Some b) = if is_so b.other then Some b.message else None
 
 -- what is wrong with the argument of the row, if it is given: the flag that excludes it is given
 -- too, or the option that it repeats, or the option that it needs is not
-abbrev pub clash_of : List Row → ArgumentRow → Option Text
-clash_of rows row =
+abbrev pub conflict_of : List Row → ArgumentRow → Option Text
+conflict_of rows row =
     if is_present rows row
     then option_or (said_if (λ id. has_flag id rows) row.excluded_by)
     (option_or (said_if (λ id. is_some (first_of id rows)) row.instead_of)
@@ -81,13 +81,13 @@ clash_of rows row =
     else None
 
 -- the first of what is wrong with the options of the command of this name beside one another
-abbrev pub clash_in : Text → List Row → Option Text
-clash_in name rows = slice_get (filter_map (clash_of rows) (arguments_of name)) 0
+abbrev pub conflict_in : Text → List Row → Option Text
+conflict_in name rows = slice_get (filter_map (conflict_of rows) (arguments_of name)) 0
 
 -- this is what is wrong with them
-abbrev pub IsClashIn : Text → List Row → JobFault → Type 0
-IsClashIn name rows (Clash message) = clash_in name rows ≡ Some message.now
-IsClashIn name rows _ = ⊥
+abbrev pub IsConflictIn : Text → List Row → JobFault → Type 0
+IsConflictIn name rows (Conflict message) = conflict_in name rows ≡ Some message.now
+IsConflictIn name rows _ = ⊥
 
 -- ---- the listings
 
@@ -344,10 +344,10 @@ Gives Is name rows (Err fault) = HasBadValue name rows fault
 -- The answer to a subcommand of this name, with these values. Options that do not go together are
 -- reported before a wrong value.
 abbrev pub AnswersSubcommand : Text → List Row → Result Job JobFault → Type 0
-AnswersSubcommand name rows (Ok job) = (clash_in name rows ≡ None) × IsJobIn name rows job
+AnswersSubcommand name rows (Ok job) = (conflict_in name rows ≡ None) × IsJobIn name rows job
 AnswersSubcommand name rows (Err fault) =
-    IsClashIn name rows fault
-    ⊎ ((clash_in name rows ≡ None) × HasBadValue name rows fault)
+    IsConflictIn name rows fault
+    ⊎ ((conflict_in name rows ≡ None) × HasBadValue name rows fault)
 
 -- the answer if a parse entered this subcommand
 abbrev pub AnswersMatches : Option (Text × List Row) → Result Job JobFault → Type 0

@@ -9,16 +9,16 @@ ghost use Rattle.command_line.specs.Jobs.{IsAddressIn, IsAnnotateIn, IsFaultOf, 
 ghost use Rattle.command_line.specs.Jobs.{IsLogOffsetIn, IsLookupIn, IsOffsetIn, IsRequestIn};
 ghost use Rattle.command_line.specs.Jobs.{IsRecordIn, IsSourceIn, IsTimeIn, is_followed_whole};
 ghost use Rattle.command_line.specs.Jobs.{is_own_offset, reading_in, IsRunIn, IsSubcommandIn};
-ghost use Rattle.command_line.specs.Jobs.{callers_in, clash_in, clash_of, form_in, has_flag};
+ghost use Rattle.command_line.specs.Jobs.{callers_in, conflict_in, conflict_of, form_in, has_flag};
 ghost use Rattle.command_line.specs.Jobs.{is_like_address, is_present, readers_of, rows_in};
 ghost use Rattle.command_line.specs.Jobs.{symbols_in, values_in};
 
 use crate::parser::latchsym_command;
 use crate::requests::{Address, Job, JobFault, Lookup, Record, Request, Run, Subcommand};
-use crate::rows::{Argument, KALLSYMS, Kind, LOG, arguments_of};
+use crate::rows::{Argument, ArgumentKind, KALLSYMS, LOG, arguments_of};
 use clap::error::ErrorKind;
 use clap::{ArgMatches, Error};
-use command_listings::{AddressForm, Annotate, ListingFiles, LogReading, Sources, SymbolSource};
+use command_listings::{AddressOptions, Annotate, ListingFiles, LogReading, Sources, SymbolSource};
 use command_parts::AnswerForm;
 use histories::time_of;
 use latch_table::MOST_READERS;
@@ -69,8 +69,8 @@ fn job_of_subcommand<'a>(
 ) -> Result<Job<'a>, JobFault<'a>>
     ensures { AnswersSubcommand name.now (rows_in found.now) result }
 {
-    if let Some(message) = clash_in(name, found) {
-        return Err(JobFault::Clash(message));
+    if let Some(message) = conflict_in(name, found) {
+        return Err(JobFault::Conflict(message));
     }
     match name {
         "trace" => trace_in(found),
@@ -80,11 +80,11 @@ fn job_of_subcommand<'a>(
 
 /// What is wrong with the options of the command of this name beside one another, by the first row
 /// that says so.
-fn clash_in(name: &str, found: &ArgMatches<'_>) -> Option<&'static str>
-    ensures { option_map (λ m. m.now) result ≡ clash_in name.now (rows_in found.now) }
+fn conflict_in(name: &str, found: &ArgMatches<'_>) -> Option<&'static str>
+    ensures { option_map (λ m. m.now) result ≡ conflict_in name.now (rows_in found.now) }
 {
     for row in arguments_of(name) {
-        if let Some(message) = clash_of(row, found) {
+        if let Some(message) = conflict_of(row, found) {
             return Some(message);
         }
     }
@@ -93,16 +93,20 @@ fn clash_in(name: &str, found: &ArgMatches<'_>) -> Option<&'static str>
 
 /// What is wrong if the argument of the row is given: a flag that excludes it is given too, or an
 /// option that it repeats, or the option that it needs is not.
-fn clash_of(row: &Argument, found: &ArgMatches<'_>) -> Option<&'static str>
-    ensures { option_map (λ m. m.now) result ≡ clash_of (rows_in found.now) (row_of row.now) }
+fn conflict_of(row: &Argument, found: &ArgMatches<'_>) -> Option<&'static str>
+    ensures { option_map (λ m. m.now) result ≡ conflict_of (rows_in found.now) (row_of row.now) }
 {
     if !is_present(row, found) {
         return None;
     }
     match (row.excluded_by, row.instead_of, row.needs) {
-        (Some(clash), _, _) if is_given(found, clash.other) => Some(clash.message),
-        (_, Some(clash), _) if value_of(found, clash.other).is_some() => Some(clash.message),
-        (_, _, Some(clash)) if value_of(found, clash.other).is_none() => Some(clash.message),
+        (Some(conflict), _, _) if is_given(found, conflict.other) => Some(conflict.message),
+        (_, Some(conflict), _) if value_of(found, conflict.other).is_some() => Some(
+            conflict.message,
+        ),
+        (_, _, Some(conflict)) if value_of(found, conflict.other).is_none() => Some(
+            conflict.message,
+        ),
         _ => None,
     }
 }
@@ -112,7 +116,7 @@ fn is_present(row: &Argument, found: &ArgMatches<'_>) -> bool
     ensures { result ≡ is_present (rows_in found.now) (row_of row.now) }
 {
     match row.kind {
-        Kind::Flag => is_given(found, row.name),
+        ArgumentKind::Flag => is_given(found, row.name),
         _ => value_of(found, row.name).is_some(),
     }
 }
@@ -398,7 +402,7 @@ fn address_in<'a>(alloc: Global, found: &ArgMatches<'a>) -> Result<Address<'a>, 
     let json = is_given(found, "json");
     Ok(Address {
         names,
-        form: AddressForm { json, higher },
+        form: AddressOptions { json, higher },
     })
 }
 

@@ -4,7 +4,7 @@ ghost use Rattle.clap.specs.Words.{App, with_subcommand};
 ghost use Rattle.command_line.specs.CommandLine.{IsCommand, IsPlainArg, command_app, latchsym_app};
 ghost use Rattle.command_line.specs.CommandLine.{row_of, top_app};
 
-use crate::rows::{Argument, Kind, arguments_of};
+use crate::rows::{Argument, ArgumentKind, arguments_of};
 use clap::{Arg, ArgAction, Command};
 use std::alloc::{AllocError, Global};
 
@@ -91,9 +91,9 @@ fn argument_of<'a>(alloc: Global, row: &Argument) -> Arg<'a>
         .help(row.help)
         .required(row.is_required);
     match row.kind {
-        Kind::Flag => argument.long(row.name).action(ArgAction::SetTrue),
-        Kind::Valued => argument.long(row.name),
-        Kind::Operand => argument,
-        Kind::Operands => argument.num_args(1..),
+        ArgumentKind::Flag => argument.long(row.name).action(ArgAction::SetTrue),
+        ArgumentKind::Valued => argument.long(row.name),
+        ArgumentKind::Operand => argument,
+        ArgumentKind::Operands => argument.num_args(1..),
     }
 }

@@ -2,7 +2,7 @@
 ghost use Rattle.std.specs.Prelude.{◌≡◌, option_map};
 
 use clap::Error;
-use command_listings::{AddressForm, Annotate, Sources};
+use command_listings::{AddressOptions, Annotate, Sources};
 use command_parts::AnswerForm;
 use listing::AddressRule;
 use std::alloc::AllocFailed;
@@ -72,7 +72,7 @@ pub struct Address<'a> {
     /// The names, in the order of their words.
     pub names: Vec<&'a str>,
     /// How the addresses are written.
-    pub form: AddressForm,
+    pub form: AddressOptions,
 }
 
 /// Which events are recorded.
@@ -164,7 +164,7 @@ pub enum JobFault<'a> {
     /// A lookup without an address.
     NoAddress,
     /// Options that do not go together: what is wrong with them.
-    Clash(&'static str),
+    Conflict(&'static str),
     /// A value of `--at` that is no TIME.
     BadTime(&'a str),
     /// A value of `--offset` that is no NUMBER.

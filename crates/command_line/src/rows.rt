@@ -8,7 +8,7 @@ ghost use Rattle.command_line.specs.CommandLine.{arguments_of, row_of};
 
 /// What a row is about.
 #[derive(Clone, Copy, Debug, Drop)]
-pub enum Kind {
+pub enum ArgumentKind {
     /// An option without a value.
     Flag,
     /// An option with as many values as its row names.
@@ -21,7 +21,7 @@ pub enum Kind {
 
 /// Another argument, and what is said if the two do not go together.
 #[derive(Clone, Copy, Debug, Drop)]
-pub struct Clash {
+pub struct Conflict {
     /// The name of the other argument.
     pub other: &'static str,
     /// What is wrong with the command line.
@@ -34,7 +34,7 @@ pub struct Argument {
     /// Its name, which an option has after `--`.
     pub name: &'static str,
     /// What it is.
-    pub kind: Kind,
+    pub kind: ArgumentKind,
     /// What the help calls its values.
     pub values: &'static [&'static str],
     /// What the help says of it.
@@ -44,17 +44,17 @@ pub struct Argument {
     /// The value of one that is not given, if it has one then.
     pub default: &'static str,
     /// The flag that may not be given beside it.
-    pub excluded_by: Option<Clash>,
+    pub excluded_by: Option<Conflict>,
     /// The option with a value that may not be given beside it, since one of them is enough.
-    pub instead_of: Option<Clash>,
+    pub instead_of: Option<Conflict>,
     /// The option with a value that has to be given beside it.
-    pub needs: Option<Clash>,
+    pub needs: Option<Conflict>,
 }
 
 /// Any argument without a name: it may be given beside all others.
 const ANY: Argument = Argument {
     name: "",
-    kind: Kind::Flag,
+    kind: ArgumentKind::Flag,
     values: &[],
     help: "",
     is_required: false,
@@ -70,7 +70,7 @@ macro_rules! row {
     ($kind:ident $name:literal $values:tt: $help:literal $(, $field:ident: $value:expr)*) => {
         Argument {
             name: $name,
-            kind: Kind::$kind,
+            kind: ArgumentKind::$kind,
             values: &$values,
             help: $help,
             $($field: $value,)*
@@ -99,46 +99,46 @@ const HISTORY_OR_FOLLOW: &str = "--history and --follow exclude each other";
 const CALLERS_OR_EXACT: &str = "--callers and --exact exclude each other";
 
 /// The modules come from the symbols, so none are listed.
-const FROM_SYMBOLS: Option<Clash> = Some(Clash {
+const FROM_SYMBOLS: Option<Conflict> = Some(Conflict {
     other: "modules-from-symbols",
     message: SYMBOLS_HAVE_MODULES,
 });
 
-const NEEDS_MODULES: Option<Clash> = Some(Clash {
+const NEEDS_MODULES: Option<Conflict> = Some(Conflict {
     other: "modules",
     message: REGIONS_NEED_MODULES,
 });
 
 /// A word that is no option names the listing of symbols.
-const INSTEAD_OF_KALLSYMS: Option<Clash> = Some(Clash {
+const INSTEAD_OF_KALLSYMS: Option<Conflict> = Some(Conflict {
     other: "kallsyms",
     message: SYMBOLS_TWICE,
 });
 
 /// A history has the listings, so none are named.
-const FROM_HISTORY: Option<Clash> = Some(Clash {
+const FROM_HISTORY: Option<Conflict> = Some(Conflict {
     other: "history",
     message: HISTORY_HAS_LISTINGS,
 });
 
 /// A word that is no option names a listing of symbols as well.
-const INSTEAD_OF_LISTING: Option<Clash> = Some(Clash {
+const INSTEAD_OF_LISTING: Option<Conflict> = Some(Conflict {
     other: "listing",
     message: HISTORY_OR_FILE,
 });
 
 /// A history is read once, so it is not followed.
-const NOT_BY_HISTORY: Option<Clash> = Some(Clash {
+const NOT_BY_HISTORY: Option<Conflict> = Some(Conflict {
     other: "history",
     message: HISTORY_OR_FOLLOW,
 });
 
-const NEEDS_HISTORY: Option<Clash> = Some(Clash {
+const NEEDS_HISTORY: Option<Conflict> = Some(Conflict {
     other: "history",
     message: AT_NEEDS_HISTORY,
 });
 
-const NOT_EXACT: Option<Clash> = Some(Clash {
+const NOT_EXACT: Option<Conflict> = Some(Conflict {
     other: "exact",
     message: CALLERS_OR_EXACT,
 });

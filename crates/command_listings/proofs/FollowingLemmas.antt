@@ -9,8 +9,8 @@ use Rattle.texts.specs.Output.{Says}
 use Rattle.texts.proofs.OutputLemmas.{nothing_said, then as said_then}
 use Rattle.logs.proofs.PutLemmas.{puts_as, puts_failed}
 use Rattle.logs.specs.Unnamed.{ends_address, has_address}
-use Rattle.logs.specs.Annotation.{IsOpen, Puts, held_in}
-use Rattle.logs.specs.AnnotatedLogs.{first_held}
+use Rattle.logs.specs.Annotation.{IsOpen, Puts, context_in}
+use Rattle.logs.specs.AnnotatedLogs.{first_context}
 use Rattle.logs.specs.declared.annotator.Annotator.{Annotator}
 use Rattle.logs.specs.declared.contexts.LogContext.{LogContext}
 use Rattle.logs.specs.declared.log_names.LogNames.{LogNames}
@@ -49,10 +49,10 @@ nothing_consumed (Some xs) = refl
 
 -- what a block is passed with names the lines that end in it
 names_block : (n : Naming) (a a' : Annotator) (line block text : List ℕ) → PassesBy n a a' block text → IsOpen a line
-    → (line' : List ℕ) × NamesBlock n (held_in a) (held_in a') line block line' text × IsOpen a' line'
+    → (line' : List ℕ) × NamesBlock n (context_in a) (context_in a') line block line' text × IsOpen a' line'
 names_block (By answer) a a' line block text passes is_open =
     let p = passes line is_open in
-    (p.line', record { ended = p.passed; parts = p.parts; whole = p.whole; no_end = p.is_open.no_end; carried = p.held; put = p.put }, p.is_open)
+    (p.line', record { ended = p.passed; parts = p.parts; whole = p.whole; no_end = p.is_open.no_end; carried = p.context; put = p.put }, p.is_open)
 names_block (Unnamed narrow) a a' line block text (mid, passes, is) is_open =
     let p = passes line is_open in (
       p.line',
@@ -61,14 +61,14 @@ names_block (Unnamed narrow) a a' line block text (mid, passes, is) is_open =
         parts = p.parts;
         whole = p.whole;
         no_end = p.is_open.no_end;
-        carried = ap held_in is ∙ ap (λ (held : LogContext). record held { names = (held_in a).names }) p.held;
+        carried = ap context_in is ∙ ap (λ (context : LogContext). record context { names = (context_in a).names }) p.context;
         put = p.put;
       },
       record { no_end = p.is_open.no_end; long = ap (λ (x : Annotator). x.is_long) is ∙ p.is_open.long; kept = ap (λ (x : Annotator). x.begun.items) is ∙ p.is_open.kept },
     )
 
 -- and what the open line is ended with names it
-names_last : (n : Naming) (a : Annotator) (line : List ℕ) (names : LogNames) (text : List ℕ) → EndsBy n a names text → IsOpen a line → NamesLast (held_in a) line n names text
+names_last : (n : Naming) (a : Annotator) (line : List ℕ) (names : LogNames) (text : List ℕ) → EndsBy n a names text → IsOpen a line → NamesLast (context_in a) line n names text
 names_last (By answer) a line names text ends is_open = let e = ends line is_open in record { names_are = e.names_are; put = e.put }
 names_last (Unnamed narrow) a line names text (same, some, ends) is_open = let e = ends line is_open in record { names_are = same; put = e.put }
 
@@ -187,7 +187,7 @@ module _ {W E : Type 0} (contents : W → Option (List ℕ)) (errors : E → Opt
     pub turns : List Turn
     pub point : Point
     pub is_open : IsOpen b point.line
-    pub held : point.held ≡ held_in b
+    pub context : point.context ≡ context_in b
     pub narrow : point.narrow ≡ s.is_narrow
     pub is_told : point.told ≡ s.is_told
     pub followed : IsFollowed contents errors q a first turns point before then w now e told
@@ -197,12 +197,12 @@ module _ {W E : Type 0} (contents : W → Option (List ℕ)) (errors : E → Opt
     pub many : n ≤ length turns
 
   module _ (first : Bool) (before : Seen) (w : Output W) (e : Output E) where
-    pub begun : (s : Followed) (b : Annotator) (head : List ℕ) → s.is_narrow ≡ first → s.is_told ≡ false → before.next ≡ before.later → held_in b ≡ first_held → IsOpen b [] → head ≡ [] → IsOn first before before w w e e s b head 0
-    begun s b head narrow untold known held is_open empty = record {
+    pub begun : (s : Followed) (b : Annotator) (head : List ℕ) → s.is_narrow ≡ first → s.is_told ≡ false → before.next ≡ before.later → context_in b ≡ first_context → IsOpen b [] → head ≡ [] → IsOn first before before w w e e s b head 0
+    begun s b head narrow untold known context is_open empty = record {
       turns = [];
       point = first_point first;
       is_open = is_open;
-      held = sym held;
+      context = sym context;
       narrow = sym narrow;
       is_told = sym untold;
       followed = record {
@@ -262,19 +262,19 @@ module _ {W E : Type 0} (contents : W → Option (List ℕ)) (errors : E → Opt
         turned bytes b' s' names w' e' head' same kept (reading, once, inr (m, note, asked, naming, said, (text, put, (goes, passes)))) =
             let (line', block_named, is_open) = names_block m b b' on.point.line bytes.now text passes on.is_open in
             let t : Turn = record { block = block; reading = reading } in
-            let named : NamesBlock m on.point.held (held_in b') on.point.line block line' text = subst (λ l. NamesBlock m on.point.held (held_in b') on.point.line l line' text) same (subst (λ h. NamesBlock m h (held_in b') on.point.line bytes.now line' text) (sym on.held) block_named) in
+            let named : NamesBlock m on.point.context (context_in b') on.point.line block line' text = subst (λ l. NamesBlock m on.point.context (context_in b') on.point.line l line' text) same (subst (λ h. NamesBlock m h (context_in b') on.point.line bytes.now line' text) (sym on.context) block_named) in
             let asked_so : is_some reading ≡ ends_address s.is_narrow (on.point.line ++ block) = asked on.point.line on.is_open ∙ ap (λ l. ends_address s.is_narrow (on.point.line ++ l)) same in
             record {
               turns = on.turns ++ t ∷ [];
-              point = point_after on.point t m (held_in b') line';
+              point = point_after on.point t m (context_in b') line';
               is_open = is_open;
-              held = refl;
+              context = refl;
               narrow = sym goes.0;
               is_told = ap (λ x. is_told_after x reading m) on.is_told ∙ sym goes.1;
               followed = record {
                 written = on.followed.written ++ text;
                 notes = on.followed.notes ++ told_once on.point.told note;
-                named = one_more on.turns on.point on.followed.written text on.followed.notes note (held_in b') line' t m on.followed.named (asked_in block reading m note asked_so naming) named;
+                named = one_more on.turns on.point on.followed.written text on.followed.notes note (context_in b') line' t m on.followed.named (asked_in block reading m note asked_so naming) named;
                 happen = subst (Happen before.events after.events) (sym (flat_map-append events_of on.turns (t ∷ []) ∙ ap (λ l. flat_map events_of on.turns ++ l) (append-nil (events_of t))))
                     (happen_then before.events then.events after.events _ _ on.followed.happen (one_turn reading once));
                 consumed = subst (Consumes before.left after.left) (sym (flat_map-append (λ (x : Turn). x.block) on.turns (t ∷ []) ∙ ap (λ l. read_in on.turns ++ l) (append-nil block)))
@@ -324,10 +324,10 @@ module _ {W E : Type 0} (contents : W → Option (List ℕ)) (errors : E → Opt
         cut_off bytes why result same handed (reading, once, inr (m, note, asked, naming, said, (f, is, puts))) =
             let block = take count room in
             let asked_so : is_some reading ≡ ends_address s.is_narrow (on.point.line ++ block) = asked on.point.line on.is_open ∙ ap (λ l. ends_address s.is_narrow (on.point.line ++ l)) same in
-            let some : (x : Followed × LogNames) (text : List ℕ) → GoesOn s reading m x.0 × PassesBy m b b' bytes.now text → NamesSome on.point.held on.point.line block m text =
+            let some : (x : Followed × LogNames) (text : List ℕ) → GoesOn s reading m x.0 × PassesBy m b b' bytes.now text → NamesSome on.point.context on.point.line block m text =
             λ x text (goes, passes).
             let (line', named, is_open) = names_block m b b' on.point.line bytes.now text passes on.is_open in
-            (held_in b', line', subst (λ l. NamesBlock m on.point.held (held_in b') on.point.line l line' text) same (subst (λ h. NamesBlock m h (held_in b') on.point.line bytes.now line' text) (sym on.held) named)) in
+            (context_in b', line', subst (λ l. NamesBlock m on.point.context (context_in b') on.point.line l line' text) same (subst (λ h. NamesBlock m h (context_in b') on.point.line bytes.now line' text) (sym on.context) named)) in
             failed_so after w' e' why result handed (inr (inr (inl (
               record { block = block; reading = reading },
               m,
@@ -338,7 +338,7 @@ module _ {W E : Type 0} (contents : W → Option (List ℕ)) (errors : E → Opt
               asked_in block reading m note asked_so naming,
               told_so note e' said,
               why,
-              (f, is, puts_failed contents _ (λ (u : Unit {0}). NamesSome on.point.held on.point.line block m) now w' tt some f puts),
+              (f, is, puts_failed contents _ (λ (u : Unit {0}). NamesSome on.point.context on.point.line block m) now w' tt some f puts),
               refl,
             ))))
 
@@ -349,8 +349,8 @@ module _ {W E : Type 0} (contents : W → Option (List ℕ)) (errors : E → Opt
           is_over : (reading : Option Event) → ReadsOnce mid after reading → IsAtEnd after.left
           is_over reading once = subst IsAtEnd (sym once.left) (read.bytes.1 end room_for)
 
-          last_so : (reading : Option Event) (m : Naming) (x : Followed × LogNames) (text : List ℕ) → GoesOn s reading m x.0 × EndsBy m b x.1 text → NamesLast on.point.held on.point.line m x.1 text
-          last_so reading m x text (goes, ends) = subst (λ h. NamesLast h on.point.line m x.1 text) (sym on.held) (names_last m b on.point.line x.1 text ends on.is_open)
+          last_so : (reading : Option Event) (m : Naming) (x : Followed × LogNames) (text : List ℕ) → GoesOn s reading m x.0 × EndsBy m b x.1 text → NamesLast on.point.context on.point.line m x.1 text
+          last_so reading m x text (goes, ends) = subst (λ h. NamesLast h on.point.line m x.1 text) (sym on.context) (names_last m b on.point.line x.1 text ends on.is_open)
 
           -- the log is at its end
           pub at_end : (s' : Followed) (found : Findings) → found.head.items ≡ head → TakesPart contents errors q a part.Last s b b' mid after now w' told e' (Ok (s', found.names)) → FollowsTurns contents errors q a first before after w w' e e' (Ok found)
@@ -379,7 +379,7 @@ module _ {W E : Type 0} (contents : W → Option (List ℕ)) (errors : E → Opt
             known_now mid after room count read reading once,
             asked_last reading m note (asked on.point.line on.is_open) naming,
             told_so note e' said,
-            (f, is, puts_as contents _ (NamesLast on.point.held on.point.line m) now w' (λ (x : Followed × LogNames). x.1) (last_so reading m) f puts),
+            (f, is, puts_as contents _ (NamesLast on.point.context on.point.line m) now w' (λ (x : Followed × LogNames). x.1) (last_so reading m) f puts),
           )))))
 
       -- no block is left to be read

@@ -1,5 +1,5 @@
 -- The kept symbols of the names that words ask for, symbol by symbol.
-use Rattle.command_listings.proofs.Words.{drop, map-append, take-append-drop, list_any, is_told, has_line, has_any_line, append_assoc, list_any-append, or-false, or-true, same_from_decides, ◌≡◌, ◌∙◌, ℕ, List, [], ◌∷◌, ◌++◌, Bool, true, false, cond, ◌||◌, ◌+◌, ◌<◌, length, take, get_or, Option, Some, None, option_map, refl, sym, ap, subst, option_and_then, unwrap_or, BTreeMap, UpdatesBy, get_by, is_at, Bor, slice_cmp, Vec, cons_option, option_to_list, lookup, nat_cmp, result_ok, bytes_eq, flat_map-append, filter-append, filter_map-append, btree_map_updates_str, bytes_eq-Decides, Item, CatalogEntries, Found, symbol_at, item_of_address, ListedSymbol, Output, Says, same_text, then, lines_of, is_mapping, symbol_of, symbols_in, AddressForm, symbols_text, word_text, words_text, asked_of, IsSought, Kept, end_of, found_by, is_owner, is_sought, kept_at_its_address, kept_in, kept_line, kept_symbol, kept_symbols, named, sought}
+use Rattle.command_listings.proofs.Words.{drop, map-append, take-append-drop, list_any, is_told, has_line, has_any_line, append_assoc, list_any-append, or-false, or-true, same_from_decides, ◌≡◌, ◌∙◌, ℕ, List, [], ◌∷◌, ◌++◌, Bool, true, false, cond, ◌||◌, ◌+◌, ◌<◌, length, take, get_or, Option, Some, None, option_map, refl, sym, ap, subst, option_and_then, unwrap_or, BTreeMap, UpdatesBy, get_by, is_at, Bor, slice_cmp, Vec, cons_option, option_to_list, lookup, nat_cmp, result_ok, bytes_eq, flat_map-append, filter-append, filter_map-append, btree_map_updates_str, bytes_eq-Decides, Item, CatalogEntries, Found, symbol_at, item_of_address, ListedSymbol, Output, Says, same_text, then, lines_of, is_mapping, symbol_of, symbols_in, AddressOptions, symbols_text, word_text, words_text, asked_of, IsSought, Kept, end_of, found_by, is_owner, is_sought, kept_at_its_address, kept_in, kept_line, kept_symbol, kept_symbols, named, sought}
 use Rattle.std.proofs.lemmas.List.{append-nil}
 use Rattle.command_listings.proofs.WordLemmas.{text_more, texts}
 
@@ -184,7 +184,7 @@ own_is_sought [] after word = ap (λ b. b || is_sought after (asked_of word).sym
 own_is_sought (w ∷ ws) after word = ap (λ b. bytes_eq (asked_of word).symbol (asked_of w).symbol || b) (own_is_sought ws after word) ∙ or-true (bytes_eq (asked_of word).symbol (asked_of w).symbol)
 
 -- a map has the symbols of the names of words
-module _ (form : AddressForm) (words : List (List ℕ)) (kept : List Kept) (m : Symbols) (holds : IsSought words kept m) where
+module _ (form : AddressOptions) (words : List (List ℕ)) (kept : List Kept) (m : Symbols) (holds : IsSought words kept m) where
   abbrev by_map : List ℕ → List Kept
   by_map name = unwrap_or (found_by m name) []
 
@@ -219,7 +219,7 @@ pub whole_text : (done : List (List ℕ)) (rest text : List ℕ) → done ++ lin
 whole_text done rest text joined none = sym (ap (λ r. done ++ lines_of r) none ∙ append-nil done) ∙ joined
 
 -- the text of one word more was said
-pub word_said : {W : Type 0} {contents : W → Option (List ℕ)} (form : AddressForm) (found : List ℕ → List Kept) (words : List (Bor (List ℕ))) (i : ℕ) (d : Bor (List ℕ)) {old mid new : Output W} → i < length words
+pub word_said : {W : Type 0} {contents : W → Option (List ℕ)} (form : AddressOptions) (found : List ℕ → List Kept) (words : List (Bor (List ℕ))) (i : ℕ) (d : Bor (List ℕ)) {old mid new : Output W} → i < length words
     → Says contents old mid (words_text form found (texts (take i words))) → Says contents mid new (word_text form found (get_or words i d).now) → Says contents old new (words_text form found (texts (take (i + 1) words)))
 word_said form found words i d below before said =
     let w = (get_or words i d).now in

@@ -6,8 +6,8 @@ use Rattle.std.proofs.KnownBytes.{Appends-nil, Appends-trans, Consumes-kept, Con
 use Rattle.texts.specs.Counted.{Rose, device_of, failures_of}
 use Rattle.modules.specs.Listed.{BoundNames}
 use Rattle.listing.specs.declared.address_rules.LogRule.{LogRule}
-use Rattle.logs.specs.Annotation.{IsOpen, Puts, held_in}
-use Rattle.logs.specs.AnnotatedLogs.{first_held}
+use Rattle.logs.specs.Annotation.{IsOpen, Puts, context_in}
+use Rattle.logs.specs.AnnotatedLogs.{first_context}
 use Rattle.logs.specs.Answering.{Answering}
 use Rattle.logs.specs.declared.annotation.LogFault.TheVariants as fault
 use Rattle.logs.specs.declared.log_names.LogNames.{LogNames}
@@ -47,11 +47,11 @@ module _ (kernel : Option BoundNames) (rule : LogRule) (parts : List HistoryPart
 
   module _ (count : ℕ) (answer : Answering) (are : AreAnswersAfter kernel rule parts count answer) where
     -- a run is named
-    pub run_named : (p : TimedPoint) (s s' : TimedLines) (bytes text : List ℕ) (pending : Option Pending) → IsOpen s.annotator p.line → p.held ≡ held_in s.annotator → p.times ≡ s.times → PutsRun parts count answer s s' bytes pending text
-        → (run : List ℕ) × (bytes ≡ run ++ left_of pending) × ((p' : TimedPoint) × NamesRun kernel rule parts count answer p p' run text × IsOpen s'.annotator p'.line × (p'.held ≡ held_in s'.annotator) × (p'.times ≡ s'.times))
-    run_named p s s' bytes text pending is_open held times (run, parted, passes, after) =
+    pub run_named : (p : TimedPoint) (s s' : TimedLines) (bytes text : List ℕ) (pending : Option Pending) → IsOpen s.annotator p.line → p.context ≡ context_in s.annotator → p.times ≡ s.times → PutsRun parts count answer s s' bytes pending text
+        → (run : List ℕ) × (bytes ≡ run ++ left_of pending) × ((p' : TimedPoint) × NamesRun kernel rule parts count answer p p' run text × IsOpen s'.annotator p'.line × (p'.context ≡ context_in s'.annotator) × (p'.times ≡ s'.times))
+    run_named p s s' bytes text pending is_open context times (run, parted, passes, after) =
         let passed = passes p.line is_open in
-        let p' : TimedPoint = record { times = s'.times; held = held_in s'.annotator; line = passed.line' } in
+        let p' : TimedPoint = record { times = s'.times; context = context_in s'.annotator; line = passed.line' } in
         let is_run : IsRun parts answer.is_narrow count s.times s'.times (ended_in (p.line ++ run)) = after p.line is_open in (
           run,
           parted,
@@ -63,8 +63,8 @@ module _ (kernel : Option BoundNames) (rule : LogRule) (parts : List HistoryPart
               whole = passed.whole;
               no_end = passed.is_open.no_end;
               run = subst (λ n. IsRun parts n count p.times s'.times (ended_in (p.line ++ run))) (answers_narrow count answer are) (subst (λ t. IsRun parts answer.is_narrow count t s'.times (ended_in (p.line ++ run))) (sym times) is_run);
-              held = rw (← held) at passed.held;
-              put = rw (← held) at passed.put;
+              context = rw (← context) at passed.context;
+              put = rw (← context) at passed.put;
             },
             passed.is_open,
             refl,
@@ -74,16 +74,16 @@ module _ (kernel : Option BoundNames) (rule : LogRule) (parts : List HistoryPart
 
   module _ {L W : Type 0} (remaining : L → Option (List ℕ)) (contents : W → Option (List ℕ)) (l : Counted L) (w : Output W) where
     -- nothing was read
-    pub begun : (s : TimedLog) → held_in s.lines.annotator ≡ first_held → IsOpen s.lines.annotator [] → s.lines.times ≡ first_times → s.left.items ≡ [] → s.is_ended ≡ false → s.head.items ≡ []
+    pub begun : (s : TimedLog) → context_in s.lines.annotator ≡ first_context → IsOpen s.lines.annotator [] → s.lines.times ≡ first_times → s.left.items ≡ [] → s.is_ended ≡ false → s.head.items ≡ []
         → IsTimedTo kernel rule parts remaining contents l w 0 s l w
-    begun s held is_open times none on head = (
+    begun s context is_open times none on head = (
       record {
         point = first_point;
         log = [];
         text = [];
         named = no_run;
         is_open = is_open;
-        held = sym held;
+        context = sym context;
         times = sym times;
         read = refl;
         consumed = subst (Consumes _ _) (sym none) (Consumes-nil _);
@@ -108,7 +108,7 @@ module _ (kernel : Option BoundNames) (rule : LogRule) (parts : List HistoryPart
         -- one run more
         pub run_put : (pending : Option Pending) → Puts contents (PutsRun parts count answer s s' left) w' w'' (Ok pending) → IsNamedTo kernel rule parts remaining contents l w (n + 1) s' (left_of pending) head l' w''
         run_put pending (text, put, puts) =
-            let (run, parted, (p', named, is_open, held, times)) = run_named count answer are to.point s s' left text pending to.is_open to.held to.times puts in
+            let (run, parted, (p', named, is_open, context, times)) = run_named count answer are to.point s s' left text pending to.is_open to.context to.times puts in
             let all : to.log ++ left ≡ (to.log ++ run) ++ left_of pending = ap (λ b. to.log ++ b) parted ∙ sym (append_assoc to.log run (left_of pending)) in
             record {
               point = p';
@@ -116,7 +116,7 @@ module _ (kernel : Option BoundNames) (rule : LogRule) (parts : List HistoryPart
               text = to.text ++ text;
               named = one_more n count answer to.point p' to.log run to.text text to.named are named;
               is_open = is_open;
-              held = held;
+              context = context;
               times = times;
               read = to.read;
               consumed = subst (Consumes _ _) all to.consumed;
@@ -129,7 +129,7 @@ module _ (kernel : Option BoundNames) (rule : LogRule) (parts : List HistoryPart
         -- a run that was not written
         run_cut : (pending : Option Pending) (text : List ℕ) → WrotePart contents w' w'' text → PutsRun parts count answer s s' left pending text → IsCutOff kernel rule parts remaining contents l w l' w''
         run_cut pending text (failed, part, lost, parted_text, put) puts =
-            let (run, parted, (p', named, is_open, held, times)) = run_named count answer are to.point s s' left text pending to.is_open to.held to.times puts in
+            let (run, parted, (p', named, is_open, context, times)) = run_named count answer are to.point s s' left text pending to.is_open to.context to.times puts in
             let all : to.log ++ left ≡ (to.log ++ run) ++ left_of pending = ap (λ b. to.log ++ b) parted ∙ sym (append_assoc to.log run (left_of pending)) in (
               failed,
               (
@@ -167,8 +167,8 @@ module _ (kernel : Option BoundNames) (rule : LogRule) (parts : List HistoryPart
                 answers = are;
                 named = subst (λ b. may_name parts b count to.point.times to.point.line ≡ true) narrow (subst (λ t. may_name parts answer.is_narrow count t to.point.line ≡ true) (sym to.times) may);
                 times_are = same ∙ ap (λ t. times_behind answer.is_narrow t to.point.line) (sym to.times) ∙ ap (λ b. times_behind b to.point.times to.point.line) narrow;
-                names_are = rw (← to.held) at end.names_are;
-                put = rw (← to.held) at end.put;
+                names_are = rw (← to.context) at end.names_are;
+                put = rw (← to.context) at end.put;
               }
 
           pub last_put : (names : LogNames) (times : LogTimes) (w'' : Output W) → IsAtEnd (remaining (device_of l')) → PutsLast contents parts count answer s w' w'' (Ok (turn.Ended names times)) → IsNamedWhole kernel rule parts remaining contents l w names times head l' w''
@@ -226,7 +226,7 @@ module _ (kernel : Option BoundNames) (rule : LogRule) (parts : List HistoryPart
             text = to.text;
             named = to.named;
             is_open = subst (λ (x : TimedLines). IsOpen x.annotator to.point.line) (sym same.0) to.is_open;
-            held = to.held ∙ ap (λ (x : TimedLines). held_in x.annotator) (sym same.0);
+            context = to.context ∙ ap (λ (x : TimedLines). context_in x.annotator) (sym same.0);
             times = to.times ∙ ap (λ (x : TimedLines). x.times) (sym same.0);
             read = all ∙ to.read;
             consumed = Consumes-trans _ _ _ to.log block (subst (Consumes _ _) log_so to.consumed) took;

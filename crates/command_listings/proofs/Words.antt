@@ -35,7 +35,7 @@ pub use Rattle.command_listings.specs.KeptSymbols.{IsSought, Kept, end_of, found
 pub use Rattle.command_listings.specs.LogAnswers.{answered_by}
 pub use Rattle.modules.specs.AtAddress.{lists_symbol}
 pub use Rattle.command_listings.specs.NoteTexts.{IsNoted, applying_lines, line_if_noted, line_where, message_of, note_line, note_lines, lines_by, note_head, noted_bounds}
-pub use Rattle.command_listings.specs.declared.address_texts.AddressForm.{AddressForm}
+pub use Rattle.command_listings.specs.declared.address_texts.AddressOptions.{AddressOptions}
 pub use Rattle.command_listings.specs.declared.annotations.Annotate.{Annotate}
 pub use Rattle.command_listings.specs.declared.asked_names.Distance.{Distance}
 pub use Rattle.command_listings.specs.declared.sources.Sources.{Sources}

@@ -2,7 +2,7 @@
 use Rattle.std.specs.Prelude.{ℕ, ◌+◌, ◌-◌, ◌^◌, Bool, ◌&&◌, true, not, nat_eq, nat_le, nat_lt}
 use Rattle.std.specs.Prelude.{if◌then◌else◌}
 use Rattle.std.specs.Option.{option_map_or}
-use Rattle.command_listings.specs.declared.address_texts.AddressForm.{AddressForm}
+use Rattle.command_listings.specs.declared.address_texts.AddressOptions.{AddressOptions}
 use Rattle.command_listings.specs.declared.address_texts.TheConstants.{NO_ADDRESS}
 use Rattle.command_listings.specs.declared.asked_names.Distance.{Distance}
 use Rattle.std.specs.Prelude.{List, [], ◌++◌, codes, flat_map, Option, Some, None}
@@ -35,11 +35,11 @@ is_within above size =
     (nat_lt above.offset size)
 
 -- the address that is written for a symbol: the listing's, raised by the offset
-abbrev pub told_address : AddressForm → AskedSymbols → Kept → ℕ
+abbrev pub told_address : AddressOptions → AskedSymbols → Kept → ℕ
 told_address form a k = k.addr + a.above.offset + form.higher
 
 -- the symbol is one of those asked for, the offset lies within it, and the address is one
-abbrev pub is_told : AddressForm → AskedSymbols → Kept → Bool
+abbrev pub is_told : AddressOptions → AskedSymbols → Kept → Bool
 is_told form a k =
     is_of a.owner k.owner && is_within a.above (size_of k)
     && nat_lt (told_address form a k) (2 ^ 64)
@@ -50,7 +50,7 @@ owner_text None = []
 owner_text (Some name) = codes " [" ++ name ++ codes "]"
 
 -- `NAME 0xADDRESS 0xSIZE [MODULE]`
-unfoldable pub address_line : AddressForm → List ℕ → AskedSymbols → Kept → List ℕ
+unfoldable pub address_line : AddressOptions → List ℕ → AskedSymbols → Kept → List ℕ
 address_line form word a k =
     word ++ codes " " ++ hexadecimal (told_address form a k) ++ codes " " ++ hexadecimal (size_of k)
     ++ owner_text k.owner ++ codes "\n"
@@ -61,18 +61,18 @@ owner_member None = []
 owner_member (Some name) = named_module name
 
 -- the object of an address that lies above the symbol as it is asked for
-unfoldable pub address_object : AddressForm → AskedSymbols → Kept → List ℕ
+unfoldable pub address_object : AddressOptions → AskedSymbols → Kept → List ℕ
 address_object form a k =
     address_member (told_address form a k) ++ symbol_members k.name a.above.offset (size_of k)
     ++ owner_member k.owner ++ codes "}\n"
 
 -- the line of a symbol that is written, as JSON or as text
-unfoldable pub told_line : AddressForm → List ℕ → AskedSymbols → Kept → List ℕ
+unfoldable pub told_line : AddressOptions → List ℕ → AskedSymbols → Kept → List ℕ
 told_line form word a k =
     if form.json then address_object form a k else address_line form word a k
 
 -- the lines of these symbols, as far as they are written
-abbrev pub told_lines : AddressForm → List ℕ → AskedSymbols → List Kept → List ℕ
+abbrev pub told_lines : AddressOptions → List ℕ → AskedSymbols → List Kept → List ℕ
 told_lines form word a symbols =
     flat_map (λ k. line_where (is_told form a k) (told_line form word a k)) symbols
 
@@ -91,36 +91,36 @@ asked_object a =
     codes "{" ++ offset_members a.symbol a.above.offset ++ asked_member a.owner ++ codes "}\n"
 
 -- the line of a word without a symbol, as JSON or as text
-unfoldable pub untold_line : AddressForm → List ℕ → AskedSymbols → List ℕ
+unfoldable pub untold_line : AddressOptions → List ℕ → AskedSymbols → List ℕ
 untold_line form word a = if form.json then asked_object a else no_address word
 
 -- what is written for a word, if these are the symbols of its name
-abbrev pub symbols_text : AddressForm → List ℕ → AskedSymbols → List Kept → List ℕ
+abbrev pub symbols_text : AddressOptions → List ℕ → AskedSymbols → List Kept → List ℕ
 symbols_text form word a symbols =
     if list_any (is_told form a) symbols then told_lines form word a symbols
     else untold_line form word a
 
 -- what is written for a word, if `found` gives the symbols of each name
-abbrev pub word_text : AddressForm → (List ℕ → List Kept) → List ℕ → List ℕ
+abbrev pub word_text : AddressOptions → (List ℕ → List Kept) → List ℕ → List ℕ
 word_text form found word = symbols_text form word (asked_of word) (found (asked_of word).symbol)
 
 -- what is written for words
-abbrev pub words_text : AddressForm → (List ℕ → List Kept) → List (List ℕ) → List ℕ
+abbrev pub words_text : AddressOptions → (List ℕ → List Kept) → List (List ℕ) → List ℕ
 words_text form found words = flat_map (word_text form found) words
 
 -- a word has a line, if `found` gives the symbols of each name; and one of these words has
-abbrev pub has_line : AddressForm → (List ℕ → List Kept) → List ℕ → Bool
+abbrev pub has_line : AddressOptions → (List ℕ → List Kept) → List ℕ → Bool
 has_line form found word =
     list_any (is_told form (asked_of word)) (found (asked_of word).symbol)
 
-abbrev pub has_any_line : AddressForm → (List ℕ → List Kept) → List (List ℕ) → Bool
+abbrev pub has_any_line : AddressOptions → (List ℕ → List Kept) → List (List ℕ) → Bool
 has_any_line form found words = list_any (has_line form found) words
 
 -- what is written for words by a catalog, and the symbols of its listing in the order listed
-abbrev pub address_text : AddressForm → CatalogEntries → List ListedSymbol → List (List ℕ) → List ℕ
+abbrev pub address_text : AddressOptions → CatalogEntries → List ListedSymbol → List (List ℕ) → List ℕ
 address_text form c symbols words = words_text form (named (kept_symbols c symbols)) words
 
 -- the program's status: 1 if no word has a line
-abbrev pub address_status : AddressForm → CatalogEntries → List ListedSymbol → List (List ℕ) → ℕ
+abbrev pub address_status : AddressOptions → CatalogEntries → List ListedSymbol → List (List ℕ) → ℕ
 address_status form c symbols words =
     if has_any_line form (named (kept_symbols c symbols)) words then 0 else 1

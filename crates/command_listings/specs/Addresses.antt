@@ -8,11 +8,11 @@ use Rattle.listing.specs.Opening.{Given}
 use Rattle.listing.specs.SymbolListing.{symbols_in}
 use Rattle.texts.specs.Lines.{lines_of}
 use Rattle.command_listings.specs.AddressTexts.{address_status, address_text}
-use Rattle.command_listings.specs.declared.address_texts.AddressForm.{AddressForm}
+use Rattle.command_listings.specs.declared.address_texts.AddressOptions.{AddressOptions}
 
 -- the lines of these words, in this form, by the catalog of the listings, with the status of them
 -- and what is noted of the listings
-abbrev pub IsAddressed : AddressForm → Option BoundNames → List (List ℕ) → Given → List ℕ
+abbrev pub IsAddressed : AddressOptions → Option BoundNames → List (List ℕ) → Given → List ℕ
     → Finished → Type 0
 IsAddressed form kernel words g text finished =
     (c : CatalogEntries) × IsCatalogOf kernel g c finished.notes

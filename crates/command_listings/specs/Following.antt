@@ -11,11 +11,11 @@ use Rattle.listing.specs.KernelLines.{shows_symbol}
 use Rattle.listing.specs.Looks.{is_narrow}
 use Rattle.listing.specs.ListingNotes.{is_some_noted}
 use Rattle.listing.specs.declared.listing_notes.ListingNotes.{ListingNotes}
-use Rattle.logs.specs.Annotation.{Ends, IsOpen, KeepsNothingBack, Passes, Puts, put_of}
-use Rattle.logs.specs.AnnotatedLogs.{annotated_lines, first_held, held_over}
+use Rattle.logs.specs.Annotation.{EndsLog, IsOpen, KeepsNothingBack, Passes, Puts, put_of}
+use Rattle.logs.specs.AnnotatedLogs.{annotated_lines, first_context, context_over}
 use Rattle.logs.specs.Answering.{Answering}
 use Rattle.logs.specs.Lines.{AreWhole, has_end, lines}
-use Rattle.logs.specs.Unnamed.{EndsUnnamed, PassesUnnamed, ends_address, has_address, held_unnamed}
+use Rattle.logs.specs.Unnamed.{EndsUnnamed, PassesUnnamed, ends_address, has_address, context_unnamed}
 use Rattle.logs.specs.Unnamed.{unanswered}
 use Rattle.logs.specs.declared.annotation.Findings.{Findings}
 use Rattle.logs.specs.declared.annotation.LogFault.{LogFault}
@@ -91,8 +91,8 @@ answering_of (Unnamed narrow) = unanswered narrow
 
 -- what is carried on after lines that are named so
 abbrev pub carried_by : Naming → LogContext → List (List ℕ) → LogContext
-carried_by (By answer) held ls = held_over answer held ls
-carried_by (Unnamed narrow) held ls = held_unnamed narrow held ls
+carried_by (By answer) context ls = context_over answer context ls
+carried_by (Unnamed narrow) context ls = context_unnamed narrow context ls
 
 -- nothing names the lines
 abbrev pub is_unnamed : Naming → Bool
@@ -148,27 +148,27 @@ is_told_after told reading n = told || (is_some reading && is_unnamed n)
 
 -- With a block, after a line that is open, the lines that have their end now are put, each named
 -- so, and what is put of the line that is open after them.
-pub record NamesBlock (n : Naming) (held held' : LogContext)
+pub record NamesBlock (n : Naming) (context held' : LogContext)
     (line block line' text : List ℕ)
     : Type 0 where
   pub ended : List ℕ
   pub parts : line ++ block ≡ ended ++ line'
   pub whole : AreWhole ended
   pub no_end : has_end line' ≡ false
-  pub carried : held' ≡ carried_by n held (lines ended)
+  pub carried : held' ≡ carried_by n context (lines ended)
   pub put : put_of line ++ text
-      ≡ annotated_lines (answering_of n) held (lines ended) ++ put_of line'
+      ≡ annotated_lines (answering_of n) context (lines ended) ++ put_of line'
 
 abbrev pub NamesSome : LogContext → List ℕ → List ℕ → Naming → List ℕ → Type 0
-NamesSome held line block n text =
-    (held' : LogContext) × (line' : List ℕ) × NamesBlock n held held' line block line' text
+NamesSome context line block n text =
+    (held' : LogContext) × (line' : List ℕ) × NamesBlock n context held' line block line' text
 
 -- The line that is open after the last block is put, named so, and these are the names of the log.
-pub record NamesLast (held : LogContext) (line : List ℕ) (n : Naming) (names : LogNames)
+pub record NamesLast (context : LogContext) (line : List ℕ) (n : Naming) (names : LogNames)
     (text : List ℕ)
     : Type 0 where
-  pub names_are : names ≡ (carried_by n held (lines line)).names
-  pub put : put_of line ++ text ≡ annotated_lines (answering_of n) held (lines line)
+  pub names_are : names ≡ (carried_by n context (lines line)).names
+  pub put : put_of line ++ text ≡ annotated_lines (answering_of n) context (lines line)
 
 -- How far a log was followed: whether it is of a 32-bit kernel, by the listings that gave names
 -- last; whether it was noted that listings give none; what is carried on; and the line that is
@@ -176,11 +176,11 @@ pub record NamesLast (held : LogContext) (line : List ℕ) (n : Naming) (names :
 pub record Point : Type 0 where
   pub narrow : Bool
   pub told : Bool
-  pub held : LogContext
+  pub context : LogContext
   pub line : List ℕ
 
 abbrev pub first_point : Bool → Point
-first_point narrow = record { narrow = narrow; told = false; held = first_held; line = [] }
+first_point narrow = record { narrow = narrow; told = false; context = first_context; line = [] }
 
 -- In a turn the listings are read exactly if a line that ends in its block has an address word, and
 -- then this names the lines, and this is noted.
@@ -198,7 +198,7 @@ abbrev pub point_after : Point → Turn → Naming → LogContext → List ℕ �
 point_after p t n held' line' = record {
   narrow = (answering_of n).is_narrow;
   told = is_told_after p.told t.reading n;
-  held = held';
+  context = held';
   line = line';
 }
 
@@ -211,7 +211,7 @@ pub data IsNamed (q : Sources) (a : Annotate) (first : Bool)
   one_more : (turns : List Turn) (p : Point) (text more notes note : List ℕ)
       (held' : LogContext) (line' : List ℕ) (t : Turn) (n : Naming)
       → IsNamed q a first turns p text notes → IsNamedIn q a p t n note
-      → NamesBlock n p.held held' p.line t.block line' more
+      → NamesBlock n p.context held' p.line t.block line' more
       → IsNamed q a first (turns ++ t ∷ []) (point_after p t n held' line') (text ++ more)
       (notes ++ told_once p.told note)
 
@@ -223,7 +223,7 @@ PassesBy (By answer) a a' bytes text = Passes answer a a' bytes text
 PassesBy (Unnamed narrow) a a' bytes text = PassesUnnamed narrow a a' bytes text
 
 abbrev pub EndsBy : Naming → Annotator → LogNames → List ℕ → Type 0
-EndsBy (By answer) a names text = Ends answer a names text
+EndsBy (By answer) a names text = EndsLog answer a names text
 EndsBy (Unnamed narrow) a names text = EndsUnnamed narrow a names text
 
 -- the lines that end in a block are put, or the last line
@@ -396,7 +396,7 @@ module _ {W E : Type 0} (contents : W → Option (List ℕ)) (errors : E → Opt
       × Consumes before.left after.left t.block × AreAsKnown before.later t.reading
       × IsNamedIn q a p t n note × Says errors e e' (told_once p.told note)
       × (why : Stop) × PutsAs {X = Unit {0}} contents
-      (λ _. NamesSome p.held p.line t.block n) w w' (Err why)
+      (λ _. NamesSome p.context p.line t.block n) w w' (Err why)
       × (result ≡ Err why)
 
   -- what is returned of the last line
@@ -404,9 +404,9 @@ module _ {W E : Type 0} (contents : W → Option (List ℕ)) (errors : E → Opt
       → Type 0
   EndsSo turns p n w w' (Ok found) =
       (found.head.items ≡ take 2 (read_in turns))
-      × PutsAs contents (NamesLast p.held p.line n) w w' (Ok found.names)
+      × PutsAs contents (NamesLast p.context p.line n) w w' (Ok found.names)
   EndsSo turns p n w w' (Err why) =
-      PutsAs {X = LogNames} contents (NamesLast p.held p.line n) w w' (Err why)
+      PutsAs {X = LogNames} contents (NamesLast p.context p.line n) w w' (Err why)
 
   -- or the log is at its end;
   abbrev pub IsEnded : List Turn → Point → Seen → Seen → Output W → Output W → Output E → Output E

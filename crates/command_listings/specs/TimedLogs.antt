@@ -13,9 +13,9 @@ use Rattle.modules.specs.Listed.{BoundNames}
 use Rattle.listing.specs.Looks.{is_narrow}
 use Rattle.listing.specs.declared.address_rules.LogRule.{LogRule}
 use Rattle.listing.specs.declared.listing_notes.ListingNotes.{ListingNotes}
-use Rattle.logs.specs.Annotation.{Ends, IsOpen, IsWriteFault, KeepsNothingBack, Passes, Puts, held_in}
+use Rattle.logs.specs.Annotation.{EndsLog, IsOpen, IsWriteFault, KeepsNothingBack, Passes, Puts, context_in}
 use Rattle.logs.specs.Annotation.{put_of}
-use Rattle.logs.specs.AnnotatedLogs.{annotated_lines, first_held, held_over}
+use Rattle.logs.specs.AnnotatedLogs.{annotated_lines, first_context, context_over}
 use Rattle.logs.specs.Answering.{Answering}
 use Rattle.logs.specs.Lines.{AreWhole, has_end, lines}
 use Rattle.logs.specs.declared.annotation.LogFault.{LogFault}
@@ -49,12 +49,12 @@ is_narrow_history parts = is_narrow (lines_of (first_listing parts))
 -- line after them that has no end yet.
 pub record TimedPoint : Type 0 where
   pub times : LogTimes
-  pub held : LogContext
+  pub context : LogContext
   pub line : List ℕ
 
 -- at the beginning of a log
 abbrev pub first_point : TimedPoint
-first_point = record { times = first_times; held = first_held; line = [] }
+first_point = record { times = first_times; context = first_context; line = [] }
 
 -- the bytes that a run leaves
 abbrev pub left_of : Option Pending → List ℕ
@@ -82,9 +82,9 @@ module _ (kernel : Option BoundNames) (rule : LogRule) (parts : List HistoryPart
     pub whole : AreWhole ended
     pub no_end : has_end p'.line ≡ false
     pub run : IsRun parts narrow count p.times p'.times (ended_in (p.line ++ bytes))
-    pub held : p'.held ≡ held_over answer p.held (lines ended)
+    pub context : p'.context ≡ context_over answer p.context (lines ended)
     pub put : put_of p.line ++ text
-        ≡ annotated_lines answer p.held (lines ended) ++ put_of p'.line
+        ≡ annotated_lines answer p.context (lines ended) ++ put_of p'.line
 
   -- This many runs, each named by one listing, took a log with these bytes to this point, and this
   -- text was put for them.
@@ -104,8 +104,8 @@ module _ (kernel : Option BoundNames) (rule : LogRule) (parts : List HistoryPart
     pub answers : AreAnswersAfter count answer
     pub named : may_name parts narrow count p.times p.line ≡ true
     pub times_are : times ≡ times_behind narrow p.times p.line
-    pub names_are : names ≡ (held_over answer p.held (lines p.line)).names
-    pub put : put_of p.line ++ text ≡ annotated_lines answer p.held (lines p.line)
+    pub names_are : names ≡ (context_over answer p.context (lines p.line)).names
+    pub put : put_of p.line ++ text ≡ annotated_lines answer p.context (lines p.line)
 
   -- ---- what is read and written
 
@@ -121,7 +121,7 @@ module _ (kernel : Option BoundNames) (rule : LogRule) (parts : List HistoryPart
       pub text : List ℕ
       pub named : AreNamed n point log text
       pub is_open : IsOpen lines.annotator point.line
-      pub held : point.held ≡ held_in lines.annotator
+      pub context : point.context ≡ context_in lines.annotator
       pub times : point.times ≡ lines.times
       pub read : NoneFailed l l'
       pub consumed : Consumes (remaining (device_of l)) (remaining (device_of l')) (log ++ left)
@@ -258,7 +258,7 @@ module _ {L W : Type 0} (remaining : L → Option (List ℕ)) (contents : W → 
 abbrev pub EndsBy : List HistoryPart → ℕ → Answering → TimedLines → LogNames → LogTimes → List ℕ
     → Type 0
 EndsBy parts count answer s names times text =
-    Ends answer s.annotator names text
+    EndsLog answer s.annotator names text
     × ((line : List ℕ) → IsOpen s.annotator line
     → (may_name parts answer.is_narrow count s.times line ≡ true)
     × (times ≡ times_behind answer.is_narrow s.times line))

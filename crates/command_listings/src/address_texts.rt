@@ -23,7 +23,7 @@ const NO_ADDRESS: &[u8] = b" -\n";
 
 /// How the addresses of names are written.
 #[derive(Clone, Copy, Debug, Drop)]
-pub struct AddressForm {
+pub struct AddressOptions {
     /// Objects of JSON are written, in place of lines of text.
     pub json: bool,
     /// How many bytes higher than the listings have them.
@@ -33,7 +33,7 @@ pub struct AddressForm {
 /// A word, what it asks for, and how that is written.
 #[derive(Drop)]
 struct AskedWord<'a> {
-    form: AddressForm,
+    form: AddressOptions,
     word: &'a [u8],
     asked: AskedName<'a>,
 }
@@ -41,7 +41,7 @@ struct AskedWord<'a> {
 /// Writes the lines of each word, in order, as objects of JSON or as text.
 pub fn put_words<W: Write>(
     writer: &mut Output<W>,
-    form: AddressForm,
+    form: AddressOptions,
     sought: &SoughtSymbols<'_, '_>,
     words: &[&str],
 )
@@ -54,7 +54,7 @@ pub fn put_words<W: Write>(
 }
 
 /// Whether one of the words has a line.
-pub fn has_any_line(form: AddressForm, sought: &SoughtSymbols<'_, '_>, words: &[&str]) -> bool
+pub fn has_any_line(form: AddressOptions, sought: &SoughtSymbols<'_, '_>, words: &[&str]) -> bool
     ensures { result ≡ has_any_line form (λ name. unwrap_or (found_by sought.now name) [])
         (map (λ w. w.now) words.now) }
 {
@@ -67,7 +67,7 @@ pub fn has_any_line(form: AddressForm, sought: &SoughtSymbols<'_, '_>, words: &[
 }
 
 /// Whether a word has a line.
-fn has_line(form: AddressForm, sought: &SoughtSymbols<'_, '_>, word: &[u8]) -> bool
+fn has_line(form: AddressOptions, sought: &SoughtSymbols<'_, '_>, word: &[u8]) -> bool
     ensures { result
         ≡ has_line form (λ name. unwrap_or (found_by sought.now name) []) word.now }
 {
@@ -83,7 +83,7 @@ fn has_line(form: AddressForm, sought: &SoughtSymbols<'_, '_>, word: &[u8]) -> b
 /// Writes the lines of a word.
 fn put_word<W: Write>(
     writer: &mut Output<W>,
-    form: AddressForm,
+    form: AddressOptions,
     sought: &SoughtSymbols<'_, '_>,
     word: &[u8],
 )

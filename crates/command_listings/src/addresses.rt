@@ -7,7 +7,7 @@ ghost use Rattle.command_parts.specs.HistoryFiles.{AnswersHistory, symbols_alone
 ghost use Rattle.command_parts.specs.OpenedCatalogs.{known_given, listing_failures, texts_in};
 ghost use Rattle.histories.specs.ListingsAt.{listing_at};
 
-use crate::address_texts::{AddressForm, has_any_line, put_words};
+use crate::address_texts::{AddressOptions, has_any_line, put_words};
 use crate::kept_symbols::symbols_sought;
 use command_parts::{
     FAILED, Fault, Finished, ListingReaders, ListingTexts, SUCCEEDED, open_catalog, read_given,
@@ -27,7 +27,7 @@ use texts::{Counted, Output};
 pub fn address_engine<M: Read, K: Read, R: Read, W: Write>(
     alloc: Global,
     readers: &mut ListingReaders<M, K, R>,
-    form: AddressForm,
+    form: AddressOptions,
     kernel: Option<&KernelBounds>,
     words: &[&str],
     writer: &mut Output<W>,
@@ -47,7 +47,7 @@ pub fn address_engine_at<R: Read, W: Write>(
     alloc: Global,
     history: &mut Counted<R>,
     time: Option<u64>,
-    form: AddressForm,
+    form: AddressOptions,
     kernel: Option<&KernelBounds>,
     words: &[&str],
     writer: &mut Output<W>,
@@ -65,7 +65,7 @@ pub fn address_engine_at<R: Read, W: Write>(
 fn answer_names<W: Write>(
     alloc: Global,
     texts: &ListingTexts,
-    form: AddressForm,
+    form: AddressOptions,
     kernel: Option<&KernelBounds>,
     words: &[&str],
     writer: &mut Output<W>,

@@ -115,12 +115,12 @@ pub fn annotate_engine<M: Read, K: Read, R: Read, L: Read, E: Write, W: Write>(
         outputs.old.errors outputs.new.errors result }
 {
     let texts = read_given(alloc, listings)?;
-    annotate_over(alloc, &texts, request, log, outputs)
+    annotate_by_texts(alloc, &texts, request, log, outputs)
 }
 
 /// Writes the notes on the listings with these texts, and then the log again by their catalog; and
 /// notes if the log is packed, or if the listing is another one.
-pub(crate) fn annotate_over<L: Read, E: Write, W: Write>(
+pub(crate) fn annotate_by_texts<L: Read, E: Write, W: Write>(
     alloc: Global,
     texts: &ListingTexts,
     request: LogRequest<'_, '_>,
@@ -145,7 +145,7 @@ pub(crate) fn annotate_over<L: Read, E: Write, W: Write>(
     let mut answers = CatalogAnswers::new(alloc, &index, request.job.rule, is_narrow);
     let end = stopped(annotate(alloc, &mut answers, log, &mut outputs.writer));
     let kernel = kernel_if_said(&end, &texts.kallsyms, request.job.rule.offset);
-    tell_end(end, request.job.log, kernel, &mut outputs.errors)
+    conclude_log(end, request.job.log, kernel, &mut outputs.errors)
 }
 
 /// The place of the kernel by a listing of symbols with this text, for addresses that are looked up
@@ -202,7 +202,7 @@ pub(crate) fn stop_of(fault: LogFault) -> Stop
 
 /// Writes the note on the log in this file if it was annotated to its end, or else the fault.
 /// Returns the program's status, which is 1 if nobody reads the output any more.
-pub(crate) fn tell_end<E: Write>(
+pub(crate) fn conclude_log<E: Write>(
     end: Result<Findings, Stop>,
     log: &str,
     kernel: ListedKernel,

@@ -29,7 +29,7 @@ ghost use Rattle.command_listings.specs.LastingLogs.{Event, Listings};
 ghost use Rattle.command_listings.specs.NoNames.{TellsUnread};
 ghost use Rattle.command_listings.specs.declared.annotations.Stop.TheVariants.{Failed};
 
-use crate::annotations::{LOG_PLACE, LogRequest, Stop, listed_kernel, stopped, tell_end};
+use crate::annotations::{LOG_PLACE, LogRequest, Stop, conclude_log, listed_kernel, stopped};
 use crate::lasting_log::LastingLog;
 use crate::log_answers::CatalogAnswers;
 use crate::no_names::{NoNames, put_unread};
@@ -83,7 +83,7 @@ pub fn follow_engine<L: LastingLog, E: Write, W: Write>(
     let mut room = Vec::new(alloc);
     room.resize(BLOCK, 0)?;
     let texts = log.read_listings(alloc)?;
-    tell_notes(alloc, &texts, request.sources, &mut outputs.errors)?;
+    note_texts(alloc, &texts, request.sources, &mut outputs.errors)?;
     let is_narrow = is_narrow(&texts.kallsyms);
     let kernel = listed_kernel(&texts.kallsyms, request.job.rule.offset);
     let followed = Followed {
@@ -93,11 +93,11 @@ pub fn follow_engine<L: LastingLog, E: Write, W: Write>(
     drop(texts);
     let room = room.as_mut_slice();
     let end = follow_blocks(alloc, log, followed, room, request, outputs);
-    tell_end(end, request.job.log, kernel, &mut outputs.errors)
+    conclude_log(end, request.job.log, kernel, &mut outputs.errors)
 }
 
 /// Writes the notes on the listings with these texts.
-fn tell_notes<E: Write>(
+fn note_texts<E: Write>(
     alloc: Global,
     texts: &ListingTexts,
     sources: &Sources<'_>,
@@ -216,7 +216,7 @@ fn put_after_reading<L: LastingLog, E: Write, W: Write>(
     match outcome {
         Ok(put) => Ok(put),
         Err(why) => {
-            tell_once(
+            note_once(
                 &mut outputs.errors,
                 &request.sources.files,
                 &why,
@@ -245,7 +245,7 @@ fn put_nameless<W: Write>(
 }
 
 /// Writes why listings give no names, unless it was noted before.
-fn tell_once<E: Write>(
+fn note_once<E: Write>(
     errors: &mut Output<E>,
     files: &ListingFiles<'_>,
     why: &NoNames,

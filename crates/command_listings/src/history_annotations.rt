@@ -8,7 +8,7 @@
 ghost use Rattle.command_listings.specs.HistoryAnnotations.{AnnotatesBy, AnnotatesByHistory};
 ghost use Rattle.command_listings.specs.HistoryAnnotations.{IsEndOf, IsTimedEndTold};
 
-use crate::annotations::{LogRequest, Stop, annotate_over, listed_kernel, stop_of};
+use crate::annotations::{LogRequest, Stop, annotate_by_texts, listed_kernel, stop_of};
 use crate::line_runs::LogTimes;
 use crate::log_answers::CatalogAnswers;
 use crate::log_notes::{ListedKernel, note_timed_log};
@@ -52,7 +52,7 @@ pub fn history_annotate_engine<H: Read, L: Read, E: Write, W: Write>(
         None => annotate_timed(alloc, &history, log, request, outputs),
         Some(_) => {
             let texts = texts_at(alloc, &history, time)?;
-            annotate_over(alloc, &texts, request, log, outputs)
+            annotate_by_texts(alloc, &texts, request, log, outputs)
         }
     }
 }
@@ -103,7 +103,7 @@ pub(crate) fn annotate_timed<L: Read, E: Write, W: Write>(
         &mut outputs.writer,
     );
     let end = timed_end(named, timed.head);
-    tell_timed_end(end, request.job.log, kernel, &mut outputs.errors)
+    conclude_timed_log(end, request.job.log, kernel, &mut outputs.errors)
 }
 
 /// What was found of a log with these first bytes, if it was named to its end.
@@ -124,7 +124,7 @@ fn timed_end(
 
 /// Writes the note on the log in this file if it was annotated to its end, or else the fault.
 /// Returns the program's status, which is 1 if nobody reads the output any more.
-fn tell_timed_end<E: Write>(
+fn conclude_timed_log<E: Write>(
     end: Result<TimedEnd, LogFault>,
     log: &str,
     kernel: ListedKernel,

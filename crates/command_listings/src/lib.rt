@@ -29,7 +29,7 @@ mod own_offsets;
 mod sources;
 mod timed_logs;
 
-pub use address_texts::AddressForm;
+pub use address_texts::AddressOptions;
 pub use addresses::{address_engine, address_engine_at};
 pub use annotations::{Annotate, LOG_PLACE, LogReading, LogRequest, annotate_engine};
 pub use checks::{check_engine, check_engine_at};

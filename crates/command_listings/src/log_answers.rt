@@ -8,7 +8,7 @@ ghost use Rattle.command_listings.specs.LogAnswers.{is_letter_of_data, reading_a
 
 use crate::log_aliases::is_alias_in;
 use crate::log_index::LogIndex;
-use listing::{AddressRule, Answer, Callers, LogRule, answer_of, put_answer, sought};
+use listing::{AddressRule, Callers, LogRule, SymbolAnswer, answer_of, put_answer, sought};
 use logs::{Answers, NamedReadings};
 use modules::{FoundSymbol, IndexedCatalog, symbol_of};
 use order_laws::Item;
@@ -45,7 +45,7 @@ impl<'i, 'c> Answers for CatalogAnswers<'i, 'c> {
         if answer.is_nothing() {
             return Ok(None);
         }
-        Ok(Some(written(self.alloc, &answer)?))
+        Ok(Some(inserted_text(self.alloc, &answer)?))
     }
 
     #[tactic(auto, using(crate::proofs::FilterLemmas::no_alias))]
@@ -172,7 +172,7 @@ impl<'i, 'c> CatalogAnswers<'i, 'c> {
 const ROOM: usize = 64;
 
 /// A blank and the text of an answer.
-fn written(alloc: Global, answer: &Answer) -> Result<Vec<u8>, AllocError>
+fn inserted_text(alloc: Global, answer: &SymbolAnswer) -> Result<Vec<u8>, AllocError>
     ensures { IfOk result (λ text. text.items ≡ codes " " ++ text_of answer.now) }
 {
     let room = Vec::with_capacity(alloc, ROOM)?;

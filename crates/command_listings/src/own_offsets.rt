@@ -20,7 +20,7 @@ ghost use Rattle.command_listings.specs.OwnOffsets.{WritesByOwnOffset, all_failu
 ghost use Rattle.command_listings.specs.OwnOffsets.{by_offset, failure_line, no_offset_line};
 ghost use Rattle.command_listings.specs.OwnOffsets.{own_offset};
 
-use crate::annotations::{LOG_PLACE, LogRequest, kernel_if_said, stopped, tell_end};
+use crate::annotations::{LOG_PLACE, LogRequest, conclude_log, kernel_if_said, stopped};
 use crate::log_answers::CatalogAnswers;
 use crate::notes::note_listings;
 use command_parts::{
@@ -72,7 +72,7 @@ pub(crate) fn write_by_own_offset<E: Write, W: Write>(
 {
     let offset = match own_offset(log, &texts.kallsyms) {
         Ok(offset) => offset,
-        Err(why) => return Ok(tell_no_offset(why, request, &mut outputs.errors)),
+        Err(why) => return Ok(note_no_offset(why, request, &mut outputs.errors)),
     };
     let asked = asked_by(alloc, offset, texts)?;
     let rule = by_offset(offset, request.job.rule);
@@ -95,7 +95,7 @@ pub enum NoOffset {
 }
 
 /// Writes why there is no offset, and returns the program's status.
-fn tell_no_offset<E: Write>(
+fn note_no_offset<E: Write>(
     why: NoOffset,
     request: LogRequest<'_, '_>,
     errors: &mut Output<E>,
@@ -177,5 +177,5 @@ fn open_and_write<E: Write, W: Write>(
     answers.index.mark_names(alloc);
     let end = stopped(annotate_text(alloc, &mut answers, log, &mut outputs.writer));
     let kernel = kernel_if_said(&end, &texts.kallsyms, rule.offset);
-    tell_end(end, request.job.log, kernel, &mut outputs.errors)
+    conclude_log(end, request.job.log, kernel, &mut outputs.errors)
 }

@@ -90,13 +90,13 @@ pub struct HistoryCatalogs<'h, 'a> {
 
 impl TimedLog {
     ghost use Rattle.std.specs.Prelude.{false};
-    ghost use Rattle.logs.specs.Annotation.{IsOpen, held_in};
-    ghost use Rattle.logs.specs.AnnotatedLogs.{first_held};
+    ghost use Rattle.logs.specs.Annotation.{IsOpen, context_in};
+    ghost use Rattle.logs.specs.AnnotatedLogs.{first_context};
     ghost use Rattle.command_listings.specs.LineRuns.{first_times};
 
     /// A log that was not read yet.
     pub(crate) fn new(alloc: Global) -> Result<TimedLog, AllocError>
-        ensures held { IfOk result (λ s. held_in s.lines.annotator ≡ first_held) }
+        ensures context { IfOk result (λ s. context_in s.lines.annotator ≡ first_context) }
         ensures open { IfOk result (λ s. IsOpen s.lines.annotator []) }
         ensures times { IfOk result (λ s. s.lines.times ≡ first_times) }
         ensures left { IfOk result (λ s. s.left.items ≡ []) }

@@ -9,7 +9,7 @@ ghost use Rattle.command_parts.specs.JsonTexts.{offset_members, row_member};
 ghost use Rattle.command_parts.specs.JsonTexts.{symbol_members, tally_member};
 
 use crate::json::{put_json_number, put_json_string};
-use listing::{Answer, LineTallies, LineTally, Row};
+use listing::{LineTallies, LineTally, Row, SymbolAnswer};
 use modules::FoundSymbol;
 use std::io::Write;
 use texts::Output;
@@ -29,7 +29,7 @@ const KEPT: &[u8] = b"\":{\"kept\":";
 
 /// Writes the object of an address with this answer.
 #[tactic(auto, unfolding(crate::specs::JsonTexts::json_line))]
-pub fn put_json_line<W: Write>(writer: &mut Output<W>, addr: u64, answer: &Answer)
+pub fn put_json_line<W: Write>(writer: &mut Output<W>, addr: u64, answer: &SymbolAnswer)
     ensures { Says W.contents writer.old writer.new (json_line addr answer.now) }
 {
     put_address_member(writer, addr);
@@ -38,7 +38,7 @@ pub fn put_json_line<W: Write>(writer: &mut Output<W>, addr: u64, answer: &Answe
 }
 
 /// Writes what is known of an address: the symbol and the module, as far as they are.
-fn put_answer_members<W: Write>(writer: &mut Output<W>, answer: &Answer)
+fn put_answer_members<W: Write>(writer: &mut Output<W>, answer: &SymbolAnswer)
     ensures { Says W.contents writer.old writer.new (answer_members answer.now) }
 {
     if let Some(found) = &answer.found {

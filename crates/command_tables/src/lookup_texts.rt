@@ -6,7 +6,7 @@ ghost use Rattle.command_tables.specs.LookupTexts.{known_line, line_by};
 
 use crate::table::AddressAnswer;
 use command_parts::{AnswerForm, put_json_counts, put_json_line};
-use listing::{AddressRule, Answer, LineTallies, answer_of, put_answer, put_counts};
+use listing::{AddressRule, LineTallies, SymbolAnswer, answer_of, put_answer, put_counts};
 use modules::Catalog;
 use std::io::Write;
 use texts::Output;
@@ -49,7 +49,7 @@ fn put_answers<W: Write>(
 /// Writes the line of an address with this answer.
 #[inline(always)]
 #[tactic(auto, unfolding(crate::specs::LookupTexts::known_line))]
-fn put_line<W: Write>(writer: &mut Output<W>, form: AnswerForm, addr: u64, known: &Answer)
+fn put_line<W: Write>(writer: &mut Output<W>, form: AnswerForm, addr: u64, known: &SymbolAnswer)
     ensures { Says W.contents writer.old writer.new (known_line form addr known.now) }
 {
     if form.json {
@@ -62,7 +62,7 @@ fn put_line<W: Write>(writer: &mut Output<W>, form: AnswerForm, addr: u64, known
 /// Writes `ADDR TEXT` and a line's end.
 #[inline(always)]
 #[tactic(auto, unfolding(crate::specs::LookupTexts::answer_line))]
-fn put_answer_line<W: Write>(writer: &mut Output<W>, addr: u64, known: &Answer)
+fn put_answer_line<W: Write>(writer: &mut Output<W>, addr: u64, known: &SymbolAnswer)
     ensures { Says W.contents writer.old writer.new (answer_line addr known.now) }
 {
     writer.put_hexadecimal(addr);

@@ -33,11 +33,11 @@ pub fn steps_engine<R: Read, W: Write>(
         writer.old writer.new result }
 {
     let bytes = read_at(alloc, reader, 0)?;
-    tell_text(alloc, &bytes, writer)
+    put_steps(alloc, &bytes, writer)
 }
 
 /// Runs the trace that bytes are, and writes its steps.
-fn tell_text<W: Write>(alloc: Global, bytes: &[u8], writer: &mut Output<W>) -> Result<(), Fault>
+fn put_steps<W: Write>(alloc: Global, bytes: &[u8], writer: &mut Output<W>) -> Result<(), Fault>
     ensures { AnswersStepsSaid W.contents (command_lines bytes.now) (trace_of bytes.now)
         writer.old writer.new result }
 {
@@ -46,14 +46,14 @@ fn tell_text<W: Write>(alloc: Global, bytes: &[u8], writer: &mut Output<W>) -> R
     };
     understand(&lines)?;
     if header.closed {
-        tell_steps::<Closed, W>(alloc, header, &mut lines, writer)
+        put_steps_of::<Closed, W>(alloc, header, &mut lines, writer)
     } else {
-        tell_steps::<HalfOpen, W>(alloc, header, &mut lines, writer)
+        put_steps_of::<HalfOpen, W>(alloc, header, &mut lines, writer)
     }
 }
 
 /// Runs the commands after this header in the order that it names, and writes their steps.
-fn tell_steps<O: TreeOrder<Key = u64>, W: Write>(
+fn put_steps_of<O: TreeOrder<Key = u64>, W: Write>(
     alloc: Global,
     header: Header,
     lines: &mut CommandLines<'_>,
@@ -66,7 +66,7 @@ fn tell_steps<O: TreeOrder<Key = u64>, W: Write>(
 {
     let mut world = world_for::<O>(alloc, header)?;
     put_opening(writer, &header);
-    let told = tell_lines(&mut world, lines, writer);
+    let told = put_step_lines(&mut world, lines, writer);
     writer.flush();
     all_written(writer)?;
     told
@@ -84,7 +84,7 @@ fn world_for<O: TreeOrder<Key = u64>>(alloc: Global, header: Header) -> Result<W
 
 /// Carries out the commands of lines, and writes what each of their events did. After a command at
 /// which the writer failed it goes on with none.
-fn tell_lines<O: TreeOrder<Key = u64>, W: Write>(
+fn put_step_lines<O: TreeOrder<Key = u64>, W: Write>(
     world: &mut World<O>,
     lines: &mut CommandLines<'_>,
     writer: &mut Output<W>,
@@ -122,7 +122,7 @@ impl<W> StepLines<W> {
 impl<W: Write> Report<u64> for StepLines<W> {
     ghost use Rattle.command_traces.specs.StepTraces.{Tells};
 
-    type To = Output<W>;
+    type Sink = Output<W>;
 
     ghost reports = { λ lines. Tells W.contents lines.line };
 

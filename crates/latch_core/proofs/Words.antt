@@ -31,7 +31,7 @@ pub use Rattle.latch_core.specs.Whole.{outcome_in, loads_in, outcome_of}
 pub use Rattle.latch_core.specs.Widening.{why_not_widened, widened_writer, widened_latch, RepresentsWidened}
 pub use Rattle.latch_core.specs.WriterViews.{WriterView}
 pub use Rattle.latch_core.specs.Writers.{IsMemoryAtRest, HasBegun, AreInStep, why_refused, has_pending, IsShallow, StaysShallow, RepresentsLatch, next_store, sequence_after, writer_after_step, opening_writer}
-pub use Rattle.latch_core.specs.declared.progress.Awaited.TheVariants.{First, Root, WordA, WordB, Tag, Left, Right, Found, Missing}
+pub use Rattle.latch_core.specs.declared.progress.AwaitedValue.TheVariants.{First, Root, WordA, WordB, Tag, Left, Right, Found, Missing}
 pub use Rattle.latch_core.specs.declared.replacements.Difference.{Difference}
 pub use Rattle.order_laws.proofs.MeetLemmas.{no_meeting, not_meeting}
 pub use Rattle.order_laws.proofs.PlaceLemmas.{without_none, without_one}

@@ -11,11 +11,11 @@ use Rattle.latch_core.specs.Whole.{Wants}
 use Rattle.latch_core.specs.declared.readers.ReaderCore.{ReaderCore}
 use Rattle.latch_core.specs.declared.readers.Taken.{Taken}
 use Rattle.latch_core.specs.declared.readers.Taken.TheVariants.{Going, Retrying, Returned}
-use Rattle.latch_core.specs.declared.progress.Progress.{Progress}
-use Rattle.latch_core.specs.declared.progress.Awaited.{Awaited}
-use Rattle.latch_core.specs.declared.progress.Awaited.TheVariants.{First, Root, WordA, WordB, Tag}
-use Rattle.latch_core.specs.declared.progress.Awaited.TheVariants.{Left, Right, Found, Missing}
-use Rattle.latch_core.specs.declared.progress.Awaited.TheVariants.{Stuck}
+use Rattle.latch_core.specs.declared.progress.AttemptProgress.{AttemptProgress}
+use Rattle.latch_core.specs.declared.progress.AwaitedValue.{AwaitedValue}
+use Rattle.latch_core.specs.declared.progress.AwaitedValue.TheVariants.{First, Root, WordA, WordB, Tag}
+use Rattle.latch_core.specs.declared.progress.AwaitedValue.TheVariants.{Left, Right, Found, Missing}
+use Rattle.latch_core.specs.declared.progress.AwaitedValue.TheVariants.{Stuck}
 
 -- the number of nodes, and the key
 abbrev pub capacity_of_core : {O K : Type 0} → ReaderCore O K → ℕ
@@ -25,11 +25,11 @@ abbrev pub key_of_core : {O K : Type 0} → ReaderCore O K → K
 key_of_core c = c.key
 
 -- the walk of a key that goes on from a spot, by the link that it follows
-abbrev pub walk_from : {K : Type 0} → Order K → K → Progress → ℕ → Reading
+abbrev pub walk_from : {K : Type 0} → Order K → K → AttemptProgress → ℕ → Reading
 walk_from o k s = walk o s.capacity k s.first s.visits_left
 
 -- what is left of a key's attempt at a spot, by the place whose value it waits for
-abbrev pub rest_of_attempt : {K : Type 0} → Order K → K → Progress → Awaited → Reading
+abbrev pub rest_of_attempt : {K : Type 0} → Order K → K → AttemptProgress → AwaitedValue → Reading
 rest_of_attempt o k s First = attempt o s.capacity k
 rest_of_attempt o k s Root = attempt_after o s.capacity k s.first
 rest_of_attempt o k s WordA = visit o k s.first s.node (walk_from o k s)
@@ -74,7 +74,7 @@ TakesTo o c value taken =
     → HandsBack o (capacity_of_core c) (key_of_core c) (values ++ value ∷ []) taken
 
 -- how many loads a core makes at most before its attempt ends
-abbrev pub most_loads_at : ℕ → ℕ → Awaited → ℕ
+abbrev pub most_loads_at : ℕ → ℕ → AwaitedValue → ℕ
 most_loads_at n visits First = 4 * n + 3
 most_loads_at n visits Root = 4 * n + 2
 most_loads_at n visits WordA = 4 * visits + 5

@@ -3,11 +3,11 @@ use Rattle.std.specs.Prelude.{◌≡◌, ℕ, ◌+◌, ◌<◌, List, [], ◌∷
 use Rattle.order_laws.specs.Orders.{Order}
 use Rattle.latch_core.specs.Attempts.{Outcome, Reading, Load, Ends, WalkEnd, AtItem, AtEmptyLink}
 use Rattle.latch_core.specs.Attempts.{Stuck, outcome, last_load, attempt_after, IsAttempt}
-use Rattle.latch_core.specs.declared.attempts.Walked.{Walked}
-use Rattle.latch_core.specs.declared.attempts.Walked.TheVariants.{At, Nowhere, Lost}
+use Rattle.latch_core.specs.declared.attempts.WalkResult.{WalkResult}
+use Rattle.latch_core.specs.declared.attempts.WalkResult.TheVariants.{At, Nowhere, Lost}
 
 -- how a walk ended
-abbrev pub found_by : Walked → WalkEnd
+abbrev pub found_by : WalkResult → WalkEnd
 found_by (At item) = AtItem item
 found_by Nowhere = AtEmptyLink
 found_by Lost = Stuck

@@ -37,7 +37,7 @@ pub enum AttemptOutcome {
 
 /// How a walk ended.
 #[derive(Clone, Copy, Drop)]
-pub enum Walked {
+pub enum WalkResult {
     /// At the item that the key is in.
     At(Item),
     /// At link 0.
@@ -113,7 +113,7 @@ fn walk<O: TreeOrder, W: Loads>(
     l: Layout,
     key: O::Key,
     first: u64,
-) -> (Walked, u32)
+) -> (WalkResult, u32)
     requires sized { W.size words.now ≡ words_for (capacity_of l) }
     requires ready { IsReady (W.can_load words.now) (W.load_gives words.now) (W.can_end words.now)
         seat.old (attempt_after O.order (capacity_of l) key first) }
@@ -138,14 +138,14 @@ fn walk<O: TreeOrder, W: Loads>(
         loads += 4;
         let compared = O::comp(key, &item);
         if is_equal(compared) {
-            return (Walked::At(item), loads - 1);
+            return (WalkResult::At(item), loads - 1);
         }
         link = words.load(seat, left + words_aside(compared), skipped);
     }
     if link == 0 {
-        (Walked::Nowhere, loads)
+        (WalkResult::Nowhere, loads)
     } else {
-        (Walked::Lost, loads)
+        (WalkResult::Lost, loads)
     }
 }
 
@@ -167,11 +167,11 @@ pub fn attempt_from<O: TreeOrder, W: Loads>(
     let (walked, loads) = walk::<O, W>(words, seat, l, key, first);
     let last = words.sequence(seat);
     let came_to = match walked {
-        Walked::At(item) if last == first => AttemptOutcome::Answered(
+        WalkResult::At(item) if last == first => AttemptOutcome::Answered(
             Some(item),
             generation(first),
         ),
-        Walked::Nowhere if last == first => AttemptOutcome::Answered(None, generation(first)),
+        WalkResult::Nowhere if last == first => AttemptOutcome::Answered(None, generation(first)),
         _ => AttemptOutcome::Failed,
     };
     (came_to, loads + 1)

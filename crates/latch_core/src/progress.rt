@@ -5,7 +5,7 @@ ghost use Rattle.word_layout.specs.Limits.{most_nodes};
 
 /// Which value a reader waits for.
 #[derive(Clone, Copy, Debug, PartialEq, Eq, Drop)]
-pub enum Awaited {
+pub enum AwaitedValue {
     /// The first reading of the sequence.
     First,
     /// The root of the stable copy.
@@ -31,7 +31,7 @@ pub enum Awaited {
 /// The first reading of the sequence, the node in hand with the words of its item, and how many
 /// visits are left.
 #[derive(Clone, Copy, Debug, Drop)]
-pub struct Progress {
+pub struct AttemptProgress {
     pub first: u64,
     pub a: u64,
     pub b: u64,
@@ -39,7 +39,7 @@ pub struct Progress {
     pub capacity: u32,
     pub node: u32,
     pub visits_left: u32,
-    pub awaited: Awaited,
+    pub awaited: AwaitedValue,
     ghost within: { node < capacity },
     ghost most: { capacity ≤ most_nodes },
 }

@@ -5,7 +5,7 @@ ghost use Rattle.word_layout.specs.Layouts.{capacity_of};
 ghost use Rattle.word_layout.specs.Words.{words_for};
 ghost use Rattle.latch_core.specs.Attempts.{attempt};
 
-use crate::progress::{Awaited, Progress};
+use crate::progress::{AttemptProgress, AwaitedValue};
 use crate::sequences::{generation, stable_copy};
 use order_laws::{Item, TreeOrder};
 use std::cmp::Ordering;
@@ -20,7 +20,7 @@ use word_layout::{Layout, places};
 #[derive(Drop)]
 pub struct ReaderCore<O: TreeOrder> {
     key: O::Key,
-    progress: Progress,
+    progress: AttemptProgress,
 }
 
 /// What a core becomes with a value.
@@ -44,7 +44,7 @@ impl<O: TreeOrder> ReaderCore<O> {
         ensures key { key_of_core result ≡ k }
         ensures leads { HasTaken O.order [] result }
     {
-        let progress = Progress {
+        let progress = AttemptProgress {
             first: 0,
             a: 0,
             b: 0,
@@ -52,7 +52,7 @@ impl<O: TreeOrder> ReaderCore<O> {
             capacity: l.capacity(),
             node: 0,
             visits_left: 0,
-            awaited: Awaited::First,
+            awaited: AwaitedValue::First,
         };
         ReaderCore { key: k, progress }
     }
@@ -72,13 +72,16 @@ impl<O: TreeOrder> ReaderCore<O> {
         let node = self.progress.node;
         let copy = stable_copy(self.progress.first);
         match self.progress.awaited {
-            Awaited::First | Awaited::Found | Awaited::Missing | Awaited::Stuck => 0,
-            Awaited::Root => places::root_of(copy),
-            Awaited::WordA => places::a_of(node),
-            Awaited::WordB => places::b_of(node),
-            Awaited::Tag => places::tag_of(node),
-            Awaited::Left => places::left_of(copy, node),
-            Awaited::Right => places::right_of(copy, node),
+            AwaitedValue::First
+            | AwaitedValue::Found
+            | AwaitedValue::Missing
+            | AwaitedValue::Stuck => 0,
+            AwaitedValue::Root => places::root_of(copy),
+            AwaitedValue::WordA => places::a_of(node),
+            AwaitedValue::WordB => places::b_of(node),
+            AwaitedValue::Tag => places::tag_of(node),
+            AwaitedValue::Left => places::left_of(copy, node),
+            AwaitedValue::Right => places::right_of(copy, node),
         }
     }
 
@@ -91,13 +94,13 @@ impl<O: TreeOrder> ReaderCore<O> {
             ≡ walk_from O.order self.key self.progress link }
     {
         if link == 0 {
-            self.progress.awaited = Awaited::Missing;
+            self.progress.awaited = AwaitedValue::Missing;
         } else if self.progress.visits_left == 0 || link > self.progress.capacity as u64 {
-            self.progress.awaited = Awaited::Stuck;
+            self.progress.awaited = AwaitedValue::Stuck;
         } else {
             self.progress.visits_left -= 1;
             self.progress.node = (link - 1) as u32;
-            self.progress.awaited = Awaited::WordA;
+            self.progress.awaited = AwaitedValue::WordA;
         }
         self
     }
@@ -113,46 +116,46 @@ impl<O: TreeOrder> ReaderCore<O> {
         ensures leads { TakesTo O.order self value result }
     {
         match self.progress.awaited {
-            Awaited::First => {
+            AwaitedValue::First => {
                 self.progress.first = value;
-                self.progress.awaited = Awaited::Root;
+                self.progress.awaited = AwaitedValue::Root;
                 Taken::Going(self)
             }
-            Awaited::Root => {
+            AwaitedValue::Root => {
                 self.progress.visits_left = self.progress.capacity;
                 Taken::Going(self.follow(value))
             }
-            Awaited::WordA => {
+            AwaitedValue::WordA => {
                 self.progress.a = value;
-                self.progress.awaited = Awaited::WordB;
+                self.progress.awaited = AwaitedValue::WordB;
                 Taken::Going(self)
             }
-            Awaited::WordB => {
+            AwaitedValue::WordB => {
                 self.progress.b = value;
-                self.progress.awaited = Awaited::Tag;
+                self.progress.awaited = AwaitedValue::Tag;
                 Taken::Going(self)
             }
-            Awaited::Tag => {
+            AwaitedValue::Tag => {
                 self.progress.tag = value;
                 self.progress.awaited = match O::comp(self.key, &self.item()) {
-                    Ordering::Less => Awaited::Left,
-                    Ordering::Equal => Awaited::Found,
-                    Ordering::Greater => Awaited::Right,
+                    Ordering::Less => AwaitedValue::Left,
+                    Ordering::Equal => AwaitedValue::Found,
+                    Ordering::Greater => AwaitedValue::Right,
                 };
                 Taken::Going(self)
             }
-            Awaited::Left | Awaited::Right => Taken::Going(self.follow(value)),
-            Awaited::Found if value == self.progress.first => Taken::Returned(
+            AwaitedValue::Left | AwaitedValue::Right => Taken::Going(self.follow(value)),
+            AwaitedValue::Found if value == self.progress.first => Taken::Returned(
                 Some(self.item()),
                 generation(value),
             ),
-            Awaited::Found => Taken::Retrying(self.again()),
-            Awaited::Missing if value == self.progress.first => Taken::Returned(
+            AwaitedValue::Found => Taken::Retrying(self.again()),
+            AwaitedValue::Missing if value == self.progress.first => Taken::Returned(
                 None,
                 generation(value),
             ),
-            Awaited::Missing => Taken::Retrying(self.again()),
-            Awaited::Stuck => Taken::Retrying(self.again()),
+            AwaitedValue::Missing => Taken::Retrying(self.again()),
+            AwaitedValue::Stuck => Taken::Retrying(self.again()),
         }
     }
 
@@ -163,7 +166,7 @@ impl<O: TreeOrder> ReaderCore<O> {
         ensures whole { rest_of_core O.order result
             ≡ attempt O.order (capacity_of_core result) (key_of_core result) }
     {
-        self.progress.awaited = Awaited::First;
+        self.progress.awaited = AwaitedValue::First;
         self
     }
 

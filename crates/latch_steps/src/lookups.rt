@@ -79,7 +79,7 @@ impl<O: TreeOrder> Lookup<O> {
         most: u32,
         mut events: u64,
         report: &R,
-        to: &mut R::To,
+        to: &mut R::Sink,
     ) -> LookupProgress<O>
         ensures { LoadsFrom O.order (R.reports report.now) words.now self reader most events
             to.old result to.new }

@@ -23,7 +23,7 @@ impl<O: TreeOrder> World<O> {
         &mut self,
         command: &Command<O::Key>,
         report: &R,
-        to: &mut R::To,
+        to: &mut R::Sink,
     ) -> Result<(), Refusal>
         ensures layout { layout_in self.new ≡ layout_in self.old }
         ensures obeyed { OnOk result (ObeysFromAny O.order (R.reports report.now) command.now
@@ -64,7 +64,7 @@ impl<O: TreeOrder> World<O> {
         &mut self,
         event: &Event<O::Key>,
         report: &R,
-        to: &mut R::To,
+        to: &mut R::Sink,
     ) -> Reply<O::Key>
         ensures layout { layout_in self.new ≡ layout_in self.old }
         ensures steps { IsWorldStep O.order self.old event.now result self.new }
@@ -92,7 +92,7 @@ impl<O: TreeOrder> World<O> {
         &mut self,
         event: &Event<O::Key>,
         report: &R,
-        to: &mut R::To,
+        to: &mut R::Sink,
     ) -> Result<(), Refusal>
         ensures layout { layout_in self.new ≡ layout_in self.old }
         ensures obeyed { OnOk result (ObeysOnce O.order (R.reports report.now) event.now
@@ -109,7 +109,13 @@ impl<O: TreeOrder> World<O> {
 
     /// Makes at most `most` steps of the writer, up to the end of the pending update; if `to_flip`,
     /// up to the next flip.
-    fn write_on<R: Report<O::Key>>(&mut self, most: u64, to_flip: bool, report: &R, to: &mut R::To)
+    fn write_on<R: Report<O::Key>>(
+        &mut self,
+        most: u64,
+        to_flip: bool,
+        report: &R,
+        to: &mut R::Sink,
+    )
         ensures layout { layout_in self.new ≡ layout_in self.old }
         ensures written { ObeysWriting O.order (R.reports report.now) to_flip most
             self.old self.new to.old to.new }

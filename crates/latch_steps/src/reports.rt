@@ -22,12 +22,12 @@ pub trait Report<K> {
     ghost use Rattle.latch_steps.specs.declared.reports.Outcome.{Outcome};
 
     /// What takes the reports.
-    type To;
+    type Sink;
 
     /// What the report of an event makes of it.
-    ghost reports: { Self → Self.To → Event K → Outcome K → Self.To → Type 0 };
+    ghost reports: { Self → Self.Sink → Event K → Outcome K → Self.Sink → Type 0 };
 
     /// Reports an event, and what it came to.
-    fn report(&self, to: &mut Self::To, event: &Event<K>, outcome: &Outcome<K>)
+    fn report(&self, to: &mut Self::Sink, event: &Event<K>, outcome: &Outcome<K>)
         ensures { reports self.now to.old event.now outcome.now to.new };
 }

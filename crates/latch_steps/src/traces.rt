@@ -95,7 +95,7 @@ impl RecordingOptions {
 impl<K: Copy> Report<K> for RecordingOptions {
     ghost use Rattle.latch_steps.specs.Recordings.{Keeps};
 
-    type To = Recording<K>;
+    type Sink = Recording<K>;
 
     ghost reports = { λ options. Keeps options.events };
 

@@ -267,7 +267,7 @@ impl<O: TreeOrder> World<O> {
         reader: u32,
         most: u32,
         report: &R,
-        to: &mut R::To,
+        to: &mut R::Sink,
     )
         requires { is_some (lookup_at self.old.lookups reader) ≡ true }
         ensures layout { layout_in self.new ≡ layout_in self.old }

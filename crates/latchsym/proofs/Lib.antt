@@ -1,4 +1,4 @@
 -- the words that the proofs of this crate use
 mod Words
 -- what is known of a log before it is followed
-mod HeldLemmas
+mod FileTextLemmas

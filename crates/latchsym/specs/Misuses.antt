@@ -16,7 +16,7 @@ use Rattle.command_line.specs.declared.requests.JobFault.TheVariants.{BadAddress
 use Rattle.command_line.specs.declared.requests.JobFault.TheVariants.{BadEnd, BadOffset}
 use Rattle.command_line.specs.declared.requests.JobFault.TheVariants.{BadReaders, BadTime, NoJob}
 use Rattle.command_line.specs.declared.requests.JobFault.TheVariants.{NoText}
-use Rattle.command_line.specs.declared.requests.JobFault.TheVariants.{Clash, FollowedByOwnOffset}
+use Rattle.command_line.specs.declared.requests.JobFault.TheVariants.{Conflict, FollowedByOwnOffset}
 use Rattle.command_parts.specs.declared.fault.Fault.TheVariants.{Refused, Write}
 use Rattle.latchsym.specs.declared.misuse.TheConstants as text
 
@@ -77,7 +77,7 @@ IsNoJob contents errors w w' e e' (BadAddress word) status =
     IsMisusedAlone errors w w' e e' text.BAD_ADDRESS.now word.now status
 IsNoJob contents errors w w' e e' NoAddress status =
     IsMisusedAlone errors w w' e e' text.NO_ADDRESS.now [] status
-IsNoJob contents errors w w' e e' (Clash message) status =
+IsNoJob contents errors w w' e e' (Conflict message) status =
     IsMisusedAlone errors w w' e e' message.now [] status
 IsNoJob contents errors w w' e e' (BadTime word) status =
     IsMisusedAlone errors w w' e e' text.BAD_TIME.now word.now status

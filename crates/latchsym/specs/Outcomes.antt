@@ -12,7 +12,7 @@ use Rattle.command_listings.specs.LastingLogs.{Seen}
 use Rattle.command_listings.specs.HistoryAnnotations.{AnnotatesByHistory}
 use Rattle.command_listings.specs.HistoryOffsets.{WritesByHistoryOffset}
 use Rattle.command_listings.specs.OwnOffsets.{WritesByOwnOffset, all_failures}
-use Rattle.latchsym.specs.Files.{Held, held_given}
+use Rattle.latchsym.specs.Files.{FileTexts, given_by}
 use Rattle.latchsym.specs.RecordedEvents.{seen_again}
 use Rattle.recordings.specs.Recorder.{RecordsEvents}
 use Rattle.command_listings.specs.GivenAnswers.{AnswersGiven, AnswersListings}
@@ -56,9 +56,9 @@ abbrev pub bounds_of : Sources → BoundNames
 bounds_of s = unwrap_or s.kernel usual_bounds
 
 -- an engine returned what it may, and the outcome is this of it
-abbrev pub Ends : {A : Type 0} → (Result A Fault → Type 0)
+abbrev pub ComesTo : {A : Type 0} → (Result A Fault → Type 0)
     → (Result A Fault → Result Finished Fault) → Result Finished Fault → Type 0
-Ends {A} May finish outcome = (result : Result A Fault) × May result × (outcome ≡ finish result)
+ComesTo {A} May finish outcome = (result : Result A Fault) × May result × (outcome ≡ finish result)
 
 -- This holds of the reader of a request's own file, before and after. If it has none, the file
 -- is one that cannot be read.
@@ -113,28 +113,28 @@ module _ {R W : Type 0} (remaining : R → Option (List ℕ)) (contents : W → 
 
 -- What is known of a log before it is followed: what it has, what the listings give that are open,
 -- and what their files hold, which are opened again. In which order all of it is read is not.
-abbrev pub seen_first : {R : Type 0} → (R → Option (List ℕ)) → Held → Sources
+abbrev pub seen_first : {R : Type 0} → (R → Option (List ℕ)) → FileTexts → Sources
     → ListingReaders R R R → Counted R → Seen
-seen_first remaining held s l r = record {
+seen_first remaining file_text s l r = record {
   events = None;
   left = remaining (device_of r);
   next = known_given remaining remaining remaining l;
-  later = held_given held s.files;
+  later = given_by file_text s.files;
 }
 
 -- Events are recorded, by the listing that is read after them.
-abbrev pub IsRecordedBy : {R W : Type 0} → (R → Option (List ℕ)) → Held → (W → Option (List ℕ))
+abbrev pub IsRecordedBy : {R W : Type 0} → (R → Option (List ℕ)) → FileTexts → (W → Option (List ℕ))
     → Sources → Record → Counted R → Output W → Output W → Result Finished Fault → Type 0
-IsRecordedBy remaining held contents s r events w w' outcome =
+IsRecordedBy remaining file_text contents s r events w w' outcome =
     (after : Seen) × RecordsEvents contents r.is_appended
-    (seen_again remaining held s.files events) after w w' outcome
+    (seen_again remaining file_text s.files events) after w w' outcome
 
 -- how addresses are looked up that are asked for over these listings
 abbrev pub query_of : Sources → Lookup → Query
 query_of s l =
     record { kernel = s.kernel; rule = l.rule; form = l.form; addresses = l.addresses.items }
 
-module _ {R W E : Type 0} (remaining : R → Option (List ℕ)) (held : Held)
+module _ {R W E : Type 0} (remaining : R → Option (List ℕ)) (file_text : FileTexts)
     (contents : W → Option (List ℕ)) (errors : E → Option (List ℕ)) (w w' : Output W)
     (e e' : Output E) where
   module _ (s : Sources) (a : Annotate) where
@@ -148,7 +148,7 @@ module _ {R W E : Type 0} (remaining : R → Option (List ℕ)) (held : Held)
         (listing_failures l l') r r' w w' e e' result
     IsLogOf Listing Followed l l' r r' result =
         (after : Seen)
-        × FollowsLog contents errors s a (seen_first remaining held s l r) after w w' e e' result
+        × FollowsLog contents errors s a (seen_first remaining file_text s l r) after w w' e e' result
     IsLogOf Listing Whole l l' r r' result =
         WritesByOwnOffset contents errors s a w w' e e' (known_given remaining remaining remaining l)
         (remaining (device_of r)) (all_failures (listing_failures l l') r r') result
@@ -163,7 +163,7 @@ module _ {R W E : Type 0} (remaining : R → Option (List ℕ)) (held : Held)
         → Option (Counted R) → Result Finished Fault → Type 0
     IsOutcomeOfLog l l' i i' outcome =
         HoldsOfInput
-        (λ r r'. Ends (IsLogOf s.symbols a.reading l l' r r') (with_notes no_notes) outcome)
+        (λ r r'. ComesTo (IsLogOf s.symbols a.reading l l' r r') (with_notes no_notes) outcome)
         i i' outcome
 
   -- What is asked for over listings comes to this. A lookup that succeeds has status 0; of a log or
@@ -172,31 +172,31 @@ module _ {R W E : Type 0} (remaining : R → Option (List ℕ)) (held : Held)
   abbrev pub IsOutcomeBy : Sources → Subcommand → ListingReaders R R R → ListingReaders R R R
       → Option (Counted R) → Option (Counted R) → Result Finished Fault → Type 0
   IsOutcomeBy s (sub.Lookup lookup) l l' i i' outcome =
-      Ends (IsLookedUpBy remaining contents (query_of s lookup) s.symbols l l' i i' w w')
+      ComesTo (IsLookedUpBy remaining contents (query_of s lookup) s.symbols l l' i i' w w')
       with_status outcome × (e' ≡ e)
   IsOutcomeBy s (sub.Run run) l l' i i' outcome =
       IsOutcomeOfRun remaining contents s run.readers l l' i i' w w' outcome × (e' ≡ e)
   IsOutcomeBy s (sub.Annotate a) l l' i i' outcome =
       IsOutcomeOfLog s a l l' i i' outcome
   IsOutcomeBy s sub.Check l l' i i' outcome =
-      Ends (AnswersSources remaining contents (IsChecked s.kernel s.files) s.symbols l l' w w')
+      ComesTo (AnswersSources remaining contents (IsChecked s.kernel s.files) s.symbols l l' w w')
       (with_notes no_notes) outcome × (e' ≡ e)
   IsOutcomeBy s (sub.Address a) l l' i i' outcome =
       AnswersSources remaining contents
       (λ _. IsAddressed a.form s.kernel (map (λ n. n.now) a.names.items)) s.symbols l l' w w'
       outcome × (e' ≡ e)
   IsOutcomeBy s (sub.Record r) l l' i i' outcome =
-      HoldsOfInput (λ events events'. IsRecordedBy remaining held contents s r events w w' outcome)
+      HoldsOfInput (λ events events'. IsRecordedBy remaining file_text contents s r events w w' outcome)
       i i' outcome × (e' ≡ e)
 
   -- The status or the fault of a job, over what its readers had. A trace that succeeds has status
   -- 0.
   abbrev pub IsOutcome : OpenedJob R → OpenedJob R → Result Finished Fault → Type 0
   IsOutcome (Trace r) (Trace r') outcome =
-      Ends (AnswersTrace remaining contents r r' w w') (λ x. with_status (without_notes x)) outcome
+      ComesTo (AnswersTrace remaining contents r r' w w') (λ x. with_status (without_notes x)) outcome
       × (e' ≡ e)
   IsOutcome (Steps r) (Steps r') outcome =
-      Ends (AnswersSteps remaining contents r r' w w') (λ x. with_status (without_notes x)) outcome
+      ComesTo (AnswersSteps remaining contents r r' w w') (λ x. with_status (without_notes x)) outcome
       × (e' ≡ e)
   IsOutcome (Request q l i) (Request _ l' i') outcome =
       IsOutcomeBy q.now.sources q.now.subcommand l l' i i' outcome

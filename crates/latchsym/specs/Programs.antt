@@ -6,7 +6,7 @@ use Rattle.std.specs.declared.io.Error.{Error}
 use Rattle.clap.specs.Words.{Text}
 use Rattle.texts.specs.declared.output.Output.{Output}
 use Rattle.texts.specs.Output.{error_in}
-use Rattle.latchsym.specs.Files.{Held, IsOpenedFor}
+use Rattle.latchsym.specs.Files.{FileTexts, IsOpenedFor}
 use Rattle.command_line.specs.Jobs.{AnswersWords}
 use Rattle.latchsym.specs.Misuses.{IsNoJob}
 use Rattle.command_line.specs.Operands.{with_operands}
@@ -26,7 +26,7 @@ abbrev pub error_of_outcome : {R : Type 0} → OpenedJob R → Option Error → 
 error_of_outcome job written (Ok finished) = None
 error_of_outcome job written (Err fault) = error_behind job written fault
 
-module _ {F W E : Type 0} (remaining : F → Option (List ℕ)) (held : Held)
+module _ {F W E : Type 0} (remaining : F → Option (List ℕ)) (file_text : FileTexts)
     (contents : W → Option (List ℕ)) (errors : E → Option (List ℕ)) (w w' : Output W)
     (e e' : Output E) where
   -- The engine of a job came to this outcome over the readers of its files, which was reported,
@@ -34,19 +34,19 @@ module _ {F W E : Type 0} (remaining : F → Option (List ℕ)) (held : Held)
   pub record IsDoneOver (job : Job) (opened done : OpenedJob F) (status : ℕ) : Type 0 where
     pub told : Output E
     pub outcome : Result Finished Fault
-    pub is_done : IsOutcome remaining held contents errors w w' e told opened done outcome
+    pub is_done : IsOutcome remaining file_text contents errors w w' e told opened done outcome
     pub is_told : IsConcluded errors job (error_of_outcome done (error_in w') outcome) told e'
         outcome status
 
-module _ {F W E : Type 0} (remaining : F → Option (List ℕ)) (held : Held)
+module _ {F W E : Type 0} (remaining : F → Option (List ℕ)) (file_text : FileTexts)
     (standard : Option (List ℕ)) (contents : W → Option (List ℕ))
     (errors : E → Option (List ℕ)) (w w' : Output W) (e e' : Output E) where
   -- The job was opened over the readers of its own files, and done over them.
   abbrev pub IsJobDone : Job → ℕ → Type 0
   IsJobDone job status =
       (opened : OpenedJob F) × (done : OpenedJob F)
-      × IsOpenedFor remaining held standard job opened
-      × IsDoneOver remaining held contents errors w w' e e' job opened done status
+      × IsOpenedFor remaining file_text standard job opened
+      × IsDoneOver remaining file_text contents errors w w' e e' job opened done status
 
   -- What comes of a job: it is done, or memory ran out before it was begun.
   abbrev pub ComesOf : Job → ℕ → Type 0

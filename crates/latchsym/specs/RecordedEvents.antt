@@ -8,18 +8,18 @@ use Rattle.command_listings.specs.LastingLogs.{Seen}
 use Rattle.command_listings.specs.declared.sources.ListingFiles.{ListingFiles}
 use Rattle.listing.specs.NoteTexts.{plain_text}
 use Rattle.listing.specs.declared.listing_notes.ListingNote.{ListingNote}
-use Rattle.latchsym.specs.Files.{Held, held_given}
+use Rattle.latchsym.specs.Files.{FileTexts, given_by}
 
 -- What is known of events before they are recorded: what they have, and what the files of the
 -- listings hold, which are opened each time that they are read. In which order all of it is read is
 -- not.
-abbrev pub seen_again : {R : Type 0} → (R → Option (List ℕ)) → Held → ListingFiles → Counted R
+abbrev pub seen_again : {R : Type 0} → (R → Option (List ℕ)) → FileTexts → ListingFiles → Counted R
     → Seen
-seen_again remaining held files r = record {
+seen_again remaining file_text files r = record {
   events = None;
   left = remaining (device_of r);
-  next = held_given held files;
-  later = held_given held files;
+  next = given_by file_text files;
+  later = given_by file_text files;
 }
 
 -- the line that says what is wrong with the listing in this file

@@ -80,14 +80,14 @@ impl<'f, 'a, F: FileSource> LastingLog for FollowedFiles<'f, 'a, F> {
     ghost use Rattle.std.specs.Prelude.{None, if◌then◌else◌};
     ghost use Rattle.texts.specs.Counted.{device_of};
     ghost use Rattle.command_parts.specs.OpenedCatalogs.{known_given};
-    ghost use Rattle.latchsym.specs.Files.{held_given};
+    ghost use Rattle.latchsym.specs.Files.{given_by};
 
     ghost seen = { λ s. record {
       events = None;
       left = F.File.remaining (device_of s.log.now);
-      next = if s.is_read then held_given (F.held s.files.now) s.names.now
+      next = if s.is_read then given_by (F.file_text s.files.now) s.names.now
           else known_given F.File.remaining F.File.remaining F.File.remaining s.listings.now;
-      later = held_given (F.held s.files.now) s.names.now;
+      later = given_by (F.file_text s.files.now) s.names.now;
     } };
 
     fn read_block(&mut self, room: &mut [u8]) -> Result<usize, Fault> {

@@ -48,7 +48,7 @@ impl FileSource for FileSystem<'_> {
 
     type File = Input;
 
-    ghost held = { λ files name. None };
+    ghost file_text = { λ files name. None };
 
     ghost standard = { λ files. None };
 

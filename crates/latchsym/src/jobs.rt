@@ -13,13 +13,13 @@ ghost use Rattle.latchsym.specs.Files.{AreListingFiles, AreSourceFiles, IsNew, I
 ghost use Rattle.latchsym.specs.Files.{IsOpenedFor};
 ghost use Rattle.latchsym.specs.Files.{IsOpenedIfGiven};
 ghost use Rattle.latchsym.specs.Files.{or_standard};
-ghost use Rattle.latchsym.specs.Outcomes.{AnswersSources, Ends, IsLookedUpBy, IsOutcome};
+ghost use Rattle.latchsym.specs.Outcomes.{AnswersSources, ComesTo, IsLookedUpBy, IsOutcome};
 ghost use Rattle.latchsym.specs.Outcomes.{IsLogAt, IsLogBy, IsOutcomeBy};
 ghost use Rattle.latchsym.specs.Outcomes.{IsOutcomeOfLog, IsOutcomeOfRun, query_of, seen_first};
 ghost use Rattle.latchsym.specs.Reasons.{error_if_given, error_of_listings, error_of_request};
 
 use crate::followed_files::FollowedFiles;
-use crate::recorded_events::do_record;
+use crate::recorded_events::run_record;
 use command_line::{Address, Job, Lookup, Request, Run, Subcommand};
 use command_listings::{
     ListingFiles, LogReading, LogRequest, Sources, SymbolSource, address_engine, address_engine_at,
@@ -48,14 +48,14 @@ pub trait FileSource {
     type File: Read + Drop;
 
     /// What the file of each name holds, if that is known.
-    ghost held: { Self → List ℕ → Option (List ℕ) };
+    ghost file_text: { Self → List ℕ → Option (List ℕ) };
 
     /// What the standard input holds, if that is known.
     ghost standard: { Self → Option (List ℕ) };
 
     /// A reader of the file of this name. Refused only when out of memory.
     fn open(&self, name: &str) -> Result<Counted<Self::File>, Refusal>
-        ensures opened { IfOk result (IsOpened Self.File.remaining (held self.now) name.now) }
+        ensures opened { IfOk result (IsOpened Self.File.remaining (file_text self.now) name.now) }
         ensures refusal { IfErr result (λ e. e ≡ Refusal.OutOfMemory) };
 
     /// A reader of the standard input.
@@ -81,7 +81,7 @@ pub fn open_job<'j, 'a, F: FileSource>(
     job: &'j Job<'a>,
 ) -> Result<OpenedJob<'j, 'a, F::File>, Refusal>
     ensures opened { IfOk result
-        (IsOpenedFor F.File.remaining (F.held files.now) (F.standard files.now) job.now) }
+        (IsOpenedFor F.File.remaining (F.file_text files.now) (F.standard files.now) job.now) }
     ensures refusal { IfErr result (λ e. e ≡ Refusal.OutOfMemory) }
 {
     match job {
@@ -99,14 +99,14 @@ pub fn open_job<'j, 'a, F: FileSource>(
 /// number of readers. Returns the program's status and the notes on the listings, or why it failed.
 /// The notes on the listings of a log are written before the log is begun. If it is
 /// followed, the files of its listings are opened again.
-pub fn do_job<T: Threads + Wait + Sync, F: FileSource, W: Write, E: Write>(
+pub fn run_job<T: Threads + Wait + Sync, F: FileSource, W: Write, E: Write>(
     threads: &T,
     alloc: Global,
     files: &F,
     job: &mut OpenedJob<'_, '_, F::File>,
     outputs: &mut Outputs<W, E>,
 ) -> Result<Finished, Fault>
-    ensures { IsOutcome F.File.remaining (F.held files.now) W.contents E.contents
+    ensures { IsOutcome F.File.remaining (F.file_text files.now) W.contents E.contents
         outputs.old.writer outputs.new.writer outputs.old.errors outputs.new.errors
         job.old job.new result }
 {
@@ -121,23 +121,23 @@ pub fn do_job<T: Threads + Wait + Sync, F: FileSource, W: Write, E: Write>(
             let sources = &request.sources;
             match &request.subcommand {
                 Subcommand::Lookup(lookup) => {
-                    do_lookup(alloc, sources, lookup, listings, input, &mut outputs.writer)
+                    run_lookup(alloc, sources, lookup, listings, input, &mut outputs.writer)
                 }
                 Subcommand::Run(run) => {
                     let writer = &mut outputs.writer;
-                    do_run(threads, alloc, sources, run, listings, input, writer)
+                    run_script(threads, alloc, sources, run, listings, input, writer)
                 }
                 Subcommand::Annotate(job) => {
                     let request = LogRequest { sources, job };
-                    do_annotate(alloc, files, request, listings, input, outputs)
+                    run_annotate(alloc, files, request, listings, input, outputs)
                 }
-                Subcommand::Check => do_check(alloc, sources, listings, &mut outputs.writer),
+                Subcommand::Check => run_check(alloc, sources, listings, &mut outputs.writer),
                 Subcommand::Address(address) => {
-                    do_address(alloc, sources, address, listings, &mut outputs.writer)
+                    run_address(alloc, sources, address, listings, &mut outputs.writer)
                 }
                 Subcommand::Record(record) => {
                     let writer = &mut outputs.writer;
-                    do_record(alloc, files, sources, record, listings, input, writer)
+                    run_record(alloc, files, sources, record, listings, input, writer)
                 }
             }
         }
@@ -145,7 +145,7 @@ pub fn do_job<T: Threads + Wait + Sync, F: FileSource, W: Write, E: Write>(
 }
 
 /// Looks addresses up.
-fn do_lookup<R: Read, W: Write>(
+fn run_lookup<R: Read, W: Write>(
     alloc: Global,
     sources: &Sources<'_>,
     lookup: &Lookup<'_>,
@@ -153,7 +153,7 @@ fn do_lookup<R: Read, W: Write>(
     file: &mut Option<Counted<R>>,
     writer: &mut Output<W>,
 ) -> Result<Finished, Fault>
-    ensures { Ends (IsLookedUpBy R.remaining W.contents (query_of sources.now lookup.now)
+    ensures { ComesTo (IsLookedUpBy R.remaining W.contents (query_of sources.now lookup.now)
         sources.now.symbols listings.old listings.new file.old file.new writer.old writer.new)
         with_status result }
 {
@@ -188,7 +188,7 @@ fn look_up<R: Read, W: Write>(
 }
 
 /// Does what a script says.
-fn do_run<T: Threads + Wait + Sync, R: Read, W: Write>(
+fn run_script<T: Threads + Wait + Sync, R: Read, W: Write>(
     threads: &T,
     alloc: Global,
     sources: &Sources<'_>,
@@ -218,7 +218,7 @@ fn do_run<T: Threads + Wait + Sync, R: Read, W: Write>(
 
 /// Annotates a log by listings or by a history: block by block, followed, or read as a whole for the
 /// offset that it says.
-fn do_annotate<F: FileSource, W: Write, E: Write>(
+fn run_annotate<F: FileSource, W: Write, E: Write>(
     alloc: Global,
     files: &F,
     request: LogRequest<'_, '_>,
@@ -226,7 +226,7 @@ fn do_annotate<F: FileSource, W: Write, E: Write>(
     log: &mut Option<Counted<F::File>>,
     outputs: &mut Outputs<W, E>,
 ) -> Result<Finished, Fault>
-    ensures { IsOutcomeOfLog F.File.remaining (F.held files.now) W.contents E.contents
+    ensures { IsOutcomeOfLog F.File.remaining (F.file_text files.now) W.contents E.contents
         outputs.old.writer outputs.new.writer outputs.old.errors outputs.new.errors
         request.sources.now request.job.now listings.old listings.new log.old log.new result }
 {
@@ -265,7 +265,7 @@ fn follow<F: FileSource, W: Write, E: Write>(
     outputs: &mut Outputs<W, E>,
 ) -> Result<u8, Fault>
     ensures { (after : Seen) × FollowsLog W.contents E.contents request.sources.now
-        request.job.now (seen_first F.File.remaining (F.held files.now) request.sources.now
+        request.job.now (seen_first F.File.remaining (F.file_text files.now) request.sources.now
         listings.old log.old) after outputs.old.writer outputs.new.writer
         outputs.old.errors outputs.new.errors result }
 {
@@ -274,13 +274,13 @@ fn follow<F: FileSource, W: Write, E: Write>(
 }
 
 /// Checks listings. The notes are its output, so no further note remains.
-fn do_check<R: Read, W: Write>(
+fn run_check<R: Read, W: Write>(
     alloc: Global,
     sources: &Sources<'_>,
     listings: &mut ListingReaders<R, R, R>,
     writer: &mut Output<W>,
 ) -> Result<Finished, Fault>
-    ensures { Ends (AnswersSources R.remaining W.contents
+    ensures { ComesTo (AnswersSources R.remaining W.contents
         (IsChecked sources.now.kernel sources.now.files) sources.now.symbols
         listings.old listings.new writer.old writer.new)
         (with_notes no_notes) result }
@@ -311,7 +311,7 @@ fn check<R: Read, W: Write>(
 }
 
 /// Writes the places of the symbols of names.
-fn do_address<R: Read, W: Write>(
+fn run_address<R: Read, W: Write>(
     alloc: Global,
     sources: &Sources<'_>,
     address: &Address<'_>,
@@ -420,7 +420,7 @@ fn open_sources<F: FileSource>(
     files: &F,
     sources: &Sources<'_>,
 ) -> Result<ListingReaders<F::File, F::File, F::File>, Refusal>
-    ensures opened { IfOk result (AreSourceFiles F.File.remaining (F.held files.now)
+    ensures opened { IfOk result (AreSourceFiles F.File.remaining (F.file_text files.now)
         (F.standard files.now) sources.now.files sources.now.symbols) }
     ensures refusal { IfErr result (λ e. e ≡ Refusal.OutOfMemory) }
 {
@@ -440,7 +440,7 @@ pub(crate) fn open_files<F: FileSource>(
     listings: &ListingFiles<'_>,
 ) -> Result<ListingReaders<F::File, F::File, F::File>, Refusal>
     ensures opened { IfOk result
-        (AreListingFiles F.File.remaining (F.held files.now) listings.now) }
+        (AreListingFiles F.File.remaining (F.file_text files.now) listings.now) }
     ensures refusal { IfErr result (λ e. e ≡ Refusal.OutOfMemory) }
 {
     Ok(ListingReaders {
@@ -455,7 +455,7 @@ fn open_if_given<F: FileSource>(
     files: &F,
     name: Option<&str>,
 ) -> Result<Option<Counted<F::File>>, Refusal>
-    ensures opened { IfOk result (IsOpenedIfGiven F.File.remaining (F.held files.now)
+    ensures opened { IfOk result (IsOpenedIfGiven F.File.remaining (F.file_text files.now)
         (option_map (λ n. n.now) name.entry)) }
     ensures refusal { IfErr result (λ e. e ≡ Refusal.OutOfMemory) }
 {
@@ -471,7 +471,7 @@ fn open_input<F: FileSource>(
     name: Option<&str>,
 ) -> Result<Option<Counted<F::File>>, Refusal>
     ensures opened { IfOk result (IsOpenedIfGiven F.File.remaining
-        (or_standard (F.standard files.now) (F.held files.now))
+        (or_standard (F.standard files.now) (F.file_text files.now))
         (option_map (λ n. n.now) name.entry)) }
     ensures refusal { IfErr result (λ e. e ≡ Refusal.OutOfMemory) }
 {
@@ -484,7 +484,7 @@ fn open_input<F: FileSource>(
 /// Opens a file of addresses, a script, a log or a history; `-` is the standard input.
 fn open_or_standard<F: FileSource>(files: &F, name: &str) -> Result<Counted<F::File>, Refusal>
     ensures opened { IfOk result (IsOpened F.File.remaining
-        (or_standard (F.standard files.now) (F.held files.now)) name.now) }
+        (or_standard (F.standard files.now) (F.file_text files.now)) name.now) }
     ensures refusal { IfErr result (λ e. e ≡ Refusal.OutOfMemory) }
 {
     match name {

@@ -56,7 +56,7 @@ pub fn refuse<W: Write, E: Write>(
         JobFault::CommandLine(error) => explain(alloc, &error, outputs),
         JobFault::BadAddress(word) => misused(BAD_ADDRESS, word, errors),
         JobFault::NoAddress => misused(NO_ADDRESS, "", errors),
-        JobFault::Clash(message) => misused(message.as_bytes(), "", errors),
+        JobFault::Conflict(message) => misused(message.as_bytes(), "", errors),
         JobFault::BadTime(word) => misused(BAD_TIME, word, errors),
         JobFault::BadOffset(word) => misused(offset_message(word), word, errors),
         JobFault::FollowedByOwnOffset => misused(FOLLOWED_OFFSET, "", errors),

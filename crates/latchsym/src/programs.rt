@@ -2,7 +2,7 @@
 //! what it says of that, and its status.
 //!
 //! ```text
-//!     words --job_of--> job --open_job--> job over its files --do_job--> output
+//!     words --job_of--> job --open_job--> job over its files --run_job--> output
 //!              |                                                 |
 //!            fault                                            outcome
 //!              |                                                 |
@@ -15,7 +15,7 @@ ghost use Rattle.texts.specs.Output.{error_in};
 ghost use Rattle.latchsym.specs.Programs.{AnswersCommand, ComesOf};
 ghost use Rattle.latchsym.specs.Programs.{error_of_outcome};
 
-use crate::jobs::{FileSource, OpenedJob, do_job, open_job};
+use crate::jobs::{FileSource, OpenedJob, open_job, run_job};
 use crate::misuse::refuse;
 use crate::reports::conclude;
 use command_line::{Job, JobFault, job_of, with_operands};
@@ -40,7 +40,7 @@ pub fn program<T: Threads + Wait + Sync, S: AsStr, F: FileSource, W: Write, E: W
     files: &F,
     outputs: &mut Outputs<W, E>,
 ) -> u8
-    ensures { AnswersCommand F.File.remaining (F.held files.now) (F.standard files.now)
+    ensures { AnswersCommand F.File.remaining (F.file_text files.now) (F.standard files.now)
         W.contents E.contents outputs.old.writer outputs.new.writer outputs.old.errors
         outputs.new.errors S.text words.entry result }
 {
@@ -52,27 +52,27 @@ pub fn program<T: Threads + Wait + Sync, S: AsStr, F: FileSource, W: Write, E: W
         return refuse(alloc, JobFault::OutOfMemory, outputs);
     };
     match job_of(alloc, words.as_slice()) {
-        Ok(job) => do_whole(threads, alloc, &job, files, outputs),
+        Ok(job) => open_and_run(threads, alloc, &job, files, outputs),
         Err(fault) => refuse(alloc, fault, outputs),
     }
 }
 
 /// Opens the files of a job, does it, says how it ended, and returns the program's status.
-fn do_whole<T: Threads + Wait + Sync, F: FileSource, W: Write, E: Write>(
+fn open_and_run<T: Threads + Wait + Sync, F: FileSource, W: Write, E: Write>(
     threads: &T,
     alloc: Global,
     job: &Job<'_>,
     files: &F,
     outputs: &mut Outputs<W, E>,
 ) -> u8
-    ensures { ComesOf F.File.remaining (F.held files.now) (F.standard files.now)
+    ensures { ComesOf F.File.remaining (F.file_text files.now) (F.standard files.now)
         W.contents E.contents outputs.old.writer outputs.new.writer outputs.old.errors
         outputs.new.errors job.now result }
 {
     let Ok(mut opened) = open_job(files, job) else {
         return refuse(alloc, JobFault::OutOfMemory, outputs);
     };
-    let outcome = do_job(threads, alloc, files, &mut opened, outputs);
+    let outcome = run_job(threads, alloc, files, &mut opened, outputs);
     let error = error_of_outcome(&opened, &outputs.writer, &outcome);
     conclude(outcome, job, error, &mut outputs.errors)
 }

@@ -15,7 +15,7 @@ use std::io::Write;
 use texts::{Counted, Output};
 
 /// Records events. The file of the listing is opened each time that it is read.
-pub(crate) fn do_record<F: FileSource, W: Write>(
+pub(crate) fn run_record<F: FileSource, W: Write>(
     alloc: Global,
     files: &F,
     sources: &Sources<'_>,
@@ -24,7 +24,7 @@ pub(crate) fn do_record<F: FileSource, W: Write>(
     events: &mut Option<Counted<F::File>>,
     writer: &mut Output<W>,
 ) -> Result<Finished, Fault>
-    ensures { HoldsOfInput (λ r r'. IsRecordedBy F.File.remaining (F.held files.now) W.contents
+    ensures { HoldsOfInput (λ r r'. IsRecordedBy F.File.remaining (F.file_text files.now) W.contents
         sources.now job.now r writer.old writer.new result) events.old events.new result }
 {
     match events {
@@ -43,7 +43,7 @@ fn record_over<F: FileSource, W: Write>(
     events: &mut Counted<F::File>,
     writer: &mut Output<W>,
 ) -> Result<Finished, Fault>
-    ensures { IsRecordedBy F.File.remaining (F.held files.now) W.contents sources.now job.now
+    ensures { IsRecordedBy F.File.remaining (F.file_text files.now) W.contents sources.now job.now
         events.old writer.old writer.new result }
 {
     let mut events = FollowedFiles::reopened(files, &sources.files, listings, events);

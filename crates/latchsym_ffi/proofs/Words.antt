@@ -41,7 +41,7 @@ pub use Rattle.latchsym_ffi.specs.Tables.{AreOpened, first_reader}
 pub use Rattle.latchsym_ffi.specs.Updates.{item_from}
 pub use Rattle.latchsym_ffi.specs.Viewing.{AreRooms}
 pub use Rattle.latchsym_ffi.specs.Views.{AreRowsOf, IsRegionRow, IsViewOf, entry_of_row, found_without_letter, item_of_row, known_without_letter, shown_row, symbol_of_row, symbols_at, symbols_below, symbols_of, without_letter}
-pub use Rattle.latchsym_ffi.specs.declared.answers.Answer.TheVariants.{Done}
+pub use Rattle.latchsym_ffi.specs.declared.answers.CallOutcome.TheVariants.{Done}
 pub use Rattle.latchsym_ffi.specs.declared.contents.Content.{Content}
 pub use Rattle.latchsym_ffi.specs.declared.contents.Content.TheVariants.{Catalog, Follower, Reader, Writer}
 pub use Rattle.latchsym_ffi.specs.declared.handles.Handle.{Handle}

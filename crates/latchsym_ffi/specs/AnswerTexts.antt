@@ -8,8 +8,8 @@ use Rattle.order_laws.specs.declared.refusals.Refusal.{Refusal}
 use Rattle.order_laws.specs.declared.refusals.Refusal.TheVariants as refusal
 use Rattle.latchsym_ffi.specs.Answers.{answer_with}
 use Rattle.latchsym_ffi.specs.declared.answer_texts.TheConstants as says
-use Rattle.latchsym_ffi.specs.declared.answers.Answer.{Answer}
-use Rattle.latchsym_ffi.specs.declared.answers.Answer.TheVariants as answer
+use Rattle.latchsym_ffi.specs.declared.answers.CallOutcome.{CallOutcome}
+use Rattle.latchsym_ffi.specs.declared.answers.CallOutcome.TheVariants as answer
 
 abbrev pub refusal_text : Refusal → List ℕ
 refusal_text refusal.BadItem = without_last says.BAD_ITEM.now
@@ -44,7 +44,7 @@ own_text _ = no_text
 abbrev pub note_text : ListingNote → List ℕ
 note_text note = unwrap_or (plain_text note) (own_text note)
 
-abbrev pub answer_text : Answer → List ℕ
+abbrev pub answer_text : CallOutcome → List ℕ
 answer_text answer.Done = without_last says.DONE.now
 answer_text (answer.Refused r) = refusal_text r
 answer_text answer.BadLine = without_last says.BAD_LINE.now

@@ -5,11 +5,11 @@ use Rattle.listing.specs.declared.listing_notes.ListingNote.TheVariants as note
 use Rattle.listing.specs.declared.owners.Owner.TheVariants.{Bpf}
 use Rattle.order_laws.specs.declared.refusals.Refusal.TheVariants as refusal
 use Rattle.order_laws.specs.Refusals.{refusal_number}
-use Rattle.latchsym_ffi.specs.declared.answers.Answer.{Answer}
-use Rattle.latchsym_ffi.specs.declared.answers.Answer.TheVariants.{Done, Refused, BadLine}
-use Rattle.latchsym_ffi.specs.declared.answers.Answer.TheVariants.{NoSymbol, Nothing, Retry, Busy}
-use Rattle.latchsym_ffi.specs.declared.answers.Answer.TheVariants.{Flip, Store, Noted, BadHandle}
-use Rattle.latchsym_ffi.specs.declared.answers.Answer.TheVariants.{BadLength, BadListings, BadStamp, Forgotten}
+use Rattle.latchsym_ffi.specs.declared.answers.CallOutcome.{CallOutcome}
+use Rattle.latchsym_ffi.specs.declared.answers.CallOutcome.TheVariants.{Done, Refused, BadLine}
+use Rattle.latchsym_ffi.specs.declared.answers.CallOutcome.TheVariants.{NoSymbol, Nothing, Retry, Busy}
+use Rattle.latchsym_ffi.specs.declared.answers.CallOutcome.TheVariants.{Flip, Store, Noted, BadHandle}
+use Rattle.latchsym_ffi.specs.declared.answers.CallOutcome.TheVariants.{BadLength, BadListings, BadStamp, Forgotten}
 
 -- the number of a note on a listing
 abbrev pub note_number : ListingNote → ℕ
@@ -29,7 +29,7 @@ note_number note.Utf16 = 53
 note_number (note.UnlistedOwner owner) = 54
 
 -- the number that is returned for an answer
-abbrev pub answer_number : Answer → ℕ
+abbrev pub answer_number : CallOutcome → ℕ
 answer_number Done = 0
 answer_number (Refused r) = refusal_number r
 answer_number BadLine = 15
@@ -47,7 +47,7 @@ answer_number BadListings = 103
 answer_number BadStamp = 104
 
 -- all answers, by rising number
-abbrev pub all_answers : List Answer
+abbrev pub all_answers : List CallOutcome
 all_answers =
     Done ∷ Refused refusal.BadItem ∷ Refused refusal.Overlap ∷ Refused refusal.NoSuchItem
     ∷ Refused refusal.Full ∷ Refused refusal.UpdateInHand ∷ Refused refusal.SequenceSpent
@@ -62,16 +62,16 @@ all_answers =
     ∷ Noted note.Empty ∷ Noted note.Utf16 ∷ Noted (note.UnlistedOwner Bpf) ∷ BadHandle ∷ BadLength
     ∷ BadListings ∷ BadStamp ∷ []
 
-unfoldable pub has_number : ℕ → Answer → Bool
+unfoldable pub has_number : ℕ → CallOutcome → Bool
 has_number number a = nat_eq (answer_number a) number
 
 -- the answer, of any owner if it is a note that names one
-abbrev pub of_any_owner : Answer → Answer
+abbrev pub of_any_owner : CallOutcome → CallOutcome
 of_any_owner (Noted (note.UnlistedOwner owner)) = Noted (note.UnlistedOwner Bpf)
 of_any_owner a = a
 
 -- the answer of a number, if an answer has it
-abbrev pub answer_with : ℕ → Option Answer
+abbrev pub answer_with : ℕ → Option CallOutcome
 answer_with number = find (has_number number) all_answers
 
 -- the number of a note if there is one, and else of nothing

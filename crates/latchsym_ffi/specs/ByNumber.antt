@@ -9,7 +9,7 @@ use Rattle.modules.specs.Parts.{is_init}
 use Rattle.modules.specs.SymbolNames.{symbols_named}
 use Rattle.modules.specs.declared.lines.Part.{Part}
 use Rattle.latchsym_ffi.specs.Answers.{answer_number}
-use Rattle.latchsym_ffi.specs.declared.answers.Answer.TheVariants.{Done, Nothing}
+use Rattle.latchsym_ffi.specs.declared.answers.CallOutcome.TheVariants.{Done, Nothing}
 use Rattle.latchsym_ffi.specs.declared.by_number.CatalogModule.{CatalogModule}
 use Rattle.latchsym_ffi.specs.declared.by_number.CatalogRegion.{CatalogRegion}
 use Rattle.latchsym_ffi.specs.declared.by_number.CatalogEntry.{CatalogEntry}

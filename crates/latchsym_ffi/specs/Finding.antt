@@ -9,12 +9,12 @@ use Rattle.modules.specs.Entries.{CatalogEntries}
 use Rattle.modules.specs.Found.{Found, symbol_at}
 use Rattle.modules.specs.Items.{item_of_address}
 use Rattle.latchsym_ffi.specs.Answers.{answer_number}
-use Rattle.latchsym_ffi.specs.declared.answers.Answer.TheVariants.{Done, NoSymbol, Nothing}
+use Rattle.latchsym_ffi.specs.declared.answers.CallOutcome.TheVariants.{Done, NoSymbol, Nothing}
 use Rattle.latchsym_ffi.specs.declared.finding.CatalogAnswer.{CatalogAnswer}
 use Rattle.latchsym_ffi.specs.declared.finding.RegionAndSymbol.{RegionAndSymbol}
 use Rattle.latchsym_ffi.specs.declared.finding.Description.{Description}
-use Rattle.latchsym_ffi.specs.declared.finding.Taken.{Taken}
-use Rattle.latchsym_ffi.specs.declared.finding.Taken.TheVariants.{AsItIs, AsReturn}
+use Rattle.latchsym_ffi.specs.declared.finding.AddressUse.{AddressUse}
+use Rattle.latchsym_ffi.specs.declared.finding.AddressUse.TheVariants.{AsItIs, AsReturn}
 
 -- the item of the region that an address lies in, if any, and the symbol that it belongs to there,
 -- if any
@@ -33,7 +33,7 @@ known_call c addr =
     (lower_by 1 addr)
 
 -- what is known of an address, looked up so
-abbrev pub known_as : Taken → CatalogEntries → ℕ → Known
+abbrev pub known_as : AddressUse → CatalogEntries → ℕ → Known
 known_as AsItIs = known_at
 known_as AsReturn = known_call
 

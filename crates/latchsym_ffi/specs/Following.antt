@@ -13,8 +13,8 @@ use Rattle.latchsym_ffi.specs.Finding.{Known}
 use Rattle.latchsym_ffi.specs.Handles.{FollowerGoes, HoldsFollower, RefusesOther, Stays}
 use Rattle.latchsym_ffi.specs.Kinds.{follower_kind}
 use Rattle.latchsym_ffi.specs.Named.{IsTold}
-use Rattle.latchsym_ffi.specs.declared.answers.Answer.TheVariants.{BadStamp, Done, Forgotten}
-use Rattle.latchsym_ffi.specs.declared.answers.Answer.TheVariants.{Nothing}
+use Rattle.latchsym_ffi.specs.declared.answers.CallOutcome.TheVariants.{BadStamp, Done, Forgotten}
+use Rattle.latchsym_ffi.specs.declared.answers.CallOutcome.TheVariants.{Nothing}
 use Rattle.latchsym_ffi.specs.declared.finding.CatalogSymbol.{CatalogSymbol}
 use Rattle.latchsym_ffi.specs.declared.handles.Handle.{Handle}
 

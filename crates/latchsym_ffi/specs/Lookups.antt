@@ -8,7 +8,7 @@ use Rattle.latch_table.specs.declared.readers.Try.{Try}
 use Rattle.latch_table.specs.declared.readers.Try.TheVariants.{Answered, Retry}
 use Rattle.modules.specs.Entries.{CatalogEntries}
 use Rattle.latchsym_ffi.specs.Answers.{answer_number}
-use Rattle.latchsym_ffi.specs.declared.answers.Answer.TheVariants as answer
+use Rattle.latchsym_ffi.specs.declared.answers.CallOutcome.TheVariants as answer
 use Rattle.latchsym_ffi.specs.declared.finding.CatalogAnswer.{CatalogAnswer}
 use Rattle.latchsym_ffi.specs.declared.lookups.TableAnswer.{TableAnswer}
 use Rattle.latchsym_ffi.specs.Finding.{answer_of, copied, known_code, known_in, owner_named}

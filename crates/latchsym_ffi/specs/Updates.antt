@@ -9,7 +9,7 @@ use Rattle.latch_table.specs.declared.writers.Did.{Did}
 use Rattle.latch_table.specs.declared.writers.Did.TheVariants.{Flip, Store}
 use Rattle.latch_table.specs.Writers.{Refuses, WriterState}
 use Rattle.latchsym_ffi.specs.Answers.{answer_number}
-use Rattle.latchsym_ffi.specs.declared.answers.Answer.TheVariants as answer
+use Rattle.latchsym_ffi.specs.declared.answers.CallOutcome.TheVariants as answer
 use Rattle.latchsym_ffi.specs.declared.updates.TableItem.{TableItem}
 
 abbrev pub item_from : TableItem → Item

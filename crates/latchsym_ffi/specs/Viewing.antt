@@ -3,7 +3,7 @@ use Rattle.std.specs.Prelude.{◌≡◌, ℕ, ◌^◌, ◌≤◌, ◌⊎◌, Lis
 use Rattle.modules.specs.Catalogs.{regions_of}
 use Rattle.modules.specs.Entries.{CatalogEntries}
 use Rattle.latchsym_ffi.specs.Answers.{answer_number}
-use Rattle.latchsym_ffi.specs.declared.answers.Answer.TheVariants.{Done}
+use Rattle.latchsym_ffi.specs.declared.answers.CallOutcome.TheVariants.{Done}
 use Rattle.latchsym_ffi.specs.declared.view_rows.ViewRegion.{ViewRegion}
 use Rattle.latchsym_ffi.specs.declared.view_rows.ViewSymbol.{ViewSymbol}
 use Rattle.latchsym_ffi.specs.declared.viewing.ViewSizes.{ViewSizes}

@@ -5,7 +5,7 @@ ghost use Rattle.std.specs.Prelude.{◌≡◌, ◌++◌, [], ◌∷◌};
 ghost use Rattle.latchsym_ffi.specs.AnswerTexts.{answer_text, no_text, note_text, own_text};
 ghost use Rattle.latchsym_ffi.specs.AnswerTexts.{refusal_text};
 
-use crate::answers::Answer;
+use crate::answers::CallOutcome;
 use listing::{ListingNote, ended_text};
 use order_laws::Refusal;
 
@@ -81,25 +81,25 @@ const UNLISTED_OWNER: &[u8] =
 const NO_NUMBER: &[u8] = b"no number of this library\0";
 
 /// The text of an answer.
-pub(crate) fn text_of_answer(answer: Answer) -> &'static [u8]
+pub(crate) fn text_of_answer(answer: CallOutcome) -> &'static [u8]
     ensures { result.now ≡ answer_text answer ++ 0 ∷ [] }
 {
     match answer {
-        Answer::Done => DONE,
-        Answer::Refused(refusal) => text_of_refusal(refusal),
-        Answer::BadLine => BAD_LINE,
-        Answer::NoSymbol => NO_SYMBOL,
-        Answer::Nothing => NOTHING,
-        Answer::Retry => RETRY,
-        Answer::Busy => BUSY,
-        Answer::Forgotten => FORGOTTEN,
-        Answer::Flip => FLIP,
-        Answer::Store => STORE,
-        Answer::Noted(note) => text_of_note(note),
-        Answer::BadHandle => BAD_HANDLE,
-        Answer::BadLength => BAD_LENGTH,
-        Answer::BadListings => BAD_LISTINGS,
-        Answer::BadStamp => BAD_STAMP,
+        CallOutcome::Done => DONE,
+        CallOutcome::Refused(refusal) => text_of_refusal(refusal),
+        CallOutcome::BadLine => BAD_LINE,
+        CallOutcome::NoSymbol => NO_SYMBOL,
+        CallOutcome::Nothing => NOTHING,
+        CallOutcome::Retry => RETRY,
+        CallOutcome::Busy => BUSY,
+        CallOutcome::Forgotten => FORGOTTEN,
+        CallOutcome::Flip => FLIP,
+        CallOutcome::Store => STORE,
+        CallOutcome::Noted(note) => text_of_note(note),
+        CallOutcome::BadHandle => BAD_HANDLE,
+        CallOutcome::BadLength => BAD_LENGTH,
+        CallOutcome::BadListings => BAD_LISTINGS,
+        CallOutcome::BadStamp => BAD_STAMP,
     }
 }
 

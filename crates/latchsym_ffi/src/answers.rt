@@ -1,7 +1,7 @@
 //! The numbers that calls return. Each means one thing, whatever call returns it.
 
 ghost use Rattle.std.specs.Prelude.{◌≡◌, ◌++◌, [], ◌∷◌, Some, find};
-ghost use Rattle.latchsym_ffi.specs.declared.answers.Answer.{Answer as Told};
+ghost use Rattle.latchsym_ffi.specs.declared.answers.CallOutcome.{CallOutcome as Told};
 ghost use Rattle.latchsym_ffi.specs.AnswerTexts.{text_with};
 ghost use Rattle.latchsym_ffi.specs.Answers.{answer_number, answer_with, has_number, note_number};
 ghost use Rattle.latchsym_ffi.specs.Answers.{number_if_noted, of_any_owner};
@@ -52,7 +52,7 @@ pub(crate) const BAD_STAMP: u32 = 104;
 
 /// What a call returns.
 #[derive(Clone, Copy, Drop)]
-pub enum Answer {
+pub enum CallOutcome {
     Done,
     Refused(Refusal),
     BadLine,
@@ -71,53 +71,53 @@ pub enum Answer {
 }
 
 /// All that a call returns, of the crates below, of this one and of the header, by rising number.
-const ALL: [Answer; 42] = [
-    Answer::Done,
-    Answer::Refused(Refusal::BadItem),
-    Answer::Refused(Refusal::Overlap),
-    Answer::Refused(Refusal::NoSuchItem),
-    Answer::Refused(Refusal::Full),
-    Answer::Refused(Refusal::UpdateInHand),
-    Answer::Refused(Refusal::SequenceSpent),
-    Answer::Refused(Refusal::OutOfMemory),
-    Answer::Refused(Refusal::ReaderBusy),
-    Answer::Refused(Refusal::ReaderIdle),
-    Answer::Refused(Refusal::BadCapacity),
-    Answer::Refused(Refusal::UnknownModule),
-    Answer::Refused(Refusal::AlreadyLoaded),
-    Answer::Refused(Refusal::NotLoaded),
-    Answer::Refused(Refusal::TooManyRegions),
-    Answer::BadLine,
-    Answer::Refused(Refusal::NoInit),
-    Answer::NoSymbol,
-    Answer::Nothing,
-    Answer::Retry,
-    Answer::Busy,
-    Answer::Forgotten,
-    Answer::Flip,
-    Answer::Store,
-    Answer::Noted(ListingNote::Gzip),
-    Answer::Noted(ListingNote::AllHidden),
-    Answer::Noted(ListingNote::LooksLikeSymbols),
-    Answer::Noted(ListingNote::LooksLikeModules),
-    Answer::Noted(ListingNote::LinesEndInCrLf),
-    Answer::Noted(ListingNote::NoStart),
-    Answer::Noted(ListingNote::NoEnd),
-    Answer::Noted(ListingNote::OtherBoot),
-    Answer::Noted(ListingNote::NoModuleLine),
-    Answer::Noted(ListingNote::NoSymbolLine),
-    Answer::Noted(ListingNote::ModulesOverlap),
-    Answer::Noted(ListingNote::Empty),
-    Answer::Noted(ListingNote::Utf16),
-    Answer::Noted(ListingNote::UnlistedOwner(Owner::Bpf)),
-    Answer::BadHandle,
-    Answer::BadLength,
-    Answer::BadListings,
-    Answer::BadStamp,
+const ALL: [CallOutcome; 42] = [
+    CallOutcome::Done,
+    CallOutcome::Refused(Refusal::BadItem),
+    CallOutcome::Refused(Refusal::Overlap),
+    CallOutcome::Refused(Refusal::NoSuchItem),
+    CallOutcome::Refused(Refusal::Full),
+    CallOutcome::Refused(Refusal::UpdateInHand),
+    CallOutcome::Refused(Refusal::SequenceSpent),
+    CallOutcome::Refused(Refusal::OutOfMemory),
+    CallOutcome::Refused(Refusal::ReaderBusy),
+    CallOutcome::Refused(Refusal::ReaderIdle),
+    CallOutcome::Refused(Refusal::BadCapacity),
+    CallOutcome::Refused(Refusal::UnknownModule),
+    CallOutcome::Refused(Refusal::AlreadyLoaded),
+    CallOutcome::Refused(Refusal::NotLoaded),
+    CallOutcome::Refused(Refusal::TooManyRegions),
+    CallOutcome::BadLine,
+    CallOutcome::Refused(Refusal::NoInit),
+    CallOutcome::NoSymbol,
+    CallOutcome::Nothing,
+    CallOutcome::Retry,
+    CallOutcome::Busy,
+    CallOutcome::Forgotten,
+    CallOutcome::Flip,
+    CallOutcome::Store,
+    CallOutcome::Noted(ListingNote::Gzip),
+    CallOutcome::Noted(ListingNote::AllHidden),
+    CallOutcome::Noted(ListingNote::LooksLikeSymbols),
+    CallOutcome::Noted(ListingNote::LooksLikeModules),
+    CallOutcome::Noted(ListingNote::LinesEndInCrLf),
+    CallOutcome::Noted(ListingNote::NoStart),
+    CallOutcome::Noted(ListingNote::NoEnd),
+    CallOutcome::Noted(ListingNote::OtherBoot),
+    CallOutcome::Noted(ListingNote::NoModuleLine),
+    CallOutcome::Noted(ListingNote::NoSymbolLine),
+    CallOutcome::Noted(ListingNote::ModulesOverlap),
+    CallOutcome::Noted(ListingNote::Empty),
+    CallOutcome::Noted(ListingNote::Utf16),
+    CallOutcome::Noted(ListingNote::UnlistedOwner(Owner::Bpf)),
+    CallOutcome::BadHandle,
+    CallOutcome::BadLength,
+    CallOutcome::BadListings,
+    CallOutcome::BadStamp,
 ];
 
 /// The first of these answers that has a number.
-fn first_with(answers: &[Answer], number: u32) -> Option<Answer>
+fn first_with(answers: &[CallOutcome], number: u32) -> Option<CallOutcome>
     ensures { result ≡ find (has_number number) answers.now }
 {
     for answer in answers {
@@ -128,27 +128,27 @@ fn first_with(answers: &[Answer], number: u32) -> Option<Answer>
     None
 }
 
-impl Answer {
+impl CallOutcome {
     /// Its number.
     fn number(self) -> u32
         ensures { result ≡ answer_number self }
     {
         match self {
-            Answer::Done => DONE,
-            Answer::Refused(refusal) => refusal.number(),
-            Answer::BadLine => BAD_LINE,
-            Answer::NoSymbol => NO_SYMBOL,
-            Answer::Nothing => NOTHING,
-            Answer::Retry => RETRY,
-            Answer::Busy => BUSY,
-            Answer::Forgotten => FORGOTTEN,
-            Answer::Flip => FLIP,
-            Answer::Store => STORE,
-            Answer::Noted(note) => number_of_note(note),
-            Answer::BadHandle => BAD_HANDLE,
-            Answer::BadLength => BAD_LENGTH,
-            Answer::BadListings => BAD_LISTINGS,
-            Answer::BadStamp => BAD_STAMP,
+            CallOutcome::Done => DONE,
+            CallOutcome::Refused(refusal) => refusal.number(),
+            CallOutcome::BadLine => BAD_LINE,
+            CallOutcome::NoSymbol => NO_SYMBOL,
+            CallOutcome::Nothing => NOTHING,
+            CallOutcome::Retry => RETRY,
+            CallOutcome::Busy => BUSY,
+            CallOutcome::Forgotten => FORGOTTEN,
+            CallOutcome::Flip => FLIP,
+            CallOutcome::Store => STORE,
+            CallOutcome::Noted(note) => number_of_note(note),
+            CallOutcome::BadHandle => BAD_HANDLE,
+            CallOutcome::BadLength => BAD_LENGTH,
+            CallOutcome::BadListings => BAD_LISTINGS,
+            CallOutcome::BadStamp => BAD_STAMP,
         }
     }
 
@@ -161,7 +161,7 @@ impl Answer {
     }
 
     /// The answer of a number.
-    fn with_number(number: u32) -> Option<Answer>
+    fn with_number(number: u32) -> Option<CallOutcome>
         ensures { result ≡ answer_with number }
     {
         first_with(&ALL, number)
@@ -204,7 +204,7 @@ pub(crate) fn number_if_noted(note: Option<ListingNote>) -> u32
 pub(crate) fn text_of(number: u32) -> &'static [u8]
     ensures { result.now ≡ text_with number ++ 0 ∷ [] }
 {
-    match Answer::with_number(number) {
+    match CallOutcome::with_number(number) {
         Some(answer) => text_of_answer(answer),
         None => text_of_none(),
     }

@@ -12,27 +12,27 @@ use modules::{Catalog, Finder, IndexedCatalog, MOST_EXPECTED};
 /// The answer for one of several addresses: what a search for it alone writes and returns.
 #[repr(C)]
 #[derive(Clone, Copy, Drop)]
-pub struct CatalogTold {
+pub struct CodedAnswer {
     pub answer: CatalogAnswer,
     pub code: u32,
 }
 
 /// The answer for what a search found.
-fn told(catalog: &Catalog<'static>, seen: Option<RegionAndSymbol<'_>>) -> CatalogTold
+fn told(catalog: &Catalog<'static>, seen: Option<RegionAndSymbol<'_>>) -> CodedAnswer
     ensures { result ≡ told_of catalog.now (option_map shown_seen seen.entry) }
 {
     let description = description_of(catalog, seen);
-    CatalogTold {
+    CodedAnswer {
         answer: description.answer,
         code: description.code,
     }
 }
 
 /// Looks each address up, and writes its answer at its place, if there are as many places.
-pub(crate) fn tell_in_order(
+pub(crate) fn answer_in_order(
     catalog: &IndexedCatalog<'static>,
     addrs: &[u64],
-    out: &mut [CatalogTold],
+    out: &mut [CodedAnswer],
 ) -> u32
     ensures told { result ≡ 0 → out.new ≡ map (told_at catalog.now) addrs.now }
     ensures done { length out.old ≡ length addrs.now → result ≡ 0 }
@@ -42,12 +42,12 @@ pub(crate) fn tell_in_order(
     if out.len() != addrs.len() {
         return BAD_LENGTH;
     }
-    tell_all(catalog, addrs, out);
+    answer_all(catalog, addrs, out);
     DONE
 }
 
 /// Looks each address up, and writes its answer at its place.
-fn tell_all(catalog: &IndexedCatalog<'static>, addrs: &[u64], out: &mut [CatalogTold])
+fn answer_all(catalog: &IndexedCatalog<'static>, addrs: &[u64], out: &mut [CodedAnswer])
     requires { length out.old ≡ length addrs.now }
     ensures { out.new ≡ map (told_at catalog.now) addrs.now }
 {

@@ -48,7 +48,7 @@ pub struct CatalogEntry {
 }
 
 /// Returns what is known of a module, by its number.
-fn tell_module(catalog: &Catalog<'static>, number: u64, out: &mut CatalogModule) -> u32
+fn write_module(catalog: &Catalog<'static>, number: u64, out: &mut CatalogModule) -> u32
     ensures { TellsModule (module_of catalog.now number) result out.old out.new }
 {
     let Some(module) = catalog.module(number) else {
@@ -63,7 +63,7 @@ fn tell_module(catalog: &Catalog<'static>, number: u64, out: &mut CatalogModule)
 }
 
 /// Returns the region at a place in a module.
-fn tell_region(
+fn write_region(
     catalog: &Catalog<'static>,
     number: u64,
     place: usize,
@@ -93,7 +93,12 @@ fn tell_region(
 }
 
 /// Returns the symbol at a place in a module.
-fn tell_symbol(catalog: &Catalog<'static>, number: u64, place: usize, out: &mut CatalogEntry) -> u32
+fn write_symbol(
+    catalog: &Catalog<'static>,
+    number: u64,
+    place: usize,
+    out: &mut CatalogEntry,
+) -> u32
     ensures { TellsSymbol (symbol_at_place catalog.now number place) result out.old out.new }
 {
     let Some(module) = catalog.module(number) else {
@@ -127,7 +132,7 @@ fn named_from(symbols: &[Symbol<'static>], name: &[u8], from: usize) -> Option<u
 }
 
 /// Returns the place of the first symbol of a name in a module, from a place on.
-fn tell_named(
+fn write_named(
     catalog: &Catalog<'static>,
     number: u64,
     name: &[u8],
@@ -174,7 +179,7 @@ pub extern "C" fn latchsym_catalog_module(
         → TellsModule (module_of c number) result out.old out.new }
     ensures other { RefusesOther catalog_kind catalog.old catalog.new out.old out.new result }
 {
-    with_catalog!(catalog, |open| tell_module(open.catalog(), number, out))
+    with_catalog!(catalog, |open| write_module(open.catalog(), number, out))
 }
 
 /// Writes a region of a module.
@@ -193,7 +198,7 @@ pub extern "C" fn latchsym_catalog_region(
 {
     with_catalog!(
         catalog,
-        |open| tell_region(open.catalog(), number, place, out)
+        |open| write_region(open.catalog(), number, place, out)
     )
 }
 
@@ -212,7 +217,7 @@ pub extern "C" fn latchsym_catalog_symbol(
 {
     with_catalog!(
         catalog,
-        |open| tell_symbol(open.catalog(), number, place, out)
+        |open| write_symbol(open.catalog(), number, place, out)
     )
 }
 
@@ -232,12 +237,12 @@ pub extern "C" fn latchsym_catalog_place_of_name_nonnull(
 {
     with_catalog!(
         catalog,
-        |open| tell_named(open.catalog(), number, name, from, out)
+        |open| write_named(open.catalog(), number, name, from, out)
     )
 }
 
 /// Returns the module and the place of the n-th symbol of a name.
-fn tell_place_of(
+fn write_place_of(
     alloc: Global,
     catalog: &mut OpenCatalog,
     name: &[u8],
@@ -282,6 +287,6 @@ pub extern "C" fn latchsym_catalog_find_name_nonnull(
 {
     with_catalog!(
         catalog,
-        |open| tell_place_of(alloc, open, name, from, number, place)
+        |open| write_place_of(alloc, open, name, from, number, place)
     )
 }

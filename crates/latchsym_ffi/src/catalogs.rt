@@ -14,7 +14,7 @@ ghost use Rattle.latchsym_ffi.specs.Named.{IsTold};
 ghost use Rattle.latchsym_ffi.specs.Opening.{RefusesTexts};
 
 use crate::answers::{BAD_HANDLE, BAD_LINE, BAD_LISTINGS, DONE};
-use crate::batches::{CatalogTold, tell_in_order};
+use crate::batches::{CodedAnswer, answer_in_order};
 use crate::calls::with_catalog;
 use crate::contents::{CLOSED, Content};
 use crate::finding::{CatalogAnswer, CatalogSymbol, copy_names, name_places, seek, seek_call};
@@ -133,7 +133,7 @@ pub extern "C" fn latchsym_catalog_find_caller(
 pub extern "C" fn latchsym_catalog_find_many_nonnull(
     catalog: &mut Handle,
     addrs: &[u64],
-    out: &mut [CatalogTold],
+    out: &mut [CodedAnswer],
 ) -> u32
     ensures stays { Stays catalog.old catalog.new }
     ensures told { (c : CatalogEntries) → HoldsCatalog c catalog.old → result ≡ 0
@@ -145,7 +145,7 @@ pub extern "C" fn latchsym_catalog_find_many_nonnull(
     ensures refused { result ≢ 0 → out.new ≡ out.old }
     ensures other { catalog.old.kind ≢ catalog_kind → (result ≡ 101) × (catalog.new ≡ catalog.old) }
 {
-    with_catalog!(catalog, |open| tell_in_order(open.indexed(), addrs, out))
+    with_catalog!(catalog, |open| answer_in_order(open.indexed(), addrs, out))
 }
 
 /// Looks an address up, and copies as much of the names as there is room for.

@@ -126,7 +126,7 @@ pub(crate) fn seek_call<'c>(
 
 /// How an address is looked up.
 #[derive(Clone, Copy, Drop)]
-pub(crate) enum Taken {
+pub(crate) enum AddressUse {
     /// As it is.
     AsItIs,
     /// As a return address.
@@ -136,15 +136,15 @@ pub(crate) enum Taken {
 /// The region and the symbol of an address, looked up so.
 #[inline(always)]
 pub(crate) fn seek_as<'c>(
-    taken: Taken,
+    taken: AddressUse,
     catalog: &'c IndexedCatalog<'static>,
     addr: u64,
 ) -> Option<RegionAndSymbol<'c>>
     ensures { option_map shown_seen result ≡ known_as taken catalog.now addr }
 {
     match taken {
-        Taken::AsItIs => seek(catalog, addr),
-        Taken::AsReturn => seek_call(catalog, addr),
+        AddressUse::AsItIs => seek(catalog, addr),
+        AddressUse::AsReturn => seek_call(catalog, addr),
     }
 }
 

@@ -13,7 +13,7 @@ ghost use Rattle.latchsym_ffi.specs.Kinds.{catalog_kind, follower_kind};
 
 use crate::answers::{BAD_STAMP, DONE, FORGOTTEN, NOTHING};
 use crate::calls::{with_catalog, with_follower};
-use crate::finding::{CatalogSymbol, Taken, name_places, seek_as};
+use crate::finding::{AddressUse, CatalogSymbol, name_places, seek_as};
 use crate::handles::Handle;
 use follower::{Follower, Moment, NotShown, SharedCatalog};
 
@@ -97,7 +97,7 @@ pub extern "C" fn latchsym_follower_show(
 fn find_at(
     follower: &mut Handle,
     moment: Moment,
-    taken: Taken,
+    taken: AddressUse,
     addr: u64,
     out: &mut CatalogSymbol,
 ) -> u32
@@ -127,7 +127,7 @@ pub extern "C" fn latchsym_follower_find(
     find_at(
         follower,
         Moment::Generation(generation),
-        Taken::AsItIs,
+        AddressUse::AsItIs,
         addr,
         out,
     )
@@ -147,7 +147,7 @@ pub extern "C" fn latchsym_follower_find_caller(
     find_at(
         follower,
         Moment::Generation(generation),
-        Taken::AsReturn,
+        AddressUse::AsReturn,
         addr,
         out,
     )
@@ -164,7 +164,7 @@ pub extern "C" fn latchsym_follower_find_since(
     ensures { FindsAt (Stamp at) known_at addr follower.old follower.new result
         out.old out.new }
 {
-    find_at(follower, Moment::Stamp(at), Taken::AsItIs, addr, out)
+    find_at(follower, Moment::Stamp(at), AddressUse::AsItIs, addr, out)
 }
 
 /// Looks a return address up in the catalog that is current at a stamp.
@@ -178,11 +178,11 @@ pub extern "C" fn latchsym_follower_find_caller_since(
     ensures { FindsAt (Stamp at) known_call addr follower.old follower.new result
         out.old out.new }
 {
-    find_at(follower, Moment::Stamp(at), Taken::AsReturn, addr, out)
+    find_at(follower, Moment::Stamp(at), AddressUse::AsReturn, addr, out)
 }
 
 /// Writes the tag of a catalog that is gone; NOTHING if none is.
-fn tell_tag(gone: Option<u64>, tag: &mut u64) -> u32
+fn write_tag(gone: Option<u64>, tag: &mut u64) -> u32
     ensures { TellsTag gone result tag.old tag.new }
 {
     match gone {
@@ -198,7 +198,7 @@ fn tell_tag(gone: Option<u64>, tag: &mut u64) -> u32
 fn forget_at(follower: &mut Handle, moment: Moment, tag: &mut u64) -> u32
     ensures { ForgetsBy moment follower.old follower.new result tag.old tag.new }
 {
-    with_follower!(follower, |open| tell_tag(open.forget(moment), tag))
+    with_follower!(follower, |open| write_tag(open.forget(moment), tag))
 }
 
 /// Forgets the oldest catalog if the next one was shown at or before a generation, and writes its
@@ -235,7 +235,7 @@ pub extern "C" fn latchsym_follower_close(follower: &mut Handle, tag: &mut u64) 
         → (result ≡ 22) × (f.catalogs ≡ []) × (follower.new.kind ≡ 0) × (tag.new ≡ tag.old) }
     ensures other { RefusesOther follower_kind follower.old follower.new tag.old tag.new result }
 {
-    let result = with_follower!(follower, |open| tell_tag(open.drop_oldest(), tag));
+    let result = with_follower!(follower, |open| write_tag(open.drop_oldest(), tag));
     if result == NOTHING {
         follower.close();
     }

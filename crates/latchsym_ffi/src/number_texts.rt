@@ -8,16 +8,16 @@ use crate::answers::text_of;
 /// The place of bytes that stay in memory.
 #[repr(C)]
 #[derive(Clone, Copy, Drop)]
-pub struct Place {
+pub struct StaticBytes {
     pub bytes: &'static [u8],
 }
 
 /// Writes the place of a number's text, with the 0 at its end.
 #[unsafe(no_mangle)]
-pub extern "C" fn latchsym_place_of_text(number: u32, out: &mut Place)
+pub extern "C" fn latchsym_place_of_text(number: u32, out: &mut StaticBytes)
     ensures { out.new.bytes.now ≡ text_with number ++ 0 ∷ [] }
 {
-    *out = Place {
+    *out = StaticBytes {
         bytes: text_of(number),
     };
 }

@@ -36,7 +36,7 @@ fn put_items(items: &[Item], out: &mut [TableItem])
 }
 
 /// Writes an item for each region of the catalog, if there is room for just as many.
-fn tell_items(catalog: &IndexedCatalog<'static>, out: &mut [TableItem]) -> u32
+fn write_items(catalog: &IndexedCatalog<'static>, out: &mut [TableItem]) -> u32
     ensures told { result ≡ 0 → TellsItems catalog.now out.new }
     ensures done { length out.old ≡ length (regions_of catalog.now) → result ≡ 0 }
     ensures room { length out.old ≢ length (regions_of catalog.now) → result ≡ 102 }
@@ -64,7 +64,7 @@ pub extern "C" fn latchsym_catalog_items_nonnull(catalog: &mut Handle, out: &mut
     ensures refused { result ≢ 0 → out.new ≡ out.old }
     ensures other { catalog.old.kind ≢ catalog_kind → (result ≡ 101) × (catalog.new ≡ catalog.old) }
 {
-    with_catalog!(catalog, |open| tell_items(open.indexed(), out))
+    with_catalog!(catalog, |open| write_items(open.indexed(), out))
 }
 
 /// Begins the update after which the table has just these items, and leaves it there.

@@ -29,7 +29,7 @@ pub struct ViewSizes {
 }
 
 /// Writes how many rows a view of the catalog has.
-fn tell_sizes(catalog: &Catalog<'static>, out: &mut ViewSizes) -> u32
+fn write_sizes(catalog: &Catalog<'static>, out: &mut ViewSizes) -> u32
     ensures { TellsSizes catalog.now result out.old out.new }
 {
     match symbols_in(catalog) {
@@ -90,7 +90,7 @@ pub extern "C" fn latchsym_catalog_sizes(catalog: &mut Handle, out: &mut ViewSiz
         → TellsSizes c result out.old out.new }
     ensures other { RefusesOther catalog_kind catalog.old catalog.new out.old out.new result }
 {
-    with_catalog!(catalog, |open| tell_sizes(open.catalog(), out))
+    with_catalog!(catalog, |open| write_sizes(open.catalog(), out))
 }
 
 /// Makes a view of the catalog in rooms for its rows.

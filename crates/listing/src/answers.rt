@@ -16,14 +16,14 @@ use texts::Output;
 /// What is known of an address: nothing, its module alone, or its symbol. A contract sees names
 /// without their places in memory.
 #[derive(Drop)]
-pub struct Answer<'c, 'a> {
+pub struct SymbolAnswer<'c, 'a> {
     /// The symbol that the address belongs to, with the offset of the answer.
     pub found: Option<FoundSymbol<'c, 'a>>,
     /// The name of its module, if that is not the kernel itself.
     pub owner: Option<&'a [u8]>,
 }
 
-impl<'c, 'a> Model for Answer<'c, 'a> {
+impl<'c, 'a> Model for SymbolAnswer<'c, 'a> {
     ghost use Rattle.std.specs.Option.{option_copied};
     ghost use Rattle.listing.specs.Answers.{Known};
 
@@ -32,20 +32,20 @@ impl<'c, 'a> Model for Answer<'c, 'a> {
     ghost view = { λ a. record { found = a.found; owner = option_copied a.owner } };
 }
 
-impl<'c, 'a> Answer<'c, 'a> {
+impl<'c, 'a> SymbolAnswer<'c, 'a> {
     /// Nothing is known.
     #[inline(always)]
-    fn nothing() -> Answer<'c, 'a>
+    fn nothing() -> SymbolAnswer<'c, 'a>
         ensures { result ≡ nothing }
     {
-        Answer {
+        SymbolAnswer {
             found: None,
             owner: None,
         }
     }
 }
 
-impl Answer<'_, '_> {
+impl SymbolAnswer<'_, '_> {
     /// Whether nothing is known.
     #[inline(always)]
     pub fn is_nothing(&self) -> bool
@@ -104,11 +104,11 @@ pub fn answer_of<'c, 'a>(
     rule: AddressRule,
     item: Option<Item>,
     addr: u64,
-) -> Answer<'c, 'a>
+) -> SymbolAnswer<'c, 'a>
     ensures { result ≡ answer_of catalog.now rule item addr }
 {
     let Some((item, place)) = sought(rule, item, addr) else {
-        return Answer::nothing();
+        return SymbolAnswer::nothing();
     };
     held_answer(catalog, item, place, rule.before())
 }
@@ -120,14 +120,14 @@ fn held_answer<'c, 'a>(
     item: Item,
     addr: u64,
     before: u64,
-) -> Answer<'c, 'a>
+) -> SymbolAnswer<'c, 'a>
     requires from { item.a ≤ addr }
     requires below { addr < item.b }
     requires near { before ≤ 1 }
     ensures { result ≡ held_answer catalog.now item before addr }
 {
     let Some(module) = catalog.module(item.tag) else {
-        return Answer::nothing();
+        return SymbolAnswer::nothing();
     };
     let found = match symbol_in(module, item.a, item.b, addr) {
         Some(found) => Some(farther(found, before)),
@@ -138,12 +138,12 @@ fn held_answer<'c, 'a>(
     } else {
         Some(module.name())
     };
-    Answer { found, owner }
+    SymbolAnswer { found, owner }
 }
 
 /// Writes the text of an answer: `NAME+0xOFFSET/0xSIZE [MODULE]`, without ` [MODULE]` for the
 /// kernel itself, `? [MODULE]` if the module alone is known, and `-` if nothing is.
-pub fn put_answer<W: Write>(writer: &mut Output<W>, answer: &Answer)
+pub fn put_answer<W: Write>(writer: &mut Output<W>, answer: &SymbolAnswer)
     ensures { Says W.contents writer.old writer.new (text_of answer.now) }
 {
     match &answer.found {

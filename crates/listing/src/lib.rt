@@ -21,7 +21,7 @@ mod tallies;
 
 pub use address_rules::{AddressRule, Callers, LogRule};
 pub use addresses::{address_of_text, read_addresses};
-pub use answers::{Answer, answer_of, farther, put_answer, sought};
+pub use answers::{SymbolAnswer, answer_of, farther, put_answer, sought};
 pub use causes::{Cause, Counts, each_line_is_counted_once};
 pub use kernel_lines::{kernel_base, shows_symbol, without_modules};
 pub use laws::{

@@ -1,5 +1,5 @@
 -- Blocks that are read and written one after the other.
-use Rattle.logs.proofs.Definitions.{◌≡◌, ◌∙◌, ℕ, ◌+◌, ◌<◌, ◌≤◌, inl, inr, List, [], ◌∷◌, ◌++◌, length, length-append, arith, refl, sym, ap, subst, Ok, Err, take, append_assoc, append-nil, ◌^◌, Appends, Consumes, IsAtEnd, Keeps, NoneFailed, Rose, device_of, failures_of, Output, WrotePart, contents_of, has_failed, Answering, lines, annotated, first_held, held_over, Annotates, Begins, Ends, IsCutOff, IsOpen, IsUpToDate, KeepsNothingBack, Passes, Puts, held_in, put_of, LogFault, Annotator, IsAnnotation}
+use Rattle.logs.proofs.Definitions.{◌≡◌, ◌∙◌, ℕ, ◌+◌, ◌<◌, ◌≤◌, inl, inr, List, [], ◌∷◌, ◌++◌, length, length-append, arith, refl, sym, ap, subst, Ok, Err, take, append_assoc, append-nil, ◌^◌, Appends, Consumes, IsAtEnd, Keeps, NoneFailed, Rose, device_of, failures_of, Output, WrotePart, contents_of, has_failed, Answering, lines, annotated, first_context, context_over, Annotates, BeginsLog, EndsLog, IsCutOff, IsOpen, IsUpToDate, KeepsNothingBack, Passes, Puts, context_in, put_of, LogFault, Annotator, IsAnnotation}
 use Rattle.std.proofs.Common.{Option}
 use Rattle.std.specs.Prelude.{◌-◌}
 use Rattle.std.proofs.KnownBytes.{Appends-nil, Appends-trans, Consumes-kept, Consumes-nil, Consumes-trans}
@@ -7,20 +7,20 @@ use Rattle.texts.specs.declared.counted.Counted.{Counted}
 use Rattle.logs.specs.declared.annotation.Findings.{Findings}
 use Rattle.logs.specs.declared.annotation.LogFault.TheVariants as fault
 use Rattle.logs.specs.declared.log_names.LogNames.{LogNames}
-use Rattle.logs.proofs.LineLemmas.{held_then, lines_then, passes_nothing, put_begins, then_passes}
+use Rattle.logs.proofs.LineLemmas.{context_then, lines_then, passes_nothing, put_begins, then_passes}
 
 -- With these bytes an annotator came here from one of the beginning of a log.
 pub record Came (answer : Answering) (a : Annotator) (written read : List ℕ) : Type 0 where
   pub first : Annotator
   pub is_open : IsOpen first []
-  pub held : held_in first ≡ first_held
+  pub context : context_in first ≡ first_context
   pub passes : Passes answer first a read written
 
-begins_less : (answer : Answering) (written part rest text read : List ℕ) → text ≡ part ++ rest → Begins answer (written ++ text) read → Begins answer (written ++ part) read
+begins_less : (answer : Answering) (written part rest text read : List ℕ) → text ≡ part ++ rest → BeginsLog answer (written ++ text) read → BeginsLog answer (written ++ part) read
 begins_less answer written part rest text read parts begins = λ more.
     let (behind, is) = begins more in (rest ++ behind, is ∙ simp (parts, append_assoc))
 
-begins_more : (answer : Answering) (written read bytes : List ℕ) → Begins answer written read → Begins answer written (read ++ bytes)
+begins_more : (answer : Answering) (written read bytes : List ℕ) → BeginsLog answer written read → BeginsLog answer written (read ++ bytes)
 begins_more answer written read bytes begins = λ more.
     let (behind, is) = begins (bytes ++ more) in (behind, rw (append_assoc read bytes more) is)
 
@@ -29,14 +29,14 @@ module _ {answer : Answering} where
   came_more {a = a} {written = written} {read = read} a' bytes text came more = record {
     first = came.first;
     is_open = came.is_open;
-    held = came.held;
+    context = came.context;
     passes = then_passes answer came.first a a' read bytes written text came.passes more;
   }
 
   up_to_date : {a : Annotator} {written read : List ℕ} → Came answer a written read → IsUpToDate answer written read
   up_to_date {written = written} came =
       let p = came.passes [] came.is_open in
-      let is_written : written ≡ annotated answer p.passed ++ put_of p.line' = rw came.held at p.put in
+      let is_written : written ≡ annotated answer p.passed ++ put_of p.line' = rw came.context at p.put in
       record {
         passed = p.passed;
         line = p.line';
@@ -45,24 +45,24 @@ module _ {answer : Answering} where
         no_end = p.is_open.no_end;
         is_written = is_written;
         begins = λ more.
-            let (behind, is) = put_begins answer (held_over answer first_held (lines p.passed)) p.line' more p.is_open.no_end in (
+            let (behind, is) = put_begins answer (context_over answer first_context (lines p.passed)) p.line' more p.is_open.no_end in (
               behind,
               ap (λ l. annotated answer (l ++ more)) p.parts
-                  ∙ (rw (append_assoc p.passed p.line' more, p.whole (p.line' ++ more), lines_then answer first_held (lines p.passed) (lines (p.line' ++ more)), is) (sym (append_assoc (annotated answer p.passed) (put_of p.line') behind)))
+                  ∙ (rw (append_assoc p.passed p.line' more, p.whole (p.line' ++ more), lines_then answer first_context (lines p.passed) (lines (p.line' ++ more)), is) (sym (append_assoc (annotated answer p.passed) (put_of p.line') behind)))
                   ∙ ap (λ l. l ++ behind) (sym is_written),
             );
       }
 
   -- the log is there as a whole
-  whole_at : {a : Annotator} {written read : List ℕ} (text : List ℕ) (names : LogNames) → Came answer a written read → Ends answer a names text
-      → (written ++ text ≡ annotated answer read) × (names ≡ (held_over answer first_held (lines read)).names)
+  whole_at : {a : Annotator} {written read : List ℕ} (text : List ℕ) (names : LogNames) → Came answer a written read → EndsLog answer a names text
+      → (written ++ text ≡ annotated answer read) × (names ≡ (context_over answer first_context (lines read)).names)
   whole_at {a = a} {read = read} text names came ends =
       let p = came.passes [] came.is_open in
       let e = ends p.line' p.is_open in
-      let held : held_in a ≡ held_over answer first_held (lines p.passed) = p.held ∙ ap (λ h. held_over answer h (lines p.passed)) came.held in
+      let context : context_in a ≡ context_over answer first_context (lines p.passed) = p.context ∙ ap (λ h. context_over answer h (lines p.passed)) came.context in
       let all : lines read ≡ lines p.passed ++ lines p.line' = ap lines p.parts ∙ p.whole p.line' in (
-        rw (all, lines_then answer first_held (lines p.passed) (lines p.line'), ← held, ← e.put, ← append_assoc) (ap (λ l. l ++ text) (rw came.held at p.put)),
-        rw (all, held_then answer first_held (lines p.passed) (lines p.line'), ← held) e.names_are,
+        rw (all, lines_then answer first_context (lines p.passed) (lines p.line'), ← context, ← e.put, ← append_assoc) (ap (λ l. l ++ text) (rw came.context at p.put)),
+        rw (all, context_then answer first_context (lines p.passed) (lines p.line'), ← context) e.names_are,
       )
 
 -- the first two bytes, of what was read and of bytes more
@@ -85,8 +85,8 @@ pub record IsOn {R W : Type 0} (remaining : R → Option (List ℕ)) (contents :
   pub head_is : head ≡ take 2 read
 
 module _ {R W : Type 0} {remaining : R → Option (List ℕ)} {contents : W → Option (List ℕ)} {answer : Answering} {r : Counted R} {w : Output W} where
-  pub begun : {a : Annotator} {h : List ℕ} → held_in a ≡ first_held → IsOpen a [] → h ≡ [] → IsOn remaining contents answer r r w w a h 0
-  begun {a = a} held is_open none = record {
+  pub begun : {a : Annotator} {h : List ℕ} → context_in a ≡ first_context → IsOpen a [] → h ≡ [] → IsOn remaining contents answer r r w w a h 0
+  begun {a = a} context is_open none = record {
     read_all = refl;
     written_all = refl;
     none_back = inl refl;
@@ -95,7 +95,7 @@ module _ {R W : Type 0} {remaining : R → Option (List ℕ)} {contents : W → 
     many = omega arith;
     consumed = Consumes-nil _;
     appended = Appends-nil _;
-    came = record { first = a; is_open = is_open; held = held; passes = passes_nothing answer a };
+    came = record { first = a; is_open = is_open; context = context; passes = passes_nothing answer a };
     head_is = none;
   }
 
@@ -177,7 +177,7 @@ module _ {R W : Type 0} {remaining : R → Option (List ℕ)} {contents : W → 
 
       module _ (w'' : Output W) (all : NoneFailed r' r'') (took : Consumes (remaining (device_of r')) (remaining (device_of r'')) []) (at_end : IsAtEnd (remaining (device_of r''))) where
         -- the log is at its end, and a beginning of its last line was put
-        pub cut_off : (names : LogNames) (text : List ℕ) → WrotePart contents w' w'' text → Ends answer a names text → IsCutOff remaining contents answer r r'' w w''
+        pub cut_off : (names : LogNames) (text : List ℕ) → WrotePart contents w' w'' text → EndsLog answer a names text → IsCutOff remaining contents answer r r'' w w''
         cut_off names text (failed, part, lost, parts, put) ends = (
           all ∙ on.read_all,
           failed,
@@ -195,7 +195,7 @@ module _ {R W : Type 0} {remaining : R → Option (List ℕ)} {contents : W → 
         )
 
         -- the log is at its end, and is written to its end
-        pub ended : (found : Findings) → found.head.items ≡ h → Puts contents (Ends answer a) w' w'' (Ok found.names) → Annotates remaining contents answer r r'' w w'' (Ok found)
+        pub ended : (found : Findings) → found.head.items ≡ h → Puts contents (EndsLog answer a) w' w'' (Ok found.names) → Annotates remaining contents answer r r'' w w'' (Ok found)
         ended found head (text, put, ends) =
             let (is_annotated, are_names) = whole_at text found.names on.came ends in
             let same = sym (append-nil on.read) in (
@@ -207,13 +207,13 @@ module _ {R W : Type 0} {remaining : R → Option (List ℕ)} {contents : W → 
                 on.written ++ text,
                 Consumes-trans _ _ _ on.read [] on.consumed took,
                 Appends-trans _ _ _ on.written text on.appended put.2,
-                (at_end, is_annotated ∙ ap (annotated answer) same, are_names ∙ ap (λ l. (held_over answer first_held (lines l)).names) same, head ∙ on.head_is ∙ ap (take 2) same),
+                (at_end, is_annotated ∙ ap (annotated answer) same, are_names ∙ ap (λ l. (context_over answer first_context (lines l)).names) same, head ∙ on.head_is ∙ ap (take 2) same),
               ),
             )
 
 -- a log that is taken in at once, and its last line
-pub whole_log : (answer : Answering) (a a' : Annotator) (log written text out : List ℕ) (names : LogNames) → held_in a ≡ first_held → IsOpen a [] → Passes answer a a' log written → Ends answer a' names text → out ≡ written ++ text → IsAnnotation answer log out names
+pub whole_log : (answer : Answering) (a a' : Annotator) (log written text out : List ℕ) (names : LogNames) → context_in a ≡ first_context → IsOpen a [] → Passes answer a a' log written → EndsLog answer a' names text → out ≡ written ++ text → IsAnnotation answer log out names
 whole_log answer a a' log written text out names first is_open passes ends parts =
-    let came : Came answer a' written log = record { first = a; is_open = is_open; held = first; passes = passes } in
+    let came : Came answer a' written log = record { first = a; is_open = is_open; context = first; passes = passes } in
     let (is_annotated, are_names) = whole_at text names came ends in
     record { is_annotated = parts ∙ is_annotated; are_names = are_names }

@@ -7,8 +7,8 @@ pub use Rattle.std.proofs.lemmas.List.{take_more, reverse-append, take_all, drop
 pub use Rattle.std.specs.Io.KnownBytes.{Appends, Consumes, IsAtEnd, Keeps}
 pub use Rattle.std.specs.List.{onto_first, list_any, starts_with, list_all}
 pub use Rattle.std.specs.Prelude.{◌^◌, IfErr, IfOk, OnErr, codes, nat_eq, slice_index, Some, nat_le, reverse, slice_index_or}
-pub use Rattle.logs.specs.AnnotatedLogs.{annotated, annotated_lines, first_held, held_over, counted, woven, fewest, is_address_byte, is_begun, SameAddresses, framed, owed, tallied}
-pub use Rattle.logs.specs.Annotation.{IsAnnotation, IsAnnotationOf, Annotates, Begins, Ends, IsCutOff, IsOpen, IsUpToDate, KeepsNothingBack, Passes, Puts, held_in, put_of, Adds, Ended, kept_of, IsWriteFault}
+pub use Rattle.logs.specs.AnnotatedLogs.{annotated, annotated_lines, first_context, context_over, counted, annotated_from, fewest, is_address_byte, is_begun, SameAddresses, framed, owed, tallied}
+pub use Rattle.logs.specs.Annotation.{IsAnnotation, IsAnnotationOf, Annotates, BeginsLog, EndsLog, IsCutOff, IsOpen, IsUpToDate, KeepsNothingBack, Passes, Puts, context_in, put_of, Adds, Ended, kept_of, IsWriteFault}
 pub use Rattle.logs.specs.Answering.{Answering}
 pub use Rattle.logs.specs.KernelOffsets.{kernel_offset_in}
 pub use Rattle.logs.specs.Lines.{lines, AreWhole, IsLine, has_end, is_long}

@@ -1,9 +1,9 @@
 -- The lines that bytes are, and what is put for them.
-use Rattle.logs.proofs.Definitions.{list_any, or-true, ◌&&◌, ◌||◌, take_all, le-ltb, or_parts, list_any-append, ◌≡◌, ◌∙◌, ℕ, ◌+◌, ◌<◌, ◌≤◌, Bool, true, false, ◌==◌, List, [], ◌∷◌, ◌++◌, length, take, get_or, length-append, refl, sym, ap, append_assoc, append-nil, arith, cond-false, true≢false, onto_first, eqb-true, lt-ltb, ltb-true, take_more, Nowhere, is_byte, Answering, AreWhole, IsLine, has_end, is_long, lines, annotated_lines, held_over, Adds, Ended, Ends, IsOpen, Passes, held_in, kept_of, put_of, Annotator, LogContext}
+use Rattle.logs.proofs.Definitions.{list_any, or-true, ◌&&◌, ◌||◌, take_all, le-ltb, or_parts, list_any-append, ◌≡◌, ◌∙◌, ℕ, ◌+◌, ◌<◌, ◌≤◌, Bool, true, false, ◌==◌, List, [], ◌∷◌, ◌++◌, length, take, get_or, length-append, refl, sym, ap, append_assoc, append-nil, arith, cond-false, true≢false, onto_first, eqb-true, lt-ltb, ltb-true, take_more, Nowhere, is_byte, Answering, AreWhole, IsLine, has_end, is_long, lines, annotated_lines, context_over, Adds, Ended, EndsLog, IsOpen, Passes, context_in, kept_of, put_of, Annotator, LogContext}
 use Rattle.logs.proofs.KernelReportLemmas.{nothing_reported, nothing_there}
 use Rattle.logs.proofs.TextLemmas.{none_up_to}
 use Rattle.memchr.specs.Find.{Passes as HasByte}
-use Rattle.logs.specs.AnnotatedLogs.{annotated_line, held_behind}
+use Rattle.logs.specs.AnnotatedLogs.{annotated_line, context_behind}
 
 pub no_end_behind : (xs ys : List ℕ) → has_end xs ≡ false → has_end ys ≡ false → has_end (xs ++ ys) ≡ false
 no_end_behind xs ys p q = rw (list_any-append (λ b. b == 10) xs ys, p) q
@@ -79,34 +79,34 @@ long_more : (xs ys : List ℕ) → is_long xs ≡ true → is_long (xs ++ ys) �
 long_more xs ys long = let more = ltb-true 65536 (length xs) long in lt-ltb 65536 (length (xs ++ ys)) (omega (arith, more, length-append xs ys))
 
 module _ (answer : Answering) where
-  stays : (held : LogContext) (line : List ℕ) → is_long line ≡ true → annotated_line answer held line ≡ line
+  stays : (context : LogContext) (line : List ℕ) → is_long line ≡ true → annotated_line answer context line ≡ line
   unfolding annotated_line
-  stays held line long = rw long
+  stays context line long = rw long
 
-  passed_by : (held : LogContext) (line : List ℕ) → is_long line ≡ true → held_behind answer held line ≡ held
-  unfolding held_behind
-  passed_by held line long = rw long
+  passed_by : (context : LogContext) (line : List ℕ) → is_long line ≡ true → context_behind answer context line ≡ context
+  unfolding context_behind
+  passed_by context line long = rw long
 
   -- lines, and then more
-  pub lines_then : (held : LogContext) (xs ys : List (List ℕ)) → annotated_lines answer held (xs ++ ys) ≡ annotated_lines answer held xs ++ annotated_lines answer (held_over answer held xs) ys
-  lines_then held [] ys = refl
-  lines_then held (x ∷ xs) ys = rw (lines_then (held_behind answer held x) xs ys, append_assoc)
+  pub lines_then : (context : LogContext) (xs ys : List (List ℕ)) → annotated_lines answer context (xs ++ ys) ≡ annotated_lines answer context xs ++ annotated_lines answer (context_over answer context xs) ys
+  lines_then context [] ys = refl
+  lines_then context (x ∷ xs) ys = rw (lines_then (context_behind answer context x) xs ys, append_assoc)
 
-  pub held_then : (held : LogContext) (xs ys : List (List ℕ)) → held_over answer held (xs ++ ys) ≡ held_over answer (held_over answer held xs) ys
-  held_then held [] ys = refl
-  held_then held (x ∷ xs) ys = held_then (held_behind answer held x) xs ys
+  pub context_then : (context : LogContext) (xs ys : List (List ℕ)) → context_over answer context (xs ++ ys) ≡ context_over answer (context_over answer context xs) ys
+  context_then context [] ys = refl
+  context_then context (x ∷ xs) ys = context_then (context_behind answer context x) xs ys
 
   -- what was put of a line that is open begins what is put for it, whatever comes behind
-  pub put_begins : (held : LogContext) (line rest : List ℕ) → has_end line ≡ false → (behind : List ℕ) × (annotated_lines answer held (lines (line ++ rest)) ≡ put_of line ++ behind)
-  put_begins held line rest unended = either line unended (is_long line) refl
+  pub put_begins : (context : LogContext) (line rest : List ℕ) → has_end line ≡ false → (behind : List ℕ) × (annotated_lines answer context (lines (line ++ rest)) ≡ put_of line ++ behind)
+  put_begins context line rest unended = either line unended (is_long line) refl
     where
-      either : (line : List ℕ) → has_end line ≡ false → (t : Bool) → is_long line ≡ t → (behind : List ℕ) × (annotated_lines answer held (lines (line ++ rest)) ≡ put_of line ++ behind)
-      either line unended false short = (annotated_lines answer held (lines (line ++ rest)), rw short)
+      either : (line : List ℕ) → has_end line ≡ false → (t : Bool) → is_long line ≡ t → (behind : List ℕ) × (annotated_lines answer context (lines (line ++ rest)) ≡ put_of line ++ behind)
+      either line unended false short = (annotated_lines answer context (lines (line ++ rest)), rw short)
       either [] unended true long = absurd (true≢false (sym long))
       either (b ∷ line) unended true long =
           let (first, more, is) = begun_line b line rest unended in
           let whole = (b ∷ line) ++ first in
-          (first ++ annotated_lines answer (held_behind answer held whole) more, rw (long, is, stays held whole (long_more (b ∷ line) first long)) (append_assoc (b ∷ line) first _))
+          (first ++ annotated_lines answer (context_behind answer context whole) more, rw (long, is, stays context whole (long_more (b ∷ line) first long)) (append_assoc (b ∷ line) first _))
 
   -- nothing is passed
   pub passes_nothing : (a : Annotator) → Passes answer a a [] []
@@ -116,7 +116,7 @@ module _ (answer : Answering) where
     parts = append-nil line;
     whole = whole_nothing;
     is_open = is_open;
-    held = refl;
+    context = refl;
     put = append-nil (put_of line);
   }
 
@@ -131,10 +131,10 @@ module _ (answer : Answering) where
         parts = rw (append_assoc p.passed q.passed q.line', ← q.parts, ← append_assoc line bytes more, p.parts) (append_assoc p.passed p.line' more);
         whole = whole_then p.passed q.passed p.whole q.whole;
         is_open = q.is_open;
-        held = rw (p.whole q.passed, held_then (held_in a) (lines p.passed) (lines q.passed), ← p.held) q.held;
+        context = rw (p.whole q.passed, context_then (context_in a) (lines p.passed) (lines q.passed), ← p.context) q.context;
         put =
-            rw (p.whole q.passed, lines_then (held_in a) (lines p.passed) (lines q.passed), ← p.held, append_assoc, ← q.put, ← append_assoc (put_of line) text text', p.put)
-            (append_assoc (annotated_lines answer (held_in a) (lines p.passed)) (put_of p.line') text');
+            rw (p.whole q.passed, lines_then (context_in a) (lines p.passed) (lines q.passed), ← p.context, append_assoc, ← q.put, ← append_assoc (put_of line) text text', p.put)
+            (append_assoc (annotated_lines answer (context_in a) (lines p.passed)) (put_of p.line') text');
       }
 
   pub adds_nothing : (a : Annotator) (out : List ℕ) → Adds out out (Passes answer a a [])
@@ -147,13 +147,13 @@ module _ (answer : Answering) where
   -- a line ends that is open, with this text
   line_ends : (a a' : Annotator) (bytes text out out' : List ℕ) → IsLine bytes → a'.is_long ≡ false → out' ≡ out ++ text
       → ((line : List ℕ) → IsOpen a line
-      → (a'.begun.items ≡ []) × (held_in a' ≡ held_behind answer (held_in a) (line ++ bytes)) × (put_of line ++ text ≡ annotated_line answer (held_in a) (line ++ bytes)))
+      → (a'.begun.items ≡ []) × (context_in a' ≡ context_behind answer (context_in a) (line ++ bytes)) × (put_of line ++ text ≡ annotated_line answer (context_in a) (line ++ bytes)))
       → Adds out out' (Passes answer a a' bytes)
   line_ends a a' bytes text out out' (front, unended, is) short' put each = (text, put, passes)
     where
       passes : Passes answer a a' bytes text
       passes line is_open =
-          let (none, held, same) = each line is_open in
+          let (none, context, same) = each line is_open in
           let whole = line ++ bytes in
           let is_line : IsLine whole = opened_line line bytes is_open.no_end (front, unended, is) in
           let alone = ended_line whole is_line in
@@ -163,36 +163,36 @@ module _ (answer : Answering) where
             parts = sym (append-nil whole);
             whole = whole_line whole is_line;
             is_open = record { no_end = refl; long = short'; kept = none };
-            held = rw alone held;
-            put = same ∙ sym (append-nil _ ∙ ap (annotated_lines answer (held_in a)) alone ∙ append-nil (annotated_line answer (held_in a) whole));
+            context = rw alone context;
+            put = same ∙ sym (append-nil _ ∙ ap (annotated_lines answer (context_in a)) alone ∙ append-nil (annotated_line answer (context_in a) whole));
           }
 
-  pub long_ends : (a a' : Annotator) (bytes out out' : List ℕ) → a.is_long ≡ true → IsLine bytes → a'.held ≡ a.held → a'.is_long ≡ false → a'.begun.items ≡ a.begun.items → out' ≡ out ++ bytes → Adds out out' (Passes answer a a' bytes)
-  long_ends a a' bytes out out' long is_line held short' kept put =
+  pub long_ends : (a a' : Annotator) (bytes out out' : List ℕ) → a.is_long ≡ true → IsLine bytes → a'.context ≡ a.context → a'.is_long ≡ false → a'.begun.items ≡ a.begun.items → out' ≡ out ++ bytes → Adds out out' (Passes answer a a' bytes)
+  long_ends a a' bytes out out' long is_line context short' kept put =
       line_ends a a' bytes bytes out out' is_line short' put (λ line is_open.
       let line_long : is_long line ≡ true = sym is_open.long ∙ long in
       let whole_long = long_more line bytes line_long in (
         kept ∙ (rw line_long at is_open.kept),
-        held ∙ sym (passed_by (held_in a) (line ++ bytes) whole_long),
-        rw line_long (sym (stays (held_in a) (line ++ bytes) whole_long)),
+        context ∙ sym (passed_by (context_in a) (line ++ bytes) whole_long),
+        rw line_long (sym (stays (context_in a) (line ++ bytes) whole_long)),
       ))
 
-  pub short_ends : (a a' : Annotator) (bytes whole out out' : List ℕ) → a.is_long ≡ false → IsLine bytes → whole ≡ a.begun.items ++ bytes → a'.held ≡ held_behind answer a.held whole → a'.is_long ≡ false → a'.begun.items ≡ []
-      → out' ≡ out ++ annotated_line answer a.held whole → Adds out out' (Passes answer a a' bytes)
-  short_ends a a' bytes whole out out' short is_line all held short' none put =
-      line_ends a a' bytes (annotated_line answer a.held whole) out out' is_line short' put (λ line is_open.
+  pub short_ends : (a a' : Annotator) (bytes whole out out' : List ℕ) → a.is_long ≡ false → IsLine bytes → whole ≡ a.begun.items ++ bytes → a'.context ≡ context_behind answer a.context whole → a'.is_long ≡ false → a'.begun.items ≡ []
+      → out' ≡ out ++ annotated_line answer a.context whole → Adds out out' (Passes answer a a' bytes)
+  short_ends a a' bytes whole out out' short is_line all context short' none put =
+      line_ends a a' bytes (annotated_line answer a.context whole) out out' is_line short' put (λ line is_open.
       let line_short : is_long line ≡ false = sym is_open.long ∙ short in
       let same : whole ≡ line ++ bytes = all ∙ ap (λ l. l ++ bytes) (rw line_short at is_open.kept) in (
         none,
-        held ∙ ap (held_behind answer a.held) same,
-        rw line_short (ap (annotated_line answer a.held) same),
+        context ∙ ap (context_behind answer a.context) same,
+        rw line_short (ap (annotated_line answer a.context) same),
       ))
 
   -- a line goes on with bytes that have no end, and this text
-  line_goes_on : (a a' : Annotator) (bytes text out out' : List ℕ) → has_end bytes ≡ false → a'.held ≡ a.held → out' ≡ out ++ text
+  line_goes_on : (a a' : Annotator) (bytes text out out' : List ℕ) → has_end bytes ≡ false → a'.context ≡ a.context → out' ≡ out ++ text
       → ((line : List ℕ) → IsOpen a line → (a'.is_long ≡ is_long (line ++ bytes)) × (a'.begun.items ≡ kept_of (line ++ bytes)) × (put_of line ++ text ≡ put_of (line ++ bytes)))
       → Adds out out' (Passes answer a a' bytes)
-  line_goes_on a a' bytes text out out' unended held put each = (text, put, passes)
+  line_goes_on a a' bytes text out out' unended context put each = (text, put, passes)
     where
       passes : Passes answer a a' bytes text
       passes line is_open =
@@ -203,7 +203,7 @@ module _ (answer : Answering) where
             parts = refl;
             whole = whole_nothing;
             is_open = record { no_end = no_end_behind line bytes is_open.no_end unended; long = long; kept = kept };
-            held = held;
+            context = context;
             put = same;
           }
 
@@ -218,51 +218,51 @@ module _ (answer : Answering) where
       ))
 
   -- one that stays short, and one that gets too long
-  pub is_held : (a a' : Annotator) (bytes out : List ℕ) → a.is_long ≡ false → has_end bytes ≡ false → a'.held ≡ a.held → a'.is_long ≡ false → a'.begun.items ≡ a.begun.items ++ bytes → length a'.begun.items ≤ 65536 → Adds out out (Passes answer a a' bytes)
-  is_held a a' bytes out short unended held short' more low =
-      line_goes_on a a' bytes [] out out unended held (sym (append-nil out)) (λ line is_open.
+  pub context_stays : (a a' : Annotator) (bytes out : List ℕ) → a.is_long ≡ false → has_end bytes ≡ false → a'.context ≡ a.context → a'.is_long ≡ false → a'.begun.items ≡ a.begun.items ++ bytes → length a'.begun.items ≤ 65536 → Adds out out (Passes answer a a' bytes)
+  context_stays a a' bytes out short unended context short' more low =
+      line_goes_on a a' bytes [] out out unended context (sym (append-nil out)) (λ line is_open.
       let line_short : is_long line ≡ false = sym is_open.long ∙ short in
       let same : a'.begun.items ≡ line ++ bytes = more ∙ ap (λ l. l ++ bytes) (rw line_short at is_open.kept) in
       let whole_short : is_long (line ++ bytes) ≡ false = ap is_long (sym same) ∙ le-ltb 65536 (length a'.begun.items) low in
       (short' ∙ sym whole_short, rw whole_short same, rw (line_short, whole_short)))
 
-  pub gets_long : (a a' : Annotator) (bytes whole out out' : List ℕ) → a.is_long ≡ false → has_end bytes ≡ false → whole ≡ a.begun.items ++ bytes → 65536 < length whole → a'.held ≡ a.held → a'.is_long ≡ true → a'.begun.items ≡ []
+  pub gets_long : (a a' : Annotator) (bytes whole out out' : List ℕ) → a.is_long ≡ false → has_end bytes ≡ false → whole ≡ a.begun.items ++ bytes → 65536 < length whole → a'.context ≡ a.context → a'.is_long ≡ true → a'.begun.items ≡ []
       → out' ≡ out ++ whole → Adds out out' (Passes answer a a' bytes)
-  gets_long a a' bytes whole out out' short unended all long held long' none put =
-      line_goes_on a a' bytes whole out out' unended held put (λ line is_open.
+  gets_long a a' bytes whole out out' short unended all long context long' none put =
+      line_goes_on a a' bytes whole out out' unended context put (λ line is_open.
       let line_short : is_long line ≡ false = sym is_open.long ∙ short in
       let same : whole ≡ line ++ bytes = all ∙ ap (λ l. l ++ bytes) (rw line_short at is_open.kept) in
       let whole_long : is_long (line ++ bytes) ≡ true = ap is_long (sym same) ∙ lt-ltb 65536 (length whole) long in
       (long' ∙ sym whole_long, rw whole_long none, rw (line_short, whole_long) same))
 
   -- nothing is put for no bytes
-  nothing_put : (held : LogContext) → (annotated_line answer held [] ≡ []) × ((held_behind answer held []).names ≡ held.names)
-  unfolding annotated_line held_behind
-  nothing_put held = (refl, nothing_reported answer [] held.names nothing_there)
+  nothing_put : (context : LogContext) → (annotated_line answer context [] ≡ []) × ((context_behind answer context []).names ≡ context.names)
+  unfolding annotated_line context_behind
+  nothing_put context = (refl, nothing_reported answer [] context.names nothing_there)
 
   -- no more bytes come
-  pub last_is_put : (a : Annotator) (held : LogContext) (begun text : List ℕ) → begun ≡ a.begun.items → held ≡ held_behind answer a.held begun → text ≡ annotated_line answer a.held begun → Ends answer a held.names text
-  last_is_put a held begun text kept held_is put = λ line is_open. ended line is_open (is_long line) refl
+  pub last_is_put : (a : Annotator) (context : LogContext) (begun text : List ℕ) → begun ≡ a.begun.items → context ≡ context_behind answer a.context begun → text ≡ annotated_line answer a.context begun → EndsLog answer a context.names text
+  last_is_put a context begun text kept context_is put = λ line is_open. ended line is_open (is_long line) refl
     where
       -- of what is kept
-      behind : (line : List ℕ) → begun ≡ line → (held.names ≡ (held_behind answer a.held line).names) × (text ≡ annotated_line answer a.held line)
-      behind line same = (ap (λ h. h.names) (held_is ∙ ap (held_behind answer a.held) same), put ∙ ap (annotated_line answer a.held) same)
+      behind : (line : List ℕ) → begun ≡ line → (context.names ≡ (context_behind answer a.context line).names) × (text ≡ annotated_line answer a.context line)
+      behind line same = (ap (λ h. h.names) (context_is ∙ ap (context_behind answer a.context) same), put ∙ ap (annotated_line answer a.context) same)
 
-      ended : (line : List ℕ) → IsOpen a line → (t : Bool) → is_long line ≡ t → Ended answer a line held.names text
+      ended : (line : List ℕ) → IsOpen a line → (t : Bool) → is_long line ≡ t → Ended answer a line context.names text
       ended [] is_open t long =
           let (names, is) = behind [] (kept ∙ is_open.kept) in
-          record { names_are = names ∙ (nothing_put a.held).1; put = is ∙ (nothing_put a.held).0 }
+          record { names_are = names ∙ (nothing_put a.context).1; put = is ∙ (nothing_put a.context).0 }
       ended (b ∷ line) is_open true long =
           let one = last_line b line is_open.no_end in
           let (names, is) = behind [] (kept ∙ (rw long at is_open.kept)) in
           record {
-            names_are = names ∙ (nothing_put a.held).1 ∙ ap (λ h. h.names) (sym (ap (held_over answer (held_in a)) one ∙ passed_by (held_in a) (b ∷ line) long));
-            put = rw (long, is, (nothing_put a.held).0, one, stays (held_in a) (b ∷ line) long);
+            names_are = names ∙ (nothing_put a.context).1 ∙ ap (λ h. h.names) (sym (ap (context_over answer (context_in a)) one ∙ passed_by (context_in a) (b ∷ line) long));
+            put = rw (long, is, (nothing_put a.context).0, one, stays (context_in a) (b ∷ line) long);
           }
       ended (b ∷ line) is_open false short =
           let one = last_line b line is_open.no_end in
           let (names, is) = behind (b ∷ line) (kept ∙ (rw short at is_open.kept)) in
           record {
-            names_are = names ∙ ap (λ h. h.names) (sym (ap (held_over answer (held_in a)) one));
+            names_are = names ∙ ap (λ h. h.names) (sym (ap (context_over answer (context_in a)) one));
             put = rw (short, one, append-nil) is;
           }

@@ -66,18 +66,18 @@ run_within [] = omega arith
 run_within (b ∷ bytes) = grind (arith, run_within bytes)
 
 -- a byte more, where no address begins with it
-over_one : (narrow : Bool) (held : LogContext) (line : List ℕ) (last : Option AddressWord) (at : ℕ) (within : Bool) (b : ℕ) (bytes : List ℕ) → address_at narrow line (record { start = at; end = at + run_of is_word_byte (b ∷ bytes) }) ≡ None
-    → taken_among narrow held line last (words_from at within (b ∷ bytes)) ≡ taken_among narrow held line last (words_from (at + 1) (is_word_byte b) bytes)
-over_one narrow held line last at within b bytes none = either within (is_word_byte b)
+over_one : (narrow : Bool) (context : LogContext) (line : List ℕ) (last : Option AddressWord) (at : ℕ) (within : Bool) (b : ℕ) (bytes : List ℕ) → address_at narrow line (record { start = at; end = at + run_of is_word_byte (b ∷ bytes) }) ≡ None
+    → taken_among narrow context line last (words_from at within (b ∷ bytes)) ≡ taken_among narrow context line last (words_from (at + 1) (is_word_byte b) bytes)
+over_one narrow context line last at within b bytes none = either within (is_word_byte b)
   where
     w : Word
     w = record { start = at; end = at + run_of is_word_byte (b ∷ bytes) }
 
-    either : (i t : Bool) → taken_among narrow held line last (cond t (cond i (words_from (at + 1) true bytes) (w ∷ words_from (at + 1) true bytes)) (words_from (at + 1) false bytes)) ≡ taken_among narrow held line last (words_from (at + 1) t bytes)
+    either : (i t : Bool) → taken_among narrow context line last (cond t (cond i (words_from (at + 1) true bytes) (w ∷ words_from (at + 1) true bytes)) (words_from (at + 1) false bytes)) ≡ taken_among narrow context line last (words_from (at + 1) t bytes)
     either i false = refl
     either true true = refl
     either false true =
-        ap (λ o. option_map_or (λ value. let t = taken_at narrow held line last w value in t ∷ taken_among narrow held line (Some t) (words_from (at + 1) true bytes)) o (taken_among narrow held line last (words_from (at + 1) true bytes))) none
+        ap (λ o. option_map_or (λ value. let t = taken_at narrow context line last w value in t ∷ taken_among narrow context line (Some t) (words_from (at + 1) true bytes)) o (taken_among narrow context line last (words_from (at + 1) true bytes))) none
 
 behind_one : (line : List ℕ) (at b : ℕ) (bytes : List ℕ) → (b ∷ bytes) ≡ drop at line → bytes ≡ drop (at + 1) line
 behind_one line at b bytes is = ap (drop 1) is ∙ drop-drop 1 at line
@@ -87,27 +87,27 @@ too_short : (narrow : Bool) (bytes : List ℕ) (n k : ℕ) → k < length bytes 
 too_short narrow bytes n k below few other = ⊎_elim (λ high. inr (any_at bytes n k high below other)) (λ low. inl (omega (arith, low, few))) (cases_lt k n)
 
 -- bytes up to one of no address, and no more than an address has
-leap_from : (narrow : Bool) (held : LogContext) (line : List ℕ) (last : Option AddressWord) (at : ℕ) (within : Bool) (bytes : List ℕ) (k : ℕ) → bytes ≡ drop at line → k < length bytes → k < fewest narrow → is_address_byte (get_or bytes k 0) ≡ false
-    → taken_among narrow held line last (words_from at within bytes) ≡ taken_among narrow held line last (words_from (at + k + 1) (is_word_byte (get_or bytes k 0)) (drop (at + k + 1) line))
-leap_from narrow held line last at within [] k is below few other = absurd (omega arith)
-leap_from narrow held line last at within (b ∷ bytes) zero is below few other =
+leap_from : (narrow : Bool) (context : LogContext) (line : List ℕ) (last : Option AddressWord) (at : ℕ) (within : Bool) (bytes : List ℕ) (k : ℕ) → bytes ≡ drop at line → k < length bytes → k < fewest narrow → is_address_byte (get_or bytes k 0) ≡ false
+    → taken_among narrow context line last (words_from at within bytes) ≡ taken_among narrow context line last (words_from (at + k + 1) (is_word_byte (get_or bytes k 0)) (drop (at + k + 1) line))
+leap_from narrow context line last at within [] k is below few other = absurd (omega arith)
+leap_from narrow context line last at within (b ∷ bytes) zero is below few other =
     let place : at + 0 + 1 ≡ at + 1 = omega arith in
-    rw (place, ← behind_one line at b bytes is) (over_one narrow held line last at within b bytes (no_address narrow line at (run_of is_word_byte (b ∷ bytes)) (rw (← is) (too_short narrow (b ∷ bytes) (run_of is_word_byte (b ∷ bytes)) zero below few other))))
-leap_from narrow held line last at within (b ∷ bytes) (suc j) is below few other =
+    rw (place, ← behind_one line at b bytes is) (over_one narrow context line last at within b bytes (no_address narrow line at (run_of is_word_byte (b ∷ bytes)) (rw (← is) (too_short narrow (b ∷ bytes) (run_of is_word_byte (b ∷ bytes)) zero below few other))))
+leap_from narrow context line last at within (b ∷ bytes) (suc j) is below few other =
     let place : at + suc j + 1 ≡ at + 1 + j + 1 = omega arith in
     rw place
-    (over_one narrow held line last at within b bytes (no_address narrow line at (run_of is_word_byte (b ∷ bytes)) (rw (← is) (too_short narrow (b ∷ bytes) (run_of is_word_byte (b ∷ bytes)) (suc j) below few other)))
-    ∙ leap_from narrow held line last (at + 1) (is_word_byte b) bytes j (behind_one line at b bytes is) (omega arith) (omega arith) other)
+    (over_one narrow context line last at within b bytes (no_address narrow line at (run_of is_word_byte (b ∷ bytes)) (rw (← is) (too_short narrow (b ∷ bytes) (run_of is_word_byte (b ∷ bytes)) (suc j) below few other)))
+    ∙ leap_from narrow context line last (at + 1) (is_word_byte b) bytes j (behind_one line at b bytes is) (omega arith) (omega arith) other)
 
-pub leap : (narrow : Bool) (held : LogContext) (line : List ℕ) (last : Option AddressWord) (start place : ℕ) (within : Bool) → start ≤ place → place < length line → place < start + fewest narrow → is_address_byte (get_or line place 0) ≡ false
-    → taken_among narrow held line last (words_from start within (drop start line)) ≡ taken_among narrow held line last (words_from (place + 1) (is_word_byte (get_or line place 0)) (drop (place + 1) line))
-leap narrow held line last start place within from below few other =
+pub leap : (narrow : Bool) (context : LogContext) (line : List ℕ) (last : Option AddressWord) (start place : ℕ) (within : Bool) → start ≤ place → place < length line → place < start + fewest narrow → is_address_byte (get_or line place 0) ≡ false
+    → taken_among narrow context line last (words_from start within (drop start line)) ≡ taken_among narrow context line last (words_from (place + 1) (is_word_byte (get_or line place 0)) (drop (place + 1) line))
+leap narrow context line last start place within from below few other =
     let k = place - start in
     let at : start + k ≡ place = omega arith in
     let same : get_or (drop start line) k 0 ≡ get_or line place 0 = get_or-drop start line k 0 ∙ ap (λ n. get_or line n 0) at in
-    leap_from narrow held line last start within (drop start line) k refl (omega (arith, length-drop start line)) (omega arith) (ap is_address_byte same ∙ other)
-    ∙ ap (λ b. taken_among narrow held line last (words_from (start + k + 1) (is_word_byte b) (drop (start + k + 1) line))) same
-    ∙ ap (λ n. taken_among narrow held line last (words_from (n + 1) (is_word_byte (get_or line place 0)) (drop (n + 1) line))) at
+    leap_from narrow context line last start within (drop start line) k refl (omega (arith, length-drop start line)) (omega arith) (ap is_address_byte same ∙ other)
+    ∙ ap (λ b. taken_among narrow context line last (words_from (start + k + 1) (is_word_byte b) (drop (start + k + 1) line))) same
+    ∙ ap (λ n. taken_among narrow context line last (words_from (n + 1) (is_word_byte (get_or line place 0)) (drop (n + 1) line))) at
 
 -- a word goes on behind it if it is one of a word
 pub begun_behind : (line : List ℕ) (from place : ℕ) → from ≤ place → is_begun line from (place + 1) ≡ is_word_byte (get_or line place 0)
@@ -121,14 +121,14 @@ not_begun line place =
     rw (le-ltb place place (omega arith))
 
 -- too few bytes are left
-few_from : (narrow : Bool) (held : LogContext) (line : List ℕ) (last : Option AddressWord) (at : ℕ) (within : Bool) (bytes : List ℕ) → length bytes < fewest narrow → taken_among narrow held line last (words_from at within bytes) ≡ []
-few_from narrow held line last at within [] few = refl
-few_from narrow held line last at within (b ∷ bytes) few =
-    over_one narrow held line last at within b bytes (no_address narrow line at (run_of is_word_byte (b ∷ bytes)) (inl (omega (arith, few, run_within (b ∷ bytes)))))
-    ∙ few_from narrow held line last (at + 1) (is_word_byte b) bytes (omega (arith, few))
+few_from : (narrow : Bool) (context : LogContext) (line : List ℕ) (last : Option AddressWord) (at : ℕ) (within : Bool) (bytes : List ℕ) → length bytes < fewest narrow → taken_among narrow context line last (words_from at within bytes) ≡ []
+few_from narrow context line last at within [] few = refl
+few_from narrow context line last at within (b ∷ bytes) few =
+    over_one narrow context line last at within b bytes (no_address narrow line at (run_of is_word_byte (b ∷ bytes)) (inl (omega (arith, few, run_within (b ∷ bytes)))))
+    ∙ few_from narrow context line last (at + 1) (is_word_byte b) bytes (omega (arith, few))
 
-pub few_left : (narrow : Bool) (held : LogContext) (line : List ℕ) (last : Option AddressWord) (start : ℕ) (within : Bool) → length line - start < fewest narrow → taken_among narrow held line last (words_from start within (drop start line)) ≡ []
-few_left narrow held line last start within few = few_from narrow held line last start within (drop start line) (omega (arith, few, length-drop start line))
+pub few_left : (narrow : Bool) (context : LogContext) (line : List ℕ) (last : Option AddressWord) (start : ℕ) (within : Bool) → length line - start < fewest narrow → taken_among narrow context line last (words_from start within (drop start line)) ≡ []
+few_left narrow context line last start within few = few_from narrow context line last start within (drop start line) (omega (arith, few, length-drop start line))
 
 -- the rest of a word
 pub goes_on : (line : List ℕ) (start end : ℕ) (w : Word) → start < length line → is_word_byte (get_or line start 0) ≡ true → words_behind line start ≡ w ∷ words_behind line end → words_from start true (drop start line) ≡ words_behind line end

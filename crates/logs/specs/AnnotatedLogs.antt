@@ -16,26 +16,26 @@ use Rattle.logs.specs.declared.contexts.LogContext.{LogContext}
 use Rattle.logs.specs.declared.contexts.First.TheVariants as first
 use Rattle.logs.specs.declared.log_names.LogNames.{LogNames}
 use Rattle.logs.specs.declared.address_words.AddressWord.{AddressWord}
-use Rattle.logs.specs.declared.line.Progress.{Progress}
+use Rattle.logs.specs.declared.line.LineProgress.{LineProgress}
 use Rattle.logs.specs.declared.words.Word.{Word}
 
 -- nothing was seen
-abbrev pub first_held : LogContext
-first_held = record { first = first.Exact; is_user = false; names = no_names }
+abbrev pub first_context : LogContext
+first_context = record { first = first.Exact; is_user = false; names = no_names }
 
 -- the place after the closers of a word
 abbrev pub place_after : List ℕ → AddressWord → ℕ
 place_after line t = t.word.end + run_of is_closer (drop t.word.end line)
 
 -- the line from a place on, with the texts after its address words that it does not say itself
-abbrev pub woven : Answering → List ℕ → ℕ → List AddressWord → List ℕ
-woven answer line at [] = drop at line
-woven answer line at (t ∷ more) =
+abbrev pub annotated_from : Answering → List ℕ → ℕ → List AddressWord → List ℕ
+annotated_from answer line at [] = drop at line
+annotated_from answer line at (t ∷ more) =
     let place = place_after line t in
     let rest = drop place line in
-    option_map_or (λ text. part line at place ++ text ++ woven answer line place more)
+    option_map_or (λ text. part line at place ++ text ++ annotated_from answer line place more)
     (insertion answer t.value rest (text_for answer (as_read answer rest t)))
-    (woven answer line at more)
+    (annotated_from answer line at more)
 
 -- what is counted, with these address words more
 abbrev pub counted : Answering → List ℕ → LogNames → List AddressWord → LogNames
@@ -47,38 +47,38 @@ counted answer line names (t ∷ more) =
 
 -- A line with the texts of its answers. A long one stays as it is.
 unfoldable pub annotated_line : Answering → LogContext → List ℕ → List ℕ
-annotated_line answer held line =
-    if is_long line then line else woven answer line 0 (taken_in answer.is_narrow held line)
+annotated_line answer context line =
+    if is_long line then line else annotated_from answer line 0 (taken_in answer.is_narrow context line)
 
 -- what is carried on after a line: nothing of a long one
-unfoldable pub held_behind : Answering → LogContext → List ℕ → LogContext
-held_behind answer held line =
-    let taken = taken_in answer.is_narrow held line in
-    if is_long line then held
+unfoldable pub context_behind : Answering → LogContext → List ℕ → LogContext
+context_behind answer context line =
+    let taken = taken_in answer.is_narrow context line in
+    if is_long line then context
     else record {
       first =
-          next_first held.first (list_any (λ t. t.is_frame) taken) (tells_place line)
+          next_first context.first (list_any (λ t. t.is_frame) taken) (tells_place line)
           (ends_trace line);
-      is_user = is_user_line held line || begins_user line;
-      names = with_line answer line (counted answer line held.names taken);
+      is_user = is_user_line context line || begins_user line;
+      names = with_line answer line (counted answer line context.names taken);
     }
 
 -- lines with their texts; and what is carried on after them
 abbrev pub annotated_lines : Answering → LogContext → List (List ℕ) → List ℕ
-annotated_lines answer held [] = []
-annotated_lines answer held (line ∷ more) =
-    annotated_line answer held line ++ annotated_lines answer (held_behind answer held line) more
+annotated_lines answer context [] = []
+annotated_lines answer context (line ∷ more) =
+    annotated_line answer context line ++ annotated_lines answer (context_behind answer context line) more
 
-abbrev pub held_over : Answering → LogContext → List (List ℕ) → LogContext
-held_over answer held [] = held
-held_over answer held (line ∷ more) = held_over answer (held_behind answer held line) more
+abbrev pub context_over : Answering → LogContext → List (List ℕ) → LogContext
+context_over answer context [] = context
+context_over answer context (line ∷ more) = context_over answer (context_behind answer context line) more
 
 -- a whole log; and its names
 abbrev pub annotated : Answering → List ℕ → List ℕ
-annotated answer log = annotated_lines answer first_held (lines log)
+annotated answer log = annotated_lines answer first_context (lines log)
 
 abbrev pub names_of : Answering → List ℕ → LogNames
-names_of answer log = (held_over answer first_held (lines log)).names
+names_of answer log = (context_over answer first_context (lines log)).names
 
 -- ---- a line that is put word by word
 
@@ -96,20 +96,20 @@ is_begun line from start = nat_lt from start && is_word_byte (slice_index_or lin
 -- the two lists of words of a line have equal addresses
 abbrev pub SameAddresses : Bool → List ℕ → List Word → List Word → Type 0
 SameAddresses narrow line words words' =
-    (held : LogContext) (last : Option AddressWord)
-    → taken_among narrow held line last words ≡ taken_among narrow held line last words'
+    (context : LogContext) (last : Option AddressWord)
+    → taken_among narrow context line last words ≡ taken_among narrow context line last words'
 
 -- the address words that are still to come; what is still to be put; whether there is a frame; and
 -- what is counted
-abbrev pub left_of : Answering → LogContext → List ℕ → Progress → List Word → List AddressWord
-left_of answer held line p words = taken_among answer.is_narrow held line p.last words
+abbrev pub left_of : Answering → LogContext → List ℕ → LineProgress → List Word → List AddressWord
+left_of answer context line p words = taken_among answer.is_narrow context line p.last words
 
-abbrev pub owed : Answering → LogContext → List ℕ → Progress → List Word → List ℕ
-owed answer held line p words = woven answer line p.put (left_of answer held line p words)
+abbrev pub owed : Answering → LogContext → List ℕ → LineProgress → List Word → List ℕ
+owed answer context line p words = annotated_from answer line p.put (left_of answer context line p words)
 
-abbrev pub framed : Answering → LogContext → List ℕ → Progress → List Word → Bool
-framed answer held line p words =
-    p.has_frame || list_any (λ t. t.is_frame) (left_of answer held line p words)
+abbrev pub framed : Answering → LogContext → List ℕ → LineProgress → List Word → Bool
+framed answer context line p words =
+    p.has_frame || list_any (λ t. t.is_frame) (left_of answer context line p words)
 
-abbrev pub tallied : Answering → LogContext → List ℕ → Progress → List Word → LogNames
-tallied answer held line p words = counted answer line p.names (left_of answer held line p words)
+abbrev pub tallied : Answering → LogContext → List ℕ → LineProgress → List Word → LogNames
+tallied answer context line p words = counted answer line p.names (left_of answer context line p words)

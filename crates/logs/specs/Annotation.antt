@@ -7,7 +7,7 @@ use Rattle.texts.specs.Counted.{NoneFailed, Rose, device_of, failures_of}
 use Rattle.texts.specs.declared.output.Output.{Output}
 use Rattle.texts.specs.Output.{Delivered, WrotePart, contents_of, error_in, has_failed, is_flushed, IsBrokenPipe, IsNoBrokenPipe}
 use Rattle.logs.specs.Answering.{Answering}
-use Rattle.logs.specs.AnnotatedLogs.{annotated, annotated_lines, held_over, names_of}
+use Rattle.logs.specs.AnnotatedLogs.{annotated, annotated_lines, context_over, names_of}
 use Rattle.logs.specs.Lines.{AreWhole, has_end, is_long, lines}
 use Rattle.logs.specs.declared.annotation.Findings.{Findings}
 use Rattle.logs.specs.declared.annotation.LogFault.{LogFault}
@@ -24,8 +24,8 @@ abbrev pub kept_of : List ℕ → List ℕ
 kept_of line = if is_long line then [] else line
 
 -- what is carried on after the lines that were put
-abbrev pub held_in : Annotator → LogContext
-held_in a = a.held
+abbrev pub context_in : Annotator → LogContext
+context_in a = a.context
 
 -- This line, which has no end yet, follows the lines that were put.
 pub record IsOpen (a : Annotator) (line : List ℕ) : Type 0 where
@@ -41,8 +41,8 @@ pub record Passed (answer : Answering) (a a' : Annotator) (line bytes text : Lis
   pub parts : line ++ bytes ≡ passed ++ line'
   pub whole : AreWhole passed
   pub is_open : IsOpen a' line'
-  pub held : held_in a' ≡ held_over answer (held_in a) (lines passed)
-  pub put : put_of line ++ text ≡ annotated_lines answer (held_in a) (lines passed) ++ put_of line'
+  pub context : context_in a' ≡ context_over answer (context_in a) (lines passed)
+  pub put : put_of line ++ text ≡ annotated_lines answer (context_in a) (lines passed) ++ put_of line'
 
 abbrev pub Passes : Answering → Annotator → Annotator → List ℕ → List ℕ → Type 0
 Passes answer a a' bytes text =
@@ -51,11 +51,11 @@ Passes answer a a' bytes text =
 -- If no more bytes come, the open line is put as the last one, and these are the names.
 pub record Ended (answer : Answering) (a : Annotator) (line : List ℕ) (names : LogNames)
     (text : List ℕ) : Type 0 where
-  pub names_are : names ≡ (held_over answer (held_in a) (lines line)).names
-  pub put : put_of line ++ text ≡ annotated_lines answer (held_in a) (lines line)
+  pub names_are : names ≡ (context_over answer (context_in a) (lines line)).names
+  pub put : put_of line ++ text ≡ annotated_lines answer (context_in a) (lines line)
 
-abbrev pub Ends : Answering → Annotator → LogNames → List ℕ → Type 0
-Ends answer a names text = (line : List ℕ) → IsOpen a line → Ended answer a line names text
+abbrev pub EndsLog : Answering → Annotator → LogNames → List ℕ → Type 0
+EndsLog answer a names text = (line : List ℕ) → IsOpen a line → Ended answer a line names text
 
 -- the text and the names of an annotated log; and what was found of it besides
 pub record IsAnnotation (answer : Answering) (log text : List ℕ) (names : LogNames) : Type 0 where
@@ -88,8 +88,8 @@ module _ {W X : Type 0} (contents : W → Option (List ℕ)) (P : X → List ℕ
       × IsWriteFault (error_in w') f
 
 -- the annotated log begins with what was written, whatever comes after what was read
-abbrev pub Begins : Answering → List ℕ → List ℕ → Type 0
-Begins answer written read =
+abbrev pub BeginsLog : Answering → List ℕ → List ℕ → Type 0
+BeginsLog answer written read =
     (more : List ℕ) → (rest : List ℕ) × (annotated answer (read ++ more) ≡ written ++ rest)
 
 -- What was written are the whole lines that were read, annotated, and the line after them as far
@@ -101,7 +101,7 @@ pub record IsUpToDate (answer : Answering) (written read : List ℕ) : Type 0 wh
   pub whole : AreWhole passed
   pub no_end : has_end line ≡ false
   pub is_written : written ≡ annotated answer passed ++ put_of line
-  pub begins : Begins answer written read
+  pub begins : BeginsLog answer written read
 
 -- the writer was not called, or a flush was its last call
 abbrev pub KeepsNothingBack : {W : Type 0} → Output W → Output W → Type 0
@@ -121,7 +121,7 @@ module _ {R W : Type 0} (remaining : R → Option (List ℕ)) (contents : W → 
   abbrev pub IsCutOff : Type 0
   IsCutOff =
       NoneFailed r r' × (has_failed w' ≡ true)
-      × MovesSome (λ written read. Begins answer written read
+      × MovesSome (λ written read. BeginsLog answer written read
       ⊎ (IsAtEnd (remaining (device_of r'))
       × (rest : List ℕ) × (annotated answer read ≡ written ++ rest)))
 
@@ -136,7 +136,7 @@ module _ {R W : Type 0} (remaining : R → Option (List ℕ)) (contents : W → 
       × MovesSome (λ written log.
       IsAtEnd (remaining (device_of r')) × (written ≡ annotated answer log)
       × (found.names ≡ names_of answer log) × (found.head.items ≡ take 2 log))
-  Annotates (Err fault.OutOfMemory) = NoneFailed r r' × IsSound (Begins answer)
+  Annotates (Err fault.OutOfMemory) = NoneFailed r r' × IsSound (BeginsLog answer)
   Annotates (Err fault.TooLong) =
       NoneFailed r r' × IsSound (λ written read.
       IsUpToDate answer written read × (2 ^ 64 - 1 ≤ length read))

@@ -6,7 +6,7 @@ use Rattle.std.specs.List.{starts_with}
 use Rattle.std.specs.Option.{option_map, option_or}
 use Rattle.texts.specs.Numbers.{numeral}
 use Rattle.logs.specs.Places.{first_of}
-use Rattle.logs.specs.declared.places.Kind.TheVariants as kind
+use Rattle.logs.specs.declared.places.ByteClass.TheVariants as kind
 use Rattle.logs.specs.declared.kernel_offsets.KernelOffset.{KernelOffset}
 use Rattle.logs.specs.declared.kernel_offsets.TheConstants.{FROM, OFFSET}
 

@@ -14,7 +14,7 @@ use Rattle.logs.specs.declared.kernel_offsets.TheConstants.{OFFSET}
 use Rattle.logs.specs.declared.kernel_reports.KernelReport.{KernelReport}
 use Rattle.logs.specs.declared.kernel_reports.Said.{Said}
 use Rattle.logs.specs.declared.kernel_reports.Said.TheVariants as said
-use Rattle.logs.specs.declared.places.Kind.TheVariants as kind
+use Rattle.logs.specs.declared.places.ByteClass.TheVariants as kind
 
 -- ---- the functions of a line
 

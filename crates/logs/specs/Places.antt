@@ -7,12 +7,12 @@ use Rattle.std.specs.List.{list_any, starts_with, ends_with}
 use Rattle.std.specs.Char.{is_digit}
 use Rattle.std.specs.Str.{bytes_eq}
 use Rattle.logs.specs.Words.{is_word_byte, run_of}
-use Rattle.logs.specs.declared.places.Kind.{Kind}
-use Rattle.logs.specs.declared.places.Kind.TheVariants as kind
+use Rattle.logs.specs.declared.places.ByteClass.{ByteClass}
+use Rattle.logs.specs.declared.places.ByteClass.TheVariants as kind
 use Rattle.logs.specs.declared.places.TheConstants.{FROM, HIDDEN, IS_AT, KERNEL, LONGER_TIME, TIME}
 
 -- a byte is of a kind
-abbrev pub is_of : Kind → ℕ → Bool
+abbrev pub is_of : ByteClass → ℕ → Bool
 is_of kind.Word b = is_word_byte b
 is_of kind.Digit b = is_digit b 10
 is_of kind.Mark b = b == 40 || b == 60 || b == 91
@@ -34,17 +34,17 @@ is_of kind.Hexadecimal b = is_digit b 16
 is_of kind.Function b = is_word_byte b || b == 46 || b == 36
 
 -- how many bytes of a kind the bytes begin with, and how many they end in
-abbrev pub first_of : Kind → List ℕ → ℕ
+abbrev pub first_of : ByteClass → List ℕ → ℕ
 first_of k bytes = run_of (λ b. is_of k b) bytes
 
-abbrev pub last_of : Kind → List ℕ → ℕ
+abbrev pub last_of : ByteClass → List ℕ → ℕ
 last_of k bytes = run_of (λ b. is_of k b) (reverse bytes)
 
 -- the bytes without the latter; and these
-abbrev pub without_end : Kind → List ℕ → List ℕ
+abbrev pub without_end : ByteClass → List ℕ → List ℕ
 without_end k bytes = take (length bytes - last_of k bytes) bytes
 
-abbrev pub end_of : Kind → List ℕ → List ℕ
+abbrev pub end_of : ByteClass → List ℕ → List ℕ
 end_of k bytes = drop (length bytes - last_of k bytes) bytes
 
 -- The last word is `ra`, `lr`, `LR` or `from`.
@@ -137,7 +137,7 @@ abbrev pub prefix_end : Bool → List ℕ → ℕ
 prefix_end at_start bytes = prefix_up_to at_start bytes (length bytes)
 
 -- how long a run of a kind is with a byte before it and the one that closes it, or 0 without them
-abbrev pub closed : Kind → List ℕ → List ℕ → ℕ
+abbrev pub closed : ByteClass → List ℕ → List ℕ → ℕ
 closed k close bytes =
     let n = first_of k bytes in
     if not (n == 0) && starts_with nat_eq (drop n bytes) close then n + 2 else 0

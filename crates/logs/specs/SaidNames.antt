@@ -5,7 +5,7 @@ use Rattle.std.specs.List.{starts_with}
 use Rattle.std.specs.Option.{option_map}
 use Rattle.logs.specs.Places.{first_of, is_of}
 use Rattle.logs.specs.Words.{digits_between}
-use Rattle.logs.specs.declared.places.Kind.TheVariants as kind
+use Rattle.logs.specs.declared.places.ByteClass.TheVariants as kind
 use Rattle.logs.specs.declared.said_names.SaidDistance.{SaidDistance}
 
 -- a name, and how far above it

@@ -9,8 +9,8 @@ use Rattle.logs.specs.Words.{address_at, has_prefix, is_word_byte, part, words_b
 use Rattle.logs.specs.declared.contexts.LogContext.{LogContext}
 use Rattle.logs.specs.declared.contexts.First.{First}
 use Rattle.logs.specs.declared.contexts.First.TheVariants as first
-use Rattle.logs.specs.declared.places.Kind.TheVariants as kind
-use Rattle.logs.specs.declared.address_words.Place.{Place}
+use Rattle.logs.specs.declared.places.ByteClass.TheVariants as kind
+use Rattle.logs.specs.declared.address_words.WordPlace.{WordPlace}
 use Rattle.logs.specs.declared.address_words.AddressWord.{AddressWord}
 use Rattle.logs.specs.declared.address_words.TheConstants as text
 use Rattle.logs.specs.declared.words.Word.{Word}
@@ -22,14 +22,14 @@ unfoldable pub gap_before : List ℕ → Option AddressWord → Word → List �
 gap_before line last w = part line (option_map_or (λ t. t.word.end) last 0) w.start
 
 -- the place of a word after these bytes: between their prefix and it only items may come
-abbrev pub place_after_prefix : Bool → List ℕ → Place
+abbrev pub place_after_prefix : Bool → List ℕ → WordPlace
 place_after_prefix at_start head =
     let lead = drop (prefix_end at_start head) head in
     record { begins_line = is_lead 0 lead; is_numbered = begins_numbered lead }
 
 -- The place of a word with these bytes before its marks. After another address word there has to be
 -- a prefix.
-unfoldable pub place_of : Option AddressWord → List ℕ → Place
+unfoldable pub place_of : Option AddressWord → List ℕ → WordPlace
 place_of None head = place_after_prefix true head
 place_of (Some t) head =
     if prefix_end false head == 0
@@ -54,7 +54,7 @@ ends_pair (Some t) gap =
     && bytes_eq (without_end kind.Space (without_end kind.Mark gap)) (codes "]")
 
 -- it begins its line with the mark `[`
-abbrev pub begins_pair : Place → List ℕ → Bool
+abbrev pub begins_pair : WordPlace → List ℕ → Bool
 begins_pair place gap = place.begins_line && has_bracket gap
 
 -- `:` comes directly after it: a row of memory
@@ -62,7 +62,7 @@ abbrev pub is_row : List ℕ → Bool
 is_row after = starts_with nat_eq after (codes ":")
 
 -- It is a frame: no row of memory, and it begins its line with such a mark, or ends such a pair.
-unfoldable pub is_frame : Place → Option AddressWord → List ℕ → List ℕ → List ℕ → Bool
+unfoldable pub is_frame : WordPlace → Option AddressWord → List ℕ → List ℕ → List ℕ → Bool
 is_frame place last gap word after =
     not (is_row after)
     && ((place.begins_line && is_marked gap word) || ends_pair last gap)
@@ -76,7 +76,7 @@ is_folded gap after =
 
 -- The bytes before it and after it say that it is a caller's: a label, a folded stack, or `at` in a
 -- line whose text begins with `#` and a digit.
-unfoldable pub says_caller : Place → List ℕ → List ℕ → Bool
+unfoldable pub says_caller : WordPlace → List ℕ → List ℕ → Bool
 says_caller place gap after =
     has_label gap || is_folded gap after
     || (place.is_numbered
@@ -121,7 +121,7 @@ begins_user bytes = has_words text.USER.now false bytes
 
 -- a program's registers were begun before the line, and it does not end them
 abbrev pub is_user_line : LogContext → List ℕ → Bool
-is_user_line held line = held.is_user && not (ends_user line)
+is_user_line context line = context.is_user && not (ends_user line)
 
 -- the bytes have `Code:` or `ACPI:`
 abbrev pub has_code : List ℕ → Bool
@@ -133,8 +133,8 @@ has_code (b ∷ bytes) =
 -- From the word on, all of its line is not of this kernel: from the address word before it on, or
 -- else the line is a program's; or it is one of a program, or, of 32 bits, a part of its code.
 unfoldable pub is_outside : Bool → LogContext → List ℕ → Option AddressWord → List ℕ → Bool
-is_outside narrow held line last gap =
-    option_map_or (λ t. t.is_outside) last (is_user_line held line)
+is_outside narrow context line last gap =
+    option_map_or (λ t. t.is_outside) last (is_user_line context line)
     || begins_user gap || (narrow && has_code gap)
 
 -- A `:`, a blank, two hexadecimal digits and a blank begin the bytes: a dump of bytes.
@@ -161,19 +161,19 @@ is_foreign outside narrow gap after =
 
 -- an address word, after another one or as the first of its line
 abbrev pub taken_at : Bool → LogContext → List ℕ → Option AddressWord → Word → ℕ → AddressWord
-taken_at narrow held line last w value =
+taken_at narrow context line last w value =
     let gap = gap_before line last w in
     let place = place_of last (without_end kind.Mark gap) in
     let after = drop w.end line in
     let is_frame = is_frame place last gap (part line w.start w.end) after in
-    let is_outside = is_outside narrow held line last gap in
+    let is_outside = is_outside narrow context line last gap in
     record {
       word = w;
       value = value;
       place = place;
       begins_pair = begins_pair place gap;
       is_frame = is_frame;
-      is_caller = is_caller held.first last gap (says_caller place gap after) is_frame value;
+      is_caller = is_caller context.first last gap (says_caller place gap after) is_frame value;
       is_outside = is_outside;
       is_foreign = is_foreign is_outside narrow gap after;
     }
@@ -181,16 +181,16 @@ taken_at narrow held line last w value =
 -- the address words among the words of a line
 abbrev pub taken_among : Bool → LogContext → List ℕ → Option AddressWord → List Word
     → List AddressWord
-taken_among narrow held line last [] = []
-taken_among narrow held line last (w ∷ words) =
+taken_among narrow context line last [] = []
+taken_among narrow context line last (w ∷ words) =
     option_map_or
-    (λ value. let t = taken_at narrow held line last w value in
-    t ∷ taken_among narrow held line (Some t) words)
-    (address_at narrow line w) (taken_among narrow held line last words)
+    (λ value. let t = taken_at narrow context line last w value in
+    t ∷ taken_among narrow context line (Some t) words)
+    (address_at narrow line w) (taken_among narrow context line last words)
 
 -- the address words of a line
 abbrev pub taken_in : Bool → LogContext → List ℕ → List AddressWord
-taken_in narrow held line = taken_among narrow held line None (words_behind line 0)
+taken_in narrow context line = taken_among narrow context line None (words_behind line 0)
 
 -- the line has the word `RIP`, `EIP` or `NIP`
 abbrev pub tells_place : List ℕ → Bool
@@ -209,7 +209,7 @@ ends_trace line =
 -- How the next first frame is taken after a line with a frame, or with such a word; or after one
 -- that ends the trace before it, or not.
 abbrev pub next_first : First → Bool → Bool → Bool → First
-next_first held true tells ends = first.Frame
-next_first held false true ends = first.Kept
+next_first context true tells ends = first.Frame
+next_first context false true ends = first.Kept
 next_first first.Frame false false ends = if ends then first.Exact else first.Frame
-next_first held false false ends = held
+next_first context false false ends = context

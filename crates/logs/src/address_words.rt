@@ -22,7 +22,7 @@ ghost use Rattle.logs.specs.Words.{address_at, begins_joint, begins_suffix, is_g
 
 use crate::contexts::{First, LogContext};
 use crate::places::{
-    Kind, begins_numbered, end_of, first_of, has_label, is_lead, prefix_end, without_end,
+    ByteClass, begins_numbered, end_of, first_of, has_label, is_lead, prefix_end, without_end,
 };
 use crate::words::{Word, address_of_word, has_prefix, is_word_byte};
 use memchr::{memchr, memmem};
@@ -55,7 +55,7 @@ const PROCESSOR: &[u8] = b"PrId";
 
 /// The place of an address word in its line.
 #[derive(Clone, Copy, Debug, Drop)]
-pub struct Place {
+pub struct WordPlace {
     /// Whether only items that may begin a line come before it.
     pub begins_line: bool,
     /// Whether the line's text after the prefix begins with `#` and a digit.
@@ -67,7 +67,7 @@ pub struct Place {
 pub struct AddressWord {
     pub word: Word,
     pub value: u64,
-    pub place: Place,
+    pub place: WordPlace,
     /// Whether it begins its line with the mark `[`.
     pub begins_pair: bool,
     /// Whether it is a frame.
@@ -139,7 +139,7 @@ fn ends_in_joint(bytes: &[u8]) -> bool
 /// How an address word is taken, after another one or as the first of its line.
 pub(crate) fn taken_at(
     narrow: bool,
-    held: LogContext,
+    context: LogContext,
     line: &[u8],
     last: Option<AddressWord>,
     word: Word,
@@ -147,21 +147,21 @@ pub(crate) fn taken_at(
 ) -> AddressWord
     requires word { word.start < word.end }
     requires within { word.end ≤ length line.now }
-    ensures { result ≡ taken_at narrow held line.now last word value }
+    ensures { result ≡ taken_at narrow context line.now last word value }
 {
     let gap = gap_before(line, last, word);
-    let place = place_of(last, without_end(Kind::Mark, gap));
+    let place = place_of(last, without_end(ByteClass::Mark, gap));
     let after = &line[word.end..];
     let is_frame = is_frame(place, last, gap, &line[word.start..word.end], after);
     let says = says_caller(place, gap, after);
-    let is_outside = is_outside(narrow, held, line, last, gap);
+    let is_outside = is_outside(narrow, context, line, last, gap);
     AddressWord {
         word,
         value,
         place,
         begins_pair: begins_pair(place, gap),
         is_frame,
-        is_caller: is_caller(held.first, last, gap, says, is_frame, value),
+        is_caller: is_caller(context.first, last, gap, says, is_frame, value),
         is_outside,
         is_foreign: is_foreign(is_outside, narrow, gap, after),
     }
@@ -181,16 +181,16 @@ fn gap_before(line: &[u8], last: Option<AddressWord>, word: Word) -> &[u8]
 
 /// The place of a word in its line, with these bytes before its marks.
 #[tactic(auto, unfolding(crate::specs::TakenWords::place_of))]
-fn place_of(last: Option<AddressWord>, head: &[u8]) -> Place
+fn place_of(last: Option<AddressWord>, head: &[u8]) -> WordPlace
     ensures { result ≡ place_of last head.now }
 {
     let end = prefix_end(last.is_none(), head);
     match last {
-        Some(last) if end == 0 => Place {
+        Some(last) if end == 0 => WordPlace {
             begins_line: false,
             is_numbered: last.place.is_numbered,
         },
-        _ => Place {
+        _ => WordPlace {
             begins_line: is_lead(&head[end..]),
             is_numbered: begins_numbered(&head[end..]),
         },
@@ -201,11 +201,11 @@ fn place_of(last: Option<AddressWord>, head: &[u8]) -> Place
 fn has_bracket(gap: &[u8]) -> bool
     ensures { result ≡ has_bracket gap.now }
 {
-    end_of(Kind::Mark, gap) == b"[".as_slice()
+    end_of(ByteClass::Mark, gap) == b"[".as_slice()
 }
 
 /// Whether a word begins its line with the mark `[`.
-fn begins_pair(place: Place, gap: &[u8]) -> bool
+fn begins_pair(place: WordPlace, gap: &[u8]) -> bool
     ensures { result ≡ begins_pair place gap.now }
 {
     place.begins_line && has_bracket(gap)
@@ -215,7 +215,7 @@ fn begins_pair(place: Place, gap: &[u8]) -> bool
 fn is_marked(gap: &[u8], word: &[u8]) -> bool
     ensures { result ≡ is_marked gap.now word.now }
 {
-    end_of(Kind::Mark, gap).ends_with(b"[<") || has_prefix(word) || gap.ends_with(b"\t")
+    end_of(ByteClass::Mark, gap).ends_with(b"[<") || has_prefix(word) || gap.ends_with(b"\t")
 }
 
 /// Whether a word is the second of `[ADDRESS] [ADDRESS]`, and the first begins the line.
@@ -227,7 +227,8 @@ fn ends_pair(last: Option<AddressWord>, gap: &[u8]) -> bool
         Some(last) => {
             last.begins_pair
                 && has_bracket(gap)
-                && without_end(Kind::Space, without_end(Kind::Mark, gap)) == b"]".as_slice()
+                && without_end(ByteClass::Space, without_end(ByteClass::Mark, gap))
+                    == b"]".as_slice()
         }
     }
 }
@@ -241,7 +242,13 @@ fn is_row(after: &[u8]) -> bool
 
 /// Whether a word is a frame.
 #[tactic(auto, unfolding(crate::specs::TakenWords::is_frame))]
-fn is_frame(place: Place, last: Option<AddressWord>, gap: &[u8], word: &[u8], after: &[u8]) -> bool
+fn is_frame(
+    place: WordPlace,
+    last: Option<AddressWord>,
+    gap: &[u8],
+    word: &[u8],
+    after: &[u8],
+) -> bool
     ensures { result ≡ is_frame place last gap.now word.now after.now }
 {
     !is_row(after) && ((place.begins_line && is_marked(gap, word)) || ends_pair(last, gap))
@@ -256,13 +263,13 @@ fn is_folded(gap: &[u8], after: &[u8]) -> bool
 
 /// Whether the bytes before a word and after it say that it is a caller's.
 #[tactic(auto, unfolding(crate::specs::TakenWords::says_caller))]
-fn says_caller(place: Place, gap: &[u8], after: &[u8]) -> bool
+fn says_caller(place: WordPlace, gap: &[u8], after: &[u8]) -> bool
     ensures { result ≡ says_caller place gap.now after.now }
 {
     has_label(gap)
         || is_folded(gap, after)
         || (place.is_numbered
-            && end_of(Kind::Word, without_end(Kind::LabelGap, gap)) == b"at".as_slice())
+            && end_of(ByteClass::Word, without_end(ByteClass::LabelGap, gap)) == b"at".as_slice())
 }
 
 /// Whether a word is taken as a caller's.
@@ -330,22 +337,22 @@ fn is_exact(first: First) -> bool
 #[tactic(auto, unfolding(crate::specs::TakenWords::is_outside))]
 fn is_outside(
     narrow: bool,
-    held: LogContext,
+    context: LogContext,
     line: &[u8],
     last: Option<AddressWord>,
     gap: &[u8],
 ) -> bool
-    ensures { result ≡ is_outside narrow held line.now last gap.now }
+    ensures { result ≡ is_outside narrow context line.now last gap.now }
 {
-    was_outside(held, line, last) || begins_user(gap) || (narrow && has_code(gap))
+    was_outside(context, line, last) || begins_user(gap) || (narrow && has_code(gap))
 }
 
 /// Whether that holds of the address word before already, or else of the line.
-fn was_outside(held: LogContext, line: &[u8], last: Option<AddressWord>) -> bool
-    ensures { result ≡ option_map_or (λ t. t.is_outside) last (is_user_line held line.now) }
+fn was_outside(context: LogContext, line: &[u8], last: Option<AddressWord>) -> bool
+    ensures { result ≡ option_map_or (λ t. t.is_outside) last (is_user_line context line.now) }
 {
     match last {
-        None => is_user_line(held, line),
+        None => is_user_line(context, line),
         Some(last) => last.is_outside,
     }
 }
@@ -364,7 +371,7 @@ fn begins_dump(after: &[u8]) -> bool
     ensures { result ≡ begins_dump after.now }
 {
     after.starts_with(b": ")
-        && first_of(Kind::Hexadecimal, &after[2..]) == 2
+        && first_of(ByteClass::Hexadecimal, &after[2..]) == 2
         && after[4..].starts_with(b" ")
 }
 
@@ -372,7 +379,7 @@ fn begins_dump(after: &[u8]) -> bool
 fn has_bus_label(gap: &[u8]) -> bool
     ensures { result ≡ has_bus_label gap.now }
 {
-    let word = end_of(Kind::Word, without_end(Kind::ColonGap, gap));
+    let word = end_of(ByteClass::Word, without_end(ByteClass::ColonGap, gap));
     word == MMIO
         || word == MEMORY
         || word == PORT
@@ -383,10 +390,10 @@ fn has_bus_label(gap: &[u8]) -> bool
 }
 
 /// Whether a program's registers were begun before the line, and it does not end them.
-fn is_user_line(held: LogContext, line: &[u8]) -> bool
-    ensures { result ≡ is_user_line held line.now }
+fn is_user_line(context: LogContext, line: &[u8]) -> bool
+    ensures { result ≡ is_user_line context line.now }
 {
-    held.is_user && !ends_user(line)
+    context.is_user && !ends_user(line)
 }
 
 /// Whether the line ends the registers of a program.
@@ -450,7 +457,10 @@ fn has_words_apart(words: &[u8], bytes: &[u8]) -> bool
     let mut within = false;
     let mut rest = bytes;
     while let [byte, more @ ..] = rest {
-        if !within && rest.starts_with(words) && first_of(Kind::Word, &rest[words.len()..]) == 0 {
+        if !within
+            && rest.starts_with(words)
+            && first_of(ByteClass::Word, &rest[words.len()..]) == 0
+        {
             return true;
         }
         within = is_word_byte(*byte);
@@ -463,7 +473,7 @@ fn has_words_apart(words: &[u8], bytes: &[u8]) -> bool
 fn ends_trace(line: &[u8]) -> bool
     ensures { result ≡ ends_trace line.now }
 {
-    let text = without_end(Kind::Closing, line);
+    let text = without_end(ByteClass::Closing, line);
     text.is_empty()
         || text.ends_with(b":")
         || text.ends_with(b"[")
@@ -495,20 +505,20 @@ fn next_first(first: First, has_frame: bool, tells: bool, line: &[u8]) -> First
 
 /// Carries on after a line with a frame or without one. Mostly the line has no `P`.
 #[tactic(auto, using(crate::proofs::TextLemmas::no_place, crate::proofs::TextLemmas::no_begin_of_user))]
-pub(crate) fn carry_on(held: &mut LogContext, line: &[u8], has_frame: bool)
-    ensures first { held.new.first
-        ≡ next_first held.old.first has_frame (tells_place line.now) (ends_trace line.now) }
-    ensures user { held.new.is_user ≡ (is_user_line held.old line.now || begins_user line.now) }
-    ensures names { held.new.names ≡ held.old.names }
+pub(crate) fn carry_context(context: &mut LogContext, line: &[u8], has_frame: bool)
+    ensures first { context.new.first
+        ≡ next_first context.old.first has_frame (tells_place line.now) (ends_trace line.now) }
+    ensures user { context.new.is_user ≡ (is_user_line context.old line.now || begins_user line.now) }
+    ensures names { context.new.names ≡ context.old.names }
 {
     match memchr(b'P', line) {
         Some(_) => {
-            held.is_user = is_user_line(*held, line) || begins_user(line);
-            held.first = next_first(held.first, has_frame, tells_place(line), line);
+            context.is_user = is_user_line(*context, line) || begins_user(line);
+            context.first = next_first(context.first, has_frame, tells_place(line), line);
         }
         None => {
-            held.is_user = is_user_line(*held, line);
-            held.first = next_first(held.first, has_frame, false, line);
+            context.is_user = is_user_line(*context, line);
+            context.first = next_first(context.first, has_frame, false, line);
         }
     }
 }

@@ -15,9 +15,9 @@ ghost use Rattle.std.specs.Prelude.{IfErr, IfNone, IfOk, IfSome, IsTrue, OnErr, 
 ghost use Rattle.std.specs.Cow.{cow_slice_items};
 ghost use Rattle.texts.specs.Output.{Delivered, WrotePart, error_in};
 ghost use Rattle.logs.specs.Answering.{Answering};
-ghost use Rattle.logs.specs.AnnotatedLogs.{first_held};
-ghost use Rattle.logs.specs.Annotation.{Adds, Ends, IsAnnotation, IsOpen, IsWriteFault, Passes};
-ghost use Rattle.logs.specs.Annotation.{Puts, held_in};
+ghost use Rattle.logs.specs.AnnotatedLogs.{first_context};
+ghost use Rattle.logs.specs.Annotation.{Adds, EndsLog, IsAnnotation, IsOpen, IsWriteFault, Passes};
+ghost use Rattle.logs.specs.Annotation.{Puts, context_in};
 ghost use Rattle.logs.specs.KernelReports.{SaysAtMost, SaysNothing};
 ghost use Rattle.logs.specs.Lines.{IsLine, has_end, unless_long};
 ghost use Rattle.logs.specs.Unnamed.{EndsUnnamed, PassesUnnamed, ends_address, has_address};
@@ -40,7 +40,7 @@ use texts::Output;
 /// yet.
 #[derive(Drop)]
 pub struct Annotator {
-    held: LogContext,
+    context: LogContext,
     begun: Vec<u8>,
     /// Whether that line is too long: then it was written as it came.
     is_long: bool,
@@ -49,11 +49,11 @@ pub struct Annotator {
 impl Annotator {
     /// At the beginning of a log.
     pub fn new(alloc: Global) -> Annotator
-        ensures held { held_in result ≡ first_held }
+        ensures context { context_in result ≡ first_context }
         ensures open { IsOpen result [] }
     {
         Annotator {
-            held: LogContext::new(),
+            context: LogContext::new(),
             begun: Vec::new(alloc),
             is_long: false,
         }
@@ -83,9 +83,9 @@ impl Annotator {
 
     /// The names of the log so far.
     pub fn names(&self) -> LogNames
-        ensures { result ≡ (held_in self.now).names }
+        ensures { result ≡ (context_in self.now).names }
     {
-        self.held.names
+        self.context.names
     }
 
     /// Writes the last line, which has no end, and returns the names of the log. The writer is
@@ -96,14 +96,14 @@ impl Annotator {
         answers: &A,
         writer: &mut Output<W>,
     ) -> Result<LogNames, LogFault>
-        ensures { Puts W.contents (Ends (A.answering answers.now) self.now)
+        ensures { Puts W.contents (EndsLog (A.answering answers.now) self.now)
             writer.old writer.new result }
     {
-        let mut held = self.held;
+        let mut context = self.context;
         let mut out = Vec::new(alloc);
-        put_line(answers, &mut held, &self.begun, Said::All, &mut out)?;
+        put_line(answers, &mut context, &self.begun, Said::All, &mut out)?;
         put_now(writer, &out)?;
-        Ok(held.names)
+        Ok(context.names)
     }
 
     /// Takes a block in, and writes each line that has its end now, which nothing names. The writer
@@ -119,9 +119,9 @@ impl Annotator {
         ensures { Puts W.contents (λ _. PassesUnnamed is_narrow self.old self.new bytes.now)
             writer.old writer.new result }
     {
-        let names = self.held.names;
+        let names = self.context.names;
         let put = self.pass(alloc, &Unanswered { is_narrow }, bytes, false, writer);
-        self.held.names = names;
+        self.context.names = names;
         put
     }
 
@@ -137,7 +137,7 @@ impl Annotator {
             writer.old writer.new result }
     {
         self.end(alloc, &Unanswered { is_narrow }, writer)?;
-        Ok(self.held.names)
+        Ok(self.context.names)
     }
 
     /// Whether one of the lines that have their end in a block has an address word.
@@ -223,9 +223,9 @@ impl Annotator {
         let mut annotator = Annotator::new(alloc);
         let mut out = Vec::with_capacity(alloc, log.len())?;
         annotator.pass_bytes(answers, log, is_silent, &mut out)?;
-        let mut held = annotator.held;
-        put_line(answers, &mut held, &annotator.begun, Said::All, &mut out)?;
-        Ok((out, held.names))
+        let mut context = annotator.context;
+        put_line(answers, &mut context, &annotator.begun, Said::All, &mut out)?;
+        Ok((out, context.names))
     }
 
     /// Takes bytes in, and puts each line that has its end now. If the bytes are silent on their
@@ -276,11 +276,11 @@ impl Annotator {
             return Ok(());
         }
         if self.begun.is_empty() {
-            put_line(answers, &mut self.held, line, said, out)?;
+            put_line(answers, &mut self.context, line, said, out)?;
             return Ok(());
         }
         self.begun.extend_from_slice(line)?;
-        put_line(answers, &mut self.held, &self.begun, Said::All, out)?;
+        put_line(answers, &mut self.context, &self.begun, Said::All, out)?;
         self.begun.clear();
         Ok(())
     }

@@ -23,11 +23,11 @@ pub struct LogContext {
 
 impl LogContext {
     ghost use Rattle.std.specs.Prelude.{◌≡◌};
-    ghost use Rattle.logs.specs.AnnotatedLogs.{first_held};
+    ghost use Rattle.logs.specs.AnnotatedLogs.{first_context};
 
     /// At the beginning of a log.
     pub(crate) fn new() -> LogContext
-        ensures { result ≡ first_held }
+        ensures { result ≡ first_context }
     {
         LogContext {
             first: First::Exact,

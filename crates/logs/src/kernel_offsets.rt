@@ -13,7 +13,7 @@ ghost use Rattle.std.specs.Prelude.{◌≡◌};
 ghost use Rattle.logs.specs.KernelOffsets.{kernel_offset_at, kernel_offset_in, kernel_place};
 ghost use Rattle.logs.specs.KernelOffsets.{from_at, number_at};
 
-use crate::places::{Kind, first_of};
+use crate::places::{ByteClass, first_of};
 use memchr::memmem;
 use texts::hexadecimal;
 
@@ -75,7 +75,7 @@ fn kernel_offset_at(text: &[u8]) -> Option<KernelOffset>
     }
     let digits = &text[OFFSET.len()..];
     let offset = number_at(digits)?;
-    from_at(offset, &digits[first_of(Kind::Hexadecimal, digits)..])
+    from_at(offset, &digits[first_of(ByteClass::Hexadecimal, digits)..])
 }
 
 /// This of the bytes after the offset.
@@ -93,5 +93,5 @@ fn from_at(offset: u64, text: &[u8]) -> Option<KernelOffset>
 fn number_at(text: &[u8]) -> Option<u64>
     ensures { result ≡ number_at text.now }
 {
-    hexadecimal(&text[..first_of(Kind::Hexadecimal, text)])
+    hexadecimal(&text[..first_of(ByteClass::Hexadecimal, text)])
 }

@@ -20,7 +20,7 @@ ghost use Rattle.logs.specs.KernelReports.{with_size};
 
 use crate::answers::Answers;
 use crate::kernel_offsets::{KernelOffset, OFFSET, kernel_offset_in};
-use crate::places::{Kind, end_of, first_of};
+use crate::places::{ByteClass, end_of, first_of};
 use crate::words::digits_between;
 use memchr::{memchr, memchr_iter, memmem};
 use std::alloc::AllocError;
@@ -230,7 +230,7 @@ fn function_at(line: &[u8], place: usize) -> Option<FunctionSize<'_>>
     if place > line.len() {
         return None;
     }
-    let name = end_of(Kind::Function, &line[..place]);
+    let name = end_of(ByteClass::Function, &line[..place]);
     if name.is_empty() {
         return None;
     }
@@ -253,7 +253,7 @@ fn size_behind(text: &[u8]) -> Option<u64>
 fn size_behind_digits(text: &[u8]) -> Option<u64>
     ensures { result ≡ size_behind_digits text.now }
 {
-    let count = first_of(Kind::Hexadecimal, text);
+    let count = first_of(ByteClass::Hexadecimal, text);
     if count > 0 && text[count..].starts_with(b"/0x") {
         size_in(&text[count + 3..])
     } else {
@@ -265,7 +265,7 @@ fn size_behind_digits(text: &[u8]) -> Option<u64>
 fn size_in(text: &[u8]) -> Option<u64>
     ensures { result ≡ size_in text.now }
 {
-    let count = first_of(Kind::Hexadecimal, text);
+    let count = first_of(ByteClass::Hexadecimal, text);
     if begins_module(&text[count..]) {
         None
     } else {
@@ -277,5 +277,5 @@ fn size_in(text: &[u8]) -> Option<u64>
 fn begins_module(text: &[u8]) -> bool
     ensures { result ≡ begins_module text.now }
 {
-    text.starts_with(b" [") && first_of(Kind::Word, &text[2..]) > 0
+    text.starts_with(b" [") && first_of(ByteClass::Word, &text[2..]) > 0
 }

@@ -16,7 +16,7 @@ mod said_names;
 mod unnamed;
 mod words;
 
-pub use address_words::{AddressWord, Place};
+pub use address_words::{AddressWord, WordPlace};
 pub use annotation::{Findings, LogFault, annotate, annotate_text, keep_head};
 pub use annotator::{Annotator, cut_line, put_now};
 pub use answers::Answers;

@@ -31,7 +31,7 @@ const LONGER_TIME: &[u8] = b"00:00:00:";
 
 /// A kind of bytes. Runs of each kind are sought.
 #[derive(Clone, Copy, Debug, Drop)]
-pub(crate) enum Kind {
+pub(crate) enum ByteClass {
     Word,
     Digit,
     /// `(`, `<` and `[`.
@@ -65,17 +65,17 @@ pub(crate) enum Kind {
     Function,
 }
 
-impl Kind {
+impl ByteClass {
     /// Whether a byte is of the kind.
     #[inline]
     pub(crate) fn has(self, byte: u8) -> bool
         ensures { result ≡ is_of self byte }
     {
         match self {
-            Kind::Word => is_word_byte(byte),
-            Kind::Digit => byte.is_ascii_digit(),
-            Kind::Mark => byte == b'(' || byte == b'<' || byte == b'[',
-            Kind::LabelGap => {
+            ByteClass::Word => is_word_byte(byte),
+            ByteClass::Digit => byte.is_ascii_digit(),
+            ByteClass::Mark => byte == b'(' || byte == b'<' || byte == b'[',
+            ByteClass::LabelGap => {
                 byte == b' '
                     || byte == b':'
                     || byte == b'='
@@ -83,27 +83,27 @@ impl Kind {
                     || byte == b'<'
                     || byte == b'['
             }
-            Kind::Blank => byte == b' ' || byte == b'\t',
-            Kind::NoBlank => !(byte == b' ' || byte == b'\t'),
-            Kind::Space => byte == b' ',
-            Kind::NoBracket => !(byte == b'[' || byte == b']'),
-            Kind::Closing => byte == b' ' || byte == b'\t' || byte == b'\r' || byte == b'\n',
-            Kind::ColonGap => byte == b' ' || byte == b':',
-            Kind::Record => !(byte == b' ' || byte == b'\t' || byte == b';'),
-            Kind::NoComma => byte != b',',
-            Kind::Tag => is_word_byte(byte) || byte == b'/' || byte == b'#',
-            Kind::Colour => byte.is_ascii_digit() || byte == b';',
-            Kind::Said => byte > b' ' && !(byte == b'(' || byte == b')'),
-            Kind::Group => { !(byte == b'[' || byte == b']' || byte == b'<' || byte == b'>') }
-            Kind::Name => byte > b' ' && !(byte == b'(' || byte == b')' || byte == b'+'),
-            Kind::Hexadecimal => digit_of(byte) < 16,
-            Kind::Function => is_word_byte(byte) || byte == b'.' || byte == b'$',
+            ByteClass::Blank => byte == b' ' || byte == b'\t',
+            ByteClass::NoBlank => !(byte == b' ' || byte == b'\t'),
+            ByteClass::Space => byte == b' ',
+            ByteClass::NoBracket => !(byte == b'[' || byte == b']'),
+            ByteClass::Closing => byte == b' ' || byte == b'\t' || byte == b'\r' || byte == b'\n',
+            ByteClass::ColonGap => byte == b' ' || byte == b':',
+            ByteClass::Record => !(byte == b' ' || byte == b'\t' || byte == b';'),
+            ByteClass::NoComma => byte != b',',
+            ByteClass::Tag => is_word_byte(byte) || byte == b'/' || byte == b'#',
+            ByteClass::Colour => byte.is_ascii_digit() || byte == b';',
+            ByteClass::Said => byte > b' ' && !(byte == b'(' || byte == b')'),
+            ByteClass::Group => { !(byte == b'[' || byte == b']' || byte == b'<' || byte == b'>') }
+            ByteClass::Name => byte > b' ' && !(byte == b'(' || byte == b')' || byte == b'+'),
+            ByteClass::Hexadecimal => digit_of(byte) < 16,
+            ByteClass::Function => is_word_byte(byte) || byte == b'.' || byte == b'$',
         }
     }
 }
 
 /// How many bytes of a kind the bytes begin with.
-pub(crate) fn first_of(kind: Kind, bytes: &[u8]) -> usize
+pub(crate) fn first_of(kind: ByteClass, bytes: &[u8]) -> usize
     ensures within { result ≤ length bytes.now }
     ensures is { result ≡ first_of kind bytes.now }
 {
@@ -118,7 +118,7 @@ pub(crate) fn first_of(kind: Kind, bytes: &[u8]) -> usize
 }
 
 /// How many bytes of a kind the bytes end in.
-fn last_of(kind: Kind, bytes: &[u8]) -> usize
+fn last_of(kind: ByteClass, bytes: &[u8]) -> usize
     ensures within { result ≤ length bytes.now }
     ensures is { result ≡ last_of kind bytes.now }
 {
@@ -133,21 +133,21 @@ fn last_of(kind: Kind, bytes: &[u8]) -> usize
 }
 
 /// The bytes without the bytes of a kind at their end.
-pub(crate) fn without_end(kind: Kind, bytes: &[u8]) -> &[u8]
+pub(crate) fn without_end(kind: ByteClass, bytes: &[u8]) -> &[u8]
     ensures { result.now ≡ without_end kind bytes.now }
 {
     &bytes[..bytes.len() - last_of(kind, bytes)]
 }
 
 /// The bytes of a kind that the bytes end in.
-pub(crate) fn end_of(kind: Kind, bytes: &[u8]) -> &[u8]
+pub(crate) fn end_of(kind: ByteClass, bytes: &[u8]) -> &[u8]
     ensures { result.now ≡ end_of kind bytes.now }
 {
     &bytes[bytes.len() - last_of(kind, bytes)..]
 }
 
 /// The bytes up to the ones of a kind that they end in, and these.
-fn cut_end(kind: Kind, bytes: &[u8]) -> (&[u8], &[u8])
+fn cut_end(kind: ByteClass, bytes: &[u8]) -> (&[u8], &[u8])
     ensures front { result.0.now ≡ without_end kind bytes.now }
     ensures end { result.1.now ≡ end_of kind bytes.now }
 {
@@ -169,7 +169,7 @@ fn without_last(bytes: &[u8]) -> &[u8]
 fn ends_in_label(bytes: &[u8]) -> bool
     ensures { result ≡ ends_in_label bytes.now }
 {
-    let word = end_of(Kind::Word, bytes);
+    let word = end_of(ByteClass::Word, bytes);
     if word.is_empty() {
         return false;
     }
@@ -190,10 +190,10 @@ fn ends_so(bytes: &[u8], text: &[u8]) -> bool
 pub(crate) fn has_label(before: &[u8]) -> bool
     ensures { result ≡ has_label before.now }
 {
-    let head = without_end(Kind::LabelGap, before);
-    let word = end_of(Kind::Word, head);
+    let head = without_end(ByteClass::LabelGap, before);
+    let word = end_of(ByteClass::Word, head);
     ends_so(before, b"<-")
-        || ends_so(without_end(Kind::Space, before), HIDDEN)
+        || ends_so(without_end(ByteClass::Space, before), HIDDEN)
         || ends_in_label(head)
         || (ends_so(head, IS_AT) && ends_in_label(&head[..head.len() - IS_AT.len()]))
         || (before[head.len()..].starts_with(b":")
@@ -278,7 +278,7 @@ fn ends_in_stamp(bytes: &[u8]) -> bool
     if !bytes.ends_with(b"]") {
         return false;
     }
-    let (front, group) = cut_end(Kind::NoBracket, without_last(bytes));
+    let (front, group) = cut_end(ByteClass::NoBracket, without_last(bytes));
     front.ends_with(b"[") && has_point(group)
 }
 
@@ -288,7 +288,7 @@ fn begins_blank(bytes: &[u8]) -> bool
 {
     match bytes {
         [] => true,
-        [byte, ..] => Kind::Blank.has(*byte),
+        [byte, ..] => ByteClass::Blank.has(*byte),
     }
 }
 
@@ -313,8 +313,8 @@ fn has_later_comma(bytes: &[u8]) -> bool
 fn is_record(bytes: &[u8]) -> bool
     ensures { result ≡ is_record bytes.now }
 {
-    last_of(Kind::Record, bytes) == bytes.len()
-        && has_later_comma(&bytes[first_of(Kind::NoComma, bytes)..])
+    last_of(ByteClass::Record, bytes) == bytes.len()
+        && has_later_comma(&bytes[first_of(ByteClass::NoComma, bytes)..])
 }
 
 /// Whether bytes, if they are from the line's start on, are the head of a record.
@@ -329,9 +329,9 @@ fn ends_prefix(at_start: bool, front: &[u8], after: &[u8]) -> bool
     ensures { result ≡ ends_prefix at_start front.now after.now }
 {
     ends_record(at_start, front)
-        || (front.ends_with(b":") && end_of(Kind::Word, without_last(front)) == KERNEL)
+        || (front.ends_with(b":") && end_of(ByteClass::Word, without_last(front)) == KERNEL)
         || ends_in_stamp(front)
-        || (begins_blank(after) && has_time(end_of(Kind::NoBlank, front)))
+        || (begins_blank(after) && has_time(end_of(ByteClass::NoBlank, front)))
 }
 
 /// The place of the prefix's end, or 0 without a prefix.
@@ -358,7 +358,7 @@ fn has_digit(bytes: &[u8]) -> bool
 }
 
 /// How long a run of a kind is with a byte before it and the one that closes it, or 0 without them.
-fn closed(kind: Kind, close: &[u8], bytes: &[u8]) -> usize
+fn closed(kind: ByteClass, close: &[u8], bytes: &[u8]) -> usize
     ensures { result ≡ closed kind close.now bytes.now }
 {
     let n = first_of(kind, bytes);
@@ -375,7 +375,7 @@ fn colour(bytes: &[u8]) -> usize
 {
     match bytes {
         [b'[', more @ ..] => {
-            let n = first_of(Kind::Colour, more);
+            let n = first_of(ByteClass::Colour, more);
             if more[n..].starts_with(b"m") {
                 n + 3
             } else {
@@ -395,10 +395,10 @@ fn lead_item(bytes: &[u8]) -> usize
         [b' ' | b'\t' | b'\r' | b'?' | b'>', ..] => 1,
         [b'\x1b', more @ ..] => colour(more),
         [b'=', more @ ..] if more.starts_with(b">") => 2,
-        [b'#', more @ ..] if begins_like(b"0", more) => first_of(Kind::Digit, more) + 1,
-        [b'<', more @ ..] => closed(Kind::Tag, b">", more),
-        [b'[', more @ ..] if has_digit(&more[..first_of(Kind::Group, more)]) => {
-            closed(Kind::Group, b"]", more)
+        [b'#', more @ ..] if begins_like(b"0", more) => first_of(ByteClass::Digit, more) + 1,
+        [b'<', more @ ..] => closed(ByteClass::Tag, b">", more),
+        [b'[', more @ ..] if has_digit(&more[..first_of(ByteClass::Group, more)]) => {
+            closed(ByteClass::Group, b"]", more)
         }
         _ => 0,
     }
@@ -427,5 +427,5 @@ pub(crate) fn is_lead(bytes: &[u8]) -> bool
 pub(crate) fn begins_numbered(bytes: &[u8]) -> bool
     ensures { result ≡ begins_numbered bytes.now }
 {
-    begins_like(b"#0", &bytes[first_of(Kind::Blank, bytes)..])
+    begins_like(b"#0", &bytes[first_of(ByteClass::Blank, bytes)..])
 }

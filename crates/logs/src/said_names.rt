@@ -10,7 +10,7 @@ ghost use Rattle.std.specs.Prelude.{◌≡◌};
 ghost use Rattle.logs.specs.SaidNames.{are_digits, distance_at, distance_from, distance_in};
 ghost use Rattle.logs.specs.SaidNames.{ends_text, has_size_at, name_at, name_said, without_doubt};
 
-use crate::places::{Kind, first_of};
+use crate::places::{ByteClass, first_of};
 use crate::words::digits_between;
 use std::marker::Model;
 
@@ -66,7 +66,7 @@ fn without_doubt(text: &[u8]) -> &[u8]
 fn name_at(text: &[u8]) -> Option<SaidName<'_>>
     ensures { result ≡ name_at text.now }
 {
-    let count = first_of(Kind::Name, text);
+    let count = first_of(ByteClass::Name, text);
     if count == 0 {
         return None;
     }
@@ -96,7 +96,7 @@ fn distance_at(text: &[u8]) -> Option<SaidDistance>
 fn distance_in(digits: &[u8]) -> Option<SaidDistance>
     ensures { result ≡ distance_in digits.now }
 {
-    let count = first_of(Kind::Hexadecimal, digits);
+    let count = first_of(ByteClass::Hexadecimal, digits);
     let offset = digits_between(1, 16, &digits[..count])?;
     distance_from(offset, &digits[count..])
 }
@@ -130,7 +130,7 @@ fn has_size_at(text: &[u8]) -> Option<bool>
 fn are_digits(text: &[u8]) -> bool
     ensures { result ≡ are_digits text.now }
 {
-    let count = first_of(Kind::Hexadecimal, text);
+    let count = first_of(ByteClass::Hexadecimal, text);
     count > 0 && ends_text(&text[count..])
 }
 
@@ -140,6 +140,6 @@ fn ends_text(bytes: &[u8]) -> bool
 {
     match bytes {
         [] => true,
-        [byte, ..] => !Kind::Said.has(*byte),
+        [byte, ..] => !ByteClass::Said.has(*byte),
     }
 }

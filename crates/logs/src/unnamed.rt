@@ -1,6 +1,6 @@
 //! Lines that nothing names, and which lines ask for names.
 ghost use Rattle.std.specs.Prelude.{◌≡◌, length, nat_lt};
-ghost use Rattle.logs.specs.AnnotatedLogs.{first_held};
+ghost use Rattle.logs.specs.AnnotatedLogs.{first_context};
 ghost use Rattle.logs.specs.TakenWords.{taken_in};
 ghost use Rattle.logs.specs.Unnamed.{ends_address, has_address};
 
@@ -73,7 +73,7 @@ pub fn has_address(is_narrow: bool, line: &[u8]) -> bool
 
 /// Whether one of the words of a line is an address.
 fn has_address_word(is_narrow: bool, line: &[u8]) -> bool
-    ensures { result ≡ nat_lt 0 (length (taken_in is_narrow first_held line.now)) }
+    ensures { result ≡ nat_lt 0 (length (taken_in is_narrow first_context line.now)) }
 {
     let mut at = 0;
     loop {

@@ -20,7 +20,7 @@ ghost use Rattle.logs.specs.AnnotatedLogs.{SameAddresses, fewest, is_address_byt
 ghost use Rattle.logs.specs.Words.{address_of_word, digits_between, has_prefix};
 ghost use Rattle.logs.specs.Words.{is_closer, is_word_byte, run_of, words_behind};
 
-use crate::places::{Kind, first_of};
+use crate::places::{ByteClass, first_of};
 use texts::{digit_of, hexadecimal};
 
 /// The beginning and the end of a word in its line.
@@ -131,7 +131,7 @@ fn behind_word(line: &[u8], start: usize) -> usize
     ensures words { words_behind line.now start
         ≡ record { start = start; end = result } ∷ words_behind line.now result }
 {
-    start + first_of(Kind::Word, &line[start..])
+    start + first_of(ByteClass::Word, &line[start..])
 }
 
 /// The end of the closers at a place.

@@ -2,7 +2,7 @@
 use Rattle.rb_cursor.proofs.Words.{◌≡◌, ℕ, suc, ◌+◌, ◌-◌, ◌^◌, ◌<◌, ◌≤◌, Bool, true, false, List, [], ◌∷◌, length, if◌then◌else◌, Some, None, inl, inr, refl, sym, ap, subst, ◌∙◌, arith, ◌==◌, cases_eq, Slab, get, slab_len, with_value, Updates, Updates-with_value, Record, ColouredTree, tip, branch, Left, Node, Inside, Zipper, weight, HasOneSubtree, only_subtree, Keyed, nil, keyed, link_of, link_to, plain, plain_path, size, at_key, uses, path_uses, list_uses, node_with, node_of, IsLinked, IsChain, with_last_link, IsPlace}
 use Rattle.facts.proofs.Numbers.{if_suc}
 use Rattle.rb_cursor.proofs.KeyedLemmas.{at_same, at_apart, at_most, linked_kept, path_kept, chain_kept, linked_beside, path_beside, chain_beside, linked_vacant, path_vacant, chain_vacant, same_len}
-use Rattle.rb_cursor.proofs.HeldLemmas.{IsInside, show, Held, Moved, held, held_on, none_there, shut}
+use Rattle.rb_cursor.proofs.FieldLemmas.{IsInside, show, FieldsHold, Moved, held, held_on, none_there, shut}
 use Rattle.rb_cursor.proofs.TurnLemmas.{IsLoose, tightened}
 
 -- a tree without nodes
@@ -41,8 +41,8 @@ plants i u now key row n f shown leaf some found is =
     let b = blanks_are key f.blanks (sym f.blank_link ∙ some) in
     let path = f.path in
     let ks = b.0 in
-    let g : Held i now nil path (key ∷ ks) =
-    subst (λ (t : Keyed). Held i now t path (key ∷ ks)) none (subst (Held i now f.hand path) b.1 h) in
+    let g : FieldsHold i now nil path (key ∷ ks) =
+    subst (λ (t : Keyed). FieldsHold i now t path (key ∷ ks)) none (subst (FieldsHold i now f.hand path) b.1 h) in
     let p = g.place in
     let s = i.nodes in
     let new : Node = node_with true row 0 0 in

@@ -2,7 +2,7 @@
 use Rattle.rb_cursor.proofs.Words.{◌≡◌, ℕ, suc, ◌-◌, ◌<◌, ◌≤◌, Bool, List, [], ◌∷◌, length, if◌then◌else◌, Some, None, inl, inr, refl, sym, ap, subst, ◌∙◌, arith, cases_eq, le-ltb, lt-ltb, Slab, get, with_value, Updates-with_value, Record, ColouredTree, branch, Node, Step, Side, Left, Right, Inside, Above, Zipper, sided, joined, plugged, closed_zipper, closed_to, IsNearest, Keyed, keyed, Level, link_of, plain, plain_level, plain_path, node_with, node_of, sided_node, record_of, step_at, IsPlace}
 use Rattle.rb_cursor.proofs.KeyedLemmas.{at_same, linked_beside, path_beside, chain_beside, steps_length, plain_length, same_len}
 use Rattle.rb_cursor.proofs.SideLemmas.{read-sided, plain-joined}
-use Rattle.rb_cursor.proofs.HeldLemmas.{IsInside, show, Held, Moved, held, held_on, shut, back, gone_back, without_step}
+use Rattle.rb_cursor.proofs.FieldLemmas.{IsInside, show, FieldsHold, Moved, held, held_on, shut, back, gone_back, without_step}
 
 -- the node in hand is written anew, with the same subtrees
 pub record Rewritten (i : Inside) (now : Zipper) (key : ℕ) (red : Bool) (row : Record) (n : Node) :
@@ -66,18 +66,18 @@ rewrites i now key red row n f is some found =
 pub record LastIs (i : Inside) (now : Zipper) (hand : Keyed) (blanks : List ℕ) : Type 0 where
   pub level : Level
   pub rest : List Level
-  pub held : Held i now hand (level ∷ rest) blanks
+  pub held : FieldsHold i now hand (level ∷ rest) blanks
 
 pub last_is : (i : Inside) (now : Zipper) (f : IsInside i) → show i ≡ now → 0 < i.depth →
     LastIs i now f.hand f.blanks
-last_is i now f is some = elim f.path as (λ path. Held i now f.hand path f.blanks → LastIs i now f.hand f.blanks) [
+last_is i now f is some = elim f.path as (λ path. FieldsHold i now f.hand path f.blanks → LastIs i now f.hand f.blanks) [
   | [] ↦ λ h. let e = h.path_steps in absurd (omega arith)
   | a ∷ path ↦ λ h. record { level = a; rest = path; held = h }
 ] (held i now f is)
 
 -- the last step, and the key of its node
 last_step : (i : Inside) (now : Zipper) (hand : Keyed) (a : Level) (path : List Level)
-    (blanks : List ℕ) → Held i now hand (a ∷ path) blanks →
+    (blanks : List ℕ) → FieldsHold i now hand (a ∷ path) blanks →
     step_at i.steps (i.depth - 1) ≡ record { link = suc a.key; side = a.side }
 last_step i now hand a path blanks h =
     let d : i.depth - 1 ≡ length path = omega (arith, h.path_steps.0) in
@@ -138,7 +138,7 @@ nearest_is i now f is some step key n at link found =
     }
 
 pub no_path : (i : Inside) (now : Zipper) → IsInside i → show i ≡ now → i.depth ≡ 0 → now.path ≡ []
-no_path i now f is none = elim f.path as (λ path. Held i now f.hand path f.blanks → now.path ≡ []) [
+no_path i now f is none = elim f.path as (λ path. FieldsHold i now f.hand path f.blanks → now.path ≡ []) [
   | [] ↦ λ h. ap (λ (z : Zipper). z.path) h.shows
   | a ∷ path ↦ λ h. let e = h.path_steps.0 in absurd (omega arith)
 ] (held i now f is)
@@ -204,7 +204,7 @@ closed_to_none t (a ∷ p) room = goes_up 0 t a p room (omega arith)
     ∙ closed_to_none (joined a a.red t) p room
 
 closes_to_by : (i : Inside) (now : Zipper) (hand : Keyed) (path : List Level) (blanks : List ℕ)
-    (d : ℕ) → Held i now hand path blanks → d < length path →
+    (d : ℕ) → FieldsHold i now hand path blanks → d < length path →
     Moved (record i { tree = (step_at i.steps d).link; depth = d })
     (closed_to d (plain hand) (plain_path path) i.room)
 closes_to_by i now hand [] blanks d h some = absurd (omega arith)

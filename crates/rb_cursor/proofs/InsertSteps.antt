@@ -1,7 +1,7 @@
 -- The way up of an insert, as the calls of a cursor show it.
 use Rattle.rb_cursor.proofs.Words.{◌≡◌, ℕ, suc, ◌+◌, ◌≤◌, Bool, true, false, List, [], ◌∷◌, ◌++◌, refl, sym, ◌∙◌, ap, subst, arith, length, length-append, append_assoc, Store, Order, IsLawful, Record, Left, Right, ColouredTree, tip, branch, is_red, blackened, shape, rows, HasNoClash, IsRedBlack, depth, sided, set_link, link, relink, relink_root, moved, Lead, items_of_records, Above, plugged, way_by, Replaced, Nothing, Sound, place_leaf, plugged_to, short_to, leaf_lies, red_sided, link_sided, rows_blackened, moved_one, not_moved, relink_moved, root_moved, replaced_lead, Grown, at_side, grown_leaf, grown_red, mended_calm, grown_black, grown_kept, kept_still, grown_good, kept_good, Nearest, Zipper, altered, IsNearest, risen, PutsIn}
 use Rattle.order_laws.specs.Tables.{IsTable}
-use Rattle.rb_trees.specs.Inserted.{mended, mend_links, clash}
+use Rattle.rb_trees.specs.Inserted.{mended, mend_links, red_violation}
 use Rattle.rb_trees.proofs.PlaceRows.{rows_grown}
 use Rattle.rb_trees.proofs.ColourLemmas.{calm_of_near}
 use Rattle.rb_trees.proofs.RelinkLemmas.{shape_blackened}
@@ -113,7 +113,7 @@ module _ {copy : ℕ} {x : Record} {start : List Above} {first : List Store} whe
 
       mends : Mending near.row (mended up.side (sided up.side false here.tree near.row near.other)) (mend_links up.side copy (sided up.side false here.tree near.row near.other))
       mends = subst (λ u. Mending near.row u (mend_links up.side copy bare)) (sym (mended_sided up.side here.tree near.row near.other))
-          (subst (Mending near.row _) (sym (mend_links_sided up.side copy here.tree near.row near.other)) (mending copy up.side near.row near.other (clash up.side here.tree) here.tree))
+          (subst (Mending near.row _) (sym (mend_links_sided up.side copy here.tree near.row near.other)) (mending copy up.side near.row near.other (red_violation up.side here.tree) here.tree))
 
       pub mend_fits : length is.links + moved before after + length (mend_links up.side copy z.tree) ≤ 8
       mend_fits = omega (arith, is.low reds, ap (λ y. length (mend_links up.side copy y.tree)) bare_is, mends.few)

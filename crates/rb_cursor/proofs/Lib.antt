@@ -2,7 +2,7 @@
 mod Words
 pub mod KeyedLemmas
 pub mod SideLemmas
-pub mod HeldLemmas
+pub mod FieldLemmas
 pub mod ChangeLemmas
 pub mod ReadLemmas
 pub mod TurnLemmas

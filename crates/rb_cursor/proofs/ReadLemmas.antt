@@ -3,7 +3,7 @@ use Rattle.rb_cursor.proofs.Words.{◌≡◌, ℕ, suc, ◌<◌, Some, sym, ap, 
 use Rattle.rb_cursor.specs.Links.{IsLink, read}
 use Rattle.rb_cursor.proofs.KeyedLemmas.{tree_is}
 use Rattle.rb_cursor.proofs.SideLemmas.{seen, nothing}
-use Rattle.rb_cursor.proofs.HeldLemmas.{IsInside, show, held}
+use Rattle.rb_cursor.proofs.FieldLemmas.{IsInside, show, held}
 
 pub read_is : (s : Slab Node) (link : ℕ) (f : IsLink s link) → read s link ≡ plain f.tree
 unfolding read

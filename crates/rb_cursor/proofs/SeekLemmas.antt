@@ -3,7 +3,7 @@ use Rattle.rb_cursor.proofs.Words.{◌≡◌, ℕ, suc, ◌+◌, ◌<◌, ◌≤
 use Rattle.std.specs.Ordering.{is_eq, is_lt}
 use Rattle.order_laws.specs.declared.items.Item.{Item}
 use Rattle.rb_cursor.proofs.ChangeLemmas.{rewrites}
-use Rattle.rb_cursor.proofs.HeldLemmas.{same_value, written_back, IsInside, show, with_step, depth_is, opened, none_there}
+use Rattle.rb_cursor.proofs.FieldLemmas.{same_value, written_back, IsInside, show, with_step, depth_is, opened, none_there}
 
 -- the way of what is sought: the place where it ends, and the path up from there
 abbrev pub seen_way : (Record → Ordering) → ColouredTree → List Above → ColouredTree × List Above

@@ -3,7 +3,7 @@
 use Rattle.rb_cursor.proofs.Words.{◌≡◌, ◌≢◌, ℕ, suc, ◌+◌, ◌^◌, ◌<◌, ◌≤◌, Bool, List, [], ◌∷◌, length, Some, refl, sym, ap, subst, ◌∙◌, arith, Slab, get, slab_len, with_value, Updates-with_value, Record, ColouredTree, tip, Node, Step, Side, Inside, Zipper, Keyed, nil, Level, link_of, size, path_size, at_key, uses, path_uses, list_uses, sided_node, plain, plain_path, IsLinked, IsPath, IsChain, opposite, turned, child_at, with_link, with_node_link, with_step_link, step_at, LastLeadsOn, with_last_link, IsPlace, AreSteps}
 use Rattle.rb_cursor.proofs.KeyedLemmas.{at_same, linked_kept, chain_kept, linked_beside, path_beside, chain_beside, same_len}
 use Rattle.rb_cursor.proofs.SideLemmas.{joined_keyed, seen, nothing, parted, linked-joined, link-joined, uses-joined, size-joined, child-sided, relinked, coloured-sided, plain-turned, plain-lone, tip-turned}
-use Rattle.rb_cursor.proofs.HeldLemmas.{IsInside, show, Held, Moved, shut, held_on}
+use Rattle.rb_cursor.proofs.FieldLemmas.{IsInside, show, FieldsHold, Moved, shut, held_on}
 
 -- all but the link that leads to the tree in hand, which leads elsewhere
 pub record IsLoose (s : Slab Node) (hand : Keyed) (link : ℕ) (path : List Level) (blanks : List ℕ) :
@@ -120,7 +120,7 @@ turn_at : (i : Inside) (side : Side) (u : Slab Node) (now : Zipper) (hue red : B
     (a b other : Keyed) (x y : Record) (path : List Level) (blanks : List ℕ) (nk ck link : ℕ)
     (child_red node_red : Bool) (n lower low upper high : Node) →
     TurnsTo i side u nk ck link child_red node_red n lower low upper high →
-    Held i now (joined_keyed (opposite side) red (joined_keyed side hue b ck x a) nk y other)
+    FieldsHold i now (joined_keyed (opposite side) red (joined_keyed side hue b ck x a) nk y other)
     path blanks → Moved (with_turn i u link) (turned_to now side child_red node_red)
 turn_at i side u now hue red a b other x y path blanks nk ck link child_red node_red n lower low
     upper high t h =
@@ -228,7 +228,7 @@ turn_at i side u now hue red a b other x y path blanks nk ck link child_red node
 -- the link that was read leads to the child
 near_link : (i : Inside) (now : Zipper) (side : Side) (key link : ℕ) (red : Bool) (near : Keyed)
     (x : Record) (far : Keyed) (path : List Level) (blanks : List ℕ) (n : Node) →
-    Held i now (joined_keyed side red near key x far) path blanks → get i.nodes key ≡ Some n →
+    FieldsHold i now (joined_keyed side red near key x far) path blanks → get i.nodes key ≡ Some n →
     link ≡ child_at side n → link_of near ≡ link
 near_link i now side key link red near x far path blanks n h found is =
     let here = (parted i.nodes side red near key x far h.place.hand_linked).here in
@@ -247,7 +247,7 @@ turns i side u now nk ck link child_red node_red n lower low upper high f shows 
     let w = seen side ck v.near (down ∙ t.some) in
     turn_at i side u now w.red v.red w.far w.near v.far w.row v.row f.path f.blanks nk ck link
     child_red node_red n lower low upper high t
-    (subst (λ (q : Keyed). Held i now (joined_keyed beyond v.red q nk v.row v.far) f.path f.blanks)
+    (subst (λ (q : Keyed). FieldsHold i now (joined_keyed beyond v.red q nk v.row v.far) f.path f.blanks)
     w.is v.held)
 
 -- where there is no child to be turned up, nothing is done

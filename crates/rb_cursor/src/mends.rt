@@ -12,7 +12,7 @@ use crate::cursors::Cursor;
 use crate::nodes::opposite;
 use crate::relinks::relink;
 use crate::turns::turn;
-use rb_trees::{Clash, Side};
+use rb_trees::{RedViolation, Side};
 use word_layout::{Store, TreeCopy};
 
 // Makes the node in hand red and its children black.
@@ -50,15 +50,15 @@ fn mend_on(out: &mut Vec<Store>, copy: TreeCopy, cursor: &mut Cursor, side: Side
     }
     let other = opposite(side);
     let other_red = fork.child(other).is_red();
-    match fork.child(side).clash(side) {
-        Clash::Nowhere => {}
-        Clash::Outer => {
+    match fork.child(side).red_violation(side) {
+        RedViolation::Nowhere => {}
+        RedViolation::Outer => {
             if other_red {
                 return recolour(cursor);
             }
             turn(out, copy, cursor, other, false, true);
         }
-        Clash::Inner => {
+        RedViolation::Inner => {
             if other_red {
                 return recolour(cursor);
             }

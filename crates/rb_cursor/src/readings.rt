@@ -3,11 +3,11 @@
 ghost use Rattle.std.specs.Prelude.{◌≡◌, not};
 ghost use Rattle.rb_trees.specs.Trees.{is_red, shape};
 ghost use Rattle.rb_trees.specs.Turns.{link};
-ghost use Rattle.rb_trees.specs.Inserted.{clash};
+ghost use Rattle.rb_trees.specs.Inserted.{red_violation};
 ghost use Rattle.rb_trees.specs.Sides.{on};
 
 use crate::nodes::{Node, opposite};
-use rb_trees::{Clash, Side};
+use rb_trees::{RedViolation, Side};
 use slab::Slab;
 use std::marker::Model;
 
@@ -128,22 +128,22 @@ impl<'a> Reading<'a> {
 
     /// Whether the top and a child of it are red, and which child, for a tree on this side.
     #[inline(always)]
-    pub fn clash(&self, side: Side) -> Clash
-        ensures { result ≡ clash side self.now }
+    pub fn red_violation(&self, side: Side) -> RedViolation
+        ensures { result ≡ red_violation side self.now }
     {
         let Some(fork) = self.open() else {
-            return Clash::Nowhere;
+            return RedViolation::Nowhere;
         };
         if !fork.node.red {
-            return Clash::Nowhere;
+            return RedViolation::Nowhere;
         }
         if fork.child(side).is_red() {
-            return Clash::Outer;
+            return RedViolation::Outer;
         }
         if fork.child(opposite(side)).is_red() {
-            return Clash::Inner;
+            return RedViolation::Inner;
         }
-        Clash::Nowhere
+        RedViolation::Nowhere
     }
 }
 

@@ -1,5 +1,5 @@
 -- The steps up of an insert and of an erase.
-use Rattle.rb_trees.proofs.Words.{◌≡◌, ℕ, zero, suc, true, false, List, [], ◌∷◌, ◌++◌, refl, sym, ◌∙◌, ap, subst, inl, append-nil, Store, Record, Side, Left, Right, ColouredTree, tip, branch, is_red, blackened, shape, rows, HasBlackHeight, HasNoClash, IsRedBlack, sided, set_link, link, relink, clash, mended, mend_links, filled, fill_links, filled_over, Above, joined, plugged, Relinks, Replaced, Sound, Fits, Nothing, In, Lost, Bool}
+use Rattle.rb_trees.proofs.Words.{◌≡◌, ℕ, zero, suc, true, false, List, [], ◌∷◌, ◌++◌, refl, sym, ◌∙◌, ap, subst, inl, append-nil, Store, Record, Side, Left, Right, ColouredTree, tip, branch, is_red, blackened, shape, rows, HasBlackHeight, HasNoClash, IsRedBlack, sided, set_link, link, relink, red_violation, mended, mend_links, filled, fill_links, filled_over, Above, joined, plugged, Relinks, Replaced, Sound, Fits, Nothing, In, Lost, Bool}
 use Rattle.rb_trees.proofs.SideLemmas.{red_sided, link_sided}
 use Rattle.rb_trees.proofs.ColourLemmas.{IsNear, near_of_calm, blackened_good, over, halves, sound_over}
 use Rattle.rb_trees.proofs.RelinkLemmas.{planted}
@@ -63,11 +63,11 @@ module _ {c x : ℕ} {whole : ColouredTree} {rs : List Record} (s : Side) (y : R
       ((ss ++ relink s c y.node (link (shape was)) (link (shape t))) ++ mend_links s c (sided s false t y other))
   grown_black g = record {
     replaced = replaced_here path (replaced_up (at_side s false y other) path g.replaced) (mended s (sided s false t y other)) (mend_links s c (sided s false t y other))
-        (ap rows (mended_sided s t y other) ∙ rows_mended s y other (clash s t) t)
+        (ap rows (mended_sided s t y other) ∙ rows_mended s y other (red_violation s t) t)
         (λ n small P below within sep.
         subst (λ u. Relinks n c P (shape (sided s false t y other)) (shape u) (mend_links s c (sided s false t y other))) (sym (mended_sided s t y other))
         (subst (Relinks n c P (shape (sided s false t y other)) _) (sym (mend_links_sided s c t y other))
-        (mend_relinks n c small P below s t y other within sep (clash s t))));
+        (mend_relinks n c small P below s t y other within sep (red_violation s t))));
     near = λ h is. let m = mended_calm g h is in (near_of_calm (mended s (sided s false t y other)) m.calm, m.high, λ e. m.calm);
   }
 

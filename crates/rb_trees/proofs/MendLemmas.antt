@@ -1,24 +1,24 @@
 -- A mended node: its records, its colours and black height, where its stores lead, and how many.
-use Rattle.rb_trees.proofs.Words.{◌≡◌, ℕ, suc, ◌<◌, ◌≤◌, true, false, cond, List, [], ◌++◌, length, length-append, refl, sym, ◌∙◌, ap, subst, arith, Store, Record, Side, Left, Right, ColouredTree, tip, branch, is_red, blackened, shape, rows, HasBlackHeight, opposite, sided, link, relink, turned, turn_links, clash, recoloured, mended_over, mended, mend_links_over, mend_links, Among, IsSeparate, Relinks, Sound}
+use Rattle.rb_trees.proofs.Words.{◌≡◌, ℕ, suc, ◌<◌, ◌≤◌, true, false, cond, List, [], ◌++◌, length, length-append, refl, sym, ◌∙◌, ap, subst, arith, Store, Record, Side, Left, Right, ColouredTree, tip, branch, is_red, blackened, shape, rows, HasBlackHeight, opposite, sided, link, relink, turned, turn_links, red_violation, recoloured, mended_over, mended, mend_links_over, mend_links, Among, IsSeparate, Relinks, Sound}
 use Rattle.facts.proofs.Bools.{false_by_contrary}
-use Rattle.rb_trees.specs.declared.Clash.{Clash}
-use Rattle.rb_trees.specs.declared.Clash.TheVariants.{Nowhere, Outer, Inner}
+use Rattle.rb_trees.specs.declared.RedViolation.{RedViolation}
+use Rattle.rb_trees.specs.declared.RedViolation.TheVariants.{Nowhere, Outer, Inner}
 use Rattle.rb_trees.proofs.SideLemmas.{red_sided, link_sided, among_near, separate_near}
 use Rattle.rb_trees.proofs.TurnLemmas.{rows_blackened, rows_sided, rows_turned, turned_sided, turned_back, turn_two, moved_one, relink_moved}
 use Rattle.rb_trees.proofs.ColourLemmas.{IsNear, near_of_calm, black_blackened, sound_blackened, sound_black, sound_red}
 use Rattle.rb_trees.proofs.RelinkLemmas.{same, then, in_sided, turn_relinks, shape_recoloured}
 
 -- what is mended of a black node with these trees
-pub mended_sided : (s : Side) (near : ColouredTree) (y : Record) (far : ColouredTree) → mended s (sided s false near y far) ≡ mended_over s (clash s near) near y far
+pub mended_sided : (s : Side) (near : ColouredTree) (y : Record) (far : ColouredTree) → mended s (sided s false near y far) ≡ mended_over s (red_violation s near) near y far
 mended_sided Left near y far = refl
 mended_sided Right near y far = refl
 
-pub mend_links_sided : (s : Side) (c : ℕ) (near : ColouredTree) (y : Record) (far : ColouredTree) → mend_links s c (sided s false near y far) ≡ mend_links_over s c (clash s near) near y far
+pub mend_links_sided : (s : Side) (c : ℕ) (near : ColouredTree) (y : Record) (far : ColouredTree) → mend_links s c (sided s false near y far) ≡ mend_links_over s c (red_violation s near) near y far
 mend_links_sided Left c near y far = refl
 mend_links_sided Right c near y far = refl
 
 module _ (s : Side) (y : Record) (far : ColouredTree) where
-  pub rows_mended : (k : Clash) (near : ColouredTree) → rows (mended_over s k near y far) ≡ rows (sided s false near y far)
+  pub rows_mended : (k : RedViolation) (near : ColouredTree) → rows (mended_over s k near y far) ≡ rows (sided s false near y far)
   rows_mended Nowhere near = refl
   rows_mended Outer near =
       elim (is_red far) as (λ b. rows (cond b (recoloured s near y far) (turned (opposite s) false true (sided s false near y far))) ≡ rows (sided s false near y far)) [
@@ -87,7 +87,7 @@ module _ (y : Record) (far : ColouredTree) (h : ℕ) (f : Sound far h) where
       deep Left outer x (branch true a z b) ri i o ro n e = inner_sound Left y far h f outer x a z b o ro i.calm.0 i.calm.1 (record { calm = i.calm.2; high = i.high.0 }) (record { calm = i.calm.3; high = i.high.1 }) n e
       deep Right outer x (branch true a z b) ri i o ro n e = inner_sound Right y far h f outer x b z a o ro i.calm.1 i.calm.0 (record { calm = i.calm.3; high = i.high.1 }) (record { calm = i.calm.2; high = i.high.0 }) n e
 
-  pub mended_sound : (s : Side) (near : ColouredTree) → IsNear near → HasBlackHeight near h → Sound (mended_over s (clash s near) near y far) (suc h)
+  pub mended_sound : (s : Side) (near : ColouredTree) → IsNear near → HasBlackHeight near h → Sound (mended_over s (red_violation s near) near y far) (suc h)
   mended_sound s tip n e = sound_black s tip y far h (record { calm = tt; high = e }) f
   mended_sound s (branch false a x b) n e = sound_black s (branch false a x b) y far h (record { calm = n; high = e }) f
   mended_sound Left (branch true a x b) n e = two_sound Left a x b (record { calm = n.1; high = e.0 }) (record { calm = n.2; high = e.1 }) n.0 n e
@@ -100,7 +100,7 @@ module _ (n c : ℕ) (small : c ≤ 1) (P : ℕ → Type 0) (below : (i : ℕ) �
   recoloured_relinks =
       subst (λ t. Relinks n c P (shape (sided s false near y far)) t []) (sym (shape_recoloured s near y far)) (same n c small P (shape (sided s false near y far)) within sep)
 
-  pub mend_relinks : (k : Clash) → Relinks n c P (shape (sided s false near y far)) (shape (mended_over s k near y far)) (mend_links_over s c k near y far)
+  pub mend_relinks : (k : RedViolation) → Relinks n c P (shape (sided s false near y far)) (shape (mended_over s k near y far)) (mend_links_over s c k near y far)
   mend_relinks Nowhere = same n c small P (shape (sided s false near y far)) within sep
   mend_relinks Outer =
       let t = sided s false near y far in
@@ -141,7 +141,7 @@ module _ (c : ℕ) (s : Side) (y : Record) (far : ColouredTree) where
       black_turned Right tip = refl
       black_turned Right (branch k a x b) = refl
 
-  pub mending : (k : Clash) (near : ColouredTree) → Mending y (mended_over s k near y far) (mend_links_over s c k near y far)
+  pub mending : (k : RedViolation) (near : ColouredTree) → Mending y (mended_over s k near y far) (mend_links_over s c k near y far)
   mending Nowhere near = record { few = omega arith; still = λ e. absurd (let b = red_sided s false near y far in cc) }
   mending Outer near =
       let t = sided s false near y far in

@@ -17,7 +17,7 @@ pub use Rattle.order_laws.specs.Tables.{IsTable, meets, without_all, place_for, 
 pub use Rattle.order_laws.specs.declared.items.Item.{Item}
 pub use Rattle.rb_trees.specs.Erased.{Remainder, whole, lowered, filled_over_black, fill_links_over_black, filled_over, filled, fill_links_over, fill_links, first_word_at, item_lies, record_found_at, found}
 pub use Rattle.rb_trees.specs.Found.{items_of_records, meets_on_the_way, meets_anywhere, first_item_of, item_with_word}
-pub use Rattle.rb_trees.specs.Inserted.{clash, mended, mend_links, recoloured, mended_over, mend_links_over}
+pub use Rattle.rb_trees.specs.Inserted.{red_violation, mended, mend_links, recoloured, mended_over, mend_links_over}
 pub use Rattle.rb_trees.specs.Linked.{Inner, Among, IsSeparate, LeadLinks, With, HasRoom, Lead}
 pub use Rattle.rb_trees.specs.Paths.{Above, joined, plugged, past_left, past_right, place_from, way_from, way_by, way_at, place_at, leaf_lies, first_way, first_place}
 pub use Rattle.rb_trees.specs.Replaced.{Sound, Relinks, Fits, Replaced, Nothing, In, Lost, Own}

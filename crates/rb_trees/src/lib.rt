@@ -14,7 +14,7 @@ pub struct Record {
 
 /// Whether the top of a subtree and a child of it are red, seen from the side of the subtree.
 #[derive(Clone, Copy, Debug, PartialEq, Eq, Drop)]
-pub enum Clash {
+pub enum RedViolation {
     /// No.
     Nowhere,
     /// With the child on that side.

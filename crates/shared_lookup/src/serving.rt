@@ -178,7 +178,7 @@ fn readers_beside(
 
 /// The layout of a table for all regions of a catalog, with 64-bit sequences. Refused by
 /// [`Refusal::BadCapacity`] if they are more than a table can have.
-fn layout_for(c: &Catalog<'_>) -> Result<Layout, Refusal>
+fn table_layout(c: &Catalog<'_>) -> Result<Layout, Refusal>
     ensures may { IfOk result (λ _. length (regions_of c.now) ≤ most_nodes) }
     ensures room { IfOk result (λ l. length (regions_of c.now) ≤ capacity_of l) }
     ensures limit { IfOk result (λ l. limit_of l ≡ greatest_wide_sequence) }
@@ -239,7 +239,7 @@ pub fn serve<R: Threads + Wait + Sync, G: Gate + Sync>(
         IsWrongCount c.now changes.items s.changes.items s.answers.items s.log.items s.wrong) }
     ensures refusal { IfErr result (RefusesServing c.now keys.items) }
 {
-    let layout = layout_for(c)?;
+    let layout = table_layout(c)?;
     if keys.is_empty() || keys.len() > MOST_READERS as usize {
         return Err(Refusal::BadCapacity);
     }

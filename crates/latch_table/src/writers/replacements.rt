@@ -54,7 +54,7 @@ fn copied_item<O: TreeOrder>(words: &Words<O>, seat: &mut TableSeat, l: Layout, 
 
 /// Gives a difference from a list the items of the tree that a link of copy 0 leads to, from left
 /// to right. The tree has `most` nodes at most.
-fn tell_tree<O: TreeOrder>(
+fn note_tree<O: TreeOrder>(
     words: &Words<O>,
     seat: &mut TableSeat,
     l: Layout,
@@ -78,11 +78,11 @@ fn tell_tree<O: TreeOrder>(
     }
     let node = (link - 1) as u32;
     let left = copied_word::<O>(words, seat, left_of(TreeCopy::Zero, node));
-    tell_tree::<O>(words, seat, l, left, most - 1, list, difference)?;
+    note_tree::<O>(words, seat, l, left, most - 1, list, difference)?;
     let item = copied_item::<O>(words, seat, l, node);
     difference.tell::<O>(list, item)?;
     let right = copied_word::<O>(words, seat, right_of(TreeCopy::Zero, node));
-    tell_tree::<O>(words, seat, l, right, most - 1, list, difference)
+    note_tree::<O>(words, seat, l, right, most - 1, list, difference)
 }
 
 impl<O: TreeOrder> Writer<O> {
@@ -109,7 +109,7 @@ impl<O: TreeOrder> Writer<O> {
         let mut difference = self.core.difference();
         let words = &self.table.shared;
         let root = copied_word::<O>(words, &mut self.seat, root_of(TreeCopy::Zero));
-        tell_tree::<O>(
+        note_tree::<O>(
             words,
             &mut self.seat,
             layout,

@@ -17,5 +17,5 @@ returns g c =
     let a = c.args in
     let known = known_given g.M.Read.remaining g.K.Read.remaining g.R.Read.remaining a.listings.now in
     let counts = listing_failures a.listings.now c.read_given.new.readers in
-    readers_known g.L.Read.remaining g.W.Write.contents g.E.Write.contents a.request.sources.now a.request.job.now a.log.now c.annotate_over.new.log a.outputs.now.writer c.annotate_over.new.outputs.writer a.outputs.now.errors c.annotate_over.new.outputs.errors
-    (texts_in c.in_ok-texts.texts) known c.in_ok-texts.ensures.bytes counts c.in_ok-texts.ensures.read c.annotate_over.result c.annotate_over.ensures
+    readers_known g.L.Read.remaining g.W.Write.contents g.E.Write.contents a.request.sources.now a.request.job.now a.log.now c.annotate_by_texts.new.log a.outputs.now.writer c.annotate_by_texts.new.outputs.writer a.outputs.now.errors c.annotate_by_texts.new.outputs.errors
+    (texts_in c.in_ok-texts.texts) known c.in_ok-texts.ensures.bytes counts c.in_ok-texts.ensures.read c.annotate_by_texts.result c.annotate_by_texts.ensures

@@ -5,7 +5,7 @@ use Rattle.command_listings.proofs.following.follow_blocks.Goals as goal
 pub loop-turn-init : goal.loop-turn-init
 loop-turn-init g c = (
   begun g.W.Write.contents g.E.Write.contents c.args.request.sources.now c.args.request.job.now c.args.first.is_narrow (g.L.LastingLog.seen c.args.log.now) c.args.outputs.now.writer c.args.outputs.now.errors _ _ _ refl c.requires.told c.requires.known
-      c.new-annotator.ensures.held c.new-annotator.ensures.open c.new-head.ensures.items,
+      c.new-annotator.ensures.context c.new-annotator.ensures.open c.new-head.ensures.items,
   c.requires.room,
 )
 

@@ -12,15 +12,15 @@ returns g c =
       listings.event,
       listings.texts,
       inr (
-        c.tell_notes.new.errors,
-        c.in_ok-tell_notes.ensures,
+        c.note_texts.new.errors,
+        c.in_ok-note_texts.ensures,
         listings.left,
         listings.later,
         c.follow_blocks-end.new.outputs.errors,
         c.follow_blocks-end.result,
         subst (λ narrow. FollowsTurns g.W.Write.contents g.E.Write.contents a.request.sources.now a.request.job.now narrow (g.L.LastingLog.seen c.read_listings.new.self) (g.L.LastingLog.seen c.follow_blocks-end.new.log) a.outputs.now.writer c.follow_blocks-end.new.outputs.writer
-            c.tell_notes.new.errors c.follow_blocks-end.new.outputs.errors c.follow_blocks-end.result) sized c.follow_blocks-end.ensures,
-        subst (λ kernel. IsEndTold g.E.Write.contents a.request.job.now.log.now kernel c.follow_blocks-end.new.outputs.errors c.tell_end.new.errors c.follow_blocks-end.result c.tell_end.result)
-            (c.listed_kernel-kernel.ensures ∙ ap (λ t. listed_kernel t a.request.job.now.rule.offset) c.deref-2.ensures.value) c.tell_end.ensures,
+            c.note_texts.new.errors c.follow_blocks-end.new.outputs.errors c.follow_blocks-end.result) sized c.follow_blocks-end.ensures,
+        subst (λ kernel. IsEndTold g.E.Write.contents a.request.job.now.log.now kernel c.follow_blocks-end.new.outputs.errors c.conclude_log.new.errors c.follow_blocks-end.result c.conclude_log.result)
+            (c.listed_kernel-kernel.ensures ∙ ap (λ t. listed_kernel t a.request.job.now.rule.offset) c.deref-2.ensures.value) c.conclude_log.ensures,
       ),
     ))

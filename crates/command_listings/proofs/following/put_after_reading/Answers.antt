@@ -24,10 +24,10 @@ pub returns-in-Err : goal.returns-in-Err
 returns-in-Err g c =
     let a = c.args in
     let (event, once, puts) = c.in_ok-outcome.ensures in
-    let (note, tells, said) = c.tell_once.ensures in (
+    let (note, tells, said) = c.note_once.ensures in (
       event,
       once,
       after_nameless g.W.Write.contents g.E.Write.contents a.request.sources.now a.request.job.now a.part a.followed a.annotator.now c.put_again.new.annotator c.put_nameless.new.annotator event a.outputs.now.writer c.put_again.new.writer c.put_nameless.new.writer
-          a.outputs.now.errors c.tell_once.new.errors c.in-Err.why note c.put_nameless.result
+          a.outputs.now.errors c.note_once.new.errors c.in-Err.why note c.put_nameless.result
           (subst (λ o. PutsIfNamed g.W.Write.contents a.request.sources.now a.request.job.now a.part a.followed a.annotator.now c.put_again.new.annotator event a.outputs.now.writer c.put_again.new.writer (Ok o)) c.in-Err.is puts) tells said c.put_nameless.ensures,
     )

@@ -1,7 +1,7 @@
 use Rattle.command_listings.proofs.Words.{Err, By, PutsPart, subst, sym}
 use Rattle.logs.proofs.PutLemmas.{puts_failed}
 use Rattle.logs.specs.Answering.{Answering}
-use Rattle.logs.specs.Annotation.{Passes, Puts, held_in}
+use Rattle.logs.specs.Annotation.{Passes, Puts, context_in}
 use Rattle.std.proofs.lemmas.Result.{err_from_is_err_and}
 use Rattle.command_listings.proofs.following.put_by.Goals as goal
 
@@ -13,7 +13,7 @@ returns-in_err-pass-in-Lines g c =
     let f = c.in_err-pass-in-Lines.field-0.0 in
     let (told, is, same) = err_from_is_err_and c.from_residual-in_err-pass-in-Lines.result c.from_residual-in_err-pass-in-Lines.ensures.1 in
     rw (is, same) (subst (λ p. Puts g.W.Write.contents (PutsPart p a b (By answer)) c.args.writer.now c.pass.new.writer (Err f)) (sym c.in-Lines.is)
-    (puts_failed g.W.Write.contents (λ (u : Unit {0}). Passes answer a b c.in-Lines.block.now) _ c.args.writer.now c.pass.new.writer (held_in a).names (λ u text passes. passes) f (subst (λ (answer : Answering). Puts g.W.Write.contents (λ (u : Unit {0}). Passes answer a b c.in-Lines.block.now) c.args.writer.now c.pass.new.writer (Err f)) c.prepare.ensures c.in_err-pass-in-Lines.ensures)))
+    (puts_failed g.W.Write.contents (λ (u : Unit {0}). Passes answer a b c.in-Lines.block.now) _ c.args.writer.now c.pass.new.writer (context_in a).names (λ u text passes. passes) f (subst (λ (answer : Answering). Puts g.W.Write.contents (λ (u : Unit {0}). Passes answer a b c.in-Lines.block.now) c.args.writer.now c.pass.new.writer (Err f)) c.prepare.ensures c.in_err-pass-in-Lines.ensures)))
 
 pub returns-in-Last : goal.returns-in-Last
 returns-in-Last g c =

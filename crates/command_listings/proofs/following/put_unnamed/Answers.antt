@@ -1,6 +1,6 @@
 use Rattle.command_listings.proofs.Words.{Err, PutsAs, PutsPart, Unnamed, subst, sym, ◌∙◌}
 use Rattle.command_listings.proofs.FollowingLemmas.{stopped_is, stopped_so}
-use Rattle.logs.specs.Annotation.{held_in}
+use Rattle.logs.specs.Annotation.{context_in}
 use Rattle.logs.specs.Unnamed.{EndsUnnamed, PassesUnnamed}
 use Rattle.std.proofs.lemmas.Result.{err_from_is_err_and}
 use Rattle.command_listings.proofs.following.put_unnamed.Goals as goal
@@ -13,7 +13,7 @@ returns-in_err-stopped-in-Lines g c =
     let s = c.in_err-stopped-in-Lines.field-0.0 in
     let (told, is, same) = err_from_is_err_and c.from_residual.result c.from_residual.ensures.1 in
     rw (is, same) (subst (λ p. PutsAs g.W.Write.contents (PutsPart p a b (Unnamed narrow)) c.args.writer.now c.pass_unnamed.new.writer (Err s)) (sym c.in-Lines.is)
-    (stopped_so g.W.Write.contents c.args.writer.now c.pass_unnamed.new.writer (λ (u : Unit {0}). PassesUnnamed narrow a b c.in-Lines.block.now) _ (λ u. (held_in a).names) (λ u text passes. passes)
+    (stopped_so g.W.Write.contents c.args.writer.now c.pass_unnamed.new.writer (λ (u : Unit {0}). PassesUnnamed narrow a b c.in-Lines.block.now) _ (λ u. (context_in a).names) (λ u text passes. passes)
     c.pass_unnamed.result s (sym c.stopped.ensures ∙ c.in_err-stopped-in-Lines.was) c.pass_unnamed.ensures))
 
 pub returns-in-Last : goal.returns-in-Last

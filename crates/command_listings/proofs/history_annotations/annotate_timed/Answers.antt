@@ -24,7 +24,7 @@ returns g c =
     let listing_is : first.text ≡ first_listing parts = c.in_ok-first.ensures.of.1 ∙ ap (λ (k : ℕ). listing_after k parts) c.in_ok-first.ensures.first in
     let narrow_is = made.ensures.narrow ∙ c.is_narrow.ensures ∙ ap (λ (t : List ℕ). is_narrow (lines_of t)) (c.text.ensures ∙ listing_is) in
     let are = answers_after kernel rule parts first c.in_ok-index.index made.result.index c.in_ok-index.notes made.result.rule made.result.is_narrow c.text-3.result.now c.in_ok-first.ensures.of c.text-3.ensures c.in_ok-index.ensures made.ensures.index made.ensures.rule narrow_is in
-    let nothing = begun kernel rule parts remaining contents a.log.now a.outputs.now.writer timed.timed timed.ensures.held timed.ensures.open timed.ensures.times timed.ensures.left timed.ensures.on timed.ensures.head in
+    let nothing = begun kernel rule parts remaining contents a.log.now a.outputs.now.writer timed.timed timed.ensures.context timed.ensures.open timed.ensures.times timed.ensures.left timed.ensures.on timed.ensures.head in
     let turned = c.name_by-asked.ensures.turn kernel rule are a.log.now a.outputs.now.writer 0 nothing in
     let named = c.name_to_end-named.ensures a.log.now a.outputs.now.writer (0 + 1) turned in
     let is_timed : IsTimed kernel rule parts remaining contents a.log.now a.outputs.now.writer end reader writer = ended_as kernel rule parts remaining contents a.log.now a.outputs.now.writer c.name_to_end-named.new.log c.name_to_end-named.result end reader writer c.timed_end-end.ensures named in
@@ -38,5 +38,5 @@ returns g c =
           (subst (λ t. IsCatalogOf kernel (symbols_alone t) c.in_ok-index.index c.in_ok-index.notes) (c.text-3.ensures ∙ listing_is) c.in_ok-index.ensures);
       told = c.note_listings.ensures;
       timed = subst (λ k. IsTimed k rule parts remaining contents a.log.now a.outputs.now.writer end reader writer) c.as_ref.ensures.value is_timed;
-      end_told = subst (λ k. IsTimedEndTold g.E.Write.contents a.request.job.now.log.now k c.note_listings.new.writer c.tell_timed_end.new.errors end c.tell_timed_end.result) kernel_is c.tell_timed_end.ensures;
+      end_told = subst (λ k. IsTimedEndTold g.E.Write.contents a.request.job.now.log.now k c.note_listings.new.writer c.conclude_timed_log.new.errors end c.conclude_timed_log.result) kernel_is c.conclude_timed_log.ensures;
     })

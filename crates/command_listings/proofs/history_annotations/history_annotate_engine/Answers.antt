@@ -23,7 +23,7 @@ returns g c =
     let remaining = g.H.Read.remaining in
     let read = subst (λ b. IfSome (remaining (device_of a.history.now)) (λ text. b ≡ text)) (sym c.deref.ensures.value) c.in_ok-file.ensures.bytes in
     let said = read_said remaining a.history.now c.read_at.new.reader c.deref.result.now _ read c.in_ok-history.ensures in
-    let done = c.annotate_over in
+    let done = c.annotate_by_texts in
     let parts = c.in_ok-history.history in
     let texts_are = c.in_ok-texts-in-Some.ensures ∙ ap (λ t. symbols_alone (listing_at t parts)) c.in-Some.is in
     inr (

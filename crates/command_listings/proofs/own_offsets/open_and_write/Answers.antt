@@ -44,9 +44,9 @@ returns g c =
       holds = (
         c.annotate_text.result,
         subst (λ rule. Puts g.W.Write.contents (IsAnnotationOf (answered_by index rule narrow) a.log.now) a.outputs.now.writer c.annotate_text.new.writer c.annotate_text.result) c.new-answers.ensures.rule c.annotate_text.ensures,
-        subst (λ end. IsEndTold g.E.Write.contents a.request.job.now.log.now (listed_kernel given.kallsyms a.rule.offset) c.note_listings.new.writer c.tell_end.new.errors end c.tell_end.result) c.stopped-end.ensures
-            (told_by g.E.Write.contents a.request.job.now.log.now c.kernel_if_said-kernel.result (listed_kernel given.kallsyms a.rule.offset) c.note_listings.new.writer c.tell_end.new.errors c.stopped-end.result c.tell_end.result
+        subst (λ end. IsEndTold g.E.Write.contents a.request.job.now.log.now (listed_kernel given.kallsyms a.rule.offset) c.note_listings.new.writer c.conclude_log.new.errors end c.conclude_log.result) c.stopped-end.ensures
+            (told_by g.E.Write.contents a.request.job.now.log.now c.kernel_if_said-kernel.result (listed_kernel given.kallsyms a.rule.offset) c.note_listings.new.writer c.conclude_log.new.errors c.stopped-end.result c.conclude_log.result
             (subst (λ t. (found : Findings) → c.stopped-end.result ≡ Ok found → (head : List ℕ) → note_of_log head found.names c.kernel_if_said-kernel.result ≡ note_of_log head found.names (listed_kernel t a.rule.offset)) c.deref-2.ensures.value c.kernel_if_said-kernel.ensures)
-            c.tell_end.ensures),
+            c.conclude_log.ensures),
       );
     })

@@ -7,8 +7,8 @@ pub returns-in-Err : goal.returns-in-Err
 returns-in-Err g c =
     let a = c.args in
     let is = sym c.in-Err.is ∙ c.own_offset.ensures ∙ ap (own_offset a.log.now) c.deref.ensures.value in
-    subst (λ o. WritesByOffset g.W.Write.contents g.E.Write.contents a.request.sources.now a.request.job.now a.outputs.now.writer a.outputs.now.writer a.outputs.now.errors c.tell_no_offset.new.errors (texts_in a.texts) a.log.now o (Ok c.tell_no_offset.result)) is
-    (ap (λ n. Ok n) c.tell_no_offset.ensures.status, refl, c.tell_no_offset.ensures.line)
+    subst (λ o. WritesByOffset g.W.Write.contents g.E.Write.contents a.request.sources.now a.request.job.now a.outputs.now.writer a.outputs.now.writer a.outputs.now.errors c.note_no_offset.new.errors (texts_in a.texts) a.log.now o (Ok c.note_no_offset.result)) is
+    (ap (λ n. Ok n) c.note_no_offset.ensures.status, refl, c.note_no_offset.ensures.line)
 
 pub returns-in_err-asked : goal.returns-in_err-asked
 returns-in_err-asked g c =

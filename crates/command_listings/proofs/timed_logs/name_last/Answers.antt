@@ -1,7 +1,7 @@
 use Rattle.command_listings.proofs.Words.{◌≡◌, ◌∙◌, ap, append-nil, true, subst}
 use Rattle.std.proofs.lemmas.Result.{err_from_is_err_and}
 use Rattle.logs.proofs.PutLemmas.{puts_as}
-use Rattle.logs.specs.Annotation.{Ends}
+use Rattle.logs.specs.Annotation.{EndsLog}
 use Rattle.logs.specs.Lines.{unless_long}
 use Rattle.logs.specs.declared.log_names.LogNames.{LogNames}
 use Rattle.command_listings.specs.LineRuns.{may_name, times_behind}
@@ -14,7 +14,7 @@ returns-in_err-names-in-Ok g c =
     let answer = g.A.Answers.answering a.answers.now in
     let times = c.in-Ok.times in
     let (fault, is, same) = err_from_is_err_and c.from_residual-in_err-names-in-Ok.result c.from_residual-in_err-names-in-Ok.ensures.1 in
-    rw (is, same) (puts_as g.W.Write.contents (Ends answer a.lines.now.annotator) (λ x. EndsBy a.history.now a.listing.now.count answer a.lines.now x.0 x.1) a.writer.now c.end.new.writer
+    rw (is, same) (puts_as g.W.Write.contents (EndsLog answer a.lines.now.annotator) (λ x. EndsBy a.history.now a.listing.now.count answer a.lines.now x.0 x.1) a.writer.now c.end.new.writer
     (λ (names : LogNames). (names, times))
     (λ names text ends. (
       ends,

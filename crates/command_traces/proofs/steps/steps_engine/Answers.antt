@@ -11,5 +11,5 @@ returns g c =
     let text = c.deref.result.now in
     let whole : IfSome left (λ l. text ≡ l) = subst (λ b. IfSome left (λ l. b ≡ l)) (sym c.deref.ensures.value) c.in_ok-bytes.ensures.bytes in
     answers_read (λ read said. IsStepsText said (command_lines read)) (λ read said. IsCutText said (command_lines read)) (StopsAfter (IsBegunOf (command_lines text) (trace_of text)) contents)
-    (StopsAfter (λ t. IfSome left (λ read. IsTextOf (λ bytes said. IsBegunText said (command_lines bytes)) read t)) contents) g.R.Read.remaining contents c.args.reader.now c.read_at.new.reader c.args.writer.now c.tell_text.new.writer
-    text whole c.in_ok-bytes.ensures.read (begun_read contents left text whole c.args.writer.now c.tell_text.new.writer) c.tell_text.result c.tell_text.ensures
+    (StopsAfter (λ t. IfSome left (λ read. IsTextOf (λ bytes said. IsBegunText said (command_lines bytes)) read t)) contents) g.R.Read.remaining contents c.args.reader.now c.read_at.new.reader c.args.writer.now c.put_steps.new.writer
+    text whole c.in_ok-bytes.ensures.read (begun_read contents left text whole c.args.writer.now c.put_steps.new.writer) c.put_steps.result c.put_steps.ensures

@@ -1,10 +1,10 @@
-use Rattle.logs.proofs.Definitions.{◌∙◌, [], Answering, Err, Puts, ℕ, take, subst, arith, refl, Consumes, length-take, device_of, Ends, Passes}
+use Rattle.logs.proofs.Definitions.{◌∙◌, [], Answering, Err, Puts, ℕ, take, subst, arith, refl, Consumes, length-take, device_of, EndsLog, Passes}
 use Rattle.std.proofs.lemmas.Result.{err_from_is_err_and}
 use Rattle.logs.proofs.AnnotationLemmas.{begun, cut_off, ended, not_more, not_put, not_read, one_more, stopped, too_long}
 use Rattle.logs.proofs.annotation.annotate.Goals as goal
 
 pub loop-turn-init : goal.loop-turn-init
-loop-turn-init g c = (refl, begun c.new-annotator.ensures.held c.new-annotator.ensures.open c.new-head.ensures.items)
+loop-turn-init g c = (refl, begun c.new-annotator.ensures.context c.new-annotator.ensures.open c.new-head.ensures.items)
 
 pub returns-in_default : goal.returns-in_default
 returns-in_default g c = not_read c.loop-turn.invariant.1 c.read.new.self c.in_default.ensures.failed c.in_default.ensures.bytes
@@ -23,7 +23,7 @@ returns-in_err-names g c =
     let took : Consumes (g.R.Read.remaining (device_of c.loop-turn.reader)) (g.R.Read.remaining (device_of c.read.new.self)) [] = subst (λ (n : ℕ). Consumes (g.R.Read.remaining (device_of c.loop-turn.reader)) (g.R.Read.remaining (device_of c.read.new.self)) (take n c.read.new.buf)) c.if-count-eq0.true c.in-Ok.ensures.bytes.0 in
     let at_end = c.in-Ok.ensures.bytes.1 c.if-count-eq0.true (omega (arith, c.loop-turn.auto.block, c.as_mut_slice-block.ensures.len, c.in_ok-resize.ensures.len, c.read.auto.buf)) in
     let (fault, is, same) = err_from_is_err_and c.from_residual-in_err-names.result c.from_residual-in_err-names.ensures.1 in
-    rw (is, same) (not_put on c.read.new.self c.end.new.writer [] all took (Ends (g.A.Answers.answering c.args.answers.now) c.loop-turn.annotator) c.in_err-names.field-0.0 (cut_off on c.read.new.self c.end.new.writer all took at_end) (subst (λ (answer : Answering). Puts g.W.Write.contents (Ends answer c.loop-turn.annotator) c.loop-turn.writer c.end.new.writer (Err c.in_err-names.field-0.0)) c.loop-turn.invariant.0 c.in_err-names.ensures))
+    rw (is, same) (not_put on c.read.new.self c.end.new.writer [] all took (EndsLog (g.A.Answers.answering c.args.answers.now) c.loop-turn.annotator) c.in_err-names.field-0.0 (cut_off on c.read.new.self c.end.new.writer all took at_end) (subst (λ (answer : Answering). Puts g.W.Write.contents (EndsLog answer c.loop-turn.annotator) c.loop-turn.writer c.end.new.writer (Err c.in_err-names.field-0.0)) c.loop-turn.invariant.0 c.in_err-names.ensures))
 
 pub returns-in_err-keep_head : goal.returns-in_err-keep_head
 returns-in_err-keep_head g c =

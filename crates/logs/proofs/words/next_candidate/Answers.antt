@@ -12,10 +12,10 @@ loop-start-preserved-in-Some c =
       low = c.loop-start.invariant.low;
       from = omega (arith, c.loop-start.invariant.from, low);
       within = omega (arith, c.loop-start.invariant.within, high, c.loop-start-test.true);
-      left = λ held last.
+      left = λ context last.
           rw (begun_behind line c.loop-start.from place (omega (arith, c.loop-start.invariant.from, low)))
-          (c.loop-start.invariant.left held last
-          ∙ leap c.args.narrow held line last c.loop-start.start place _ low (omega (arith, c.loop-start.invariant.within, high, c.loop-start-test.true))
+          (c.loop-start.invariant.left context last
+          ∙ leap c.args.narrow context line last c.loop-start.start place _ low (omega (arith, c.loop-start.invariant.within, high, c.loop-start-test.true))
           (omega (arith, high, c.fewest-fewest.ensures)) c.in-Some.ensures.other);
     }
 
@@ -29,10 +29,10 @@ loop-start-preserved c =
       low = omega (arith, c.loop-start.invariant.low, c.loop-start.invariant.from, c.behind_word-end.ensures.from);
       from = omega arith;
       within = c.behind_word-end.ensures.within;
-      left = λ held last.
+      left = λ context last.
           rw (not_begun line end)
-          ((rw (sym c.is_begun.ensures ∙ c.if-not-is_begun.false) at c.loop-start.invariant.left held last)
-          ∙ ap (taken_among c.args.narrow held line last) (goes_on line start end _ (omega (arith, c.loop-start.invariant.within, c.loop-start-test.true, some, c.fewest-fewest.ensures))
+          ((rw (sym c.is_begun.ensures ∙ c.if-not-is_begun.false) at c.loop-start.invariant.left context last)
+          ∙ ap (taken_among c.args.narrow context line last) (goes_on line start end _ (omega (arith, c.loop-start.invariant.within, c.loop-start-test.true, some, c.fewest-fewest.ensures))
           (is_word (get_or line start 0) (c.in-None.ensures.none (omega (arith, some, c.fewest-fewest.ensures)))) c.behind_word-end.ensures.words));
     }
 
@@ -41,9 +41,9 @@ loop-start-init c = record {
   low = omega arith;
   from = omega arith;
   within = omega arith;
-  left = λ held last. rw (not_begun c.args.line.now c.args.at);
+  left = λ context last. rw (not_begun c.args.line.now c.args.at);
 }
 
 pub returns-clause-words : goal.returns-clause-words
-returns-clause-words c = λ held last.
-    c.loop-start.invariant.left held last ∙ few_left c.args.narrow held c.args.line.now last c.loop-start.start _ (omega (arith, c.loop-start-test.false, c.fewest-fewest.ensures))
+returns-clause-words c = λ context last.
+    c.loop-start.invariant.left context last ∙ few_left c.args.narrow context c.args.line.now last c.loop-start.start _ (omega (arith, c.loop-start-test.false, c.fewest-fewest.ensures))

@@ -1,5 +1,5 @@
 use Rattle.latch_core.proofs.Words.{◌∷◌, [], ◌++◌, ◌∙◌, ap, refl, ⊎_elim, sym, Some, None, arith, Less, Equal, Greater, First, Root, WordA, WordB, Tag, Left, Right, Found, Missing, Ends, Answer}
-use Rattle.latch_core.specs.declared.progress.Awaited.TheVariants.{Stuck}
+use Rattle.latch_core.specs.declared.progress.AwaitedValue.TheVariants.{Stuck}
 use Rattle.latch_core.proofs.LoadingLemmas.{next_from, values_before, values_of_place, moved, turned, again, again_none}
 use Rattle.latch_core.proofs.WalkLemmas.{answers}
 use Rattle.latch_core.proofs.readers.ReaderCore.take.Goals as goal

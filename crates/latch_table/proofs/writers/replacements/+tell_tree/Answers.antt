@@ -1,7 +1,7 @@
 use Rattle.latch_table.proofs.Words.{◌≡◌, refl, ◌-◌, ◌∷◌, [], suc, ◌∙◌, sym, ap, subst, arith, TableId, capacity_of, at, item_at, left_word, right_word, items, Tells, writer_of}
 use Rattle.std.proofs.lemmas.Result.{on_ok_weaker}
 use Rattle.latch_table.proofs.ReplacingLemmas.{no_tree, few_below, few_there, still_writes, tells_fork, tells_there}
-use Rattle.latch_table.proofs.writers.replacements.+tell_tree.Goals as goal
+use Rattle.latch_table.proofs.writers.replacements.+note_tree.Goals as goal
 
 pub returns-then-link-eq0-clause-told : goal.returns-then-link-eq0-clause-told
 returns-then-link-eq0-clause-told g t c =
@@ -30,8 +30,8 @@ overflow_sub-most g t c =
     let is : c.args.link ≡ suc (c.args.link - 1) = omega (arith, c.if-link-eq0.false) in
     (few_below m (capacity_of c.args.l) c.args.link (c.args.link - 1) is c.args.most c.requires.tree).1
 
-pub tell_tree-requires : goal.tell_tree-requires
-tell_tree-requires g t c κs within =
+pub note_tree-requires : goal.note_tree-requires
+note_tree-requires g t c κs within =
     let m = (writer_of c.args.seat.now.me.0).picture in
     let n = capacity_of c.args.l in
     let is : c.args.link ≡ suc (c.args.link - 1) = omega (arith, c.if-link-eq0.false) in
@@ -51,7 +51,7 @@ copied_word-right-requires-clause-within g t c =
     let m = (writer_of c.args.seat.now.me.0).picture in
     let is : c.args.link ≡ suc (c.args.link - 1) = omega (arith, c.if-link-eq0.false) in
     let below = few_below m (capacity_of c.args.l) c.args.link (c.args.link - 1) is c.args.most c.requires.tree in
-    let table = c.copied_item-item.ensures.table ∙ c.in_ok-tell_tree.ensures.table ∙ c.copied_word-left.ensures.table in
+    let table = c.copied_item-item.ensures.table ∙ c.in_ok-note_tree.ensures.table ∙ c.copied_word-left.ensures.table in
     omega (arith, below.0, c.right_of.ensures, c.requires.sized, ap (λ (z : TableId). z.words) table)
 
 pub overflow_sub-most-2 : goal.overflow_sub-most-2
@@ -60,15 +60,15 @@ overflow_sub-most-2 g t c =
     let is : c.args.link ≡ suc (c.args.link - 1) = omega (arith, c.if-link-eq0.false) in
     (few_below m (capacity_of c.args.l) c.args.link (c.args.link - 1) is c.args.most c.requires.tree).1
 
-pub tell_tree-requires-2 : goal.tell_tree-requires-2
-tell_tree-requires-2 g t c κs within =
+pub note_tree-requires-2 : goal.note_tree-requires-2
+note_tree-requires-2 g t c κs within =
     let m = (writer_of c.args.seat.now.me.0).picture in
     let n = capacity_of c.args.l in
     let is : c.args.link ≡ suc (c.args.link - 1) = omega (arith, c.if-link-eq0.false) in
     let below = few_below m n c.args.link (c.args.link - 1) is c.args.most c.requires.tree in
     let of = c.copied_word-right.ensures in
-    let before = c.copied_item-item.ensures.view ∙ c.in_ok-tell_tree.ensures.view ∙ c.copied_word-left.ensures.view in
-    let table = of.table ∙ c.copied_item-item.ensures.table ∙ c.in_ok-tell_tree.ensures.table ∙ c.copied_word-left.ensures.table in
+    let before = c.copied_item-item.ensures.view ∙ c.in_ok-note_tree.ensures.view ∙ c.copied_word-left.ensures.view in
+    let table = of.table ∙ c.copied_item-item.ensures.table ∙ c.in_ok-note_tree.ensures.table ∙ c.copied_word-left.ensures.table in
     let right : c.copied_word-right.result ≡ at m (right_word 0 (c.args.link - 1)) = of.value ∙ (λ i. at (writer_of (before i).0).picture (c.right_of.ensures i)) in
     (omega (arith, c.decreases, below.1), (within.0, (within.1, (table ∙ c.requires.table, (ap (λ (z : TableId). z.words) table ∙ c.requires.sized, (still_writes _ _ (of.view ∙ before) c.requires.writes, (few_there m n (c.args.most - 1) _ _ _ (ap (λ s. (writer_of s.0).picture) (of.view ∙ before)) right below.3, c.requires.rises)))))))
 
@@ -80,16 +80,16 @@ returns-clause-told g t c =
     let n = capacity_of c.args.l in
     let is : c.args.link ≡ suc (c.args.link - 1) = omega (arith, c.if-link-eq0.false) in
     let first = c.copied_word-left.ensures in
-    let second = c.in_ok-tell_tree.ensures in
+    let second = c.in_ok-note_tree.ensures in
     let third = c.copied_item-item.ensures in
     let fourth = c.copied_word-right.ensures in
     let before = third.view ∙ second.view ∙ first.view in
     let left : c.copied_word-left.result ≡ at m (left_word 0 (c.args.link - 1)) = first.value ∙ ap (at m) c.left_of.ensures in
     let right : c.copied_word-right.result ≡ at m (right_word 0 (c.args.link - 1)) = fourth.value ∙ (λ i. at (writer_of (before i).0).picture (c.right_of.ensures i)) in
     let item : c.copied_item-item.result ≡ item_at m (c.args.link - 1) = third.item ∙ ap (λ s. item_at (writer_of s.0).picture (c.args.link - 1)) (second.view ∙ first.view) in
-    on_ok_weaker c.tell_tree-2.result
-    (λ rest. tells_fork m n c.args.link (c.args.link - 1) is o list c.args.difference.now c.tell_tree.new.difference c.tell.new.self c.tell_tree-2.new.difference
-    (tells_there o list n m _ _ _ c.args.difference.now c.tell_tree.new.difference (ap (λ s. (writer_of s.0).picture) first.view) left second.told)
-    (subst (λ x. Tells o list c.tell_tree.new.difference (x ∷ []) c.tell.new.self) item c.in_ok-tell.ensures)
-    (tells_there o list n m _ _ _ c.tell.new.self c.tell_tree-2.new.difference (ap (λ s. (writer_of s.0).picture) (fourth.view ∙ before)) right rest))
-    c.tell_tree-2.ensures.told
+    on_ok_weaker c.note_tree-2.result
+    (λ rest. tells_fork m n c.args.link (c.args.link - 1) is o list c.args.difference.now c.note_tree.new.difference c.tell.new.self c.note_tree-2.new.difference
+    (tells_there o list n m _ _ _ c.args.difference.now c.note_tree.new.difference (ap (λ s. (writer_of s.0).picture) first.view) left second.told)
+    (subst (λ x. Tells o list c.note_tree.new.difference (x ∷ []) c.tell.new.self) item c.in_ok-tell.ensures)
+    (tells_there o list n m _ _ _ c.tell.new.self c.note_tree-2.new.difference (ap (λ s. (writer_of s.0).picture) (fourth.view ∙ before)) right rest))
+    c.note_tree-2.ensures.told

@@ -1,4 +1,4 @@
-use Rattle.latch_table.proofs.writers.replacements.+tell_tree.Given as goal
+use Rattle.latch_table.proofs.writers.replacements.+note_tree.Given as goal
 
-abbrev pub decreases-tell_tree : goal.decreases-tell_tree
-decreases-tell_tree g l = l.most
+abbrev pub decreases-note_tree : goal.decreases-note_tree
+decreases-note_tree g l = l.most

@@ -1,5 +1,5 @@
 use Rattle.logs.proofs.Definitions.{◌∙◌, ◌++◌, ℕ, List, refl, ap, arith}
-use Rattle.logs.proofs.LineLemmas.{gets_long, is_held, long_goes_on}
+use Rattle.logs.proofs.LineLemmas.{gets_long, context_stays, long_goes_on}
 use Rattle.logs.proofs.annotator.Annotator.hold.Goals as goal
 
 pub returns-then-self : goal.returns-then-self
@@ -13,4 +13,4 @@ returns-in_ok-extend_from_slice-3 c = λ answer.
 
 pub returns-else-len-gt-LONGEST : goal.returns-else-len-gt-LONGEST
 returns-else-len-gt-LONGEST c = λ answer.
-    is_held answer c.args.self.now _ c.args.bytes.now c.args.out.now.items c.if-self.false c.requires refl c.if-self.false c.in_ok-extend_from_slice-2.ensures.items (omega (arith, c.len.ensures))
+    context_stays answer c.args.self.now _ c.args.bytes.now c.args.out.now.items c.if-self.false c.requires refl c.if-self.false c.in_ok-extend_from_slice-2.ensures.items (omega (arith, c.len.ensures))

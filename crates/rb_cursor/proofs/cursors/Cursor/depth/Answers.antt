@@ -1,4 +1,4 @@
-use Rattle.rb_cursor.proofs.HeldLemmas.{depth_is}
+use Rattle.rb_cursor.proofs.FieldLemmas.{depth_is}
 use Rattle.rb_cursor.proofs.cursors.Cursor.depth.Goals as goal
 
 pub returns : goal.returns

@@ -1,5 +1,5 @@
 use Rattle.rb_cursor.proofs.Words.{refl}
-use Rattle.rb_cursor.proofs.HeldLemmas.{first}
+use Rattle.rb_cursor.proofs.FieldLemmas.{first}
 use Rattle.rb_cursor.proofs.cursors.Cursor.new.Goals as goal
 
 pub invariant_of-result : goal.invariant_of-result

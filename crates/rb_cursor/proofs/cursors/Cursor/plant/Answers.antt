@@ -1,5 +1,5 @@
 use Rattle.rb_cursor.proofs.Words.{◌-◌, arith, planted, IsSome-from_ne}
-use Rattle.rb_cursor.proofs.HeldLemmas.{Moved, room_is}
+use Rattle.rb_cursor.proofs.FieldLemmas.{Moved, room_is}
 use Rattle.rb_cursor.proofs.BlankLemmas.{blank_leads, blank_there, plants}
 use Rattle.rb_cursor.proofs.cursors.Cursor.plant.Goals as goal
 

@@ -1,4 +1,4 @@
-use Rattle.rb_cursor.proofs.HeldLemmas.{room_is}
+use Rattle.rb_cursor.proofs.FieldLemmas.{room_is}
 use Rattle.rb_cursor.proofs.cursors.Cursor.room.Goals as goal
 
 pub returns : goal.returns

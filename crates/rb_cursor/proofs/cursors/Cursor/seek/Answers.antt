@@ -1,5 +1,5 @@
 use Rattle.rb_cursor.proofs.Words.{◌≡◌, ◌-◌, List, sym, ap, ◌∙◌, arith, ColouredTree, Above, side_by, record_of, Equal-from_is_eq}
-use Rattle.rb_cursor.proofs.HeldLemmas.{show, with_step, written_back}
+use Rattle.rb_cursor.proofs.FieldLemmas.{show, with_step, written_back}
 use Rattle.rb_cursor.proofs.SeekLemmas.{Went, step_fits, seen_way, seen_goes, seen_ends, seen_misses}
 use Rattle.rb_cursor.proofs.cursors.Cursor.seek.Given.{Over}
 use Rattle.rb_cursor.proofs.cursors.Cursor.seek.Goals as goal

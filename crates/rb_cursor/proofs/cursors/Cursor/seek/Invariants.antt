@@ -1,5 +1,5 @@
 use Rattle.rb_cursor.proofs.Words.{weight}
-use Rattle.rb_cursor.proofs.HeldLemmas.{show}
+use Rattle.rb_cursor.proofs.FieldLemmas.{show}
 use Rattle.rb_cursor.proofs.SeekLemmas.{SeekState}
 use Rattle.rb_cursor.proofs.cursors.Cursor.seek.Given as goal
 

@@ -1,6 +1,6 @@
 use Rattle.rb_cursor.proofs.Words.{◌-◌, sym, ap, ◌∙◌, arith, ColouredTree, with_row}
 use Rattle.rb_cursor.proofs.ChangeLemmas.{Rewritten, rewrites}
-use Rattle.rb_cursor.proofs.HeldLemmas.{none_there}
+use Rattle.rb_cursor.proofs.FieldLemmas.{none_there}
 use Rattle.rb_cursor.proofs.cursors.Cursor.set_row.Goals as goal
 
 pub returns-then-self-eq0 : goal.returns-then-self-eq0

@@ -1,5 +1,5 @@
 use Rattle.rb_cursor.proofs.Words.{◌+◌, ◌-◌, arith, top_taken}
-use Rattle.rb_cursor.proofs.HeldLemmas.{Moved, top_present}
+use Rattle.rb_cursor.proofs.FieldLemmas.{Moved, top_present}
 use Rattle.rb_cursor.proofs.BlankLemmas.{thin_leads, room_fits, takes}
 use Rattle.rb_cursor.proofs.cursors.Cursor.take_top.Goals as goal
 
