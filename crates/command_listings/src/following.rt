@@ -272,8 +272,8 @@ fn put_again<L: LastingLog, W: Write>(
     writer: &mut Output<W>,
 ) -> Result<Result<(Followed, LogNames), NoNames>, Stop>
     ensures { (event : Event) × ReadsOnce (L.seen log.old) (L.seen log.new) (Some event)
-        × PutsIfNamed W.contents request.sources.now request.job.now part.entry followed annotator.old
-        annotator.new event writer.old writer.new result }
+        × PutsIfNamed W.contents request.sources.now request.job.now part.entry followed
+        annotator.old annotator.new event writer.old writer.new result }
 {
     match read_again(alloc, log)? {
         Ok(texts) => put_named(alloc, &texts, request, followed, annotator, part, writer),
@@ -330,8 +330,8 @@ fn put_named<W: Write>(
     writer: &mut Output<W>,
 ) -> Result<Result<(Followed, LogNames), NoNames>, Stop>
     requires { shows_symbol (lines_of (texts_in texts.now).kallsyms) ≡ true }
-    ensures { PutsIfNamed W.contents request.sources.now request.job.now part.entry followed annotator.old
-        annotator.new (Listings (texts_in texts.now)) writer.old writer.new result }
+    ensures { PutsIfNamed W.contents request.sources.now request.job.now part.entry followed
+        annotator.old annotator.new (Listings (texts_in texts.now)) writer.old writer.new result }
 {
     let index = match index_of(alloc, request.sources, texts) {
         Ok(index) => index,

@@ -216,8 +216,8 @@ fn run_script<T: Threads + Wait + Sync, R: Read, W: Write>(
     )
 }
 
-/// Annotates a log by listings or by a history: block by block, followed, or read as a whole for the
-/// offset that it says.
+/// Annotates a log by listings or by a history: block by block, followed, or read as a whole for
+/// the offset that it says.
 fn run_annotate<F: FileSource, W: Write, E: Write>(
     alloc: Global,
     files: &F,

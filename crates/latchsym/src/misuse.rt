@@ -96,8 +96,8 @@ fn explain<W: Write, E: Write>(alloc: Global, error: &Error, outputs: &mut Outpu
     help(&text, outputs)
 }
 
-/// How the parser begins the line on passing a word as a value. After an option the line is wrong, and
-/// of a negative number it quotes a part.
+/// How the parser begins the line on passing a word as a value. After an option the line is wrong,
+/// and of a negative number it quotes a part.
 const VALUE_TIP: &[u8] = b"\n  tip: to pass '";
 
 /// The bytes before that line and those after it, or all bytes and none. No second empty line is

@@ -34,8 +34,8 @@ const NOT_UNDERSTOOD: &[u8] = b" is not understood\n";
 const PROGRAM: &[u8] = b"latchsym: ";
 
 /// Ends a job: returns the program's status, which is the job's own if it came to one. Writes the
-/// notes on its listings and names or, if it failed, the line that says why, with the system's words
-/// for the error.
+/// notes on its listings and names or, if it failed, the line that says why, with the system's
+/// words for the error.
 pub fn conclude<W: Write>(
     outcome: Result<Finished, Fault>,
     job: &Job<'_>,

@@ -12,8 +12,8 @@
 //!               content: a catalog, a writer or a reader
 //! ```
 //!
-//! The answers are numbers, and each means one thing (`CallOutcome`): 0 is success, the others below 20
-//! are the refusals that the program prints, and 101 is for a handle that does not hold what is
+//! The answers are numbers, and each means one thing (`CallOutcome`): 0 is success, the others below
+//! 20 are the refusals that the program prints, and 101 is for a handle that does not hold what is
 //! wanted. include/latchsym.h documents each call.
 #![tactic(auto)]
 

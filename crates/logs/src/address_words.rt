@@ -508,7 +508,8 @@ fn next_first(first: First, has_frame: bool, tells: bool, line: &[u8]) -> First
 pub(crate) fn carry_context(context: &mut LogContext, line: &[u8], has_frame: bool)
     ensures first { context.new.first
         ≡ next_first context.old.first has_frame (tells_place line.now) (ends_trace line.now) }
-    ensures user { context.new.is_user ≡ (is_user_line context.old line.now || begins_user line.now) }
+    ensures user { context.new.is_user
+        ≡ (is_user_line context.old line.now || begins_user line.now) }
     ensures names { context.new.names ≡ context.old.names }
 {
     match memchr(b'P', line) {

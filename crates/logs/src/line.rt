@@ -121,7 +121,8 @@ fn put_word<A: Answers>(
         (words_behind line.now progress.new.at)
         ≡ framed (A.answering answers.now) context line.now progress.old
         (word ∷ words_behind line.now word.end)) }
-    ensures names { IfOk result (λ _. tallied (A.answering answers.now) context line.now progress.new
+    ensures names { IfOk result (λ _.
+        tallied (A.answering answers.now) context line.now progress.new
         (words_behind line.now progress.new.at)
         ≡ tallied (A.answering answers.now) context line.now progress.old
         (word ∷ words_behind line.now word.end)) }

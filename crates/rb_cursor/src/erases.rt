@@ -131,7 +131,8 @@ fn take_first(out: &mut Vec<Store>, copy: TreeCopy, cursor: &mut Cursor) -> Take
     requires steps { depth (shape cursor.old.tree) + length cursor.old.path ≤ 64 }
     requires list { vec_len out.old + 10 ≤ vec_capacity out.old }
     ensures takes { (links : List Store) × Adds out.old links out.new
-        × TakesFirst (copy_number copy) cursor.old.tree cursor.new.tree result.row result.short links }
+        × TakesFirst (copy_number copy) cursor.old.tree cursor.new.tree result.row result.short
+        links }
     ensures path { cursor.new.path ≡ cursor.old.path }
     ensures room { cursor.new.room ≡ cursor.old.room + 1 }
     ensures capacity { vec_capacity out.new ≡ vec_capacity out.old }

@@ -111,7 +111,8 @@ fn grow(out: &mut Vec<Store>, copy: TreeCopy, cursor: &mut Cursor, added: Record
     requires steps { length cursor.old.path ≤ 64 }
     requires room { 0 < cursor.old.room }
     requires list { vec_len out.old + 9 ≤ vec_capacity out.old }
-    ensures rows { rows cursor.new.tree ≡ rows (plugged cursor.old.path (branch true tip added tip)) }
+    ensures rows { rows cursor.new.tree
+        ≡ rows (plugged cursor.old.path (branch true tip added tip)) }
     ensures balanced { IsRedBlack cursor.new.tree }
     ensures links { AddsLinks (λ i. i ≡ added.node) (copy_number copy)
         (plugged cursor.old.path tip) cursor.new.tree out.old out.new }
