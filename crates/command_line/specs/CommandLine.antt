@@ -14,7 +14,8 @@ use Rattle.clap.specs.declared.builder.command.Command.TheViews.{out-Command}
 use Rattle.command_line.specs.declared.rows.Argument.{Argument}
 use Rattle.command_line.specs.declared.rows.Conflict.{Conflict}
 use Rattle.command_line.specs.declared.rows.ArgumentKind.{ArgumentKind}
-use Rattle.command_line.specs.declared.rows.ArgumentKind.TheVariants.{Flag, Valued, Operand, Operands}
+use Rattle.command_line.specs.declared.rows.ArgumentKind.TheVariants.{Flag, Valued, Operand}
+use Rattle.command_line.specs.declared.rows.ArgumentKind.TheVariants.{Operands}
 use Rattle.command_line.specs.declared.rows.TheConstants as said
 
 -- another argument, and what is said if the two do not go together

@@ -117,7 +117,8 @@ abbrev pub has_any_line : AddressOptions → (List ℕ → List Kept) → List (
 has_any_line form found words = list_any (has_line form found) words
 
 -- what is written for words by a catalog, and the symbols of its listing in the order listed
-abbrev pub address_text : AddressOptions → CatalogEntries → List ListedSymbol → List (List ℕ) → List ℕ
+abbrev pub address_text : AddressOptions → CatalogEntries → List ListedSymbol → List (List ℕ)
+    → List ℕ
 address_text form c symbols words = words_text form (named (kept_symbols c symbols)) words
 
 -- the program's status: 1 if no word has a line

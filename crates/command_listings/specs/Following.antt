@@ -1,5 +1,6 @@
 -- What is written for a log that lasts, whose listings are read again if names are asked for.
-use Rattle.std.specs.Prelude.{◌≡◌, ◌≤◌, ◌⊎◌, ℕ, ◌-◌, ◌^◌, ◌||◌, ◌&&◌, List, [], ◌∷◌, ◌++◌, flat_map, length, take}
+use Rattle.std.specs.Prelude.{◌≡◌, ◌≤◌, ◌⊎◌, ℕ, ◌-◌, ◌^◌, ◌||◌, ◌&&◌, List, [], ◌∷◌, ◌++◌, flat_map}
+use Rattle.std.specs.Prelude.{length, take}
 use Rattle.std.specs.Prelude.{All, Bool, Option, Some, None, Result, Ok, Err, IfSome, false, true}
 use Rattle.std.specs.Prelude.{is_some, if◌then◌else◌}
 use Rattle.std.specs.Option.{option_to_list}
@@ -15,7 +16,8 @@ use Rattle.logs.specs.Annotation.{EndsLog, IsOpen, KeepsNothingBack, Passes, Put
 use Rattle.logs.specs.AnnotatedLogs.{annotated_lines, first_context, context_over}
 use Rattle.logs.specs.Answering.{Answering}
 use Rattle.logs.specs.Lines.{AreWhole, has_end, lines}
-use Rattle.logs.specs.Unnamed.{EndsUnnamed, PassesUnnamed, ends_address, has_address, context_unnamed}
+use Rattle.logs.specs.Unnamed.{EndsUnnamed, PassesUnnamed, ends_address, has_address}
+use Rattle.logs.specs.Unnamed.{context_unnamed}
 use Rattle.logs.specs.Unnamed.{unanswered}
 use Rattle.logs.specs.declared.annotation.Findings.{Findings}
 use Rattle.logs.specs.declared.annotation.LogFault.{LogFault}

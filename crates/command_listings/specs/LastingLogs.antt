@@ -1,5 +1,6 @@
 -- What is read of a log that lasts, and of the listings that name it.
-use Rattle.std.specs.Prelude.{◌≡◌, ℕ, List, [], ◌∷◌, ◌++◌, take, Option, Some, Result, Ok, Err, IfOk, IfSome}
+use Rattle.std.specs.Prelude.{◌≡◌, ℕ, List, [], ◌∷◌, ◌++◌, take, Option, Some, Result, Ok, Err}
+use Rattle.std.specs.Prelude.{IfOk, IfSome}
 use Rattle.std.specs.Io.KnownBytes.{ReadConsumes}
 use Rattle.command_parts.specs.OpenedCatalogs.{texts_in}
 use Rattle.command_parts.specs.declared.fault.Fault.{Fault}

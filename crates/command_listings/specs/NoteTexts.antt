@@ -1,5 +1,6 @@
 -- The lines that say what is noted of listings.
-use Rattle.std.specs.Prelude.{◌≡◌, ℕ, Bool, true, false, List, [], ◌++◌, codes, flat_map, if◌then◌else◌, Option}
+use Rattle.std.specs.Prelude.{◌≡◌, ℕ, Bool, true, false, List, [], ◌++◌, codes, flat_map}
+use Rattle.std.specs.Prelude.{if◌then◌else◌, Option}
 use Rattle.std.specs.Prelude.{Some, None, unwrap_or}
 use Rattle.std.specs.Borrow.{Bor}
 use Rattle.std.specs.Option.{option_map_or}

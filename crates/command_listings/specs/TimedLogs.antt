@@ -13,7 +13,8 @@ use Rattle.modules.specs.Listed.{BoundNames}
 use Rattle.listing.specs.Looks.{is_narrow}
 use Rattle.listing.specs.declared.address_rules.LogRule.{LogRule}
 use Rattle.listing.specs.declared.listing_notes.ListingNotes.{ListingNotes}
-use Rattle.logs.specs.Annotation.{EndsLog, IsOpen, IsWriteFault, KeepsNothingBack, Passes, Puts, context_in}
+use Rattle.logs.specs.Annotation.{EndsLog, IsOpen, IsWriteFault, KeepsNothingBack, Passes, Puts}
+use Rattle.logs.specs.Annotation.{context_in}
 use Rattle.logs.specs.Annotation.{put_of}
 use Rattle.logs.specs.AnnotatedLogs.{annotated_lines, first_context, context_over}
 use Rattle.logs.specs.Answering.{Answering}

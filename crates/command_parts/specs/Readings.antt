@@ -1,5 +1,6 @@
 -- What is returned if files are read one after the other, and which of the readers failed.
-use Rattle.std.specs.Prelude.{◌≡◌, ◌⊎◌, ℕ, zero, suc, List, [], ◌∷◌, Option, Some, None, Result, Ok, Err}
+use Rattle.std.specs.Prelude.{◌≡◌, ◌⊎◌, ℕ, zero, suc, List, [], ◌∷◌, Option, Some, None, Result, Ok}
+use Rattle.std.specs.Prelude.{Err}
 use Rattle.std.specs.Prelude.{IfSome, true, false}
 use Rattle.std.specs.Option.{option_map, option_map_or}
 use Rattle.texts.specs.declared.counted.Counted.{Counted}

@@ -1,5 +1,6 @@
 -- The lines that a lookup of addresses writes.
-use Rattle.std.specs.Prelude.{ℕ, List, [], ◌++◌, codes, decimal, flat_map, map, if◌then◌else◌, Option}
+use Rattle.std.specs.Prelude.{ℕ, List, [], ◌++◌, codes, decimal, flat_map, map, if◌then◌else◌}
+use Rattle.std.specs.Prelude.{Option}
 use Rattle.texts.specs.Exact.{hexadecimal}
 use Rattle.modules.specs.Entries.{CatalogEntries}
 use Rattle.modules.specs.Listed.{BoundNames}

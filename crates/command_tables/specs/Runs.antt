@@ -14,7 +14,8 @@ use Rattle.modules.specs.Placed.{are_few}
 use Rattle.order_laws.specs.declared.refusals.Refusal.TheVariants as refusal
 use Rattle.shared_lookup.specs.Followings.{FollowServed}
 use Rattle.shared_lookup.specs.Readers.{EachHasLooked}
-use Rattle.shared_lookup.specs.Servings.{EachHasOutcome, EachIsAnswered, EachIsFoundIn, IsWrongCount}
+use Rattle.shared_lookup.specs.Servings.{EachHasOutcome, EachIsAnswered, EachIsFoundIn}
+use Rattle.shared_lookup.specs.Servings.{IsWrongCount}
 use Rattle.shared_lookup.specs.declared.served.Served.{Served}
 use Rattle.command_tables.specs.Assignments.{IsAssigned}
 use Rattle.command_tables.specs.CatalogTables.{HasFewRegions}

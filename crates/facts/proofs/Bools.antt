@@ -1,11 +1,13 @@
 -- Facts about truth values alone.
-use Rattle.facts.proofs.Words.{◌&&◌, ◌+◌, ◌||◌, ◌∙◌, ◌≡◌, Bool, arith, cond, false, not, refl, sym, true, ℕ, or-true, or_left}
+use Rattle.facts.proofs.Words.{◌&&◌, ◌+◌, ◌||◌, ◌∙◌, ◌≡◌, Bool, arith, cond, false, not, refl, sym}
+use Rattle.facts.proofs.Words.{true, ℕ, or-true, or_left}
 
 pub or_assoc : (a b c : Bool) → (a || (b || c)) ≡ ((a || b) || c)
 or_assoc a b c = elim a as (λ v. (v || (b || c)) ≡ ((v || b) || c)) [ true ↦ refl | false ↦ refl ]
 
 pub or_swap : (a b c : Bool) → (a || (b || c)) ≡ (b || (a || c))
-or_swap a b c = elim a as (λ v. (v || (b || c)) ≡ (b || (v || c))) [ true ↦ sym (or-true b) | false ↦ refl ]
+or_swap a b c =
+    elim a as (λ v. (v || (b || c)) ≡ (b || (v || c))) [ true ↦ sym (or-true b) | false ↦ refl ]
 
 -- the left one holds where the right one fails
 pub left_of_or : (a b : Bool) → (a || b) ≡ true → b ≡ false → a ≡ true

@@ -1,5 +1,9 @@
 -- Facts about the values of digits alone.
-use Rattle.facts.proofs.Words.{◌&&◌, ◌*◌, ◌++◌, ◌+◌, ◌<◌, ◌^◌, ◌∙◌, ◌∷◌, ◌≡◌, ◌≤◌, Bool, List, [], ap, arith, drop, drop_of_length-le, le-add_right, le_trans, length, refl, subst, sym, true, ℕ, ⊎_elim, list_all, and_assoc, mul-le-mul_left, pow-le-pow_right, pow-suc, pow-zero, and_parts, cases_lt, eqb-true, nat_tests, pow_more}
+use Rattle.facts.proofs.Words.{◌&&◌, ◌*◌, ◌++◌, ◌+◌, ◌<◌, ◌^◌, ◌∙◌, ◌∷◌, ◌≡◌, ◌≤◌, Bool, List, []}
+use Rattle.facts.proofs.Words.{ap, arith, drop, drop_of_length-le, le-add_right, le_trans, length}
+use Rattle.facts.proofs.Words.{refl, subst, sym, true, ℕ, ⊎_elim, list_all, and_assoc}
+use Rattle.facts.proofs.Words.{mul-le-mul_left, pow-le-pow_right, pow-suc, pow-zero, and_parts}
+use Rattle.facts.proofs.Words.{cases_lt, eqb-true, nat_tests, pow_more}
 use Rattle.std.proofs.Common.{◌==◌, nat_lt}
 use Rattle.std.specs.Char.{digit_value, is_digit}
 use Rattle.std.specs.Int.Bits.{bit_or}
@@ -12,31 +16,40 @@ pub digits_value_after-ge : (radix n : ℕ) (digits : List ℕ) → 1 ≤ radix
     → n ≤ digits_value_after radix n digits
 digits_value_after-ge radix n [] h = omega arith
 digits_value_after-ge radix n (c ∷ cs) h =
-    let step : n ≤ n * radix + digit_value c = le_trans (omega (arith, mul-le-mul_left n h)) (le-add_right (n * radix) (digit_value c)) in
+    let step : n ≤ n * radix + digit_value c =
+    le_trans (omega (arith, mul-le-mul_left n h)) (le-add_right (n * radix) (digit_value c)) in
     le_trans step (digits_value_after-ge radix (n * radix + digit_value c) cs h)
 
 pub digits_value_after-end : (radix value i : ℕ) (text : List ℕ) → length text ≤ i
     → digits_value_after radix value (drop i text) ≡ digits_value radix text
     → value ≡ digits_value radix text
-digits_value_after-end radix value i text h e = ap (digits_value_after radix value) (sym (drop_of_length-le text h)) ∙ e
+digits_value_after-end radix value i text h e =
+    ap (digits_value_after radix value) (sym (drop_of_length-le text h)) ∙ e
 
 pub list_all-end : {X : Type 0} (p : X → Bool) (i : ℕ) (text : List X) → length text ≤ i
     → list_all p (drop i text) ≡ list_all p text → list_all p text ≡ true
 list_all-end p i text h e = sym e ∙ ap (list_all p) (drop_of_length-le text h)
 
 pub digits_value_after-append : (radix n : ℕ) (xs ys : List ℕ)
-    → digits_value_after radix n (xs ++ ys) ≡ digits_value_after radix (digits_value_after radix n xs) ys
+    → digits_value_after radix n (xs ++ ys)
+    ≡ digits_value_after radix (digits_value_after radix n xs) ys
 digits_value_after-append radix n [] ys = refl
-digits_value_after-append radix n (x ∷ xs) ys = digits_value_after-append radix (n * radix + digit_value x) xs ys
+digits_value_after-append radix n (x ∷ xs) ys =
+    digits_value_after-append radix (n * radix + digit_value x) xs ys
 
 pub digits_value_after-is : (radix n : ℕ) (cs : List ℕ)
     → digits_value_after radix n cs ≡ n * radix ^ length cs + digits_value_after radix 0 cs
-digits_value_after-is radix n [] = let one : radix ^ length {A = ℕ} [] ≡ 1 = pow-zero radix in omega (arith, ap (λ x. n * x) one)
+digits_value_after-is radix n [] = let one : radix ^ length {A = ℕ} [] ≡ 1 = pow-zero radix in
+    omega (arith, ap (λ x. n * x) one)
 digits_value_after-is radix n (c ∷ cs) =
     let d = digit_value c in
     let p = radix ^ length cs in
-    let e : digits_value_after radix (n * radix + d) cs ≡ (n * radix + d) * p + digits_value_after radix 0 cs = digits_value_after-is radix (n * radix + d) cs in
-    let f : digits_value_after radix (0 * radix + d) cs ≡ (0 * radix + d) * p + digits_value_after radix 0 cs = digits_value_after-is radix (0 * radix + d) cs in
+    let e : digits_value_after radix (n * radix + d) cs
+    ≡ (n * radix + d) * p + digits_value_after radix 0 cs =
+    digits_value_after-is radix (n * radix + d) cs in
+    let f : digits_value_after radix (0 * radix + d) cs
+    ≡ (0 * radix + d) * p + digits_value_after radix 0 cs =
+    digits_value_after-is radix (0 * radix + d) cs in
     omega (arith, e, f, ap (λ x. n * x) (pow-suc radix (length cs)))
 
 -- ---- of hexadecimal digits: one more of at most sixteen
@@ -48,7 +61,8 @@ next_digit value i digit h d = rw (pow_more 16 i) (omega arith)
 pub digit_fits : (value i n digit : ℕ) → value < 16 ^ i → digit < 16 → i < n → n ≤ 16
     → value * 16 + digit < 2 ^ 64
 digit_fits value i n digit h d lt few =
-    let most : 16 ^ (i + 1) ≤ 16 ^ 16 = pow-le-pow_right {n = 16} (omega arith) {i = i + 1} {j = 16} (omega arith) in
+    let most : 16 ^ (i + 1) ≤ 16 ^ 16 =
+    pow-le-pow_right {n = 16} (omega arith) {i = i + 1} {j = 16} (omega arith) in
     let next = next_digit value i digit h d in
     let all : 16 ^ 16 ≡ 2 ^ 64 = refl in
     omega arith
@@ -57,7 +71,8 @@ digit_fits value i n digit h d lt few =
 
 pub room_for_digit : (value i : ℕ) → value + 17 ≤ 17 * 16 ^ i → i < 8 → value * 16 + 255 < 2 ^ 64
 room_for_digit value i h lt =
-    let most : 16 ^ i ≤ 16 ^ 8 = pow-le-pow_right {n = 16} (omega arith) {i = i} {j = 8} (omega arith) in
+    let most : 16 ^ i ≤ 16 ^ 8 =
+    pow-le-pow_right {n = 16} (omega arith) {i = i} {j = 8} (omega arith) in
     let all : 16 ^ 8 ≡ 4294967296 = refl in
     omega arith
 
@@ -70,7 +85,8 @@ pub small_bits : (a b : ℕ) → nat_lt (bit_or a b) 16 ≡ (nat_lt a 16 && nat_
 small_bits a b =
     ⊎_elim
     (λ a_small. ⊎_elim
-    (λ b_small. let small : bit_or a b < 16 = or_lt 4 a b a_small b_small in grind (arith, nat_tests, a_small, b_small, small))
+    (λ b_small. let small : bit_or a b < 16 = or_lt 4 a b a_small b_small in
+    grind (arith, nat_tests, a_small, b_small, small))
     (λ b_great. grind (arith, nat_tests, b_great, le_or_r a b))
     (cases_lt b 16))
     (λ a_great. grind (arith, nat_tests, a_great, le_or_l a b))
@@ -79,7 +95,8 @@ small_bits a b =
 -- the bits of one digit more
 pub more_bits : (bits digit : ℕ) (rest : Bool)
     → (nat_lt (bit_or bits digit) 16 && rest) ≡ (nat_lt bits 16 && (nat_lt digit 16 && rest))
-more_bits bits digit rest = rw (small_bits bits digit) (and_assoc (nat_lt bits 16) (nat_lt digit 16) rest)
+more_bits bits digit rest =
+    rw (small_bits bits digit) (and_assoc (nat_lt bits 16) (nat_lt digit 16) rest)
 
 -- ---- eight digits, and two times eight
 
@@ -87,9 +104,13 @@ pub two_halves : (high low : List ℕ) → length low ≡ 8
     → digits_value 16 high * 4294967296 + digits_value 16 low ≡ digits_value 16 (high ++ low)
 two_halves high low eight =
     let scale : 16 ^ length low ≡ 4294967296 = ap (λ n. 16 ^ n) eight in
-    let e : digits_value_after 16 (digits_value 16 high) low ≡ digits_value 16 high * 16 ^ length low + digits_value 16 low = digits_value_after-is 16 (digits_value 16 high) low in
-    let f : digits_value 16 (high ++ low) ≡ digits_value_after 16 (digits_value 16 high) low = digits_value_after-append 16 0 high low in
-    let g : digits_value 16 high * 16 ^ length low ≡ digits_value 16 high * 4294967296 = ap (λ x. digits_value 16 high * x) scale in
+    let e : digits_value_after 16 (digits_value 16 high) low
+    ≡ digits_value 16 high * 16 ^ length low + digits_value 16 low =
+    digits_value_after-is 16 (digits_value 16 high) low in
+    let f : digits_value 16 (high ++ low) ≡ digits_value_after 16 (digits_value 16 high) low =
+    digits_value_after-append 16 0 high low in
+    let g : digits_value 16 high * 16 ^ length low ≡ digits_value 16 high * 4294967296 =
+    ap (λ x. digits_value 16 high * x) scale in
     sym (f ∙ e ∙ ap (λ x. x + digits_value 16 low) g)
 
 pub AllDigits-from_list_all : (cs : List ℕ) → list_all (λ c. is_digit c 16) cs ≡ true

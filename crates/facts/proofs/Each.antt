@@ -1,5 +1,9 @@
 -- Facts about what each element of a list has, as `AllByRecursion` says it.
-use Rattle.facts.proofs.Words.{◌++◌, ◌<◌, ◌∷◌, ◌≡◌, ◌≢◌, ◌≤◌, Bool, List, Some, [], arith, cond, drop, eqb, false, get_or, length, subst, suc, true, zero, ℕ, ⊎_elim, Contains, filter, slice_get, AllByRecursion, list_any, IsNonDecreasingBy, eqb-true, ne_eqb, or_cases, All-contains, All-from_recursion}
+use Rattle.facts.proofs.Words.{◌++◌, ◌<◌, ◌∷◌, ◌≡◌, ◌≢◌, ◌≤◌, Bool, List, Some, [], arith, cond}
+use Rattle.facts.proofs.Words.{drop, eqb, false, get_or, length, subst, suc, true, zero, ℕ, ⊎_elim}
+use Rattle.facts.proofs.Words.{Contains, filter, slice_get, AllByRecursion, list_any}
+use Rattle.facts.proofs.Words.{IsNonDecreasingBy, eqb-true, ne_eqb, or_cases, All-contains}
+use Rattle.facts.proofs.Words.{All-from_recursion}
 use Rattle.std.specs.Prelude.{insert, remove}
 use Rattle.facts.proofs.Members.{Contains-rest}
 
@@ -35,7 +39,8 @@ all_at P xs x h is = All-contains P xs x (All-from_recursion P xs h) is
 pub all_from : {X : Type 0} (P : X → Type 0) (xs : List X)
     → ((j : ℕ) (d : X) → j < length xs → P (get_or xs j d)) → AllByRecursion P xs
 all_from P [] f = tt
-all_from P (x ∷ xs) f = (f zero x (omega arith), all_from P xs (λ j d lt. f (suc j) d (omega (arith, lt))))
+all_from P (x ∷ xs) f =
+    (f zero x (omega arith), all_from P xs (λ j d lt. f (suc j) d (omega (arith, lt))))
 
 pub all_filtered : {X : Type 0} (P : X → Type 0) (test : X → Bool) (xs : List X)
     → AllByRecursion P xs → AllByRecursion P (filter test xs)
@@ -77,7 +82,8 @@ module _ {X : Type 0} (P : X → Type 0) where
 pub all_differ : {X : Type 0} (xs : List X) (x : X) → (Contains xs x → ⊥)
     → AllByRecursion (λ y. y ≢ x) xs
 all_differ [] x absent = tt
-all_differ (y ∷ xs) x absent = ((λ e. absent (0, omega arith, e)), all_differ xs x (λ is. absent (Contains-rest y x xs is)))
+all_differ (y ∷ xs) x absent =
+    ((λ e. absent (0, omega arith, e)), all_differ xs x (λ is. absent (Contains-rest y x xs is)))
 
 pub all_differ_test : (x : ℕ) (xs : List ℕ) → AllByRecursion (λ y. x ≢ y) xs
     → AllByRecursion (λ y. eqb x y ≡ false) xs
@@ -98,8 +104,10 @@ all_below n q (x ∷ xs) h e =
 -- no element after the first is below it
 pub all_not_below : {X : Type 0} (n : X → ℕ) (x : X) (xs : List X) → IsNonDecreasingBy n (x ∷ xs)
     → AllByRecursion (λ y. n x ≤ n y) xs
-all_not_below n x xs sorted = all_from (λ y. n x ≤ n y) xs (λ j d lt. sorted zero (suc j) d (omega arith) (omega (arith, lt)))
+all_not_below n x xs sorted =
+    all_from (λ y. n x ≤ n y) xs (λ j d lt. sorted zero (suc j) d (omega arith) (omega (arith, lt)))
 
 pub rest_in_order : {X : Type 0} (n : X → ℕ) (x : X) (xs : List X) → IsNonDecreasingBy n (x ∷ xs)
     → IsNonDecreasingBy n xs
-rest_in_order n x xs sorted i j d le lt = sorted (suc i) (suc j) d (omega (arith, le)) (omega (arith, lt))
+rest_in_order n x xs sorted i j d le lt =
+    sorted (suc i) (suc j) d (omega (arith, le)) (omega (arith, lt))

@@ -1,5 +1,10 @@
 -- Facts about lists and the places in them alone.
-use Rattle.facts.proofs.Words.{◌++◌, ◌+◌, ◌-◌, ◌<◌, ◌∙◌, ◌∷◌, ◌≡◌, ◌≤◌, List, Some, [], ap, append_assoc, arith, drop, false, get_or, inl, inr, length, map, refl, suc, sym, take, true, zero, ℕ, ⊎_elim, slice_get, slice_index_or, slice_set, onto_first, swap_remove, lt-ltb, take-set, take-take, take_more, Option, None, filter_map, cons_option, filter_map-append}
+use Rattle.facts.proofs.Words.{◌++◌, ◌+◌, ◌-◌, ◌<◌, ◌∙◌, ◌∷◌, ◌≡◌, ◌≤◌, List, Some, [], ap}
+use Rattle.facts.proofs.Words.{append_assoc, arith, drop, false, get_or, inl, inr, length, map}
+use Rattle.facts.proofs.Words.{refl, suc, sym, take, true, zero, ℕ, ⊎_elim, slice_get}
+use Rattle.facts.proofs.Words.{slice_index_or, slice_set, onto_first, swap_remove, lt-ltb, take-set}
+use Rattle.facts.proofs.Words.{take-take, take_more, Option, None, filter_map, cons_option}
+use Rattle.facts.proofs.Words.{filter_map-append}
 use Rattle.std.proofs.Common.{append-nil}
 use Rattle.std.specs.Prelude.{◌⊎◌, insert, nat_lt, remove}
 use Rattle.std.specs.Global.{Vec}
@@ -14,7 +19,8 @@ pushed_before x xs ys = append_assoc xs (x ∷ []) ys
 -- one element of the rest goes over to the front
 pub moved_over : {X : Type 0} (all done rest after : List X) (x : X) → done ++ rest ≡ all
     → rest ≡ x ∷ after → (done ++ x ∷ []) ++ after ≡ all
-moved_over all done rest after x joined cut = append_assoc done (x ∷ []) after ∙ ap (λ xs. done ++ xs) (sym cut) ∙ joined
+moved_over all done rest after x joined cut =
+    append_assoc done (x ∷ []) after ∙ ap (λ xs. done ++ xs) (sym cut) ∙ joined
 
 -- what was taken of a list, the rest of it, and one list more
 pub gathered : {A : Type 0} (before taken mid more rest new text so_far : List A)
@@ -23,8 +29,10 @@ pub gathered : {A : Type 0} (before taken mid more rest new text so_far : List A
 gathered before taken mid more rest new text so_far first second third =
     ap (λ l. (taken ++ more) ++ l) third
     ∙ append_assoc taken more (rest ++ text)
-    ∙ ap (λ l. taken ++ l) (sym (append_assoc more rest text) ∙ ap (λ l. l ++ text) (second ∙ append-nil mid))
-    ∙ sym (append_assoc taken mid text) ∙ ap (λ l. l ++ text) first ∙ append_assoc before so_far text
+    ∙ ap (λ l. taken ++ l)
+    (sym (append_assoc more rest text) ∙ ap (λ l. l ++ text) (second ∙ append-nil mid))
+    ∙ sym (append_assoc taken mid text) ∙ ap (λ l. l ++ text) first
+    ∙ append_assoc before so_far text
 
 pub append_nil_left : {X : Type 0} (xs ys : List X) → xs ++ ys ≡ [] → xs ≡ []
 append_nil_left [] ys e = refl
@@ -39,12 +47,14 @@ IsPrefix-whole xs = ([], append-nil xs)
 
 pub IsPrefix-along : {X : Type 0} (xs ys zs : List X) → IsPrefix xs ys → IsPrefix ys zs
     → IsPrefix xs zs
-IsPrefix-along xs ys zs p q = (p.0 ++ q.0, sym (append_assoc xs p.0 q.0) ∙ (ap (λ z. z ++ q.0) p.1 ∙ q.1))
+IsPrefix-along xs ys zs p q =
+    (p.0 ++ q.0, sym (append_assoc xs p.0 q.0) ∙ (ap (λ z. z ++ q.0) p.1 ∙ q.1))
 
 pub nil-from_length : {X : Type 0} (xs : List X) → nat_lt 0 (length xs) ≡ false → xs ≡ []
 nil-from_length [] e = refl
 nil-from_length (x ∷ xs) e =
-    absurd (let more : nat_lt 0 (suc (length xs)) ≡ true = lt-ltb 0 (suc (length xs)) (omega arith) in let f : true ≡ false = sym more ∙ e in cc)
+    absurd (let more : nat_lt 0 (suc (length xs)) ≡ true =
+    lt-ltb 0 (suc (length xs)) (omega arith) in let f : true ≡ false = sym more ∙ e in cc)
 
 pub length-onto_first : (x : ℕ) (lines : List (List ℕ))
     → length (onto_first x lines) ≤ length lines + 1
@@ -62,12 +72,14 @@ length-map_same (a ∷ xs) (b ∷ ys) e = ap suc (length-map_same xs ys (ap (λ 
 
 pub length-map_same_at : {X Y : Type 0} (xs : List (Vec X)) (ys : List (Vec Y))
     → map (λ (v : Vec Y). length v.items) ys ≡ map (λ (v : Vec X). length v.items) xs
-    → (i : ℕ) (x : Vec X) (y : Vec Y) → i < length xs → x ≡ get_or xs i x → y ≡ get_or ys i y → length y.items ≡ length x.items
+    → (i : ℕ) (x : Vec X) (y : Vec Y) → i < length xs → x ≡ get_or xs i x → y ≡ get_or ys i y
+    → length y.items ≡ length x.items
 length-map_same_at [] ys e i x y l ex ey = absurd (omega arith)
 length-map_same_at (a ∷ xs) [] e i x y l ex ey = absurd (let f = ap length e in omega arith)
 length-map_same_at (a ∷ xs) (b ∷ ys) e zero x y l ex ey =
     rw ex (rw ey (ap (λ ns. get_or ns 0 0) e))
-length-map_same_at (a ∷ xs) (b ∷ ys) e (suc i) x y l ex ey = length-map_same_at xs ys (ap (λ ns. drop 1 ns) e) i x y (omega arith) ex ey
+length-map_same_at (a ∷ xs) (b ∷ ys) e (suc i) x y l ex ey =
+    length-map_same_at xs ys (ap (λ ns. drop 1 ns) e) i x y (omega arith) ex ey
 
 -- ---- the front of a list, and one element more of it
 
@@ -119,7 +131,8 @@ slice_get-push_cases [] u v zero e = inr (refl, cc)
 slice_get-push_cases [] u v (suc j) e = absurd cc
 slice_get-push_cases (x ∷ xs) u v zero e = inl (omega arith, e)
 slice_get-push_cases (x ∷ xs) u v (suc j) e =
-    ⊎_elim (λ k. inl (let l = k.0 in omega arith, k.1)) (λ k. inr (ap suc k.0, k.1)) (slice_get-push_cases xs u v j e)
+    ⊎_elim (λ k. inl (let l = k.0 in omega arith, k.1)) (λ k. inr (ap suc k.0, k.1))
+    (slice_get-push_cases xs u v j e)
 
 -- the place of an element of a list is also that of what is made of it
 pub get_or-map_default : {X Y : Type 0} (f : X → Y) (xs : List X) (i : ℕ) (d : X)
@@ -158,9 +171,12 @@ map-remove f (y ∷ xs) (suc i) = ap (λ ys. f y ∷ ys) (map-remove f xs i)
 -- ---- what a function gives of the elements, and of one more
 
 module _ {A T : Type 0} (f : A → Option T) (xs : List A) (x : A) where
-  pub one_given_more : (t : T) → f x ≡ Some t → filter_map f (xs ++ x ∷ []) ≡ filter_map f xs ++ t ∷ []
-  one_given_more t is = filter_map-append f xs (x ∷ []) ∙ ap (λ o. filter_map f xs ++ cons_option o []) is
+  pub one_given_more : (t : T) → f x ≡ Some t
+      → filter_map f (xs ++ x ∷ []) ≡ filter_map f xs ++ t ∷ []
+  one_given_more t is =
+      filter_map-append f xs (x ∷ []) ∙ ap (λ o. filter_map f xs ++ cons_option o []) is
 
   pub none_given_more : f x ≡ None → filter_map f (xs ++ x ∷ []) ≡ filter_map f xs
   none_given_more is =
-      filter_map-append f xs (x ∷ []) ∙ ap (λ o. filter_map f xs ++ cons_option o []) is ∙ append-nil (filter_map f xs)
+      filter_map-append f xs (x ∷ []) ∙ ap (λ o. filter_map f xs ++ cons_option o []) is
+      ∙ append-nil (filter_map f xs)

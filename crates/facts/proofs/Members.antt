@@ -1,5 +1,8 @@
 -- Facts about the members of a list alone.
-use Rattle.facts.proofs.Words.{◌++◌, ◌∷◌, ◌≡◌, ◌≢◌, List, Some, [], ap, arith, drop, inl, inr, map, subst, suc, sym, take, zero, ℕ, ⊎_elim, Contains, slice_get, take-append-drop, Contains-append_cases, Contains-append_left, Contains-append_right, get_or_from_slice_get, slice_get_within}
+use Rattle.facts.proofs.Words.{◌++◌, ◌∷◌, ◌≡◌, ◌≢◌, List, Some, [], ap, arith, drop, inl, inr, map}
+use Rattle.facts.proofs.Words.{subst, suc, sym, take, zero, ℕ, ⊎_elim, Contains, slice_get}
+use Rattle.facts.proofs.Words.{take-append-drop, Contains-append_cases, Contains-append_left}
+use Rattle.facts.proofs.Words.{Contains-append_right, get_or_from_slice_get, slice_get_within}
 use Rattle.std.specs.Prelude.{◌⊎◌, insert, remove}
 use Rattle.facts.proofs.Lists.{parted_at}
 
@@ -20,7 +23,8 @@ Contains-one x y (suc k, lt, e) = absurd (omega arith)
 -- a member of a list is its head or of its rest
 pub Contains-cons_cases : {X : Type 0} (x y : X) (xs : List X) → Contains (x ∷ xs) y
     → (x ≡ y) ⊎ Contains xs y
-Contains-cons_cases x y xs h = ⊎_elim (λ e. inl (Contains-one x y e)) (λ e. inr e) (Contains-append_cases (x ∷ []) xs y h)
+Contains-cons_cases x y xs h =
+    ⊎_elim (λ e. inl (Contains-one x y e)) (λ e. inr e) (Contains-append_cases (x ∷ []) xs y h)
 
 pub Contains-slice_get : {A : Type 0} (xs : List A) (k : ℕ) (x : A) → slice_get xs k ≡ Some x
     → Contains xs x
@@ -29,7 +33,9 @@ Contains-slice_get xs k x at = (k, slice_get_within xs k x at, get_or_from_slice
 pub Contains-map : {X Y : Type 0} (f : X → Y) (xs : List X) (x : X) → Contains xs x
     → Contains (map f xs) (f x)
 Contains-map f (y ∷ xs) x (zero, lt, is) = (zero, omega arith, ap f is)
-Contains-map f (y ∷ xs) x (suc k, lt, is) = let (j, less, there) = Contains-map f xs x (k, omega arith, is) in (suc j, omega arith, there)
+Contains-map f (y ∷ xs) x (suc k, lt, is) = let (j, less, there) =
+    Contains-map f xs x (k, omega arith, is) in
+    (suc j, omega arith, there)
 Contains-map f [] x (k, lt, is) = absurd (omega arith)
 
 -- ---- with an element put in, and with one taken out, at a place
@@ -39,8 +45,11 @@ pub Contains-insert_cases : {X : Type 0} (xs : List X) (i : ℕ) (x y : X)
 Contains-insert_cases xs i x y is =
     let whole : take i xs ++ drop i xs ≡ xs = take-append-drop i xs in
     ⊎_elim
-    (λ front. inr (subst (λ zs. Contains zs y) whole (Contains-append_left (take i xs) (drop i xs) y front)))
-    (λ back. ⊎_elim (λ e. inl (sym e)) (λ rest. inr (subst (λ zs. Contains zs y) whole (Contains-append_right (take i xs) (drop i xs) y rest))) (Contains-cons_cases x y (drop i xs) back))
+    (λ front. inr
+    (subst (λ zs. Contains zs y) whole (Contains-append_left (take i xs) (drop i xs) y front)))
+    (λ back. ⊎_elim (λ e. inl (sym e)) (λ rest. inr
+    (subst (λ zs. Contains zs y) whole (Contains-append_right (take i xs) (drop i xs) y rest)))
+    (Contains-cons_cases x y (drop i xs) back))
     (Contains-append_cases (take i xs) (x ∷ drop i xs) y is)
 
 pub Contains-insert : {X : Type 0} (xs : List X) (i : ℕ) (x y : X) → (y ≡ x) ⊎ Contains xs y
@@ -51,8 +60,10 @@ Contains-insert xs i x y is =
     (λ old.
     ⊎_elim
     (λ front. Contains-append_left (take i xs) (x ∷ drop i xs) y front)
-    (λ back. Contains-append_right (take i xs) (x ∷ drop i xs) y (Contains-rest x y (drop i xs) back))
-    (Contains-append_cases (take i xs) (drop i xs) y (let whole : take i xs ++ drop i xs ≡ xs = take-append-drop i xs in subst (λ zs. Contains zs y) (sym whole) old)))
+    (λ back.
+    Contains-append_right (take i xs) (x ∷ drop i xs) y (Contains-rest x y (drop i xs) back))
+    (Contains-append_cases (take i xs) (drop i xs) y (let whole : take i xs ++ drop i xs ≡ xs =
+    take-append-drop i xs in subst (λ zs. Contains zs y) (sym whole) old)))
     is
 
 pub Contains-remove : {X : Type 0} (xs : List X) (i : ℕ) (x y : X) → slice_get xs i ≡ Some x
@@ -60,5 +71,8 @@ pub Contains-remove : {X : Type 0} (xs : List X) (i : ℕ) (x y : X) → slice_g
 Contains-remove xs i x y e (is, ne) =
     ⊎_elim
     (λ front. Contains-append_left (take i xs) (drop (suc i) xs) y front)
-    (λ back. ⊎_elim (λ same. absurd (ne (sym same))) (λ rest. Contains-append_right (take i xs) (drop (suc i) xs) y rest) (Contains-cons_cases x y (drop (suc i) xs) back))
-    (Contains-append_cases (take i xs) (x ∷ drop (suc i) xs) y (subst (λ zs. Contains zs y) (parted_at xs i x e) is))
+    (λ back. ⊎_elim (λ same. absurd (ne (sym same)))
+    (λ rest. Contains-append_right (take i xs) (drop (suc i) xs) y rest)
+    (Contains-cons_cases x y (drop (suc i) xs) back))
+    (Contains-append_cases (take i xs) (x ∷ drop (suc i) xs) y
+    (subst (λ zs. Contains zs y) (parted_at xs i x e) is))

@@ -1,5 +1,9 @@
 -- Facts about numbers and tests on them alone.
-use Rattle.facts.proofs.Words.{◌&&◌, ◌+◌, ◌<◌, ◌||◌, ◌∙◌, ◌≡◌, ◌≤◌, arith, false, if◌then◌else◌, inl, inr, min, nat_le, not, subst, suc, sym, true, ℕ, ⊎_elim, max, is_lt, nat_cmp, ordering_then, min-eq_left, min-eq_right, min-le_left, min-le_right, cases_Bool, cases_eq, cases_lt, eq-eqb, eqb-true, le-ltb, ltb-false, ne_eqb, leb_tells, nat_tests}
+use Rattle.facts.proofs.Words.{◌&&◌, ◌+◌, ◌<◌, ◌||◌, ◌∙◌, ◌≡◌, ◌≤◌, arith, false, if◌then◌else◌}
+use Rattle.facts.proofs.Words.{inl, inr, min, nat_le, not, subst, suc, sym, true, ℕ, ⊎_elim, max}
+use Rattle.facts.proofs.Words.{is_lt, nat_cmp, ordering_then, min-eq_left, min-eq_right}
+use Rattle.facts.proofs.Words.{min-le_left, min-le_right, cases_Bool, cases_eq, cases_lt, eq-eqb}
+use Rattle.facts.proofs.Words.{eqb-true, le-ltb, ltb-false, ne_eqb, leb_tells, nat_tests}
 use Rattle.std.proofs.Common.{◌⊎◌, nat_eq, nat_lt}
 use Rattle.std.specs.Prelude.{◌==◌}
 use Rattle.std.proofs.Math.Dec.{leb}
@@ -28,17 +32,21 @@ suc-max_right w n a b h = omega arith
 
 -- below the lesser of two numbers, and not below it
 pub below_min : (a b m n : ℕ) → m ≡ min a b → n < m → (n < a) × (n < b)
-below_min a b m n is below = (omega (arith, is, below, min-le_left a b), omega (arith, is, below, min-le_right a b))
+below_min a b m n is below =
+    (omega (arith, is, below, min-le_left a b), omega (arith, is, below, min-le_right a b))
 
 pub past_min : (a b m n : ℕ) → m ≡ min a b → m ≤ n → (a ≤ n) ⊎ (b ≤ n)
 past_min a b m n is above = by (leb_tells a b)
   where
     by : ((leb a b ≡ true) × (a ≤ b)) ⊎ ((leb a b ≡ false) × (b < a)) → (a ≤ n) ⊎ (b ≤ n)
     by (inl (t, less)) = let e = min-eq_left less in inl (omega (arith, e, is, above))
-    by (inr (t, more)) = let less : b ≤ a = omega (arith, more) in let e = min-eq_right less in inr (omega (arith, e, is, above))
+    by (inr (t, more)) = let less : b ≤ a = omega (arith, more) in
+        let e = min-eq_right less in
+        inr (omega (arith, e, is, above))
 
 pub eqb-one_false : (n : ℕ) → (n ≡ 1 → ⊥) → nat_eq n 1 ≡ false
-eqb-one_false n h = ⊎_elim (λ one. absurd (h (eqb-true n 1 one))) (λ other. other) (cases_Bool (nat_eq n 1))
+eqb-one_false n h =
+    ⊎_elim (λ one. absurd (h (eqb-true n 1 one))) (λ other. other) (cases_Bool (nat_eq n 1))
 
 pub eqb-one_more : (n : ℕ) → not (nat_eq (suc (suc n)) 1) ≡ true
 eqb-one_more n = grind (arith, nat_tests)
@@ -58,7 +66,8 @@ pub le_or_past : (a b q : ℕ) → (a ≤ b) ⊎ (q < a) → (nat_le a b || nat_
 le_or_past a b q h = ⊎_elim (λ le. grind (arith, nat_tests)) (λ lt. grind (arith, nat_tests)) h
 
 pub le_or_past_cases : (t s q : ℕ) → (nat_le t s || nat_lt q t) ≡ true → (t ≤ s) ⊎ (q < t)
-le_or_past_cases t s q h = ⊎_elim (λ over. inr over) (λ under. inl (grind (arith, nat_tests))) (cases_lt q t)
+le_or_past_cases t s q h =
+    ⊎_elim (λ over. inr over) (λ under. inl (grind (arith, nat_tests))) (cases_lt q t)
 
 pub le_unless_past : (a b q : ℕ) → (nat_le a b || nat_lt q a) ≡ true → a ≤ q → a ≤ b
 le_unless_past a b q h le = grind (arith, nat_tests)
@@ -73,7 +82,8 @@ pub least_above : (a b q : ℕ) → (b ≤ q) ⊎ (a ≤ b) → (nat_le b q || n
 least_above a b q h = ⊎_elim (λ le. grind (arith, nat_tests)) (λ le. grind (arith, nat_tests)) h
 
 pub least_above_cases : (u t s : ℕ) → (nat_le u s || nat_le t u) ≡ true → (u ≤ s) ⊎ (t ≤ u)
-least_above_cases u t s h = ⊎_elim (λ over. inr (grind (arith, nat_tests))) (λ under. inl under) (cases_lt s u)
+least_above_cases u t s h =
+    ⊎_elim (λ over. inr (grind (arith, nat_tests))) (λ under. inl under) (cases_lt s u)
 
 pub least_above_past : (a b q : ℕ) → (nat_le b q || nat_le a b) ≡ true → q < b → a ≤ b
 least_above_past a b q h lt = grind (arith, nat_tests)
@@ -85,11 +95,13 @@ least_above_below a q t u le h = grind (arith, nat_tests)
 -- ---- where a test of a range says no more
 
 pub le_or_past_within : (t s addr start end : ℕ) → start ≤ s → addr < end
-    → (not (nat_le start t && nat_lt t end) || (nat_le t s || nat_lt addr t)) ≡ (nat_le t s || nat_lt addr t)
+    → (not (nat_le start t && nat_lt t end) || (nat_le t s || nat_lt addr t))
+    ≡ (nat_le t s || nat_lt addr t)
 le_or_past_within t s addr start end from below = grind (arith, nat_tests)
 
 pub least_above_within : (t s addr start end : ℕ) → start ≤ addr → s < end
-    → (not (nat_le start t && nat_lt t end) || (nat_le t addr || nat_le s t)) ≡ (nat_le t addr || nat_le s t)
+    → (not (nat_le start t && nat_lt t end) || (nat_le t addr || nat_le s t))
+    ≡ (nat_le t addr || nat_le s t)
 least_above_within t s addr start end from below = grind (arith, nat_tests)
 
 -- ---- pairs in order by the first number and then, turned round, by the second

@@ -1,5 +1,8 @@
 -- Facts about options and results alone.
-use Rattle.facts.proofs.Words.{◌∙◌, ◌≡◌, ◌≢◌, Bool, Err, IfOk, List, None, Ok, Option, Some, ap, cond, false, refl, subst, sym, true, ℕ, IfNone, IfSome, IsSome, OnErr, is_some, bytes_decides, pointwise, same_text, option_copied, option_eq, option_map_or, bytes_eq, false_from_ne_true}
+use Rattle.facts.proofs.Words.{◌∙◌, ◌≡◌, ◌≢◌, Bool, Err, IfOk, List, None, Ok, Option, Some, ap}
+use Rattle.facts.proofs.Words.{cond, false, refl, subst, sym, true, ℕ, IfNone, IfSome, IsSome}
+use Rattle.facts.proofs.Words.{OnErr, is_some, bytes_decides, pointwise, same_text, option_copied}
+use Rattle.facts.proofs.Words.{option_eq, option_map_or, bytes_eq, false_from_ne_true}
 use Rattle.std.proofs.Common.{Result}
 use Rattle.std.specs.Prelude.{nat_eq, option_map}
 use Rattle.std.specs.Borrow.{Bor}
@@ -50,7 +53,8 @@ pub bytes_eq-one_name : (o : Option (List ℕ)) (m n : List ℕ) → m ≢ n
     → option_map_or (λ name. bytes_eq name m) o false ≡ true
     → option_map_or (λ name. bytes_eq name n) o false ≡ false
 bytes_eq-one_name None m n differ h = refl
-bytes_eq-one_name (Some name) m n differ h = false_from_ne_true (bytes_eq name n) (λ same. differ (sym ((bytes_decides name m).0 h) ∙ (bytes_decides name n).0 same))
+bytes_eq-one_name (Some name) m n differ h = false_from_ne_true (bytes_eq name n)
+    (λ same. differ (sym ((bytes_decides name m).0 h) ∙ (bytes_decides name n).0 same))
 
 -- what holds anyhow holds after a failure
 pub OnErr-from : {T E : Type 0} (r : Result T E) {P : Type 0} → P → OnErr r P

@@ -1,5 +1,8 @@
 -- Facts about the outcomes of a comparison alone.
-use Rattle.facts.proofs.Words.{◌&&◌, ◌<◌, ◌∙◌, ◌≡◌, ◌≢◌, ◌≤◌, List, ap, arith, false, inl, inr, not, refl, true, ℕ, slice_cmp, is_eq, is_le, is_lt, nat_cmp, ordering_index, ordering_reverse, bytes_eq, Ordering, Equal, Greater, Less, nat_tests, nat_list_cmp_total}
+use Rattle.facts.proofs.Words.{◌&&◌, ◌<◌, ◌∙◌, ◌≡◌, ◌≢◌, ◌≤◌, List, ap, arith, false, inl, inr, not}
+use Rattle.facts.proofs.Words.{refl, true, ℕ, slice_cmp, is_eq, is_le, is_lt, nat_cmp}
+use Rattle.facts.proofs.Words.{ordering_index, ordering_reverse, bytes_eq, Ordering, Equal, Greater}
+use Rattle.facts.proofs.Words.{Less, nat_tests, nat_list_cmp_total}
 use Rattle.std.specs.Prelude.{◌⊎◌}
 use Rattle.std.proofs.lemmas.Map.Text.{is_eq-slice_cmp}
 
@@ -89,6 +92,9 @@ pub Less-from_lt : (q b : ℕ) → q < b → nat_cmp q b ≡ Less
 Less-from_lt q b h = grind (arith, nat_tests)
 
 pub bytes_eq-neither : (xs ys : List ℕ)
-    → (not (is_lt (slice_cmp nat_cmp xs ys)) && not (is_lt (slice_cmp nat_cmp ys xs))) ≡ bytes_eq ys xs
+    → (not (is_lt (slice_cmp nat_cmp xs ys)) && not (is_lt (slice_cmp nat_cmp ys xs)))
+    ≡ bytes_eq ys xs
 bytes_eq-neither xs ys =
-    ap (λ r. not (is_lt r) && not (is_lt (slice_cmp nat_cmp ys xs))) (nat_list_cmp_total.antisymm xs ys) ∙ is_eq-neither (slice_cmp nat_cmp ys xs) ∙ is_eq-slice_cmp ys xs
+    ap (λ r. not (is_lt r) && not (is_lt (slice_cmp nat_cmp ys xs)))
+    (nat_list_cmp_total.antisymm xs ys) ∙ is_eq-neither (slice_cmp nat_cmp ys xs)
+    ∙ is_eq-slice_cmp ys xs

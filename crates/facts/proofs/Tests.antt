@@ -1,5 +1,14 @@
 -- Facts about a test of the elements of a list alone: which pass, how many, and the first.
-use Rattle.facts.proofs.Words.{◌&&◌, ◌++◌, ◌+◌, ◌-◌, ◌<◌, ◌||◌, ◌∙◌, ◌∷◌, ◌≡◌, ◌≤◌, Bool, Err, List, None, Ok, Option, Some, [], add-zero, ap, arith, cond, drop, false, get_or, inl, inr, length, length-append, map, not, refl, subst, suc, sym, take, true, zero, ℕ, ⊎_elim, All, count_by, filter, find, is_ok, is_some, bytes_decides, AllByRecursion, list_all, list_any, position_from, IsBinarySearchResult, IsNonDecreasing, nat_cmp, bytes_eq, cases_Bool, cases_lt, eq-eqb, false_from_ne_true, ne_eqb, or_parts, get_or_default_zero, get_or-map, get_or_append_left, length-map, All-cons, All-head, All-nil, All-tail, Contains, slice_get, get_or_from_slice_get, slice_get-get_or, slice_get_within}
+use Rattle.facts.proofs.Words.{◌&&◌, ◌++◌, ◌+◌, ◌-◌, ◌<◌, ◌||◌, ◌∙◌, ◌∷◌, ◌≡◌, ◌≤◌, Bool, Err, List}
+use Rattle.facts.proofs.Words.{None, Ok, Option, Some, [], add-zero, ap, arith, cond, drop, false}
+use Rattle.facts.proofs.Words.{get_or, inl, inr, length, length-append, map, not, refl, subst, suc}
+use Rattle.facts.proofs.Words.{sym, take, true, zero, ℕ, ⊎_elim, All, count_by, filter, find, is_ok}
+use Rattle.facts.proofs.Words.{is_some, bytes_decides, AllByRecursion, list_all, list_any}
+use Rattle.facts.proofs.Words.{position_from, IsBinarySearchResult, IsNonDecreasing, nat_cmp}
+use Rattle.facts.proofs.Words.{bytes_eq, cases_Bool, cases_lt, eq-eqb, false_from_ne_true, ne_eqb}
+use Rattle.facts.proofs.Words.{or_parts, get_or_default_zero, get_or-map, get_or_append_left}
+use Rattle.facts.proofs.Words.{length-map, All-cons, All-head, All-nil, All-tail, Contains}
+use Rattle.facts.proofs.Words.{slice_get, get_or_from_slice_get, slice_get-get_or, slice_get_within}
 use Rattle.std.proofs.Common.{◌⊎◌}
 use Rattle.std.specs.Prelude.{◌==◌, Result, nat_eq}
 use Rattle.std.specs.Option.{option_map}
@@ -17,12 +26,14 @@ use Rattle.facts.proofs.Members.{Contains-head, Contains-rest}
 pub all_fail : {X : Type 0} (test : X → Bool) (xs : List X) → list_any test xs ≡ false
     → AllByRecursion (λ x. test x ≡ false) xs
 all_fail test [] e = tt
-all_fail test (x ∷ xs) e = let both = or_parts (test x) (list_any test xs) e in (both.0, all_fail test xs both.1)
+all_fail test (x ∷ xs) e = let both = or_parts (test x) (list_any test xs) e in
+    (both.0, all_fail test xs both.1)
 
 pub list_any-all_fail : {X : Type 0} (test : X → Bool) (xs : List X)
     → AllByRecursion (λ x. test x ≡ false) xs → list_any test xs ≡ false
 list_any-all_fail test [] h = refl
-list_any-all_fail test (x ∷ xs) h = ap (λ b. b || list_any test xs) h.0 ∙ list_any-all_fail test xs h.1
+list_any-all_fail test (x ∷ xs) h =
+    ap (λ b. b || list_any test xs) h.0 ∙ list_any-all_fail test xs h.1
 
 -- a number that is above all is equal to none
 pub list_any-above : (i : ℕ) (xs : List ℕ) → All (λ x. x < i) xs → list_any (nat_eq i) xs ≡ false
@@ -34,21 +45,25 @@ list_any-above i (x ∷ xs) h =
 
 pub All-from_list_any : {A : Type 0} (p : A → Bool) (xs : List A) → list_any p xs ≡ false
     → All (λ y. p y ≡ false) xs
-All-from_list_any p xs none = λ k d lt. false_from_ne_true (p (get_or xs k d)) (λ yes. let some : list_any p xs ≡ true = list_any_at p xs k d lt yes in cc)
+All-from_list_any p xs none = λ k d lt. false_from_ne_true (p (get_or xs k d))
+    (λ yes. let some : list_any p xs ≡ true = list_any_at p xs k d lt yes in cc)
 
 pub list_all-agree : {A : Type 0} (p q : A → Bool) (xs : List A) → All (λ x. p x ≡ q x) xs
     → list_all p xs ≡ list_all q xs
 list_all-agree p q [] same = refl
 list_all-agree p q (x ∷ xs) same =
     let first : p x ≡ q x = All-head (λ y. p y ≡ q y) x xs same in
-    let rest : list_all p xs ≡ list_all q xs = list_all-agree p q xs (All-tail (λ y. p y ≡ q y) x xs same) in
+    let rest : list_all p xs ≡ list_all q xs =
+    list_all-agree p q xs (All-tail (λ y. p y ≡ q y) x xs same) in
     ap (λ b. b && list_all p xs) first ∙ ap (λ b. q x && b) rest
 
 pub list_all-each_agree : {X Y : Type 0} (p : Y → X → Bool) (xs ys : List X) (rs : List Y)
     → ((q : X → Bool) → list_all q xs ≡ list_all q ys)
     → list_all (λ r. list_all (p r) xs) rs ≡ list_all (λ r. list_all (p r) ys) rs
 list_all-each_agree p xs ys [] same = refl
-list_all-each_agree p xs ys (r ∷ rs) same = ap (λ b. b && list_all (λ x. list_all (p x) xs) rs) (same (p r)) ∙ ap (λ b. list_all (p r) ys && b) (list_all-each_agree p xs ys rs same)
+list_all-each_agree p xs ys (r ∷ rs) same =
+    ap (λ b. b && list_all (λ x. list_all (p x) xs) rs) (same (p r))
+    ∙ ap (λ b. list_all (p r) ys && b) (list_all-each_agree p xs ys rs same)
 
 -- a binary search finds what is there
 pub list_any-binary_search : (xs : List ℕ) (a : ℕ) (r : Result ℕ ℕ) →
@@ -71,7 +86,8 @@ pub length-filter_le : {X : Type 0} (test : X → Bool) (xs : List X)
     → length (filter test xs) ≤ length xs
 length-filter_le test [] = omega arith
 length-filter_le test (x ∷ xs) =
-    elim (test x) as (λ b. length (cond b (x ∷ filter test xs) (filter test xs)) ≤ length (x ∷ xs)) [
+    elim (test x) as (λ b.
+    length (cond b (x ∷ filter test xs) (filter test xs)) ≤ length (x ∷ xs)) [
       | true ↦ omega (arith, length-filter_le test xs)
       | false ↦ omega (arith, length-filter_le test xs)
     ]
@@ -79,7 +95,13 @@ length-filter_le test (x ∷ xs) =
 pub count_by-either : {A : Type 0} (p : A → Bool) (xs : List A)
     → count_by p xs + count_by (λ x. not (p x)) xs ≡ length xs
 count_by-either p [] = omega arith
-count_by-either p (x ∷ xs) = omega (arith, count_by-either p xs, count_either (p x), sum_by-cons (λ y. cond (p y) 1 0) x xs, sum_by-cons (λ y. cond (not (p y)) 1 0) x xs)
+count_by-either p (x ∷ xs) = omega (
+  arith,
+  count_by-either p xs,
+  count_either (p x),
+  sum_by-cons (λ y. cond (p y) 1 0) x xs,
+  sum_by-cons (λ y. cond (not (p y)) 1 0) x xs,
+)
 
 -- where those that pass lie between two places
 pub filter-middle : {A : Type 0} (q : A → Bool) (xs : List A) (i j : ℕ) → i ≤ j
@@ -87,31 +109,43 @@ pub filter-middle : {A : Type 0} (q : A → Bool) (xs : List A) (i j : ℕ) → 
     → ((k : ℕ) (d : A) → i ≤ k → k < j → k < length xs → q (get_or xs k d) ≡ true)
     → ((k : ℕ) (d : A) → j ≤ k → k < length xs → q (get_or xs k d) ≡ false)
     → filter q xs ≡ take (j - i) (drop i xs)
-filter-middle q [] i j le before within after = sym (ap (take (j - i)) (drop-nil i) ∙ take-nil (j - i))
+filter-middle q [] i j le before within after =
+    sym (ap (take (j - i)) (drop-nil i) ∙ take-nil (j - i))
 filter-middle q (x ∷ xs) zero zero le before within after =
     let here : q x ≡ false = after 0 x (omega arith) (omega arith) in
-    let rest : filter q xs ≡ take (0 - 0) (drop 0 xs) = filter-middle q xs 0 0 (omega arith) (λ k d lt l. absurd (omega arith)) (λ k d l lt w. absurd (omega arith)) (λ k d l lt. after (suc k) d (omega arith) (omega arith)) in
+    let rest : filter q xs ≡ take (0 - 0) (drop 0 xs) =
+    filter-middle q xs 0 0 (omega arith) (λ k d lt l. absurd (omega arith)) (λ k d l lt w.
+    absurd (omega arith)) (λ k d l lt. after (suc k) d (omega arith) (omega arith)) in
     rw here rest
 filter-middle q (x ∷ xs) zero (suc j) le before within after =
     let here : q x ≡ true = within 0 x (omega arith) (omega arith) (omega arith) in
-    let rest : filter q xs ≡ take (j - 0) (drop 0 xs) = filter-middle q xs 0 j (omega arith) (λ k d lt l. absurd (omega arith)) (λ k d l lt w. within (suc k) d (omega arith) (omega arith) (omega arith)) (λ k d l lt. after (suc k) d (omega arith) (omega arith)) in
+    let rest : filter q xs ≡ take (j - 0) (drop 0 xs) =
+    filter-middle q xs 0 j (omega arith) (λ k d lt l. absurd (omega arith))
+    (λ k d l lt w. within (suc k) d (omega arith) (omega arith) (omega arith))
+    (λ k d l lt. after (suc k) d (omega arith) (omega arith)) in
     let count : suc j - 0 ≡ suc (j - 0) = omega arith in
     rw (here, count) (ap (λ ys. x ∷ ys) rest)
 filter-middle q (x ∷ xs) (suc i) zero le before within after = absurd (omega arith)
 filter-middle q (x ∷ xs) (suc i) (suc j) le before within after =
     let here : q x ≡ false = before 0 x (omega arith) (omega arith) in
-    let rest : filter q xs ≡ take (j - i) (drop i xs) = filter-middle q xs i j (omega arith) (λ k d lt l. before (suc k) d (omega arith) (omega arith)) (λ k d l lt w. within (suc k) d (omega arith) (omega arith) (omega arith)) (λ k d l lt. after (suc k) d (omega arith) (omega arith)) in
+    let rest : filter q xs ≡ take (j - i) (drop i xs) =
+    filter-middle q xs i j (omega arith) (λ k d lt l. before (suc k) d (omega arith)
+    (omega arith)) (λ k d l lt w. within (suc k) d (omega arith) (omega arith) (omega arith))
+    (λ k d l lt. after (suc k) d (omega arith) (omega arith)) in
     let count : suc j - suc i ≡ j - i = omega arith in
     rw (here, count) rest
 
 -- an element that passes, or none
 pub some_passes : {A : Type 0} (p : A → Bool) (xs : List A)
-    → (length (filter p xs) ≡ 0) ⊎ ((k : ℕ) × (k < length xs) × ((d : A) → p (get_or xs k d) ≡ true))
+    → (length (filter p xs) ≡ 0)
+    ⊎ ((k : ℕ) × (k < length xs) × ((d : A) → p (get_or xs k d) ≡ true))
 some_passes p [] = inl refl
 some_passes p (x ∷ xs) =
-    elim (p x) as (λ b. p x ≡ b → (length (cond b (x ∷ filter p xs) (filter p xs)) ≡ 0) ⊎ ((k : ℕ) × (k < length (x ∷ xs)) × ((d : _) → p (get_or (x ∷ xs) k d) ≡ true))) [
+    elim (p x) as (λ b. p x ≡ b → (length (cond b (x ∷ filter p xs) (filter p xs)) ≡ 0)
+    ⊎ ((k : ℕ) × (k < length (x ∷ xs)) × ((d : _) → p (get_or (x ∷ xs) k d) ≡ true))) [
       | true ↦ λ yes. inr (0, omega arith, λ d. yes)
-      | false ↦ λ no. ⊎_elim (λ none. inl none) (λ some. inr (suc some.0, omega (arith, some.1), λ d. some.2 d)) (some_passes p xs)
+      | false ↦ λ no. ⊎_elim (λ none. inl none)
+          (λ some. inr (suc some.0, omega (arith, some.1), λ d. some.2 d)) (some_passes p xs)
     ] refl
 
 -- ---- the first that passes
@@ -153,7 +187,8 @@ pub All-from_find : {A : Type 0} (p : A → Bool) (xs : List A) → find p xs �
     → All (λ x. p x ≡ false) xs
 All-from_find p [] h = All-nil (λ x. p x ≡ false)
 All-from_find p (y ∷ ys) h =
-    elim (p y) as (λ b. p y ≡ b → cond b (Some y) (find p ys) ≡ None → All (λ x. p x ≡ false) (y ∷ ys)) [
+    elim (p y) as (λ b. p y ≡ b → cond b (Some y) (find p ys) ≡ None
+    → All (λ x. p x ≡ false) (y ∷ ys)) [
       | true ↦ λ _ is. absurd (cc)
       | false ↦ λ fails rest. All-cons (λ x. p x ≡ false) y ys fails (All-from_find p ys rest)
     ] refl h
@@ -173,7 +208,8 @@ pub find-number : {A : Type 0} (p : A → Bool) (f : A → ℕ) (xs : List A) (a
     → All (λ x. p x ≡ true → f x ≡ a) xs → list_any p xs ≡ true → option_map f (find p xs) ≡ Some a
 find-number p f [] a all some = absurd (cc)
 find-number p f (x ∷ xs) a all some =
-    elim (p x) as (λ b. (b ≡ true → f x ≡ a) → (b || list_any p xs) ≡ true → option_map f (cond b (Some x) (find p xs)) ≡ Some a) [
+    elim (p x) as (λ b. (b ≡ true → f x ≡ a) → (b || list_any p xs) ≡ true
+    → option_map f (cond b (Some x) (find p xs)) ≡ Some a) [
       | true ↦ λ here _. ap (λ n. Some n) (here refl)
       | false ↦ λ _ rest. find-number p f xs a (All-tail (λ y. p y ≡ true → f y ≡ a) x xs all) rest
     ] (All-head (λ y. p y ≡ true → f y ≡ a) x xs all) some
@@ -184,14 +220,16 @@ pub find-filter : {A : Type 0} (p q : A → Bool) (xs : List A)
     → find p (filter q xs) ≡ find (λ x. q x && p x) xs
 find-filter p q [] = refl
 find-filter p q (x ∷ xs) =
-    elim (q x) as (λ b. find p (cond b (x ∷ filter q xs) (filter q xs)) ≡ cond (b && p x) (Some x) (find (λ y. q y && p y) xs))
+    elim (q x) as (λ b. find p (cond b (x ∷ filter q xs) (filter q xs))
+    ≡ cond (b && p x) (Some x) (find (λ y. q y && p y) xs))
     [ true ↦ ap (λ o. cond (p x) (Some x) o) (find-filter p q xs) | false ↦ find-filter p q xs ]
 
 pub list_all-filter : {A : Type 0} (r q : A → Bool) (xs : List A)
     → list_all r (filter q xs) ≡ list_all (λ x. not (q x) || r x) xs
 list_all-filter r q [] = refl
 list_all-filter r q (x ∷ xs) =
-    elim (q x) as (λ b. list_all r (cond b (x ∷ filter q xs) (filter q xs)) ≡ ((not b || r x) && list_all (λ y. not (q y) || r y) xs))
+    elim (q x) as (λ b. list_all r (cond b (x ∷ filter q xs) (filter q xs))
+    ≡ ((not b || r x) && list_all (λ y. not (q y) || r y) xs))
     [ true ↦ ap (λ b. r x && b) (list_all-filter r q xs) | false ↦ list_all-filter r q xs ]
 
 -- one test more, which does not tell apart what the other finds
@@ -199,31 +237,39 @@ pub find-neither : {A : Type 0} (e p : A → Bool) (xs : List A)
     → All (λ x. p x ≡ true → e x ≡ false) xs → find (λ x. e x && p x) xs ≡ None
 find-neither e p [] all = refl
 find-neither e p (x ∷ xs) all =
-    let here : (e x && p x) ≡ false = and-false_if (e x) (p x) (All-head (λ y. p y ≡ true → e y ≡ false) x xs all) in
+    let here : (e x && p x) ≡ false =
+    and-false_if (e x) (p x) (All-head (λ y. p y ≡ true → e y ≡ false) x xs all) in
     rw here (find-neither e p xs (All-tail (λ y. p y ≡ true → e y ≡ false) x xs all))
 
 pub find-both_none : {A : Type 0} (e p : A → Bool) (xs : List A) → find p xs ≡ None
     → find (λ x. e x && p x) xs ≡ None
 find-both_none e p [] h = refl
 find-both_none e p (x ∷ xs) h =
-    elim (p x) as (λ b. p x ≡ b → cond b (Some x) (find p xs) ≡ None → find (λ y. e y && p y) (x ∷ xs) ≡ None) [
+    elim (p x) as (λ b. p x ≡ b → cond b (Some x) (find p xs) ≡ None
+    → find (λ y. e y && p y) (x ∷ xs) ≡ None) [
       | true ↦ λ _ is. absurd (cc)
-      | false ↦ λ fails rest. let here : (e x && p x) ≡ false = and-false_if (e x) (p x) (λ yes. absurd (cc)) in rw here (find-both_none e p xs rest)
+      | false ↦ λ fails rest. let here : (e x && p x) ≡ false =
+          and-false_if (e x) (p x) (λ yes. absurd (cc)) in
+          rw here (find-both_none e p xs rest)
     ] refl h
 
 pub find-both_some : {A : Type 0} (e p : A → Bool) (xs : List A) (s : A) → find p xs ≡ Some s
     → All (λ x. p x ≡ true → e x ≡ e s) xs → find (λ x. e x && p x) xs ≡ cond (e s) (Some s) None
 find-both_some e p [] s h all = absurd (cc)
 find-both_some e p (x ∷ xs) s h all =
-    elim (p x) as (λ b. p x ≡ b → cond b (Some x) (find p xs) ≡ Some s → find (λ y. e y && p y) (x ∷ xs) ≡ cond (e s) (Some s) None) [
+    elim (p x) as (λ b. p x ≡ b → cond b (Some x) (find p xs) ≡ Some s
+    → find (λ y. e y && p y) (x ∷ xs) ≡ cond (e s) (Some s) None) [
       | true ↦ λ passes is.
           let same : x ≡ s = cc in
           let at : e x ≡ e s = ap e same in
-          elim (e s) as (λ b. e s ≡ b → cond (e x && p x) (Some x) (find (λ y. e y && p y) xs) ≡ cond b (Some s) None) [
-            | true ↦ λ yes. let here : e x ≡ true = at ∙ yes in rw (here, passes) (ap (λ y. Some y) same)
+          elim (e s) as (λ b. e s ≡ b
+          → cond (e x && p x) (Some x) (find (λ y. e y && p y) xs) ≡ cond b (Some s) None) [
+            | true ↦ λ yes. let here : e x ≡ true = at ∙ yes in
+                rw (here, passes) (ap (λ y. Some y) same)
             | false ↦ λ no.
                 let here : e x ≡ false = at ∙ no in
-                rw here (find-neither e p xs (λ k d lt k_passes. All-tail (λ y. p y ≡ true → e y ≡ e s) x xs all k d lt k_passes ∙ no))
+                rw here (find-neither e p xs (λ k d lt k_passes.
+                All-tail (λ y. p y ≡ true → e y ≡ e s) x xs all k d lt k_passes ∙ no))
           ] refl
       | false ↦ λ fails rest.
           let here : (e x && p x) ≡ false = and-false_if (e x) (p x) (λ yes. absurd (cc)) in
@@ -237,17 +283,22 @@ pub is_some-position_from : {A : Type 0} (test : A → Bool) (i : ℕ) (xs : Lis
     → is_some (position_from test i xs) ≡ list_any test xs
 is_some-position_from test i [] = refl
 is_some-position_from test i (x ∷ xs) =
-    elim (test x) as (λ b. is_some (cond b (Some i) (position_from test (i + 1) xs)) ≡ (b || list_any test xs))
+    elim (test x) as (λ b.
+    is_some (cond b (Some i) (position_from test (i + 1) xs)) ≡ (b || list_any test xs))
     [ true ↦ refl | false ↦ is_some-position_from test (i + 1) xs ]
 
 -- one more element at the end
 pub position_from-push : {A : Type 0} (test : A → Bool) (i : ℕ) (xs : List A) (y : A)
-    → position_from test i (xs ++ y ∷ []) ≡ cond (is_some (position_from test i xs)) (position_from test i xs) (cond (test y) (Some (i + length xs)) None)
+    → position_from test i (xs ++ y ∷ []) ≡ cond (is_some (position_from test i xs))
+    (position_from test i xs) (cond (test y) (Some (i + length xs)) None)
 position_from-push test i [] y = rw (add-zero) refl
 position_from-push test i (x ∷ xs) y =
-    elim (test x) as (λ b. cond b (Some i) (position_from test (i + 1) (xs ++ y ∷ [])) ≡ cond (is_some (cond b (Some i) (position_from test (i + 1) xs))) (cond b (Some i) (position_from test (i + 1) xs)) (cond (test y) (Some (i + length (x ∷ xs))) None)) [
+    elim (test x) as (λ b. cond b (Some i) (position_from test (i + 1) (xs ++ y ∷ []))
+    ≡ cond (is_some (cond b (Some i) (position_from test (i + 1) xs))) (cond b (Some i)
+    (position_from test (i + 1) xs)) (cond (test y) (Some (i + length (x ∷ xs))) None)) [
       | true ↦ refl
-      | false ↦ let n : i + length (x ∷ xs) ≡ (i + 1) + length xs = omega arith in rw n (position_from-push test (i + 1) xs y)
+      | false ↦ let n : i + length (x ∷ xs) ≡ (i + 1) + length xs = omega arith in
+          rw n (position_from-push test (i + 1) xs y)
     ]
 
 pub position_from-last : (b1 b2 : Bool) (n m : ℕ) (o : Option ℕ) → b1 ≡ true → b2 ≡ true
@@ -261,18 +312,25 @@ position_from-kept b1 b2 n m o h k = rw (h, k) (cond-is_some o)
 -- the place of a name once one more name that was not there stands at the end
 pub position_from-new : (names : List (List ℕ)) (new name : List ℕ) (n : ℕ)
     → list_any (bytes_eq new) names ≡ false → n ≡ length names
-    → cond (bytes_eq new name) (Some n) (position_from (bytes_eq name) 0 names) ≡ position_from (bytes_eq name) 0 (names ++ new ∷ [])
+    → cond (bytes_eq new name) (Some n) (position_from (bytes_eq name) 0 names)
+    ≡ position_from (bytes_eq name) 0 (names ++ new ∷ [])
 position_from-new names new name n absent last =
     rw (position_from-push (bytes_eq name) 0 names new)
     (⊎_elim
     (λ same.
     let is : new ≡ name = (bytes_decides new name).0 same in
     let back : bytes_eq name new ≡ true = (bytes_decides name new).1 (sym is) in
-    let none : is_some (position_from (bytes_eq name) 0 names) ≡ false = is_some-position_from (bytes_eq name) 0 names ∙ ap (λ w. list_any (bytes_eq w) names) (sym is) ∙ absent in
-    position_from-last (bytes_eq new name) (bytes_eq name new) n (0 + length names) (position_from (bytes_eq name) 0 names) same back none (omega arith))
+    let none : is_some (position_from (bytes_eq name) 0 names) ≡ false =
+    is_some-position_from (bytes_eq name) 0 names
+    ∙ ap (λ w. list_any (bytes_eq w) names) (sym is) ∙ absent in
+    position_from-last (bytes_eq new name) (bytes_eq name new) n (0 + length names)
+    (position_from (bytes_eq name) 0 names) same back none (omega arith))
     (λ other.
-    let back : bytes_eq name new ≡ false = false_from_ne_true (bytes_eq name new) (λ t. let turned : bytes_eq new name ≡ true = (bytes_decides new name).1 (sym ((bytes_decides name new).0 t)) in cc) in
-    position_from-kept (bytes_eq new name) (bytes_eq name new) n (0 + length names) (position_from (bytes_eq name) 0 names) other back)
+    let back : bytes_eq name new ≡ false =
+    false_from_ne_true (bytes_eq name new) (λ t. let turned : bytes_eq new name ≡ true =
+    (bytes_decides new name).1 (sym ((bytes_decides name new).0 t)) in cc) in
+    position_from-kept (bytes_eq new name) (bytes_eq name new) n (0 + length names)
+    (position_from (bytes_eq name) 0 names) other back)
     (cases_Bool (bytes_eq new name)))
 
 -- ---- what each of some elements is made into
@@ -291,12 +349,14 @@ All-map_same f bs ys rest every r made gone is k d lt =
 -- ---- the least and the first element that passes
 
 -- of the elements that pass, one of the least measure
-pub record IsLeast {A : Type 0} (passes : A → Bool) (measure : A → ℕ) (xs : List A) (x : A) : Type 0 where
+pub record IsLeast {A : Type 0} (passes : A → Bool) (measure : A → ℕ) (xs : List A) (x : A) : Type
+    0 where
   pub there : Contains xs x
   pub passing : passes x ≡ true
   pub least : All (λ y. passes y ≡ true → measure x ≤ measure y) xs
 
-pub least_in : {A : Type 0} (p : A → Bool) (m : A → ℕ) (xs : List A) → list_any p xs ≡ true → (x : A) × IsLeast p m xs x
+pub least_in : {A : Type 0} (p : A → Bool) (m : A → ℕ) (xs : List A) → list_any p xs ≡ true
+    → (x : A) × IsLeast p m xs x
 least_in p m [] some = absurd (cc)
 least_in p m (x ∷ xs) some =
     ⊎_elim
@@ -309,7 +369,8 @@ least_in p m (x ∷ xs) some =
       record {
         there = Contains-head x x xs refl;
         passing = yes;
-        least = All-cons (λ y. p y ≡ true → m x ≤ m y) x xs (λ _. omega arith) (λ k d lt passes. let b : m best.0 ≤ m (get_or xs k d) = best.1.least k d lt passes in omega arith);
+        least = All-cons (λ y. p y ≡ true → m x ≤ m y) x xs (λ _. omega arith) (λ k d lt passes.
+            let b : m best.0 ≤ m (get_or xs k d) = best.1.least k d lt passes in omega arith);
       },
     ))
     (λ least. (
@@ -335,7 +396,9 @@ least_in p m (x ∷ xs) some =
       record {
         there = Contains-head x x xs refl;
         passing = left_of_or (p x) (list_any p xs) some none;
-        least = All-cons (λ y. p y ≡ true → m x ≤ m y) x xs (λ _. omega arith) (λ k d lt passes. let fails : p (get_or xs k d) ≡ false = All-from_list_any p xs none k d lt in absurd (cc));
+        least = All-cons (λ y. p y ≡ true → m x ≤ m y) x xs (λ _. omega arith)
+            (λ k d lt passes. let fails : p (get_or xs k d) ≡ false =
+            All-from_list_any p xs none k d lt in absurd (cc));
       },
     ))
     (cases_Bool (list_any p xs))
@@ -345,22 +408,33 @@ pub record IsFirstAt {A : Type 0} (p : A → Bool) (xs : List A) (x : A) (place 
   pub at : slice_get xs place ≡ Some x
   pub before : (j : ℕ) (d : A) → j < place → p (get_or xs j d) ≡ false
 
-pub find_place : {A : Type 0} (p : A → Bool) (xs : List A) (x : A) → find p xs ≡ Some x → (place : ℕ) × IsFirstAt p xs x place
+pub find_place : {A : Type 0} (p : A → Bool) (xs : List A) (x : A) → find p xs ≡ Some x
+    → (place : ℕ) × IsFirstAt p xs x place
 find_place p [] x h = absurd (cc)
 find_place p (y ∷ ys) x h =
-    elim (p y) as (λ b. p y ≡ b → cond b (Some y) (find p ys) ≡ Some x → (place : ℕ) × IsFirstAt p (y ∷ ys) x place) [
-      | true ↦ λ _ is. (0, record { at = slice_get-get_or (y ∷ ys) 0 y (omega arith) ∙ is; before = λ j d lt. absurd (omega arith) })
+    elim (p y) as (λ b. p y ≡ b → cond b (Some y) (find p ys) ≡ Some x
+    → (place : ℕ) × IsFirstAt p (y ∷ ys) x place) [
+      | true ↦ λ _ is. (
+        0,
+        record {
+          at = slice_get-get_or (y ∷ ys) 0 y (omega arith) ∙ is;
+          before = λ j d lt. absurd (omega arith);
+        },
+      )
       | false ↦ λ fails rest.
           let there = find_place p ys x rest in
           let within : there.0 < length ys = slice_get_within ys there.0 x there.1.at in (
             suc there.0,
             record {
-              at = slice_get-get_or (y ∷ ys) (suc there.0) x (omega arith) ∙ ap (λ z. Some z) (get_or_from_slice_get ys there.0 x x there.1.at);
+              at = slice_get-get_or (y ∷ ys) (suc there.0) x (omega arith)
+                  ∙ ap (λ z. Some z) (get_or_from_slice_get ys there.0 x x there.1.at);
               before = λ j d lt. before_rest p y ys there.0 fails there.1.before j d lt;
             },
           )
     ] refl h
   where
-    before_rest : {A : Type 0} (p : A → Bool) (y : A) (ys : List A) (k : ℕ) → p y ≡ false → ((j : ℕ) (d : A) → j < k → p (get_or ys j d) ≡ false) → (j : ℕ) (d : A) → j < suc k → p (get_or (y ∷ ys) j d) ≡ false
+    before_rest : {A : Type 0} (p : A → Bool) (y : A) (ys : List A) (k : ℕ) → p y ≡ false
+        → ((j : ℕ) (d : A) → j < k → p (get_or ys j d) ≡ false) → (j : ℕ) (d : A) → j < suc k
+        → p (get_or (y ∷ ys) j d) ≡ false
     before_rest p y ys k first others zero d lt = first
     before_rest p y ys k first others (suc j) d lt = others j d (omega arith)

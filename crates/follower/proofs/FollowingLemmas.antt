@@ -1,5 +1,10 @@
 -- What a table shows at each generation.
-use Rattle.follower.proofs.Words.{◌≡◌, ℕ, suc, ◌+◌, ◌-◌, ◌*◌, ◌≤◌, List, [], ◌∷◌, ◌++◌, length, take, Option, Some, None, sym, ap, subst, ◌∙◌, arith, Contains-permutation, IsPermutation-sym, IsSoundCatalog, CatalogEntries, IsIndexOf, DatedCatalog, Moment, DropsOldest, EachStands, Forgets, BeginsToShow, IsBegun, IsFollowed, IsShownAt, generation_of, table_at}
+use Rattle.follower.proofs.Words.{◌≡◌, ℕ, suc, ◌+◌, ◌-◌, ◌*◌, ◌≤◌, List, [], ◌∷◌, ◌++◌, length}
+use Rattle.follower.proofs.Words.{take, Option, Some, None, sym, ap, subst, ◌∙◌, arith}
+use Rattle.follower.proofs.Words.{Contains-permutation, IsPermutation-sym, IsSoundCatalog}
+use Rattle.follower.proofs.Words.{CatalogEntries, IsIndexOf, DatedCatalog, Moment, DropsOldest}
+use Rattle.follower.proofs.Words.{EachStands, Forgets, BeginsToShow, IsBegun, IsFollowed, IsShownAt}
+use Rattle.follower.proofs.Words.{generation_of, table_at}
 use Rattle.std.proofs.lemmas.List.{length-append, take-append-le, take_all}
 use Rattle.order_laws.specs.declared.items.Item.{Item}
 use Rattle.order_laws.specs.Orders.{half_open}
@@ -23,44 +28,63 @@ use Rattle.latch_table.specs.Writers.{Finishes, WriterState, state_with_update}
 use Rattle.follower.proofs.CatalogLemmas.{newest_too, right_too, still_stands}
 
 -- the items of a catalog in another order have at each address what the catalog has
-index_looks : (c : CatalogEntries) (items : List Item) → IsSoundCatalog c → IsIndexOf c items → (addr : ℕ) → look half_open addr items ≡ item_of_address c addr
+index_looks : (c : CatalogEntries) (items : List Item) → IsSoundCatalog c → IsIndexOf c items
+    → (addr : ℕ) → look half_open addr items ≡ item_of_address c addr
 index_looks c items sound index addr =
     found (look half_open addr items)
-    (same_look half_open addr items (items_of c) (look half_open addr items) (λ x m. Contains-permutation items (items_of c) x (IsPermutation-sym (items_of c) items index.same) m) (λ x m. Contains-permutation (items_of c) items x index.same m) (look_is half_open addr items))
+    (same_look half_open addr items (items_of c) (look half_open addr items) (λ x m.
+    Contains-permutation items (items_of c) x (IsPermutation-sym (items_of c) items index.same)
+    m) (λ x m. Contains-permutation (items_of c) items x index.same m)
+    (look_is half_open addr items))
   where
     found : (r : Option Item) → IsLook half_open addr (items_of c) r → r ≡ item_of_address c addr
-    found None h = none_found c sound addr (item_of_address c addr) (λ y m le lt. h y m (equal_inside addr y le lt)) (look_is half_open addr (items_of c))
-    found (Some i) h = some_found c sound addr i (item_of_address c addr) h.0 (begins addr i h.1) (ends addr i h.1) (look_is half_open addr (items_of c))
+    found None h = none_found c sound addr (item_of_address c addr)
+        (λ y m le lt. h y m (equal_inside addr y le lt)) (look_is half_open addr (items_of c))
+    found (Some i) h = some_found c sound addr i (item_of_address c addr) h.0 (begins addr i h.1)
+        (ends addr i h.1) (look_is half_open addr (items_of c))
 
 -- how many readers a table has makes no difference
-pub other_readers : (w w' : WriterState) (n : ℕ) (ds : List DatedCatalog) → w' ≡ record w { readers = n } → IsFollowed w ds → IsFollowed w' ds
+pub other_readers : (w w' : WriterState) (n : ℕ) (ds : List DatedCatalog)
+    → w' ≡ record w { readers = n } → IsFollowed w ds → IsFollowed w' ds
 other_readers w w' n ds is followed =
-    subst (λ (x : WriterState). IsFollowed x ds) (sym is) (record { rests = followed.rests; stands = followed.stands })
+    subst (λ (x : WriterState). IsFollowed x ds) (sym is)
+    (record { rests = followed.rests; stands = followed.stands })
 
-pub reader_added : (w w' : WriterState) (ds : List DatedCatalog) (added : Result ReaderState Refusal) → IfOk added (AddsReader w w') → OnErr added (w' ≡ w) → IsFollowed w ds → IsFollowed w' ds
-reader_added w w' ds (Ok r) adds same followed = other_readers w w' (w.readers + 1) ds adds.writer followed
-reader_added w w' ds (Err e) adds same followed = subst (λ (x : WriterState). IsFollowed x ds) (sym same) followed
+pub reader_added : (w w' : WriterState) (ds : List DatedCatalog)
+    (added : Result ReaderState Refusal) → IfOk added (AddsReader w w') → OnErr added (w' ≡ w)
+    → IsFollowed w ds → IsFollowed w' ds
+reader_added w w' ds (Ok r) adds same followed =
+    other_readers w w' (w.readers + 1) ds adds.writer followed
+reader_added w w' ds (Err e) adds same followed =
+    subst (λ (x : WriterState). IsFollowed x ds) (sym same) followed
 
 -- one update more leaves the table of each generation before it
-module _ (w w' : WriterState) (u : Update) (base : w'.base ≡ w.base) (history : w'.history ≡ w.history ++ u ∷ []) where
+module _ (w w' : WriterState) (u : Update) (base : w'.base ≡ w.base)
+    (history : w'.history ≡ w.history ++ u ∷ []) where
   pub same_before : (g : ℕ) → g ≤ generation_of w → table_at w' g ≡ table_at w g
   same_before g le =
-      ap (λ us. replay half_open [] (take (g - w'.base) us)) history ∙ ap (λ b. replay half_open [] (take (g - b) (w.history ++ u ∷ []))) base ∙ ap (replay half_open []) (take-append-le (g - w.base) w.history (u ∷ []) (omega arith))
+      ap (λ us. replay half_open [] (take (g - w'.base) us)) history
+      ∙ ap (λ b. replay half_open [] (take (g - b) (w.history ++ u ∷ []))) base
+      ∙ ap (replay half_open []) (take-append-le (g - w.base) w.history (u ∷ []) (omega arith))
 
   pub one_more : generation_of w' ≡ suc (generation_of w)
   one_more = omega (arith, base, ap length history, length-append w.history (u ∷ []))
 
 -- the table of the last generation is that of the whole history
 table_now : (w : WriterState) → table_at w (generation_of w) ≡ replay half_open [] w.history
-table_now w = ap (replay half_open []) (take_all (w.base + length w.history - w.base) w.history (omega arith))
+table_now w =
+    ap (replay half_open []) (take_all (w.base + length w.history - w.base) w.history (omega arith))
 
 -- a table that a catalog's regions replaced shows that catalog, and the others as before
-module _ (w p w' : WriterState) (d : DatedCatalog) (ds ds' : List DatedCatalog) (g : ℕ) (sound : IsSoundCatalog d.catalog) (is : BeginsToShow d w p ds ds') (end : Finishes p w' g) where
+module _ (w p w' : WriterState) (d : DatedCatalog) (ds ds' : List DatedCatalog) (g : ℕ)
+    (sound : IsSoundCatalog d.catalog) (is : BeginsToShow d w p ds ds')
+    (end : Finishes p w' g) where
   u : Update
   u = replacement w.latch.newest_table is.items
 
   same_base : w'.base ≡ w.base
-  same_base = ap (λ (x : WriterState). x.base) end.0 ∙ ap (λ (x : WriterState). x.base) is.begun.replaces.begins.1.3
+  same_base = ap (λ (x : WriterState). x.base) end.0
+      ∙ ap (λ (x : WriterState). x.base) is.begun.replaces.begins.1.3
 
   same_history : w'.history ≡ p.history
   same_history = ap (λ (x : WriterState). x.history) end.0
@@ -70,43 +94,58 @@ module _ (w p w' : WriterState) (d : DatedCatalog) (ds ds' : List DatedCatalog) 
   more = same_history ∙ ap (λ (x : WriterState). x.history) is.begun.replaces.begins.1.3
 
   shown_now : IsShownAt w' (generation_of w') d.catalog
-  shown_now addr = ap (look half_open addr) (table_now w' ∙ ap (replay half_open []) same_history ∙ is.begun.reaches) ∙ index_looks d.catalog is.items sound is.indexed addr
+  shown_now addr = ap (look half_open addr) (table_now w' ∙ ap (replay half_open []) same_history
+      ∙ is.begun.reaches) ∙ index_looks d.catalog is.items sound is.indexed addr
 
-  as_before : (h : ℕ) (c : CatalogEntries) → h ≤ generation_of w → IsShownAt w h c → IsShownAt w' h c
-  as_before h c le shown addr = ap (look half_open addr) (same_before w w' u same_base more h le) ∙ shown addr
+  as_before : (h : ℕ) (c : CatalogEntries) → h ≤ generation_of w → IsShownAt w h c
+      → IsShownAt w' h c
+  as_before h c le shown addr =
+      ap (look half_open addr) (same_before w w' u same_base more h le) ∙ shown addr
 
   next : generation_of w' ≡ suc (generation_of w)
   next = one_more w w' u same_base more
 
-  pub follows_on : EachStands (IsShownAt w) (generation_of w) ds → EachStands (IsShownAt w') (generation_of w') ds'
+  pub follows_on : EachStands (IsShownAt w) (generation_of w) ds
+      → EachStands (IsShownAt w') (generation_of w') ds'
   follows_on followed =
       subst (EachStands (IsShownAt w') (generation_of w')) (sym is.kept)
       (subst (λ k. EachStands (IsShownAt w') k (ds ++ d ∷ [])) (sym next)
-      (newest_too (IsShownAt w') (generation_of w) ds d is.begun.before (right_too (IsShownAt w) (IsShownAt w') (generation_of w) ds (λ h c le shown. as_before h c le shown) followed) (subst (λ k. IsShownAt w' k d.catalog) next shown_now)))
+      (newest_too (IsShownAt w') (generation_of w) ds d is.begun.before (right_too (IsShownAt w)
+      (IsShownAt w') (generation_of w) ds (λ h c le shown. as_before h c le shown) followed)
+      (subst (λ k. IsShownAt w' k d.catalog) next shown_now)))
 
 -- without the oldest the others stand as before
-pub without_oldest : (w : WriterState) (old new : List DatedCatalog) (tag : Option ℕ) → DropsOldest old new tag → IsFollowed w old → IsFollowed w new
+pub without_oldest : (w : WriterState) (old new : List DatedCatalog) (tag : Option ℕ)
+    → DropsOldest old new tag → IsFollowed w old → IsFollowed w new
 without_oldest w old new None d f = subst (IsFollowed w) (d.0 ∙ sym d.1) f
 without_oldest w old new (Some tag) d f = record {
   rests = f.rests;
-  stands = still_stands (IsShownAt w) (generation_of w) d.0 new (subst (EachStands (IsShownAt w) (generation_of w)) d.1 f.stands);
+  stands = still_stands (IsShownAt w) (generation_of w) d.0 new
+      (subst (EachStands (IsShownAt w) (generation_of w)) d.1 f.stands);
 }
 
-pub forgotten : (w : WriterState) (m : Moment) (old new : List DatedCatalog) (tag : Option ℕ) → Forgets m old new tag → IsFollowed w old → IsFollowed w new
+pub forgotten : (w : WriterState) (m : Moment) (old new : List DatedCatalog) (tag : Option ℕ)
+    → Forgets m old new tag → IsFollowed w old → IsFollowed w new
 forgotten w m old new None d f = subst (IsFollowed w) (sym d.0) f
-forgotten w m old new (Some tag) d f = without_oldest w old new (Some tag) (d.oldest, d.gone, d.told) f
+forgotten w m old new (Some tag) d f =
+    without_oldest w old new (Some tag) (d.oldest, d.gone, d.told) f
 
 -- while no flip is made the sequence is that of the generation before
-module _ (w p : WriterState) (items : List Item) (b : BeginsReplacing half_open w items p) (sound : IsSound half_open p.capacity (2 * p.base) p.history p.latch) where
+module _ (w p : WriterState) (items : List Item) (b : BeginsReplacing half_open w items p)
+    (sound : IsSound half_open p.capacity (2 * p.base) p.history p.latch) where
   not_flipped : sequence_generation (at p.latch.words 0) ≡ generation_of w
   not_flipped =
       let u : Update = replacement w.latch.newest_table items in
       let begun = state_with_update half_open w u b.begins.1.0 in
-      let hand : IsPendingOf half_open (2 * w.base) (at w.latch.words 0) (w.history ++ u ∷ []) begun.latch.pending =
-      subst (λ (x : WriterState). IsPendingOf half_open (2 * x.base) (at x.latch.words 0) x.history x.latch.pending) b.begins.1.3 sound.in_hand in
-      ap (λ (x : WriterState). sequence_generation (at x.latch.words 0)) b.begins.1.3 ∙ omega (arith, hand.count, length-append w.history (u ∷ []))
+      let hand : IsPendingOf half_open (2 * w.base) (at w.latch.words 0) (w.history ++ u ∷ [])
+      begun.latch.pending =
+      subst (λ (x : WriterState). IsPendingOf half_open (2 * x.base) (at x.latch.words 0) x.history
+      x.latch.pending) b.begins.1.3 sound.in_hand in
+      ap (λ (x : WriterState). sequence_generation (at x.latch.words 0)) b.begins.1.3
+      ∙ omega (arith, hand.count, length-append w.history (u ∷ []))
 
-  pub begun_so : (previous : ℕ) → previous ≡ sequence_generation (at p.latch.words 0) → IsBegun w items p previous
+  pub begun_so : (previous : ℕ) → previous ≡ sequence_generation (at p.latch.words 0)
+      → IsBegun w items p previous
   begun_so previous is = record {
     replaces = b;
     reaches = sym sound.table_is ∙ b.newest;

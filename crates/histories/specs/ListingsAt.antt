@@ -1,5 +1,6 @@
 -- The listing at a time.
-use Rattle.std.specs.Prelude.{◌≡◌, ◌≤◌, ℕ, ◌-◌, ◌==◌, if◌then◌else◌, nat_le, filter, length, min, take}
+use Rattle.std.specs.Prelude.{◌≡◌, ◌≤◌, ℕ, ◌-◌, ◌==◌, if◌then◌else◌, nat_le, filter, length, min}
+use Rattle.std.specs.Prelude.{take}
 use Rattle.std.specs.Prelude.{List, [], ◌∷◌, get_or, Option, Some, None}
 use Rattle.std.specs.Prelude.{All, true, Result, Ok, Err}
 use Rattle.std.specs.List.{flat_map, prefix_len}

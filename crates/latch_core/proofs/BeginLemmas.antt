@@ -1,42 +1,80 @@
 -- An update that begins: what was tested; an update whose items are placed in free nodes, and whose
 -- links lead both copies: the stores that are planned for it carry it out.
-use Rattle.latch_core.proofs.Words.{◌≡◌, ℕ, ◌+◌, ◌<◌, ◌≤◌, List, [], ◌∷◌, ◌++◌, length, None, ap, subst, arith, length-append, ◌≢◌, take, refl, sym, ◌∙◌, inl, inr, All, insert, Contains, ltb-false, or_parts, All-append, All-cons, All-from_recursion, Contains-append_right, Item, Order, place_for, place_of, Store, words_for, Nodes, listed, at, a_word, b_word, tag_word, Holds, IsUnreached, AreLinkStores, words_after_all, IsItemWord, Picture, IsPictured, links_in_range, same_item, Update, Batch, Insert, Erase, after, size_of, some_missing, some_twice, with_items, Latch, flip_to, update_stores, AreAllNodes, WriterView, IsMemoryAtRest, HasBegun, AreInStep, why_refused, has_pending, AllByRecursion, length-map, take-append-le, take_all, all_append, all_weaker, one_item, item_place, length_after, untouched, tree_untouched, IsBalanced, Inserts, Erases, LeadsWithItem, LeadsByLinks, item_stores, mirror_stores, mirror_store, second_picture, AreDistinct, stable_copy_of, PlacedItems, stores_of_placed, AreInPlace, RelinksBoth, ErasesWords, InsertsItems}
+use Rattle.latch_core.proofs.Words.{◌≡◌, ℕ, ◌+◌, ◌<◌, ◌≤◌, List, [], ◌∷◌, ◌++◌, length, None, ap}
+use Rattle.latch_core.proofs.Words.{subst, arith, length-append, ◌≢◌, take, refl, sym, ◌∙◌, inl}
+use Rattle.latch_core.proofs.Words.{inr, All, insert, Contains, ltb-false, or_parts, All-append}
+use Rattle.latch_core.proofs.Words.{All-cons, All-from_recursion, Contains-append_right, Item}
+use Rattle.latch_core.proofs.Words.{Order, place_for, place_of, Store, words_for, Nodes, listed, at}
+use Rattle.latch_core.proofs.Words.{a_word, b_word, tag_word, Holds, IsUnreached, AreLinkStores}
+use Rattle.latch_core.proofs.Words.{words_after_all, IsItemWord, Picture, IsPictured}
+use Rattle.latch_core.proofs.Words.{links_in_range, same_item, Update, Batch, Insert, Erase, after}
+use Rattle.latch_core.proofs.Words.{size_of, some_missing, some_twice, with_items, Latch, flip_to}
+use Rattle.latch_core.proofs.Words.{update_stores, AreAllNodes, WriterView, IsMemoryAtRest}
+use Rattle.latch_core.proofs.Words.{HasBegun, AreInStep, why_refused, has_pending, AllByRecursion}
+use Rattle.latch_core.proofs.Words.{length-map, take-append-le, take_all, all_append, all_weaker}
+use Rattle.latch_core.proofs.Words.{one_item, item_place, length_after, untouched, tree_untouched}
+use Rattle.latch_core.proofs.Words.{IsBalanced, Inserts, Erases, LeadsWithItem, LeadsByLinks}
+use Rattle.latch_core.proofs.Words.{item_stores, mirror_stores, mirror_store, second_picture}
+use Rattle.latch_core.proofs.Words.{AreDistinct, stable_copy_of, PlacedItems, stores_of_placed}
+use Rattle.latch_core.proofs.Words.{AreInPlace, RelinksBoth, ErasesWords, InsertsItems}
 use Rattle.std.proofs.Common.{◌*◌}
 use Rattle.std.specs.Prelude.{map}
 use Rattle.std.proofs.Math.Nat.{mul-le-mul_right}
 use Rattle.latch_core.proofs.TestLemmas.{NoneHolds, all_tests, none_holds}
 use Rattle.latch_core.proofs.StoreOrderLemmas.{Leading, AreFreeStores, items_unused}
-use Rattle.latch_core.proofs.ChangeLemmas.{last_is_free, node_taken, node_freed, both_then, both_insert, both_erase, few_words, free_node}
+use Rattle.latch_core.proofs.ChangeLemmas.{last_is_free, node_taken, node_freed, both_then}
+use Rattle.latch_core.proofs.ChangeLemmas.{both_insert, both_erase, few_words, free_node}
 use Rattle.latch_core.proofs.WriterLemmas.{begun_pictures, rest_now, unlisted}
 use Rattle.latch_core.proofs.SoundLemmas.{after_insert, after_erase}
 use Rattle.rb_words.proofs.PlanLemmas.{item_put}
 
 -- an accepted batch erases no more items than there are, and what it inserts fits beside them
-pub batch_is_small : {K : Type 0} (o : Order K) (w : WriterView) (erase : List ℕ) (insert : List Item) → why_refused o w (Batch erase insert) ≡ None → (length erase ≤ length w.table) × (length w.table + length insert ≤ w.capacity)
+pub batch_is_small : {K : Type 0} (o : Order K) (w : WriterView) (erase : List ℕ)
+    (insert : List Item) → why_refused o w (Batch erase insert) ≡ None
+    → (length erase ≤ length w.table) × (length w.table + length insert ≤ w.capacity)
 batch_is_small o w erase insert e =
-    let h : NoneHolds (all_tests o w.capacity w.limit (has_pending w) w.table w.sequence (Batch erase insert)) = none_holds (all_tests o w.capacity w.limit (has_pending w) w.table w.sequence (Batch erase insert)) e in
-    let words = or_parts (some_missing erase w.table) (some_twice erase) h.1.1.0 in
-    (few_words erase w.table words.0 words.1, ltb-false w.capacity (length w.table + length insert) h.1.1.1.1.0)
+    let h : NoneHolds
+    (all_tests o w.capacity w.limit (has_pending w) w.table w.sequence (Batch erase insert)) =
+    none_holds
+    (all_tests o w.capacity w.limit (has_pending w) w.table w.sequence (Batch erase insert))
+    e in
+    let words = or_parts (some_missing erase w.table) (some_twice erase) h.1.1.0 in (
+      few_words erase w.table words.0 words.1,
+      ltb-false w.capacity (length w.table + length insert) h.1.1.1.1.0,
+    )
 
 -- the free node that an insert takes
 pub taken_node : (n : ℕ) (zero : Picture) (free rest : List ℕ) (node : ℕ) (left : List Store)
     → AreInStep n zero free left → free ≡ rest ++ node ∷ []
     → (node < n) × (Contains (listed zero.tree) node → ⊥)
 taken_node n zero free rest node left step e =
-    last_is_free n node rest (listed zero.tree) (subst (λ xs. AreAllNodes n (xs ++ listed zero.tree)) e step.nodes)
+    last_is_free n node rest (listed zero.tree)
+    (subst (λ xs. AreAllNodes n (xs ++ listed zero.tree)) e step.nodes)
 
 -- the stores lie in the memory
-update_in_range : (n seq : ℕ) (items links0 links1 : List Store) → All (λ (s : Store). s.word < words_for n) items → AreLinkStores n 0 links0 → AreLinkStores n 1 links1 → All (λ (s : Store). s.word < words_for n) (update_stores seq items links0 links1)
+update_in_range : (n seq : ℕ) (items links0 links1 : List Store)
+    → All (λ (s : Store). s.word < words_for n) items → AreLinkStores n 0 links0
+    → AreLinkStores n 1 links1
+    → All (λ (s : Store). s.word < words_for n) (update_stores seq items links0 links1)
 update_in_range n seq items links0 links1 all zero one =
     let P : Store → Type 0 = λ s. s.word < words_for n in
-    let f0 = All-cons P (flip_to (seq + 1)) links0 (omega arith) (links_in_range n 0 links0 (omega arith) zero) in
-    let f1 = All-cons P (flip_to (seq + 2)) links1 (omega arith) (links_in_range n 1 links1 (omega arith) one) in
-    All-append P (items ++ flip_to (seq + 1) ∷ links0) (flip_to (seq + 2) ∷ links1) (All-append P items (flip_to (seq + 1) ∷ links0) all f0) f1
+    let f0 = All-cons P (flip_to (seq + 1)) links0 (omega arith)
+    (links_in_range n 0 links0 (omega arith) zero) in
+    let f1 = All-cons P (flip_to (seq + 2)) links1 (omega arith)
+    (links_in_range n 1 links1 (omega arith) one) in
+    All-append P (items ++ flip_to (seq + 1) ∷ links0) (flip_to (seq + 2) ∷ links1)
+    (All-append P items (flip_to (seq + 1) ∷ links0) all f0) f1
 
 -- how many stores an update has
-update_length : (seq : ℕ) (items links0 links1 : List Store) → length (update_stores seq items links0 links1) ≡ length items + length links0 + length links1 + 2
+update_length : (seq : ℕ) (items links0 links1 : List Store)
+    → length (update_stores seq items links0 links1)
+    ≡ length items + length links0 + length links1 + 2
 update_length seq items links0 links1 =
-    omega (arith, length-append (items ++ flip_to (seq + 1) ∷ links0) (flip_to (seq + 2) ∷ links1), length-append items (flip_to (seq + 1) ∷ links0))
+    omega (
+      arith,
+      length-append (items ++ flip_to (seq + 1) ∷ links0) (flip_to (seq + 2) ∷ links1),
+      length-append items (flip_to (seq + 1) ∷ links0),
+    )
 
 -- the steps of an update are few
 few_steps : (n size k : ℕ) → k ≤ 2 * (16 * size) + 2 → k ≤ 64 * (n + 1) * (size + 1)
@@ -46,50 +84,79 @@ few_steps n size k le =
     omega (arith, le, more)
 
 -- the core with a pending update
-has_begun : {K : Type 0} (o : Order K) (w : WriterView) (u : Update) (items links0 links1 : List Store) (zero one : Nodes) → w.stores_left ≡ []
+has_begun : {K : Type 0} (o : Order K) (w : WriterView) (u : Update)
+    (items links0 links1 : List Store) (zero one : Nodes) → w.stores_left ≡ []
     → length items + length links0 + length links1 + 2 ≤ 2 * (16 * size_of u) + 2
-    → ((l : Latch) → IsMemoryAtRest w l.words → Leading w.capacity w.table (after o w.table u) l.words items links0 links1 zero one)
-    → HasBegun o w u (record w { table = after o w.table u; zero_tree = zero; one_tree = one; stores_left = update_stores w.sequence items links0 links1 })
+    → ((l : Latch) → IsMemoryAtRest w l.words
+    → Leading w.capacity w.table (after o w.table u) l.words items links0 links1 zero one)
+    → HasBegun o w u (record w {
+      table = after o w.table u;
+      zero_tree = zero;
+      one_tree = one;
+      stores_left = update_stores w.sequence items links0 links1;
+    })
 has_begun o w u items links0 links1 zero one idle few leading =
     record {
       rest = refl;
       some = omega (arith, update_length w.sequence items links0 links1);
-      few = few_steps w.capacity (size_of u) (length (update_stores w.sequence items links0 links1)) (omega (arith, few, update_length w.sequence items links0 links1));
+      few = few_steps w.capacity (size_of u) (length (update_stores w.sequence items links0 links1))
+          (omega (arith, few, update_length w.sequence items links0 links1));
       short = omega (arith, few, update_length w.sequence items links0 links1);
-      pictures = λ l p. begun_pictures o w u items links0 links1 zero one l p (leading l (rest_now w l p idle));
+      pictures = λ l p.
+          begun_pictures o w u items links0 links1 zero one l p (leading l (rest_now w l p idle));
     }
 
-others_away : (node : ℕ) (placed : PlacedItems) → AllByRecursion (λ y. node ≢ y) (map (λ (p : ℕ × Item). p.0) placed) → AllByRecursion (λ (s : Store). IsItemWord node s.word → ⊥) (stores_of_placed placed)
+others_away : (node : ℕ) (placed : PlacedItems)
+    → AllByRecursion (λ y. node ≢ y) (map (λ (p : ℕ × Item). p.0) placed)
+    → AllByRecursion (λ (s : Store). IsItemWord node s.word → ⊥) (stores_of_placed placed)
 others_away node [] h = tt
 others_away node (p ∷ rest) h =
-    let no : (w : ℕ) → IsItemWord p.0 w → IsItemWord node w → ⊥ = (λ w a b. h.0 (sym (one_item node p.0 w b a))) in
-    all_append (λ (s : Store). IsItemWord node s.word → ⊥) (item_stores p.0 p.1) (stores_of_placed rest)
-    (no (a_word p.0) (inl refl), (no (b_word p.0) (inr (inl refl)), (no (tag_word p.0) (inr (inr refl)), tt)))
+    let no : (w : ℕ) → IsItemWord p.0 w → IsItemWord node w → ⊥ =
+    (λ w a b. h.0 (sym (one_item node p.0 w b a))) in
+    all_append (λ (s : Store). IsItemWord node s.word → ⊥) (item_stores p.0 p.1)
+    (stores_of_placed rest) (
+      no (a_word p.0) (inl refl),
+      (no (b_word p.0) (inr (inl refl)), (no (tag_word p.0) (inr (inr refl)), tt)),
+    )
     (others_away node rest h.1)
 
-all_placed : (m : List ℕ) (n : ℕ) (placed : PlacedItems) → length m ≡ words_for n → AllByRecursion (λ (p : ℕ × Item). p.0 < n) placed → AreDistinct (map (λ (p : ℕ × Item). p.0) placed) → AreInPlace (words_after_all m (stores_of_placed placed)) placed
+all_placed : (m : List ℕ) (n : ℕ) (placed : PlacedItems) → length m ≡ words_for n
+    → AllByRecursion (λ (p : ℕ × Item). p.0 < n) placed
+    → AreDistinct (map (λ (p : ℕ × Item). p.0) placed)
+    → AreInPlace (words_after_all m (stores_of_placed placed)) placed
 all_placed m n [] sized lt d = tt
 all_placed m n (p ∷ rest) sized lt d =
     let m1 = words_after_all m (item_stores p.0 p.1) in
     let s1 : length m1 ≡ words_for n = length_after m (item_stores p.0 p.1) ∙ sized in (
-      same_item m1 (words_after_all m1 (stores_of_placed rest)) p.0 (untouched (IsItemWord p.0) m1 (stores_of_placed rest) (others_away p.0 rest d.0)) ∙ item_put m n p.0 p.1 lt.0 sized,
+      same_item m1 (words_after_all m1 (stores_of_placed rest)) p.0
+          (untouched (IsItemWord p.0) m1 (stores_of_placed rest) (others_away p.0 rest d.0))
+          ∙ item_put m n p.0 p.1 lt.0 sized,
       all_placed m1 n rest s1 lt.1 d.1,
     )
 
 -- what is true of the item words of each node is true of the stores of placed items
-on_stores : (P Q : ℕ → Type 0) → ((node w : ℕ) → Q node → IsItemWord node w → P w) → (placed : PlacedItems) → AllByRecursion (λ (p : ℕ × Item). Q p.0) placed → AllByRecursion (λ (s : Store). P s.word) (stores_of_placed placed)
+on_stores : (P Q : ℕ → Type 0) → ((node w : ℕ) → Q node → IsItemWord node w → P w)
+    → (placed : PlacedItems) → AllByRecursion (λ (p : ℕ × Item). Q p.0) placed
+    → AllByRecursion (λ (s : Store). P s.word) (stores_of_placed placed)
 on_stores P Q each [] h = tt
 on_stores P Q each (p ∷ rest) h =
-    all_append (λ (s : Store). P s.word) (item_stores p.0 p.1) (stores_of_placed rest)
-    (each p.0 _ h.0 (inl refl), (each p.0 _ h.0 (inr (inl refl)), (each p.0 _ h.0 (inr (inr refl)), tt)))
+    all_append (λ (s : Store). P s.word) (item_stores p.0 p.1) (stores_of_placed rest) (
+      each p.0 _ h.0 (inl refl),
+      (each p.0 _ h.0 (inr (inl refl)), (each p.0 _ h.0 (inr (inr refl)), tt)),
+    )
     (on_stores P Q each rest h.1)
 
 -- stores of placed items are stores of free nodes, and lie in the memory
-free_placed : (m : List ℕ) (n : ℕ) (placed : PlacedItems) → AllByRecursion (λ (p : ℕ × Item). (p.0 < n) × IsUnreached m n p.0) placed → AreFreeStores m n (stores_of_placed placed)
-free_placed m n = on_stores (λ w. (i : ℕ) × (i < n) × IsUnreached m n i × IsItemWord i w) (λ i. (i < n) × IsUnreached m n i) (λ i w q is. (i, q.0, q.1, is))
+free_placed : (m : List ℕ) (n : ℕ) (placed : PlacedItems)
+    → AllByRecursion (λ (p : ℕ × Item). (p.0 < n) × IsUnreached m n p.0) placed
+    → AreFreeStores m n (stores_of_placed placed)
+free_placed m n = on_stores (λ w. (i : ℕ) × (i < n) × IsUnreached m n i × IsItemWord i w)
+    (λ i. (i < n) × IsUnreached m n i) (λ i w q is. (i, q.0, q.1, is))
 
-placed_within : (n : ℕ) (placed : PlacedItems) → AllByRecursion (λ (p : ℕ × Item). p.0 < n) placed → AllByRecursion (λ (s : Store). s.word < words_for n) (stores_of_placed placed)
-placed_within n = on_stores (λ w. w < words_for n) (λ i. i < n) (λ i w lt is. (item_place n i w lt is).1)
+placed_within : (n : ℕ) (placed : PlacedItems) → AllByRecursion (λ (p : ℕ × Item). p.0 < n) placed
+    → AllByRecursion (λ (s : Store). s.word < words_for n) (stores_of_placed placed)
+placed_within n =
+    on_stores (λ w. w < words_for n) (λ i. i < n) (λ i w lt is. (item_place n i w lt is).1)
 
 -- the same picture with other room
 abbrev pub with_room : Picture → ℕ → Picture
@@ -150,14 +217,17 @@ module _ {K : Type 0} (o : Order K) (n : ℕ) (zero new : Picture) (r : ℕ) (u 
   pub planned_step : AreInStep n new free' stores
   planned_step =
       let both = planned.both in
-      let stored = update_in_range n seq (stores_of_placed placed) planned.links (mirror_stores planned.links)
-      (All-from_recursion (λ (s : Store). s.word < words_for n) (stores_of_placed placed) (placed_within n placed within))
+      let stored = update_in_range n seq (stores_of_placed placed) planned.links
+      (mirror_stores planned.links)
+      (All-from_recursion (λ (s : Store). s.word < words_for n) (stores_of_placed placed)
+      (placed_within n placed within))
       links_zero links_one in
       record {
         capacity = both.zero.capacity ∙ step.capacity;
         copy = both.zero.copy ∙ step.copy;
         nodes = planned.nodes;
-        in_range = subst (All (λ (s : Store). s.word < words_for n)) (sym planned.listed_stores) stored;
+        in_range =
+            subst (All (λ (s : Store). s.word < words_for n)) (sym planned.listed_stores) stored;
       }
 
   -- and the stores lead each copy from the old table to the new
@@ -172,16 +242,22 @@ module _ {K : Type 0} (o : Order K) (n : ℕ) (zero new : Picture) (r : ℕ) (u 
       let items = stores_of_placed placed in
       let free_stores =
       free_placed m n placed
-      (all_weaker (λ (p : ℕ × Item). Contains free p.0) (λ (p : ℕ × Item). (p.0 < n) × IsUnreached m n p.0)
-      (λ p c. let is = free_node n free (listed zero.tree) p.0 step.nodes c in (is.0, unreached p.0 is.1)) placed planned.in_free) in
+      (all_weaker (λ (p : ℕ × Item). Contains free p.0)
+      (λ (p : ℕ × Item). (p.0 < n) × IsUnreached m n p.0)
+      (λ p c. let is = free_node n free (listed zero.tree) p.0 step.nodes c in
+      (is.0, unreached p.0 is.1)) placed planned.in_free) in
       let unused = items_unused m n items free_stores in
       let m1 = words_after_all m items in
       let sized1 = length_after m items ∙ sized in
       let stand = all_placed m n placed sized within planned.distinct in
-      let zero1 : Holds m1 n 0 zero.table zero.tree = tree_untouched m n 0 zero.table zero.tree items unused.0 holds0 in
-      let one1 : Holds m1 n 1 zero.table zero.tree = tree_untouched m n 1 zero.table zero.tree items unused.1 holds1 in
-      let then0 = both.zero.leads m1 (pictured m1 n 0 r zero sized1 step.capacity step.copy zero1) stand in
-      let then1 = both.one.leads m1 (pictured m1 n 1 r (second_picture zero) sized1 step.capacity refl one1) stand in
+      let zero1 : Holds m1 n 0 zero.table zero.tree =
+      tree_untouched m n 0 zero.table zero.tree items unused.0 holds0 in
+      let one1 : Holds m1 n 1 zero.table zero.tree =
+      tree_untouched m n 1 zero.table zero.tree items unused.1 holds1 in
+      let then0 =
+      both.zero.leads m1 (pictured m1 n 0 r zero sized1 step.capacity step.copy zero1) stand in
+      let then1 = both.one.leads m1
+      (pictured m1 n 1 r (second_picture zero) sized1 step.capacity refl one1) stand in
       record {
         sized = sized;
         even = even;
@@ -195,54 +271,80 @@ module _ {K : Type 0} (o : Order K) (n : ℕ) (zero new : Picture) (r : ℕ) (u 
             unpictured (words_after_all m1 planned.links) n 0 (after o zero.table u) new
             (both.zero.capacity ∙ step.capacity) (both.zero.copy ∙ step.copy) planned.table then0;
         leads_one =
-            unpictured (words_after_all m1 (mirror_stores planned.links)) n 1 (after o zero.table u) (second_picture new)
+            unpictured (words_after_all m1 (mirror_stores planned.links)) n 1 (after o zero.table u)
+            (second_picture new)
             (both.one.capacity ∙ step.capacity) refl planned.table then1;
       }
 
 -- what a core shows whose copies have one table in one tree
 abbrev pub shown : ℕ → ℕ → ℕ → List Item → Nodes → List Store → WriterView
-shown n limit seq table tree left = record { capacity = n; limit = limit; sequence = seq; table = table; zero_tree = tree; one_tree = tree; stores_left = left }
+shown n limit seq table tree left = record {
+  capacity = n;
+  limit = limit;
+  sequence = seq;
+  table = table;
+  zero_tree = tree;
+  one_tree = tree;
+  stores_left = left;
+}
 
 -- the core has the pending update
-pub planned_begun : {K : Type 0} (o : Order K) (n limit seq : ℕ) (zero z new : Picture) (r : ℕ) (u : Update)
+pub planned_begun : {K : Type 0} (o : Order K) (n limit seq : ℕ) (zero z new : Picture) (r : ℕ)
+    (u : Update)
     (free free' : List ℕ) (placed : PlacedItems) (stores left : List Store) (w : WriterView)
     → shown n limit seq zero.table zero.tree left ≡ w → w.stores_left ≡ []
     → AreInStep n zero free left → z ≡ with_room zero r
     → PlansUpdate o n (with_room zero r) new u free free' placed seq stores
     → IsBalanced z.tree → IsBalanced new.tree
     → HasBegun o w u (shown n limit seq new.table new.tree stores)
-planned_begun o n limit seq zero z new r u free free' placed stores left w is idle step kept planned red red' =
+planned_begun o n limit seq zero z new r u free free' placed stores left w is idle step kept planned
+    red red' =
     let links = planned.links in
     let before = shown n limit seq zero.table zero.tree left in
     let good : IsBalanced zero.tree = subst (λ (p : Picture). IsBalanced p.tree) kept red in
-    let begun = has_begun o before u (stores_of_placed placed) links (mirror_stores links) new.tree new.tree (ap (λ (v : WriterView). v.stores_left) is ∙ idle)
+    let begun = has_begun o before u (stores_of_placed placed) links (mirror_stores links) new.tree
+    new.tree (ap (λ (v : WriterView). v.stores_left) is ∙ idle)
     (omega (arith, planned.few, length-map links mirror_store))
     (λ l rest.
-    leading o n zero new r u free free' placed seq stores left step planned l.words rest.sized rest.even rest.zero rest.one
+    leading o n zero new r u free free' placed seq stores left step planned l.words rest.sized
+    rest.even rest.zero rest.one
     (λ node off. unlisted before l.words node rest refl off) (good, red')) in
     subst (λ v. HasBegun o v u (shown n limit seq new.table new.tree stores)) is
-    (subst (λ ss. HasBegun o before u (shown n limit seq new.table new.tree ss)) (sym planned.listed_stores)
-    (subst (λ t. HasBegun o before u (shown n limit seq t new.tree (update_stores seq (stores_of_placed placed) links (mirror_stores links)))) (sym planned.table) begun))
+    (subst (λ ss. HasBegun o before u (shown n limit seq new.table new.tree ss))
+    (sym planned.listed_stores)
+    (subst (λ t. HasBegun o before u (shown n limit seq t new.tree
+    (update_stores seq (stores_of_placed placed) links (mirror_stores links))))
+    (sym planned.table) begun))
 
 -- an insert
-pub insert_planned : {K : Type 0} (o : Order K) (n : ℕ) (zero z new : Picture) (r node : ℕ) (item : Item)
+pub insert_planned : {K : Type 0} (o : Order K) (n : ℕ) (zero z new : Picture) (r node : ℕ)
+    (item : Item)
     (free free' : List ℕ) (seq : ℕ) (stores left links : List Store)
     → AreInStep n zero free left → free ≡ free' ++ node ∷ [] → z ≡ with_room zero r
     → Inserts o z new node item → LeadsWithItem z new node item links → length links ≤ 13
     → stores ≡ update_stores seq (item_stores node item) links (mirror_stores links)
     → PlansUpdate o n (with_room zero r) new (Insert item) free free' ((node, item) ∷ []) seq stores
-insert_planned o n zero z new r node item free free' seq stores left links step taken is ins leads few listed_stores =
-    let inserts : Inserts o (with_room zero r) new node item = subst (λ p. Inserts o p new node item) is ins in
-    let in_order : AreAllNodes n ((free' ++ node ∷ []) ++ listed zero.tree) = subst (λ xs. AreAllNodes n (xs ++ listed zero.tree)) taken step.nodes in
+insert_planned o n zero z new r node item free free' seq stores left links step taken is ins leads
+    few listed_stores =
+    let inserts : Inserts o (with_room zero r) new node item =
+    subst (λ p. Inserts o p new node item) is ins in
+    let in_order : AreAllNodes n ((free' ++ node ∷ []) ++ listed zero.tree) =
+    subst (λ xs. AreAllNodes n (xs ++ listed zero.tree)) taken step.nodes in
     record {
       links = links;
       listed_stores = listed_stores;
-      both = both_insert o (with_room zero r) new node item links step.copy inserts (subst (λ p. LeadsWithItem p new node item links) is leads);
+      both = both_insert o (with_room zero r) new node item links step.copy inserts
+          (subst (λ p. LeadsWithItem p new node item links) is leads);
       few = omega (arith, few);
-      in_free = (subst (λ xs. Contains xs node) (sym taken) (Contains-append_right free' (node ∷ []) node (0, omega arith, refl)), tt);
+      in_free = (
+        subst (λ xs. Contains xs node) (sym taken)
+            (Contains-append_right free' (node ∷ []) node (0, omega arith, refl)),
+        tt,
+      );
       distinct = (tt, tt);
       table = inserts.table ∙ sym (after_insert o zero.table item);
-      nodes = subst (λ ns. AreAllNodes n (free' ++ ns)) (sym inserts.in_order) (node_taken n node (place_for o item zero.table) free' (listed zero.tree) in_order);
+      nodes = subst (λ ns. AreAllNodes n (free' ++ ns)) (sym inserts.in_order)
+          (node_taken n node (place_for o item zero.table) free' (listed zero.tree) in_order);
     }
 
 -- an erase
@@ -252,37 +354,48 @@ pub erase_planned : {K : Type 0} (o : Order K) (n : ℕ) (zero z new : Picture) 
     → Erases z new a node → LeadsByLinks z new links → length links ≤ 16
     → stores ≡ update_stores seq [] links (mirror_stores links)
     → PlansUpdate o n (with_room zero r) new (Erase a) free (free ++ node ∷ []) [] seq stores
-erase_planned o n zero z new r a node free seq stores left links step is er leads few listed_stores =
+erase_planned o n zero z new r a node free seq stores left links step is er leads few
+    listed_stores =
     let erases : Erases (with_room zero r) new a node = subst (λ p. Erases p new a node) is er in
     record {
       links = links;
       listed_stores = listed_stores;
-      both = both_erase (with_room zero r) new a node links step.copy erases (subst (λ p. LeadsByLinks p new links) is leads);
+      both = both_erase (with_room zero r) new a node links step.copy erases
+          (subst (λ p. LeadsByLinks p new links) is leads);
       few = omega (arith, few);
       in_free = tt;
       distinct = tt;
       table = erases.table ∙ sym (after_erase o zero.table a);
-      nodes = subst (λ ns. AreAllNodes n ((free ++ node ∷ []) ++ ns)) (sym erases.in_order) (node_freed n node (place_of a zero.table) free (listed zero.tree) erases.at_place step.nodes);
+      nodes =
+          subst (λ ns. AreAllNodes n ((free ++ node ∷ []) ++ ns)) (sym erases.in_order) (node_freed
+          n node (place_of a zero.table) free (listed zero.tree) erases.at_place step.nodes);
     }
 
 -- a batch: erases, and then inserts in nodes that were free before them
-pub batch_planned : {K : Type 0} (o : Order K) (n : ℕ) (zero z0 z1 z2 : Picture) (r : ℕ) (erase : List ℕ) (insert : List Item) (placed : PlacedItems)
+pub batch_planned : {K : Type 0} (o : Order K) (n : ℕ) (zero z0 z1 z2 : Picture) (r : ℕ)
+    (erase : List ℕ) (insert : List Item) (placed : PlacedItems)
     (xs ys : List Store) (free free1 free2 : List ℕ) (seq : ℕ) (stores left : List Store)
     → AreInStep n zero free left → z0 ≡ with_room zero r
-    → ErasesWords z0 z1 erase xs free free1 → InsertsItems o z1 z2 insert placed ys (take (length free) free1) free2
+    → ErasesWords z0 z1 erase xs free free1
+    → InsertsItems o z1 z2 insert placed ys (take (length free) free1) free2
     → length (stores_of_placed placed) + length (xs ++ ys) ≤ 16 * size_of (Batch erase insert)
     → stores ≡ update_stores seq (stores_of_placed placed) (xs ++ ys) (mirror_stores (xs ++ ys))
     → PlansUpdate o n (with_room zero r) z2 (Batch erase insert) free free2 placed seq stores
-batch_planned o n zero z0 z1 z2 r erase insert placed xs ys free free1 free2 seq stores left step is erases inserts few listed_stores =
-    let erased : ErasesWords (with_room zero r) z1 erase xs free free1 = subst (λ p. ErasesWords p z1 erase xs free free1) is erases in
-    let fresh : take (length free) free1 ≡ free = ap (take (length free)) erased.behind ∙ take-append-le (length free) free erased.freed (omega arith) ∙ take_all (length free) free (omega arith) in
+batch_planned o n zero z0 z1 z2 r erase insert placed xs ys free free1 free2 seq stores left step is
+    erases inserts few listed_stores =
+    let erased : ErasesWords (with_room zero r) z1 erase xs free free1 =
+    subst (λ p. ErasesWords p z1 erase xs free free1) is erases in
+    let fresh : take (length free) free1 ≡ free = ap (take (length free)) erased.behind
+    ∙ take-append-le (length free) free erased.freed (omega arith)
+    ∙ take_all (length free) free (omega arith) in
     let same_capacity : z1.capacity ≡ n = erased.both.zero.capacity ∙ step.capacity in
     record {
       links = xs ++ ys;
       listed_stores = listed_stores;
       both = both_then (with_room zero r) z1 z2 [] placed xs ys step.copy erased.both inserts.both;
       few = few;
-      in_free = subst (λ ns. AllByRecursion (λ (p : ℕ × Item). Contains ns p.0) placed) fresh inserts.in_fresh;
+      in_free = subst (λ ns. AllByRecursion (λ (p : ℕ × Item). Contains ns p.0) placed) fresh
+          inserts.in_fresh;
       distinct = inserts.distinct;
       table = inserts.table ∙ ap (with_items o insert) erased.table;
       nodes = subst (λ k. AreAllNodes k (free2 ++ listed z2.tree)) same_capacity inserts.nodes;

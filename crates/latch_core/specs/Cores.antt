@@ -13,7 +13,8 @@ use Rattle.latch_core.specs.declared.readers.Taken.{Taken}
 use Rattle.latch_core.specs.declared.readers.Taken.TheVariants.{Going, Retrying, Returned}
 use Rattle.latch_core.specs.declared.progress.AttemptProgress.{AttemptProgress}
 use Rattle.latch_core.specs.declared.progress.AwaitedValue.{AwaitedValue}
-use Rattle.latch_core.specs.declared.progress.AwaitedValue.TheVariants.{First, Root, WordA, WordB, Tag}
+use Rattle.latch_core.specs.declared.progress.AwaitedValue.TheVariants.{First, Root, WordA, WordB}
+use Rattle.latch_core.specs.declared.progress.AwaitedValue.TheVariants.{Tag}
 use Rattle.latch_core.specs.declared.progress.AwaitedValue.TheVariants.{Left, Right, Found, Missing}
 use Rattle.latch_core.specs.declared.progress.AwaitedValue.TheVariants.{Stuck}
 

@@ -1,10 +1,22 @@
 -- Every lookup that returns is right, and its item is in the table of its generation, so it answers
 -- for each key in it while that generation is current.
-use Rattle.latch_steps.proofs.Definitions.{◌≡◌, ℕ, suc, ◌+◌, ◌<◌, ◌≤◌, List, ◌++◌, Option, Some, None, refl, sym, ◌∙◌, ap, subst, arith, append-nil, ◌-◌, ◌^◌, [], ◌∷◌, length, take, append_assoc, Contains, nat_cmp, FinMap, get, insert, remove, get-empty, Update, Refusal, Event, Begin, Write, Start, Read, Reply, Order, IsLawful, look, IsLook, replay, current_table, table_at, at, generation_of, stable_copy_of, PendingUpdate, PendingLookup, Moment, accepted, Done, opening, history, moment_at, machine, counted_up, with_lookups, return_of, IsBegin, IsWrite, start_done, load_done, read_done, Step, Run, IsSound, AreTables, standing_step, gen_within, sound_opening, AllByRecursion, take-append-le, Item}
+use Rattle.latch_steps.proofs.Definitions.{◌≡◌, ℕ, suc, ◌+◌, ◌<◌, ◌≤◌, List, ◌++◌, Option, Some}
+use Rattle.latch_steps.proofs.Definitions.{None, refl, sym, ◌∙◌, ap, subst, arith, append-nil, ◌-◌}
+use Rattle.latch_steps.proofs.Definitions.{◌^◌, [], ◌∷◌, length, take, append_assoc, Contains}
+use Rattle.latch_steps.proofs.Definitions.{nat_cmp, FinMap, get, insert, remove, get-empty, Update}
+use Rattle.latch_steps.proofs.Definitions.{Refusal, Event, Begin, Write, Start, Read, Reply, Order}
+use Rattle.latch_steps.proofs.Definitions.{IsLawful, look, IsLook, replay, current_table, table_at}
+use Rattle.latch_steps.proofs.Definitions.{at, generation_of, stable_copy_of, PendingUpdate}
+use Rattle.latch_steps.proofs.Definitions.{PendingLookup, Moment, accepted, Done, opening, history}
+use Rattle.latch_steps.proofs.Definitions.{moment_at, machine, counted_up, with_lookups, return_of}
+use Rattle.latch_steps.proofs.Definitions.{IsBegin, IsWrite, start_done, load_done, read_done, Step}
+use Rattle.latch_steps.proofs.Definitions.{Run, IsSound, AreTables, standing_step, gen_within}
+use Rattle.latch_steps.proofs.Definitions.{sound_opening, AllByRecursion, take-append-le, Item}
 use Rattle.latch_steps.specs.declared.replies.Returned.{Returned}
 use Rattle.latch_steps.specs.declared.replies.Reply.TheVariants.{Returned as ReturnedReply}
 use Rattle.latch_steps.proofs.RunLemmas.{step_sound, step_counts}
-use Rattle.latch_steps.proofs.LoadLemmas.{IsGoing, each_insert, each_remove, none_loaded, by_sound_load}
+use Rattle.latch_steps.proofs.LoadLemmas.{IsGoing, each_insert, each_remove, none_loaded}
+use Rattle.latch_steps.proofs.LoadLemmas.{by_sound_load}
 use Rattle.latch_steps.specs.Safe.{IsSafeReply, IsSafe, IsCurrent}
 use Rattle.order_laws.proofs.TableLemmas.{look_is, look_only}
 use Rattle.latch_steps.specs.Memory.{AnswersFromMemory, IsRememberedReply, IsRemembered}
@@ -52,10 +64,12 @@ module _ {K : Type 0} (o : Order K) (n : ℕ) where
       → AreLookups o n m (c + 1) ls
   all_later m c ls h q l e = later m c l (h q l e)
 
-module _ {K : Type 0} (o : Order K) (law : IsLawful o) (n start : ℕ) (us : List Update) (c : ℕ) (w : Moment K) (ok : IsWorld o n start us c w) (room : counted_up c ≡ c + 1) where
+module _ {K : Type 0} (o : Order K) (law : IsLawful o) (n start : ℕ) (us : List Update) (c : ℕ)
+    (w : Moment K) (ok : IsWorld o n start us c w) (room : counted_up c ≡ c + 1) where
   -- a reply of an event and the moment after it
   abbrev Leads : Event K → Reply K × Moment K → Type 0
-  Leads e done = AreLookups o n done.1.latch.words (c + 1) done.1.lookups × IsRight o start (us ++ accepted e done.0) (c + 1) done.1 done.0
+  Leads e done = AreLookups o n done.1.latch.words (c + 1) done.1.lookups
+      × IsRight o start (us ++ accepted e done.0) (c + 1) done.1 done.0
 
   still : AreLookups o n w.latch.words (c + 1) w.lookups
   still = all_later o n w.latch.words c w.lookups ok.lookups
@@ -63,7 +77,8 @@ module _ {K : Type 0} (o : Order K) (law : IsLawful o) (n start : ℕ) (us : Lis
   -- the reader has this lookup
   with_one : (r : ℕ) (l : PendingLookup K) → l.first ≤ c + 1 → IsGoing o n w.latch.words l
       → AreLookups o n w.latch.words (c + 1) (insert w.lookups r l)
-  with_one r l le going = each_insert (IsLookup o n w.latch.words (c + 1)) w.lookups r l still (record { first = le; going = going })
+  with_one r l le going = each_insert (IsLookup o n w.latch.words (c + 1)) w.lookups r l still
+      (record { first = le; going = going })
 
   counted : counted_up w.events ≡ c + 1
   counted = ap counted_up ok.events ∙ room
@@ -78,13 +93,17 @@ module _ {K : Type 0} (o : Order K) (law : IsLawful o) (n start : ℕ) (us : Lis
       (λ going. (with_one r _ (omega arith) going, tt))
       (λ moved. (with_one r _ (omega arith) (none_loaded o n w.latch.words _ refl), tt)) (
         each_remove (IsLookup o n w.latch.words (c + 1)) w.lookups r still,
-        subst (λ vs. IsRightNow o start vs (c + 1) (with_lookups w (remove w.lookups r)) (return_of w r l (look o l.key (current_table o start us w.latch.words)) (generation_of (at w.latch.words 0)))) (sym (append-nil us))
+        subst (λ vs. IsRightNow o start vs (c + 1) (with_lookups w (remove w.lookups r))
+            (return_of w r l (look o l.key (current_table o start us w.latch.words))
+            (generation_of (at w.latch.words 0)))) (sym (append-nil us))
             (record { first = omega arith; last = counted; generation = refl; answer = refl }),
       )
 
-  start_leads : (r : ℕ) (k : K) (found : Option (PendingLookup K)) → Leads (Start r k) (start_done w r k found)
+  start_leads : (r : ℕ) (k : K) (found : Option (PendingLookup K))
+      → Leads (Start r k) (start_done w r k found)
   start_leads r k (Some l) = (still, tt)
-  start_leads r k None = (with_one r _ (let e = counted in omega arith) (none_loaded o n w.latch.words _ refl), tt)
+  start_leads r k None =
+      (with_one r _ (let e = counted in omega arith) (none_loaded o n w.latch.words _ refl), tt)
 
   write_leads : (pending : Option PendingUpdate) (reply : Reply K) (w' : Moment K)
       → IsWrite n w pending reply w' → Leads Write (reply, w')
@@ -95,22 +114,32 @@ module _ {K : Type 0} (o : Order K) (law : IsLawful o) (n start : ℕ) (us : Lis
             let is = still q l f in
             record {
               first = is.first;
-              going = record { standing = standing_step o n l.key w.latch h s l.values ok.latch.sized may is.going.standing; word = is.going.word; go = is.going.go; left = is.going.left };
+              going = record {
+                standing = standing_step o n l.key w.latch h s l.values ok.latch.sized may
+                    is.going.standing;
+                word = is.going.word;
+                go = is.going.go;
+                left = is.going.left;
+              };
             },
         tt,
       )
 
   begin_leads : (u : Update) (why : Option Refusal) (reply : Reply K) (w' : Moment K)
       → IsBegin o n w u why reply w' → Leads (Begin u) (reply, w')
-  begin_leads u (Some why) reply w' (er, ew) = subst (Leads (Begin u)) (λ i. (sym er i, sym ew i)) (still, tt)
-  begin_leads u None reply w' (left, some, bound, er, ew) = subst (Leads (Begin u)) (λ i. (sym er i, sym ew i)) (still, tt)
+  begin_leads u (Some why) reply w' (er, ew) =
+      subst (Leads (Begin u)) (λ i. (sym er i, sym ew i)) (still, tt)
+  begin_leads u None reply w' (left, some, bound, er, ew) =
+      subst (Leads (Begin u)) (λ i. (sym er i, sym ew i)) (still, tt)
 
   step_right : (limit : ℕ) (e : Event K) (reply : Reply K) (w' : Moment K)
       → Step (machine o n limit) w e reply w' → Leads e (reply, w')
   step_right limit (Begin u) reply w' s = begin_leads u _ reply w' s
   step_right limit Write reply w' s = write_leads w.latch.pending reply w' s
-  step_right limit (Start r k) reply w' s = subst (Leads (Start r k)) s (start_leads r k (get w.lookups r))
-  step_right limit (Read r) reply w' s = subst (Leads (Read r)) s (read_leads r (get w.lookups r) refl)
+  step_right limit (Start r k) reply w' s =
+      subst (Leads (Start r k)) s (start_leads r k (get w.lookups r))
+  step_right limit (Read r) reply w' s =
+      subst (Leads (Read r)) s (read_leads r (get w.lookups r) refl)
 
 pub step_leads : {K : Type 0} (o : Order K) → IsLawful o → (n limit start : ℕ) (us : List Update)
     (c : ℕ) (w : Moment K) → IsWorld o n start us c w → counted_up c ≡ c + 1 → (e : Event K)
@@ -135,17 +164,25 @@ pub record IsLeft {K : Type 0} (w0 : Moment K) (all : List (Done K)) (c : ℕ) (
 
 module _ {K : Type 0} (w0 : Moment K) (all : List (Done K)) where
   pub all_left : IsLeft w0 all 0 w0 all
-  all_left = record { moments = λ j. ap (moment_at w0 all) (let f : 0 + j ≡ j = omega arith in f); count = omega arith }
+  all_left = record {
+    moments = λ j. ap (moment_at w0 all) (let f : 0 + j ≡ j = omega arith in f);
+    count = omega arith;
+  }
 
   pub left_next : (c : ℕ) (w : Moment K) (d : Done K) (run : List (Done K))
       → IsLeft w0 all c w (d ∷ run) → IsLeft w0 all (c + 1) d.after run
   left_next c w d run h =
       let n = h.count in
-      record { moments = λ j. ap (moment_at w0 all) (let f : c + 1 + j ≡ c + suc j = omega arith in f) ∙ h.moments (suc j); count = omega arith }
+      record {
+        moments = λ j. ap (moment_at w0 all) (let f : c + 1 + j ≡ c + suc j = omega arith in f)
+            ∙ h.moments (suc j);
+        count = omega arith;
+      }
 
   pub moment_there : (c : ℕ) (w : Moment K) (run : List (Done K)) → IsLeft w0 all c w run
       → moment_at w0 all c ≡ w
-  moment_there c w run h = ap (moment_at w0 all) (let f : c ≡ c + 0 = omega arith in f) ∙ h.moments 0
+  moment_there c w run h =
+      ap (moment_at w0 all) (let f : c ≡ c + 0 = omega arith in f) ∙ h.moments 0
 
 safe_reply : {K : Type 0} (o : Order K) (n start : ℕ) (us rest : List Update) (c : ℕ)
     (w : Moment K) (all : List (Done K)) → history all ≡ us ++ rest
@@ -153,15 +190,19 @@ safe_reply : {K : Type 0} (o : Order K) (n start : ℕ) (us rest : List Update) 
     → moment_at (opening n start) all c ≡ w → (r : Reply K) → IsRight o start us c w r
     → IsSafeReply o n start all r
 safe_reply o n start us rest c w all e within in_run there (ReturnedReply x) h =
-    let same : current_table o start (history all) w.latch.words ≡ current_table o start us w.latch.words =
-    ap (replay o []) (ap (take (generation_of (at w.latch.words 0) - generation_of start)) e ∙ take-append-le (generation_of (at w.latch.words 0) - generation_of start) us rest within) in
+    let same : current_table o start (history all) w.latch.words
+    ≡ current_table o start us w.latch.words =
+    ap (replay o [])
+    (ap (take (generation_of (at w.latch.words 0) - generation_of start)) e ∙ take-append-le
+    (generation_of (at w.latch.words 0) - generation_of start) us rest within) in
     record {
       events = c;
       not_before = h.first;
       not_after = (let l = h.last in omega arith);
       in_run = in_run;
       generation_is = h.generation ∙ ap (λ v. generation_of (at v.latch.words 0)) (sym there);
-      answer_is = h.answer ∙ ap (look o x.key) (sym same) ∙ ap (λ v. look o x.key (current_table o start (history all) v.latch.words)) (sym there);
+      answer_is = h.answer ∙ ap (look o x.key) (sym same)
+          ∙ ap (λ v. look o x.key (current_table o start (history all) v.latch.words)) (sym there);
     }
 safe_reply o n start us rest c w all e within in_run there _ h = tt
 
@@ -172,21 +213,30 @@ safe_run : {K : Type 0} (o : Order K) → IsLawful o → (n limit start : ℕ)
     → AllByRecursion (λ (d : Done K). IsSafeReply o n start all d.reply) run
 safe_run o law n limit start all [] us c w left ok room steps e = tt
 safe_run o law n limit start all (d ∷ run) us c w left ok room steps e =
-    let leads = step_leads o law n limit start us c w ok (omega arith) d.event d.reply d.after steps.0 in
+    let leads =
+    step_leads o law n limit start us c w ok (omega arith) d.event d.reply d.after steps.0 in
     let us' = us ++ accepted d.event d.reply in
     let w0 : Moment _ = opening n start in
-    let e' : history all ≡ us' ++ history run = e ∙ sym (append_assoc us (accepted d.event d.reply) (history run)) in
+    let e' : history all ≡ us' ++ history run =
+    e ∙ sym (append_assoc us (accepted d.event d.reply) (history run)) in
     let left' = left_next w0 all c w d run left in
     let count = left'.count in (
-      safe_reply o n start us' (history run) (c + 1) d.after all e' (gen_within o n start us' d.after.latch leads.world.latch) (omega arith) (moment_there w0 all (c + 1) d.after run left') d.reply leads.right,
-      safe_run o law n limit start all run us' (c + 1) d.after left' leads.world (omega arith) steps.1 e',
+      safe_reply o n start us' (history run) (c + 1) d.after all
+          e' (gen_within o n start us' d.after.latch leads.world.latch) (omega arith)
+          (moment_there w0 all (c + 1) d.after run left') d.reply leads.right,
+      safe_run o law n limit start all run us' (c + 1) d.after left' leads.world (omega arith)
+          steps.1 e',
     )
 
 pub opening_world : {K : Type 0} (o : Order K) (n start : ℕ) → stable_copy_of start ≡ 0
     → IsWorld o n start [] 0 (opening n start)
 opening_world {K = K} o n start even =
     let w0 : Moment K = opening n start in
-    record { latch = sound_opening {K = K} o n start even; lookups = λ q l e. (let no : get w0.lookups q ≡ None = get-empty nat_cmp q in absurd (cc)); events = refl }
+    record {
+      latch = sound_opening {K = K} o n start even;
+      lookups = λ q l e. (let no : get w0.lookups q ≡ None = get-empty nat_cmp q in absurd (cc));
+      events = refl;
+    }
 
 -- every run from the opening is safe
 pub safe : {K : Type 0} (o : Order K) → IsLawful o → (n limit start : ℕ) → stable_copy_of start ≡ 0
@@ -194,37 +244,49 @@ pub safe : {K : Type 0} (o : Order K) → IsLawful o → (n limit start : ℕ) �
     → IsSafe o n start run
 safe {K = K} o law n limit start even run room steps =
     let w0 : Moment K = opening n start in
-    safe_run o law n limit start run run [] 0 w0 (all_left w0 run) (opening_world o n start even) (omega arith) steps refl
+    safe_run o law n limit start run run [] 0 w0 (all_left w0 run) (opening_world o n start even)
+    (omega arith) steps refl
 
 -- after each beginning of the history there is a table
 tables_run : {K : Type 0} (o : Order K) → IsLawful o → (n limit start : ℕ) (run : List (Done K))
     (us : List Update) (c : ℕ) (w : Moment K) → IsWorld o n start us c w → c + length run < 2 ^ 64
     → Run (machine o n limit) w run → AreTables o n (us ++ history run)
-tables_run o law n limit start [] us c w ok room steps = subst (AreTables o n) (sym (append-nil us)) ok.latch.tables
+tables_run o law n limit start [] us c w ok room steps =
+    subst (AreTables o n) (sym (append-nil us)) ok.latch.tables
 tables_run o law n limit start (d ∷ run) us c w ok room steps =
-    let leads = step_leads o law n limit start us c w ok (omega arith) d.event d.reply d.after steps.0 in
+    let leads =
+    step_leads o law n limit start us c w ok (omega arith) d.event d.reply d.after steps.0 in
     subst (AreTables o n) (append_assoc us (accepted d.event d.reply) (history run))
-    (tables_run o law n limit start run (us ++ accepted d.event d.reply) (c + 1) d.after leads.world (omega arith) steps.1)
+    (tables_run o law n limit start run (us ++ accepted d.event d.reply) (c + 1) d.after leads.world
+    (omega arith) steps.1)
 
-module _ {K : Type 0} (o : Order K) (law : IsLawful o) (n start : ℕ) (all : List (Done K)) (tables : AreTables o n (history all)) where
+module _ {K : Type 0} (o : Order K) (law : IsLawful o) (n start : ℕ) (all : List (Done K))
+    (tables : AreTables o n (history all)) where
   -- what a lookup returned is in the table of its generation
-  there : (x : Returned K) (i : Item) → IsCurrent o n start all x → x.answer ≡ Some i → Contains (table_at o start (history all) x.generation) i
+  there : (x : Returned K) (i : Item) → IsCurrent o n start all x → x.answer ≡ Some i
+      → Contains (table_at o start (history all) x.generation) i
   there x i now is =
       let table = table_at o start (history all) x.generation in
-      let found : Some i ≡ look o x.key table = sym is ∙ now.answer_is ∙ ap (λ g. look o x.key (table_at o start (history all) g)) (sym now.generation_is) in
+      let found : Some i ≡ look o x.key table = sym is ∙ now.answer_is
+      ∙ ap (λ g. look o x.key (table_at o start (history all) g)) (sym now.generation_is) in
       (subst (IsLook o x.key table) (sym found) (look_is o x.key table)).0
 
   remembered : (x : Returned K) → IsCurrent o n start all x → AnswersFromMemory o n start all x
   remembered x now = λ i events is within same k inside.
-      look_only o law k (table_at o start (history all) (generation_of (at (moment_at (opening n start) all events).latch.words 0))) (Some i)
-      (tables (generation_of (at (moment_at (opening n start) all events).latch.words 0) - generation_of start)).0
-      (subst (λ g. Contains (table_at o start (history all) g) i) (sym same) (there x i now is), inside)
+      look_only o law k (table_at o start (history all)
+      (generation_of (at (moment_at (opening n start) all events).latch.words 0))) (Some i)
+      (tables (generation_of (at (moment_at (opening n start) all events).latch.words 0)
+      - generation_of start)).0 (
+        subst (λ g. Contains (table_at o start (history all) g) i) (sym same) (there x i now is),
+        inside,
+      )
 
   remembered_reply : (r : Reply K) → IsSafeReply o n start all r → IsRememberedReply o n start all r
   remembered_reply (ReturnedReply x) now = remembered x now
   remembered_reply _ now = tt
 
-  remembered_run : (run : List (Done K)) → AllByRecursion (λ (d : Done K). IsSafeReply o n start all d.reply) run
+  remembered_run : (run : List (Done K))
+      → AllByRecursion (λ (d : Done K). IsSafeReply o n start all d.reply) run
       → AllByRecursion (λ (d : Done K). IsRememberedReply o n start all d.reply) run
   remembered_run [] h = tt
   remembered_run (d ∷ run) h = (remembered_reply d.reply h.0, remembered_run run h.1)
@@ -235,5 +297,6 @@ pub remembers : {K : Type 0} (o : Order K) → IsLawful o → (n limit start : �
     → Run (machine o n limit) (opening n start) run → IsRemembered o n start run
 remembers {K = K} o law n limit start even run room steps =
     let w0 : Moment K = opening n start in
-    let tables = tables_run o law n limit start run [] 0 w0 (opening_world o n start even) (omega arith) steps in
+    let tables = tables_run o law n limit start run [] 0 w0 (opening_world o n start even)
+    (omega arith) steps in
     remembered_run o law n start run tables run (safe o law n limit start even run room steps)

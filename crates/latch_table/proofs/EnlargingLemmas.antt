@@ -1,12 +1,22 @@
 -- The table in the words of a wider layout.
-use Rattle.latch_table.proofs.Words.{◌≡◌, ℕ, ◌-◌, ◌*◌, ◌≤◌, List, [], length, take, All, None, refl, sym, ◌∙◌, ap, subst, Me, opening, TableId, Order, Layout, capacity_of, at, wider_words, generation_of, IsSound, WriterView, RepresentsLatch, Knowledge, WriterKnowledge, writer_of, writer_knowledge, moved_writer, blank_reader, KnowledgeHolds, ReaderState, new_reader, WriterState, writer_state, pending_of, shown_updates, IsTied, Enlarges, enlarged_state, reader_beside}
+use Rattle.latch_table.proofs.Words.{◌≡◌, ℕ, ◌-◌, ◌*◌, ◌≤◌, List, [], length, take, All, None, refl}
+use Rattle.latch_table.proofs.Words.{sym, ◌∙◌, ap, subst, Me, opening, TableId, Order, Layout}
+use Rattle.latch_table.proofs.Words.{capacity_of, at, wider_words, generation_of, IsSound}
+use Rattle.latch_table.proofs.Words.{WriterView, RepresentsLatch, Knowledge, WriterKnowledge}
+use Rattle.latch_table.proofs.Words.{writer_of, writer_knowledge, moved_writer, blank_reader}
+use Rattle.latch_table.proofs.Words.{KnowledgeHolds, ReaderState, new_reader, WriterState}
+use Rattle.latch_table.proofs.Words.{writer_state, pending_of, shown_updates, IsTied, Enlarges}
+use Rattle.latch_table.proofs.Words.{enlarged_state, reader_beside}
 use Rattle.word_layout.proofs.WiderLemmas.{at_wider}
-use Rattle.latch_core.specs.Widening.{why_not_widened, widened_writer, widened_latch, RepresentsWidened}
+use Rattle.latch_core.specs.Widening.{why_not_widened, widened_writer, widened_latch}
+use Rattle.latch_core.specs.Widening.{RepresentsWidened}
 use Rattle.latch_core.proofs.WideningLemmas.{may_widen, widened_sound, latched_wider}
 use Rattle.latch_table.proofs.RuleLemmas.{opens}
 use Rattle.latch_table.proofs.WriterLemmas.{latched_now}
 
-module _ {S K : Type 0} (o : Order K) (place : TableId) (readers : ℕ) (m : Me S Knowledge) (core : WriterView) (tied : IsTied o m core (writer_state place readers m.0 core)) (l : Layout) (accepted : why_not_widened core l ≡ None) where
+module _ {S K : Type 0} (o : Order K) (place : TableId) (readers : ℕ) (m : Me S Knowledge)
+    (core : WriterView) (tied : IsTied o m core (writer_state place readers m.0 core)) (l : Layout)
+    (accepted : why_not_widened core l ≡ None) where
   abbrev here : WriterState
   here = writer_state place readers m.0 core
 
@@ -26,13 +36,19 @@ module _ {S K : Type 0} (o : Order K) (place : TableId) (readers : ℕ) (m : Me 
   hand_rests = ap (λ ss. pending_of ss p) idle
 
   -- the wider words keep the rule, with what the seat then knows
-  pub opens_wider : (seat : Me S Knowledge) (words given : List ℕ) → seat ≡ m → words ≡ wider → given ≡ words
-      → KnowledgeHolds {S = S} o (capacity_of l) (writer_of seat.0).base (opening given [] (writer_knowledge (moved_writer (capacity_of l) words (writer_of seat.0))))
+  pub opens_wider : (seat : Me S Knowledge) (words given : List ℕ) → seat ≡ m → words ≡ wider
+      → given ≡ words
+      → KnowledgeHolds {S = S} o (capacity_of l) (writer_of seat.0).base (opening given []
+      (writer_knowledge (moved_writer (capacity_of l) words (writer_of seat.0))))
   opens_wider seat words given same is passed =
-      subst (λ (z : Me S Knowledge × List ℕ × List ℕ). KnowledgeHolds {S = S} o (capacity_of l) (writer_of z.0.0).base (opening z.1 [] (writer_knowledge (moved_writer (capacity_of l) z.2 (writer_of z.0.0)))))
+      subst (λ (z : Me S Knowledge × List ℕ × List ℕ).
+      KnowledgeHolds {S = S} o (capacity_of l) (writer_of z.0.0).base
+      (opening z.1 [] (writer_knowledge (moved_writer (capacity_of l) z.2 (writer_of z.0.0)))))
       (λ i. (sym same i, sym (passed ∙ is) i, sym is i))
-      (opens o (capacity_of l) p.base wider [] (moved_writer (capacity_of l) wider p) (record { based = refl; capacity = refl; picture = refl; shown = refl })
-      (latched_wider o core.capacity (capacity_of l) p.base p.picture p.known more (latched_now o place readers m core tied)))
+      (opens o (capacity_of l) p.base wider [] (moved_writer (capacity_of l) wider p)
+      (record { based = refl; capacity = refl; picture = refl; shown = refl })
+      (latched_wider o core.capacity (capacity_of l) p.base p.picture p.known more
+      (latched_now o place readers m core tied)))
 
   -- and the core, wider too, is tied to their first seat
   module _ (place' : TableId) (pictured : RepresentsWidened core (widened_writer core l)) where
@@ -42,8 +58,10 @@ module _ {S K : Type 0} (o : Order K) (place : TableId) (readers : ℕ) (m : Me 
     abbrev there : WriterState
     there = writer_state place' readers seat'.0 (widened_writer core l)
 
-    hand_stays : pending_of core.stores_left (moved_writer (capacity_of l) wider p) ≡ here.latch.pending
-    hand_stays = ap (λ ss. pending_of ss (moved_writer (capacity_of l) wider p)) idle ∙ sym hand_rests
+    hand_stays : pending_of core.stores_left (moved_writer (capacity_of l) wider p)
+        ≡ here.latch.pending
+    hand_stays =
+        ap (λ ss. pending_of ss (moved_writer (capacity_of l) wider p)) idle ∙ sym hand_rests
 
     latch_is : there.latch ≡ widened_latch core.capacity (capacity_of l) here.latch
     latch_is = λ i. record { words = wider; newest_table = core.table; pending = hand_stays i }
@@ -58,15 +76,23 @@ module _ {S K : Type 0} (o : Order K) (place : TableId) (readers : ℕ) (m : Me 
     tied_wider = record {
       alone = refl;
       capacity = refl;
-      pictures = subst (RepresentsLatch (widened_writer core l)) (sym latch_is) (pictured here.latch tied.pictures hand_rests);
-      sound = subst (IsSound o (capacity_of l) (2 * p.base) p.accepted) (sym latch_is) (widened_sound o core.capacity (capacity_of l) (2 * p.base) p.accepted here.latch more tied.sound);
+      pictures = subst (RepresentsLatch (widened_writer core l)) (sym latch_is)
+          (pictured here.latch tied.pictures hand_rests);
+      sound =
+          subst (IsSound o (capacity_of l) (2 * p.base) p.accepted) (sym latch_is) (widened_sound o
+          core.capacity (capacity_of l) (2 * p.base) p.accepted here.latch more tied.sound);
       known = tied.known ∙ sym same_known;
     }
 
     new_reader_is : new_reader place' seat'.0 ≡ reader_beside there
-    new_reader_is = λ i. record { place = place'; knowledge = blank_reader p.base (capacity_of l) (tied_wider.known i); memory = None }
+    new_reader_is = λ i. record {
+      place = place';
+      knowledge = blank_reader p.base (capacity_of l) (tied_wider.known i);
+      memory = None;
+    }
 
-    enlarges_wider : (all : List ReaderState) → length all ≡ readers → All (λ x. x ≡ new_reader place' seat'.0) all → Enlarges here l there all
+    enlarges_wider : (all : List ReaderState) → length all ≡ readers
+        → All (λ x. x ≡ new_reader place' seat'.0) all → Enlarges here l there all
     enlarges_wider all count new = record {
       may = (hand_rests, (more, (may_widen core l accepted).2));
       state = λ i. record (enlarged_state place' l here) { latch = latch_is i };
@@ -77,7 +103,9 @@ module _ {S K : Type 0} (o : Order K) (place : TableId) (readers : ℕ) (m : Me 
     }
 
   -- so are a core and a seat that are equal to these
-  module _ (place' : TableId) (core' : WriterView) (widened : core' ≡ widened_writer core l) (pictured : RepresentsWidened core core') (seat : Me S Knowledge) (words : List ℕ) (same : seat ≡ m) (is : words ≡ wider) where
+  module _ (place' : TableId) (core' : WriterView) (widened : core' ≡ widened_writer core l)
+      (pictured : RepresentsWidened core core') (seat : Me S Knowledge) (words : List ℕ)
+      (same : seat ≡ m) (is : words ≡ wider) where
     abbrev first : Knowledge
     first = writer_knowledge (moved_writer (capacity_of l) words (writer_of seat.0))
 
@@ -87,14 +115,20 @@ module _ {S K : Type 0} (o : Order K) (place : TableId) (readers : ℕ) (m : Me 
     pictured_wider : RepresentsWidened core (widened_writer core l)
     pictured_wider = subst (RepresentsWidened core) widened pictured
 
-    pub tied_there : (m' : Me S Knowledge) → m' ≡ (first, []) → IsTied o m' core' (writer_state place' readers m'.0 core')
+    pub tied_there : (m' : Me S Knowledge) → m' ≡ (first, [])
+        → IsTied o m' core' (writer_state place' readers m'.0 core')
     tied_there m' there =
-        subst (λ (z : Me S Knowledge × WriterView). IsTied o z.0 z.1 (writer_state place' readers z.0.0 z.1))
+        subst (λ (z : Me S Knowledge × WriterView).
+        IsTied o z.0 z.1 (writer_state place' readers z.0.0 z.1))
         (λ i. (sym (there ∙ (λ j. (first_is j, []))) i, sym widened i))
         (tied_wider place' pictured_wider)
 
-    pub enlarges : (m' : Me S Knowledge) → m' ≡ (first, []) → (all : List ReaderState) → length all ≡ readers → All (λ x. x ≡ new_reader place' first) all → Enlarges here l (writer_state place' readers m'.0 core') all
+    pub enlarges : (m' : Me S Knowledge) → m' ≡ (first, []) → (all : List ReaderState)
+        → length all ≡ readers → All (λ x. x ≡ new_reader place' first) all
+        → Enlarges here l (writer_state place' readers m'.0 core') all
     enlarges m' there all count new =
         subst (λ (w : WriterState). Enlarges here l w all)
-        (λ i. writer_state place' readers (sym (there ∙ (λ j. (first_is j, []))) i).0 (sym widened i))
-        (enlarges_wider place' pictured_wider all count (subst (λ (v : Knowledge). All (λ x. x ≡ new_reader place' v) all) first_is new))
+        (λ i.
+        writer_state place' readers (sym (there ∙ (λ j. (first_is j, []))) i).0 (sym widened i))
+        (enlarges_wider place' pictured_wider all count
+        (subst (λ (v : Knowledge). All (λ x. x ≡ new_reader place' v) all) first_is new))

@@ -3,7 +3,8 @@ use Rattle.std.specs.Prelude.{◌≡◌, ◌⊎◌, ◌≤◌, ℕ, true, not, L
 use Rattle.std.specs.Prelude.{None, is_some}
 use Rattle.order_laws.specs.declared.items.Item.{Item}
 use Rattle.order_laws.specs.declared.refusals.Refusal.{Refusal}
-use Rattle.order_laws.specs.declared.refusals.Refusal.TheVariants.{OutOfMemory, Overlap, UpdateInHand}
+use Rattle.order_laws.specs.declared.refusals.Refusal.TheVariants.{OutOfMemory, Overlap}
+use Rattle.order_laws.specs.declared.refusals.Refusal.TheVariants.{UpdateInHand}
 use Rattle.order_laws.specs.Orders.{Order}
 use Rattle.word_layout.specs.Words.{at, Nodes, listed, items, Leads}
 use Rattle.table_updates.specs.declared.updates.Update.{Update}

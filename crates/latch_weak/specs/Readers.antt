@@ -103,8 +103,8 @@ last_of last (g ∷ gs) = last_of g gs
 
 module _ {K : Type 0} (chooses : Choice) (b : Barriers) (o : Order K) (n : ℕ) (m : List ℕ)
     (ss : List Store) where
-  -- a whole attempt: its loads, each as the schedule chose it, its outcome, the view that it leaves,
-  -- and that the reader goes on after its last load
+  -- a whole attempt: its loads, each as the schedule chose it, its outcome, the view that it
+  -- leaves, and that the reader goes on after its last load
   pub record HasAttempted (r : ReaderView) (k : K) (out : Outcome) (r' : ReaderView) : Type 0 where
     pub glances : List Glance
     pub tried : IsWeakAttempt b o n m ss (view_of r) r.last.made k glances out

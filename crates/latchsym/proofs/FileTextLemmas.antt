@@ -17,12 +17,15 @@ module _ {F : Type 0} (remaining : F → Option (List ℕ)) where
   seen_by file_text names l r is_read = record {
     events = None;
     left = remaining (device_of r);
-    next = if is_read then given_by file_text names else known_given remaining remaining remaining l;
+    next =
+        if is_read then given_by file_text names else known_given remaining remaining remaining l;
     later = given_by file_text names;
   }
 
   -- the listings that are open were not read
-  pub first_is : (file_text : FileTexts) (s : Sources) (names : ListingFiles) (l l' : ListingReaders F F F) (r r' : Counted F) (is_read : Bool) → names ≡ s.files → l' ≡ l → r' ≡ r → is_read ≡ false
+  pub first_is : (file_text : FileTexts) (s : Sources) (names : ListingFiles)
+      (l l' : ListingReaders F F F) (r r' : Counted F) (is_read : Bool) → names ≡ s.files → l' ≡ l
+      → r' ≡ r → is_read ≡ false
       → seen_by file_text names l' r' is_read ≡ seen_first remaining file_text s l r
   first_is file_text s names l l' r r' is_read files listings log unread =
       ap (λ n. seen_by file_text n l' r' is_read) files
@@ -31,12 +34,16 @@ module _ {F : Type 0} (remaining : F → Option (List ℕ)) where
       ∙ ap (seen_by file_text s.files l r) unread
 
   -- the listings are opened again
-  pub again_is : (file_text : FileTexts) (names files : ListingFiles) (l : ListingReaders F F F) (r r' : Counted F) (is_read : Bool) → names ≡ files → r' ≡ r → is_read ≡ true
+  pub again_is : (file_text : FileTexts) (names files : ListingFiles) (l : ListingReaders F F F)
+      (r r' : Counted F) (is_read : Bool) → names ≡ files → r' ≡ r → is_read ≡ true
       → seen_by file_text names l r' is_read ≡ seen_again remaining file_text files r
   again_is file_text names files l r r' is_read named events read =
       ap (λ n. seen_by file_text n l r' is_read) named
       ∙ ap (λ x. seen_by file_text files l x is_read) events
       ∙ ap (seen_by file_text files l r) read
 
-  pub next_is_later : (file_text : FileTexts) (names : ListingFiles) (l : ListingReaders F F F) (r : Counted F) (is_read : Bool) → is_read ≡ true → (seen_by file_text names l r is_read).next ≡ (seen_by file_text names l r is_read).later
-  next_is_later file_text names l r is_read read = ap (λ b. (seen_by file_text names l r b).next) read
+  pub next_is_later : (file_text : FileTexts) (names : ListingFiles) (l : ListingReaders F F F)
+      (r : Counted F) (is_read : Bool) → is_read ≡ true
+      → (seen_by file_text names l r is_read).next ≡ (seen_by file_text names l r is_read).later
+  next_is_later file_text names l r is_read read =
+      ap (λ b. (seen_by file_text names l r b).next) read

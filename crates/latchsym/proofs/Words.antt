@@ -1,5 +1,6 @@
 -- The words that the proofs of this crate use, of whatever crate.
-pub use Rattle.std.proofs.Common.{Bool, Err, List, None, Option, Some, [], ap, cond, false, inl, inr, map, refl, subst, sym, true, ℕ, ◌∙◌, ◌≡◌}
+pub use Rattle.std.proofs.Common.{Bool, Err, List, None, Option, Some, [], ap, cond, false, inl}
+pub use Rattle.std.proofs.Common.{inr, map, refl, subst, sym, true, ℕ, ◌∙◌, ◌≡◌}
 pub use Rattle.std.specs.Borrow.{Bor}
 pub use Rattle.std.specs.Option.{option_copied, option_map_or}
 pub use Rattle.std.specs.Prelude.{unwrap_or}
@@ -15,7 +16,8 @@ pub use Rattle.command_parts.specs.OpenedCatalogs.{known_given, listing_failures
 pub use Rattle.histories.specs.Grammar.{HistoryPart}
 pub use Rattle.histories.specs.ListingsAt.{listing_at}
 pub use Rattle.latchsym.specs.JobNotes.{notes_text, bounds_of_lookup, run_lines, run_line}
-pub use Rattle.latchsym.specs.Outcomes.{AnswersSources, HoldsOfInput, IsLogBy, IsLogOf, IsLookedUpBy, IsOutcomeOfRun}
+pub use Rattle.latchsym.specs.Outcomes.{AnswersSources, HoldsOfInput, IsLogBy, IsLogOf}
+pub use Rattle.latchsym.specs.Outcomes.{IsLookedUpBy, IsOutcomeOfRun}
 pub use Rattle.latchsym.specs.Reports.{IsConcluded, message_text}
 pub use Rattle.command_line.specs.declared.requests.JobFault.TheVariants.{OutOfMemory}
 pub use Rattle.listing.proofs.ListingNoteLemmas.{given_or}

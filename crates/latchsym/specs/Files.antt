@@ -34,7 +34,8 @@ IsOpened remaining file_text name reader = IsNew remaining (file_text name) read
 abbrev pub IsOpenedIfGiven : {F : Type 0} → (F → Option (List ℕ)) → FileTexts
     → Option Text → Option (Counted F) → Type 0
 IsOpenedIfGiven remaining file_text None None = Unit {0}
-IsOpenedIfGiven remaining file_text (Some name) (Some reader) = IsOpened remaining file_text name reader
+IsOpenedIfGiven remaining file_text (Some name) (Some reader) =
+    IsOpened remaining file_text name reader
 IsOpenedIfGiven remaining file_text _ _ = ⊥
 
 -- what the file of a listing holds, if one is named
@@ -45,7 +46,8 @@ text_named file_text (Some name) = option_map (λ text. Some text) (file_text na
 -- what the files of listings hold, if that is known
 abbrev pub given_by : FileTexts → ListingFiles → Option Given
 given_by file_text files =
-    given_of (text_named file_text (option_map (λ f. f.now) files.modules)) (file_text files.kallsyms.now)
+    given_of (text_named file_text (option_map (λ f. f.now) files.modules))
+    (file_text files.kallsyms.now)
     (text_named file_text (option_map (λ f. f.now) files.regions))
 
 -- what the names of files of addresses, of scripts, of logs and of histories hold; `-` is the
@@ -56,14 +58,17 @@ or_standard standard file_text name = if bytes_eq name (codes "-") then standard
 -- these files are read as the listings
 pub record AreListingFiles {F : Type 0} (remaining : F → Option (List ℕ)) (file_text : FileTexts)
     (files : ListingFiles) (r : ListingReaders F F F) : Type 0 where
-  pub modules : IsOpenedIfGiven remaining file_text (option_map (λ f. f.now) files.modules) r.modules
+  pub modules : IsOpenedIfGiven remaining file_text (option_map (λ f. f.now) files.modules)
+      r.modules
   pub kallsyms : IsOpened remaining file_text files.kallsyms.now r.kallsyms
-  pub regions : IsOpenedIfGiven remaining file_text (option_map (λ f. f.now) files.regions) r.regions
+  pub regions : IsOpenedIfGiven remaining file_text (option_map (λ f. f.now) files.regions)
+      r.regions
 
 -- the readers are of the listings of a request, or of its history alone
 abbrev pub AreSourceFiles : {F : Type 0} → (F → Option (List ℕ)) → FileTexts → Option (List ℕ)
     → ListingFiles → SymbolSource → ListingReaders F F F → Type 0
-AreSourceFiles remaining file_text standard files Listing r = AreListingFiles remaining file_text files r
+AreSourceFiles remaining file_text standard files Listing r =
+    AreListingFiles remaining file_text files r
 AreSourceFiles remaining file_text standard files (History time) r =
     IsOpened remaining (or_standard standard file_text) files.kallsyms.now r.kallsyms
 

@@ -97,7 +97,8 @@ module _ {R W : Type 0} (remaining : R → Option (List ℕ)) (contents : W → 
       (listing_failures l l') w w' result
   AnswersSources Is (History time) l l' w w' result =
       AnswersHistory remaining
-      (λ parts. AnswersGiven contents (Is (Some parts)) (symbols_alone (listing_at time parts)) w w')
+      (λ parts.
+      AnswersGiven contents (Is (Some parts)) (symbols_alone (listing_at time parts)) w w')
       l.kallsyms l'.kallsyms w w' result
 
   -- a script is run by a number of readers
@@ -148,9 +149,11 @@ module _ {R W E : Type 0} (remaining : R → Option (List ℕ)) (file_text : Fil
         (listing_failures l l') r r' w w' e e' result
     IsLogOf Listing Followed l l' r r' result =
         (after : Seen)
-        × FollowsLog contents errors s a (seen_first remaining file_text s l r) after w w' e e' result
+        × FollowsLog contents errors s a (seen_first remaining file_text s l r) after w w' e
+        e' result
     IsLogOf Listing Whole l l' r r' result =
-        WritesByOwnOffset contents errors s a w w' e e' (known_given remaining remaining remaining l)
+        WritesByOwnOffset contents errors s a w w' e
+        e' (known_given remaining remaining remaining l)
         (remaining (device_of r)) (all_failures (listing_failures l l') r r') result
     IsLogOf (History time) Whole l l' r r' result =
         WritesByHistoryOffset contents errors s a w w' e e' remaining remaining time l.kallsyms
@@ -186,17 +189,20 @@ module _ {R W E : Type 0} (remaining : R → Option (List ℕ)) (file_text : Fil
       (λ _. IsAddressed a.form s.kernel (map (λ n. n.now) a.names.items)) s.symbols l l' w w'
       outcome × (e' ≡ e)
   IsOutcomeBy s (sub.Record r) l l' i i' outcome =
-      HoldsOfInput (λ events events'. IsRecordedBy remaining file_text contents s r events w w' outcome)
+      HoldsOfInput
+      (λ events events'. IsRecordedBy remaining file_text contents s r events w w' outcome)
       i i' outcome × (e' ≡ e)
 
   -- The status or the fault of a job, over what its readers had. A trace that succeeds has status
   -- 0.
   abbrev pub IsOutcome : OpenedJob R → OpenedJob R → Result Finished Fault → Type 0
   IsOutcome (Trace r) (Trace r') outcome =
-      ComesTo (AnswersTrace remaining contents r r' w w') (λ x. with_status (without_notes x)) outcome
+      ComesTo (AnswersTrace remaining contents r r' w w') (λ x. with_status (without_notes x))
+      outcome
       × (e' ≡ e)
   IsOutcome (Steps r) (Steps r') outcome =
-      ComesTo (AnswersSteps remaining contents r r' w w') (λ x. with_status (without_notes x)) outcome
+      ComesTo (AnswersSteps remaining contents r r' w w') (λ x. with_status (without_notes x))
+      outcome
       × (e' ≡ e)
   IsOutcome (Request q l i) (Request _ l' i') outcome =
       IsOutcomeBy q.now.sources q.now.subcommand l l' i i' outcome

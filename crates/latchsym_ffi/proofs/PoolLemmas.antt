@@ -1,5 +1,6 @@
 -- Two rounds over the slots of a pool. Assumes nothing.
-use Rattle.latchsym_ffi.proofs.Words.{◌≡◌, ◌≤◌, ◌+◌, ℕ, All, List, [], ◌∷◌, ap, arith, refl, subst, ◌∙◌, sum}
+use Rattle.latchsym_ffi.proofs.Words.{◌≡◌, ◌≤◌, ◌+◌, ℕ, All, List, [], ◌∷◌, ap, arith, refl, subst}
+use Rattle.latchsym_ffi.proofs.Words.{◌∙◌, sum}
 use Rattle.std.proofs.lemmas.List.Sums.{sum_by-append}
 use Rattle.latchsym_ffi.specs.Pools.{HaveRisen, IsClaimed}
 
@@ -26,7 +27,10 @@ same_between (k ∷ ks) (m ∷ ms) (n ∷ ns) r s e =
     let low = r.0 in let high = s.0 in
     let a = sum_risen ks ms r.1 in let b = sum_risen ms ns s.1 in
     let c = sum_more k ks in let d = sum_more n ns in
-    both n m ns ms (omega (arith, low, high, a, b, c, d, e)) (same_between ks ms ns r.1 s.1 (omega (arith, low, high, a, b, c, d, e)))
+    both n m ns ms (omega (arith, low, high, a, b, c, d, e))
+    (same_between ks ms ns r.1 s.1 (omega (arith, low, high, a, b, c, d, e)))
 
-pub claimed_between : (ks ms ns : List ℕ) → HaveRisen ks ms → HaveRisen ms ns → sum ks ≡ sum ns → All IsClaimed ns → All IsClaimed ms
-claimed_between ks ms ns r s e all = subst (λ (xs : List ℕ). All IsClaimed xs) (same_between ks ms ns r s e) all
+pub claimed_between : (ks ms ns : List ℕ) → HaveRisen ks ms → HaveRisen ms ns → sum ks ≡ sum ns
+    → All IsClaimed ns → All IsClaimed ms
+claimed_between ks ms ns r s e all =
+    subst (λ (xs : List ℕ). All IsClaimed xs) (same_between ks ms ns r s e) all

@@ -1,18 +1,34 @@
 -- What a search of a view's rows finds. Assumes nothing.
-use Rattle.latchsym_ffi.proofs.Words.{◌≡◌, ℕ, ◌-◌, ◌<◌, ◌≤◌, List, [], length, get_or, map, Option, Some, None, refl, sym, ap, subst, ◌∙◌, arith, All, Contains, IfSome, slice_get, option_map, get_or-map, get_or_default, length-map, All-contains, get_or_from_slice_get, slice_get-map, slice_get_some, address_above, symbol_below, CatalogEntries, SymbolEntry, IsSplit, IsSplitBy, regions_of, item_of_address, items_of, all_regions, region_of, IsItemSplit, IndexEntry, above_at, last_below, none_below, last_ends_below, last_found, nothing_below, Item, AreRowsOf, IsRegionRow, IsViewOf, entry_of_row, item_of_row, symbol_of_row, without_letter, known_without_letter, unwrap_or, Known, known_code, IsNamed, CatalogSymbol, ViewRegion, ViewSymbol, SeenRow}
+use Rattle.latchsym_ffi.proofs.Words.{◌≡◌, ℕ, ◌-◌, ◌<◌, ◌≤◌, List, [], length, get_or, map, Option}
+use Rattle.latchsym_ffi.proofs.Words.{Some, None, refl, sym, ap, subst, ◌∙◌, arith, All, Contains}
+use Rattle.latchsym_ffi.proofs.Words.{IfSome, slice_get, option_map, get_or-map, get_or_default}
+use Rattle.latchsym_ffi.proofs.Words.{length-map, All-contains, get_or_from_slice_get}
+use Rattle.latchsym_ffi.proofs.Words.{slice_get-map, slice_get_some, address_above, symbol_below}
+use Rattle.latchsym_ffi.proofs.Words.{CatalogEntries, SymbolEntry, IsSplit, IsSplitBy, regions_of}
+use Rattle.latchsym_ffi.proofs.Words.{item_of_address, items_of, all_regions, region_of}
+use Rattle.latchsym_ffi.proofs.Words.{IsItemSplit, IndexEntry, above_at, last_below, none_below}
+use Rattle.latchsym_ffi.proofs.Words.{last_ends_below, last_found, nothing_below, Item, AreRowsOf}
+use Rattle.latchsym_ffi.proofs.Words.{IsRegionRow, IsViewOf, entry_of_row, item_of_row}
+use Rattle.latchsym_ffi.proofs.Words.{symbol_of_row, without_letter, known_without_letter}
+use Rattle.latchsym_ffi.proofs.Words.{unwrap_or, Known, known_code, IsNamed, CatalogSymbol}
+use Rattle.latchsym_ffi.proofs.Words.{ViewRegion, ViewSymbol, SeenRow}
 
 -- a split of the measures of a list is one of the list
-pub split_of_measured : {X : Type 0} (f : X → ℕ) (xs : List X) (addr place : ℕ) → IsSplitBy (λ a. a) (map f xs) addr place → IsSplitBy f xs addr place
+pub split_of_measured : {X : Type 0} (f : X → ℕ) (xs : List X) (addr place : ℕ)
+    → IsSplitBy (λ a. a) (map f xs) addr place → IsSplitBy f xs addr place
 split_of_measured f xs addr place parts =
     let same = length-map xs f in
     record {
       bound = let b = parts.bound in omega (arith, same, b);
-      below = λ k d lt. subst (λ n. n ≤ addr) (get_or-map f xs k d 0 (let b = parts.bound in omega (arith, same, b, lt))) (parts.below k 0 lt);
-      above = λ k d le lt. subst (λ n. addr < n) (get_or-map f xs k d 0 lt) (parts.above k 0 le (omega (arith, same, lt)));
+      below = λ k d lt. subst (λ n. n ≤ addr) (get_or-map f xs k d 0 (let b = parts.bound in
+          omega (arith, same, b, lt))) (parts.below k 0 lt);
+      above = λ k d le lt. subst (λ n. addr < n) (get_or-map f xs k d 0 lt)
+          (parts.above k 0 le (omega (arith, same, lt)));
     }
 
 -- and one of what the list shows
-pub split_of_shown : {X Y : Type 0} (f : X → Y) (measure : Y → ℕ) (xs : List X) (addr place : ℕ) → IsSplitBy (λ x. measure (f x)) xs addr place → IsSplitBy measure (map f xs) addr place
+pub split_of_shown : {X Y : Type 0} (f : X → Y) (measure : Y → ℕ) (xs : List X) (addr place : ℕ)
+    → IsSplitBy (λ x. measure (f x)) xs addr place → IsSplitBy measure (map f xs) addr place
 split_of_shown f measure xs addr place parts =
     let same = length-map xs f in
     record {
@@ -24,13 +40,15 @@ split_of_shown f measure xs addr place parts =
       above = λ k d le lt.
           let within : k < length xs = omega (arith, same, lt) in
           let (x, at) = slice_get_some xs k within in
-          subst (λ y. addr < measure y) (sym (get_or-map f xs k x d within)) (parts.above k x le within);
+          subst (λ y. addr < measure y) (sym (get_or-map f xs k x d within))
+          (parts.above k x le within);
     }
 
 -- ---- symbols without their letters
 
 -- the symbol whose letter was left out
-pub with_letter : (o : Option SymbolEntry) (s : SymbolEntry) → option_map without_letter o ≡ Some s → (t : SymbolEntry) × (o ≡ Some t) × (without_letter t ≡ s)
+pub with_letter : (o : Option SymbolEntry) (s : SymbolEntry) → option_map without_letter o ≡ Some s
+    → (t : SymbolEntry) × (o ≡ Some t) × (without_letter t ≡ s)
 with_letter None s is = absurd (grind (arith, is))
 with_letter (Some t) s is = (t, refl, ap (λ o. unwrap_or o s) is)
 
@@ -39,10 +57,18 @@ none_without None is = refl
 none_without (Some t) is = absurd (grind (arith, is))
 
 -- what is told names no letter
-pub told_without : (c : CatalogEntries) (k : Known) (s : CatalogSymbol) → IsNamed c (known_without_letter k) s → IsNamed c k s
+pub told_without : (c : CatalogEntries) (k : Known) (s : CatalogSymbol)
+    → IsNamed c (known_without_letter k) s → IsNamed c k s
 told_without c None s is = is
 told_without c (Some (i, None)) s is = is
-told_without c (Some (i, Some f)) s is = record { number = is.number; offset = is.offset; size = is.size; name = is.name; owner = is.owner }
+told_without c (Some (i, Some f)) s is =
+    record {
+      number = is.number;
+      offset = is.offset;
+      size = is.size;
+      name = is.name;
+      owner = is.owner;
+    }
 
 pub same_code : (k : Known) → known_code (known_without_letter k) ≡ known_code k
 same_code None = refl
@@ -51,35 +77,46 @@ same_code (Some (i, Some f)) = refl
 
 -- ---- the rows of a module's symbols
 
-module _ (symbols : List SymbolEntry) (rows : List ViewSymbol) (addresses : List ℕ) (are : AreRowsOf symbols rows addresses) (addr split : ℕ) (parts : IsSplitBy (λ a. a) addresses addr split) where
+module _ (symbols : List SymbolEntry) (rows : List ViewSymbol) (addresses : List ℕ)
+    (are : AreRowsOf symbols rows addresses) (addr split : ℕ)
+    (parts : IsSplitBy (λ a. a) addresses addr split) where
   abbrev index : List IndexEntry
   index = map entry_of_row rows
 
   of_rows : IsSplitBy (λ r. r.addr) rows addr split
-  of_rows = split_of_measured (λ (r : ViewSymbol). r.addr) rows addr split (subst (λ ns. IsSplitBy (λ a. a) ns addr split) are.starts parts)
+  of_rows = split_of_measured (λ (r : ViewSymbol). r.addr) rows addr split
+      (subst (λ ns. IsSplitBy (λ a. a) ns addr split) are.starts parts)
 
   of_index : IsSplit index addr split
   of_index = split_of_shown entry_of_row (λ (e : IndexEntry). e.addr) rows addr split of_rows
 
   pub no_row_below : split ≡ 0 → symbol_below symbols addr ≡ None
-  no_row_below e = none_below symbols index are.indexed addr (subst (λ n. IsSplit index addr n) e of_index)
+  no_row_below e =
+      none_below symbols index are.indexed addr (subst (λ n. IsSplit index addr n) e of_index)
 
-  pub row_below : 0 < split → option_map symbol_of_row (slice_get rows (split - 1)) ≡ option_map without_letter (symbol_below symbols addr)
+  pub row_below : 0 < split → option_map symbol_of_row (slice_get rows (split - 1))
+      ≡ option_map without_letter (symbol_below symbols addr)
   row_below some =
       let within : split - 1 < length rows = let b = of_rows.bound in omega (arith, b, some) in
       let (r, at) = slice_get_some rows (split - 1) within in
       let none : SymbolEntry = record { addr = 0; letter = 0; name = [] } in
       let is : get_or rows (split - 1) r ≡ r = get_or_from_slice_get rows (split - 1) r r at in
-      let entry : entry_of_row r ≡ get_or index (split - 1) (entry_of_row r) = sym (get_or-map entry_of_row rows (split - 1) r (entry_of_row r) within ∙ ap entry_of_row is) in
+      let entry : entry_of_row r ≡ get_or index (split - 1) (entry_of_row r) =
+      sym (get_or-map entry_of_row rows (split - 1) r (entry_of_row r) within
+      ∙ ap entry_of_row is) in
       let named : option_map without_letter (slice_get symbols r.place) ≡ Some (symbol_of_row r) =
-      subst (λ (x : ViewSymbol). option_map without_letter (slice_get symbols x.place) ≡ Some (symbol_of_row x)) is (are.named (split - 1) r within) in
+      subst (λ (x : ViewSymbol). option_map without_letter (slice_get symbols x.place)
+      ≡ Some (symbol_of_row x)) is (are.named (split - 1) r within) in
       let (s, there, bare) = with_letter (slice_get symbols r.place) (symbol_of_row r) named in
       ap (option_map symbol_of_row) at
       ∙ ap (λ (x : SymbolEntry). Some x) (sym bare)
-      ∙ ap (λ (x : SymbolEntry). Some (without_letter x)) (sym (get_or_from_slice_get symbols r.place s none there))
-      ∙ sym (ap (option_map without_letter) (last_below symbols index are.indexed addr split of_index some (entry_of_row r) entry none))
+      ∙ ap (λ (x : SymbolEntry). Some (without_letter x))
+      (sym (get_or_from_slice_get symbols r.place s none there))
+      ∙ sym (ap (option_map without_letter) (last_below symbols index are.indexed addr split
+      of_index some (entry_of_row r) entry none))
 
-  same_address : (o : Option ViewSymbol) → option_map (λ r. r.addr) o ≡ option_map (λ e. e.addr) (option_map entry_of_row o)
+  same_address : (o : Option ViewSymbol)
+      → option_map (λ r. r.addr) o ≡ option_map (λ e. e.addr) (option_map entry_of_row o)
   same_address None = refl
   same_address (Some r) = refl
 
@@ -93,7 +130,8 @@ module _ (symbols : List SymbolEntry) (rows : List ViewSymbol) (addresses : List
 
 -- ---- the rows of regions
 
-module _ (c : CatalogEntries) (regions : List ViewRegion) (is : IsViewOf c regions) (addr split : ℕ) (parts : IsSplitBy (λ r. r.a) regions addr split) where
+module _ (c : CatalogEntries) (regions : List ViewRegion) (is : IsViewOf c regions) (addr split : ℕ)
+    (parts : IsSplitBy (λ r. r.a) regions addr split) where
   abbrev items : List Item
   items = map item_of_row regions
 
@@ -116,15 +154,20 @@ module _ (c : CatalogEntries) (regions : List ViewRegion) (is : IsViewOf c regio
         ∙ ap item_of_row (get_or_default regions (split - 1) r none within)
 
     pub region_found : addr < r.b → Some (item_of_row r) ≡ item_of_address c addr
-    region_found lt = last_found c is.sound items is.indexed addr split of_items (item_of_row r) some last_item lt
+    region_found lt =
+        last_found c is.sound items is.indexed addr split of_items (item_of_row r) some last_item lt
 
     pub region_passed : r.b ≤ addr → None ≡ item_of_address c addr
-    region_passed le = last_ends_below c is.sound items is.indexed addr split of_items (item_of_row r) some last_item le
+    region_passed le = last_ends_below c is.sound items is.indexed addr split of_items
+        (item_of_row r) some last_item le
 
 -- what is seen is a row of its module
-pub row_of_seen : (c : CatalogEntries) (regions : List ViewRegion) → All (IsRegionRow c) regions → (o : Option SeenRow) → IfSome o (λ s. Contains regions s.region.now) → IfSome o (λ s. IsRegionRow c s.region.now)
+pub row_of_seen : (c : CatalogEntries) (regions : List ViewRegion) → All (IsRegionRow c) regions
+    → (o : Option SeenRow) → IfSome o (λ s. Contains regions s.region.now)
+    → IfSome o (λ s. IsRegionRow c s.region.now)
 row_of_seen c regions each None listed = listed
-row_of_seen c regions each (Some s) listed = All-contains (IsRegionRow c) regions s.region.now each listed
+row_of_seen c regions each (Some s) listed =
+    All-contains (IsRegionRow c) regions s.region.now each listed
 
 -- ---- how many regions there are
 

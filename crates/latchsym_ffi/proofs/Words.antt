@@ -1,10 +1,18 @@
 -- The words that the proofs of this crate use, of whatever crate.
-pub use Rattle.std.proofs.Common.{All, Bool, Bor, List, None, Option, Some, [], ap, append-nil, arith, drop, false, get_or, inl, inr, length, length-append, map, min, nat_le, refl, rules, slice_get, slice_index_or, slice_set, subst, suc, sym, take, zero, ℕ, ⊎_elim, ◌++◌, ◌+◌, ◌-◌, ◌<◌, ◌^◌, ◌∙◌, ◌∷◌, ◌≡◌, ◌≤◌, true, find, if◌then◌else◌}
+pub use Rattle.std.proofs.Common.{All, Bool, Bor, List, None, Option, Some, [], ap, append-nil}
+pub use Rattle.std.proofs.Common.{arith, drop, false, get_or, inl, inr, length, length-append, map}
+pub use Rattle.std.proofs.Common.{min, nat_le, refl, rules, slice_get, slice_index_or, slice_set}
+pub use Rattle.std.proofs.Common.{subst, suc, sym, take, zero, ℕ, ⊎_elim, ◌++◌, ◌+◌, ◌-◌, ◌<◌, ◌^◌}
+pub use Rattle.std.proofs.Common.{◌∙◌, ◌∷◌, ◌≡◌, ◌≤◌, true, find, if◌then◌else◌}
 pub use Rattle.std.proofs.lemmas.Bool.{cases_lt}
 pub use Rattle.std.proofs.lemmas.Grind.{flat_map-append}
-pub use Rattle.std.proofs.lemmas.List.{get_or-map, get_or_default, length-map, length-set, map-append, take_all, take_more, take_more_set}
-pub use Rattle.std.proofs.lemmas.List.Elements.{All-append, All-contains, All-map, All-pop, All-set, AllWithin-more_set}
-pub use Rattle.std.proofs.lemmas.List.Sorted.{All-permutation, IsNonDecreasingBy-from_sort_by_key, IsPartitionPoint-from_clause, IsPartitionedBy-leb, IsPermutation-map, answers_always, length_permutation}
+pub use Rattle.std.proofs.lemmas.List.{get_or-map, get_or_default, length-map, length-set}
+pub use Rattle.std.proofs.lemmas.List.{map-append, take_all, take_more, take_more_set}
+pub use Rattle.std.proofs.lemmas.List.Elements.{All-append, All-contains, All-map, All-pop, All-set}
+pub use Rattle.std.proofs.lemmas.List.Elements.{AllWithin-more_set}
+pub use Rattle.std.proofs.lemmas.List.Sorted.{All-permutation, IsNonDecreasingBy-from_sort_by_key}
+pub use Rattle.std.proofs.lemmas.List.Sorted.{IsPartitionPoint-from_clause, IsPartitionedBy-leb}
+pub use Rattle.std.proofs.lemmas.List.Sorted.{IsPermutation-map, answers_always, length_permutation}
 pub use Rattle.std.proofs.lemmas.Option.{get_or_from_slice_get, slice_get-get_or, slice_get-map}
 pub use Rattle.std.proofs.lemmas.Result.{IfErr-weaker, IfOk-weaker}
 pub use Rattle.std.specs.Cmp.{IsStrictWeakOrder}
@@ -40,15 +48,21 @@ pub use Rattle.latchsym_ffi.specs.Replacing.{RefusesReplacingAs, item_told}
 pub use Rattle.latchsym_ffi.specs.Tables.{AreOpened, first_reader}
 pub use Rattle.latchsym_ffi.specs.Updates.{item_from}
 pub use Rattle.latchsym_ffi.specs.Viewing.{AreRooms}
-pub use Rattle.latchsym_ffi.specs.Views.{AreRowsOf, IsRegionRow, IsViewOf, entry_of_row, found_without_letter, item_of_row, known_without_letter, shown_row, symbol_of_row, symbols_at, symbols_below, symbols_of, without_letter}
+pub use Rattle.latchsym_ffi.specs.Views.{AreRowsOf, IsRegionRow, IsViewOf, entry_of_row}
+pub use Rattle.latchsym_ffi.specs.Views.{found_without_letter, item_of_row, known_without_letter}
+pub use Rattle.latchsym_ffi.specs.Views.{shown_row, symbol_of_row, symbols_at, symbols_below}
+pub use Rattle.latchsym_ffi.specs.Views.{symbols_of, without_letter}
 pub use Rattle.latchsym_ffi.specs.declared.answers.CallOutcome.TheVariants.{Done}
 pub use Rattle.latchsym_ffi.specs.declared.contents.Content.{Content}
-pub use Rattle.latchsym_ffi.specs.declared.contents.Content.TheVariants.{Catalog, Follower, Reader, Writer}
+pub use Rattle.latchsym_ffi.specs.declared.contents.Content.TheVariants.{Catalog, Follower, Reader}
+pub use Rattle.latchsym_ffi.specs.declared.contents.Content.TheVariants.{Writer}
 pub use Rattle.latchsym_ffi.specs.declared.handles.Handle.{Handle}
 pub use Rattle.latchsym_ffi.specs.declared.view_rows.ViewRegion.{ViewRegion}
 pub use Rattle.latchsym_ffi.specs.declared.view_rows.ViewSymbol.{ViewSymbol}
 pub use Rattle.latchsym_ffi.specs.declared.views.SeenRow.{SeenRow}
-pub use Rattle.modules.proofs.IndexLemmas.{IsSplitBy-from_partition, above_at, comes_before_weak, entry_at, last_below, length-entries_of, none_below, rising}
+pub use Rattle.modules.proofs.IndexLemmas.{IsSplitBy-from_partition, above_at, comes_before_weak}
+pub use Rattle.modules.proofs.IndexLemmas.{entry_at, last_below, length-entries_of, none_below}
+pub use Rattle.modules.proofs.IndexLemmas.{rising}
 pub use Rattle.modules.proofs.ItemLemmas.{all_regions, one_number_more, region_of}
 pub use Rattle.modules.proofs.NearestLemmas.{found, found_is}
 pub use Rattle.modules.proofs.RegionIndexLemmas.{last_ends_below, last_found, nothing_below}

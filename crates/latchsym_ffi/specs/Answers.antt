@@ -7,9 +7,12 @@ use Rattle.order_laws.specs.declared.refusals.Refusal.TheVariants as refusal
 use Rattle.order_laws.specs.Refusals.{refusal_number}
 use Rattle.latchsym_ffi.specs.declared.answers.CallOutcome.{CallOutcome}
 use Rattle.latchsym_ffi.specs.declared.answers.CallOutcome.TheVariants.{Done, Refused, BadLine}
-use Rattle.latchsym_ffi.specs.declared.answers.CallOutcome.TheVariants.{NoSymbol, Nothing, Retry, Busy}
-use Rattle.latchsym_ffi.specs.declared.answers.CallOutcome.TheVariants.{Flip, Store, Noted, BadHandle}
-use Rattle.latchsym_ffi.specs.declared.answers.CallOutcome.TheVariants.{BadLength, BadListings, BadStamp, Forgotten}
+use Rattle.latchsym_ffi.specs.declared.answers.CallOutcome.TheVariants.{NoSymbol, Nothing, Retry}
+use Rattle.latchsym_ffi.specs.declared.answers.CallOutcome.TheVariants.{Busy}
+use Rattle.latchsym_ffi.specs.declared.answers.CallOutcome.TheVariants.{Flip, Store, Noted}
+use Rattle.latchsym_ffi.specs.declared.answers.CallOutcome.TheVariants.{BadHandle}
+use Rattle.latchsym_ffi.specs.declared.answers.CallOutcome.TheVariants.{BadLength, BadListings}
+use Rattle.latchsym_ffi.specs.declared.answers.CallOutcome.TheVariants.{BadStamp, Forgotten}
 
 -- the number of a note on a listing
 abbrev pub note_number : ListingNote → ℕ

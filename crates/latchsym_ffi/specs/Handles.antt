@@ -4,7 +4,8 @@ use Rattle.latch_table.specs.Readers.{ReaderState}
 use Rattle.latch_table.specs.Writers.{WriterState}
 use Rattle.modules.specs.Entries.{CatalogEntries}
 use Rattle.follower.specs.Following.{Followed}
-use Rattle.latchsym_ffi.specs.declared.contents.Content.TheVariants.{Catalog, Follower, Reader, Writer}
+use Rattle.latchsym_ffi.specs.declared.contents.Content.TheVariants.{Catalog, Follower, Reader}
+use Rattle.latchsym_ffi.specs.declared.contents.Content.TheVariants.{Writer}
 use Rattle.latchsym_ffi.specs.declared.handles.Handle.{Handle}
 
 abbrev pub HoldsCatalog : CatalogEntries → Handle → Type 0

@@ -1,7 +1,8 @@
 -- The numbers of the kinds of content.
 use Rattle.std.specs.Prelude.{ℕ, Option, Some, None}
 use Rattle.latchsym_ffi.specs.declared.contents.Content.{Content}
-use Rattle.latchsym_ffi.specs.declared.contents.Content.TheVariants.{Catalog, Follower, Reader, Writer}
+use Rattle.latchsym_ffi.specs.declared.contents.Content.TheVariants.{Catalog, Follower, Reader}
+use Rattle.latchsym_ffi.specs.declared.contents.Content.TheVariants.{Writer}
 
 abbrev pub catalog_kind : ℕ
 catalog_kind = 1

@@ -1,11 +1,16 @@
 -- What a line of a listing of regions is.
-use Rattle.listing.proofs.Words.{cond, ◌≡◌, ℕ, ◌<◌, Bool, false, nat_lt, List, [], ◌∷◌, length, Some, None, Result, Ok, Err, MatchResult, inl, inr, refl, sym, ap, ◌∙◌, subst, arith, All, IfOk, Vec, filter_map, cons_option, option_map_or, All-cons, region_fits, ListedRegion, words_of, number_of, Words}
+use Rattle.listing.proofs.Words.{cond, ◌≡◌, ℕ, ◌<◌, Bool, false, nat_lt, List, [], ◌∷◌, length}
+use Rattle.listing.proofs.Words.{Some, None, Result, Ok, Err, MatchResult, inl, inr, refl, sym, ap}
+use Rattle.listing.proofs.Words.{◌∙◌, subst, arith, All, IfOk, Vec, filter_map, cons_option}
+use Rattle.listing.proofs.Words.{option_map_or, All-cons, region_fits, ListedRegion, words_of}
+use Rattle.listing.proofs.Words.{number_of, Words}
 use Rattle.std.proofs.Common.{true, map, Option}
 use Rattle.modules.specs.declared.lines.Part.{Part}
 use Rattle.texts.specs.declared.faults.LineFault.{LineFault}
 use Rattle.texts.specs.declared.said.LineMeaning.{LineMeaning}
 use Rattle.texts.specs.declared.said.LineMeaning.TheVariants.{Nothing, One, Bad}
-use Rattle.listing.specs.RegionListing.{is_regions_header, part_of, regions_of_lines, region_by, region_of_parts, region_of_words}
+use Rattle.listing.specs.RegionListing.{is_regions_header, part_of, regions_of_lines, region_by}
+use Rattle.listing.specs.RegionListing.{region_of_parts, region_of_words}
 use Rattle.texts.specs.Said.{entries_from, GivesInGrammar, is_passed_over, is_too_long}
 use Rattle.texts.specs.Understood.{entry_by, AreSaidBy, IsFirstBadFrom}
 use Rattle.listing.specs.RegionListing.{IsFirstBadRegion, IsRegionListingBy}
@@ -13,7 +18,8 @@ use Rattle.texts.proofs.UnderstoodLemmas.{are_entries}
 
 -- ---- words of another number
 
-pub region_short : (words : Words) → length words < 4 → region_of_words (map (λ w. w.now) words) ≡ None
+pub region_short : (words : Words) → length words < 4
+    → region_of_words (map (λ w. w.now) words) ≡ None
 region_short [] few = refl
 region_short (a ∷ []) few = refl
 region_short (a ∷ b ∷ []) few = refl
@@ -40,7 +46,8 @@ placed_if : (b : Bool) (x : ListedRegion) → region_fits x ≡ b → IsFit (con
 placed_if true x is r e = let same : x ≡ r = cc in ap region_fits (sym same) ∙ is
 placed_if false x is r e = absurd (cc)
 
-parts_fit : (name : List ℕ) (part : Option Part) (base size : Option ℕ) → IsFit (region_of_parts name part base size)
+parts_fit : (name : List ℕ) (part : Option Part) (base size : Option ℕ)
+    → IsFit (region_of_parts name part base size)
 parts_fit name None base size = none_fits
 parts_fit name (Some part) None size = none_fits
 parts_fit name (Some part) (Some base) None = none_fits
@@ -58,7 +65,8 @@ words_fit (a ∷ []) = none_fits
 words_fit (a ∷ b ∷ []) = none_fits
 words_fit (a ∷ b ∷ c ∷ []) = none_fits
 words_fit (name ∷ part ∷ base ∷ size ∷ []) =
-    named_fits (nat_lt 0 (length name)) (region_of_parts name (part_of part) (number_of base) (number_of size))
+    named_fits (nat_lt 0 (length name))
+    (region_of_parts name (part_of part) (number_of base) (number_of size))
     (parts_fit name (part_of part) (number_of base) (number_of size))
 words_fit (a ∷ b ∷ c ∷ d ∷ e ∷ words) = none_fits
 
@@ -66,7 +74,8 @@ entry_in : LineMeaning ListedRegion → Option ListedRegion
 entry_in said = elim said [ Nothing ↦ None | One entry ↦ Some entry | Bad ↦ None ]
 
 said_fits : (long passed : Bool) (o : Option ListedRegion) → IsFit o
-    → IsFit (entry_in (cond long Bad (cond passed Nothing (option_map_or (λ entry. One entry) o Bad))))
+    → IsFit
+    (entry_in (cond long Bad (cond passed Nothing (option_map_or (λ entry. One entry) o Bad))))
 unfolding entry_in
 said_fits true passed o fit = none_fits
 said_fits false true o fit = none_fits
@@ -75,44 +84,56 @@ said_fits false false (Some x) fit = fit
 
 entry_fits : (line : List ℕ) → IsFit (entry_by region_by line)
 unfolding entry_in
-entry_fits line = said_fits (is_too_long line) (is_passed_over line) (region_by line) (words_fit (words_of line))
+entry_fits line =
+    said_fits (is_too_long line) (is_passed_over line) (region_by line) (words_fit (words_of line))
 
-all_fit_with : (o : Option ListedRegion) (rs : List ListedRegion) → IsFit o → All (λ r. region_fits r ≡ true) rs
+all_fit_with : (o : Option ListedRegion) (rs : List ListedRegion) → IsFit o
+    → All (λ r. region_fits r ≡ true) rs
     → All (λ r. region_fits r ≡ true) (cons_option o rs)
 all_fit_with None rs fit all = all
-all_fit_with (Some x) rs fit all = All-cons (λ (r : ListedRegion). region_fits r ≡ true) x rs (fit x refl) all
+all_fit_with (Some x) rs fit all =
+    All-cons (λ (r : ListedRegion). region_fits r ≡ true) x rs (fit x refl) all
 
-all_fit : (lines : List (List ℕ)) → All (λ r. region_fits r ≡ true) (filter_map (entry_by region_by) lines)
+all_fit : (lines : List (List ℕ))
+    → All (λ r. region_fits r ≡ true) (filter_map (entry_by region_by) lines)
 all_fit [] = λ k d below. absurd (omega arith)
-all_fit (line ∷ lines) = all_fit_with (entry_by region_by line) (filter_map (entry_by region_by) lines) (entry_fits line) (all_fit lines)
+all_fit (line ∷ lines) = all_fit_with (entry_by region_by line)
+    (filter_map (entry_by region_by) lines) (entry_fits line) (all_fit lines)
 
-by_entries : (n : ℕ) (lines : List (List ℕ)) (said : Result (List ListedRegion) ℕ) (rs : List ListedRegion)
+by_entries : (n : ℕ) (lines : List (List ℕ)) (said : Result (List ListedRegion) ℕ)
+    (rs : List ListedRegion)
     → MatchResult said (AreSaidBy region_by lines) (IsFirstBadFrom region_by n lines) → said ≡ Ok rs
     → All (λ r. region_fits r ≡ true) rs
 by_entries n lines (Ok entries) rs (all, is) e =
     let same : entries ≡ rs = cc in
-    subst (λ (xs : List ListedRegion). All (λ r. region_fits r ≡ true) xs) (sym is ∙ same) (all_fit lines)
+    subst (λ (xs : List ListedRegion). All (λ r. region_fits r ≡ true) xs) (sym is ∙ same)
+    (all_fit lines)
 by_entries n lines (Err number) rs bad e = absurd (cc)
 
 pub regions_fit_given : (r : Result (Vec ListedRegion) LineFault) (n : ℕ) (lines : List (List ℕ))
     → GivesInGrammar (λ (v : Vec ListedRegion). v.items) r (entries_from region_by n lines)
     → IfOk r (λ v. All (λ x. region_fits x ≡ true) v.items)
-regions_fit_given (Ok v) n lines is = by_entries n lines (entries_from region_by n lines) v.items (are_entries region_by n lines) is
+regions_fit_given (Ok v) n lines is =
+    by_entries n lines (entries_from region_by n lines) v.items (are_entries region_by n lines) is
 regions_fit_given (Err fault) n lines is = tt
 
 -- ---- a listing, line by line
 
-with_regions : (first : List ℕ) (lines : List (List ℕ)) → is_regions_header first ≡ true → (r : Result (List ListedRegion) ℕ)
+with_regions : (first : List ℕ) (lines : List (List ℕ)) → is_regions_header first ≡ true
+    → (r : Result (List ListedRegion) ℕ)
     → MatchResult r (AreSaidBy region_by lines) (IsFirstBadFrom region_by 2 lines)
     → MatchResult r (IsRegionListingBy (first ∷ lines)) (IsFirstBadRegion (first ∷ lines))
 with_regions first lines e (Ok regions) all = (e, all)
 with_regions first lines e (Err n) bad = inr (e, bad)
 
 headed_by : (first : List ℕ) (lines : List (List ℕ)) (b : Bool) → is_regions_header first ≡ b
-    → MatchResult (cond b (entries_from region_by 2 lines) (Err 1)) (IsRegionListingBy (first ∷ lines)) (IsFirstBadRegion (first ∷ lines))
-headed_by first lines true e = with_regions first lines e (entries_from region_by 2 lines) (are_entries region_by 2 lines)
+    → MatchResult (cond b (entries_from region_by 2 lines) (Err 1))
+    (IsRegionListingBy (first ∷ lines)) (IsFirstBadRegion (first ∷ lines))
+headed_by first lines true e =
+    with_regions first lines e (entries_from region_by 2 lines) (are_entries region_by 2 lines)
 headed_by first lines false e = inl (refl, e)
 
-pub regions_by_lines : (lines : List (List ℕ)) → MatchResult (regions_of_lines lines) (IsRegionListingBy lines) (IsFirstBadRegion lines)
+pub regions_by_lines : (lines : List (List ℕ))
+    → MatchResult (regions_of_lines lines) (IsRegionListingBy lines) (IsFirstBadRegion lines)
 regions_by_lines [] = refl
 regions_by_lines (first ∷ lines) = headed_by first lines (is_regions_header first) refl

@@ -1,5 +1,6 @@
 -- What is known of an address, and its text.
-use Rattle.std.specs.Prelude.{ℕ, Bool, ◌+◌, ◌&&◌, nat_eq, nat_le, nat_lt, if◌then◌else◌, List, [], ◌++◌, codes}
+use Rattle.std.specs.Prelude.{ℕ, Bool, ◌+◌, ◌&&◌, nat_eq, nat_le, nat_lt, if◌then◌else◌, List, []}
+use Rattle.std.specs.Prelude.{◌++◌, codes}
 use Rattle.std.specs.Prelude.{Option, Some, None, is_none, option_and_then}
 use Rattle.std.specs.Option.{option_map, option_map_or}
 use Rattle.listing.specs.declared.address_rules.AddressRule.{AddressRule}

@@ -1,5 +1,6 @@
 -- What is noted of a listing without a line of use.
-use Rattle.std.specs.Prelude.{◌≡◌, ℕ, Bool, true, false, not, ◌&&◌, ◌||◌, nat_eq, nat_lt, List, [], ◌∷◌}
+use Rattle.std.specs.Prelude.{◌≡◌, ℕ, Bool, true, false, not, ◌&&◌, ◌||◌, nat_eq, nat_lt, List, []}
+use Rattle.std.specs.Prelude.{◌∷◌}
 use Rattle.std.specs.Prelude.{length, Option, Some, None, is_some}
 use Rattle.std.specs.List.{list_any}
 use Rattle.std.specs.Option.{option_map_or}
@@ -14,20 +15,24 @@ use Rattle.listing.specs.SymbolListing.{symbols_in, symbols_with}
 use Rattle.modules.specs.Entries.{CatalogEntries, ModuleEntry}
 use Rattle.modules.specs.Listed.{BoundNames, ListedSymbol}
 use Rattle.listing.specs.declared.listing_notes.ListingNote.{ListingNote}
-use Rattle.listing.specs.declared.listing_notes.ListingNote.TheVariants.{Empty, Gzip, Utf16, AllHidden}
+use Rattle.listing.specs.declared.listing_notes.ListingNote.TheVariants.{Empty, Gzip, Utf16}
+use Rattle.listing.specs.declared.listing_notes.ListingNote.TheVariants.{AllHidden}
 use Rattle.listing.specs.declared.listing_notes.ListingNote.TheVariants.{LooksLikeSymbols}
 use Rattle.listing.specs.declared.listing_notes.ListingNote.TheVariants.{LooksLikeModules}
 use Rattle.listing.specs.declared.listing_notes.ListingNote.TheVariants.{LinesEndInCrLf, NoStart}
 use Rattle.listing.specs.declared.listing_notes.ListingNote.TheVariants.{NoEnd, OtherBoot}
-use Rattle.listing.specs.declared.listing_notes.ListingNote.TheVariants.{ModulesOverlap, NoModuleLine}
-use Rattle.listing.specs.declared.listing_notes.ListingNote.TheVariants.{NoSymbolLine, UnlistedOwner}
+use Rattle.listing.specs.declared.listing_notes.ListingNote.TheVariants.{ModulesOverlap}
+use Rattle.listing.specs.declared.listing_notes.ListingNote.TheVariants.{NoModuleLine}
+use Rattle.listing.specs.declared.listing_notes.ListingNote.TheVariants.{NoSymbolLine}
+use Rattle.listing.specs.declared.listing_notes.ListingNote.TheVariants.{UnlistedOwner}
 use Rattle.listing.specs.declared.listing_notes.ListingNotes.{ListingNotes}
 use Rattle.listing.specs.declared.owners.Owner.TheVariants.{Bpf, Ftrace, Kprobes}
 
 -- the notes, in the order in which the first that applies is sought
 abbrev pub all_notes : List ListingNote
 all_notes =
-    Empty ∷ Gzip ∷ Utf16 ∷ AllHidden ∷ LooksLikeSymbols ∷ LooksLikeModules ∷ LinesEndInCrLf ∷ NoStart
+    Empty ∷ Gzip ∷ Utf16 ∷ AllHidden ∷ LooksLikeSymbols ∷ LooksLikeModules ∷ LinesEndInCrLf
+    ∷ NoStart
     ∷ NoEnd ∷ OtherBoot ∷ ModulesOverlap ∷ NoModuleLine ∷ NoSymbolLine ∷ UnlistedOwner Bpf
     ∷ UnlistedOwner Ftrace ∷ UnlistedOwner Kprobes ∷ []
 
@@ -62,15 +67,18 @@ is_of_modules mapping text kallsyms c Utf16 = is_utf_16 text
 is_of_modules mapping text kallsyms c AllHidden = are_modules_hidden (lines_of text)
 is_of_modules mapping text kallsyms c LooksLikeSymbols =
     has_no_module c && looks_like_symbols (lines_of text)
-is_of_modules mapping text kallsyms c LinesEndInCrLf = has_no_module c && first_ends_in_cr (lines_of text)
+is_of_modules mapping text kallsyms c LinesEndInCrLf =
+    has_no_module c && first_ends_in_cr (lines_of text)
 is_of_modules mapping text kallsyms c OtherBoot = lacks_symbols c
 is_of_modules mapping text kallsyms c ModulesOverlap =
     do_modules_overlap (modules_in (lines_of text)) (symbols_in (lines_of kallsyms)) c
-is_of_modules mapping text kallsyms c NoModuleLine = has_no_module c && lacks_lines is_module_line text
+is_of_modules mapping text kallsyms c NoModuleLine =
+    has_no_module c && lacks_lines is_module_line text
 is_of_modules mapping text kallsyms c (UnlistedOwner owner) =
     not mapping
     && is_owner owner
-    (unlisted_owner (modules_in (lines_of text)) (symbols_with mapping (symbols_in (lines_of kallsyms))))
+    (unlisted_owner (modules_in (lines_of text))
+    (symbols_with mapping (symbols_in (lines_of kallsyms))))
 is_of_modules mapping text kallsyms c _ = false
 
 -- what is noted of a listing of symbols with this text, if `kept` of them are kept and these names

@@ -1,10 +1,12 @@
 -- What listings say: a catalog, how many of their lines are used, and what is noted of them.
-use Rattle.std.specs.Prelude.{◌≡◌, ℕ, Bool, ◌&&◌, false, true, length, List, [], find, is_none, is_some}
+use Rattle.std.specs.Prelude.{◌≡◌, ℕ, Bool, ◌&&◌, false, true, length, List, [], find, is_none}
+use Rattle.std.specs.Prelude.{is_some}
 use Rattle.std.specs.Prelude.{Option, Some, None, Result, Ok, Err, if◌then◌else◌, unwrap_or}
 use Rattle.std.specs.Option.{option_and_then, option_copied, option_map, option_map_or}
 use Rattle.texts.specs.Lines.{lines_of}
 use Rattle.modules.specs.Accepted.{Accepted}
-use Rattle.modules.specs.Catalogs.{build_of_listed, catalog_of, catalog_with, counts_of, kept_counts}
+use Rattle.modules.specs.Catalogs.{build_of_listed, catalog_of, catalog_with, counts_of}
+use Rattle.modules.specs.Catalogs.{kept_counts}
 use Rattle.modules.specs.Entries.{CatalogEntries}
 use Rattle.modules.specs.FromSymbols.{IsFromSymbols}
 use Rattle.modules.specs.Lines.{bounds_for, usual_bounds_of}

@@ -1,5 +1,6 @@
 -- Names that symbols have in the place of a module's, and that no listing of modules has.
-use Rattle.std.specs.Prelude.{ℕ, Bool, false, true, not, ◌&&◌, List, [], ◌∷◌, find, is_some, Option, Some}
+use Rattle.std.specs.Prelude.{ℕ, Bool, false, true, not, ◌&&◌, List, [], ◌∷◌, find, is_some, Option}
+use Rattle.std.specs.Prelude.{Some}
 use Rattle.std.specs.Option.{option_and_then}
 use Rattle.std.specs.Str.{bytes_eq}
 use Rattle.modules.specs.Lines.{first_owner}

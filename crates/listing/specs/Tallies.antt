@@ -5,7 +5,8 @@ use Rattle.std.specs.Option.{option_map, option_map_or}
 use Rattle.texts.specs.Lines.{lines_of}
 use Rattle.listing.specs.ModuleListing.{module_cause_name, module_causes, module_place}
 use Rattle.listing.specs.Opening.{Listed, has_regions, skipped_modules_of}
-use Rattle.listing.specs.SymbolListing.{symbol_cause_name, symbol_causes, symbol_counts, symbol_place}
+use Rattle.listing.specs.SymbolListing.{symbol_cause_name, symbol_causes, symbol_counts}
+use Rattle.listing.specs.SymbolListing.{symbol_place}
 use Rattle.listing.specs.declared.module_listing.SkippedModule.TheVariants as module_cause
 use Rattle.listing.specs.declared.opening.OpenedCatalog.{OpenedCatalog}
 use Rattle.listing.specs.declared.symbol_listing.SkippedSymbol.TheVariants as symbol_cause
@@ -104,4 +105,5 @@ tally_line t = t.title ++ codes " " ++ decimal t.kept ++ flat_map row_text t.row
 
 -- a line for each listing
 abbrev pub counts_text : Tallies → List ℕ
-counts_text t = tally_line t.modules ++ tally_line t.symbols ++ option_map_or tally_line t.regions []
+counts_text t =
+    tally_line t.modules ++ tally_line t.symbols ++ option_map_or tally_line t.regions []

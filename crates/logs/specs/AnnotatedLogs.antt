@@ -48,7 +48,8 @@ counted answer line names (t ∷ more) =
 -- A line with the texts of its answers. A long one stays as it is.
 unfoldable pub annotated_line : Answering → LogContext → List ℕ → List ℕ
 annotated_line answer context line =
-    if is_long line then line else annotated_from answer line 0 (taken_in answer.is_narrow context line)
+    if is_long line then line else annotated_from answer line 0
+    (taken_in answer.is_narrow context line)
 
 -- what is carried on after a line: nothing of a long one
 unfoldable pub context_behind : Answering → LogContext → List ℕ → LogContext
@@ -67,11 +68,13 @@ context_behind answer context line =
 abbrev pub annotated_lines : Answering → LogContext → List (List ℕ) → List ℕ
 annotated_lines answer context [] = []
 annotated_lines answer context (line ∷ more) =
-    annotated_line answer context line ++ annotated_lines answer (context_behind answer context line) more
+    annotated_line answer context line
+    ++ annotated_lines answer (context_behind answer context line) more
 
 abbrev pub context_over : Answering → LogContext → List (List ℕ) → LogContext
 context_over answer context [] = context
-context_over answer context (line ∷ more) = context_over answer (context_behind answer context line) more
+context_over answer context (line ∷ more) =
+    context_over answer (context_behind answer context line) more
 
 -- a whole log; and its names
 abbrev pub annotated : Answering → List ℕ → List ℕ
@@ -105,11 +108,13 @@ abbrev pub left_of : Answering → LogContext → List ℕ → LineProgress → 
 left_of answer context line p words = taken_among answer.is_narrow context line p.last words
 
 abbrev pub owed : Answering → LogContext → List ℕ → LineProgress → List Word → List ℕ
-owed answer context line p words = annotated_from answer line p.put (left_of answer context line p words)
+owed answer context line p words =
+    annotated_from answer line p.put (left_of answer context line p words)
 
 abbrev pub framed : Answering → LogContext → List ℕ → LineProgress → List Word → Bool
 framed answer context line p words =
     p.has_frame || list_any (λ t. t.is_frame) (left_of answer context line p words)
 
 abbrev pub tallied : Answering → LogContext → List ℕ → LineProgress → List Word → LogNames
-tallied answer context line p words = counted answer line p.names (left_of answer context line p words)
+tallied answer context line p words =
+    counted answer line p.names (left_of answer context line p words)

@@ -1,11 +1,13 @@
 -- What was read of a log, and what was written for it.
-use Rattle.std.specs.Prelude.{◌≡◌, ℕ, ◌-◌, ◌^◌, ◌≤◌, ◌⊎◌, true, false, List, [], ◌++◌, if◌then◌else◌, length, take, Option, Result, Ok, Err}
+use Rattle.std.specs.Prelude.{◌≡◌, ℕ, ◌-◌, ◌^◌, ◌≤◌, ◌⊎◌, true, false, List, [], ◌++◌}
+use Rattle.std.specs.Prelude.{if◌then◌else◌, length, take, Option, Result, Ok, Err}
 use Rattle.std.specs.Io.KnownBytes.{Appends, Consumes, IsAtEnd}
 use Rattle.std.specs.declared.io.Error.{Error}
 use Rattle.texts.specs.declared.counted.Counted.{Counted}
 use Rattle.texts.specs.Counted.{NoneFailed, Rose, device_of, failures_of}
 use Rattle.texts.specs.declared.output.Output.{Output}
-use Rattle.texts.specs.Output.{Delivered, WrotePart, contents_of, error_in, has_failed, is_flushed, IsBrokenPipe, IsNoBrokenPipe}
+use Rattle.texts.specs.Output.{Delivered, WrotePart, contents_of, error_in, has_failed, is_flushed}
+use Rattle.texts.specs.Output.{IsBrokenPipe, IsNoBrokenPipe}
 use Rattle.logs.specs.Answering.{Answering}
 use Rattle.logs.specs.AnnotatedLogs.{annotated, annotated_lines, context_over, names_of}
 use Rattle.logs.specs.Lines.{AreWhole, has_end, is_long, lines}
@@ -42,7 +44,8 @@ pub record Passed (answer : Answering) (a a' : Annotator) (line bytes text : Lis
   pub whole : AreWhole passed
   pub is_open : IsOpen a' line'
   pub context : context_in a' ≡ context_over answer (context_in a) (lines passed)
-  pub put : put_of line ++ text ≡ annotated_lines answer (context_in a) (lines passed) ++ put_of line'
+  pub put : put_of line ++ text
+      ≡ annotated_lines answer (context_in a) (lines passed) ++ put_of line'
 
 abbrev pub Passes : Answering → Annotator → Annotator → List ℕ → List ℕ → Type 0
 Passes answer a a' bytes text =

@@ -1,7 +1,8 @@
 -- What a log says itself of the kernel that wrote it: its place, and sizes of its functions, as in
 -- `do_one+0x8/0x1f00`.
 use Rattle.std.specs.Prelude.{ℕ, ◌+◌, ◌-◌, ◌^◌, ◌==◌, ◌&&◌, min, Bool, true, false}
-use Rattle.std.specs.Prelude.{if◌then◌else◌, List, [], ◌∷◌, length, drop, take, codes, nat_eq, nat_le, nat_lt}
+use Rattle.std.specs.Prelude.{if◌then◌else◌, List, [], ◌∷◌, length, drop, take, codes, nat_eq}
+use Rattle.std.specs.Prelude.{nat_le, nat_lt}
 use Rattle.std.specs.Prelude.{Option, None, option_map, ⊤}
 use Rattle.std.specs.List.{starts_with}
 use Rattle.std.specs.Option.{option_map_or, option_or}
@@ -70,7 +71,8 @@ with_size false r =
 
 -- a function more, if the listing has it
 abbrev pub with_function : Answering → KernelReport → SizeOfFunction → KernelReport
-with_function answer r f = option_map_or (λ same. with_size same r) (answer.has_size f.name f.size) r
+with_function answer r f =
+    option_map_or (λ same. with_size same r) (answer.has_size f.name f.size) r
 
 -- the function that ends at a place more, if one does; and those at more places
 abbrev pub with_place : Answering → List ℕ → KernelReport → ℕ → KernelReport

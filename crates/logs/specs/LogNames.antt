@@ -1,6 +1,7 @@
 -- The addresses of a log that have a name, and the names that it has itself after them.
 use Rattle.std.specs.Prelude.{ℕ, ◌&&◌, ◌||◌, Bool, true, false, List}
-use Rattle.std.specs.Prelude.{if◌then◌else◌, ◌++◌, codes, nat_eq, nat_le, nat_lt, Option, Some, None}
+use Rattle.std.specs.Prelude.{if◌then◌else◌, ◌++◌, codes, nat_eq, nat_le, nat_lt, Option, Some}
+use Rattle.std.specs.Prelude.{None}
 use Rattle.std.specs.List.{starts_with}
 use Rattle.std.specs.Option.{option_map_or}
 use Rattle.logs.specs.Answering.{Answering}
@@ -42,7 +43,8 @@ with_address answer t rest None names = with_one (answer.is_in_range t.value) na
 with_address answer t rest (Some text) names =
     let one = with_one (answer.is_in_range t.value) names in
     let more = record one { named = one_more one.named } in
-    option_map_or (λ name. with_name (agrees answer t text name) more) (sized_name (name_said rest)) more
+    option_map_or (λ name. with_name (agrees answer t text name) more) (sized_name (name_said rest))
+    more
 
 -- what a line says of its kernel more
 abbrev pub with_line : Answering → List ℕ → LogNames → LogNames

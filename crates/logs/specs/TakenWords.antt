@@ -4,7 +4,8 @@ use Rattle.std.specs.Prelude.{[], ◌∷◌, length, drop, codes, Option, None, 
 use Rattle.std.specs.List.{ends_with, list_any, starts_with}
 use Rattle.std.specs.Option.{option_map_or}
 use Rattle.std.specs.Str.{bytes_eq}
-use Rattle.logs.specs.Places.{begins_numbered, end_of, first_of, has_label, is_lead, prefix_end, without_end}
+use Rattle.logs.specs.Places.{begins_numbered, end_of, first_of, has_label, is_lead, prefix_end}
+use Rattle.logs.specs.Places.{without_end}
 use Rattle.logs.specs.Words.{address_at, has_prefix, is_word_byte, part, words_behind}
 use Rattle.logs.specs.declared.contexts.LogContext.{LogContext}
 use Rattle.logs.specs.declared.contexts.First.{First}

@@ -28,7 +28,8 @@ with_names names context = record context { names = names }
 
 -- what is carried on after lines that nothing names: of their names nothing is counted
 abbrev pub context_unnamed : Bool → LogContext → List (List ℕ) → LogContext
-context_unnamed narrow context ls = with_names context.names (context_over (unanswered narrow) context ls)
+context_unnamed narrow context ls =
+    with_names context.names (context_over (unanswered narrow) context ls)
 
 -- With these bytes the lines that have their end now are put, and nothing names them.
 abbrev pub PassesUnnamed : Bool → Annotator → Annotator → List ℕ → List ℕ → Type 0

@@ -1,5 +1,8 @@
 -- The first words of items: which of them have one, and how they lie in a table.
-use Rattle.order_laws.proofs.Words.{◌≡◌, ℕ, false, List, [], ◌∷◌, ◌++◌, refl, sym, ap, subst, ⊎_elim, arith, ◌==◌, ◌||◌, Contains, AllByRecursion, ne_eqb, Item, Order, Precedes, IsLawful, IsTable, has, all_at, all_right, Contains-cons_cases}
+use Rattle.order_laws.proofs.Words.{◌≡◌, ℕ, false, List, [], ◌∷◌, ◌++◌, refl, sym, ap, subst}
+use Rattle.order_laws.proofs.Words.{⊎_elim, arith, ◌==◌, ◌||◌, Contains, AllByRecursion, ne_eqb}
+use Rattle.order_laws.proofs.Words.{Item, Order, Precedes, IsLawful, IsTable, has, all_at}
+use Rattle.order_laws.proofs.Words.{all_right, Contains-cons_cases}
 
 -- no item has a first word
 abbrev pub Lacks : ℕ → List Item → Type 0

@@ -1,5 +1,6 @@
 -- What the order of half open ranges says of a key.
-use Rattle.order_laws.proofs.Words.{◌<◌, ◌≡◌, ◌≤◌, List, None, Option, arith, subst, sym, ℕ, IfSome, Equal, half_open, IsLook, look, Item}
+use Rattle.order_laws.proofs.Words.{◌<◌, ◌≡◌, ◌≤◌, List, None, Option, arith, subst, sym, ℕ, IfSome}
+use Rattle.order_laws.proofs.Words.{Equal, half_open, IsLook, look, Item}
 use Rattle.std.proofs.Common.{Some}
 use Rattle.std.proofs.lemmas.Bool.Decides.{nat_tests}
 use Rattle.order_laws.proofs.TableLemmas.{look_is}

@@ -1,5 +1,7 @@
 -- What it says of a table that an item meets none of its items.
-use Rattle.order_laws.proofs.Words.{◌∙◌, ◌∷◌, ◌≡◌, List, [], ap, false, get_or, refl, true, ◌||◌, Contains, not, AllByRecursion, Order, half_open, meets, Item, ℕ, cond, ◌++◌, sym, ◌==◌, ◌&&◌, list_any, without_all}
+use Rattle.order_laws.proofs.Words.{◌∙◌, ◌∷◌, ◌≡◌, List, [], ap, false, get_or, refl, true, ◌||◌}
+use Rattle.order_laws.proofs.Words.{Contains, not, AllByRecursion, Order, half_open, meets, Item, ℕ}
+use Rattle.order_laws.proofs.Words.{cond, ◌++◌, sym, ◌==◌, ◌&&◌, list_any, without_all}
 use Rattle.std.proofs.lemmas.List.Elements.{Contains-get_or}
 use Rattle.std.proofs.lemmas.List.Folds.{list_any_none}
 use Rattle.std.proofs.Common.{Bool}
@@ -11,7 +13,8 @@ pub not_meeting : {K : Type 0} (o : Order K) (i : Item) (xs : List Item) → mee
     → AllByRecursion (λ x. o.apart x i ≡ true) xs
 not_meeting o i [] e = tt
 not_meeting o i (x ∷ xs) e =
-    elim (o.apart x i) as (λ b. o.apart x i ≡ b → (not b || meets o i xs) ≡ false → AllByRecursion (λ y. o.apart y i ≡ true) (x ∷ xs)) [
+    elim (o.apart x i) as (λ b. o.apart x i ≡ b → (not b || meets o i xs) ≡ false
+    → AllByRecursion (λ y. o.apart y i ≡ true) (x ∷ xs)) [
       | true ↦ λ is f. (is, not_meeting o i xs f)
       | false ↦ λ is f. absurd (cc)
     ] refl e
@@ -24,7 +27,8 @@ no_meeting o i (x ∷ xs) h = ap (λ b. not b || meets o i xs) h.0 ∙ no_meetin
 pub none_meets : (i : Item) (table : List Item)
     → ((x : Item) → Contains table x → half_open.apart x i ≡ true) → meets half_open i table ≡ false
 none_meets i table h =
-    list_any_none (λ x. not (half_open.apart x i)) table (λ k d lt. ap not (h (get_or table k d) (Contains-get_or table k d lt)))
+    list_any_none (λ x. not (half_open.apart x i)) table
+    (λ k d lt. ap not (h (get_or table k d) (Contains-get_or table k d lt)))
 
 -- an item against a table without some first words
 module _ {K : Type 0} (o : Order K) (i : Item) (but : List ℕ) where
@@ -37,37 +41,47 @@ module _ {K : Type 0} (o : Order K) (i : Item) (but : List ℕ) where
   pub meets_split : (is js : List Item) → Meets (is ++ js) ≡ (Meets is || Meets js)
   meets_split [] js = refl
   meets_split (z ∷ is) js =
-      elim (gone z) as (λ g. meets o i (cond (not g) (z ∷ without_all but (is ++ js)) (without_all but (is ++ js))) ≡ (meets o i (cond (not g) (z ∷ without_all but is) (without_all but is)) || Meets js)) [
+      elim (gone z) as (λ g.
+      meets o i (cond (not g) (z ∷ without_all but (is ++ js)) (without_all but (is ++ js)))
+      ≡ (meets o i (cond (not g) (z ∷ without_all but is) (without_all but is)) || Meets js)) [
         | true ↦ meets_split is js
-        | false ↦ ap (λ b. not (o.apart z i) || b) (meets_split is js) ∙ or_assoc (not (o.apart z i)) (Meets is) (Meets js)
+        | false ↦ ap (λ b. not (o.apart z i) || b) (meets_split is js)
+            ∙ or_assoc (not (o.apart z i)) (Meets is) (Meets js)
       ]
 
   pub meets_none : (js : List Item) → AllByRecursion (λ z. o.apart z i ≡ true) js → Meets js ≡ false
   meets_none [] h = refl
   meets_none (z ∷ js) h =
       let e : o.apart z i ≡ true = h.0 in
-      elim (gone z) as (λ g. meets o i (cond (not g) (z ∷ without_all but js) (without_all but js)) ≡ false) [
+      elim (gone z) as (λ g.
+      meets o i (cond (not g) (z ∷ without_all but js) (without_all but js)) ≡ false) [
         | true ↦ meets_none js h.1
         | false ↦ rw e (meets_none js h.1)
       ]
 
   pub apart_head : (z : Item) (js : List Item) → o.apart z i ≡ true → Meets (z ∷ js) ≡ Meets js
   apart_head z js e =
-      elim (gone z) as (λ g. meets o i (cond (not g) (z ∷ without_all but js) (without_all but js)) ≡ Meets js) [
+      elim (gone z) as (λ g.
+      meets o i (cond (not g) (z ∷ without_all but js) (without_all but js)) ≡ Meets js) [
         | true ↦ refl
         | false ↦ rw e refl
       ]
 
-  pub any_head : (z : Item) (is js : List Item) → ((not (gone z) && not (o.apart z i)) || (Meets is || Meets js)) ≡ (Meets is || Meets (z ∷ js))
+  pub any_head : (z : Item) (is js : List Item)
+      → ((not (gone z) && not (o.apart z i)) || (Meets is || Meets js))
+      ≡ (Meets is || Meets (z ∷ js))
   any_head z is js =
-      elim (gone z) as (λ g. ((not g && not (o.apart z i)) || (Meets is || Meets js)) ≡ (Meets is || meets o i (cond (not g) (z ∷ without_all but js) (without_all but js)))) [
+      elim (gone z) as (λ g. ((not g && not (o.apart z i)) || (Meets is || Meets js))
+      ≡ (Meets is || meets o i (cond (not g) (z ∷ without_all but js) (without_all but js)))) [
         | true ↦ refl
         | false ↦ or_swap (not (o.apart z i)) (Meets is) (Meets js)
       ]
 
-  pub meeting_head : (z : Item) (is js : List Item) → o.apart z i ≡ false → (not (gone z) || (Meets is || Meets js)) ≡ (Meets is || Meets (z ∷ js))
+  pub meeting_head : (z : Item) (is js : List Item) → o.apart z i ≡ false
+      → (not (gone z) || (Meets is || Meets js)) ≡ (Meets is || Meets (z ∷ js))
   meeting_head z is js e =
-      elim (gone z) as (λ g. (not g || (Meets is || Meets js)) ≡ (Meets is || meets o i (cond (not g) (z ∷ without_all but js) (without_all but js)))) [
+      elim (gone z) as (λ g. (not g || (Meets is || Meets js))
+      ≡ (Meets is || meets o i (cond (not g) (z ∷ without_all but js) (without_all but js)))) [
         | true ↦ refl
         | false ↦ rw e (sym (or-true (Meets is)))
       ]

@@ -1,55 +1,82 @@
 -- What follows from an order's laws for tables.
-use Rattle.order_laws.proofs.Words.{◌≡◌, ◌≢◌, ℕ, suc, ◌+◌, ◌≤◌, true, false, cond, List, [], ◌∷◌, ◌++◌, length, Option, None, refl, sym, ◌∙◌, ap, subst, ⊎_elim, arith, not, ◌==◌, Contains, AllByRecursion, Less, Equal, Greater, Item, Order, Precedes, IsLawful, IsTable, look, IsLook, with_item, without, all_at, all_filtered, all_left, all_right, all_weaker, Contains-cons_cases, Contains-rest}
+use Rattle.order_laws.proofs.Words.{◌≡◌, ◌≢◌, ℕ, suc, ◌+◌, ◌≤◌, true, false, cond, List, [], ◌∷◌}
+use Rattle.order_laws.proofs.Words.{◌++◌, length, Option, None, refl, sym, ◌∙◌, ap, subst, ⊎_elim}
+use Rattle.order_laws.proofs.Words.{arith, not, ◌==◌, Contains, AllByRecursion, Less, Equal}
+use Rattle.order_laws.proofs.Words.{Greater, Item, Order, Precedes, IsLawful, IsTable, look, IsLook}
+use Rattle.order_laws.proofs.Words.{with_item, without, all_at, all_filtered, all_left, all_right}
+use Rattle.order_laws.proofs.Words.{all_weaker, Contains-cons_cases, Contains-rest}
 use Rattle.std.proofs.Common.{Some}
 use Rattle.std.specs.Ordering.{is_eq}
-use Rattle.facts.proofs.Orderings.{cases_ordering, greater_not_equal, is_equal, less_not_equal, not_equal}
+use Rattle.facts.proofs.Orderings.{cases_ordering, greater_not_equal, is_equal, less_not_equal}
+use Rattle.facts.proofs.Orderings.{not_equal}
 
 -- where a table is split at an item
-pub record Parted {K : Type 0} (o : Order K) (xs : List Item) (x : Item) (ys : List Item) : Type 0 where
+pub record Parted {K : Type 0} (o : Order K) (xs : List Item) (x : Item) (ys : List Item) : Type
+    0 where
   pub left : IsTable o xs
   pub right : IsTable o ys
   pub before : AllByRecursion (λ y. Precedes o y x) xs
   pub behind : AllByRecursion (Precedes o x) ys
   pub here : o.valid x ≡ true
 
-pub parted : {K : Type 0} (o : Order K) (xs : List Item) (x : Item) (ys : List Item) → IsTable o (xs ++ x ∷ ys) → Parted o xs x ys
+pub parted : {K : Type 0} (o : Order K) (xs : List Item) (x : Item) (ys : List Item)
+    → IsTable o (xs ++ x ∷ ys) → Parted o xs x ys
 parted o [] x ys t = record { left = tt; right = t.2; before = tt; behind = t.1; here = t.0 }
 parted o (w ∷ xs) x ys t =
     let p = parted o xs x ys t.2 in
     let q = all_right (Precedes o w) xs (x ∷ ys) t.1 in
-    record { left = (t.0, all_left (Precedes o w) xs (x ∷ ys) t.1, p.left); right = p.right; before = (q.0, p.before); behind = p.behind; here = p.here }
+    record {
+      left = (t.0, all_left (Precedes o w) xs (x ∷ ys) t.1, p.left);
+      right = p.right;
+      before = (q.0, p.before);
+      behind = p.behind;
+      here = p.here;
+    }
 
 -- a key that no item of a part has passes it by
-look_past : {K : Type 0} (o : Order K) (k : K) (xs ys : List Item) → AllByRecursion (λ y. is_eq (o.comp k y) ≡ false) xs → look o k (xs ++ ys) ≡ look o k ys
+look_past : {K : Type 0} (o : Order K) (k : K) (xs ys : List Item)
+    → AllByRecursion (λ y. is_eq (o.comp k y) ≡ false) xs → look o k (xs ++ ys) ≡ look o k ys
 look_past o k [] ys h = refl
 look_past o k (x ∷ xs) ys h = rw h.0 (look_past o k xs ys h.1)
 
-look_within : {K : Type 0} (o : Order K) (k : K) (xs ys : List Item) → AllByRecursion (λ y. is_eq (o.comp k y) ≡ false) ys → look o k (xs ++ ys) ≡ look o k xs
+look_within : {K : Type 0} (o : Order K) (k : K) (xs ys : List Item)
+    → AllByRecursion (λ y. is_eq (o.comp k y) ≡ false) ys → look o k (xs ++ ys) ≡ look o k xs
 look_within o k [] [] h = refl
 look_within o k [] (y ∷ ys) h = rw h.0 (look_within o k [] ys h.1)
-look_within o k (x ∷ xs) ys h = ap (λ r. cond (is_eq (o.comp k x)) (Some x) r) (look_within o k xs ys h)
+look_within o k (x ∷ xs) ys h =
+    ap (λ r. cond (is_eq (o.comp k x)) (Some x) r) (look_within o k xs ys h)
 
 module _ {K : Type 0} (o : Order K) (law : IsLawful o) where
   -- at an item, the key goes left or right, or has found it
-  pub look_less : (k : K) (xs : List Item) (x : Item) (ys : List Item) → IsTable o (xs ++ x ∷ ys) → o.comp k x ≡ Less → look o k (xs ++ x ∷ ys) ≡ look o k xs
+  pub look_less : (k : K) (xs : List Item) (x : Item) (ys : List Item) → IsTable o (xs ++ x ∷ ys)
+      → o.comp k x ≡ Less → look o k (xs ++ x ∷ ys) ≡ look o k xs
   look_less k xs x ys t e =
       let p = parted o xs x ys t in
-      look_within o k xs (x ∷ ys) (less_not_equal _ e, all_weaker (Precedes o x) (λ y. is_eq (o.comp k y) ≡ false) (λ y b. less_not_equal _ (law.below_lesser k x y b e)) ys p.behind)
+      look_within o k xs (x ∷ ys) (
+        less_not_equal _ e,
+        all_weaker (Precedes o x) (λ y. is_eq (o.comp k y) ≡ false)
+            (λ y b. less_not_equal _ (law.below_lesser k x y b e)) ys p.behind,
+      )
 
-  pub look_greater : (k : K) (xs : List Item) (x : Item) (ys : List Item) → IsTable o (xs ++ x ∷ ys) → o.comp k x ≡ Greater → look o k (xs ++ x ∷ ys) ≡ look o k ys
+  pub look_greater : (k : K) (xs : List Item) (x : Item) (ys : List Item) → IsTable o (xs ++ x ∷ ys)
+      → o.comp k x ≡ Greater → look o k (xs ++ x ∷ ys) ≡ look o k ys
   look_greater k xs x ys t e =
       let p = parted o xs x ys t in
-      look_past o k xs (x ∷ ys) (all_weaker (λ y. Precedes o y x) (λ y. is_eq (o.comp k y) ≡ false) (λ y b. greater_not_equal _ (law.above_greater k y x b e)) xs p.before)
+      look_past o k xs (x ∷ ys) (all_weaker (λ y. Precedes o y x) (λ y. is_eq (o.comp k y) ≡ false)
+      (λ y b. greater_not_equal _ (law.above_greater k y x b e)) xs p.before)
       ∙ (let f : is_eq (o.comp k x) ≡ false = greater_not_equal _ e in rw f refl)
 
-  pub look_equal : (k : K) (xs : List Item) (x : Item) (ys : List Item) → IsTable o (xs ++ x ∷ ys) → o.comp k x ≡ Equal → look o k (xs ++ x ∷ ys) ≡ Some x
+  pub look_equal : (k : K) (xs : List Item) (x : Item) (ys : List Item) → IsTable o (xs ++ x ∷ ys)
+      → o.comp k x ≡ Equal → look o k (xs ++ x ∷ ys) ≡ Some x
   look_equal k xs x ys t e =
       let p = parted o xs x ys t in
-      look_past o k xs (x ∷ ys) (all_weaker (λ y. Precedes o y x) (λ y. is_eq (o.comp k y) ≡ false) (λ y b. greater_not_equal _ (law.in_greater k y x b e)) xs p.before)
+      look_past o k xs (x ∷ ys) (all_weaker (λ y. Precedes o y x) (λ y. is_eq (o.comp k y) ≡ false)
+      (λ y b. greater_not_equal _ (law.in_greater k y x b e)) xs p.before)
       ∙ (let f : is_eq (o.comp k x) ≡ true = is_equal _ e in rw f refl)
 
   -- the item that a key is in is the one that look gives
-  pub look_only : (k : K) (table : List Item) (r : Option Item) → IsTable o table → IsLook o k table r → r ≡ look o k table
+  pub look_only : (k : K) (table : List Item) (r : Option Item) → IsTable o table
+      → IsLook o k table r → r ≡ look o k table
   look_only k [] None t h = refl
   look_only k [] (Some y) t h = absurd (omega (arith, h.0.1))
   look_only k (x ∷ xs) None t h =
@@ -58,29 +85,37 @@ module _ {K : Type 0} (o : Order K) (law : IsLawful o) where
   look_only k (x ∷ xs) (Some y) t h =
       ⊎_elim
       (λ same.
-      let e : is_eq (o.comp k x) ≡ true = is_equal (o.comp k x) (subst (λ z. o.comp k z ≡ Equal) (sym same) h.1) in
+      let e : is_eq (o.comp k x) ≡ true =
+      is_equal (o.comp k x) (subst (λ z. o.comp k z ≡ Equal) (sym same) h.1) in
       rw e (ap Some (sym same)))
       (λ is.
       let b : Precedes o x y = all_at (Precedes o x) xs y t.1 is in
-      let e : is_eq (o.comp k x) ≡ false = greater_not_equal (o.comp k x) (law.in_greater k x y b h.1) in
+      let e : is_eq (o.comp k x) ≡ false =
+      greater_not_equal (o.comp k x) (law.in_greater k x y b h.1) in
       rw e (look_only k xs (Some y) t.2 (is, h.1)))
       (Contains-cons_cases x y xs h.0)
 
-is_look_more : {K : Type 0} (o : Order K) (k : K) (x : Item) (xs : List Item) (r : Option Item) → o.comp k x ≢ Equal → IsLook o k xs r → IsLook o k (x ∷ xs) r
-is_look_more o k x xs None ne h = λ y is. ⊎_elim (λ e. subst (λ z. o.comp k z ≢ Equal) e ne) (λ in'. h y in') (Contains-cons_cases x y xs is)
+is_look_more : {K : Type 0} (o : Order K) (k : K) (x : Item) (xs : List Item) (r : Option Item)
+    → o.comp k x ≢ Equal → IsLook o k xs r → IsLook o k (x ∷ xs) r
+is_look_more o k x xs None ne h = λ y is. ⊎_elim (λ e. subst (λ z. o.comp k z ≢ Equal) e ne)
+    (λ in'. h y in') (Contains-cons_cases x y xs is)
 is_look_more o k x xs (Some y) ne h = (Contains-rest x y xs h.0, h.1)
 
 -- and look gives one, in any list
-pub look_is : {K : Type 0} (o : Order K) (k : K) (table : List Item) → IsLook o k table (look o k table)
+pub look_is : {K : Type 0} (o : Order K) (k : K) (table : List Item)
+    → IsLook o k table (look o k table)
 look_is o k [] = λ x is. absurd (omega (arith, is.1))
 look_is o k (x ∷ xs) =
     ⊎_elim
-    (λ e. let f : is_eq (o.comp k x) ≡ true = is_equal (o.comp k x) e in rw f ((0, omega arith, refl), e))
-    (λ ne. let f : is_eq (o.comp k x) ≡ false = not_equal (o.comp k x) ne in rw f (is_look_more o k x xs (look o k xs) ne (look_is o k xs)))
+    (λ e. let f : is_eq (o.comp k x) ≡ true = is_equal (o.comp k x) e in
+    rw f ((0, omega arith, refl), e))
+    (λ ne. let f : is_eq (o.comp k x) ≡ false = not_equal (o.comp k x) ne in
+    rw f (is_look_more o k x xs (look o k xs) ne (look_is o k xs)))
     (cases_ordering (o.comp k x))
 
 -- what updates keep
-pub all_with_item : {K : Type 0} (o : Order K) (P : Item → Type 0) (i : Item) (xs : List Item) → P i → AllByRecursion P xs → AllByRecursion P (with_item o i xs)
+pub all_with_item : {K : Type 0} (o : Order K) (P : Item → Type 0) (i : Item) (xs : List Item) → P i
+    → AllByRecursion P xs → AllByRecursion P (with_item o i xs)
 all_with_item o P i [] p h = (p, tt)
 all_with_item o P i (x ∷ xs) p h =
     elim (o.less i x) as (λ b. AllByRecursion P (cond b (i ∷ x ∷ xs) (x ∷ with_item o i xs))) [
@@ -88,10 +123,12 @@ all_with_item o P i (x ∷ xs) p h =
       | false ↦ (h.0, all_with_item o P i xs p h.1)
     ]
 
-pub length_with_item : {K : Type 0} (o : Order K) (i : Item) (xs : List Item) → length (with_item o i xs) ≡ length xs + 1
+pub length_with_item : {K : Type 0} (o : Order K) (i : Item) (xs : List Item)
+    → length (with_item o i xs) ≡ length xs + 1
 length_with_item o i [] = omega arith
 length_with_item o i (x ∷ xs) =
-    elim (o.less i x) as (λ b. length (cond b (i ∷ x ∷ xs) (x ∷ with_item o i xs)) ≡ length (x ∷ xs) + 1) [
+    elim (o.less i x) as (λ b.
+    length (cond b (i ∷ x ∷ xs) (x ∷ with_item o i xs)) ≡ length (x ∷ xs) + 1) [
       | true ↦ omega arith
       | false ↦ omega (arith, length_with_item o i xs)
     ]
@@ -99,41 +136,74 @@ length_with_item o i (x ∷ xs) =
 pub length_without : (a : ℕ) (xs : List Item) → length (without a xs) ≤ length xs
 length_without a [] = omega arith
 length_without a (x ∷ xs) =
-    elim (x.a == a) as (λ b. length (cond (not b) (x ∷ without a xs) (without a xs)) ≤ length (x ∷ xs)) [
+    elim (x.a == a) as (λ b.
+    length (cond (not b) (x ∷ without a xs) (without a xs)) ≤ length (x ∷ xs)) [
       | true ↦ omega (arith, length_without a xs)
       | false ↦ omega (arith, length_without a xs)
     ]
 
-pub without_table : {K : Type 0} (o : Order K) (a : ℕ) (xs : List Item) → IsTable o xs → IsTable o (without a xs)
+pub without_table : {K : Type 0} (o : Order K) (a : ℕ) (xs : List Item) → IsTable o xs
+    → IsTable o (without a xs)
 without_table o a [] t = tt
 without_table o a (x ∷ xs) t =
     elim (x.a == a) as (λ b. IsTable o (cond (not b) (x ∷ without a xs) (without a xs))) [
       | true ↦ without_table o a xs t.2
-      | false ↦ (t.0, all_filtered (Precedes o x) (λ y. not (y.a == a)) xs t.1, without_table o a xs t.2)
+      | false ↦ (
+        t.0,
+        all_filtered (Precedes o x) (λ y. not (y.a == a)) xs t.1,
+        without_table o a xs t.2,
+      )
     ]
 
 module _ {K : Type 0} (o : Order K) (law : IsLawful o) where
-  precedes_all : (i x : Item) (xs : List Item) → o.valid i ≡ true → o.less i x ≡ true → AllByRecursion (λ y. o.apart y i ≡ true) xs → AllByRecursion (Precedes o x) xs → AllByRecursion (Precedes o i) xs
+  precedes_all : (i x : Item) (xs : List Item) → o.valid i ≡ true → o.less i x ≡ true
+      → AllByRecursion (λ y. o.apart y i ≡ true) xs → AllByRecursion (Precedes o x) xs
+      → AllByRecursion (Precedes o i) xs
   precedes_all i x [] v l free h = tt
   precedes_all i x (y ∷ xs) v l free h = (
-    record { first_valid = v; second_valid = h.0.second_valid; is_apart = law.symmetric i y ∙ free.0; is_less = law.transitive i x y l h.0.is_less },
+    record {
+      first_valid = v;
+      second_valid = h.0.second_valid;
+      is_apart = law.symmetric i y ∙ free.0;
+      is_less = law.transitive i x y l h.0.is_less;
+    },
     precedes_all i x xs v l free.1 h.1,
   )
 
-  pub with_item_table : (i : Item) (xs : List Item) → o.valid i ≡ true → AllByRecursion (λ x. o.apart x i ≡ true) xs → IsTable o xs → IsTable o (with_item o i xs)
+  pub with_item_table : (i : Item) (xs : List Item) → o.valid i ≡ true
+      → AllByRecursion (λ x. o.apart x i ≡ true) xs → IsTable o xs → IsTable o (with_item o i xs)
   with_item_table i [] v free t = (v, tt, tt)
   with_item_table i (x ∷ xs) v free t =
-      elim (o.less i x) as (λ b. o.less i x ≡ b → IsTable o (cond b (i ∷ x ∷ xs) (x ∷ with_item o i xs))) [
-        | true ↦ λ e. (v, (record { first_valid = v; second_valid = t.0; is_apart = law.symmetric i x ∙ free.0; is_less = e }, precedes_all i x xs v e free.1 t.1), t)
+      elim (o.less i x) as (λ b. o.less i x ≡ b
+      → IsTable o (cond b (i ∷ x ∷ xs) (x ∷ with_item o i xs))) [
+        | true ↦ λ e. (
+          v,
+          (
+            record {
+              first_valid = v;
+              second_valid = t.0;
+              is_apart = law.symmetric i x ∙ free.0;
+              is_less = e;
+            },
+            precedes_all i x xs v e free.1 t.1,
+          ),
+          t,
+        )
         | false ↦ λ e. (
           t.0,
-          all_with_item o (Precedes o x) i xs (record { first_valid = t.0; second_valid = v; is_apart = free.0; is_less = law.one_is_less x i t.0 v free.0 ∙ ap not e }) t.1,
+          all_with_item o (Precedes o x) i xs (record {
+            first_valid = t.0;
+            second_valid = v;
+            is_apart = free.0;
+            is_less = law.one_is_less x i t.0 v free.0 ∙ ap not e;
+          }) t.1,
           with_item_table i xs v free.1 t.2,
         )
       ] refl
 
 -- what is found depends on the items alone
-pub same_look : {K : Type 0} (o : Order K) (k : K) (xs ys : List Item) (r : Option Item) → ((x : Item) → Contains xs x → Contains ys x) → ((x : Item) → Contains ys x → Contains xs x)
+pub same_look : {K : Type 0} (o : Order K) (k : K) (xs ys : List Item) (r : Option Item)
+    → ((x : Item) → Contains xs x → Contains ys x) → ((x : Item) → Contains ys x → Contains xs x)
     → IsLook o k xs r → IsLook o k ys r
 same_look o k xs ys None f g h = λ x m. h x (g x m)
 same_look o k xs ys (Some x) f g h = (f x h.0, h.1)

@@ -1,8 +1,18 @@
 -- Blank nodes: one is planted, one comes back, one more is put into the slab.
-use Rattle.rb_cursor.proofs.Words.{◌≡◌, ℕ, suc, ◌+◌, ◌-◌, ◌^◌, ◌<◌, ◌≤◌, Bool, true, false, List, [], ◌∷◌, length, if◌then◌else◌, Some, None, inl, inr, refl, sym, ap, subst, ◌∙◌, arith, ◌==◌, cases_eq, Slab, get, slab_len, with_value, Updates, Updates-with_value, Record, ColouredTree, tip, branch, Left, Node, Inside, Zipper, weight, HasOneSubtree, only_subtree, Keyed, nil, keyed, link_of, link_to, plain, plain_path, size, at_key, uses, path_uses, list_uses, node_with, node_of, IsLinked, IsChain, with_last_link, IsPlace}
+use Rattle.rb_cursor.proofs.Words.{◌≡◌, ℕ, suc, ◌+◌, ◌-◌, ◌^◌, ◌<◌, ◌≤◌, Bool, true, false, List}
+use Rattle.rb_cursor.proofs.Words.{[], ◌∷◌, length, if◌then◌else◌, Some, None, inl, inr, refl, sym}
+use Rattle.rb_cursor.proofs.Words.{ap, subst, ◌∙◌, arith, ◌==◌, cases_eq, Slab, get, slab_len}
+use Rattle.rb_cursor.proofs.Words.{with_value, Updates, Updates-with_value, Record, ColouredTree}
+use Rattle.rb_cursor.proofs.Words.{tip, branch, Left, Node, Inside, Zipper, weight, HasOneSubtree}
+use Rattle.rb_cursor.proofs.Words.{only_subtree, Keyed, nil, keyed, link_of, link_to, plain}
+use Rattle.rb_cursor.proofs.Words.{plain_path, size, at_key, uses, path_uses, list_uses, node_with}
+use Rattle.rb_cursor.proofs.Words.{node_of, IsLinked, IsChain, with_last_link, IsPlace}
 use Rattle.facts.proofs.Numbers.{if_suc}
-use Rattle.rb_cursor.proofs.KeyedLemmas.{at_same, at_apart, at_most, linked_kept, path_kept, chain_kept, linked_beside, path_beside, chain_beside, linked_vacant, path_vacant, chain_vacant, same_len}
-use Rattle.rb_cursor.proofs.FieldLemmas.{IsInside, show, FieldsHold, Moved, held, held_on, none_there, shut}
+use Rattle.rb_cursor.proofs.KeyedLemmas.{at_same, at_apart, at_most, linked_kept, path_kept}
+use Rattle.rb_cursor.proofs.KeyedLemmas.{chain_kept, linked_beside, path_beside, chain_beside}
+use Rattle.rb_cursor.proofs.KeyedLemmas.{linked_vacant, path_vacant, chain_vacant, same_len}
+use Rattle.rb_cursor.proofs.FieldLemmas.{IsInside, show, FieldsHold, Moved, held, held_on}
+use Rattle.rb_cursor.proofs.FieldLemmas.{none_there, shut}
 use Rattle.rb_cursor.proofs.TurnLemmas.{IsLoose, tightened}
 
 -- a tree without nodes
@@ -20,14 +30,18 @@ chain_leads : (blanks : List ℕ) → 0 < length blanks → 0 < link_to blanks
 chain_leads [] some = absurd (omega arith)
 chain_leads (k ∷ ks) some = omega arith
 
-pub blank_leads : (i : Inside) (now : Zipper) → IsInside i → show i ≡ now → 0 < now.room → 0 < i.blank
+pub blank_leads : (i : Inside) (now : Zipper) → IsInside i → show i ≡ now → 0 < now.room
+    → 0 < i.blank
 blank_leads i now f is some =
     let e = ap (λ (z : Zipper). z.room) (held i now f is).shows in
     omega (arith, chain_leads f.blanks (omega (arith, f.room_is)), f.blank_link)
 
-pub blank_there : (i : Inside) (key : ℕ) → IsInside i → i.blank ≡ suc key → get i.nodes key ≡ None → ⊥
+pub blank_there : (i : Inside) (key : ℕ) → IsInside i → i.blank ≡ suc key → get i.nodes key ≡ None
+    → ⊥
 blank_there i key f some none =
-    let here = (subst (IsChain i.nodes) (blanks_are key f.blanks (sym f.blank_link ∙ some)).1 f.place.chained).0.1 in cc
+    let here = (subst (IsChain i.nodes) (blanks_are key f.blanks (sym f.blank_link ∙ some)).1
+    f.place.chained).0.1 in
+    cc
 
 -- a blank node becomes a red leaf
 pub plants : (i : Inside) (u : Slab Node) (now : Zipper) (key : ℕ) (row : Record) (n : Node) →
@@ -42,7 +56,8 @@ plants i u now key row n f shown leaf some found is =
     let path = f.path in
     let ks = b.0 in
     let g : FieldsHold i now nil path (key ∷ ks) =
-    subst (λ (t : Keyed). FieldsHold i now t path (key ∷ ks)) none (subst (FieldsHold i now f.hand path) b.1 h) in
+    subst (λ (t : Keyed). FieldsHold i now t path (key ∷ ks)) none
+    (subst (FieldsHold i now f.hand path) b.1 h) in
     let p = g.place in
     let s = i.nodes in
     let new : Node = node_with true row 0 0 in
@@ -80,13 +95,15 @@ plants i u now key row n f shown leaf some found is =
     })
 
 -- a node becomes blank, and its only subtree takes its place
-pub thin_leads : (i : Inside) (now : Zipper) → IsInside i → show i ≡ now → HasOneSubtree now.tree → 0 < i.tree
+pub thin_leads : (i : Inside) (now : Zipper) → IsInside i → show i ≡ now → HasOneSubtree now.tree
+    → 0 < i.tree
 thin_leads i now f is thin = elim (cases_eq i.tree 0) [
   | inl none ↦ absurd (subst HasOneSubtree (none_there i now f is none) thin)
   | inr some ↦ omega arith
 ]
 
-pub room_fits : (i : Inside) (now : Zipper) → IsInside i → show i ≡ now → 0 < i.tree → i.room + 1 < 2 ^ 32
+pub room_fits : (i : Inside) (now : Zipper) → IsInside i → show i ≡ now → 0 < i.tree
+    → i.room + 1 < 2 ^ 32
 room_fits i now f is some =
     let h = (held_on i now Left (i.tree - 1) f is (omega arith)).held in
     omega (arith, h.room_is, h.place.counted, h.place.small)
@@ -127,7 +144,8 @@ only_by red (keyed hue a k y b) x r thin =
 pub takes : (i : Inside) (u : Slab Node) (now : Zipper) (key subtree : ℕ) (n : Node) → IsInside i →
     show i ≡ now → HasOneSubtree now.tree → i.tree ≡ suc key → get i.nodes key ≡ Some n →
     subtree ≡ (if n.left == 0 then n.right else n.left) →
-    u ≡ with_last_link (with_value i.nodes key (record n { left = i.blank })) i.steps i.depth subtree →
+    u ≡ with_last_link (with_value i.nodes key (record n { left = i.blank })) i.steps i.depth
+    subtree →
     Moved (record i { nodes = u; tree = subtree; blank = i.tree; room = i.room + 1 })
     (record { tree = only_subtree now.tree; path = now.path; room = now.room + 1 })
 takes i u now key subtree n f shown thin some found sub is =
@@ -137,7 +155,8 @@ takes i u now key subtree n f shown thin some found sub is =
     let blanks = f.blanks in
     let p = g.place in
     let s = i.nodes in
-    let pair = only_by v.red v.near v.row v.far (subst (λ (z : Zipper). HasOneSubtree z.tree) g.shows thin) in
+    let pair = only_by v.red v.near v.row v.far
+    (subst (λ (z : Zipper). HasOneSubtree z.tree) g.shows thin) in
     let only = pair.0 in let o = pair.1 in
     let node : node_of v.red v.near v.row v.far ≡ n = let there = p.hand_linked.0 in cc in
     let link : subtree ≡ link_of only = sub
@@ -178,7 +197,8 @@ takes i u now key subtree n f shown thin some found sub is =
         path = q.path;
         room = q.room + 1;
       }) g.shows
-          ∙ ap (λ (t : ColouredTree). record { tree = t; path = plain_path path; room = i.room + 1 })
+          ∙ ap
+          (λ (t : ColouredTree). record { tree = t; path = plain_path path; room = i.room + 1 })
           o.tree;
     })
 

@@ -1,8 +1,17 @@
 -- Going up from the tree in hand, and writes of the node in hand.
-use Rattle.rb_cursor.proofs.Words.{◌≡◌, ℕ, suc, ◌-◌, ◌<◌, ◌≤◌, Bool, List, [], ◌∷◌, length, if◌then◌else◌, Some, None, inl, inr, refl, sym, ap, subst, ◌∙◌, arith, cases_eq, le-ltb, lt-ltb, Slab, get, with_value, Updates-with_value, Record, ColouredTree, branch, Node, Step, Side, Left, Right, Inside, Above, Zipper, sided, joined, plugged, closed_zipper, closed_to, IsNearest, Keyed, keyed, Level, link_of, plain, plain_level, plain_path, node_with, node_of, sided_node, record_of, step_at, IsPlace}
-use Rattle.rb_cursor.proofs.KeyedLemmas.{at_same, linked_beside, path_beside, chain_beside, steps_length, plain_length, same_len}
+use Rattle.rb_cursor.proofs.Words.{◌≡◌, ℕ, suc, ◌-◌, ◌<◌, ◌≤◌, Bool, List, [], ◌∷◌, length}
+use Rattle.rb_cursor.proofs.Words.{if◌then◌else◌, Some, None, inl, inr, refl, sym, ap, subst, ◌∙◌}
+use Rattle.rb_cursor.proofs.Words.{arith, cases_eq, le-ltb, lt-ltb, Slab, get, with_value}
+use Rattle.rb_cursor.proofs.Words.{Updates-with_value, Record, ColouredTree, branch, Node, Step}
+use Rattle.rb_cursor.proofs.Words.{Side, Left, Right, Inside, Above, Zipper, sided, joined, plugged}
+use Rattle.rb_cursor.proofs.Words.{closed_zipper, closed_to, IsNearest, Keyed, keyed, Level}
+use Rattle.rb_cursor.proofs.Words.{link_of, plain, plain_level, plain_path, node_with, node_of}
+use Rattle.rb_cursor.proofs.Words.{sided_node, record_of, step_at, IsPlace}
+use Rattle.rb_cursor.proofs.KeyedLemmas.{at_same, linked_beside, path_beside, chain_beside}
+use Rattle.rb_cursor.proofs.KeyedLemmas.{steps_length, plain_length, same_len}
 use Rattle.rb_cursor.proofs.SideLemmas.{read-sided, plain-joined}
-use Rattle.rb_cursor.proofs.FieldLemmas.{IsInside, show, FieldsHold, Moved, held, held_on, shut, back, gone_back, without_step}
+use Rattle.rb_cursor.proofs.FieldLemmas.{IsInside, show, FieldsHold, Moved, held, held_on, shut}
+use Rattle.rb_cursor.proofs.FieldLemmas.{back, gone_back, without_step}
 
 -- the node in hand is written anew, with the same subtrees
 pub record Rewritten (i : Inside) (now : Zipper) (key : ℕ) (red : Bool) (row : Record) (n : Node) :
@@ -13,7 +22,8 @@ pub record Rewritten (i : Inside) (now : Zipper) (key : ℕ) (red : Bool) (row :
   pub moved : Moved (record i { nodes = with_value i.nodes key (node_with red row n.left n.right) })
       (record now { tree = branch red left row right })
 
-pub rewrites : (i : Inside) (now : Zipper) (key : ℕ) (red : Bool) (row : Record) (n : Node) → IsInside i →
+pub rewrites : (i : Inside) (now : Zipper) (key : ℕ) (red : Bool) (row : Record) (n : Node)
+    → IsInside i →
     show i ≡ now → i.tree ≡ suc key → get i.nodes key ≡ Some n → Rewritten i now key red row n
 rewrites i now key red row n f is some found =
     let v = held_on i now Left key f is some in
@@ -51,14 +61,16 @@ rewrites i now key red row n f is some found =
       was = ap (λ (z : Zipper). z.tree) g.shows
           ∙ ap (λ (z : Node). branch z.red (plain v.near) (record_of z) (plain v.far)) node;
       moved = shut j now' (keyed red v.near key row v.far) f.path f.blanks (record {
-        place = subst (λ (z : Slab Node). IsPlace z (keyed red v.near key row v.far) f.path f.blanks) nodes
+        place = subst
+            (λ (z : Slab Node). IsPlace z (keyed red v.near key row v.far) f.path f.blanks) nodes
             place;
         tree_link = some;
         path_steps = g.path_steps;
         blank_link = g.blank_link;
         room_is = g.room_is;
         few = g.few;
-        shows = ap (λ (z : Zipper). record z { tree = branch red (plain v.near) row (plain v.far) }) g.shows;
+        shows = ap (λ (z : Zipper). record z { tree = branch red (plain v.near) row (plain v.far) })
+            g.shows;
       });
     }
 
@@ -70,10 +82,11 @@ pub record LastIs (i : Inside) (now : Zipper) (hand : Keyed) (blanks : List ℕ)
 
 pub last_is : (i : Inside) (now : Zipper) (f : IsInside i) → show i ≡ now → 0 < i.depth →
     LastIs i now f.hand f.blanks
-last_is i now f is some = elim f.path as (λ path. FieldsHold i now f.hand path f.blanks → LastIs i now f.hand f.blanks) [
-  | [] ↦ λ h. let e = h.path_steps in absurd (omega arith)
-  | a ∷ path ↦ λ h. record { level = a; rest = path; held = h }
-] (held i now f is)
+last_is i now f is some =
+    elim f.path as (λ path. FieldsHold i now f.hand path f.blanks → LastIs i now f.hand f.blanks) [
+      | [] ↦ λ h. let e = h.path_steps in absurd (omega arith)
+      | a ∷ path ↦ λ h. record { level = a; rest = path; held = h }
+    ] (held i now f is)
 
 -- the last step, and the key of its node
 last_step : (i : Inside) (now : Zipper) (hand : Keyed) (a : Level) (path : List Level)
@@ -83,7 +96,8 @@ last_step i now hand a path blanks h =
     let d : i.depth - 1 ≡ length path = omega (arith, h.path_steps.0) in
     ap (step_at i.steps) d ∙ h.path_steps.1
 
-pub last_leads : (i : Inside) (now : Zipper) → IsInside i → show i ≡ now → 0 < i.depth → (step : Step) →
+pub last_leads : (i : Inside) (now : Zipper) → IsInside i → show i ≡ now → 0 < i.depth
+    → (step : Step) →
     step_at i.steps (i.depth - 1) ≡ step → 0 < step.link
 last_leads i now f is some step at =
     let t = last_is i now f is some in
@@ -138,19 +152,22 @@ nearest_is i now f is some step key n at link found =
     }
 
 pub no_path : (i : Inside) (now : Zipper) → IsInside i → show i ≡ now → i.depth ≡ 0 → now.path ≡ []
-no_path i now f is none = elim f.path as (λ path. FieldsHold i now f.hand path f.blanks → now.path ≡ []) [
-  | [] ↦ λ h. ap (λ (z : Zipper). z.path) h.shows
-  | a ∷ path ↦ λ h. let e = h.path_steps.0 in absurd (omega arith)
-] (held i now f is)
+no_path i now f is none =
+    elim f.path as (λ path. FieldsHold i now f.hand path f.blanks → now.path ≡ []) [
+      | [] ↦ λ h. ap (λ (z : Zipper). z.path) h.shows
+      | a ∷ path ↦ λ h. let e = h.path_steps.0 in absurd (omega arith)
+    ] (held i now f is)
 
 -- one step up, in a colour
-repainted : (side : Side) (hue red : Bool) (t : ColouredTree) (x : Record) (o : ColouredTree) (hue' : Bool)
+repainted : (side : Side) (hue red : Bool) (t : ColouredTree) (x : Record) (o : ColouredTree)
+    (hue' : Bool)
     (l : ColouredTree) (y : Record) (r : ColouredTree) → sided side hue t x o ≡ branch hue' l y r →
     branch red l y r ≡ sided side red t x o
 repainted Left hue red t x o hue' l y r e = cc
 repainted Right hue red t x o hue' l y r e = cc
 
-pub closes : (i : Inside) (now : Zipper) (step : Step) (key : ℕ) (red : Bool) (n : Node) → IsInside i →
+pub closes : (i : Inside) (now : Zipper) (step : Step) (key : ℕ) (red : Bool) (n : Node)
+    → IsInside i →
     show i ≡ now → 0 < i.depth → step_at i.steps (i.depth - 1) ≡ step → step.link ≡ suc key →
     get i.nodes key ≡ Some n →
     Moved (record i {
@@ -167,13 +184,15 @@ closes i now step key red n f is some at link found =
     let mid : Zipper =
     record { tree = plain (back a f.hand); path = plain_path t.rest; room = i.room } in
     let m = shut (without_step i step.link) mid (back a f.hand) t.rest f.blanks g in
-    let r = rewrites (without_step i step.link) mid key red (record_of n) n m.is m.shows link found in
+    let r =
+    rewrites (without_step i step.link) mid key red (record_of n) n m.is m.shows link found in
     let tree = repainted a.side a.red red (plain f.hand) a.row (plain a.other) n.red r.left
     (record_of n) r.right (sym (plain-joined a.side a.red f.hand a.key a.row a.other) ∙ r.was) in
     record {
       is = r.moved.is;
       shows = r.moved.shows
-          ∙ ap (λ (z : ColouredTree). record { tree = z; path = plain_path t.rest; room = i.room }) tree
+          ∙ ap (λ (z : ColouredTree). record { tree = z; path = plain_path t.rest; room = i.room })
+          tree
           ∙ sym (ap (λ (z : Zipper). closed_zipper red z.tree z.path z.room) t.held.shows);
     }
 

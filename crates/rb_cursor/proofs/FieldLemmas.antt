@@ -1,7 +1,17 @@
 -- What the fields of a cursor hold, and what the calls that go down and up make of it.
-use Rattle.rb_cursor.proofs.Words.{◌≡◌, ℕ, suc, ◌+◌, ◌-◌, ◌<◌, ◌≤◌, Bool, List, [], ◌∷◌, length, Option, Some, None, is_some, count_by, set, refl, sym, ap, subst, ◌∙◌, arith, get_or-set_same, set-get_or, Slab, get, slab_len, ContainsKey, with_value, Record, ColouredTree, tip, Node, Step, Side, Left, Inside, Above, Zipper, sided, child_at, weight, OpensSide, Keyed, nil, Level, link_of, link_to, plain, plain_level, plain_path, sided_node, record_of, IsPath, tree_from, no_step, step_at, IsPlace, AreSteps, IsCursor, path_from}
+use Rattle.rb_cursor.proofs.Words.{◌≡◌, ℕ, suc, ◌+◌, ◌-◌, ◌<◌, ◌≤◌, Bool, List, [], ◌∷◌, length}
+use Rattle.rb_cursor.proofs.Words.{Option, Some, None, is_some, count_by, set, refl, sym, ap, subst}
+use Rattle.rb_cursor.proofs.Words.{◌∙◌, arith, get_or-set_same, set-get_or, Slab, get, slab_len}
+use Rattle.rb_cursor.proofs.Words.{ContainsKey, with_value, Record, ColouredTree, tip, Node, Step}
+use Rattle.rb_cursor.proofs.Words.{Side, Left, Inside, Above, Zipper, sided, child_at, weight}
+use Rattle.rb_cursor.proofs.Words.{OpensSide, Keyed, nil, Level, link_of, link_to, plain}
+use Rattle.rb_cursor.proofs.Words.{plain_level, plain_path, sided_node, record_of, IsPath}
+use Rattle.rb_cursor.proofs.Words.{tree_from, no_step, step_at, IsPlace, AreSteps, IsCursor}
+use Rattle.rb_cursor.proofs.Words.{path_from}
 use Rattle.rb_cursor.specs.Places.{shown}
-use Rattle.rb_cursor.proofs.SideLemmas.{joined_keyed, seen, nothing, parted, linked-joined, read-sided, plain-joined, link-joined, uses-joined, size-joined, weight-sided, child-sided}
+use Rattle.rb_cursor.proofs.SideLemmas.{joined_keyed, seen, nothing, parted, linked-joined}
+use Rattle.rb_cursor.proofs.SideLemmas.{read-sided, plain-joined, link-joined, uses-joined}
+use Rattle.rb_cursor.proofs.SideLemmas.{size-joined, weight-sided, child-sided}
 use Rattle.rb_cursor.proofs.KeyedLemmas.{tree_is, path_is, steps_kept, steps_length, plain_length}
 
 abbrev pub IsInside : Inside → Type 0
@@ -11,7 +21,8 @@ abbrev pub show : Inside → Zipper
 show i = shown i.nodes i.tree i.steps i.depth i.room
 
 -- what the fields hold, with the trees at their keys
-pub record FieldsHold (i : Inside) (now : Zipper) (hand : Keyed) (path : List Level) (blanks : List ℕ) :
+pub record FieldsHold (i : Inside) (now : Zipper) (hand : Keyed) (path : List Level)
+    (blanks : List ℕ) :
     Type 0 where
   pub place : IsPlace i.nodes hand path blanks
   pub tree_link : i.tree ≡ link_of hand
@@ -44,7 +55,8 @@ shown_is i hand path blanks p link steps =
     }) a
     ∙ ap (λ (q : List Above). record { tree = plain hand; path = q; room = i.room }) b
 
-pub held : (i : Inside) (now : Zipper) (f : IsInside i) → show i ≡ now → FieldsHold i now f.hand f.path f.blanks
+pub held : (i : Inside) (now : Zipper) (f : IsInside i) → show i ≡ now
+    → FieldsHold i now f.hand f.path f.blanks
 held i now f is = record {
   place = f.place;
   tree_link = f.tree_link;
@@ -106,9 +118,11 @@ pub room_is : (i : Inside) (now : Zipper) → IsInside i → show i ≡ now → 
 room_is i now f is = sym (ap (λ (z : Zipper). z.room) (held i now f is).shows)
 
 -- no link, no tree
-pub none_there : (i : Inside) (now : Zipper) → IsInside i → show i ≡ now → i.tree ≡ 0 → now.tree ≡ tip
+pub none_there : (i : Inside) (now : Zipper) → IsInside i → show i ≡ now → i.tree ≡ 0
+    → now.tree ≡ tip
 none_there i now f is none =
-    ap (λ (z : Zipper). z.tree) (held i now f is).shows ∙ ap plain (nothing f.hand (sym f.tree_link ∙ none))
+    ap (λ (z : Zipper). z.tree) (held i now f is).shows
+    ∙ ap plain (nothing f.hand (sym f.tree_link ∙ none))
 
 -- going down on a side
 abbrev pub with_step : Inside → Side → ℕ → Inside
@@ -210,7 +224,8 @@ opened i now side key n f is some found room within =
     ∙ ap (λ (b : Bool). sided side b (plain v.near) v.row (plain v.far)) read.0 in
     let heavy = ap weight e ∙ weight-sided side n.red (plain v.near) v.row (plain v.far) in
     let light = ap (λ (z : Zipper). weight z.tree) m.shows in
-    let up : Bool → Above = λ b. record { side = side; red = b; row = v.row; other = plain v.far } in
+    let up : Bool → Above =
+    λ b. record { side = side; red = b; row = v.row; other = plain v.far } in
     record {
       is = m.is;
       opens = record {
@@ -268,7 +283,8 @@ gone_back i now hand a path blanks link h e = record {
 
 -- the node in hand is there
 pub top_present : (i : Inside) (key : ℕ) → IsInside i → i.tree ≡ suc key → ContainsKey i.nodes key
-top_present i key f some = rw (held_on i (show i) Left key f refl some).held.place.hand_linked.0 refl
+top_present i key f some =
+    rw (held_on i (show i) Left key f refl some).held.place.hand_linked.0 refl
 
 -- a value written back is no change
 pub same_value : (s : Slab Node) (key : ℕ) (n : Node) → get s key ≡ Some n →

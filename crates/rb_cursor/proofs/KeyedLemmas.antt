@@ -1,6 +1,14 @@
 -- Trees, paths and chains at keys: what a write of other nodes leaves as it is, and what is read
 -- back.
-use Rattle.rb_cursor.proofs.Words.{◌≡◌, ◌≢◌, ℕ, zero, suc, ◌<◌, ◌≤◌, Bool, List, [], ◌∷◌, length, Option, Some, None, is_some, get_or, set, cond, refl, ap, ◌∙◌, arith, get_or-set_other, Slab, get, ContainsKey, slab_len, with_value, ContainsKey-within, Record, ColouredTree, branch, Node, Step, Side, Left, Right, Above, Keyed, nil, keyed, Level, link_of, plain, plain_level, plain_path, size, path_size, at_key, uses, path_uses, list_uses, sided_node, IsLinked, IsPath, IsChain, tree_below, tree_from, no_step, AreSteps, above_with, node_or, above_at, path_from}
+use Rattle.rb_cursor.proofs.Words.{◌≡◌, ◌≢◌, ℕ, zero, suc, ◌<◌, ◌≤◌, Bool, List, [], ◌∷◌, length}
+use Rattle.rb_cursor.proofs.Words.{Option, Some, None, is_some, get_or, set, cond, refl, ap, ◌∙◌}
+use Rattle.rb_cursor.proofs.Words.{arith, get_or-set_other, Slab, get, ContainsKey, slab_len}
+use Rattle.rb_cursor.proofs.Words.{with_value, ContainsKey-within, Record, ColouredTree, branch}
+use Rattle.rb_cursor.proofs.Words.{Node, Step, Side, Left, Right, Above, Keyed, nil, keyed, Level}
+use Rattle.rb_cursor.proofs.Words.{link_of, plain, plain_level, plain_path, size, path_size, at_key}
+use Rattle.rb_cursor.proofs.Words.{uses, path_uses, list_uses, sided_node, IsLinked, IsPath}
+use Rattle.rb_cursor.proofs.Words.{IsChain, tree_below, tree_from, no_step, AreSteps, above_with}
+use Rattle.rb_cursor.proofs.Words.{node_or, above_at, path_from}
 use Rattle.std.proofs.lemmas.Bool.Decides.{nat_tests}
 use Rattle.std.proofs.lemmas.List.Sums.{sum_by-set}
 

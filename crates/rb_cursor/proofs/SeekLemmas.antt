@@ -1,9 +1,16 @@
 -- Going down by fields alone: what a seek has come to leads to the same place as where it began.
-use Rattle.rb_cursor.proofs.Words.{◌≡◌, ℕ, suc, ◌+◌, ◌<◌, ◌≤◌, false, true, Bool, List, [], ◌∷◌, length, Some, refl, sym, ap, subst, ◌∙◌, arith, length-set, get, Record, Ordering, Less, Equal, Greater, ColouredTree, tip, branch, shape, depth, Node, Step, Side, Left, Right, Inside, Above, past_left, past_right, way_by, apart_lies, plugged_to, place_at, way_at, sided, Zipper, weight, record_of, child_at, side_by, is_fork, meets_on_the_way, Order}
+use Rattle.rb_cursor.proofs.Words.{◌≡◌, ℕ, suc, ◌+◌, ◌<◌, ◌≤◌, false, true, Bool, List, [], ◌∷◌}
+use Rattle.rb_cursor.proofs.Words.{length, Some, refl, sym, ap, subst, ◌∙◌, arith, length-set, get}
+use Rattle.rb_cursor.proofs.Words.{Record, Ordering, Less, Equal, Greater, ColouredTree, tip}
+use Rattle.rb_cursor.proofs.Words.{branch, shape, depth, Node, Step, Side, Left, Right, Inside}
+use Rattle.rb_cursor.proofs.Words.{Above, past_left, past_right, way_by, apart_lies, plugged_to}
+use Rattle.rb_cursor.proofs.Words.{place_at, way_at, sided, Zipper, weight, record_of, child_at}
+use Rattle.rb_cursor.proofs.Words.{side_by, is_fork, meets_on_the_way, Order}
 use Rattle.std.specs.Ordering.{is_eq, is_lt}
 use Rattle.order_laws.specs.declared.items.Item.{Item}
 use Rattle.rb_cursor.proofs.ChangeLemmas.{rewrites}
-use Rattle.rb_cursor.proofs.FieldLemmas.{same_value, written_back, IsInside, show, with_step, depth_is, opened, none_there}
+use Rattle.rb_cursor.proofs.FieldLemmas.{same_value, written_back, IsInside, show, with_step}
+use Rattle.rb_cursor.proofs.FieldLemmas.{depth_is, opened, none_there}
 
 -- the way of what is sought: the place where it ends, and the path up from there
 abbrev pub seen_way : (Record → Ordering) → ColouredTree → List Above → ColouredTree × List Above
@@ -53,7 +60,8 @@ module _ (seen : Record → Ordering) where
 
 module _ {seen : Record → Ordering} {i : Inside} {start : Zipper} (s : SeekState seen i start) where
   -- no node is in hand
-  pub seen_misses : i.tree ≡ 0 → ((show i).tree, (show i).path) ≡ seen_way seen start.tree start.path
+  pub seen_misses : i.tree ≡ 0
+      → ((show i).tree, (show i).path) ≡ seen_way seen start.tree start.path
   seen_misses none =
       sym (ends seen (show i).tree (show i).path (none_there i (show i) s.is refl none)) ∙ s.way
 
@@ -62,7 +70,12 @@ module _ {seen : Record → Ordering} {i : Inside} {start : Zipper} (s : SeekSta
     pub step_fits : i.depth < 64
     step_fits =
         let r = rewrites i (show i) key n.red (record_of n) n s.is refl some found in
-        omega (arith, ap (λ (t : ColouredTree). depth (shape t)) r.was, depth_is i (show i) s.is refl, s.fits)
+        omega (
+          arith,
+          ap (λ (t : ColouredTree). depth (shape t)) r.was,
+          depth_is i (show i) s.is refl,
+          s.fits,
+        )
 
     -- the node that was read stands there again
     pub seen_ends : seen (record_of n) ≡ Equal →
@@ -70,22 +83,31 @@ module _ {seen : Record → Ordering} {i : Inside} {start : Zipper} (s : SeekSta
         ≡ seen_way seen start.tree start.path
     seen_ends same =
         let r = rewrites i (show i) key n.red (record_of n) n s.is refl some found in
-        ap (λ z. ((show (record i { nodes = z })).tree, (show (record i { nodes = z })).path)) (same_value i.nodes key n found)
+        ap (λ z. ((show (record i { nodes = z })).tree, (show (record i { nodes = z })).path))
+        (same_value i.nodes key n found)
         ∙ sym (stays seen (show i).tree (show i).path n.red r.left (record_of n) r.right r.was same)
         ∙ s.way
 
     goes : (side : Side) → seen (record_of n) ≡ towards side →
         Went seen i (with_step i side (child_at side n)) start
     goes side e =
-        let o = opened i (show i) side key n s.is refl some found step_fits (omega (arith, s.long, step_fits)) in
+        let o = opened i (show i) side key n s.is refl some found step_fits
+        (omega (arith, s.long, step_fits)) in
         let t = (show (with_step i side (child_at side n))).tree in
         record {
           sought = record {
             is = o.is;
             way = ap (λ p. seen_way seen t p) o.opens.path
-                ∙ sym (turn seen side n.red t o.opens.other o.opens.row (show i).path (ap seen o.row_is ∙ e))
+                ∙ sym (turn seen side n.red t o.opens.other o.opens.row (show i).path
+                (ap seen o.row_is ∙ e))
                 ∙ ap (λ z. seen_way seen z (show i).path) (sym o.opens.was) ∙ s.way;
-            fits = omega (arith, s.fits, ap (λ z. depth (shape z)) o.opens.was, depth_sided side n.red t o.opens.row o.opens.other, ap (λ p. length p) o.opens.path);
+            fits = omega (
+              arith,
+              s.fits,
+              ap (λ z. depth (shape z)) o.opens.was,
+              depth_sided side n.red t o.opens.row o.opens.other,
+              ap (λ p. length p) o.opens.path,
+            );
             room = o.opens.room ∙ s.room;
             long = length-set i.steps i.depth (record { link = i.tree; side = side }) ∙ s.long;
           };
@@ -93,12 +115,14 @@ module _ {seen : Record → Ordering} {i : Inside} {start : Zipper} (s : SeekSta
         }
 
     -- a step down, where the node was written back and the step was written
-    pub seen_goes : (side : Side) (link : ℕ) (steps : List Step) → is_eq (seen (record_of n)) ≡ false →
+    pub seen_goes : (side : Side) (link : ℕ) (steps : List Step)
+        → is_eq (seen (record_of n)) ≡ false →
         side ≡ side_by (is_lt (seen (record_of n))) → link ≡ child_at side n →
         steps ≡ (with_step i side link).steps →
         Went seen i (record (with_step (written_back i key n) side link) { steps = steps }) start
     seen_goes side link steps other here there written =
-        let same : record (with_step (written_back i key n) side link) { steps = steps } ≡ with_step i side (child_at side n) = cc (same_value i.nodes key n found) in
+        let same : record (with_step (written_back i key n) side link) { steps = steps }
+        ≡ with_step i side (child_at side n) = cc (same_value i.nodes key n found) in
         subst (λ z. Went seen i z start) (sym same)
         (goes side (towards_by (seen (record_of n)) other ∙ ap towards (sym here)))
 

@@ -1,5 +1,8 @@
 -- A tree at keys seen from a side: the subtree there, and the one on the other side.
-use Rattle.rb_cursor.proofs.Words.{◌≡◌, ℕ, suc, ◌+◌, Bool, Some, refl, ap, arith, Slab, get, Record, Side, Left, Right, ColouredTree, tip, opposite, sided, Node, turned, child_at, with_link, weight, Keyed, nil, keyed, link_of, plain, size, at_key, uses, sided_node, record_of, IsLinked}
+use Rattle.rb_cursor.proofs.Words.{◌≡◌, ℕ, suc, ◌+◌, Bool, Some, refl, ap, arith, Slab, get, Record}
+use Rattle.rb_cursor.proofs.Words.{Side, Left, Right, ColouredTree, tip, opposite, sided, Node}
+use Rattle.rb_cursor.proofs.Words.{turned, child_at, with_link, weight, Keyed, nil, keyed, link_of}
+use Rattle.rb_cursor.proofs.Words.{plain, size, at_key, uses, sided_node, record_of, IsLinked}
 
 -- a node with a subtree on this side and another on the other side
 abbrev pub joined_keyed : Side → Bool → Keyed → ℕ → Record → Keyed → Keyed
@@ -56,7 +59,8 @@ pub size-joined : (side : Side) (red : Bool) (t : Keyed) (k : ℕ) (x : Record) 
 size-joined Left red t k x other = refl
 size-joined Right red t k x other = omega arith
 
-pub weight-sided : (side : Side) (red : Bool) (t : ColouredTree) (x : Record) (other : ColouredTree) →
+pub weight-sided : (side : Side) (red : Bool) (t : ColouredTree) (x : Record) (other : ColouredTree)
+    →
     weight (sided side red t x other) ≡ suc (weight t + weight other)
 weight-sided Left red t x other = refl
 weight-sided Right red t x other = omega arith
@@ -108,7 +112,8 @@ pub plain-turned : (side : Side) (hue red child_red node_red : Bool) (a b other 
     (ck nk : ℕ) (x y : Record) →
     turned side child_red node_red
     (plain (joined_keyed (opposite side) red (joined_keyed side hue b ck x a) nk y other))
-    ≡ plain (joined_keyed side child_red (joined_keyed (opposite side) node_red b nk y other) ck x a)
+    ≡ plain
+    (joined_keyed side child_red (joined_keyed (opposite side) node_red b nk y other) ck x a)
 plain-turned Left hue red child_red node_red a b other ck nk x y = refl
 plain-turned Right hue red child_red node_red a b other ck nk x y = refl
 
@@ -119,6 +124,7 @@ pub plain-lone : (side : Side) (red child_red node_red : Bool) (k : ℕ) (y : Re
 plain-lone Left red child_red node_red k y other = refl
 plain-lone Right red child_red node_red k y other = refl
 
-pub tip-turned : (side : Side) (child_red node_red : Bool) → turned side child_red node_red tip ≡ tip
+pub tip-turned : (side : Side) (child_red node_red : Bool)
+    → turned side child_red node_red tip ≡ tip
 tip-turned Left child_red node_red = refl
 tip-turned Right child_red node_red = refl

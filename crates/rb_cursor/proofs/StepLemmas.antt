@@ -1,5 +1,8 @@
 -- Steps up, as the calls of a cursor show them.
-use Rattle.rb_cursor.proofs.Words.{◌≡◌, ℕ, suc, true, false, cond, List, [], ◌∷◌, ◌++◌, refl, sym, ◌∙◌, ap, length, length-append, arith, nat_lt, le-ltb, lt-ltb, ColouredTree, Above, joined, plugged, Nearest, Zipper, IsNearest, closed_to, all_closed, risen_from, risen}
+use Rattle.rb_cursor.proofs.Words.{◌≡◌, ℕ, suc, true, false, cond, List, [], ◌∷◌, ◌++◌, refl, sym}
+use Rattle.rb_cursor.proofs.Words.{◌∙◌, ap, length, length-append, arith, nat_lt, le-ltb, lt-ltb}
+use Rattle.rb_cursor.proofs.Words.{ColouredTree, Above, joined, plugged, Nearest, Zipper, IsNearest}
+use Rattle.rb_cursor.proofs.Words.{closed_to, all_closed, risen_from, risen}
 
 -- the nearest node above, as the path has it
 abbrev pub above_of : {path : List Above} (up : Nearest) → IsNearest path up → Above
@@ -8,36 +11,45 @@ above_of up near = record { side = up.side; red = up.red; row = near.row; other 
 abbrev pub zipper : ColouredTree → List Above → ℕ → Zipper
 zipper t path room = record { tree = t; path = path; room = room }
 
-pub shorter : (here : Zipper) (up : Nearest) (near : IsNearest here.path up) → length here.path ≡ suc (length near.rest)
+pub shorter : (here : Zipper) (up : Nearest) (near : IsNearest here.path up)
+    → length here.path ≡ suc (length near.rest)
 shorter here up near = ap length near.was
 
 -- the jump up past a part of the path
-pub closed_past : (part base : List Above) (t : ColouredTree) (room : ℕ) → closed_to (length base) t (part ++ base) room ≡ zipper (plugged part t) base room
+pub closed_past : (part base : List Above) (t : ColouredTree) (room : ℕ)
+    → closed_to (length base) t (part ++ base) room ≡ zipper (plugged part t) base room
 closed_past [] [] t room = refl
 closed_past [] (b ∷ base) t room =
-    ap (λ v. cond v (zipper t (b ∷ base) room) (closed_to (suc (length base)) (joined b b.red t) base room)) (lt-ltb (length base) (suc (length base)) (omega arith))
+    ap (λ v. cond v (zipper t (b ∷ base) room)
+    (closed_to (suc (length base)) (joined b b.red t) base room))
+    (lt-ltb (length base) (suc (length base)) (omega arith))
 closed_past (a ∷ part) base t room =
-    ap (λ v. cond v (zipper t (a ∷ (part ++ base)) room) (closed_to (length base) (joined a a.red t) (part ++ base) room))
+    ap (λ v. cond v (zipper t (a ∷ (part ++ base)) room)
+    (closed_to (length base) (joined a a.red t) (part ++ base) room))
     (le-ltb (length (part ++ base)) (length base) (omega (arith, length-append part base)))
     ∙ closed_past part base (joined a a.red t) room
 
-pub closed_room : (d : ℕ) (t : ColouredTree) (path : List Above) (room : ℕ) → (closed_to d t path room).room ≡ room
+pub closed_room : (d : ℕ) (t : ColouredTree) (path : List Above) (room : ℕ)
+    → (closed_to d t path room).room ≡ room
 closed_room d t [] room = refl
 closed_room d t (a ∷ path) room =
-    elim (nat_lt (length path) d) as (λ v. (cond v (zipper t (a ∷ path) room) (closed_to d (joined a a.red t) path room)).room ≡ room) [
+    elim (nat_lt (length path) d) as (λ v. (cond v (zipper t (a ∷ path) room)
+    (closed_to d (joined a a.red t) path room)).room ≡ room) [
       | true ↦ refl
       | false ↦ closed_room d (joined a a.red t) path room
     ]
 
 -- the jump of one step
-pub risen_by : (d : ℕ) (t : ColouredTree) (path : List Above) (room : ℕ) → suc d ≡ length path → closed_to d t path room ≡ risen_from t path room
+pub risen_by : (d : ℕ) (t : ColouredTree) (path : List Above) (room : ℕ) → suc d ≡ length path
+    → closed_to d t path room ≡ risen_from t path room
 risen_by d t [] room e = absurd (omega arith)
 risen_by d t (a ∷ path) room e =
     let same : d ≡ length path = omega arith in
     ap (λ k. closed_to k t (a ∷ path) room) same ∙ closed_past (a ∷ []) path t room
 
 -- the node above, when it was gone up to
-pub risen_there : (here : Zipper) (up : Nearest) (near : IsNearest here.path up) → risen here ≡ zipper (joined (above_of up near) up.red here.tree) near.rest here.room
+pub risen_there : (here : Zipper) (up : Nearest) (near : IsNearest here.path up)
+    → risen here ≡ zipper (joined (above_of up near) up.red here.tree) near.rest here.room
 risen_there here up near = ap (λ p. risen_from here.tree p here.room) near.was
 
 -- closed all the way up from a place of the same tree, a cursor is where it was

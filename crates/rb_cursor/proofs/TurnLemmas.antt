@@ -1,8 +1,20 @@
 -- Changes that put another node at the top of the tree in hand: the link of the nearest node above
 -- follows.
-use Rattle.rb_cursor.proofs.Words.{◌≡◌, ◌≢◌, ℕ, suc, ◌+◌, ◌^◌, ◌<◌, ◌≤◌, Bool, List, [], ◌∷◌, length, Some, refl, sym, ap, subst, ◌∙◌, arith, Slab, get, slab_len, with_value, Updates-with_value, Record, ColouredTree, tip, Node, Step, Side, Inside, Zipper, Keyed, nil, Level, link_of, size, path_size, at_key, uses, path_uses, list_uses, sided_node, plain, plain_path, IsLinked, IsPath, IsChain, opposite, turned, child_at, with_link, with_node_link, with_step_link, step_at, LastLeadsOn, with_last_link, IsPlace, AreSteps}
-use Rattle.rb_cursor.proofs.KeyedLemmas.{at_same, linked_kept, chain_kept, linked_beside, path_beside, chain_beside, same_len}
-use Rattle.rb_cursor.proofs.SideLemmas.{joined_keyed, seen, nothing, parted, linked-joined, link-joined, uses-joined, size-joined, child-sided, relinked, coloured-sided, plain-turned, plain-lone, tip-turned}
+use Rattle.rb_cursor.proofs.Words.{◌≡◌, ◌≢◌, ℕ, suc, ◌+◌, ◌^◌, ◌<◌, ◌≤◌, Bool, List, [], ◌∷◌}
+use Rattle.rb_cursor.proofs.Words.{length, Some, refl, sym, ap, subst, ◌∙◌, arith, Slab, get}
+use Rattle.rb_cursor.proofs.Words.{slab_len, with_value, Updates-with_value, Record, ColouredTree}
+use Rattle.rb_cursor.proofs.Words.{tip, Node, Step, Side, Inside, Zipper, Keyed, nil, Level}
+use Rattle.rb_cursor.proofs.Words.{link_of, size, path_size, at_key, uses, path_uses, list_uses}
+use Rattle.rb_cursor.proofs.Words.{sided_node, plain, plain_path, IsLinked, IsPath, IsChain}
+use Rattle.rb_cursor.proofs.Words.{opposite, turned, child_at, with_link, with_node_link}
+use Rattle.rb_cursor.proofs.Words.{with_step_link, step_at, LastLeadsOn, with_last_link, IsPlace}
+use Rattle.rb_cursor.proofs.Words.{AreSteps}
+use Rattle.rb_cursor.proofs.KeyedLemmas.{at_same, linked_kept, chain_kept, linked_beside}
+use Rattle.rb_cursor.proofs.KeyedLemmas.{path_beside, chain_beside, same_len}
+use Rattle.rb_cursor.proofs.SideLemmas.{joined_keyed, seen, nothing, parted, linked-joined}
+use Rattle.rb_cursor.proofs.SideLemmas.{link-joined, uses-joined, size-joined, child-sided}
+use Rattle.rb_cursor.proofs.SideLemmas.{relinked, coloured-sided, plain-turned, plain-lone}
+use Rattle.rb_cursor.proofs.SideLemmas.{tip-turned}
 use Rattle.rb_cursor.proofs.FieldLemmas.{IsInside, show, FieldsHold, Moved, shut, held_on}
 
 -- all but the link that leads to the tree in hand, which leads elsewhere
@@ -61,7 +73,8 @@ leads s u steps depth old new (a ∷ path) is h at most =
 
 -- the link follows
 pub tightened : (s u : Slab Node) (steps : List Step) (depth old new : ℕ) (hand : Keyed)
-    (path : List Level) (blanks : List ℕ) → u ≡ with_last_link s steps depth new → new ≡ link_of hand →
+    (path : List Level) (blanks : List ℕ) → u ≡ with_last_link s steps depth new
+    → new ≡ link_of hand →
     IsLoose s hand old path blanks → AreSteps steps depth path → IsPlace u hand path blanks
 tightened s u steps depth old new hand path blanks is link p a =
     let l = leads s u steps depth old new path is p.path_linked a (λ k. (let all = p.apart k in
@@ -84,12 +97,14 @@ abbrev pub with_turn : Inside → Slab Node → ℕ → Inside
 with_turn i u link = record i { nodes = u; tree = link }
 
 pub leads_on : (i : Inside) → IsInside i → LastLeadsOn i.steps i.depth
-leads_on i f = elim f.path as (λ path. AreSteps i.steps i.depth path → LastLeadsOn i.steps i.depth) [
-  | [] ↦ λ a. subst (LastLeadsOn i.steps) (sym a) tt
-  | l ∷ path ↦ λ a.
-      let some : 0 < (step_at i.steps (length path)).link = omega (arith, ap (λ (z : Step). z.link) a.1) in
-      subst (LastLeadsOn i.steps) (sym a.0) some
-] f.path_steps
+leads_on i f =
+    elim f.path as (λ path. AreSteps i.steps i.depth path → LastLeadsOn i.steps i.depth) [
+      | [] ↦ λ a. subst (LastLeadsOn i.steps) (sym a) tt
+      | l ∷ path ↦ λ a.
+          let some : 0 < (step_at i.steps (length path)).link =
+          omega (arith, ap (λ (z : Step). z.link) a.1) in
+          subst (LastLeadsOn i.steps) (sym a.0) some
+    ] f.path_steps
 
 -- the two nodes as they are written
 abbrev pub below_turned : Inside → Side → Bool → Node → Node
@@ -110,11 +125,13 @@ pub record TurnsTo (i : Inside) (side : Side) (u : Slab Node) (nk ck link : ℕ)
   pub low_is : low ≡ below_turned i side child_red lower
   pub again : get (with_value i.nodes ck low) nk ≡ Some upper
   pub high_is : high ≡ above_turned side node_red lower upper
-  pub leaves : u ≡ with_last_link (with_value (with_value i.nodes ck low) nk high) i.steps i.depth link
+  pub leaves : u
+      ≡ with_last_link (with_value (with_value i.nodes ck low) nk high) i.steps i.depth link
 
 -- what it shows then
 abbrev pub turned_to : Zipper → Side → Bool → Bool → Zipper
-turned_to now side child_red node_red = record now { tree = turned side child_red node_red now.tree }
+turned_to now side child_red node_red =
+    record now { tree = turned side child_red node_red now.tree }
 
 turn_at : (i : Inside) (side : Side) (u : Slab Node) (now : Zipper) (hue red : Bool)
     (a b other : Keyed) (x y : Record) (path : List Level) (blanks : List ℕ) (nk ck link : ℕ)
@@ -209,7 +226,8 @@ turn_at i side u now hue red a b other x y path blanks nk ck link child_red node
     } in
     let nodes : u ≡ with_last_link z i.steps i.depth link =
     t.leaves
-    ∙ ap (λ (m : Node). with_last_link (with_value (with_value s ck m) nk high) i.steps i.depth link) low_new
+    ∙ ap (λ (m : Node).
+    with_last_link (with_value (with_value s ck m) nk high) i.steps i.depth link) low_new
     ∙ ap (λ (m : Node). with_last_link (with_value v nk m) i.steps i.depth link) high_new in
     let leads_to : link ≡ link_of hand = t.some ∙ sym (link-joined side child_red sunk ck x a) in
     shut (with_turn i u link) (turned_to now side child_red node_red) hand path blanks (record {
@@ -247,7 +265,8 @@ turns i side u now nk ck link child_red node_red n lower low upper high f shows 
     let w = seen side ck v.near (down ∙ t.some) in
     turn_at i side u now w.red v.red w.far w.near v.far w.row v.row f.path f.blanks nk ck link
     child_red node_red n lower low upper high t
-    (subst (λ (q : Keyed). FieldsHold i now (joined_keyed beyond v.red q nk v.row v.far) f.path f.blanks)
+    (subst (λ (q : Keyed).
+    FieldsHold i now (joined_keyed beyond v.red q nk v.row v.far) f.path f.blanks)
     w.is v.held)
 
 -- where there is no child to be turned up, nothing is done

@@ -1,26 +1,40 @@
 -- A filled node: its records, its colours and black height, where its stores lead, and how many.
-use Rattle.rb_trees.proofs.Words.{◌≡◌, ℕ, zero, suc, ◌<◌, ◌≤◌, true, false, cond, List, [], ◌∷◌, ◌++◌, length, length-append, refl, sym, ◌∙◌, ap, subst, inl, inr, arith, append_assoc, not, Store, fork, Record, Side, Left, Right, ColouredTree, tip, branch, is_red, blackened, shape, rows, opposite, on, sided, link, relink, turned, turn_links, turn_links_over, Remainder, whole, lowered, filled_over_black, fill_links_over_black, filled_over, filled, fill_links_over, fill_links, Among, IsSeparate, Relinks, Sound, Fits, Bool}
+use Rattle.rb_trees.proofs.Words.{◌≡◌, ℕ, zero, suc, ◌<◌, ◌≤◌, true, false, cond, List, [], ◌∷◌}
+use Rattle.rb_trees.proofs.Words.{◌++◌, length, length-append, refl, sym, ◌∙◌, ap, subst, inl, inr}
+use Rattle.rb_trees.proofs.Words.{arith, append_assoc, not, Store, fork, Record, Side, Left, Right}
+use Rattle.rb_trees.proofs.Words.{ColouredTree, tip, branch, is_red, blackened, shape, rows}
+use Rattle.rb_trees.proofs.Words.{opposite, on, sided, link, relink, turned, turn_links}
+use Rattle.rb_trees.proofs.Words.{turn_links_over, Remainder, whole, lowered, filled_over_black}
+use Rattle.rb_trees.proofs.Words.{fill_links_over_black, filled_over, filled, fill_links_over}
+use Rattle.rb_trees.proofs.Words.{fill_links, Among, IsSeparate, Relinks, Sound, Fits, Bool}
 use Rattle.rb_trees.proofs.SideLemmas.{red_sided, link_sided}
-use Rattle.rb_trees.proofs.TurnLemmas.{rows_blackened, rows_sided, rows_turned, turned_sided, turned_back, turn_two, moved_one, relink_moved}
-use Rattle.rb_trees.proofs.ColourLemmas.{over, near_of_calm, black_blackened, sound_blackened, sound_black, sound_red, sound_over}
-use Rattle.rb_trees.proofs.RelinkLemmas.{same, then, in_sided, in_far, turn_relinks, shape_blackened}
+use Rattle.rb_trees.proofs.TurnLemmas.{rows_blackened, rows_sided, rows_turned, turned_sided}
+use Rattle.rb_trees.proofs.TurnLemmas.{turned_back, turn_two, moved_one, relink_moved}
+use Rattle.rb_trees.proofs.ColourLemmas.{over, near_of_calm, black_blackened, sound_blackened}
+use Rattle.rb_trees.proofs.ColourLemmas.{sound_black, sound_red, sound_over}
+use Rattle.rb_trees.proofs.RelinkLemmas.{same, then, in_sided, in_far, turn_relinks}
+use Rattle.rb_trees.proofs.RelinkLemmas.{shape_blackened}
 
 -- what is filled of a node with these trees
-pub filled_sided : (s : Side) (red : Bool) (near : ColouredTree) (y : Record) (far : ColouredTree) → filled s (sided s red near y far) ≡ filled_over s red near y far
+pub filled_sided : (s : Side) (red : Bool) (near : ColouredTree) (y : Record) (far : ColouredTree)
+    → filled s (sided s red near y far) ≡ filled_over s red near y far
 filled_sided Left red near y far = refl
 filled_sided Right red near y far = refl
 
-pub fill_links_sided : (s : Side) (c : ℕ) (red : Bool) (near : ColouredTree) (y : Record) (far : ColouredTree) → fill_links s c (sided s red near y far) ≡ fill_links_over s c near y far
+pub fill_links_sided : (s : Side) (c : ℕ) (red : Bool) (near : ColouredTree) (y : Record)
+    (far : ColouredTree) → fill_links s c (sided s red near y far) ≡ fill_links_over s c near y far
 fill_links_sided Left c red near y far = refl
 fill_links_sided Right c red near y far = refl
 
 -- a node whose other child has these two trees
-module _ (s : Side) (red : Bool) (near : ColouredTree) (y : Record) (k : Bool) (inner : ColouredTree) (x : Record) (outer : ColouredTree) where
+module _ (s : Side) (red : Bool) (near : ColouredTree) (y : Record) (k : Bool)
+    (inner : ColouredTree) (x : Record) (outer : ColouredTree) where
   abbrev outer_filled : Remainder
   outer_filled = whole (sided s red (sided s false near y inner) x (blackened outer))
 
   abbrev inner_filled : Remainder
-  inner_filled = whole (turned s red false (sided s red near y (turned (opposite s) false false (sided s k inner x outer))))
+  inner_filled = whole (turned s red false
+      (sided s red near y (turned (opposite s) false false (sided s k inner x outer))))
 
   abbrev none_filled : Remainder
   none_filled = record { tree = sided s false near y (sided s true inner x outer); short = not red }
@@ -33,150 +47,205 @@ module _ (s : Side) (red : Bool) (near : ColouredTree) (y : Record) (k : Bool) (
   turned_rows =
       let far = sided s k inner x outer in
       rows_turned s red false (sided s red near y (turned (opposite s) false false far))
-      ∙ rows_sided s red red near near y (turned (opposite s) false false far) far refl (rows_turned (opposite s) false false far)
+      ∙ rows_sided s red red near near y (turned (opposite s) false false far) far refl
+      (rows_turned (opposite s) false false far)
 
   outer_rows : rows outer_filled.tree ≡ rows (sided s red near y (sided s k inner x outer))
   outer_rows =
-      rows_sided s red red (sided s false near y inner) (sided s false near y inner) x (blackened outer) outer refl (rows_blackened outer)
+      rows_sided s red red (sided s false near y inner) (sided s false near y inner) x
+      (blackened outer) outer refl (rows_blackened outer)
       ∙ ap rows (sym (turned_sided s red false k red near y inner x outer))
       ∙ rows_turned s red false (sided s red near y (sided s k inner x outer))
 
   pub by_rows : rows filled_by.tree ≡ rows (sided s red near y (sided s k inner x outer))
   by_rows =
       let far = sided s k inner x outer in
-      elim (is_red outer) as (λ v. rows (cond v outer_filled (cond (is_red inner) inner_filled none_filled)).tree ≡ rows (sided s red near y far)) [
+      elim (is_red outer) as (λ v. rows (cond v outer_filled
+      (cond (is_red inner) inner_filled none_filled)).tree ≡ rows (sided s red near y far)) [
         | true ↦ outer_rows
         | false ↦
-            elim (is_red inner) as (λ v. rows (cond v inner_filled none_filled).tree ≡ rows (sided s red near y far)) [
+            elim (is_red inner) as (λ v.
+            rows (cond v inner_filled none_filled).tree ≡ rows (sided s red near y far)) [
               | true ↦ turned_rows
-              | false ↦ rows_sided s false red near near y (sided s true inner x outer) far refl (rows_sided s true k inner inner x outer outer refl refl)
+              | false ↦ rows_sided s false red near near y (sided s true inner x outer) far refl
+                  (rows_sided s true k inner inner x outer outer refl refl)
             ]
       ]
 
-pub rows_filled_black : (s : Side) (red : Bool) (near : ColouredTree) (y : Record) (far : ColouredTree) → rows (filled_over_black s red near y far).tree ≡ rows (sided s red near y far)
+pub rows_filled_black : (s : Side) (red : Bool) (near : ColouredTree) (y : Record)
+    (far : ColouredTree)
+    → rows (filled_over_black s red near y far).tree ≡ rows (sided s red near y far)
 rows_filled_black s red near y tip = refl
 rows_filled_black Left red near y (branch k a x b) = by_rows Left red near y k a x b
 rows_filled_black Right red near y (branch k a x b) = by_rows Right red near y k b x a
 
-pub rows_filled : (s : Side) (red : Bool) (near : ColouredTree) (y : Record) (far : ColouredTree) → rows (filled_over s red near y far).tree ≡ rows (sided s red near y far)
+pub rows_filled : (s : Side) (red : Bool) (near : ColouredTree) (y : Record) (far : ColouredTree)
+    → rows (filled_over s red near y far).tree ≡ rows (sided s red near y far)
 rows_filled s red near y tip = refl
 rows_filled s red near y (branch false a x b) = rows_filled_black s red near y (branch false a x b)
-rows_filled Left red near y (branch true a x b) = ap (λ zs. zs ++ x ∷ rows b) (rows_filled_black Left true near y a) ∙ append_assoc (rows near) (y ∷ rows a) (x ∷ rows b)
-rows_filled Right red near y (branch true a x b) = ap (λ zs. rows a ++ x ∷ zs) (rows_filled_black Right true near y b) ∙ sym (append_assoc (rows a) (x ∷ rows b) (y ∷ rows near))
+rows_filled Left red near y (branch true a x b) =
+    ap (λ zs. zs ++ x ∷ rows b) (rows_filled_black Left true near y a)
+    ∙ append_assoc (rows near) (y ∷ rows a) (x ∷ rows b)
+rows_filled Right red near y (branch true a x b) =
+    ap (λ zs. rows a ++ x ∷ zs) (rows_filled_black Right true near y b)
+    ∙ sym (append_assoc (rows a) (x ∷ rows b) (y ∷ rows near))
 
 pub rows_lowered : (red : Bool) (t : ColouredTree) → rows (lowered red t).tree ≡ rows t
 rows_lowered true t = refl
 rows_lowered false tip = refl
 rows_lowered false (branch k l x r) = refl
 
-pub lowered_fits : (red : Bool) (t : ColouredTree) → Sound t 0 → (red ≡ true → is_red t ≡ false) → Fits red (over red 0) (lowered red t).tree (lowered red t).short
+pub lowered_fits : (red : Bool) (t : ColouredTree) → Sound t 0 → (red ≡ true → is_red t ≡ false)
+    → Fits red (over red 0) (lowered red t).tree (lowered red t).short
 lowered_fits true t is b = (is, λ e. absurd (cc))
 lowered_fits false tip is b = (is, refl, refl)
-lowered_fits false (branch true l x r) is b = (record { calm = (is.calm.2, is.calm.3); high = is.high }, λ e. refl)
+lowered_fits false (branch true l x r) is b =
+    (record { calm = (is.calm.2, is.calm.3); high = is.high }, λ e. refl)
 lowered_fits false (branch false l x r) is b = absurd is.high
 
-module _ (s : Side) (red : Bool) (near : ColouredTree) (y : Record) (inner : ColouredTree) (x : Record) (outer : ColouredTree) (h : ℕ)
+module _ (s : Side) (red : Bool) (near : ColouredTree) (y : Record) (inner : ColouredTree)
+    (x : Record) (outer : ColouredTree) (h : ℕ)
     (n : Sound near h) (i : Sound inner h) (o : Sound outer h) where
-  outer_fits : is_red outer ≡ true → Fits red (over red (suc h)) (sided s red (sided s false near y inner) x (blackened outer)) false
+  outer_fits : is_red outer ≡ true → Fits red (over red (suc h))
+      (sided s red (sided s false near y inner) x (blackened outer)) false
   outer_fits ro = (
-    sound_over s red (sided s false near y inner) x (blackened outer) (suc h) (λ e. red_sided s false near y inner) (λ e. black_blackened outer)
-        (sound_black s near y inner h n i) (sound_blackened outer h ro (near_of_calm outer o.calm) o.high),
+    sound_over s red (sided s false near y inner) x (blackened outer) (suc h)
+        (λ e. red_sided s false near y inner) (λ e. black_blackened outer)
+        (sound_black s near y inner h n i)
+        (sound_blackened outer h ro (near_of_calm outer o.calm) o.high),
     λ e. red_sided s red (sided s false near y inner) x (blackened outer) ∙ e,
   )
 
-  none_fits : (red : Bool) → is_red inner ≡ false → is_red outer ≡ false → Fits red (over red (suc h)) (sided s false near y (sided s true inner x outer)) (not red)
-  none_fits true ri ro = (sound_black s near y (sided s true inner x outer) h n (sound_red s inner x outer h ri ro i o), λ e. absurd (cc))
-  none_fits false ri ro =
-      (sound_black s near y (sided s true inner x outer) h n (sound_red s inner x outer h ri ro i o), refl, red_sided s false near y (sided s true inner x outer))
+  none_fits : (red : Bool) → is_red inner ≡ false → is_red outer ≡ false
+      → Fits red (over red (suc h)) (sided s false near y (sided s true inner x outer)) (not red)
+  none_fits true ri ro = (
+    sound_black s near y (sided s true inner x outer) h n (sound_red s inner x outer h ri ro i o),
+    λ e. absurd (cc),
+  )
+  none_fits false ri ro = (
+    sound_black s near y (sided s true inner x outer) h n (sound_red s inner x outer h ri ro i o),
+    refl,
+    red_sided s false near y (sided s true inner x outer),
+  )
 
-middle_fits : (s : Side) (red : Bool) (near : ColouredTree) (y : Record) (a : ColouredTree) (z : Record) (b : ColouredTree) (x : Record) (outer : ColouredTree) (h : ℕ)
+middle_fits : (s : Side) (red : Bool) (near : ColouredTree) (y : Record) (a : ColouredTree)
+    (z : Record) (b : ColouredTree) (x : Record) (outer : ColouredTree) (h : ℕ)
     → Sound near h → Sound a h → Sound b h → Sound outer h
-    → Fits red (over red (suc h)) (turned s red false (sided s red near y (turned (opposite s) false false (sided s false (sided s true a z b) x outer)))) false
+    → Fits red (over red (suc h)) (turned s red false (sided s red near y
+    (turned (opposite s) false false (sided s false (sided s true a z b) x outer)))) false
 middle_fits s red near y a z b x outer h n sa sb o =
     subst (λ t. Fits red (over red (suc h)) t false)
-    (sym (ap (λ t. turned s red false (sided s red near y t)) (turned_back s false false true false a z b x outer) ∙ turned_sided s red false false red near y a z (sided s false b x outer))) (
-      sound_over s red (sided s false near y a) z (sided s false b x outer) (suc h) (λ e. red_sided s false near y a) (λ e. red_sided s false b x outer)
+    (sym (ap (λ t. turned s red false (sided s red near y t)) (turned_back s false false true false
+    a z b x outer) ∙ turned_sided s red false false red near y a z (sided s false b x outer))) (
+      sound_over s red (sided s false near y a) z (sided s false b x outer) (suc h)
+          (λ e. red_sided s false near y a) (λ e. red_sided s false b x outer)
           (sound_black s near y a h n sa) (sound_black s b x outer h sb o),
       λ e. red_sided s red (sided s false near y a) z (sided s false b x outer) ∙ e,
     )
 
-inner_fits : (s : Side) (red : Bool) (near : ColouredTree) (y : Record) (inner : ColouredTree) (x : Record) (outer : ColouredTree) (h : ℕ)
+inner_fits : (s : Side) (red : Bool) (near : ColouredTree) (y : Record) (inner : ColouredTree)
+    (x : Record) (outer : ColouredTree) (h : ℕ)
     → Sound near h → is_red inner ≡ true → Sound inner h → Sound outer h
-    → Fits red (over red (suc h)) (turned s red false (sided s red near y (turned (opposite s) false false (sided s false inner x outer)))) false
+    → Fits red (over red (suc h)) (turned s red false
+    (sided s red near y (turned (opposite s) false false (sided s false inner x outer)))) false
 inner_fits s red near y tip x outer h n ri i o = absurd (cc)
 inner_fits s red near y (branch false a z b) x outer h n ri i o = absurd (cc)
 inner_fits Left red near y (branch true a z b) x outer h n ri i o =
-    middle_fits Left red near y a z b x outer h n (record { calm = i.calm.2; high = i.high.0 }) (record { calm = i.calm.3; high = i.high.1 }) o
+    middle_fits Left red near y a z b x outer h n (record { calm = i.calm.2; high = i.high.0 })
+    (record { calm = i.calm.3; high = i.high.1 }) o
 inner_fits Right red near y (branch true a z b) x outer h n ri i o =
-    middle_fits Right red near y b z a x outer h n (record { calm = i.calm.3; high = i.high.1 }) (record { calm = i.calm.2; high = i.high.0 }) o
+    middle_fits Right red near y b z a x outer h n (record { calm = i.calm.3; high = i.high.1 })
+    (record { calm = i.calm.2; high = i.high.0 }) o
 
-by_fits : (s : Side) (red : Bool) (near : ColouredTree) (y : Record) (inner : ColouredTree) (x : Record) (outer : ColouredTree) (h : ℕ)
-    → Sound near h → Sound inner h → Sound outer h → Fits red (over red (suc h)) (filled_by s red near y false inner x outer).tree (filled_by s red near y false inner x outer).short
+by_fits : (s : Side) (red : Bool) (near : ColouredTree) (y : Record) (inner : ColouredTree)
+    (x : Record) (outer : ColouredTree) (h : ℕ)
+    → Sound near h → Sound inner h → Sound outer h
+    → Fits red (over red (suc h)) (filled_by s red near y false inner x outer).tree
+    (filled_by s red near y false inner x outer).short
 by_fits s red near y inner x outer h n i o =
     let one = outer_filled s red near y false inner x outer in
     let two = inner_filled s red near y false inner x outer in
     let three = none_filled s red near y false inner x outer in
-    elim (is_red outer) as (λ v. is_red outer ≡ v → Fits red (over red (suc h)) (cond v one (cond (is_red inner) two three)).tree (cond v one (cond (is_red inner) two three)).short) [
+    elim (is_red outer) as (λ v. is_red outer ≡ v → Fits red (over red (suc h)) (cond v one
+    (cond (is_red inner) two three)).tree (cond v one (cond (is_red inner) two three)).short) [
       | true ↦ λ ro. outer_fits s red near y inner x outer h n i o ro
       | false ↦ λ ro.
-          elim (is_red inner) as (λ v. is_red inner ≡ v → Fits red (over red (suc h)) (cond v two three).tree (cond v two three).short) [
+          elim (is_red inner) as (λ v. is_red inner ≡ v
+          → Fits red (over red (suc h)) (cond v two three).tree (cond v two three).short) [
             | true ↦ λ ri. inner_fits s red near y inner x outer h n ri i o
             | false ↦ λ ri. none_fits s red near y inner x outer h n i o red ri ro
           ] refl
     ] refl
 
-fill_black_fits : (s : Side) (red : Bool) (near : ColouredTree) (y : Record) (far : ColouredTree) (h : ℕ) → Sound near h → Sound far (suc h) → is_red far ≡ false
-    → Fits red (over red (suc h)) (filled_over_black s red near y far).tree (filled_over_black s red near y far).short
+fill_black_fits : (s : Side) (red : Bool) (near : ColouredTree) (y : Record) (far : ColouredTree)
+    (h : ℕ) → Sound near h → Sound far (suc h) → is_red far ≡ false
+    → Fits red (over red (suc h)) (filled_over_black s red near y far).tree
+    (filled_over_black s red near y far).short
 fill_black_fits s red near y tip h n f b = absurd (let z = f.high in omega arith)
 fill_black_fits s red near y (branch true l x r) h n f b = absurd (cc)
 fill_black_fits Left red near y (branch false a x b) h n f e =
-    by_fits Left red near y a x b h n (record { calm = f.calm.0; high = f.high.0 }) (record { calm = f.calm.1; high = f.high.1 })
+    by_fits Left red near y a x b h n (record { calm = f.calm.0; high = f.high.0 })
+    (record { calm = f.calm.1; high = f.high.1 })
 fill_black_fits Right red near y (branch false a x b) h n f e =
-    by_fits Right red near y b x a h n (record { calm = f.calm.1; high = f.high.1 }) (record { calm = f.calm.0; high = f.high.0 })
+    by_fits Right red near y b x a h n (record { calm = f.calm.1; high = f.high.1 })
+    (record { calm = f.calm.0; high = f.high.0 })
 
 -- a red node's place takes nothing short
 sound_of_red : (h : ℕ) (s : Remainder) → Fits true h s.tree s.short → Sound s.tree h
-sound_of_red h s = elim s.short as (λ v. Fits true h s.tree v → Sound s.tree h) [ true ↦ λ f. not_short h s.tree f | false ↦ λ f. f.0 ]
+sound_of_red h s = elim s.short as (λ v. Fits true h s.tree v
+    → Sound s.tree h) [ true ↦ λ f. not_short h s.tree f | false ↦ λ f. f.0 ]
   where
     not_short : (h : ℕ) (t : ColouredTree) → Fits true h t true → Sound t h
     not_short zero t f = absurd f
     not_short (suc h) t f = let e : true ≡ false = f.1 in absurd (cc)
 
-pub fill_fits : (s : Side) (red : Bool) (near : ColouredTree) (y : Record) (far : ColouredTree) (h : ℕ) → Sound near h → Sound far (suc h) → (red ≡ true → is_red far ≡ false)
-    → Fits red (over red (suc h)) (filled_over s red near y far).tree (filled_over s red near y far).short
+pub fill_fits : (s : Side) (red : Bool) (near : ColouredTree) (y : Record) (far : ColouredTree)
+    (h : ℕ) → Sound near h → Sound far (suc h) → (red ≡ true → is_red far ≡ false)
+    → Fits red (over red (suc h)) (filled_over s red near y far).tree
+    (filled_over s red near y far).short
 fill_fits s red near y tip h n f b = absurd (let z = f.high in omega arith)
-fill_fits s red near y (branch false l x r) h n f b = fill_black_fits s red near y (branch false l x r) h n f refl
+fill_fits s red near y (branch false l x r) h n f b =
+    fill_black_fits s red near y (branch false l x r) h n f refl
 fill_fits s true near y (branch true l x r) h n f b = absurd (let e = b refl in cc)
 fill_fits Left false near y (branch true a x b) h n f e =
     let s = filled_over_black Left true near y a in
-    let i = sound_of_red (suc h) s (fill_black_fits Left true near y a h n (record { calm = f.calm.2; high = f.high.0 }) f.calm.0) in
+    let i = sound_of_red (suc h) s (fill_black_fits Left true near y a h n
+    (record { calm = f.calm.2; high = f.high.0 }) f.calm.0) in
     (sound_black Left s.tree x b (suc h) i (record { calm = f.calm.3; high = f.high.1 }), λ z. refl)
 fill_fits Right false near y (branch true a x b) h n f e =
     let s = filled_over_black Right true near y b in
-    let i = sound_of_red (suc h) s (fill_black_fits Right true near y b h n (record { calm = f.calm.3; high = f.high.1 }) f.calm.1) in
-    (sound_black Right s.tree x a (suc h) i (record { calm = f.calm.2; high = f.high.0 }), λ z. refl)
+    let i = sound_of_red (suc h) s (fill_black_fits Right true near y b h n
+    (record { calm = f.calm.3; high = f.high.1 }) f.calm.1) in (
+      sound_black Right s.tree x a (suc h) i (record { calm = f.calm.2; high = f.high.0 }),
+      λ z. refl,
+    )
 
 -- how many stores there are: none where the whole stays short, and its link is as it was
 pub record Filling (y : Record) (most : ℕ) (s : Remainder) (links : List Store) : Type 0 where
   pub few : length links ≤ most
   pub none : s.short ≡ true → (length links ≡ 0) × (link (shape s.tree) ≡ suc y.node)
 
-whole_filling : (y : Record) (most : ℕ) (t : ColouredTree) (links : List Store) → length links ≤ most → Filling y most (whole t) links
+whole_filling : (y : Record) (most : ℕ) (t : ColouredTree) (links : List Store)
+    → length links ≤ most → Filling y most (whole t) links
 whole_filling y most t links h = record { few = h; none = λ e. absurd (cc) }
 
 module _ (c : ℕ) (s : Side) (red : Bool) (near : ColouredTree) (y : Record) where
-  black_filling : (far : ColouredTree) → Filling y 5 (filled_over_black s red near y far) (fill_links_over_black s c y far)
+  black_filling : (far : ColouredTree)
+      → Filling y 5 (filled_over_black s red near y far) (fill_links_over_black s c y far)
   black_filling tip = whole_filling y 5 (sided s red near y tip) [] (omega arith)
   black_filling (branch k l x r) =
       let far = branch k l x r in
       let u = turned (opposite s) false false far in
       let rs = relink (opposite s) c y.node (suc x.node) (link (shape u)) in
-      let one = whole (sided s red (sided s false near y (on s l r)) x (blackened (on (opposite s) l r))) in
+      let one = whole
+      (sided s red (sided s false near y (on s l r)) x (blackened (on (opposite s) l r))) in
       let two = whole (turned s red false (sided s red near y u)) in
-      let three : Remainder = record { tree = sided s false near y (branch true l x r); short = not red } in
+      let three : Remainder =
+      record { tree = sided s false near y (branch true l x r); short = not red } in
       let ss = turn_links_over s c y far in
       let ts = (turn_links (opposite s) c far ++ rs) ++ turn_links_over s c y u in
-      elim (is_red (on (opposite s) l r)) as (λ v. Filling y 5 (cond v one (cond (is_red (on s l r)) two three)) (cond v ss (cond (is_red (on s l r)) ts []))) [
+      elim (is_red (on (opposite s) l r)) as (λ v. Filling y 5 (cond v one
+      (cond (is_red (on s l r)) two three)) (cond v ss (cond (is_red (on s l r)) ts []))) [
         | true ↦ whole_filling y 5 one.tree ss (omega (arith, over_two s far))
         | false ↦
             elim (is_red (on s l r)) as (λ v. Filling y 5 (cond v two three) (cond v ts [])) [
@@ -189,7 +258,10 @@ module _ (c : ℕ) (s : Side) (red : Bool) (near : ColouredTree) (y : Record) wh
                 relink_moved (opposite s) c y.node (suc x.node) (link (shape u)),
                 moved_one (suc x.node) (link (shape u)),
               ))
-              | false ↦ record { few = omega arith; none = λ e. (refl, link_sided s false near y (branch true l x r)) }
+              | false ↦ record {
+                few = omega arith;
+                none = λ e. (refl, link_sided s false near y (branch true l x r));
+              }
             ]
       ]
     where
@@ -197,9 +269,13 @@ module _ (c : ℕ) (s : Side) (red : Bool) (near : ColouredTree) (y : Record) wh
       over_two s tip = omega arith
       over_two s (branch k l x r) = omega arith
 
-pub filling : (c : ℕ) (s : Side) (red : Bool) (near : ColouredTree) (y : Record) (far : ColouredTree) → Filling y 8 (filled_over s red near y far) (fill_links_over s c near y far)
+pub filling : (c : ℕ) (s : Side) (red : Bool) (near : ColouredTree) (y : Record)
+    (far : ColouredTree)
+    → Filling y 8 (filled_over s red near y far) (fill_links_over s c near y far)
 filling c s red near y tip = whole_filling y 8 (sided s red near y tip) [] (omega arith)
-filling c s red near y (branch false l x r) = let f = black_filling c s red near y (branch false l x r) in record { few = omega (arith, f.few); none = f.none }
+filling c s red near y (branch false l x r) = let f =
+    black_filling c s red near y (branch false l x r) in
+    record { few = omega (arith, f.few); none = f.none }
 filling c s red near y (branch true l x r) =
     let u = (filled_over_black s true near y (on s l r)).tree in
     let ss = fill_links_over_black s c y (on s l r) in
@@ -207,37 +283,66 @@ filling c s red near y (branch true l x r) =
     let f = black_filling c s true near y (on s l r) in
     let ts = turn_links_over s c y (branch true l x r) in
     whole_filling y 8 (sided s false u x (on (opposite s) l r)) (ts ++ (ss ++ rs))
-    (omega (arith, length-append ts (ss ++ rs), length-append ss rs, f.few, relink_moved s c x.node (suc y.node) (link (shape u)), moved_one (suc y.node) (link (shape u))))
+    (omega (
+      arith,
+      length-append ts (ss ++ rs),
+      length-append ss rs,
+      f.few,
+      relink_moved s c x.node (suc y.node) (link (shape u)),
+      moved_one (suc y.node) (link (shape u)),
+    ))
 
 -- its stores lead to it
 module _ (n c : ℕ) (small : c ≤ 1) where
   module _ (P : ℕ → Type 0) (below : (i : ℕ) → P i → i < n) where
-    outer_relinks : (s : Side) (red k : Bool) (near : ColouredTree) (y : Record) (inner : ColouredTree) (x : Record) (outer : ColouredTree)
-        → ((i : ℕ) → Among (shape (sided s red near y (sided s k inner x outer))) i → P i) → IsSeparate (shape (sided s red near y (sided s k inner x outer)))
-        → Relinks n c P (shape (sided s red near y (sided s k inner x outer))) (shape (sided s red (sided s false near y inner) x (blackened outer))) (turn_links s c (sided s red near y (sided s k inner x outer)))
+    outer_relinks : (s : Side) (red k : Bool) (near : ColouredTree) (y : Record)
+        (inner : ColouredTree) (x : Record) (outer : ColouredTree)
+        → ((i : ℕ) → Among (shape (sided s red near y (sided s k inner x outer))) i → P i)
+        → IsSeparate (shape (sided s red near y (sided s k inner x outer)))
+        → Relinks n c P (shape (sided s red near y (sided s k inner x outer)))
+        (shape (sided s red (sided s false near y inner) x (blackened outer)))
+        (turn_links s c (sided s red near y (sided s k inner x outer)))
     outer_relinks Left red k near y inner x outer within sep =
         let t = branch red near y (branch k inner x outer) in
-        subst (λ v. Relinks n c P (shape t) (fork (fork (shape near) y.node (shape inner)) x.node v) (turn_links Left c t)) (sym (shape_blackened outer)) (turn_relinks n c small P below Left red false t within sep)
+        subst (λ v. Relinks n c P (shape t) (fork (fork (shape near) y.node (shape inner)) x.node v)
+        (turn_links Left c t)) (sym (shape_blackened outer))
+        (turn_relinks n c small P below Left red false t within sep)
     outer_relinks Right red k near y inner x outer within sep =
         let t = branch red (branch k outer x inner) y near in
-        subst (λ v. Relinks n c P (shape t) (fork v x.node (fork (shape inner) y.node (shape near))) (turn_links Right c t)) (sym (shape_blackened outer)) (turn_relinks n c small P below Right red false t within sep)
+        subst (λ v. Relinks n c P (shape t) (fork v x.node (fork (shape inner) y.node (shape near)))
+        (turn_links Right c t)) (sym (shape_blackened outer))
+        (turn_relinks n c small P below Right red false t within sep)
 
-    inner_relinks : (s : Side) (red : Bool) (near : ColouredTree) (y : Record) (far : ColouredTree) → ((i : ℕ) → Among (shape (sided s red near y far)) i → P i) → IsSeparate (shape (sided s red near y far))
-        → Relinks n c P (shape (sided s red near y far)) (shape (turned s red false (sided s red near y (turned (opposite s) false false far))))
-        ((turn_links (opposite s) c far ++ relink (opposite s) c y.node (link (shape far)) (link (shape (turned (opposite s) false false far)))) ++ turn_links s c (sided s red near y (turned (opposite s) false false far)))
+    inner_relinks : (s : Side) (red : Bool) (near : ColouredTree) (y : Record) (far : ColouredTree)
+        → ((i : ℕ) → Among (shape (sided s red near y far)) i → P i)
+        → IsSeparate (shape (sided s red near y far))
+        → Relinks n c P (shape (sided s red near y far))
+        (shape (turned s red false (sided s red near y (turned (opposite s) false false far))))
+        ((turn_links (opposite s) c far ++ relink (opposite s) c y.node (link (shape far))
+        (link (shape (turned (opposite s) false false far))))
+        ++ turn_links s c (sided s red near y (turned (opposite s) false false far)))
     inner_relinks s red near y far within sep =
         let u = turned (opposite s) false false far in
-        let q = in_far n c small P below s red red near y far within sep u (turn_links (opposite s) c far) (λ w p. turn_relinks n c small (Among (shape far)) (λ i h. below i (w i h)) (opposite s) false false far (λ i h. h) p) in
-        then n c small P (shape (sided s red near y far)) (shape (sided s red near y u)) (shape (turned s red false (sided s red near y u))) (turn_links (opposite s) c far ++ relink (opposite s) c y.node (link (shape far)) (link (shape u))) (turn_links s c (sided s red near y u)) q
+        let q = in_far n c small P below s red red near y far within sep u
+        (turn_links (opposite s) c far) (λ w p. turn_relinks n c small (Among (shape far))
+        (λ i h. below i (w i h)) (opposite s) false false far (λ i h. h) p) in
+        then n c small P (shape (sided s red near y far)) (shape (sided s red near y u))
+        (shape (turned s red false (sided s red near y u))) (turn_links (opposite s) c far
+        ++ relink (opposite s) c y.node (link (shape far)) (link (shape u)))
+        (turn_links s c (sided s red near y u)) q
         (turn_relinks n c small P below s red false (sided s red near y u) q.within q.separate)
 
-    by_relinks : (s : Side) (red k : Bool) (near : ColouredTree) (y : Record) (inner : ColouredTree) (x : Record) (outer : ColouredTree)
-        → ((i : ℕ) → Among (shape (sided s red near y (sided s k inner x outer))) i → P i) → IsSeparate (shape (sided s red near y (sided s k inner x outer)))
-        → Relinks n c P (shape (sided s red near y (sided s k inner x outer))) (shape (filled_by s red near y k inner x outer).tree)
+    by_relinks : (s : Side) (red k : Bool) (near : ColouredTree) (y : Record) (inner : ColouredTree)
+        (x : Record) (outer : ColouredTree)
+        → ((i : ℕ) → Among (shape (sided s red near y (sided s k inner x outer))) i → P i)
+        → IsSeparate (shape (sided s red near y (sided s k inner x outer)))
+        → Relinks n c P (shape (sided s red near y (sided s k inner x outer)))
+        (shape (filled_by s red near y k inner x outer).tree)
         (let far = sided s k inner x outer in
         let u = turned (opposite s) false false far in
         cond (is_red outer) (turn_links s c (sided s red near y far))
-        (cond (is_red inner) ((turn_links (opposite s) c far ++ relink (opposite s) c y.node (link (shape far)) (link (shape u))) ++ turn_links s c (sided s red near y u)) []))
+        (cond (is_red inner) ((turn_links (opposite s) c far ++ relink (opposite s) c y.node
+        (link (shape far)) (link (shape u))) ++ turn_links s c (sided s red near y u)) []))
     by_relinks s red k near y inner x outer within sep =
         let far = sided s k inner x outer in
         let u = turned (opposite s) false false far in
@@ -246,48 +351,74 @@ module _ (n c : ℕ) (small : c ≤ 1) where
         let two = inner_filled s red near y k inner x outer in
         let three = none_filled s red near y k inner x outer in
         let ss = turn_links s c t in
-        let ts = (turn_links (opposite s) c far ++ relink (opposite s) c y.node (link (shape far)) (link (shape u))) ++ turn_links s c (sided s red near y u) in
-        elim (is_red outer) as (λ v. Relinks n c P (shape t) (shape (cond v one (cond (is_red inner) two three)).tree) (cond v ss (cond (is_red inner) ts []))) [
+        let ts = (turn_links (opposite s) c far ++ relink (opposite s) c y.node (link (shape far))
+        (link (shape u))) ++ turn_links s c (sided s red near y u) in
+        elim (is_red outer) as (λ v.
+        Relinks n c P (shape t) (shape (cond v one (cond (is_red inner) two three)).tree)
+        (cond v ss (cond (is_red inner) ts []))) [
           | true ↦ outer_relinks s red k near y inner x outer within sep
           | false ↦
-              elim (is_red inner) as (λ v. Relinks n c P (shape t) (shape (cond v two three).tree) (cond v ts [])) [
+              elim (is_red inner) as (λ v.
+              Relinks n c P (shape t) (shape (cond v two three).tree) (cond v ts [])) [
                 | true ↦ inner_relinks s red near y far within sep
-                | false ↦ subst (λ v. Relinks n c P (shape t) v []) (plain s red k near y inner x outer) (same n c small P (shape t) within sep)
+                | false ↦ subst (λ v. Relinks n c P (shape t) v [])
+                    (plain s red k near y inner x outer) (same n c small P (shape t) within sep)
               ]
         ]
       where
-        plain : (s : Side) (red k : Bool) (near : ColouredTree) (y : Record) (inner : ColouredTree) (x : Record) (outer : ColouredTree)
-            → shape (sided s red near y (sided s k inner x outer)) ≡ shape (sided s false near y (sided s true inner x outer))
+        plain : (s : Side) (red k : Bool) (near : ColouredTree) (y : Record) (inner : ColouredTree)
+            (x : Record) (outer : ColouredTree)
+            → shape (sided s red near y (sided s k inner x outer))
+            ≡ shape (sided s false near y (sided s true inner x outer))
         plain Left red k near y inner x outer = refl
         plain Right red k near y inner x outer = refl
 
-    pub fill_black_relinks : (s : Side) (red : Bool) (near : ColouredTree) (y : Record) (far : ColouredTree) → ((i : ℕ) → Among (shape (sided s red near y far)) i → P i) → IsSeparate (shape (sided s red near y far))
-        → Relinks n c P (shape (sided s red near y far)) (shape (filled_over_black s red near y far).tree) (fill_links_over_black s c y far)
-    fill_black_relinks s red near y tip within sep = same n c small P (shape (sided s red near y tip)) within sep
-    fill_black_relinks Left red near y (branch k a x b) within sep = by_relinks Left red k near y a x b within sep
-    fill_black_relinks Right red near y (branch k a x b) within sep = by_relinks Right red k near y b x a within sep
+    pub fill_black_relinks : (s : Side) (red : Bool) (near : ColouredTree) (y : Record)
+        (far : ColouredTree) → ((i : ℕ) → Among (shape (sided s red near y far)) i → P i)
+        → IsSeparate (shape (sided s red near y far))
+        → Relinks n c P (shape (sided s red near y far))
+        (shape (filled_over_black s red near y far).tree) (fill_links_over_black s c y far)
+    fill_black_relinks s red near y tip within sep =
+        same n c small P (shape (sided s red near y tip)) within sep
+    fill_black_relinks Left red near y (branch k a x b) within sep =
+        by_relinks Left red k near y a x b within sep
+    fill_black_relinks Right red near y (branch k a x b) within sep =
+        by_relinks Right red k near y b x a within sep
 
   module _ (P : ℕ → Type 0) (below : (i : ℕ) → P i → i < n) where
-    pub fill_relinks : (s : Side) (red : Bool) (near : ColouredTree) (y : Record) (far : ColouredTree) → ((i : ℕ) → Among (shape (sided s red near y far)) i → P i) → IsSeparate (shape (sided s red near y far))
-        → Relinks n c P (shape (sided s red near y far)) (shape (filled_over s red near y far).tree) (fill_links_over s c near y far)
-    fill_relinks s red near y tip within sep = same n c small P (shape (sided s red near y tip)) within sep
-    fill_relinks s red near y (branch false a x b) within sep = fill_black_relinks P below s red near y (branch false a x b) within sep
+    pub fill_relinks : (s : Side) (red : Bool) (near : ColouredTree) (y : Record)
+        (far : ColouredTree) → ((i : ℕ) → Among (shape (sided s red near y far)) i → P i)
+        → IsSeparate (shape (sided s red near y far))
+        → Relinks n c P (shape (sided s red near y far)) (shape (filled_over s red near y far).tree)
+        (fill_links_over s c near y far)
+    fill_relinks s red near y tip within sep =
+        same n c small P (shape (sided s red near y tip)) within sep
+    fill_relinks s red near y (branch false a x b) within sep =
+        fill_black_relinks P below s red near y (branch false a x b) within sep
     fill_relinks Left red near y (branch true a x b) within sep =
         let t = branch red near y (branch true a x b) in
         let i = branch true near y a in
         let u = (filled_over_black Left true near y a).tree in
         let q = turn_relinks n c small P below Left false true t within sep in
-        then n c small P (shape t) (shape (branch false i x b)) (shape (branch false u x b)) (turn_links Left c t) (fill_links_over_black Left c y a ++ relink Left c x.node (suc y.node) (link (shape u))) q
-        (in_sided n c small P below Left false false i x b q.within q.separate u (fill_links_over_black Left c y a)
-        (fill_black_relinks (Among (shape i)) (λ j h. below j (q.within j (inr (inl h)))) Left true near y a (λ j h. h) q.separate.3))
+        then n c small P (shape t) (shape (branch false i x b)) (shape (branch false u x b))
+        (turn_links Left c t) (fill_links_over_black Left c y a
+        ++ relink Left c x.node (suc y.node) (link (shape u))) q
+        (in_sided n c small P below Left false false i x b q.within q.separate u
+        (fill_links_over_black Left c y a)
+        (fill_black_relinks (Among (shape i)) (λ j h. below j (q.within j (inr (inl h)))) Left true
+        near y a (λ j h. h) q.separate.3))
     fill_relinks Right red near y (branch true a x b) within sep =
         let t = branch red (branch true a x b) y near in
         let i = branch true b y near in
         let u = (filled_over_black Right true near y b).tree in
         let q = turn_relinks n c small P below Right false true t within sep in
-        then n c small P (shape t) (shape (branch false a x i)) (shape (branch false a x u)) (turn_links Right c t) (fill_links_over_black Right c y b ++ relink Right c x.node (suc y.node) (link (shape u))) q
-        (in_sided n c small P below Right false false i x a q.within q.separate u (fill_links_over_black Right c y b)
-        (fill_black_relinks (Among (shape i)) (λ j h. below j (q.within j (inr (inr h)))) Right true near y b (λ j h. h) q.separate.4))
+        then n c small P (shape t) (shape (branch false a x i)) (shape (branch false a x u))
+        (turn_links Right c t) (fill_links_over_black Right c y b
+        ++ relink Right c x.node (suc y.node) (link (shape u))) q
+        (in_sided n c small P below Right false false i x a q.within q.separate u
+        (fill_links_over_black Right c y b)
+        (fill_black_relinks (Among (shape i)) (λ j h. below j (q.within j (inr (inr h)))) Right true
+        near y b (λ j h. h) q.separate.4))
 
 pub shape_lowered : (red : Bool) (t : ColouredTree) → shape (lowered red t).tree ≡ shape t
 shape_lowered true t = refl

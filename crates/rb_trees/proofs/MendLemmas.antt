@@ -1,110 +1,168 @@
 -- A mended node: its records, its colours and black height, where its stores lead, and how many.
-use Rattle.rb_trees.proofs.Words.{◌≡◌, ℕ, suc, ◌<◌, ◌≤◌, true, false, cond, List, [], ◌++◌, length, length-append, refl, sym, ◌∙◌, ap, subst, arith, Store, Record, Side, Left, Right, ColouredTree, tip, branch, is_red, blackened, shape, rows, HasBlackHeight, opposite, sided, link, relink, turned, turn_links, red_violation, recoloured, mended_over, mended, mend_links_over, mend_links, Among, IsSeparate, Relinks, Sound}
+use Rattle.rb_trees.proofs.Words.{◌≡◌, ℕ, suc, ◌<◌, ◌≤◌, true, false, cond, List, [], ◌++◌, length}
+use Rattle.rb_trees.proofs.Words.{length-append, refl, sym, ◌∙◌, ap, subst, arith, Store, Record}
+use Rattle.rb_trees.proofs.Words.{Side, Left, Right, ColouredTree, tip, branch, is_red, blackened}
+use Rattle.rb_trees.proofs.Words.{shape, rows, HasBlackHeight, opposite, sided, link, relink}
+use Rattle.rb_trees.proofs.Words.{turned, turn_links, red_violation, recoloured, mended_over}
+use Rattle.rb_trees.proofs.Words.{mended, mend_links_over, mend_links, Among, IsSeparate, Relinks}
+use Rattle.rb_trees.proofs.Words.{Sound}
 use Rattle.facts.proofs.Bools.{false_by_contrary}
 use Rattle.rb_trees.specs.declared.RedViolation.{RedViolation}
 use Rattle.rb_trees.specs.declared.RedViolation.TheVariants.{Nowhere, Outer, Inner}
 use Rattle.rb_trees.proofs.SideLemmas.{red_sided, link_sided, among_near, separate_near}
-use Rattle.rb_trees.proofs.TurnLemmas.{rows_blackened, rows_sided, rows_turned, turned_sided, turned_back, turn_two, moved_one, relink_moved}
-use Rattle.rb_trees.proofs.ColourLemmas.{IsNear, near_of_calm, black_blackened, sound_blackened, sound_black, sound_red}
+use Rattle.rb_trees.proofs.TurnLemmas.{rows_blackened, rows_sided, rows_turned, turned_sided}
+use Rattle.rb_trees.proofs.TurnLemmas.{turned_back, turn_two, moved_one, relink_moved}
+use Rattle.rb_trees.proofs.ColourLemmas.{IsNear, near_of_calm, black_blackened, sound_blackened}
+use Rattle.rb_trees.proofs.ColourLemmas.{sound_black, sound_red}
 use Rattle.rb_trees.proofs.RelinkLemmas.{same, then, in_sided, turn_relinks, shape_recoloured}
 
 -- what is mended of a black node with these trees
-pub mended_sided : (s : Side) (near : ColouredTree) (y : Record) (far : ColouredTree) → mended s (sided s false near y far) ≡ mended_over s (red_violation s near) near y far
+pub mended_sided : (s : Side) (near : ColouredTree) (y : Record) (far : ColouredTree)
+    → mended s (sided s false near y far) ≡ mended_over s (red_violation s near) near y far
 mended_sided Left near y far = refl
 mended_sided Right near y far = refl
 
-pub mend_links_sided : (s : Side) (c : ℕ) (near : ColouredTree) (y : Record) (far : ColouredTree) → mend_links s c (sided s false near y far) ≡ mend_links_over s c (red_violation s near) near y far
+pub mend_links_sided : (s : Side) (c : ℕ) (near : ColouredTree) (y : Record) (far : ColouredTree)
+    → mend_links s c (sided s false near y far)
+    ≡ mend_links_over s c (red_violation s near) near y far
 mend_links_sided Left c near y far = refl
 mend_links_sided Right c near y far = refl
 
 module _ (s : Side) (y : Record) (far : ColouredTree) where
-  pub rows_mended : (k : RedViolation) (near : ColouredTree) → rows (mended_over s k near y far) ≡ rows (sided s false near y far)
+  pub rows_mended : (k : RedViolation) (near : ColouredTree)
+      → rows (mended_over s k near y far) ≡ rows (sided s false near y far)
   rows_mended Nowhere near = refl
   rows_mended Outer near =
-      elim (is_red far) as (λ b. rows (cond b (recoloured s near y far) (turned (opposite s) false true (sided s false near y far))) ≡ rows (sided s false near y far)) [
-        | true ↦ rows_sided s true false (blackened near) near y (blackened far) far (rows_blackened near) (rows_blackened far)
+      elim (is_red far) as (λ b. rows (cond b (recoloured s near y far) (turned (opposite s) false
+      true (sided s false near y far))) ≡ rows (sided s false near y far)) [
+        | true ↦ rows_sided s true false (blackened near) near y (blackened far) far
+            (rows_blackened near) (rows_blackened far)
         | false ↦ rows_turned (opposite s) false true (sided s false near y far)
       ]
   rows_mended Inner near =
       let u = turned s true true near in
-      elim (is_red far) as (λ b. rows (cond b (recoloured s near y far) (turned (opposite s) false true (sided s false u y far))) ≡ rows (sided s false near y far)) [
-        | true ↦ rows_sided s true false (blackened near) near y (blackened far) far (rows_blackened near) (rows_blackened far)
-        | false ↦ rows_turned (opposite s) false true (sided s false u y far) ∙ rows_sided s false false u near y far far (rows_turned s true true near) refl
+      elim (is_red far) as (λ b. rows (cond b (recoloured s near y far) (turned (opposite s) false
+      true (sided s false u y far))) ≡ rows (sided s false near y far)) [
+        | true ↦ rows_sided s true false (blackened near) near y (blackened far) far
+            (rows_blackened near) (rows_blackened far)
+        | false ↦ rows_turned (opposite s) false true (sided s false u y far)
+            ∙ rows_sided s false false u near y far far (rows_turned s true true near) refl
       ]
 
   -- colours and black height
   module _ (h : ℕ) (f : Sound far h) where
-    recoloured_sound : (near : ColouredTree) → is_red near ≡ true → IsNear near → HasBlackHeight near h → is_red far ≡ true → Sound (recoloured s near y far) (suc h)
+    recoloured_sound : (near : ColouredTree) → is_red near ≡ true → IsNear near
+        → HasBlackHeight near h → is_red far ≡ true → Sound (recoloured s near y far) (suc h)
     recoloured_sound near rn n e rf =
-        sound_red s (blackened near) y (blackened far) (suc h) (black_blackened near) (black_blackened far)
+        sound_red s (blackened near) y (blackened far) (suc h) (black_blackened near)
+        (black_blackened far)
         (sound_blackened near h rn n e) (sound_blackened far h rf (near_of_calm far f.calm) f.high)
 
-    module _ (outer : ColouredTree) (x : Record) (inner : ColouredTree) (o : Sound outer h) (i : Sound inner h) (one : is_red outer ≡ true → is_red inner ≡ false)
-        (n : IsNear (sided s true outer x inner)) (e : HasBlackHeight (sided s true outer x inner) h) where
-      outer_sound : is_red outer ≡ true → Sound (mended_over s Outer (sided s true outer x inner) y far) (suc h)
+    module _ (outer : ColouredTree) (x : Record) (inner : ColouredTree) (o : Sound outer h)
+        (i : Sound inner h) (one : is_red outer ≡ true → is_red inner ≡ false)
+        (n : IsNear (sided s true outer x inner))
+        (e : HasBlackHeight (sided s true outer x inner) h) where
+      outer_sound : is_red outer ≡ true
+          → Sound (mended_over s Outer (sided s true outer x inner) y far) (suc h)
       outer_sound ro =
           let t = sided s true outer x inner in
-          elim (is_red far) as (λ v. is_red far ≡ v → Sound (cond v (recoloured s t y far) (turned (opposite s) false true (sided s false t y far))) (suc h)) [
+          elim (is_red far) as (λ v. is_red far ≡ v → Sound (cond v (recoloured s t y far)
+          (turned (opposite s) false true (sided s false t y far))) (suc h)) [
             | true ↦ λ rf. recoloured_sound t (red_sided s true outer x inner) n e rf
-            | false ↦ λ rf. subst (λ u. Sound u (suc h)) (sym (turned_back s false true true false outer x inner y far))
-                (sound_black s outer x (sided s true inner y far) h o (sound_red s inner y far h (one ro) rf i f))
+            | false ↦ λ rf. subst (λ u. Sound u (suc h))
+                (sym (turned_back s false true true false outer x inner y far))
+                (sound_black s outer x (sided s true inner y far) h o
+                (sound_red s inner y far h (one ro) rf i f))
           ] refl
 
-      nowhere_sound : is_red outer ≡ false → is_red inner ≡ false → Sound (mended_over s Nowhere (sided s true outer x inner) y far) (suc h)
-      nowhere_sound ro ri = sound_black s (sided s true outer x inner) y far h (sound_red s outer x inner h ro ri o i) f
+      nowhere_sound : is_red outer ≡ false → is_red inner ≡ false
+          → Sound (mended_over s Nowhere (sided s true outer x inner) y far) (suc h)
+      nowhere_sound ro ri = sound_black s (sided s true outer x inner) y far h
+          (sound_red s outer x inner h ro ri o i) f
 
-    inner_sound : (outer : ColouredTree) (x : Record) (a : ColouredTree) (z : Record) (b : ColouredTree) → Sound outer h → is_red outer ≡ false → is_red a ≡ false → is_red b ≡ false → Sound a h → Sound b h
-        → IsNear (sided s true outer x (sided s true a z b)) → HasBlackHeight (sided s true outer x (sided s true a z b)) h → Sound (mended_over s Inner (sided s true outer x (sided s true a z b)) y far) (suc h)
+    inner_sound : (outer : ColouredTree) (x : Record) (a : ColouredTree) (z : Record)
+        (b : ColouredTree) → Sound outer h → is_red outer ≡ false → is_red a ≡ false
+        → is_red b ≡ false → Sound a h → Sound b h
+        → IsNear (sided s true outer x (sided s true a z b))
+        → HasBlackHeight (sided s true outer x (sided s true a z b)) h
+        → Sound (mended_over s Inner (sided s true outer x (sided s true a z b)) y far) (suc h)
     inner_sound outer x a z b o ro ra rb sa sb n e =
         let t = sided s true outer x (sided s true a z b) in
-        elim (is_red far) as (λ v. is_red far ≡ v → Sound (cond v (recoloured s t y far) (turned (opposite s) false true (sided s false (turned s true true t) y far))) (suc h)) [
+        elim (is_red far) as (λ v. is_red far ≡ v → Sound (cond v (recoloured s t y far) (turned
+        (opposite s) false true (sided s false (turned s true true t) y far))) (suc h)) [
           | true ↦ λ rf. recoloured_sound t (red_sided s true outer x (sided s true a z b)) n e rf
           | false ↦ λ rf. subst (λ u. Sound u (suc h))
-              (sym (ap (λ u. turned (opposite s) false true (sided s false u y far)) (turned_sided s true true true true outer x a z b) ∙ turned_back s false true true false (sided s true outer x a) z b y far))
-              (sound_black s (sided s true outer x a) z (sided s true b y far) h (sound_red s outer x a h ro ra o sa) (sound_red s b y far h rb rf sb f))
+              (sym (ap (λ u. turned (opposite s) false true (sided s false u y far))
+              (turned_sided s true true true true outer x a z b)
+              ∙ turned_back s false true true false (sided s true outer x a) z b y far))
+              (sound_black s (sided s true outer x a) z (sided s true b y far) h
+              (sound_red s outer x a h ro ra o sa) (sound_red s b y far h rb rf sb f))
         ] refl
 
 -- either side
 module _ (y : Record) (far : ColouredTree) (h : ℕ) (f : Sound far h) where
-  two_sound : (s : Side) (outer : ColouredTree) (x : Record) (inner : ColouredTree) → Sound outer h → Sound inner h → (is_red outer ≡ true → is_red inner ≡ false)
+  two_sound : (s : Side) (outer : ColouredTree) (x : Record) (inner : ColouredTree) → Sound outer h
+      → Sound inner h → (is_red outer ≡ true → is_red inner ≡ false)
       → IsNear (sided s true outer x inner) → HasBlackHeight (sided s true outer x inner) h
-      → Sound (mended_over s (cond (is_red outer) Outer (cond (is_red inner) Inner Nowhere)) (sided s true outer x inner) y far) (suc h)
+      → Sound (mended_over s (cond (is_red outer) Outer (cond (is_red inner) Inner Nowhere))
+      (sided s true outer x inner) y far) (suc h)
   two_sound s outer x inner o i one n e =
       let t = sided s true outer x inner in
-      elim (is_red outer) as (λ v. is_red outer ≡ v → Sound (mended_over s (cond v Outer (cond (is_red inner) Inner Nowhere)) t y far) (suc h)) [
+      elim (is_red outer) as (λ v. is_red outer ≡ v → Sound
+      (mended_over s (cond v Outer (cond (is_red inner) Inner Nowhere)) t y far) (suc h)) [
         | true ↦ λ ro. outer_sound s y far h f outer x inner o i one n e ro
         | false ↦ λ ro.
-            elim (is_red inner) as (λ v. is_red inner ≡ v → Sound (mended_over s (cond v Inner Nowhere) t y far) (suc h)) [
+            elim (is_red inner) as (λ v. is_red inner ≡ v
+            → Sound (mended_over s (cond v Inner Nowhere) t y far) (suc h)) [
               | true ↦ λ ri. deep s outer x inner ri i o ro n e
               | false ↦ λ ri. nowhere_sound s y far h f outer x inner o i one n e ro ri
             ] refl
       ] refl
     where
-      deep : (s : Side) (outer : ColouredTree) (x : Record) (inner : ColouredTree) → is_red inner ≡ true → Sound inner h → Sound outer h → is_red outer ≡ false
-          → IsNear (sided s true outer x inner) → HasBlackHeight (sided s true outer x inner) h → Sound (mended_over s Inner (sided s true outer x inner) y far) (suc h)
+      deep : (s : Side) (outer : ColouredTree) (x : Record) (inner : ColouredTree)
+          → is_red inner ≡ true → Sound inner h → Sound outer h → is_red outer ≡ false
+          → IsNear (sided s true outer x inner) → HasBlackHeight (sided s true outer x inner) h
+          → Sound (mended_over s Inner (sided s true outer x inner) y far) (suc h)
       deep s outer x tip ri i o ro n e = absurd (cc)
       deep s outer x (branch false a z b) ri i o ro n e = absurd (cc)
-      deep Left outer x (branch true a z b) ri i o ro n e = inner_sound Left y far h f outer x a z b o ro i.calm.0 i.calm.1 (record { calm = i.calm.2; high = i.high.0 }) (record { calm = i.calm.3; high = i.high.1 }) n e
-      deep Right outer x (branch true a z b) ri i o ro n e = inner_sound Right y far h f outer x b z a o ro i.calm.1 i.calm.0 (record { calm = i.calm.3; high = i.high.1 }) (record { calm = i.calm.2; high = i.high.0 }) n e
+      deep Left outer x (branch true a z b) ri i o ro n e = inner_sound Left y far h f outer x a z b
+          o ro i.calm.0 i.calm.1 (record { calm = i.calm.2; high = i.high.0 })
+          (record { calm = i.calm.3; high = i.high.1 }) n e
+      deep Right outer x (branch true a z b) ri i o ro n e = inner_sound Right y far h f outer x b z
+          a o ro i.calm.1 i.calm.0 (record { calm = i.calm.3; high = i.high.1 })
+          (record { calm = i.calm.2; high = i.high.0 }) n e
 
-  pub mended_sound : (s : Side) (near : ColouredTree) → IsNear near → HasBlackHeight near h → Sound (mended_over s (red_violation s near) near y far) (suc h)
+  pub mended_sound : (s : Side) (near : ColouredTree) → IsNear near → HasBlackHeight near h
+      → Sound (mended_over s (red_violation s near) near y far) (suc h)
   mended_sound s tip n e = sound_black s tip y far h (record { calm = tt; high = e }) f
-  mended_sound s (branch false a x b) n e = sound_black s (branch false a x b) y far h (record { calm = n; high = e }) f
-  mended_sound Left (branch true a x b) n e = two_sound Left a x b (record { calm = n.1; high = e.0 }) (record { calm = n.2; high = e.1 }) n.0 n e
-  mended_sound Right (branch true a x b) n e = two_sound Right b x a (record { calm = n.2; high = e.1 }) (record { calm = n.1; high = e.0 }) (false_by_contrary (is_red a) (is_red b) n.0) n e
+  mended_sound s (branch false a x b) n e =
+      sound_black s (branch false a x b) y far h (record { calm = n; high = e }) f
+  mended_sound Left (branch true a x b) n e = two_sound Left a x b
+      (record { calm = n.1; high = e.0 }) (record { calm = n.2; high = e.1 }) n.0 n e
+  mended_sound Right (branch true a x b) n e =
+      two_sound Right b x a (record { calm = n.2; high = e.1 }) (record { calm = n.1; high = e.0 })
+      (false_by_contrary (is_red a) (is_red b) n.0) n e
 
 -- its stores lead to it
-module _ (n c : ℕ) (small : c ≤ 1) (P : ℕ → Type 0) (below : (i : ℕ) → P i → i < n) (s : Side) (near : ColouredTree) (y : Record) (far : ColouredTree)
-    (within : (i : ℕ) → Among (shape (sided s false near y far)) i → P i) (sep : IsSeparate (shape (sided s false near y far))) where
-  recoloured_relinks : Relinks n c P (shape (sided s false near y far)) (shape (recoloured s near y far)) []
+module _ (n c : ℕ) (small : c ≤ 1) (P : ℕ → Type 0) (below : (i : ℕ) → P i → i < n) (s : Side)
+    (near : ColouredTree) (y : Record) (far : ColouredTree)
+    (within : (i : ℕ) → Among (shape (sided s false near y far)) i → P i)
+    (sep : IsSeparate (shape (sided s false near y far))) where
+  recoloured_relinks : Relinks n c P (shape (sided s false near y far))
+      (shape (recoloured s near y far)) []
   recoloured_relinks =
-      subst (λ t. Relinks n c P (shape (sided s false near y far)) t []) (sym (shape_recoloured s near y far)) (same n c small P (shape (sided s false near y far)) within sep)
+      subst (λ t. Relinks n c P (shape (sided s false near y far)) t [])
+      (sym (shape_recoloured s near y far))
+      (same n c small P (shape (sided s false near y far)) within sep)
 
-  pub mend_relinks : (k : RedViolation) → Relinks n c P (shape (sided s false near y far)) (shape (mended_over s k near y far)) (mend_links_over s c k near y far)
+  pub mend_relinks : (k : RedViolation) → Relinks n c P (shape (sided s false near y far))
+      (shape (mended_over s k near y far)) (mend_links_over s c k near y far)
   mend_relinks Nowhere = same n c small P (shape (sided s false near y far)) within sep
   mend_relinks Outer =
       let t = sided s false near y far in
-      elim (is_red far) as (λ b. Relinks n c P (shape t) (shape (cond b (recoloured s near y far) (turned (opposite s) false true t))) (cond b [] (turn_links (opposite s) c t))) [
+      elim (is_red far) as (λ b. Relinks n c P (shape t)
+      (shape (cond b (recoloured s near y far) (turned (opposite s) false true t)))
+      (cond b [] (turn_links (opposite s) c t))) [
         | true ↦ recoloured_relinks
         | false ↦ turn_relinks n c small P below (opposite s) false true t within sep
       ]
@@ -114,12 +172,17 @@ module _ (n c : ℕ) (small : c ≤ 1) (P : ℕ → Type 0) (below : (i : ℕ) �
       let v = sided s false u y far in
       let ss = turn_links s c near in
       let rs = relink s c y.node (link (shape near)) (link (shape u)) in
-      elim (is_red far) as (λ b. Relinks n c P (shape t) (shape (cond b (recoloured s near y far) (turned (opposite s) false true v))) (cond b [] ((ss ++ rs) ++ turn_links (opposite s) c v))) [
+      elim (is_red far) as (λ b. Relinks n c P (shape t)
+      (shape (cond b (recoloured s near y far) (turned (opposite s) false true v)))
+      (cond b [] ((ss ++ rs) ++ turn_links (opposite s) c v))) [
         | true ↦ recoloured_relinks
         | false ↦
             let q = in_sided n c small P below s false false near y far within sep u ss
-            (turn_relinks n c small (Among (shape near)) (λ i a. below i (within i (among_near s false near y far i a))) s true true near (λ i a. a) (separate_near s false near y far sep)) in
-            then n c small P (shape t) (shape v) (shape (turned (opposite s) false true v)) (ss ++ rs) (turn_links (opposite s) c v) q
+            (turn_relinks n c small (Among (shape near))
+            (λ i a. below i (within i (among_near s false near y far i a))) s true true near
+            (λ i a. a) (separate_near s false near y far sep)) in
+            then n c small P (shape t) (shape v) (shape (turned (opposite s) false true v))
+            (ss ++ rs) (turn_links (opposite s) c v) q
             (turn_relinks n c small P below (opposite s) false true v q.within q.separate)
       ]
 
@@ -130,31 +193,43 @@ pub record Mending (y : Record) (t : ColouredTree) (links : List Store) : Type 0
 
 module _ (c : ℕ) (s : Side) (y : Record) (far : ColouredTree) where
   recoloured_mending : (near : ColouredTree) → Mending y (recoloured s near y far) []
-  recoloured_mending near = record { few = omega arith; still = λ e. (refl, link_sided s true (blackened near) y (blackened far)) }
+  recoloured_mending near = record {
+    few = omega arith;
+    still = λ e. (refl, link_sided s true (blackened near) y (blackened far));
+  }
 
-  turned_mending : (near : ColouredTree) (links : List Store) → length links ≤ 5 → Mending y (turned (opposite s) false true (sided s false near y far)) links
-  turned_mending near links few = record { few = few; still = λ e. absurd (let b = black_turned s near in cc) }
+  turned_mending : (near : ColouredTree) (links : List Store) → length links ≤ 5
+      → Mending y (turned (opposite s) false true (sided s false near y far)) links
+  turned_mending near links few =
+      record { few = few; still = λ e. absurd (let b = black_turned s near in cc) }
     where
-      black_turned : (s : Side) (near : ColouredTree) → is_red (turned (opposite s) false true (sided s false near y far)) ≡ false
+      black_turned : (s : Side) (near : ColouredTree)
+          → is_red (turned (opposite s) false true (sided s false near y far)) ≡ false
       black_turned Left tip = refl
       black_turned Left (branch k a x b) = refl
       black_turned Right tip = refl
       black_turned Right (branch k a x b) = refl
 
-  pub mending : (k : RedViolation) (near : ColouredTree) → Mending y (mended_over s k near y far) (mend_links_over s c k near y far)
-  mending Nowhere near = record { few = omega arith; still = λ e. absurd (let b = red_sided s false near y far in cc) }
+  pub mending : (k : RedViolation) (near : ColouredTree)
+      → Mending y (mended_over s k near y far) (mend_links_over s c k near y far)
+  mending Nowhere near =
+      record { few = omega arith; still = λ e. absurd (let b = red_sided s false near y far in cc) }
   mending Outer near =
       let t = sided s false near y far in
-      elim (is_red far) as (λ b. Mending y (cond b (recoloured s near y far) (turned (opposite s) false true t)) (cond b [] (turn_links (opposite s) c t))) [
+      elim (is_red far) as (λ b. Mending y (cond b (recoloured s near y far)
+      (turned (opposite s) false true t)) (cond b [] (turn_links (opposite s) c t))) [
         | true ↦ recoloured_mending near
-        | false ↦ turned_mending near (turn_links (opposite s) c t) (omega (arith, turn_two (opposite s) c t))
+        | false ↦ turned_mending near (turn_links (opposite s) c t)
+            (omega (arith, turn_two (opposite s) c t))
       ]
   mending Inner near =
       let u = turned s true true near in
       let v = sided s false u y far in
       let ss = turn_links s c near in
       let rs = relink s c y.node (link (shape near)) (link (shape u)) in
-      elim (is_red far) as (λ b. Mending y (cond b (recoloured s near y far) (turned (opposite s) false true v)) (cond b [] ((ss ++ rs) ++ turn_links (opposite s) c v))) [
+      elim (is_red far) as (λ b.
+      Mending y (cond b (recoloured s near y far) (turned (opposite s) false true v))
+      (cond b [] ((ss ++ rs) ++ turn_links (opposite s) c v))) [
         | true ↦ recoloured_mending near
         | false ↦ turned_mending u ((ss ++ rs) ++ turn_links (opposite s) c v)
             (omega (

@@ -1,45 +1,68 @@
 -- A search for a first word comes to the record of that first word, by first words or by the order
 -- of the item.
-use Rattle.rb_trees.proofs.Words.{◌≡◌, ◌≢◌, ℕ, ◌<◌, ◌≤◌, true, false, cond, List, [], ◌∷◌, ◌++◌, Option, Some, None, refl, sym, ◌∙◌, ap, subst, ⊎_elim, arith, ◌==◌, ◌||◌, not, nat_lt, is_some, Contains, AllByRecursion, eqb-true, ne_eqb, ltb-true, ltb-false, Contains-append_cases, Contains-append_left, Contains-append_right, Ordering, Less, Equal, Greater, or-true, Item, Order, Precedes, IsLawful, IsInLine, IsTable, has, parted, all_at, all_weaker, Contains-cons_cases, Contains-rest, Lacks, has_front, has_back, across, all_before, differs, differs_before, Record, ColouredTree, tip, branch, rows, first_word_at, item_lies, record_found_at, found, items_of_records, first_item_of, item_with_word, Bool, eq-eqb}
+use Rattle.rb_trees.proofs.Words.{◌≡◌, ◌≢◌, ℕ, ◌<◌, ◌≤◌, true, false, cond, List, [], ◌∷◌, ◌++◌}
+use Rattle.rb_trees.proofs.Words.{Option, Some, None, refl, sym, ◌∙◌, ap, subst, ⊎_elim, arith}
+use Rattle.rb_trees.proofs.Words.{◌==◌, ◌||◌, not, nat_lt, is_some, Contains, AllByRecursion}
+use Rattle.rb_trees.proofs.Words.{eqb-true, ne_eqb, ltb-true, ltb-false, Contains-append_cases}
+use Rattle.rb_trees.proofs.Words.{Contains-append_left, Contains-append_right, Ordering, Less}
+use Rattle.rb_trees.proofs.Words.{Equal, Greater, or-true, Item, Order, Precedes, IsLawful}
+use Rattle.rb_trees.proofs.Words.{IsInLine, IsTable, has, parted, all_at, all_weaker}
+use Rattle.rb_trees.proofs.Words.{Contains-cons_cases, Contains-rest, Lacks, has_front, has_back}
+use Rattle.rb_trees.proofs.Words.{across, all_before, differs, differs_before, Record, ColouredTree}
+use Rattle.rb_trees.proofs.Words.{tip, branch, rows, first_word_at, item_lies, record_found_at}
+use Rattle.rb_trees.proofs.Words.{found, items_of_records, first_item_of, item_with_word, Bool}
+use Rattle.rb_trees.proofs.Words.{eq-eqb}
 use Rattle.order_laws.proofs.WithoutLemmas.{has_either}
 use Rattle.rb_trees.proofs.PlaceRows.{items_append, parts}
 
 -- what a comparison says of both sides, and of the side that it leads to
-pub data Lies (a : ℕ) (P : ColouredTree → Type 0) (l : ColouredTree) (y : Record) (r : ColouredTree) :
+pub data Lies (a : ℕ) (P : ColouredTree → Type 0) (l : ColouredTree) (y : Record)
+    (r : ColouredTree) :
     Ordering → Type 0 where
-  to_left : (y.item.a == a) ≡ false → Lacks a (items_of_records (rows r)) → P l → Lies a P l y r Less
+  to_left : (y.item.a == a) ≡ false → Lacks a (items_of_records (rows r)) → P l
+      → Lies a P l y r Less
   right_here : (y.item.a == a) ≡ true → Lacks a (items_of_records (rows l)) → Lies a P l y r Equal
-  to_right : (y.item.a == a) ≡ false → Lacks a (items_of_records (rows l)) → P r → Lies a P l y r Greater
+  to_right : (y.item.a == a) ≡ false → Lacks a (items_of_records (rows l)) → P r
+      → Lies a P l y r Greater
 
 -- a comparison leads to a first word in each tree of a kind
 abbrev pub Guides : ℕ → (Record → Ordering) → (ColouredTree → Type 0) → Type 0
-Guides a seen P = (red : Bool) (l : ColouredTree) (y : Record) (r : ColouredTree) → P (branch red l y r) →
+Guides a seen P =
+    (red : Bool) (l : ColouredTree) (y : Record) (r : ColouredTree) → P (branch red l y r) →
     Lies a P l y r (seen y)
 
 -- where it leads
-module _ (a : ℕ) (seen : Record → Ordering) (P : ColouredTree → Type 0) (guide : Guides a seen P) where
-  pub found_has : (t : ColouredTree) → P t → is_some (found seen t) ≡ has a (items_of_records (rows t))
+module _ (a : ℕ) (seen : Record → Ordering) (P : ColouredTree → Type 0)
+    (guide : Guides a seen P) where
+  pub found_has : (t : ColouredTree) → P t
+      → is_some (found seen t) ≡ has a (items_of_records (rows t))
   found_has tip p = refl
   found_has (branch red l y r) p =
       let split : has a (items_of_records (rows l ++ y ∷ rows r))
       ≡ has a (items_of_records (rows l) ++ y.item ∷ items_of_records (rows r)) =
       ap (has a) (items_append (rows l) (y ∷ rows r)) in
-      elim (guide red l y r p) as (λ v _. is_some (record_found_at v y (found seen l) (found seen r))
+      elim (guide red l y r p) as (λ v _.
+      is_some (record_found_at v y (found seen l) (found seen r))
       ≡ has a (items_of_records (rows l ++ y ∷ rows r))) [
         | to_left e lack q ↦ found_has l q
-            ∙ sym (split ∙ has_front a (items_of_records (rows l)) (y.item ∷ items_of_records (rows r)) (e, lack))
+            ∙ sym (split ∙ has_front a (items_of_records (rows l))
+            (y.item ∷ items_of_records (rows r)) (e, lack))
         | right_here e lack ↦ sym (split
-            ∙ has_back a (items_of_records (rows l)) (y.item ∷ items_of_records (rows r)) lack ∙ (rw e refl))
+            ∙ has_back a (items_of_records (rows l)) (y.item ∷ items_of_records (rows r)) lack
+            ∙ (rw e refl))
         | to_right e lack q ↦ found_has r q
-            ∙ sym (split ∙ has_back a (items_of_records (rows l)) (y.item ∷ items_of_records (rows r)) lack
+            ∙ sym (split
+            ∙ has_back a (items_of_records (rows l)) (y.item ∷ items_of_records (rows r)) lack
             ∙ (rw e refl))
       ]
 
 -- a record that is found is where the comparison leads
-found_lies : (seen : Record → Ordering) (t : ColouredTree) (x : Record) → found seen t ≡ Some x → seen x ≡ Equal
+found_lies : (seen : Record → Ordering) (t : ColouredTree) (x : Record) → found seen t ≡ Some x
+    → seen x ≡ Equal
 found_lies seen tip x e = absurd (cc)
 found_lies seen (branch red l y r) x e =
-    (elim (seen y) as (λ v. seen y ≡ v → record_found_at v y (found seen l) (found seen r) ≡ Some x → seen x ≡ Equal) [
+    (elim (seen y) as (λ v. seen y ≡ v → record_found_at v y (found seen l) (found seen r) ≡ Some x
+    → seen x ≡ Equal) [
       | Less ↦ λ s f. found_lies seen l x f
       | Equal ↦ λ s f. let same : y ≡ x = cc in subst (λ z. seen z ≡ Equal) same s
       | Greater ↦ λ s f. found_lies seen r x f
@@ -50,13 +73,17 @@ lies_equal true less e = refl
 lies_equal false true e = absurd (cc)
 lies_equal false false e = absurd (cc)
 
-pub word_found : (a : ℕ) (t : ColouredTree) (x : Record) → found (first_word_at a) t ≡ Some x → x.item.a ≡ a
+pub word_found : (a : ℕ) (t : ColouredTree) (x : Record) → found (first_word_at a) t ≡ Some x
+    → x.item.a ≡ a
 word_found a t x e =
-    sym (eqb-true a x.item.a (lies_equal (a == x.item.a) (nat_lt a x.item.a) (found_lies (first_word_at a) t x e)))
+    sym (eqb-true a x.item.a
+    (lies_equal (a == x.item.a) (nat_lt a x.item.a) (found_lies (first_word_at a) t x e)))
 
-pub item_found : (less : Item → Item → Bool) (i : Item) (t : ColouredTree) (x : Record) → found (item_lies less i) t ≡ Some x → x.item.a ≡ i.a
+pub item_found : (less : Item → Item → Bool) (i : Item) (t : ColouredTree) (x : Record)
+    → found (item_lies less i) t ≡ Some x → x.item.a ≡ i.a
 item_found less i t x e =
-    eqb-true x.item.a i.a (lies_equal (x.item.a == i.a) (less i x.item) (found_lies (item_lies less i) t x e))
+    eqb-true x.item.a i.a
+    (lies_equal (x.item.a == i.a) (less i x.item) (found_lies (item_lies less i) t x e))
 
 -- first words lead, where they rise along the order
 module _ {K : Type 0} (o : Order K) (line : IsInLine o) (a : ℕ) where
@@ -107,14 +134,17 @@ module _ {K : Type 0} (o : Order K) (law : IsLawful o) (i : Item) where
 
   -- where an item of another part lies
   at_left : (l : ColouredTree) (y : Record) (r : ColouredTree) →
-      IsTable o (items_of_records (rows l) ++ y.item ∷ items_of_records (rows r)) → IsTable o (items_of_records (rows l)) →
+      IsTable o (items_of_records (rows l) ++ y.item ∷ items_of_records (rows r))
+      → IsTable o (items_of_records (rows l)) →
       Contains (items_of_records (rows l)) i → Lies i.a HasItem l y r (item_lies o.less i y)
   at_left l y r t tl is =
-      let after = across o law i (items_of_records (rows l)) (y.item ∷ items_of_records (rows r)) t is in
+      let after =
+      across o law i (items_of_records (rows l)) (y.item ∷ items_of_records (rows r)) t is in
       let less : o.less i y.item ≡ true = after.0.is_less in
       let e : (y.item.a == i.a) ≡ false = differs o law i y.item after.0 in
       let lack : Lacks i.a (items_of_records (rows r)) =
-      all_weaker (Precedes o i) (λ (z : Item). (z.a == i.a) ≡ false) (differs o law i) (items_of_records (rows r))
+      all_weaker (Precedes o i) (λ (z : Item). (z.a == i.a) ≡ false) (differs o law i)
+      (items_of_records (rows r))
       after.1 in
       rw (e, less) (to_left e lack (tl, is))
 
@@ -123,13 +153,15 @@ module _ {K : Type 0} (o : Order K) (law : IsLawful o) (i : Item) where
       Lies i.a HasItem l y r (item_lies o.less i y)
   at_here l y r t same =
       let before : AllByRecursion (λ z. Precedes o z i) (items_of_records (rows l)) =
-      all_before o law i (items_of_records (rows l)) (y.item ∷ items_of_records (rows r)) t (0, omega arith, same) in
+      all_before o law i (items_of_records (rows l)) (y.item ∷ items_of_records (rows r)) t
+      (0, omega arith, same) in
       let e : (y.item.a == i.a) ≡ true = eq-eqb y.item.a i.a (ap (λ (z : Item). z.a) same) in
       rw e (right_here e (all_weaker (λ z. Precedes o z i) (λ (z : Item). (z.a == i.a) ≡ false)
       (differs_before o law i) (items_of_records (rows l)) before))
 
   at_right : (l : ColouredTree) (y : Record) (r : ColouredTree) →
-      IsTable o (items_of_records (rows l) ++ y.item ∷ items_of_records (rows r)) → IsTable o (items_of_records (rows r)) →
+      IsTable o (items_of_records (rows l) ++ y.item ∷ items_of_records (rows r))
+      → IsTable o (items_of_records (rows r)) →
       Contains (items_of_records (rows r)) i → Lies i.a HasItem l y r (item_lies o.less i y)
   at_right l y r t tr is =
       let before : AllByRecursion (λ z. Precedes o z i) (items_of_records (rows l)) =
@@ -142,7 +174,8 @@ module _ {K : Type 0} (o : Order K) (law : IsLawful o) (i : Item) where
       (law.symmetric i y.item ∙ b.is_apart) ∙ ap not b.is_less in
       let e : (y.item.a == i.a) ≡ false = differs_before o law i y.item b in
       rw (e, more) (to_right e (all_weaker (λ z. Precedes o z i)
-      (λ (z : Item). (z.a == i.a) ≡ false) (differs_before o law i) (items_of_records (rows l)) before) (tr, is))
+      (λ (z : Item). (z.a == i.a) ≡ false) (differs_before o law i) (items_of_records (rows l))
+      before) (tr, is))
 
   item_leads : Guides i.a (item_lies o.less i) HasItem
   item_leads red l y r h =
@@ -157,7 +190,8 @@ module _ {K : Type 0} (o : Order K) (law : IsLawful o) (i : Item) where
       (Contains-append_cases (items_of_records (rows l)) (y.item ∷ items_of_records (rows r)) i
       (subst (λ zs. Contains zs i) split h.1))
 
-  found_by_item : (t : ColouredTree) → IsTable o (items_of_records (rows t)) → Contains (items_of_records (rows t)) i →
+  found_by_item : (t : ColouredTree) → IsTable o (items_of_records (rows t))
+      → Contains (items_of_records (rows t)) i →
       is_some (found (item_lies o.less i) t) ≡ has i.a (items_of_records (rows t))
   found_by_item t is there = found_has i.a (item_lies o.less i) HasItem item_leads t (is, there)
 
@@ -166,7 +200,8 @@ either_is_some : (p q : Option Item) → is_some (first_item_of p q) ≡ (is_som
 either_is_some (Some x) q = refl
 either_is_some None q = refl
 
-pub any_has : (a : ℕ) (t : ColouredTree) → is_some (item_with_word a t) ≡ has a (items_of_records (rows t))
+pub any_has : (a : ℕ) (t : ColouredTree)
+    → is_some (item_with_word a t) ≡ has a (items_of_records (rows t))
 any_has a tip = refl
 any_has a (branch red l y r) =
     let split : has a (items_of_records (rows l ++ y ∷ rows r))
@@ -221,7 +256,8 @@ any_is_with a (branch red l y r) =
     IsWith a (is ++ y.item ∷ js) (cond b (Some y.item)
     (first_item_of (item_with_word a l) (item_with_word a r)))) [
       | true ↦ λ e. (here, eqb-true y.item.a a e)
-      | false ↦ λ e. with_either a (is ++ y.item ∷ js) (item_with_word a l) (item_with_word a r) left right
+      | false ↦ λ e.
+          with_either a (is ++ y.item ∷ js) (item_with_word a l) (item_with_word a r) left right
     ] refl)
 
 pub any_is : (a : ℕ) (t : ColouredTree) (x : Item) → item_with_word a t ≡ Some x →
@@ -230,7 +266,9 @@ any_is a t x e = subst (IsWith a (items_of_records (rows t))) e (any_is_with a t
 
 -- so that the item it finds leads to itself
 pub found_by_any : {K : Type 0} (o : Order K) → IsLawful o → (a : ℕ) (t : ColouredTree) (x : Item) →
-    IsTable o (items_of_records (rows t)) → item_with_word a t ≡ Some x → is_some (found (item_lies o.less x) t) ≡ true
+    IsTable o (items_of_records (rows t)) → item_with_word a t ≡ Some x
+    → is_some (found (item_lies o.less x) t) ≡ true
 found_by_any o law a t x is e =
     let w = any_is a t x e in
-    found_by_item o law x t is w.0 ∙ ap (λ b. has b (items_of_records (rows t))) w.1 ∙ sym (any_has a t) ∙ ap is_some e
+    found_by_item o law x t is w.0 ∙ ap (λ b. has b (items_of_records (rows t))) w.1
+    ∙ sym (any_has a t) ∙ ap is_some e

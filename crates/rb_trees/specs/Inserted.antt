@@ -50,7 +50,8 @@ mended s (branch red l y r) =
     else mended_over s (red_violation s (on s l r)) (on s l r) y (on (opposite s) l r)
 
 -- its stores
-abbrev pub mend_links_over : Side → ℕ → RedViolation → ColouredTree → Record → ColouredTree → List Store
+abbrev pub mend_links_over : Side → ℕ → RedViolation → ColouredTree → Record → ColouredTree
+    → List Store
 mend_links_over s copy Nowhere near y far = []
 mend_links_over s copy Outer near y far =
     if is_red far then [] else turn_links (opposite s) copy (sided s false near y far)

@@ -1,6 +1,15 @@
 -- What is planned for copy 0 leads copy 1 as well, mirrored: for each memory there is one whose
 -- copy 0 is as its copy 1.
-use Rattle.rb_words.proofs.Words.{◌≡◌, ◌≢◌, ℕ, suc, zero, ◌<◌, ◌≤◌, false, List, [], ◌∷◌, ◌++◌, length, refl, sym, ◌∙◌, ap, subst, inl, inr, ⊎_elim, arith, length-set, slice_set, ◌==◌, AllByRecursion, ne_eqb, cases_eq, Item, Order, Store, Nodes, none, fork, words_for, at, item_at, items, Leads, Holds, root_word, left_word, right_word, a_word, b_word, tag_word, words_after, words_after_all, IsLinkWord, IsItemWord, AreLinkStores, of_item, at_stored, at_other, same_store, after_append, Picture, IsPictured, AreLinks, item_stores, Inserts, LeadsWithItem, Erases, LeadsByLinks, mirror_word, mirror_store, mirror_stores, second_picture}
+use Rattle.rb_words.proofs.Words.{◌≡◌, ◌≢◌, ℕ, suc, zero, ◌<◌, ◌≤◌, false, List, [], ◌∷◌, ◌++◌}
+use Rattle.rb_words.proofs.Words.{length, refl, sym, ◌∙◌, ap, subst, inl, inr, ⊎_elim, arith}
+use Rattle.rb_words.proofs.Words.{length-set, slice_set, ◌==◌, AllByRecursion, ne_eqb, cases_eq}
+use Rattle.rb_words.proofs.Words.{Item, Order, Store, Nodes, none, fork, words_for, at, item_at}
+use Rattle.rb_words.proofs.Words.{items, Leads, Holds, root_word, left_word, right_word, a_word}
+use Rattle.rb_words.proofs.Words.{b_word, tag_word, words_after, words_after_all, IsLinkWord}
+use Rattle.rb_words.proofs.Words.{IsItemWord, AreLinkStores, of_item, at_stored, at_other}
+use Rattle.rb_words.proofs.Words.{same_store, after_append, Picture, IsPictured, AreLinks}
+use Rattle.rb_words.proofs.Words.{item_stores, Inserts, LeadsWithItem, Erases, LeadsByLinks}
+use Rattle.rb_words.proofs.Words.{mirror_word, mirror_store, mirror_stores, second_picture}
 use Rattle.facts.proofs.Numbers.{below_suc}
 
 -- copy 1 of the second memory is as copy 0 of the first, and the nodes have the same items
@@ -300,17 +309,20 @@ module _ (old new : Picture) (zero_copy : old.copy ≡ 0) (capacity : new.capaci
   new_zero = same_copy ∙ zero_copy
 
   -- a memory whose copy 1 is pictured, and the one whose copy 0 is
-  beside : (m : List ℕ) → IsPictured m (second_picture old) → Mirrors old.capacity (copied old.capacity m) m
+  beside : (m : List ℕ) → IsPictured m (second_picture old)
+      → Mirrors old.capacity (copied old.capacity m) m
   beside m shown = mirrors old.capacity m shown.sized
 
-  first_shown : (m : List ℕ) → IsPictured m (second_picture old) → IsPictured (copied old.capacity m) old
+  first_shown : (m : List ℕ) → IsPictured m (second_picture old)
+      → IsPictured (copied old.capacity m) old
   first_shown m shown = pictured_back old.capacity (copied old.capacity m) m (beside m shown) old
       refl zero_copy shown
 
   links_zero : (links : List Store) → AreLinks old links → AreLinkStores old.capacity 0 links
   links_zero links are = subst (λ c. AreLinkStores old.capacity c links) zero_copy are.words
 
-  mirror_links : (links : List Store) → AreLinks old links → AreLinks (second_picture old) (mirror_stores links)
+  mirror_links : (links : List Store) → AreLinks old links
+      → AreLinks (second_picture old) (mirror_stores links)
   mirror_links links are = record
       { words = words_of links (links_zero links are); values = values_of links are.values }
     where
@@ -364,7 +376,8 @@ module _ (old new : Picture) (zero_copy : old.copy ≡ 0) (capacity : new.capaci
             let put = items_stored n first m node item (beside m shown) in
             let linked = links_stored n (words_after_all first stores) (words_after_all m stores)
             links zero_links put in
-            subst (λ w. IsPictured w (second_picture new)) (sym (after_append m stores (mirror_stores links)))
+            subst (λ w. IsPictured w (second_picture new))
+            (sym (after_append m stores (mirror_stores links)))
             (shown_after (words_after_all (words_after_all first stores) links)
             (words_after_all (words_after_all m stores) (mirror_stores links)) linked
             (subst (λ w. IsPictured w new) (after_append first stores links)

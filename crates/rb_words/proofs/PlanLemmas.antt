@@ -1,5 +1,20 @@
 -- What planned changes make of the picture, and that the plan's stores lead a copy there.
-use Rattle.rb_words.proofs.Words.{◌≡◌, ◌≢◌, ℕ, suc, ◌+◌, ◌*◌, ◌^◌, ◌<◌, ◌≤◌, true, false, List, [], ◌∷◌, ◌++◌, length, map, Some, refl, sym, ◌∙◌, ap, subst, inl, inr, ⊎_elim, arith, length-set, Contains, insert, remove, slice_get, slice_set, AllByRecursion, cases_lt, Item, Order, IsLawful, IsInLine, IsTable, with_item, without, place_for, place_of, has, meets, with_place, without_place, without_none, all_differ, all_get, all_insert, all_left, all_remove, all_right, length-insert, length-remove_at, map-insert, map-remove, Contains-insert, Contains-insert_cases, Contains-remove, as_many_rows, Store, Nodes, none, fork, words_for, a_word, b_word, tag_word, item_at, listed, Reaches, InUse, words_after_all, AreLinkStores, unused_item, length_after, after_append, at_stored, at_other, items_of_records, meets_on_the_way, met_meets, AreDistinct, Picture, IsPicture, IsPictured, Inserts, LeadsWithItem, Erases, LeadsByLinks, item_stores, picture_of, LosesWord}
+use Rattle.rb_words.proofs.Words.{◌≡◌, ◌≢◌, ℕ, suc, ◌+◌, ◌*◌, ◌^◌, ◌<◌, ◌≤◌, true, false, List, []}
+use Rattle.rb_words.proofs.Words.{◌∷◌, ◌++◌, length, map, Some, refl, sym, ◌∙◌, ap, subst, inl, inr}
+use Rattle.rb_words.proofs.Words.{⊎_elim, arith, length-set, Contains, insert, remove, slice_get}
+use Rattle.rb_words.proofs.Words.{slice_set, AllByRecursion, cases_lt, Item, Order, IsLawful}
+use Rattle.rb_words.proofs.Words.{IsInLine, IsTable, with_item, without, place_for, place_of, has}
+use Rattle.rb_words.proofs.Words.{meets, with_place, without_place, without_none, all_differ}
+use Rattle.rb_words.proofs.Words.{all_get, all_insert, all_left, all_remove, all_right}
+use Rattle.rb_words.proofs.Words.{length-insert, length-remove_at, map-insert, map-remove}
+use Rattle.rb_words.proofs.Words.{Contains-insert, Contains-insert_cases, Contains-remove}
+use Rattle.rb_words.proofs.Words.{as_many_rows, Store, Nodes, none, fork, words_for, a_word, b_word}
+use Rattle.rb_words.proofs.Words.{tag_word, item_at, listed, Reaches, InUse, words_after_all}
+use Rattle.rb_words.proofs.Words.{AreLinkStores, unused_item, length_after, after_append, at_stored}
+use Rattle.rb_words.proofs.Words.{at_other, items_of_records, meets_on_the_way, met_meets}
+use Rattle.rb_words.proofs.Words.{AreDistinct, Picture, IsPicture, IsPictured, Inserts}
+use Rattle.rb_words.proofs.Words.{LeadsWithItem, Erases, LeadsByLinks, item_stores, picture_of}
+use Rattle.rb_words.proofs.Words.{LosesWord}
 use Rattle.std.specs.Option.{option_map}
 use Rattle.std.proofs.Math.Nat.{pow-le-pow_right, mul-le-mul}
 use Rattle.std.proofs.lemmas.Option.{slice_get-map}
@@ -18,7 +33,8 @@ use Rattle.rb_trees.proofs.DepthLemmas.{balanced_depth}
 use Rattle.rb_trees.proofs.PlaceRows.{taken_out}
 use Rattle.rb_trees.proofs.LeadsLemmas.{listed_rows, all_among}
 use Rattle.rb_trees.proofs.LeadsLemmas.{among_listed, Stored, stored_items, items_stored}
-use Rattle.rb_words.proofs.ListLemmas.{distinct_insert, distinct_remove, distinct_fit, member_remove}
+use Rattle.rb_words.proofs.ListLemmas.{distinct_insert, distinct_remove, distinct_fit}
+use Rattle.rb_words.proofs.ListLemmas.{member_remove}
 
 -- distinct nodes, by the tree
 distinct_parts : (xs ys : List ℕ) → AreDistinct (xs ++ ys) →
@@ -69,7 +85,8 @@ item_put m n node i lt sized =
     λ d. record { a = ea d; b = eb d; tag = et d }
 
 -- the whole of a planned insert, as a shape shows it
-pub record AfterInsert {K : Type 0} (o : Order K) (n c : ℕ) (t u : ColouredTree) (room : ℕ) (x : Record)
+pub record AfterInsert {K : Type 0} (o : Order K) (n c : ℕ) (t u : ColouredTree) (room : ℕ)
+    (x : Record)
     (links : List Store) (shown : Picture) : Type 0 where
   pub picture : IsPicture o (picture_of n c u room)
   pub count : length (rows u) ≡ suc (length (rows t))
@@ -86,11 +103,13 @@ pub record AfterErase {K : Type 0} (o : Order K) (n c : ℕ) (t u : ColouredTree
 
 -- a record more
 module _ {K : Type 0} (o : Order K) (law : IsLawful o) (n c : ℕ) (t u : ColouredTree) (old room : ℕ)
-    (more : room + 1 ≡ old) (is : IsPicture o (picture_of n c t old)) (x : Record) (links : List Store)
+    (more : room + 1 ≡ old) (is : IsPicture o (picture_of n c t old)) (x : Record)
+    (links : List Store)
     (puts : PutsIn o x (rows t) (rows u)) (good : IsRedBlack u)
     (lead : Lead (λ i. i ≡ x.node) c (shape t) (shape u) links)
     (lt : x.node < n) (free : Contains (listed (shape t)) x.node → ⊥)
-    (valid : o.valid x.item ≡ true) (apart : meets o x.item (items_of_records (rows t)) ≡ false) where
+    (valid : o.valid x.item ≡ true)
+    (apart : meets o x.item (items_of_records (rows t)) ≡ false) where
   items_with : items_of_records (rows u) ≡ with_item o x.item (items_of_records (rows t))
   items_with = ap items_of_records puts
       ∙ map-insert (λ r. r.item) (rows t) (place_for o x.item (items_of_records (rows t))) x
@@ -105,7 +124,8 @@ module _ {K : Type 0} (o : Order K) (law : IsLawful o) (n c : ℕ) (t u : Colour
 
   led_with : LeadLinks n c (shape t) (shape u) links
   led_with = lead n is.one_copy (record {
-    below = λ i h. ⊎_elim (λ e. subst (λ j. j < n) (sym e) lt) (λ a. all_among (λ j. j < n) (shape t) is.below i a) h;
+    below = λ i h. ⊎_elim (λ e. subst (λ j. j < n) (sym e) lt)
+        (λ a. all_among (λ j. j < n) (shape t) is.below i a) h;
     free = λ i e a. free (among_listed (shape t) x.node (subst (Among (shape t)) e a));
     separate = separate (shape t) is.distinct;
   })
@@ -193,7 +213,8 @@ module _ {K : Type 0} (o : Order K) (law : IsLawful o) (n c : ℕ) (t u : Colour
   after_insert : AfterInsert o n c t u room x links (picture_of n c t old)
   after_insert = record {
     picture = picture_with;
-    count = ap length puts ∙ length-insert (rows t) (place_for o x.item (items_of_records (rows t))) x;
+    count =
+        ap length puts ∙ length-insert (rows t) (place_for o x.item (items_of_records (rows t))) x;
     inserts = inserts_with;
     leads = record {
       links_only = record { words = led_with.words; values = led_with.values };
@@ -207,10 +228,13 @@ abbrev pub CanInsert : {K : Type 0} → Order K → Record → Picture → Type 
 CanInsert o x shown = (x.node < shown.capacity) × (Contains (listed shown.tree) x.node → ⊥)
     × (o.valid x.item ≡ true) × (meets o x.item shown.table ≡ false)
 
-pub shown_insert : {K : Type 0} (o : Order K) → IsLawful o → (n c : ℕ) (t u : ColouredTree) (old room : ℕ) →
+pub shown_insert : {K : Type 0} (o : Order K) → IsLawful o
+    → (n c : ℕ) (t u : ColouredTree) (old room : ℕ) →
     room + 1 ≡ old → IsPicture o (picture_of n c t old) → (x : Record) (links : List Store) →
-    PutsIn o x (rows t) (rows u) → IsRedBlack u → Lead (λ i. i ≡ x.node) c (shape t) (shape u) links →
-    {shown : Picture} → picture_of n c t old ≡ shown → CanInsert o x shown → AfterInsert o n c t u room x links shown
+    PutsIn o x (rows t) (rows u) → IsRedBlack u → Lead (λ i. i ≡ x.node) c (shape t) (shape u) links
+    →
+    {shown : Picture} → picture_of n c t old ≡ shown → CanInsert o x shown
+    → AfterInsert o n c t u room x links shown
 shown_insert o law n c t u old room more is x links puts good lead view can0 =
     let can : CanInsert o x (picture_of n c t old) = subst (CanInsert o x) (sym view) can0 in
     subst (AfterInsert o n c t u room x links) view
@@ -218,15 +242,18 @@ shown_insert o law n c t u old room more is x links puts good lead view can0 =
 
 -- a record less
 module _ {K : Type 0} (o : Order K) (law : IsLawful o) (n c : ℕ) (t u : ColouredTree) (old room : ℕ)
-    (more : room ≡ old + 1) (is : IsPicture o (picture_of n c t old)) (a node : ℕ) (links : List Store)
-    (loses : LosesWord a t u node) (good : IsRedBlack u) (lead : Lead Nothing c (shape t) (shape u) links)
+    (more : room ≡ old + 1) (is : IsPicture o (picture_of n c t old)) (a node : ℕ)
+    (links : List Store)
+    (loses : LosesWord a t u node) (good : IsRedBlack u)
+    (lead : Lead Nothing c (shape t) (shape u) links)
     (there : has a (items_of_records (rows t)) ≡ true)
   where
     places : (remove (rows t) (place_of a (items_of_records (rows t))) ≡ rows u)
         × (slice_get (rows t) (place_of a (items_of_records (rows t))) ≡ Some loses.row)
     places =
         let was = loses.taken.was in
-        let out = taken_out a o law loses.taken.front loses.row loses.taken.back (subst (λ rs. IsTable o (items_of_records rs)) was is.is_table) loses.word in (
+        let out = taken_out a o law loses.taken.front loses.row loses.taken.back
+        (subst (λ rs. IsTable o (items_of_records rs)) was is.is_table) loses.word in (
           ap (λ rs. remove rs (place_of a (items_of_records rs))) was ∙ out.0 ∙ sym loses.taken.now,
           ap (λ rs. slice_get rs (place_of a (items_of_records rs))) was ∙ out.1,
         )
@@ -236,7 +263,8 @@ module _ {K : Type 0} (o : Order K) (law : IsLawful o) (n c : ℕ) (t u : Colour
         ∙ map-remove (λ r. r.item) (rows t) (place_of a (items_of_records (rows t)))
         ∙ sym (without_place o law a (items_of_records (rows t)) is.is_table there)
 
-    listed_without : listed (shape u) ≡ remove (listed (shape t)) (place_of a (items_of_records (rows t)))
+    listed_without : listed (shape u)
+        ≡ remove (listed (shape t)) (place_of a (items_of_records (rows t)))
     listed_without =
         let p = place_of a (items_of_records (rows t)) in
         listed_rows u ∙ ap (map (λ r. r.node)) (sym places.0)
@@ -292,7 +320,8 @@ module _ {K : Type 0} (o : Order K) (law : IsLawful o) (n c : ℕ) (t u : Colour
         let p = place_of a (items_of_records (rows t)) in
         let x = loses.row in
         let node_at : slice_get (listed (shape t)) p ≡ Some x.node =
-        ap (λ xs. slice_get xs p) (listed_rows t) ∙ slice_get-map (λ (r : Record). r.node) (rows t) p
+        ap (λ xs. slice_get xs p) (listed_rows t)
+        ∙ slice_get-map (λ (r : Record). r.node) (rows t) p
         ∙ ap (option_map (λ (r : Record). r.node)) places.1 in
         record {
           capacity = refl;
@@ -317,20 +346,26 @@ module _ {K : Type 0} (o : Order K) (law : IsLawful o) (n c : ℕ) (t u : Colour
       picture = picture_without;
       count = ap (λ xs. suc (length xs)) (sym places.0)
           ∙ length-remove_at (rows t) (place_of a (items_of_records (rows t))) loses.row places.1;
-      erases = subst (Erases (picture_of n c t old) (picture_of n c u room) a) loses.number erases_without;
-      leads = record { links_only = record { words = led_without.words; values = led_without.values }; leads = alone_without };
+      erases = subst (Erases (picture_of n c t old) (picture_of n c u room) a) loses.number
+          erases_without;
+      leads = record {
+        links_only = record { words = led_without.words; values = led_without.values };
+        leads = alone_without;
+      };
     }
 
 -- the search on the one way down tells of the pictured table
 pub met_none : {K : Type 0} (o : Order K) → IsLawful o → IsInLine o → {i : Item} →
     o.valid i ≡ true → (t : ColouredTree) → IsTable o (items_of_records (rows t)) → {n c room : ℕ} →
-    {shown : Picture} → picture_of n c t room ≡ shown → meets_on_the_way o i [] t ≡ meets o i shown.table
+    {shown : Picture} → picture_of n c t room ≡ shown
+    → meets_on_the_way o i [] t ≡ meets o i shown.table
 met_none o law line {i = i} valid t is view =
     met_meets o i [] law line valid t is ∙ ap (meets o i) (without_none (items_of_records (rows t)))
     ∙ ap (λ (p : Picture). meets o i p.table) view
 
 -- a way down has so few nodes that a cursor has a step for each
-pub few_steps : {K : Type 0} (o : Order K) (n c : ℕ) (t : ColouredTree) (room : ℕ) → n ≤ most_nodes →
+pub few_steps : {K : Type 0} (o : Order K) (n c : ℕ) (t : ColouredTree) (room : ℕ) → n ≤ most_nodes
+    →
     IsPicture o (picture_of n c t room) → depth (shape t) ≤ 64
 few_steps o n c t room small is =
     let d = depth (shape t) in

@@ -1,5 +1,9 @@
 -- The words that the proofs of this crate use, of whatever crate.
-pub use Rattle.std.proofs.Common.{Bool, Err, List, None, Ok, Option, Result, Some, [], ap, arith, codes, cond, drop, false, get_or, inl, inr, length, map, nat_eq, refl, rules, subst, sym, take, true, ℕ, ◌&&◌, ◌++◌, ◌+◌, ◌-◌, ◌<◌, ◌==◌, ◌||◌, ◌∙◌, ◌∷◌, ◌≡◌, ◌≤◌, filter, flat_map, length-append, length-drop, append_assoc, append-nil, length-take}
+pub use Rattle.std.proofs.Common.{Bool, Err, List, None, Ok, Option, Result, Some, [], ap, arith}
+pub use Rattle.std.proofs.Common.{codes, cond, drop, false, get_or, inl, inr, length, map, nat_eq}
+pub use Rattle.std.proofs.Common.{refl, rules, subst, sym, take, true, ℕ, ◌&&◌, ◌++◌, ◌+◌, ◌-◌, ◌<◌}
+pub use Rattle.std.proofs.Common.{◌==◌, ◌||◌, ◌∙◌, ◌∷◌, ◌≡◌, ◌≤◌, filter, flat_map, length-append}
+pub use Rattle.std.proofs.Common.{length-drop, append_assoc, append-nil, length-take}
 pub use Rattle.std.proofs.lemmas.List.{nil_from_length, take-append-drop, take_rest}
 pub use Rattle.std.proofs.lemmas.Bool.{eqb-true}
 pub use Rattle.std.specs.Prelude.{IfOk}
@@ -17,12 +21,16 @@ pub use Rattle.logs.specs.Lines.{AreWhole, IsLine, has_end, is_long, lines}
 pub use Rattle.histories.specs.ListingLines.{module_of, without_end}
 pub use Rattle.recordings.specs.Events.{event_after, event_in, has_lost, said_by}
 pub use Rattle.recordings.specs.EventLines.{EndsLines, IsOpen, TakesBlock, kept_with, said_in}
-pub use Rattle.recordings.specs.ModuleLines.{SomeLines, joined, joined_if, lines_of_module, modules_in, names_of, text_of}
+pub use Rattle.recordings.specs.ModuleLines.{SomeLines, joined, joined_if, lines_of_module}
+pub use Rattle.recordings.specs.ModuleLines.{modules_in, names_of, text_of}
 pub use Rattle.recordings.specs.ListingTexts.{has_hidden, recorded_line, recorded_text}
 pub use Rattle.recordings.specs.Changes.{is_left, modules_after, parts_among, texts, with_changed}
 pub use Rattle.recordings.specs.ChangeTexts.{gone_lines, texts_among}
 pub use Rattle.recordings.specs.ChangeTexts.{change_lines}
-pub use Rattle.recordings.specs.Recordings.{BlockRead, BlockWritten, after_block, after_line, after_module, at_time, block_of, first_written, is_silent, modules_now, named_in, needs, other_names, own_text, with_change}
+pub use Rattle.recordings.specs.Recordings.{BlockRead, BlockWritten, after_block, after_line}
+pub use Rattle.recordings.specs.Recordings.{after_module, at_time, block_of, first_written}
+pub use Rattle.recordings.specs.Recordings.{is_silent, modules_now, named_in, needs, other_names}
+pub use Rattle.recordings.specs.Recordings.{own_text, with_change}
 pub use Rattle.std.proofs.Common.{◌^◌, ◌⊎◌}
 pub use Rattle.std.proofs.lemmas.List.Concat.{flat_map-append}
 pub use Rattle.std.specs.Prelude.{IfSome, IsErrAnd}
@@ -31,7 +39,8 @@ pub use Rattle.texts.specs.declared.output.Output.{Output}
 pub use Rattle.command_parts.proofs.FaultLemmas.{handed_on}
 pub use Rattle.command_parts.specs.declared.fault.Fault.{Fault}
 pub use Rattle.command_parts.specs.declared.fault.Fault.TheVariants.{Read, Refused, TooLong}
-pub use Rattle.command_listings.specs.LastingLogs.{Block, Event, Failed, Happen, Listings, ReadsBlock, Seen}
+pub use Rattle.command_listings.specs.LastingLogs.{Block, Event, Failed, Happen, Listings}
+pub use Rattle.command_listings.specs.LastingLogs.{ReadsBlock, Seen}
 pub use Rattle.command_listings.specs.Following.{AreAsKnown, ReadsOnce, Turn, events_of, read_in}
 pub use Rattle.recordings.specs.Recordings.{CarriedOn}
 pub use Rattle.recordings.specs.declared.events.EventLine.{EventLine}

@@ -8,7 +8,8 @@ use Rattle.histories.specs.Changes.{is_among}
 use Rattle.histories.specs.ListingLines.{module_of, without_end}
 use Rattle.recordings.specs.KernelEvents.{KernelEvent}
 use Rattle.recordings.specs.ModuleLines.{text_of}
-use Rattle.recordings.specs.Recordings.{BlockRead, BlockWritten, after_event, is_freed, is_listed_by}
+use Rattle.recordings.specs.Recordings.{BlockRead, BlockWritten, after_event, is_freed}
+use Rattle.recordings.specs.Recordings.{is_listed_by}
 
 -- a line is one of the module of this name
 abbrev pub is_of : List ℕ → List ℕ → Bool

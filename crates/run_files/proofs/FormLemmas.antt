@@ -1,5 +1,8 @@
 -- Words of another number than that of a form are not of this form.
-use Rattle.run_files.proofs.Words.{◌≡◌, ℕ, ◌<◌, ◌≤◌, Bool, ◌&&◌, List, [], ◌∷◌, length, map, None, Option, refl, ap, arith, Bor, slice_index_or, bytes_eq, codes, Words, header_of_words, header_with, number_of, command_of, command_with, erase_of, insert_of, read_of, start_of, write_of}
+use Rattle.run_files.proofs.Words.{◌≡◌, ℕ, ◌<◌, ◌≤◌, Bool, ◌&&◌, List, [], ◌∷◌, length, map, None}
+use Rattle.run_files.proofs.Words.{Option, refl, ap, arith, Bor, slice_index_or, bytes_eq, codes}
+use Rattle.run_files.proofs.Words.{Words, header_of_words, header_with, number_of, command_of}
+use Rattle.run_files.proofs.Words.{command_with, erase_of, insert_of, read_of, start_of, write_of}
 use Rattle.facts.proofs.Options.{cond-None}
 
 pub insert_short : (words : Words) → length words < 3 → insert_of (map (λ w. w.now) words) ≡ None
@@ -64,7 +67,8 @@ verb_alone batches verb =
     (cond-None (bytes_eq verb (codes "start")) _ _ refl
     (cond-None (bytes_eq verb (codes "read")) _ _ refl refl)))))
 
-pub command_long : (verb : List ℕ) (words : List (List ℕ)) → 3 < length words → command_of (verb ∷ words) ≡ None
+pub command_long : (verb : List ℕ) (words : List (List ℕ)) → 3 < length words
+    → command_of (verb ∷ words) ≡ None
 command_long verb [] many = absurd (omega arith)
 command_long verb (a ∷ []) many = absurd (omega arith)
 command_long verb (a ∷ b ∷ []) many = absurd (omega arith)
@@ -76,14 +80,16 @@ command_long verb (a ∷ b ∷ c ∷ d ∷ words) many =
     (cond-None (bytes_eq verb (codes "start")) _ _ refl
     (cond-None (bytes_eq verb (codes "read")) _ _ refl refl))))
 
-pub header_short : (words : Words) → length words < 4 → header_of_words (map (λ w. w.now) words) ≡ None
+pub header_short : (words : Words) → length words < 4
+    → header_of_words (map (λ w. w.now) words) ≡ None
 header_short [] few = refl
 header_short (a ∷ []) few = refl
 header_short (a ∷ b ∷ []) few = refl
 header_short (a ∷ b ∷ c ∷ []) few = refl
 header_short (a ∷ b ∷ c ∷ d ∷ words) few = absurd (omega arith)
 
-pub header_long : (words : Words) → 6 ≤ length words → header_of_words (map (λ w. w.now) words) ≡ None
+pub header_long : (words : Words) → 6 ≤ length words
+    → header_of_words (map (λ w. w.now) words) ≡ None
 header_long [] many = absurd (omega arith)
 header_long (a ∷ []) many = absurd (omega arith)
 header_long (a ∷ b ∷ []) many = absurd (omega arith)
@@ -101,8 +107,11 @@ header_too_long (a ∷ b ∷ c ∷ d ∷ []) many = absurd (omega arith)
 header_too_long (a ∷ b ∷ c ∷ d ∷ e ∷ []) many = absurd (omega arith)
 header_too_long (a ∷ b ∷ c ∷ d ∷ e ∷ f ∷ words) many = refl
 
-pub header_five : (words : Words) (d : Bor (List ℕ)) (start : Option ℕ) → start ≡ number_of (slice_index_or words 4 d).now → 5 ≤ length words → length words < 6
-    → header_with (slice_index_or words 0 d).now (slice_index_or words 1 d).now (slice_index_or words 2 d).now (slice_index_or words 3 d).now start ≡ header_of_words (map (λ w. w.now) words)
+pub header_five : (words : Words) (d : Bor (List ℕ)) (start : Option ℕ)
+    → start ≡ number_of (slice_index_or words 4 d).now → 5 ≤ length words → length words < 6
+    → header_with (slice_index_or words 0 d).now (slice_index_or words 1 d).now
+    (slice_index_or words 2 d).now (slice_index_or words 3 d).now start
+    ≡ header_of_words (map (λ w. w.now) words)
 header_five [] d start e many few = absurd (omega arith)
 header_five (a ∷ []) d start e many few = absurd (omega arith)
 header_five (a ∷ b ∷ []) d start e many few = absurd (omega arith)

@@ -1,11 +1,18 @@
 -- What the digits that are left say of a numeral.
-use Rattle.texts.proofs.Words.{◌++◌, ◌&&◌, length-append, ◌≡◌, ℕ, suc, ◌+◌, ◌*◌, ◌^◌, ◌<◌, ◌≤◌, true, List, ◌∷◌, length, Some, None, Bool, get_or, drop, drop-cons, sym, ap, ◌∙◌, arith, common_steps, list_all, is_digit, digit_value, digits_value, digits_value_after, digits_value_after-ge, half_fits, two_halves, numeral}
+use Rattle.texts.proofs.Words.{◌++◌, ◌&&◌, length-append, ◌≡◌, ℕ, suc, ◌+◌, ◌*◌, ◌^◌, ◌<◌, ◌≤◌}
+use Rattle.texts.proofs.Words.{true, List, ◌∷◌, length, Some, None, Bool, get_or, drop, drop-cons}
+use Rattle.texts.proofs.Words.{sym, ap, ◌∙◌, arith, common_steps, list_all, is_digit, digit_value}
+use Rattle.texts.proofs.Words.{digits_value, digits_value_after, digits_value_after-ge, half_fits}
+use Rattle.texts.proofs.Words.{two_halves, numeral}
 use Rattle.std.proofs.lemmas.List.Folds.{list_all-append}
 
-pub too_great : (radix most : ℕ) (digits : List ℕ) → 2 ^ 64 ≤ digits_value radix digits → numeral radix most digits ≡ None
+pub too_great : (radix most : ℕ) (digits : List ℕ) → 2 ^ 64 ≤ digits_value radix digits
+    → numeral radix most digits ≡ None
 too_great radix most digits h = grind (arith, common_steps, h)
 
-pub is_value : (radix most : ℕ) (digits : List ℕ) → 0 < length digits → length digits ≤ most → list_all (λ c. is_digit c radix) digits ≡ true → digits_value radix digits < 2 ^ 64 → numeral radix most digits ≡ Some (digits_value radix digits)
+pub is_value : (radix most : ℕ) (digits : List ℕ) → 0 < length digits → length digits ≤ most
+    → list_all (λ c. is_digit c radix) digits ≡ true → digits_value radix digits < 2 ^ 64
+    → numeral radix most digits ≡ Some (digits_value radix digits)
 is_value radix most digits some few all small = grind (arith, common_steps, some, few, all, small)
 
 -- A value that does not fit in the middle of the digits does not fit at their end.
@@ -14,9 +21,17 @@ pub overflows : (radix most value i : ℕ) (text : List ℕ) → 2 ≤ radix →
     → 2 ^ 64 ≤ value * radix + digit_value (get_or text i 0) → numeral radix most text ≡ None
 overflows radix most value i text two h e big =
     let shift : suc i ≡ i + 1 = omega arith in
-    let unrolled : digits_value_after radix (value * radix + digit_value (get_or text i 0)) (drop (i + 1) text) ≡ digits_value radix text =
-    ap (digits_value_after radix value) (sym (drop-cons text i 0 h ∙ ap (λ n. get_or text i 0 ∷ drop n text) shift)) ∙ e in
-    too_great radix most text (omega (arith, big, unrolled, digits_value_after-ge radix (value * radix + digit_value (get_or text i 0)) (drop (i + 1) text) (omega arith)))
+    let unrolled : digits_value_after radix (value * radix + digit_value (get_or text i 0))
+    (drop (i + 1) text) ≡ digits_value radix text =
+    ap (digits_value_after radix value)
+    (sym (drop-cons text i 0 h ∙ ap (λ n. get_or text i 0 ∷ drop n text) shift)) ∙ e in
+    too_great radix most text (omega (
+      arith,
+      big,
+      unrolled,
+      digits_value_after-ge radix (value * radix + digit_value (get_or text i 0))
+          (drop (i + 1) text) (omega arith),
+    ))
 
 -- ---- sixteen digits fit 64 bits
 
@@ -29,11 +44,13 @@ pub is_sixteen : (high low : List ℕ) → length high ≡ 8 → length low ≡ 
 is_sixteen high low eight_high eight_low all_high all_low =
     let text = high ++ low in
     let long : length text ≡ 16 = omega (arith, length-append high low) in
-    let all : list_all (λ c. is_digit c 16) text ≡ true = list_all-append (λ c. is_digit c 16) high low ∙ both_true all_high all_low in
+    let all : list_all (λ c. is_digit c 16) text ≡ true =
+    list_all-append (λ c. is_digit c 16) high low ∙ both_true all_high all_low in
     let value = two_halves high low eight_low in
     let small_high = half_fits high eight_high all_high in
     let small_low = half_fits low eight_low all_low in
-    is_value 16 16 text (omega arith) (omega arith) all (omega (arith, value, small_high, small_low)) ∙ ap Some (sym value)
+    is_value 16 16 text (omega arith) (omega arith) all
+    (omega (arith, value, small_high, small_low)) ∙ ap Some (sym value)
   where
     both_true : {a b : Bool} → a ≡ true → b ≡ true → (a && b) ≡ true
     both_true p q = cc

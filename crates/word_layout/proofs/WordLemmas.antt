@@ -1,5 +1,7 @@
 -- Where words lie: words of different fields, nodes and copies differ.
-use Rattle.word_layout.proofs.Words.{◌≡◌, ◌≢◌, ℕ, ◌+◌, ◌*◌, ◌<◌, ◌≤◌, List, subst, inl, inr, ⊎_elim, arith, ◌⊎◌, words_per_node, words_for, root_word, left_word, right_word, IsWordOf, InUse, Reaches, IsItemWord, IsLinkWord}
+use Rattle.word_layout.proofs.Words.{◌≡◌, ◌≢◌, ℕ, ◌+◌, ◌*◌, ◌<◌, ◌≤◌, List, subst, inl, inr, ⊎_elim}
+use Rattle.word_layout.proofs.Words.{arith, ◌⊎◌, words_per_node, words_for, root_word, left_word}
+use Rattle.word_layout.proofs.Words.{right_word, IsWordOf, InUse, Reaches, IsItemWord, IsLinkWord}
 
 -- a word that readers of this copy could load
 abbrev pub IsCopyWord : ℕ → ℕ → Type 0
@@ -10,14 +12,17 @@ in_copy m n copy w u = ⊎_elim (λ e. inl e) (λ (i, r, is). inr (i, is)) u
 
 -- which of a node's words a word is
 pub of_item : (i w : ℕ) → IsItemWord i w → (k : ℕ) × (k < 3) × (w ≡ 3 + k + words_per_node * i)
-of_item i w is = ⊎_elim (λ e. (0, omega arith, omega arith)) (⊎_elim (λ e. (1, omega arith, omega arith)) (λ e. (2, omega arith, omega arith))) is
+of_item i w is = ⊎_elim (λ e. (0, omega arith, omega arith))
+    (⊎_elim (λ e. (1, omega arith, omega arith)) (λ e. (2, omega arith, omega arith))) is
 
-pub of_word : (copy i w : ℕ) → copy ≤ 1 → IsWordOf copy i w → (k : ℕ) × (k < words_per_node) × (w ≡ 3 + k + words_per_node * i)
+pub of_word : (copy i w : ℕ) → copy ≤ 1 → IsWordOf copy i w
+    → (k : ℕ) × (k < words_per_node) × (w ≡ 3 + k + words_per_node * i)
 of_word copy i w c is =
     ⊎_elim (λ e. (0, omega arith, omega arith))
     (⊎_elim (λ e. (1, omega arith, omega arith))
     (⊎_elim (λ e. (2, omega arith, omega arith))
-    (⊎_elim (λ e. (3 + 2 * copy, omega arith, omega arith)) (λ e. (4 + 2 * copy, omega arith, omega arith))))) is
+    (⊎_elim (λ e. (3 + 2 * copy, omega arith, omega arith))
+    (λ e. (4 + 2 * copy, omega arith, omega arith))))) is
 
 -- a word of two nodes makes them one
 pub one_node : (copy i j w : ℕ) → copy ≤ 1 → IsItemWord i w → IsWordOf copy j w → j ≡ i
@@ -46,19 +51,24 @@ link_no_item n copy i w c l is =
     let x = of_item i w is in
     let xl = x.1 in
     let xe = x.2 in
-    ⊎_elim (λ e. absurd (omega arith)) (λ (j, lt, e). ⊎_elim (λ f. absurd (omega arith)) (λ f. absurd (omega arith)) e) l
+    ⊎_elim (λ e. absurd (omega arith))
+    (λ (j, lt, e). ⊎_elim (λ f. absurd (omega arith)) (λ f. absurd (omega arith)) e) l
 
-pub link_no_other : (n copy other w : ℕ) → copy + other ≡ 1 → IsLinkWord n copy w → IsCopyWord other w → ⊥
+pub link_no_other : (n copy other w : ℕ) → copy + other ≡ 1 → IsLinkWord n copy w
+    → IsCopyWord other w → ⊥
 link_no_other n copy other w c l is =
     ⊎_elim
-    (λ e. ⊎_elim (λ f. absurd (omega arith)) (λ (i, f). let x = of_word other i w (omega arith) f in let xe = x.2 in absurd (omega arith)) is)
+    (λ e. ⊎_elim (λ f. absurd (omega arith)) (λ (i, f). let x = of_word other i w (omega arith) f in
+    let xe = x.2 in absurd (omega arith)) is)
     (λ (j, lt, e).
     ⊎_elim
     (λ f. ⊎_elim (λ g. absurd (omega arith)) (λ g. absurd (omega arith)) e)
     (λ (i, f).
     ⊎_elim
-    (λ g. ⊎_elim (λ h. absurd (omega arith)) (⊎_elim (λ h. absurd (omega arith)) (⊎_elim (λ h. absurd (omega arith)) (⊎_elim (λ h. absurd (omega arith)) (λ h. absurd (omega arith))))) f)
-    (λ g. ⊎_elim (λ h. absurd (omega arith)) (⊎_elim (λ h. absurd (omega arith)) (⊎_elim (λ h. absurd (omega arith)) (⊎_elim (λ h. absurd (omega arith)) (λ h. absurd (omega arith))))) f)
+    (λ g. ⊎_elim (λ h. absurd (omega arith)) (⊎_elim (λ h. absurd (omega arith)) (⊎_elim (λ h.
+    absurd (omega arith)) (⊎_elim (λ h. absurd (omega arith)) (λ h. absurd (omega arith))))) f)
+    (λ g. ⊎_elim (λ h. absurd (omega arith)) (⊎_elim (λ h. absurd (omega arith)) (⊎_elim (λ h.
+    absurd (omega arith)) (⊎_elim (λ h. absurd (omega arith)) (λ h. absurd (omega arith))))) f)
     e)
     is)
     l
@@ -66,35 +76,50 @@ link_no_other n copy other w c l is =
 pub link_place : (n copy w : ℕ) → copy ≤ 1 → IsLinkWord n copy w → (w ≢ 0) × (w < words_for n)
 link_place n copy w c l =
     ⊎_elim (λ e. ((λ z. absurd (omega arith)), omega arith))
-    (λ (j, lt, e). ⊎_elim (λ f. ((λ z. absurd (omega arith)), omega arith)) (λ f. ((λ z. absurd (omega arith)), omega arith)) e) l
+    (λ (j, lt, e). ⊎_elim (λ f. ((λ z. absurd (omega arith)), omega arith))
+    (λ f. ((λ z. absurd (omega arith)), omega arith)) e) l
 
 pub item_place : (n i w : ℕ) → i < n → IsItemWord i w → (w ≢ 0) × (w < words_for n)
-item_place n i w lt is = let x = of_item i w is in let xl = x.1 in let xe = x.2 in ((λ z. absurd (omega arith)), omega arith)
+item_place n i w lt is = let x = of_item i w is in
+    let xl = x.1 in
+    let xe = x.2 in
+    ((λ z. absurd (omega arith)), omega arith)
 
 -- an item word is neither the sequence nor a root nor a link
 pub item_not_zero : (i w : ℕ) → IsItemWord i w → w ≢ 0
 item_not_zero i w is z = let x = of_item i w is in let xe = x.2 in absurd (omega arith)
 
 pub item_not_root : (i copy : ℕ) → copy ≤ 1 → IsItemWord i (root_word copy) → ⊥
-item_not_root i copy c is = let x = of_item i (root_word copy) is in let xe = x.2 in absurd (omega arith)
+item_not_root i copy c is = let x = of_item i (root_word copy) is in
+    let xe = x.2 in
+    absurd (omega arith)
 
 pub item_not_left : (i copy j : ℕ) → copy ≤ 1 → IsItemWord i (left_word copy j) → ⊥
-item_not_left i copy j c is = let x = of_item i (left_word copy j) is in let xl = x.1 in let xe = x.2 in absurd (omega arith)
+item_not_left i copy j c is = let x = of_item i (left_word copy j) is in
+    let xl = x.1 in
+    let xe = x.2 in
+    absurd (omega arith)
 
 pub item_not_right : (i copy j : ℕ) → copy ≤ 1 → IsItemWord i (right_word copy j) → ⊥
-item_not_right i copy j c is = let x = of_item i (right_word copy j) is in let xl = x.1 in let xe = x.2 in absurd (omega arith)
+item_not_right i copy j c is = let x = of_item i (right_word copy j) is in
+    let xl = x.1 in
+    let xe = x.2 in
+    absurd (omega arith)
 
 -- word 0 is no word of a copy, and in no use
 pub copy_not_zero : (copy w : ℕ) → IsCopyWord copy w → w ≢ 0
 copy_not_zero copy w is z =
     ⊎_elim (λ e. absurd (omega arith))
-    (λ (i, f). ⊎_elim (λ h. absurd (omega arith)) (⊎_elim (λ h. absurd (omega arith)) (⊎_elim (λ h. absurd (omega arith)) (⊎_elim (λ h. absurd (omega arith)) (λ h. absurd (omega arith))))) f) is
+    (λ (i, f). ⊎_elim (λ h. absurd (omega arith)) (⊎_elim (λ h. absurd (omega arith)) (⊎_elim (λ h.
+    absurd (omega arith)) (⊎_elim (λ h. absurd (omega arith)) (λ h. absurd (omega arith))))) f)
+    is
 
 pub used_not_zero : (m : List ℕ) (n copy w : ℕ) → InUse m n copy w → w ≢ 0
 used_not_zero m n copy w u = copy_not_zero copy w (in_copy m n copy w u)
 
 -- an item word of a node that this copy does not reach is in no use there
-pub unused_item : (m : List ℕ) (n copy node w : ℕ) → copy ≤ 1 → (Reaches m n copy node → ⊥) → IsItemWord node w → InUse m n copy w → ⊥
+pub unused_item : (m : List ℕ) (n copy node w : ℕ) → copy ≤ 1 → (Reaches m n copy node → ⊥)
+    → IsItemWord node w → InUse m n copy w → ⊥
 unused_item m n copy node w c free is u =
     ⊎_elim (λ e. let x = of_item node w is in let xe = x.2 in absurd (omega arith))
     (λ (j, r, h). free (subst (Reaches m n copy) (one_node copy node j w c is h) r)) u

@@ -1,4 +1,5 @@
-use Rattle.command_line.proofs.Words.{◌≡◌, take, None, find, filter_map, address_of_text, is_no_address}
+use Rattle.command_line.proofs.Words.{◌≡◌, take, None, find, filter_map, address_of_text}
+use Rattle.command_line.proofs.Words.{is_no_address}
 use Rattle.command_line.proofs.AddressLemmas.{texts}
 use Rattle.command_line.proofs.arguments.addresses_of.Given as goal
 

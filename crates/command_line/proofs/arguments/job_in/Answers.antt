@@ -4,5 +4,7 @@ use Rattle.command_line.proofs.arguments.job_in.Goals as goal
 
 pub returns-in-Some : goal.returns-in-Some
 returns-in-Some c =
-    let entered = entered_is c.args.matches.now c.in-Some.name.now (rows_of (found_of c.in-Some.found.now)) c.in-Some.ensures.name c.in-Some.ensures.rows in
-    subst (λ s. AnswersMatches s c.job_of_subcommand.result) (sym entered) c.job_of_subcommand.ensures
+    let entered = entered_is c.args.matches.now c.in-Some.name.now
+    (rows_of (found_of c.in-Some.found.now)) c.in-Some.ensures.name c.in-Some.ensures.rows in
+    subst (λ s. AnswersMatches s c.job_of_subcommand.result) (sym entered)
+    c.job_of_subcommand.ensures

@@ -5,13 +5,16 @@ pub returns-in_err-kernel : goal.returns-in_err-kernel
 returns-in_err-kernel c =
     let name = c.args.name.now in
     let rows = rows_of (found_of c.args.found.now) in
-    handed_on (Gives (IsRequestIn name) name rows) c.from_residual.result c.in_err-kernel.field-0.0 c.from_residual.ensures.1 (c.in_err-kernel.ensures name)
+    handed_on (Gives (IsRequestIn name) name rows) c.from_residual.result c.in_err-kernel.field-0.0
+    c.from_residual.ensures.1 (c.in_err-kernel.ensures name)
 
 pub returns-in_err-symbols : goal.returns-in_err-symbols
 returns-in_err-symbols c =
     let name = c.args.name.now in
     let rows = rows_of (found_of c.args.found.now) in
-    handed_on (Gives (IsRequestIn name) name rows) c.from_residual-in_err-symbols.result c.in_err-symbols.field-0.0 c.from_residual-in_err-symbols.ensures.1 (c.in_err-symbols.ensures name)
+    handed_on (Gives (IsRequestIn name) name rows) c.from_residual-in_err-symbols.result
+    c.in_err-symbols.field-0.0 c.from_residual-in_err-symbols.ensures.1
+    (c.in_err-symbols.ensures name)
 
 pub returns : goal.returns
 returns c = record {

@@ -11,5 +11,6 @@ returns g c =
     let at = then word (same_text (ap hexadecimal addr) c.put_hexadecimal.ensures) in
     let blank = then at c.put-3.ensures in
     let size = then blank (same_text (ap hexadecimal c.size.ensures) c.put_hexadecimal-2.ensures) in
-    let owner = then size (same_text (ap (λ (x : Kept). owner_text x.owner) c.symbol.view_is) c.put_owner.ensures) in
+    let owner = then size
+    (same_text (ap (λ (x : Kept). owner_text x.owner) c.symbol.view_is) c.put_owner.ensures) in
     then owner c.put-4.ensures

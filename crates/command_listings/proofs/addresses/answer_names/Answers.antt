@@ -1,4 +1,8 @@
-use Rattle.command_listings.proofs.Words.{[], ◌∙◌, ap, cond, map, subst, sym, unwrap_or, option_copied, IsAddressed, words_text, AnswersGiven, IsSought, found_by, kept_symbols, catalog_opened, IsCatalogOf, texts_in, symbols_in, lines_of, then_flushed, handed_on}
+use Rattle.command_listings.proofs.Words.{[], ◌∙◌, ap, cond, map, subst, sym, unwrap_or}
+use Rattle.command_listings.proofs.Words.{option_copied, IsAddressed, words_text, AnswersGiven}
+use Rattle.command_listings.proofs.Words.{IsSought, found_by, kept_symbols, catalog_opened}
+use Rattle.command_listings.proofs.Words.{IsCatalogOf, texts_in, symbols_in, lines_of, then_flushed}
+use Rattle.command_listings.proofs.Words.{handed_on}
 use Rattle.command_listings.proofs.GivenLemmas.{not_opened, said_or_not}
 use Rattle.command_listings.proofs.SoughtLemmas.{line_by_map, text_by_map}
 use Rattle.command_listings.proofs.addresses.answer_names.Goals as goal
@@ -10,7 +14,8 @@ returns-in_err-opened g c =
     let Is = IsAddressed a.form kernel (map (λ w. w.now) a.words.now) in
     let given = texts_in a.texts.now in
     let fault = c.in_err-opened.field-0.0 in
-    handed_on (AnswersGiven g.W.Write.contents Is given a.writer.now a.writer.now) c.from_residual.result fault c.from_residual.ensures.1
+    handed_on (AnswersGiven g.W.Write.contents Is given a.writer.now a.writer.now)
+    c.from_residual.result fault c.from_residual.ensures.1
     (not_opened g.W.Write.contents Is kernel given a.writer.now fault c.in_err-opened.ensures)
 
 pub returns : goal.returns
@@ -23,9 +28,15 @@ returns g c =
     let notes = c.in_ok-opened.opened.notes in
     let m = c.in_ok-sought.sought in
     let kept = kept_symbols index (symbols_in (lines_of given.kallsyms)) in
-    let says = subst (λ x. IsCatalogOf kernel given x notes) (sym c.in_ok-index.ensures) (catalog_opened kernel given c.in_ok-opened.opened c.in_ok-opened.ensures) in
-    let has = subst (λ text. IsSought words (kept_symbols index (symbols_in (lines_of text))) m) c.deref.ensures.value c.in_ok-sought.ensures in
-    let status = c.status_of_found-status.ensures ∙ ap (λ b. cond b 0 1) (c.has_any_line.ensures ∙ line_by_map a.form words kept m has) in
-    said_or_not g.W.Write.contents (IsAddressed a.form kernel words) given a.writer.now c.flush.new.self (record { status = c.status_of_found-status.result; notes = notes })
-    (words_text a.form (λ name. unwrap_or (found_by m name) []) words) (index, says, text_by_map a.form words kept m has, status)
-    (then_flushed c.put_words.ensures c.flush.ensures) c.unless_failed.result c.unless_failed.ensures
+    let says = subst (λ x. IsCatalogOf kernel given x notes) (sym c.in_ok-index.ensures)
+    (catalog_opened kernel given c.in_ok-opened.opened c.in_ok-opened.ensures) in
+    let has = subst (λ text. IsSought words (kept_symbols index (symbols_in (lines_of text))) m)
+    c.deref.ensures.value c.in_ok-sought.ensures in
+    let status = c.status_of_found-status.ensures
+    ∙ ap (λ b. cond b 0 1) (c.has_any_line.ensures ∙ line_by_map a.form words kept m has) in
+    said_or_not g.W.Write.contents (IsAddressed a.form kernel words) given a.writer.now
+    c.flush.new.self (record { status = c.status_of_found-status.result; notes = notes })
+    (words_text a.form (λ name. unwrap_or (found_by m name) []) words)
+    (index, says, text_by_map a.form words kept m has, status)
+    (then_flushed c.put_words.ensures c.flush.ensures) c.unless_failed.result
+    c.unless_failed.ensures

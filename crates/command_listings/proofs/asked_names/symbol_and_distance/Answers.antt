@@ -1,4 +1,5 @@
-use Rattle.command_listings.proofs.Words.{◌∙◌, ◌+◌, ℕ, List, Option, take, ap, sym, Bor, take_rest, Distance, distance_in}
+use Rattle.command_listings.proofs.Words.{◌∙◌, ◌+◌, ℕ, List, Option, take, ap, sym, Bor, take_rest}
+use Rattle.command_listings.proofs.Words.{Distance, distance_in}
 use Rattle.std.specs.Option.{option_and_then, option_map}
 use Rattle.command_listings.proofs.AskedNameLemmas.{last_here, no_last}
 use Rattle.command_listings.proofs.asked_names.symbol_and_distance.Goals as goal
@@ -14,7 +15,8 @@ abbrev with : List ℕ → Option Distance → Option (List ℕ × Distance)
 with symbol o = option_map (λ n. (symbol, n)) o
 
 pub returns-in_err-plus : goal.returns-in_err-plus
-returns-in_err-plus c = ap told c.from_residual.ensures ∙ sym (ap by_cut (no_last 43 c.args.text.now c.in_err-plus.ensures))
+returns-in_err-plus c = ap told c.from_residual.ensures
+    ∙ sym (ap by_cut (no_last 43 c.args.text.now c.in_err-plus.ensures))
 
 pub returns-in_err-above : goal.returns-in_err-above
 returns-in_err-above c =
@@ -22,7 +24,8 @@ returns-in_err-above c =
     let plus = c.in_ok-plus.plus in
     let (last, found) = c.in_ok-plus.ensures in
     ap told c.from_residual-in_err-above.ensures
-    ∙ ap (with (take plus text)) (c.in_err-above.ensures ∙ ap distance_in (take_rest text (plus + 1)))
+    ∙ ap (with (take plus text))
+    (c.in_err-above.ensures ∙ ap distance_in (take_rest text (plus + 1)))
     ∙ sym (ap by_cut (last_here 43 text plus last.high found last.after))
 
 pub returns : goal.returns

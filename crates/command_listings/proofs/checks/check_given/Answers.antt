@@ -1,4 +1,10 @@
-use Rattle.command_listings.proofs.Words.{◌≡◌, ◌∙◌, ℕ, List, Option, ap, false, subst, sym, option_copied, lines_of, texts_in, bounds_are, bounds_for, BoundNames, HoldsOf, IsOpened, Tallies, are_modules_hidden, are_symbols_hidden, holds_at, listings_of, same_texts, symbols_of, tallies_of, tallies_said, IsChecked, IsReport, opened_report, report, report_by, AnswersGiven, option_map_or, handed_on}
+use Rattle.command_listings.proofs.Words.{◌≡◌, ◌∙◌, ℕ, List, Option, ap, false, subst, sym}
+use Rattle.command_listings.proofs.Words.{option_copied, lines_of, texts_in, bounds_are, bounds_for}
+use Rattle.command_listings.proofs.Words.{BoundNames, HoldsOf, IsOpened, Tallies}
+use Rattle.command_listings.proofs.Words.{are_modules_hidden, are_symbols_hidden, holds_at}
+use Rattle.command_listings.proofs.Words.{listings_of, same_texts, symbols_of, tallies_of}
+use Rattle.command_listings.proofs.Words.{tallies_said, IsChecked, IsReport, opened_report, report}
+use Rattle.command_listings.proofs.Words.{report_by, AnswersGiven, option_map_or, handed_on}
 use Rattle.listing.specs.ModuleListing.{modules_in}
 use Rattle.listing.specs.Owners.{unlisted_owner}
 use Rattle.std.specs.Option.{option_and_then}
@@ -12,28 +18,37 @@ returns-in_err-opened g c =
     let Is = IsChecked kernel a.files.now (option_copied a.history) in
     let given = texts_in a.texts.now in
     let fault = c.in_err-opened.field-0.0 in
-    handed_on (AnswersGiven g.W.Write.contents Is given a.writer.now a.writer.now) c.from_residual.result fault c.from_residual.ensures.1
+    handed_on (AnswersGiven g.W.Write.contents Is given a.writer.now a.writer.now)
+    c.from_residual.result fault c.from_residual.ensures.1
     (not_opened g.W.Write.contents Is kernel given a.writer.now fault c.in_err-opened.ensures)
 
 pub put_report-requires-clause-modules : goal.put_report-requires-clause-modules
 put_report-requires-clause-modules g c = λ text listed.
     let given = texts_in c.args.texts.now in
-    let (l, at, is) = holds_at (λ x. IsOpened (option_copied c.args.kernel) false x c.in_ok-opened.opened) (listings_of given) c.in_ok-opened.ensures in
-    is.modules_hidden ∙ ap (λ m. option_map_or (λ t. are_modules_hidden (lines_of t)) m false) ((same_texts given l at).0 ∙ listed)
+    let (l, at, is) =
+    holds_at (λ x. IsOpened (option_copied c.args.kernel) false x c.in_ok-opened.opened)
+    (listings_of given) c.in_ok-opened.ensures in
+    is.modules_hidden ∙ ap (λ m. option_map_or (λ t. are_modules_hidden (lines_of t)) m false)
+    ((same_texts given l at).0 ∙ listed)
 
 pub put_report-requires-clause-unlisted : goal.put_report-requires-clause-unlisted
 put_report-requires-clause-unlisted g c = λ text listed.
     let given = texts_in c.args.texts.now in
-    let (l, at, is) = holds_at (λ x. IsOpened (option_copied c.args.kernel) false x c.in_ok-opened.opened) (listings_of given) c.in_ok-opened.ensures in
+    let (l, at, is) =
+    holds_at (λ x. IsOpened (option_copied c.args.kernel) false x c.in_ok-opened.opened)
+    (listings_of given) c.in_ok-opened.ensures in
     let (modules, kallsyms) = same_texts given l at in
     is.unlisted
-    ∙ ap (option_and_then (λ t. unlisted_owner (modules_in (lines_of t)) (symbols_of false l.kallsyms))) (modules ∙ listed)
+    ∙ ap (option_and_then (λ t.
+    unlisted_owner (modules_in (lines_of t)) (symbols_of false l.kallsyms))) (modules ∙ listed)
     ∙ ap (λ k. unlisted_owner (modules_in (lines_of text)) (symbols_of false k)) kallsyms
 
 pub put_report-requires-clause-symbols : goal.put_report-requires-clause-symbols
 put_report-requires-clause-symbols g c =
     let given = texts_in c.args.texts.now in
-    let (l, at, is) = holds_at (λ x. IsOpened (option_copied c.args.kernel) false x c.in_ok-opened.opened) (listings_of given) c.in_ok-opened.ensures in
+    let (l, at, is) =
+    holds_at (λ x. IsOpened (option_copied c.args.kernel) false x c.in_ok-opened.opened)
+    (listings_of given) c.in_ok-opened.ensures in
     is.symbols_hidden ∙ ap (λ t. are_symbols_hidden (lines_of t)) (same_texts given l at).1
 
 pub returns : goal.returns
@@ -47,15 +62,21 @@ returns g c =
     let names = c.unwrap_or-names.result.now in
     let status = c.status_of_kept.result in
     let text = opened_report names files history given o in
-    let (l, at, is) = holds_at (λ x. IsOpened kernel false x o) (listings_of given) c.in_ok-opened.ensures in
+    let (l, at, is) =
+    holds_at (λ x. IsOpened kernel false x o) (listings_of given) c.in_ok-opened.ensures in
     let (modules, kallsyms) = same_texts given l at in
-    let by : BoundNames → Option (List ℕ) → List ℕ → Tallies → List ℕ = λ n m k t. report_by n files history m k o.catalog o.built.symbols t in
-    let named = bounds_are a.kernel _ c.unwrap_or-names.result (symbols_of false l.kallsyms) c.unwrap_or-names.ensures is.usual in
+    let by : BoundNames → Option (List ℕ) → List ℕ → Tallies → List ℕ =
+    λ n m k t. report_by n files history m k o.catalog o.built.symbols t in
+    let named = bounds_are a.kernel _ c.unwrap_or-names.result (symbols_of false l.kallsyms)
+    c.unwrap_or-names.ensures is.usual in
     let text_is : text ≡ report kernel files history l o.catalog o.built =
     ap (λ m. by names m given.kallsyms (tallies_of o)) (sym modules)
     ∙ ap (λ k. by names l.modules k (tallies_of o)) (sym kallsyms)
     ∙ ap (λ n. by n l.modules l.kallsyms (tallies_of o)) named
-    ∙ ap (by (bounds_for kernel (symbols_of false l.kallsyms)) l.modules l.kallsyms) (tallies_said kernel false l o is) in
-    said_or_not g.W.Write.contents (IsChecked kernel files history) given a.writer.now c.put_report.new.writer status text
-    (subst (HoldsOf (IsReport kernel files history text status)) (sym at) (o.catalog, o.built, is.said, text_is, c.status_of_kept.ensures))
+    ∙ ap (by (bounds_for kernel (symbols_of false l.kallsyms)) l.modules l.kallsyms)
+    (tallies_said kernel false l o is) in
+    said_or_not g.W.Write.contents (IsChecked kernel files history) given a.writer.now
+    c.put_report.new.writer status text
+    (subst (HoldsOf (IsReport kernel files history text status)) (sym at)
+    (o.catalog, o.built, is.said, text_is, c.status_of_kept.ensures))
     c.put_report.ensures c.unless_failed.result c.unless_failed.ensures

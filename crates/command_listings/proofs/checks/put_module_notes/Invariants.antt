@@ -1,6 +1,9 @@
-use Rattle.command_listings.proofs.Words.{flat_map, take, Says, is_of_modules, line_where, note_line}
+use Rattle.command_listings.proofs.Words.{flat_map, take, Says, is_of_modules, line_where}
+use Rattle.command_listings.proofs.Words.{note_line}
 use Rattle.command_listings.proofs.checks.put_module_notes.Given as goal
 
 -- the lines of the notes so far were written
 abbrev pub invariant-loop-note : goal.invariant-loop-note
-invariant-loop-note g l = Says g.W.Write.contents l.fn.writer l.writer (flat_map (λ note. line_where (is_of_modules l.known.with_mapping l.text l.kallsyms l.catalog note) (note_line l.names l.file note)) (take l.note-index l.notes))
+invariant-loop-note g l = Says g.W.Write.contents l.fn.writer l.writer (flat_map
+    (λ note. line_where (is_of_modules l.known.with_mapping l.text l.kallsyms l.catalog note)
+    (note_line l.names l.file note)) (take l.note-index l.notes))

@@ -7,4 +7,7 @@ pub loop-note-preserved : goal.loop-note-preserved
 loop-note-preserved g c =
     let a = c.args in
     let x = get_or c.all-notes.result.now c.loop-note.note-index note.Empty in
-    note_said a.names.now a.file.now (is_of_kallsyms a.names.now a.facts.is_alone a.text.now a.facts.kept) _ _ x _ c.loop-note-test.true (search rules) c.applies_to_kallsyms-applies.ensures c.loop-note.invariant c.put_note_where.ensures
+    note_said a.names.now a.file.now
+    (is_of_kallsyms a.names.now a.facts.is_alone a.text.now a.facts.kept) _ _ x _
+    c.loop-note-test.true (search rules) c.applies_to_kallsyms-applies.ensures
+    c.loop-note.invariant c.put_note_where.ensures

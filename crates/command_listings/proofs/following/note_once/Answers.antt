@@ -5,10 +5,18 @@ use Rattle.command_listings.proofs.following.note_once.Goals as goal
 
 pub returns-then-is_told : goal.returns-then-is_told
 returns-then-is_told g c =
-    let (note, tells) = some_note c.args.files.now c.args.why.now in
-    (note, tells, subst (λ told. Says g.E.Write.contents c.args.errors.now c.args.errors.now (told_once told note)) (sym c.if-is_told.true) (nothing_said c.args.errors.now))
+    let (note, tells) = some_note c.args.files.now c.args.why.now in (
+      note,
+      tells,
+      subst (λ told. Says g.E.Write.contents c.args.errors.now c.args.errors.now
+          (told_once told note)) (sym c.if-is_told.true) (nothing_said c.args.errors.now),
+    )
 
 pub returns : goal.returns
 returns g c =
-    let (note, tells, said) = c.put_unread.ensures in
-    (note, tells, subst (λ told. Says g.E.Write.contents c.args.errors.now c.put_unread.new.writer (told_once told note)) (sym c.if-is_told.false) said)
+    let (note, tells, said) = c.put_unread.ensures in (
+      note,
+      tells,
+      subst (λ told. Says g.E.Write.contents c.args.errors.now c.put_unread.new.writer
+          (told_once told note)) (sym c.if-is_told.false) said,
+    )

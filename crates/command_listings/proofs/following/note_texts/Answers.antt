@@ -7,6 +7,7 @@ returns g c =
     let opened = c.in_ok-opened.opened in (
       opened.catalog,
       opened.notes,
-      subst (λ k. IsCatalogOf k given opened.catalog opened.notes) c.as_ref.ensures.value (catalog_opened _ given opened c.in_ok-opened.ensures),
+      subst (λ k. IsCatalogOf k given opened.catalog opened.notes) c.as_ref.ensures.value
+          (catalog_opened _ given opened c.in_ok-opened.ensures),
       c.note_listings.ensures,
     )

@@ -8,7 +8,13 @@ returns-in_err-outcome g c =
     let a = c.args in
     let (event, once, puts) = c.in_err-outcome.ensures in
     let (told, is, same) = err_from_is_err_and c.from_residual.result c.from_residual.ensures.1 in
-    rw (is, same) (event, once, after_failed g.W.Write.contents g.E.Write.contents a.request.sources.now a.request.job.now a.part a.followed a.annotator.now c.put_again.new.annotator event a.outputs.now.writer c.put_again.new.writer a.outputs.now.errors c.in_err-outcome.field-0.0 puts)
+    rw (is, same) (
+      event,
+      once,
+      after_failed g.W.Write.contents g.E.Write.contents a.request.sources.now a.request.job.now
+          a.part a.followed a.annotator.now c.put_again.new.annotator event a.outputs.now.writer
+          c.put_again.new.writer a.outputs.now.errors c.in_err-outcome.field-0.0 puts,
+    )
 
 pub returns-in-Ok : goal.returns-in-Ok
 returns-in-Ok g c =
@@ -16,8 +22,12 @@ returns-in-Ok g c =
     let (event, once, puts) = c.in_ok-outcome.ensures in (
       event,
       once,
-      after_put g.W.Write.contents g.E.Write.contents a.request.sources.now a.request.job.now a.part a.followed a.annotator.now c.put_again.new.annotator event a.outputs.now.writer c.put_again.new.writer a.outputs.now.errors c.in-Ok.put
-          (subst (λ o. PutsIfNamed g.W.Write.contents a.request.sources.now a.request.job.now a.part a.followed a.annotator.now c.put_again.new.annotator event a.outputs.now.writer c.put_again.new.writer (Ok o)) c.in-Ok.is puts),
+      after_put g.W.Write.contents g.E.Write.contents a.request.sources.now a.request.job.now a.part
+          a.followed a.annotator.now c.put_again.new.annotator event a.outputs.now.writer
+          c.put_again.new.writer a.outputs.now.errors c.in-Ok.put
+          (subst (λ o. PutsIfNamed g.W.Write.contents a.request.sources.now a.request.job.now a.part
+          a.followed a.annotator.now c.put_again.new.annotator event a.outputs.now.writer
+          c.put_again.new.writer (Ok o)) c.in-Ok.is puts),
     )
 
 pub returns-in-Err : goal.returns-in-Err
@@ -27,7 +37,11 @@ returns-in-Err g c =
     let (note, tells, said) = c.note_once.ensures in (
       event,
       once,
-      after_nameless g.W.Write.contents g.E.Write.contents a.request.sources.now a.request.job.now a.part a.followed a.annotator.now c.put_again.new.annotator c.put_nameless.new.annotator event a.outputs.now.writer c.put_again.new.writer c.put_nameless.new.writer
+      after_nameless g.W.Write.contents g.E.Write.contents a.request.sources.now a.request.job.now
+          a.part a.followed a.annotator.now c.put_again.new.annotator c.put_nameless.new.annotator
+          event a.outputs.now.writer c.put_again.new.writer c.put_nameless.new.writer
           a.outputs.now.errors c.note_once.new.errors c.in-Err.why note c.put_nameless.result
-          (subst (λ o. PutsIfNamed g.W.Write.contents a.request.sources.now a.request.job.now a.part a.followed a.annotator.now c.put_again.new.annotator event a.outputs.now.writer c.put_again.new.writer (Ok o)) c.in-Err.is puts) tells said c.put_nameless.ensures,
+          (subst (λ o. PutsIfNamed g.W.Write.contents a.request.sources.now a.request.job.now a.part
+          a.followed a.annotator.now c.put_again.new.annotator event a.outputs.now.writer
+          c.put_again.new.writer (Ok o)) c.in-Err.is puts) tells said c.put_nameless.ensures,
     )

@@ -9,5 +9,7 @@ returns-in_err-names g c =
     let b = c.put_unnamed.new.annotator in
     let followed : Followed = record { is_narrow = a.followed.is_narrow; is_told = true } in
     let (told, is, same) = err_from_is_err_and c.from_residual.result c.from_residual.ensures.1 in
-    rw (is, same) (puts_on g.W.Write.contents a.writer.now c.put_unnamed.new.writer (PutsPart a.part a.annotator.now b (Unnamed a.followed.is_narrow)) (PutsNameless a.part a.followed a.annotator.now b) (λ names. (followed, names))
+    rw (is, same) (puts_on g.W.Write.contents a.writer.now c.put_unnamed.new.writer
+    (PutsPart a.part a.annotator.now b (Unnamed a.followed.is_narrow))
+    (PutsNameless a.part a.followed a.annotator.now b) (λ names. (followed, names))
     (λ names text put. (refl, refl, put)) c.in_err-names.field-0.0 c.in_err-names.ensures)

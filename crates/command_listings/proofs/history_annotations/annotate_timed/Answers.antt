@@ -1,4 +1,5 @@
-use Rattle.command_listings.proofs.Words.{◌≡◌, ◌∙◌, ◌+◌, List, ℕ, ap, inr, is_narrow, lines_of, listed_kernel, subst, IsCatalogOf, symbols_alone}
+use Rattle.command_listings.proofs.Words.{◌≡◌, ◌∙◌, ◌+◌, List, ℕ, ap, inr, is_narrow, lines_of}
+use Rattle.command_listings.proofs.Words.{listed_kernel, subst, IsCatalogOf, symbols_alone}
 use Rattle.std.specs.Option.{option_copied}
 use Rattle.histories.specs.ListingsAt.{listing_after}
 use Rattle.command_listings.proofs.TimedLemmas.{answers_after, begun, ended_as}
@@ -21,22 +22,39 @@ returns g c =
     let end = c.timed_end-end.result in
     let reader = c.name_to_end-named.new.reader in
     let writer = c.name_to_end-named.new.writer in
-    let listing_is : first.text ≡ first_listing parts = c.in_ok-first.ensures.of.1 ∙ ap (λ (k : ℕ). listing_after k parts) c.in_ok-first.ensures.first in
-    let narrow_is = made.ensures.narrow ∙ c.is_narrow.ensures ∙ ap (λ (t : List ℕ). is_narrow (lines_of t)) (c.text.ensures ∙ listing_is) in
-    let are = answers_after kernel rule parts first c.in_ok-index.index made.result.index c.in_ok-index.notes made.result.rule made.result.is_narrow c.text-3.result.now c.in_ok-first.ensures.of c.text-3.ensures c.in_ok-index.ensures made.ensures.index made.ensures.rule narrow_is in
-    let nothing = begun kernel rule parts remaining contents a.log.now a.outputs.now.writer timed.timed timed.ensures.context timed.ensures.open timed.ensures.times timed.ensures.left timed.ensures.on timed.ensures.head in
-    let turned = c.name_by-asked.ensures.turn kernel rule are a.log.now a.outputs.now.writer 0 nothing in
+    let listing_is : first.text ≡ first_listing parts = c.in_ok-first.ensures.of.1
+    ∙ ap (λ (k : ℕ). listing_after k parts) c.in_ok-first.ensures.first in
+    let narrow_is = made.ensures.narrow ∙ c.is_narrow.ensures
+    ∙ ap (λ (t : List ℕ). is_narrow (lines_of t)) (c.text.ensures ∙ listing_is) in
+    let are = answers_after kernel rule parts first c.in_ok-index.index made.result.index
+    c.in_ok-index.notes made.result.rule made.result.is_narrow c.text-3.result.now
+    c.in_ok-first.ensures.of c.text-3.ensures c.in_ok-index.ensures made.ensures.index
+    made.ensures.rule narrow_is in
+    let nothing = begun kernel rule parts remaining contents a.log.now a.outputs.now.writer
+    timed.timed timed.ensures.context timed.ensures.open timed.ensures.times timed.ensures.left
+    timed.ensures.on timed.ensures.head in
+    let turned =
+    c.name_by-asked.ensures.turn kernel rule are a.log.now a.outputs.now.writer 0 nothing in
     let named = c.name_to_end-named.ensures a.log.now a.outputs.now.writer (0 + 1) turned in
-    let is_timed : IsTimed kernel rule parts remaining contents a.log.now a.outputs.now.writer end reader writer = ended_as kernel rule parts remaining contents a.log.now a.outputs.now.writer c.name_to_end-named.new.log c.name_to_end-named.result end reader writer c.timed_end-end.ensures named in
-    let kernel_is = c.listed_kernel-kernel.ensures ∙ ap (λ (t : List ℕ). listed_kernel t rule.offset) (c.text-2.ensures ∙ listing_is) in
+    let is_timed : IsTimed kernel rule parts remaining contents a.log.now a.outputs.now.writer end
+    reader writer = ended_as kernel rule parts remaining contents a.log.now a.outputs.now.writer
+    c.name_to_end-named.new.log c.name_to_end-named.result end reader writer
+    c.timed_end-end.ensures named in
+    let kernel_is = c.listed_kernel-kernel.ensures
+    ∙ ap (λ (t : List ℕ). listed_kernel t rule.offset) (c.text-2.ensures ∙ listing_is) in
     inr (record {
       catalog = c.in_ok-index.index;
       notes = c.in_ok-index.notes;
       noted = c.note_listings.new.writer;
       end = end;
-      said = subst (λ k. IsCatalogOf k (symbols_alone (first_listing parts)) c.in_ok-index.index c.in_ok-index.notes) c.as_ref.ensures.value
-          (subst (λ t. IsCatalogOf kernel (symbols_alone t) c.in_ok-index.index c.in_ok-index.notes) (c.text-3.ensures ∙ listing_is) c.in_ok-index.ensures);
+      said = subst (λ k. IsCatalogOf k (symbols_alone (first_listing parts)) c.in_ok-index.index
+          c.in_ok-index.notes) c.as_ref.ensures.value
+          (subst (λ t. IsCatalogOf kernel (symbols_alone t) c.in_ok-index.index c.in_ok-index.notes)
+          (c.text-3.ensures ∙ listing_is) c.in_ok-index.ensures);
       told = c.note_listings.ensures;
-      timed = subst (λ k. IsTimed k rule parts remaining contents a.log.now a.outputs.now.writer end reader writer) c.as_ref.ensures.value is_timed;
-      end_told = subst (λ k. IsTimedEndTold g.E.Write.contents a.request.job.now.log.now k c.note_listings.new.writer c.conclude_timed_log.new.errors end c.conclude_timed_log.result) kernel_is c.conclude_timed_log.ensures;
+      timed = subst (λ k. IsTimed k rule parts remaining contents a.log.now a.outputs.now.writer end
+          reader writer) c.as_ref.ensures.value is_timed;
+      end_told = subst (λ k. IsTimedEndTold g.E.Write.contents a.request.job.now.log.now k
+          c.note_listings.new.writer c.conclude_timed_log.new.errors end
+          c.conclude_timed_log.result) kernel_is c.conclude_timed_log.ensures;
     })

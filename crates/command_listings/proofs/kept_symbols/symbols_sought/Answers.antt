@@ -1,4 +1,6 @@
-use Rattle.command_listings.proofs.Words.{[], ◌∷◌, ◌++◌, ◌∙◌, length, map, refl, subst, sym, moved_over, eqb-true, nil_from_length, lines_of, symbols_in, IsSought, kept_symbols}
+use Rattle.command_listings.proofs.Words.{[], ◌∷◌, ◌++◌, ◌∙◌, length, map, refl, subst, sym}
+use Rattle.command_listings.proofs.Words.{moved_over, eqb-true, nil_from_length, lines_of}
+use Rattle.command_listings.proofs.Words.{symbols_in, IsSought, kept_symbols}
 use Rattle.command_listings.proofs.SoughtLemmas.{line_more, whole_text}
 use Rattle.command_listings.proofs.kept_symbols.symbols_sought.Goals as goal
 
@@ -12,8 +14,11 @@ loop-rest-preserved c =
     let line = c.cut_tabbed_line-tab.result.0.now in
     let (done, joined, holds) = c.loop-rest.invariant in (
       done ++ line ∷ [],
-      moved_over (lines_of c.args.kallsyms.now) done (lines_of c.loop-rest.rest.now) (lines_of c.cut_tabbed_line-tab.result.2.now) line joined c.cut_tabbed_line-tab.ensures.line,
-      subst (λ kept. IsSought words kept c.take_line.new.sought) (sym (line_more index done line)) (c.in_ok-take_line.ensures words (kept_symbols index (symbols_in done)) holds),
+      moved_over (lines_of c.args.kallsyms.now) done (lines_of c.loop-rest.rest.now)
+          (lines_of c.cut_tabbed_line-tab.result.2.now) line joined
+          c.cut_tabbed_line-tab.ensures.line,
+      subst (λ kept. IsSought words kept c.take_line.new.sought) (sym (line_more index done line))
+          (c.in_ok-take_line.ensures words (kept_symbols index (symbols_in done)) holds),
     )
 
 pub returns : goal.returns
@@ -21,4 +26,7 @@ returns c =
     let words = map (λ w. w.now) c.args.words.now in
     let index = c.args.index.now in
     let (done, joined, holds) = c.loop-rest.invariant in
-    subst (λ lines. IsSought words (kept_symbols index (symbols_in lines)) c.loop-rest.sought) (whole_text done c.loop-rest.rest.now c.args.kallsyms.now joined (nil_from_length c.loop-rest.rest.now (eqb-true (length c.loop-rest.rest.now) 0 (sym c.is_empty.ensures ∙ c.loop-rest-test.false)))) holds
+    subst (λ lines. IsSought words (kept_symbols index (symbols_in lines)) c.loop-rest.sought)
+    (whole_text done c.loop-rest.rest.now c.args.kallsyms.now joined
+    (nil_from_length c.loop-rest.rest.now (eqb-true (length c.loop-rest.rest.now) 0
+    (sym c.is_empty.ensures ∙ c.loop-rest-test.false)))) holds

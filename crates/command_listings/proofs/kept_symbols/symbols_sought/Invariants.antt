@@ -1,4 +1,5 @@
-use Rattle.command_listings.proofs.Words.{◌≡◌, ◌++◌, List, ℕ, length, map, lines_of, symbols_in, IsSought, kept_symbols}
+use Rattle.command_listings.proofs.Words.{◌≡◌, ◌++◌, List, ℕ, length, map, lines_of, symbols_in}
+use Rattle.command_listings.proofs.Words.{IsSought, kept_symbols}
 use Rattle.command_listings.proofs.kept_symbols.symbols_sought.Given as goal
 
 -- the symbols of the lines so far are there

@@ -10,6 +10,7 @@ returns g c =
     let file = c.file_at.ensures ∙ ap (file_at c.args.files.now) c.place.ensures in (
       _,
       (words, are, refl),
-      subst (λ f. Says g.W.Write.contents c.args.writer.now c.put-2.new.self (note_head f ++ codes "cannot be read again (" ++ words ++ codes "); lines have no names until it can\n")) file
+      subst (λ f. Says g.W.Write.contents c.args.writer.now c.put-2.new.self (note_head f ++ codes
+          "cannot be read again (" ++ words ++ codes "); lines have no names until it can\n")) file
           (then (then (then c.put_note_head.ensures c.put.ensures) said) c.put-2.ensures),
     )

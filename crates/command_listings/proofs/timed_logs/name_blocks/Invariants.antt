@@ -10,7 +10,10 @@ invariant-loop-turn g l =
     (g.A.Answers.answering l.answers ≡ g.A.Answers.answering l.fn.answers)
     × (l.log.left.items ≡ [])
     × (length l.log.room.items ≡ length l.fn.log.room.items)
-    × ((kernel : Option BoundNames) (rule : LogRule) → AreAnswersAfter kernel rule l.history l.listing.count (g.A.Answers.answering l.fn.answers)
+    × ((kernel : Option BoundNames) (rule : LogRule)
+    → AreAnswersAfter kernel rule l.history l.listing.count (g.A.Answers.answering l.fn.answers)
     → (first : Counted g.row.L.Denot) (begun : Output g.row.W.Denot) (n : ℕ)
-    → IsTimedTo kernel rule l.history g.L.Read.remaining g.W.Write.contents first begun n l.fn.log l.fn.reader l.fn.writer
-    → IsTimedTo kernel rule l.history g.L.Read.remaining g.W.Write.contents first begun (n + l.turn) l.log l.reader l.writer)
+    → IsTimedTo kernel rule l.history g.L.Read.remaining g.W.Write.contents first begun n l.fn.log
+    l.fn.reader l.fn.writer
+    → IsTimedTo kernel rule l.history g.L.Read.remaining g.W.Write.contents first begun (n + l.turn)
+    l.log l.reader l.writer)

@@ -10,6 +10,8 @@ invariant-loop-turns g l =
     IsOf l.catalogs.history.now l.listing
     × (length l.log.room.items ≡ length l.fn.log.room.items)
     × ((first : Counted g.row.L.Denot) (begun : Output g.row.W.Denot) (n : ℕ)
-    → IsTimedTo (option_copied l.catalogs.kernel) l.catalogs.rule l.catalogs.history.now g.L.Read.remaining g.W.Write.contents first begun n l.fn.log l.fn.reader l.fn.writer
+    → IsTimedTo (option_copied l.catalogs.kernel) l.catalogs.rule l.catalogs.history.now
+    g.L.Read.remaining g.W.Write.contents first begun n l.fn.log l.fn.reader l.fn.writer
     → (m : ℕ) × (l.turns ≤ m)
-    × IsTimedTo (option_copied l.catalogs.kernel) l.catalogs.rule l.catalogs.history.now g.L.Read.remaining g.W.Write.contents first begun m l.log l.reader l.writer)
+    × IsTimedTo (option_copied l.catalogs.kernel) l.catalogs.rule l.catalogs.history.now
+    g.L.Read.remaining g.W.Write.contents first begun m l.log l.reader l.writer)

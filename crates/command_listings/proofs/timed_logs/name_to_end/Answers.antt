@@ -9,5 +9,8 @@ returns-in-Other g c = λ first begun n turned.
     let a = c.args in
     let by = a.catalogs.now in
     let asked_is = c.in_ok-names.was ∙ ap Ok c.in-Other.is in
-    let (m, many, timed) = subst (λ (r : Result Turn LogFault). IsTurn (option_copied by.kernel) by.rule by.history.now g.L.Read.remaining g.W.Write.contents first begun n a.log.now r a.reader.now a.writer.now) asked_is turned in
+    let (m, many, timed) =
+    subst (λ (r : Result Turn LogFault). IsTurn (option_copied by.kernel) by.rule by.history.now
+    g.L.Read.remaining g.W.Write.contents first begun n a.log.now r a.reader.now a.writer.now)
+    asked_is turned in
     c.name_on.ensures first begun m timed

@@ -6,7 +6,10 @@ use Rattle.command_traces.proofs.step_texts.put_opening.Goals as goal
 pub returns : goal.returns
 unfolding opening_text
 returns g c =
-    let version = same_text (ap (json_count text.OPENING.now) c.version_number-version.ensures) c.put_json_count.ensures in
+    let version = same_text (ap (json_count text.OPENING.now) c.version_number-version.ensures)
+    c.put_json_count.ensures in
     let order = same_text c.order_text.ensures c.put-2.ensures in
-    let capacity = same_text (ap (json_count text.CAPACITY.now) c.from.ensures) c.put_json_count-2.ensures in
-    then (then (then (then (then version c.put.ensures) order) capacity) c.put_json_count-3.ensures) c.put-3.ensures
+    let capacity =
+    same_text (ap (json_count text.CAPACITY.now) c.from.ensures) c.put_json_count-2.ensures in
+    then (then (then (then (then version c.put.ensures) order) capacity) c.put_json_count-3.ensures)
+    c.put-3.ensures

@@ -6,4 +6,5 @@ use Rattle.command_traces.proofs.step_texts.put_plain_load.Goals as goal
 pub returns : goal.returns
 unfolding plain_load_members
 returns g c =
-    then (same_text (ap (json_count text.LOAD.now) c.from.ensures) c.put_json_count.ensures) c.put_loaded_word.ensures
+    then (same_text (ap (json_count text.LOAD.now) c.from.ensures) c.put_json_count.ensures)
+    c.put_loaded_word.ensures

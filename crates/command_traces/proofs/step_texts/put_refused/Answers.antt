@@ -5,4 +5,5 @@ use Rattle.command_traces.proofs.step_texts.put_refused.Goals as goal
 
 pub returns : goal.returns
 unfolding refused_member
-returns g c = same_text (ap (json_count text.REFUSED.now) (c.from.ensures ∙ c.number.ensures)) c.put_json_count.ensures
+returns g c = same_text (ap (json_count text.REFUSED.now) (c.from.ensures ∙ c.number.ensures))
+    c.put_json_count.ensures

@@ -6,13 +6,19 @@ returns-then-header g c =
     let r = c.put_steps_of.result in
     let w = c.args.writer.now in
     let w' = c.put_steps_of.new.writer in
-    subst (λ said. AnswersStepsSaid g.W.Write.contents (command_lines c.args.bytes.now) said w w' r) (sym c.in-Some.ensures.trace)
-    (subst (λ ls. AnswersStepsSaid g.W.Write.contents ls (with_header c.in-Some.header c.in-Some.lines.said) w w' r) c.in-Some.ensures.lines c.put_steps_of.ensures)
+    subst (λ said. AnswersStepsSaid g.W.Write.contents (command_lines c.args.bytes.now) said w w' r)
+    (sym c.in-Some.ensures.trace)
+    (subst (λ ls. AnswersStepsSaid g.W.Write.contents ls
+    (with_header c.in-Some.header c.in-Some.lines.said) w w' r) c.in-Some.ensures.lines
+    c.put_steps_of.ensures)
 
 pub returns-else-header : goal.returns-else-header
 returns-else-header g c =
     let r = c.put_steps_of-else-header.result in
     let w = c.args.writer.now in
     let w' = c.put_steps_of-else-header.new.writer in
-    subst (λ said. AnswersStepsSaid g.W.Write.contents (command_lines c.args.bytes.now) said w w' r) (sym c.in-Some.ensures.trace)
-    (subst (λ ls. AnswersStepsSaid g.W.Write.contents ls (with_header c.in-Some.header c.in-Some.lines.said) w w' r) c.in-Some.ensures.lines c.put_steps_of-else-header.ensures)
+    subst (λ said. AnswersStepsSaid g.W.Write.contents (command_lines c.args.bytes.now) said w w' r)
+    (sym c.in-Some.ensures.trace)
+    (subst (λ ls. AnswersStepsSaid g.W.Write.contents ls
+    (with_header c.in-Some.header c.in-Some.lines.said) w w' r) c.in-Some.ensures.lines
+    c.put_steps_of-else-header.ensures)

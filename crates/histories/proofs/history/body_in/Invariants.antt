@@ -1,4 +1,5 @@
-use Rattle.histories.proofs.Words.{◌≡◌, ◌≤◌, ◌-◌, ◌+◌, ◌++◌, Some, take, drop, length, lines, body_of, first_bad, parts_of}
+use Rattle.histories.proofs.Words.{◌≡◌, ◌≤◌, ◌-◌, ◌+◌, ◌++◌, Some, take, drop, length, lines}
+use Rattle.histories.proofs.Words.{body_of, first_bad, parts_of}
 use Rattle.histories.proofs.history.body_in.Given as goal
 
 -- no header is before this place, and each line before it is understood
@@ -8,7 +9,8 @@ invariant-loop-i l = record {
   numbered : l.number + length (drop l.i l.text) ≤ l.first + length l.text;
   body : take l.i l.text ++ body_of (lines (drop l.i l.text)) ≡ body_of (lines l.text);
   parts : parts_of (lines (drop l.i l.text)) ≡ parts_of (lines l.text);
-  bad : first_bad (Some l.header) l.number (lines (drop l.i l.text)) ≡ first_bad (Some l.header) l.first (lines l.text);
+  bad : first_bad (Some l.header) l.number (lines (drop l.i l.text))
+      ≡ first_bad (Some l.header) l.first (lines l.text);
 }
 
 abbrev pub decreases-loop-i : goal.decreases-loop-i

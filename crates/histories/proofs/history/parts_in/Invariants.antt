@@ -1,4 +1,5 @@
-use Rattle.histories.proofs.Words.{◌≡◌, ◌<◌, ◌+◌, ◌^◌, ◌++◌, None, length, lines, first_bad, parts_of}
+use Rattle.histories.proofs.Words.{◌≡◌, ◌<◌, ◌+◌, ◌^◌, ◌++◌, None, length, lines, first_bad}
+use Rattle.histories.proofs.Words.{parts_of}
 use Rattle.histories.specs.Readings.{BeginsPart}
 use Rattle.histories.proofs.history.parts_in.Given as goal
 

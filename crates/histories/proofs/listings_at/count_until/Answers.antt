@@ -10,4 +10,7 @@ returns-clause-is c =
     let parts = c.args.parts.now in
     let i = c.partition_point.result in
     count_of_point parts c.args.time i c.partition_point.ensures.bound
-    (IsPartitionPoint-from_clause (λ (x : HistoryPart). nat_le x.header.time c.args.time) parts i c.partition_point.ensures.partitioned (IsPartitionedBy-leb (λ (x : HistoryPart). x.header.time) parts c.args.time c.requires) (λ a r q k. search rules))
+    (IsPartitionPoint-from_clause (λ (x : HistoryPart). nat_le x.header.time c.args.time) parts i
+    c.partition_point.ensures.partitioned
+    (IsPartitionedBy-leb (λ (x : HistoryPart). x.header.time) parts c.args.time c.requires)
+    (λ a r q k. search rules))

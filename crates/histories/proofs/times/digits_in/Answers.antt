@@ -8,7 +8,8 @@ loop-i-preserved c =
     let bytes = c.args.bytes.now in
     let inv = c.loop-i.invariant in
     let digit : c.digit_of-digit.result < 10 = omega (arith, c.if-digit-ge10.false) in
-    let small : digit_value (get_or bytes i 0) < 10 = omega (arith, digit, c.digit_of-digit.ensures.value) in
+    let small : digit_value (get_or bytes i 0) < 10 =
+    omega (arith, digit, c.digit_of-digit.ensures.value) in
     record {
       within = omega (arith, c.loop-i-test.true);
       few = inv.few;

@@ -1,4 +1,5 @@
-use Rattle.histories.proofs.Words.{◌≡◌, ◌≤◌, ◌<◌, ◌+◌, ◌-◌, ◌^◌, drop, take, length, prefix_len, digits_value, is_decimal}
+use Rattle.histories.proofs.Words.{◌≡◌, ◌≤◌, ◌<◌, ◌+◌, ◌-◌, ◌^◌, drop, take, length, prefix_len}
+use Rattle.histories.proofs.Words.{digits_value, is_decimal}
 use Rattle.histories.proofs.times.digits_in.Given as goal
 
 abbrev pub invariant-loop-i : goal.invariant-loop-i

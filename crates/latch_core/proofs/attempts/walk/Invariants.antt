@@ -7,7 +7,8 @@ abbrev pub invariant-loop-link : goal.invariant-loop-link
 invariant-loop-link g l =
     record {
       left : l.left ≡ left_word (stable_copy_of l.first) 0;
-      on : IsOn (g.W.Loads.load_gives l.words) g.O.TreeOrder.order (capacity_of l.fn.l) l.fn.key l.first l.fn.seat l.seat l.loads l.link;
+      on : IsOn (g.W.Loads.load_gives l.words) g.O.TreeOrder.order (capacity_of l.fn.l) l.fn.key
+          l.first l.fn.seat l.seat l.loads l.link;
     }
 
 abbrev pub decreases-loop-link : goal.decreases-loop-link

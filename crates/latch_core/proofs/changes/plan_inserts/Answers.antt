@@ -1,4 +1,5 @@
-use Rattle.latch_core.proofs.Words.{◌<◌, ◌++◌, length, get_or, refl, sym, ◌∙◌, ap, subst, arith, length-append, drop_more, Item, no_meeting, item_stores, AreOff}
+use Rattle.latch_core.proofs.Words.{◌<◌, ◌++◌, length, get_or, refl, sym, ◌∙◌, ap, subst, arith}
+use Rattle.latch_core.proofs.Words.{length-append, drop_more, Item, no_meeting, item_stores, AreOff}
 use Rattle.std.proofs.Common.{◌-◌}
 use Rattle.latch_core.proofs.ChangeLemmas.{next_node, inserting_none, inserting_step}
 use Rattle.latch_core.proofs.changes.plan_inserts.Goals as goal
@@ -6,7 +7,9 @@ use Rattle.latch_core.proofs.changes.plan_inserts.Goals as goal
 pub loop-taken-init : goal.loop-taken-init
 loop-taken-init g c =
     record {
-      state = inserting_none g.O.TreeOrder.order c.args.shape.now c.args.insert.now c.args.fresh c.args.plan.now.stores_left c.args.links.now.items c.args.free.now.items c.requires.valid c.requires.apart c.requires.off c.requires.nodes;
+      state = inserting_none g.O.TreeOrder.order c.args.shape.now c.args.insert.now c.args.fresh
+          c.args.plan.now.stores_left c.args.links.now.items c.args.free.now.items c.requires.valid
+          c.requires.apart c.requires.off c.requires.nodes;
       few = omega arith;
       links_len = omega arith;
       links_capacity = refl;
@@ -23,9 +26,14 @@ plan_links-requires-clause-in_range g c =
     let lt = c.loop-taken-test.true in
     let room : c.loop-taken.taken < c.args.fresh = omega (arith, lt, c.requires.enough) in
     let count = c.loop-taken.free.ok.0 in
-    let within : c.args.fresh - 1 - c.loop-taken.taken < length c.loop-taken.free.items = omega (arith, room, count, inv.free_len, c.requires.free) in
+    let within : c.args.fresh - 1 - c.loop-taken.taken < length c.loop-taken.free.items =
+    omega (arith, room, count, inv.free_len, c.requires.free) in
     subst (λ n. c.swap_remove-node.result < n) (sym inv.state.done.both.zero.capacity)
-    (next_node g.O.TreeOrder.order c.args.shape.now c.loop-taken.shape c.args.insert.now c.loop-taken.taken c.args.fresh c.args.plan.now.stores_left c.loop-taken.plan.stores_left c.args.links.now.items c.loop-taken.links.items c.args.free.now.items c.loop-taken.free.items c.swap_remove-node.result inv.state room within c.swap_remove-node.ensures.value).in_range
+    (next_node g.O.TreeOrder.order c.args.shape.now c.loop-taken.shape c.args.insert.now
+    c.loop-taken.taken c.args.fresh c.args.plan.now.stores_left c.loop-taken.plan.stores_left
+    c.args.links.now.items c.loop-taken.links.items c.args.free.now.items
+    c.loop-taken.free.items c.swap_remove-node.result inv.state room within
+    c.swap_remove-node.ensures.value).in_range
 
 pub plan_links-requires-clause-free : goal.plan_links-requires-clause-free
 plan_links-requires-clause-free g c =
@@ -33,8 +41,13 @@ plan_links-requires-clause-free g c =
     let lt = c.loop-taken-test.true in
     let room : c.loop-taken.taken < c.args.fresh = omega (arith, lt, c.requires.enough) in
     let count = c.loop-taken.free.ok.0 in
-    let within : c.args.fresh - 1 - c.loop-taken.taken < length c.loop-taken.free.items = omega (arith, room, count, inv.free_len, c.requires.free) in
-    (next_node g.O.TreeOrder.order c.args.shape.now c.loop-taken.shape c.args.insert.now c.loop-taken.taken c.args.fresh c.args.plan.now.stores_left c.loop-taken.plan.stores_left c.args.links.now.items c.loop-taken.links.items c.args.free.now.items c.loop-taken.free.items c.swap_remove-node.result inv.state room within c.swap_remove-node.ensures.value).not_there
+    let within : c.args.fresh - 1 - c.loop-taken.taken < length c.loop-taken.free.items =
+    omega (arith, room, count, inv.free_len, c.requires.free) in
+    (next_node g.O.TreeOrder.order c.args.shape.now c.loop-taken.shape c.args.insert.now
+    c.loop-taken.taken c.args.fresh c.args.plan.now.stores_left c.loop-taken.plan.stores_left
+    c.args.links.now.items c.loop-taken.links.items c.args.free.now.items
+    c.loop-taken.free.items c.swap_remove-node.result inv.state room within
+    c.swap_remove-node.ensures.value).not_there
 
 pub plan_links-requires-clause-apart : goal.plan_links-requires-clause-apart
 plan_links-requires-clause-apart g c =
@@ -51,18 +64,24 @@ loop-taken-preserved g c =
     let lt = c.loop-taken-test.true in
     let room : c.loop-taken.taken < c.args.fresh = omega (arith, lt, c.requires.enough) in
     let count = c.loop-taken.free.ok.0 in
-    let within : c.args.fresh - 1 - c.loop-taken.taken < length c.loop-taken.free.items = omega (arith, room, count, inv.free_len, c.requires.free) in
+    let within : c.args.fresh - 1 - c.loop-taken.taken < length c.loop-taken.free.items =
+    omega (arith, room, count, inv.free_len, c.requires.free) in
     let none : Item = record { a = 0; b = 0; tag = 0 } in
     let item = get_or c.args.insert.now c.loop-taken.taken none in
     let node = c.swap_remove-node.result in
     let p = c.plan_links.ensures.plan in
-    let left = c.add.ensures.left ∙ ap (λ xs. c.loop-taken.plan.stores_left ++ xs) c.item_stores.ensures in
-    let longer = ap length left ∙ length-append c.loop-taken.plan.stores_left (item_stores node item) in
+    let left =
+    c.add.ensures.left ∙ ap (λ xs. c.loop-taken.plan.stores_left ++ xs) c.item_stores.ensures in
+    let longer =
+    ap length left ∙ length-append c.loop-taken.plan.stores_left (item_stores node item) in
     record {
-      state = inserting_step o g.met.O.TreeOrder.lawful c.args.shape.now c.loop-taken.shape c.plan_links.new.self c.args.insert.now c.loop-taken.taken c.args.fresh item none node
-          c.args.plan.now.stores_left c.loop-taken.plan.stores_left c.add.new.self.stores_left c.args.links.now.items c.loop-taken.links.items c.plan_links.new.out.items
+      state = inserting_step o g.met.O.TreeOrder.lawful c.args.shape.now c.loop-taken.shape
+          c.plan_links.new.self c.args.insert.now c.loop-taken.taken c.args.fresh item none node
+          c.args.plan.now.stores_left c.loop-taken.plan.stores_left c.add.new.self.stores_left
+          c.args.links.now.items c.loop-taken.links.items c.plan_links.new.out.items
           c.args.free.now.items c.loop-taken.free.items c.swap_remove-node.new.self.items p.0
-          c.requires.first_copy lt room within refl c.swap_remove-node.ensures.value inv.state c.plan_links.ensures.pictures p.2
+          c.requires.first_copy lt room within refl c.swap_remove-node.ensures.value inv.state
+          c.plan_links.ensures.pictures p.2
           left p.1 c.swap_remove-node.ensures.items;
       few = omega (arith, inv.few, longer, c.plan_links.ensures.few);
       links_len = omega (arith, inv.links_len, c.plan_links.ensures.few);

@@ -1,5 +1,7 @@
-use Rattle.latch_weak.proofs.Words.{sym, ap, ◌∙◌, subst, ◌++◌, ◌∷◌, [], append_assoc, append-nil, CarriesOut, HasMade}
-use Rattle.latch_weak.proofs.RecordingLemmas.{made_begun, made_stored, carrying_begun, carrying_stored, carried}
+use Rattle.latch_weak.proofs.Words.{sym, ap, ◌∙◌, subst, ◌++◌, ◌∷◌, [], append_assoc, append-nil}
+use Rattle.latch_weak.proofs.Words.{CarriesOut, HasMade}
+use Rattle.latch_weak.proofs.RecordingLemmas.{made_begun, made_stored, carrying_begun}
+use Rattle.latch_weak.proofs.RecordingLemmas.{carrying_stored, carried}
 use Rattle.latch_weak.proofs.recording.carry_out.Goals as goal
 
 pub loop-store-init : goal.loop-store-init
@@ -8,7 +10,12 @@ loop-store-init g c = (
       made_begun g.O.TreeOrder.order n limit start us _ _ c.begin.new.self made c.args.update.now
       c.in_ok-begin.ensures.accepted c.begin.ensures.pictured
       c.in_ok-begin.ensures.begun.1 c.begin.ensures.same.0 c.begin.ensures.same.1,
-  ([], carrying_begun g.O.TreeOrder.order _ c.args.update.now c.begin.new.self c.in_ok-begin.ensures.begun.1, sym (append-nil _)),
+  (
+    [],
+    carrying_begun g.O.TreeOrder.order _ c.args.update.now c.begin.new.self
+        c.in_ok-begin.ensures.begun.1,
+    sym (append-nil _),
+  ),
 )
 
 pub loop-store-preserved : goal.loop-store-preserved
@@ -22,11 +29,14 @@ loop-store-preserved g c =
           c.step.new.self (c.loop-store.invariant.0 n limit start us before) c.in-Some.store
           next c.in-Some.ensures.may c.step.ensures.pictures
           c.step.ensures.same.0 c.step.ensures.same.1 in
-          subst (λ ss. HasMade o n limit start us' ss c.step.new.self) (sym c.in_ok-push.ensures.items) more,
+          subst (λ ss. HasMade o n limit start us' ss c.step.new.self)
+          (sym c.in_ok-push.ensures.items) more,
       (
         made ++ c.in-Some.store ∷ [],
-        carrying_stored o _ c.args.update.now made c.loop-store.writer c.step.new.self c.in-Some.store carrying next c.in-Some.ensures.stepped,
-        c.in_ok-push.ensures.items ∙ ap (λ x. x ++ c.in-Some.store ∷ []) all ∙ append_assoc _ made (c.in-Some.store ∷ []),
+        carrying_stored o _ c.args.update.now made c.loop-store.writer c.step.new.self
+            c.in-Some.store carrying next c.in-Some.ensures.stepped,
+        c.in_ok-push.ensures.items ∙ ap (λ x. x ++ c.in-Some.store ∷ []) all
+            ∙ append_assoc _ made (c.in-Some.store ∷ []),
       ),
     )
 

@@ -1,4 +1,5 @@
-use Rattle.latch_weak.proofs.Words.{take, capacity_of, limit_of, opening_writer, CarriesOutAll, HasMade}
+use Rattle.latch_weak.proofs.Words.{take, capacity_of, limit_of, opening_writer, CarriesOutAll}
+use Rattle.latch_weak.proofs.Words.{HasMade}
 use Rattle.latch_weak.proofs.recording.record.Given as goal
 
 abbrev pub invariant-loop-update : goal.invariant-loop-update

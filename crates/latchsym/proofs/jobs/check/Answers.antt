@@ -1,4 +1,7 @@
-use Rattle.latchsym.proofs.Words.{Option, subst, sym, AnswersGiven, AnswersHistory, AnswersListings, AnswersSources, BoundNames, HistoryPart, IsChecked, List, None, Some, SymbolSource, known_given, listing_at, listing_failures, symbols_alone}
+use Rattle.latchsym.proofs.Words.{Option, subst, sym, AnswersGiven, AnswersHistory, AnswersListings}
+use Rattle.latchsym.proofs.Words.{AnswersSources, BoundNames, HistoryPart, IsChecked, List, None}
+use Rattle.latchsym.proofs.Words.{Some, SymbolSource, known_given, listing_at, listing_failures}
+use Rattle.latchsym.proofs.Words.{symbols_alone}
 use Rattle.latchsym.proofs.jobs.check.Goals as goal
 
 pub returns-in-Listing : goal.returns-in-Listing
@@ -7,9 +10,13 @@ returns-in-Listing g c =
     let remaining = g.R.Read.remaining in
     let l = a.listings.now in
     let done = c.check_engine in
-    let By : SymbolSource → Type 0 = λ s. AnswersSources remaining g.W.Write.contents (IsChecked a.sources.now.kernel a.sources.now.files) s l done.new.readers a.writer.now done.new.writer done.result in
+    let By : SymbolSource → Type 0 =
+    λ s. AnswersSources remaining g.W.Write.contents (IsChecked a.sources.now.kernel
+    a.sources.now.files) s l done.new.readers a.writer.now done.new.writer done.result in
     subst By (sym c.in-Listing.is)
-    (subst (λ k. AnswersListings g.W.Write.contents (IsChecked k a.sources.now.files None) (known_given remaining remaining remaining l) (listing_failures l done.new.readers) a.writer.now done.new.writer done.result) c.as_ref-kernel.ensures.value done.ensures)
+    (subst (λ k. AnswersListings g.W.Write.contents (IsChecked k a.sources.now.files None)
+    (known_given remaining remaining remaining l) (listing_failures l done.new.readers)
+    a.writer.now done.new.writer done.result) c.as_ref-kernel.ensures.value done.ensures)
 
 pub returns-in-History : goal.returns-in-History
 returns-in-History g c =
@@ -17,7 +24,12 @@ returns-in-History g c =
     let remaining = g.R.Read.remaining in
     let l = a.listings.now in
     let done = c.check_engine_at in
-    let By : SymbolSource → Type 0 = λ s. AnswersSources remaining g.W.Write.contents (IsChecked a.sources.now.kernel a.sources.now.files) s l (record l { kallsyms = done.new.history }) a.writer.now done.new.writer done.result in
-    let Answers : Option BoundNames → List HistoryPart → _ = λ k parts. AnswersGiven g.W.Write.contents (IsChecked k a.sources.now.files (Some parts)) (symbols_alone (listing_at c.in-History.time parts)) a.writer.now done.new.writer in
+    let By : SymbolSource → Type 0 = λ s. AnswersSources remaining g.W.Write.contents
+    (IsChecked a.sources.now.kernel a.sources.now.files) s l
+    (record l { kallsyms = done.new.history }) a.writer.now done.new.writer done.result in
+    let Answers : Option BoundNames → List HistoryPart → _ =
+    λ k parts. AnswersGiven g.W.Write.contents (IsChecked k a.sources.now.files (Some parts))
+    (symbols_alone (listing_at c.in-History.time parts)) a.writer.now done.new.writer in
     subst By (sym c.in-History.is)
-    (subst (λ k. AnswersHistory remaining (Answers k) l.kallsyms done.new.history a.writer.now done.new.writer done.result) c.as_ref-kernel.ensures.value done.ensures)
+    (subst (λ k. AnswersHistory remaining (Answers k) l.kallsyms done.new.history a.writer.now
+    done.new.writer done.result) c.as_ref-kernel.ensures.value done.ensures)

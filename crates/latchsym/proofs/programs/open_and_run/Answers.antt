@@ -13,7 +13,8 @@ returns g c =
         outcome = done.result;
         is_done = done.ensures;
         is_told = subst
-            (λ error. IsConcluded g.E.Write.contents c.args.job.now error done.new.outputs.errors c.conclude.new.writer done.result c.conclude.result)
+            (λ error. IsConcluded g.E.Write.contents c.args.job.now error done.new.outputs.errors
+            c.conclude.new.writer done.result c.conclude.result)
             c.error_of_outcome-error.ensures c.conclude.ensures;
       },
     )

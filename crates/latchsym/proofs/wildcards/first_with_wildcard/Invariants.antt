@@ -5,7 +5,8 @@ use Rattle.latchsym.proofs.wildcards.first_with_wildcard.Given as goal
 
 -- the first is among the rest
 abbrev pub invariant-loop-rest : goal.invariant-loop-rest
-invariant-loop-rest l = find has_wildcard (map (λ n. n.now) l.rest) ≡ find has_wildcard (map (λ n. n.now) l.names)
+invariant-loop-rest l =
+    find has_wildcard (map (λ n. n.now) l.rest) ≡ find has_wildcard (map (λ n. n.now) l.names)
 
 abbrev pub decreases-loop-rest : goal.decreases-loop-rest
 decreases-loop-rest l = length l.rest

@@ -12,8 +12,10 @@ loop-place-preserved c =
       | else-place-eq0 w ↦ w.finder-is ∙ c.loop-place.invariant.0
     ] in
     let seen = c.seek_next.ensures.seen ∙ ap (λ k. known_at k addr) is in
-    let told = c.told.ensures ∙ ap (told_of c.catalog.result.now) seen ∙ ap (λ k. told_of k (known_at c.args.catalog.now addr)) c.catalog.ensures in (
+    let told = c.told.ensures ∙ ap (told_of c.catalog.result.now) seen
+    ∙ ap (λ k. told_of k (known_at c.args.catalog.now addr)) c.catalog.ensures in (
       c.seek_next.ensures.stays ∙ is,
       (λ i. slice_set (c.loop-place.invariant.1 i) n (told i))
-          ∙ map_more (told_at c.args.catalog.now) c.args.addrs.now c.args.out.now n 0 c.loop-place-test.true c.requires,
+          ∙ map_more (told_at c.args.catalog.now) c.args.addrs.now c.args.out.now n 0
+          c.loop-place-test.true c.requires,
     )

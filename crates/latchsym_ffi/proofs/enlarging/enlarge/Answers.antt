@@ -7,6 +7,7 @@ returns-in-Ok-clause-enlarged c zero = (
   record {
     readers = c.in-Ok.all.items;
     moved = c.in-Ok.ensures.moved;
-    each = c.replace_readers.ensures.each (reader_beside c.move_writer.new.writer) c.in-Ok.ensures.moved.enlarges.readers;
+    each = c.replace_readers.ensures.each (reader_beside c.move_writer.new.writer)
+        c.in-Ok.ensures.moved.enlarges.readers;
   },
 )

@@ -1,6 +1,7 @@
 use Rattle.latchsym_ffi.proofs.Words.{◌≡◌, rules, subst, RefusesNodes}
 use Rattle.latchsym_ffi.proofs.enlarging.latchsym_table_enlarge_nonnull.Goals as goal
-use Rattle.latchsym_ffi.proofs.enlarging.latchsym_table_enlarge_nonnull.Goals.{in-Writer, in_default}
+use Rattle.latchsym_ffi.proofs.enlarging.latchsym_table_enlarge_nonnull.Goals.{in-Writer}
+use Rattle.latchsym_ffi.proofs.enlarging.latchsym_table_enlarge_nonnull.Goals.{in_default}
 
 pub returns-after-deref_mut-clause-why : goal.returns-after-deref_mut-clause-why
 returns-after-deref_mut-clause-why c w held refused =

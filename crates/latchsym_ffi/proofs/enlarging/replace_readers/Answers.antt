@@ -1,4 +1,7 @@
-use Rattle.latchsym_ffi.proofs.Words.{◌≡◌, ◌+◌, ◌<◌, ◌∙◌, List, [], ◌∷◌, Some, ap, length, subst, sym, arith, length-append, All, AllWithin, All-pop, All-set, AllWithin-more_set, Reader, Handle, HoldsReader, kind_in, reader_kind}
+use Rattle.latchsym_ffi.proofs.Words.{◌≡◌, ◌+◌, ◌<◌, ◌∙◌, List, [], ◌∷◌, Some, ap, length, subst}
+use Rattle.latchsym_ffi.proofs.Words.{sym, arith, length-append, All, AllWithin, All-pop, All-set}
+use Rattle.latchsym_ffi.proofs.Words.{AllWithin-more_set, Reader, Handle, HoldsReader, kind_in}
+use Rattle.latchsym_ffi.proofs.Words.{reader_kind}
 use Rattle.latchsym_ffi.proofs.enlarging.replace_readers.Goals as goal
 use Rattle.latchsym_ffi.proofs.enlarging.replace_readers.Goals.{in-Some, in_default}
 
@@ -7,7 +10,9 @@ loop-place-preserved c =
     let i = c.loop-place.invariant in
     let n = c.loop-place.place in
     let handles = c.loop-place.handles in
-    let within : n < length handles = let t = c.loop-place-test.true in let e = i.count in omega arith in
+    let within : n < length handles = let t = c.loop-place-test.true in
+    let e = i.count in
+    omega arith in
     elim c.match-pop.branch [
       | in-Some w ↦
           let new = w.replace_reader.new.handle in
@@ -16,16 +21,28 @@ loop-place-preserved c =
           let taken = w.in-Some.ensures.items in
           record {
             count = c.match-pop.auto.handles ∙ i.count;
-            left = omega (arith, ap length taken, length-append rest (reader ∷ []), i.left, c.match-pop.auto.handles);
+            left = omega (
+              arith,
+              ap length taken,
+              length-append rest (reader ∷ []),
+              i.left,
+              c.match-pop.auto.handles,
+            );
             open_ones = subst (All (λ (h : Handle). h.kind ≡ reader_kind)) (sym w.handles-is)
-                (All-set (λ (h : Handle). h.kind ≡ reader_kind) handles n new (new.tied ∙ ap kind_in w.replace_reader.ensures) i.open_ones);
-            each = λ r all. (All-pop (λ x. x ≡ r) c.loop-place.readers.items rest (Some reader) taken (i.each r all)).0;
+                (All-set (λ (h : Handle). h.kind ≡ reader_kind) handles n new
+                (new.tied ∙ ap kind_in w.replace_reader.ensures) i.open_ones);
+            each = λ r all. (All-pop (λ x. x ≡ r) c.loop-place.readers.items rest (Some reader)
+                taken (i.each r all)).0;
             filled = λ r all.
-                let is = (All-pop (λ x. x ≡ r) c.loop-place.readers.items rest (Some reader) taken (i.each r all)).1 in
-                subst (λ (l : List Handle). AllWithin (HoldsReader r) l 0 (n + 1)) (sym w.handles-is)
-                (AllWithin-more_set handles n new within (HoldsReader r) (i.filled r all) (w.replace_reader.ensures ∙ ap (λ x. Some (Reader x)) is));
+                let is = (All-pop (λ x. x ≡ r) c.loop-place.readers.items rest (Some reader) taken
+                (i.each r all)).1 in
+                subst (λ (l : List Handle). AllWithin (HoldsReader r) l 0 (n + 1))
+                (sym w.handles-is)
+                (AllWithin-more_set handles n new within (HoldsReader r) (i.filled r all)
+                (w.replace_reader.ensures ∙ ap (λ x. Some (Reader x)) is));
           }
-      | in_default w ↦ absurd (omega (arith, w.in_default.ensures.cases.0, c.loop-place.readers.ok.0, i.left, within))
+      | in_default w ↦ absurd
+          (omega (arith, w.in_default.ensures.cases.0, c.loop-place.readers.ok.0, i.left, within))
     ]
 
 pub returns-clause-each : goal.returns-clause-each

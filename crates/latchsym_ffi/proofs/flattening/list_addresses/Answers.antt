@@ -6,6 +6,8 @@ pub loop-place-preserved : goal.loop-place-preserved
 loop-place-preserved c =
     let rows = c.args.rows.now in
     let n = c.loop-place.place in
-    let d : ViewSymbol = record { addr = 0; place = 0; name = record { ref_ptr = (0, 0); now = [] } } in
+    let d : ViewSymbol =
+    record { addr = 0; place = 0; name = record { ref_ptr = (0, 0); now = [] } } in
     ap (λ (l : List ℕ). slice_set l n (slice_index_or rows n d).addr) c.loop-place.invariant
-    ∙ map_more (λ (r : ViewSymbol). r.addr) rows c.args.addresses.now n d c.loop-place-test.true c.requires
+    ∙ map_more (λ (r : ViewSymbol). r.addr) rows c.args.addresses.now n d c.loop-place-test.true
+    c.requires

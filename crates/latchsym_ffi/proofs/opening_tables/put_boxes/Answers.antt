@@ -1,4 +1,5 @@
-use Rattle.latchsym_ffi.proofs.Words.{◌∙◌, Some, ap, length, subst, sym, IfOk, new_writer, AreOpened, first_reader}
+use Rattle.latchsym_ffi.proofs.Words.{◌∙◌, Some, ap, length, subst, sym, IfOk, new_writer}
+use Rattle.latchsym_ffi.proofs.Words.{AreOpened, first_reader}
 use Rattle.latchsym_ffi.proofs.opening_tables.put_boxes.Goals as goal
 
 pub returns-in-Ok-clause-opened : goal.returns-in-Ok-clause-opened
@@ -8,6 +9,7 @@ returns-in-Ok-clause-opened c o nodes opened zero =
       place = b.place;
       layout = b.layout;
       wide = b.wide;
-      owned = c.put.ensures ∙ ap Some (b.owned ∙ ap (λ n. o (new_writer b.place b.layout 0 n)) (sym c.fill.ensures.count));
+      owned = c.put.ensures ∙ ap Some
+          (b.owned ∙ ap (λ n. o (new_writer b.place b.layout 0 n)) (sym c.fill.ensures.count));
       each = c.fill.ensures.each (first_reader b.place b.layout) b.each;
     }

@@ -4,7 +4,10 @@ use Rattle.latchsym_ffi.proofs.viewing.latchsym_view_find_caller.Goals as goal
 
 pub returns : goal.returns
 returns c = λ entries is. record {
-  code = c.tell.ensures.code ∙ ap known_code (c.seek_call.ensures.known entries is) ∙ same_code (known_call entries c.args.addr);
-  symbol = told_without entries (known_call entries c.args.addr) c.tell.new.out (subst (λ k. IsNamed entries k c.tell.new.out) (c.seek_call.ensures.known entries is)
-      (c.tell.ensures.symbol entries (row_of_seen entries c.args.view.now.regions.now is.each c.seek_call.result c.seek_call.ensures.listed)));
+  code = c.tell.ensures.code ∙ ap known_code (c.seek_call.ensures.known entries is)
+      ∙ same_code (known_call entries c.args.addr);
+  symbol = told_without entries (known_call entries c.args.addr) c.tell.new.out
+      (subst (λ k. IsNamed entries k c.tell.new.out) (c.seek_call.ensures.known entries is)
+      (c.tell.ensures.symbol entries (row_of_seen entries c.args.view.now.regions.now is.each
+      c.seek_call.result c.seek_call.ensures.listed)));
 }

@@ -9,9 +9,14 @@ returns-in_err-put_now g c =
     let answer = g.A.Answers.answering c.args.answers.now in
     let fault = c.in_err-put_now.field-0.0 in
     let found : Findings = record { names = c.in_ok-out.names; head = c.keep_head.new.head } in
-    let (told, is, same) = err_from_is_err_and c.from_residual-in_err-put_now.result c.from_residual-in_err-put_now.ensures.1 in
-    rw (is, same) (fault_puts g.W.Write.contents (IsAnnotationOf answer c.args.log.now) c.args.writer.now c.put_now.new.writer found c.deref.result.now fault
-    (subst (λ l. IsAnnotation answer c.args.log.now l c.in_ok-out.names) (sym c.deref.ensures.value) (rw c.prepare.ensures at c.in_ok-out.ensures), c.in_ok-keep_head.ensures [] c.new-head.ensures.items)
+    let (told, is, same) = err_from_is_err_and c.from_residual-in_err-put_now.result
+    c.from_residual-in_err-put_now.ensures.1 in
+    rw (is, same) (fault_puts g.W.Write.contents (IsAnnotationOf answer c.args.log.now)
+    c.args.writer.now c.put_now.new.writer found c.deref.result.now fault (
+      subst (λ l. IsAnnotation answer c.args.log.now l c.in_ok-out.names)
+          (sym c.deref.ensures.value) (rw c.prepare.ensures at c.in_ok-out.ensures),
+      c.in_ok-keep_head.ensures [] c.new-head.ensures.items,
+    )
     c.in_err-put_now.ensures.fault c.in_err-put_now.ensures.begun)
 
 pub returns : goal.returns
@@ -19,7 +24,9 @@ returns g c = (
   c.deref.result.now,
   c.in_ok-put_now.ensures.written,
   (
-    subst (λ l. IsAnnotation (g.A.Answers.answering c.args.answers.now) c.args.log.now l c.in_ok-out.names) (sym c.deref.ensures.value) (rw c.prepare.ensures at c.in_ok-out.ensures),
+    subst (λ l.
+        IsAnnotation (g.A.Answers.answering c.args.answers.now) c.args.log.now l c.in_ok-out.names)
+        (sym c.deref.ensures.value) (rw c.prepare.ensures at c.in_ok-out.ensures),
     c.in_ok-keep_head.ensures [] c.new-head.ensures.items,
   ),
 )

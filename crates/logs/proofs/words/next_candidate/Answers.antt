@@ -1,5 +1,6 @@
 use Rattle.logs.proofs.Definitions.{◌∙◌, ap, arith, get_or, sym, taken_among}
-use Rattle.logs.proofs.WordLemmas.{begun_behind, few_left, goes_on, is_word, leap, not_begun, some_fewest}
+use Rattle.logs.proofs.WordLemmas.{begun_behind, few_left, goes_on, is_word, leap, not_begun}
+use Rattle.logs.proofs.WordLemmas.{some_fewest}
 use Rattle.logs.proofs.words.next_candidate.Goals as goal
 
 pub loop-start-preserved-in-Some : goal.loop-start-preserved-in-Some
@@ -13,9 +14,11 @@ loop-start-preserved-in-Some c =
       from = omega (arith, c.loop-start.invariant.from, low);
       within = omega (arith, c.loop-start.invariant.within, high, c.loop-start-test.true);
       left = λ context last.
-          rw (begun_behind line c.loop-start.from place (omega (arith, c.loop-start.invariant.from, low)))
+          rw (begun_behind line c.loop-start.from place
+          (omega (arith, c.loop-start.invariant.from, low)))
           (c.loop-start.invariant.left context last
-          ∙ leap c.args.narrow context line last c.loop-start.start place _ low (omega (arith, c.loop-start.invariant.within, high, c.loop-start-test.true))
+          ∙ leap c.args.narrow context line last c.loop-start.start place _ low
+          (omega (arith, c.loop-start.invariant.within, high, c.loop-start-test.true))
           (omega (arith, high, c.fewest-fewest.ensures)) c.in-Some.ensures.other);
     }
 
@@ -26,14 +29,28 @@ loop-start-preserved c =
     let end = c.behind_word-end.result in
     let some = some_fewest c.args.narrow in
     record {
-      low = omega (arith, c.loop-start.invariant.low, c.loop-start.invariant.from, c.behind_word-end.ensures.from);
+      low = omega (
+        arith,
+        c.loop-start.invariant.low,
+        c.loop-start.invariant.from,
+        c.behind_word-end.ensures.from,
+      );
       from = omega arith;
       within = c.behind_word-end.ensures.within;
       left = λ context last.
           rw (not_begun line end)
-          ((rw (sym c.is_begun.ensures ∙ c.if-not-is_begun.false) at c.loop-start.invariant.left context last)
-          ∙ ap (taken_among c.args.narrow context line last) (goes_on line start end _ (omega (arith, c.loop-start.invariant.within, c.loop-start-test.true, some, c.fewest-fewest.ensures))
-          (is_word (get_or line start 0) (c.in-None.ensures.none (omega (arith, some, c.fewest-fewest.ensures)))) c.behind_word-end.ensures.words));
+          ((rw (sym c.is_begun.ensures ∙ c.if-not-is_begun.false) at c.loop-start.invariant.left
+          context last)
+          ∙ ap (taken_among c.args.narrow context line last) (goes_on line start end _ (omega (
+            arith,
+            c.loop-start.invariant.within,
+            c.loop-start-test.true,
+            some,
+            c.fewest-fewest.ensures,
+          ))
+          (is_word (get_or line start 0)
+          (c.in-None.ensures.none (omega (arith, some, c.fewest-fewest.ensures))))
+          c.behind_word-end.ensures.words));
     }
 
 pub loop-start-init : goal.loop-start-init
@@ -46,4 +63,5 @@ loop-start-init c = record {
 
 pub returns-clause-words : goal.returns-clause-words
 returns-clause-words c = λ context last.
-    c.loop-start.invariant.left context last ∙ few_left c.args.narrow context c.args.line.now last c.loop-start.start _ (omega (arith, c.loop-start-test.false, c.fewest-fewest.ensures))
+    c.loop-start.invariant.left context last ∙ few_left c.args.narrow context c.args.line.now last
+    c.loop-start.start _ (omega (arith, c.loop-start-test.false, c.fewest-fewest.ensures))

@@ -7,7 +7,8 @@ invariant-loop-start l = record {
   low : l.at ≤ l.from;
   from : l.from ≤ l.start;
   within : l.start ≤ length l.line;
-  left : SameAddresses l.narrow l.line (words_behind l.line l.at) (words_from l.start (is_begun l.line l.from l.start) (drop l.start l.line));
+  left : SameAddresses l.narrow l.line (words_behind l.line l.at)
+      (words_from l.start (is_begun l.line l.from l.start) (drop l.start l.line));
 }
 
 abbrev pub decreases-loop-start : goal.decreases-loop-start

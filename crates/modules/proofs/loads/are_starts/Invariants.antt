@@ -4,6 +4,7 @@ use Rattle.modules.proofs.loads.are_starts.Given as goal
 abbrev pub invariant-loop-place : goal.invariant-loop-place
 invariant-loop-place l =
     record {
-      begins : starts_of l.core l.init (take l.place l.regions) (take l.place l.parts) ≡ take l.count l.words;
+      begins : starts_of l.core l.init (take l.place l.regions) (take l.place l.parts)
+          ≡ take l.count l.words;
       bounded : l.count ≤ length l.words;
     }

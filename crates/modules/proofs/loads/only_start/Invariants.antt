@@ -4,7 +4,9 @@ use Rattle.modules.proofs.loads.only_start.Given as goal
 abbrev pub invariant-loop-place : goal.invariant-loop-place
 invariant-loop-place l =
     record {
-      counted : l.count ≡ length (starts_of l.core l.init (take l.place l.regions) (take l.place l.parts));
+      counted : l.count
+          ≡ length (starts_of l.core l.init (take l.place l.regions) (take l.place l.parts));
       bounded : l.count ≤ l.place;
-      one : l.count ≡ 1 → starts_of l.core l.init (take l.place l.regions) (take l.place l.parts) ≡ l.last ∷ [];
+      one : l.count ≡ 1
+          → starts_of l.core l.init (take l.place l.regions) (take l.place l.parts) ≡ l.last ∷ [];
     }

@@ -8,7 +8,8 @@ pub returns-then-split-eq0-clause-below : goal.returns-then-split-eq0-clause-bel
 returns-then-split-eq0-clause-below c = grind (arith, common_steps, none_below)
 
 pub returns-then-split-eq0-clause-above : goal.returns-then-split-eq0-clause-above
-returns-then-split-eq0-clause-above c = c.address_at-above.ensures ∙ above_in c.args.symbols.now c.args.addr c.split_at-split.result c.requires c.split_at-split.ensures
+returns-then-split-eq0-clause-above c = c.address_at-above.ensures ∙ above_in c.args.symbols.now
+    c.args.addr c.split_at-split.result c.requires c.split_at-split.ensures
 
 pub returns-clause-below : goal.returns-clause-below
 returns-clause-below c =
@@ -19,7 +20,10 @@ returns-clause-below c =
     let some : 0 < split = omega arith in
     let s : SymbolEntry = record { addr = 0; letter = 0; name = [] } in
     let is = c.first_of_equal-first.ensures s in
-    c.symbol_at.ensures ∙ slice_get-get_or symbols first s (first_within symbols c.args.addr split first s c.requires parts some is) ∙ sym (first_below symbols c.args.addr split first s c.requires parts some is)
+    c.symbol_at.ensures ∙ slice_get-get_or symbols first s
+    (first_within symbols c.args.addr split first s c.requires parts some is)
+    ∙ sym (first_below symbols c.args.addr split first s c.requires parts some is)
 
 pub returns-clause-above : goal.returns-clause-above
-returns-clause-above c = c.address_at-above.ensures ∙ above_in c.args.symbols.now c.args.addr c.split_at-split.result c.requires c.split_at-split.ensures
+returns-clause-above c = c.address_at-above.ensures ∙ above_in c.args.symbols.now c.args.addr
+    c.split_at-split.result c.requires c.split_at-split.ensures

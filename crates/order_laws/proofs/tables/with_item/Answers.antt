@@ -3,7 +3,12 @@ use Rattle.order_laws.proofs.PlaceLemmas.{with_place, place_for_fits}
 use Rattle.order_laws.proofs.tables.with_item.Goals as goal
 
 pub insert-requires : goal.insert-requires
-insert-requires g c = omega (arith, c.in_ok-all.ensures.len, c.place_for.ensures, place_for_fits g.O.TreeOrder.order c.args.item c.args.table.now)
+insert-requires g c = omega (
+  arith,
+  c.in_ok-all.ensures.len,
+  c.place_for.ensures,
+  place_for_fits g.O.TreeOrder.order c.args.item c.args.table.now,
+)
 
 pub returns : goal.returns
 returns g c =

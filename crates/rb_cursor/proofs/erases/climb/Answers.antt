@@ -1,15 +1,19 @@
 -- Each goal of the loop is one of the facts of EraseSteps at the values of the step.
-use Rattle.rb_cursor.proofs.Words.{◌≡◌, ◌<◌, sym, ◌∙◌, ap, subst, arith, length, length-append, copy_number, closed_to, most_on_climb}
+use Rattle.rb_cursor.proofs.Words.{◌≡◌, ◌<◌, sym, ◌∙◌, ap, subst, arith, length, length-append}
+use Rattle.rb_cursor.proofs.Words.{copy_number, closed_to, most_on_climb}
 use Rattle.rb_cursor.proofs.StepLemmas.{shorter, closed_room}
-use Rattle.rb_cursor.proofs.EraseSteps.{EraseEnds, erase_filled, fill_fits, relink_fits, there_is, erase_stays, erase_arrived}
+use Rattle.rb_cursor.proofs.EraseSteps.{EraseEnds, erase_filled, fill_fits, relink_fits, there_is}
+use Rattle.rb_cursor.proofs.EraseSteps.{erase_stays, erase_arrived}
 use Rattle.rb_cursor.proofs.erases.climb.Goals as goal
-use Rattle.rb_cursor.proofs.erases.climb.Goals.{else-loop-copy-test, then-loop-copy-test+in-Some+then-not-short}
+use Rattle.rb_cursor.proofs.erases.climb.Goals.{else-loop-copy-test}
+use Rattle.rb_cursor.proofs.erases.climb.Goals.{then-loop-copy-test+in-Some+then-not-short}
 
 pub fill-short-requires-clause-list : goal.fill-short-requires-clause-list
 fill-short-requires-clause-list c =
     let inv = c.loop-copy.invariant in
     let near = c.in-Some.ensures in
-    let more : c.args.depth < length c.loop-copy.cursor.path = omega (arith, c.loop-copy-test.true, c.depth.ensures) in
+    let more : c.args.depth < length c.loop-copy.cursor.path =
+    omega (arith, c.loop-copy-test.true, c.depth.ensures) in
     let full = c.if-not-short.false in
     let longer = simp length-append at (ap length c.relink.ensures.items) in
     let now = simp length-append at (ap length inv.rises.stores) in
@@ -31,33 +35,48 @@ pub loop-copy-preserved : goal.loop-copy-preserved
 loop-copy-preserved c =
     let inv = c.loop-copy.invariant in
     let near = c.in-Some.ensures in
-    let more : c.args.depth < length c.loop-copy.cursor.path = omega (arith, c.loop-copy-test.true, c.depth.ensures) in
+    let more : c.args.depth < length c.loop-copy.cursor.path =
+    omega (arith, c.loop-copy-test.true, c.depth.ensures) in
     let there = there_is inv.rises near more c.rise.ensures in record {
-      rises = erase_filled inv.rises near more c.if-not-short.false c.rise.ensures c.fill-short.ensures.cursor c.fill-short.ensures.short c.relink.ensures.items c.fill-short.ensures.items
+      rises = erase_filled inv.rises near more c.if-not-short.false c.rise.ensures
+          c.fill-short.ensures.cursor c.fill-short.ensures.short c.relink.ensures.items
+          c.fill-short.ensures.items
           c.link-after-in-loop-copy.ensures;
-      few = omega (arith, inv.few, shorter c.loop-copy.cursor c.in-Some.above near, ap (λ z. length z.path) there, ap (λ z. length z.path) c.fill-short.ensures.cursor);
+      few = omega (
+        arith,
+        inv.few,
+        shorter c.loop-copy.cursor c.in-Some.above near,
+        ap (λ z. length z.path) there,
+        ap (λ z. length z.path) c.fill-short.ensures.cursor,
+      );
       room = ap (λ z. z.room) c.fill-short.ensures.cursor ∙ ap (λ z. z.room) there ∙ inv.room;
       capacity = c.fill-short.ensures.capacity ∙ c.relink.ensures.capacity ∙ inv.capacity;
     }
 
 -- the way ended at the depth, or where nothing is short
 ends : (c : goal.After-close_to)
-    → EraseEnds (copy_number c.args.copy) c.args.depth c.args.before c.args.short c.args.cursor.now c.args.out.now.items c.close_to.new.self c.loop-copy.short c.loop-copy-test.out.items
+    → EraseEnds (copy_number c.args.copy) c.args.depth c.args.before c.args.short c.args.cursor.now
+    c.args.out.now.items c.close_to.new.self c.loop-copy.short c.loop-copy-test.out.items
     × (c.loop-copy-test.cursor.room ≡ c.args.cursor.now.room)
 ends c =
     let inv = c.loop-copy.invariant in
     elim c.loop-copy-test.branch [
       | else-loop-copy-test w ↦ (
-        subst (λ ss. EraseEnds (copy_number c.args.copy) c.args.depth c.args.before c.args.short c.args.cursor.now c.args.out.now.items c.close_to.new.self c.loop-copy.short ss) (sym (ap (λ v. v.items) w.out-is))
+        subst (λ ss. EraseEnds (copy_number c.args.copy) c.args.depth c.args.before c.args.short
+            c.args.cursor.now c.args.out.now.items c.close_to.new.self c.loop-copy.short ss)
+            (sym (ap (λ v. v.items) w.out-is))
             (erase_arrived inv.rises (omega (arith, w.loop-copy-test.false, c.depth.ensures))
-            (c.close_to.ensures ∙ ap (λ z. closed_to c.args.depth z.tree z.path z.room) w.cursor-is)),
+            (c.close_to.ensures
+            ∙ ap (λ z. closed_to c.args.depth z.tree z.path z.room) w.cursor-is)),
         ap (λ z. z.room) w.cursor-is ∙ inv.room,
       )
       | then-loop-copy-test+in-Some+then-not-short w ↦
-          let more : c.args.depth < length c.loop-copy.cursor.path = omega (arith, w.loop-copy-test.true, c.depth.ensures) in
+          let more : c.args.depth < length c.loop-copy.cursor.path =
+          omega (arith, w.loop-copy-test.true, c.depth.ensures) in
           let near = w.in-Some.ensures in
           let rises = w.cursor-is ∙ w.rise.ensures in (
-            erase_stays inv.rises near more w.if-not-short.true rises (ap (λ v. v.items) w.out-is ∙ w.relink.ensures.items) c.close_to.ensures,
+            erase_stays inv.rises near more w.if-not-short.true rises
+                (ap (λ v. v.items) w.out-is ∙ w.relink.ensures.items) c.close_to.ensures,
             ap (λ z. z.room) (there_is inv.rises near more rises) ∙ inv.room,
           )
     ]
@@ -67,4 +86,5 @@ returns-clause-climbs c = (ends c).0
 
 pub returns-clause-room : goal.returns-clause-room
 returns-clause-room c =
-    ap (λ z. z.room) c.close_to.ensures ∙ closed_room c.args.depth c.loop-copy-test.cursor.tree c.loop-copy-test.cursor.path c.loop-copy-test.cursor.room ∙ (ends c).1
+    ap (λ z. z.room) c.close_to.ensures ∙ closed_room c.args.depth c.loop-copy-test.cursor.tree
+    c.loop-copy-test.cursor.path c.loop-copy-test.cursor.room ∙ (ends c).1

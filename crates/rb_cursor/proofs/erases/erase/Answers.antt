@@ -1,49 +1,66 @@
 -- The way up from the node's place is the whole erase: the facts of TakeSteps at the values of the
 -- calls.
-use Rattle.rb_cursor.proofs.Words.{◌≡◌, ◌++◌, refl, sym, ◌∙◌, ap, subst, arith, length, length-append, append_assoc, copy_number, shape, depth, IsRedBlack, link, relink_root, plugged, place_at, plugged_to, root_moved, row_of}
+use Rattle.rb_cursor.proofs.Words.{◌≡◌, ◌++◌, refl, sym, ◌∙◌, ap, subst, arith, length}
+use Rattle.rb_cursor.proofs.Words.{length-append, append_assoc, copy_number, shape, depth}
+use Rattle.rb_cursor.proofs.Words.{IsRedBlack, link, relink_root, plugged, place_at, plugged_to}
+use Rattle.rb_cursor.proofs.Words.{root_moved, row_of}
 use Rattle.rb_cursor.proofs.StepLemmas.{all_back}
-use Rattle.rb_cursor.proofs.TakeSteps.{ErasedWhole, found_there, place_few, place_fewer, erased_whole}
+use Rattle.rb_cursor.proofs.TakeSteps.{ErasedWhole, found_there, place_few, place_fewer}
+use Rattle.rb_cursor.proofs.TakeSteps.{erased_whole}
 use Rattle.rb_cursor.proofs.erases.erase.Given.{Over}
 use Rattle.rb_cursor.proofs.erases.erase.Goals as goal
 
 pub take_node-short-requires-clause-steps : goal.take_node-short-requires-clause-steps
 take_node-short-requires-clause-steps g c =
-    let few = place_few (g.P.Probe.seen c.args.sought.now) c.args.cursor.now.tree c.seek.ensures.path c.requires.whole in
+    let few = place_few (g.P.Probe.seen c.args.sought.now) c.args.cursor.now.tree
+    c.seek.ensures.path c.requires.whole in
     omega (arith, few, ap (λ t. depth (shape t)) c.seek.ensures.tree, c.requires.steps)
 
 pub climb-requires-clause-steps : goal.climb-requires-clause-steps
 climb-requires-clause-steps g c =
-    let less = place_fewer (g.P.Probe.seen c.args.sought.now) c.args.cursor.now.tree (c.take_node-short.ensures.path ∙ c.seek.ensures.path)
+    let less = place_fewer (g.P.Probe.seen c.args.sought.now) c.args.cursor.now.tree
+    (c.take_node-short.ensures.path ∙ c.seek.ensures.path)
     c.requires.whole (sym (c.in-Some.ensures ∙ ap row_of c.seek.ensures.tree)) in
     omega (arith, less, c.requires.steps)
 
 -- the whole tree, with the stores of both calls
 made : (g : Over) (c : goal.After-link g)
-    → ErasedWhole (copy_number c.args.copy) c.args.cursor.now.tree c.in-Some.row c.climb.new.cursor ((c.take_node-short.ensures.takes).0 ++ (c.climb.ensures.climbs).0)
+    → ErasedWhole (copy_number c.args.copy) c.args.cursor.now.tree c.in-Some.row c.climb.new.cursor
+    ((c.take_node-short.ensures.takes).0 ++ (c.climb.ensures.climbs).0)
 made g c =
-    erased_whole (g.P.Probe.seen c.args.sought.now) c.args.cursor.now.tree c.seek.ensures.path c.requires.whole (copy_number c.args.copy)
-    c.seek.ensures.tree (sym c.in-Some.ensures) c.take_node-short.ensures.path (c.take_node-short.ensures.takes).2 (c.climb.ensures.climbs).2
+    erased_whole (g.P.Probe.seen c.args.sought.now) c.args.cursor.now.tree c.seek.ensures.path
+    c.requires.whole (copy_number c.args.copy)
+    c.seek.ensures.tree (sym c.in-Some.ensures) c.take_node-short.ensures.path
+    (c.take_node-short.ensures.takes).2 (c.climb.ensures.climbs).2
 
-stored : (g : Over) (c : goal.After-link g) → c.climb.new.out.items ≡ c.args.out.now.items ++ ((c.take_node-short.ensures.takes).0 ++ (c.climb.ensures.climbs).0)
+stored : (g : Over) (c : goal.After-link g) → c.climb.new.out.items
+    ≡ c.args.out.now.items ++ ((c.take_node-short.ensures.takes).0 ++ (c.climb.ensures.climbs).0)
 stored g c =
-    (c.climb.ensures.climbs).1 ∙ ap (λ ss. ss ++ (c.climb.ensures.climbs).0) (c.take_node-short.ensures.takes).1
-    ∙ append_assoc c.args.out.now.items (c.take_node-short.ensures.takes).0 (c.climb.ensures.climbs).0
+    (c.climb.ensures.climbs).1
+    ∙ ap (λ ss. ss ++ (c.climb.ensures.climbs).0) (c.take_node-short.ensures.takes).1
+    ∙ append_assoc c.args.out.now.items (c.take_node-short.ensures.takes).0
+    (c.climb.ensures.climbs).0
 
 roots : (g : Over) (c : goal.After-link g)
-    → relink_root (copy_number c.args.copy) c.link-root.result c.link.result ≡ relink_root (copy_number c.args.copy) (link (shape c.args.cursor.now.tree)) (link (shape c.climb.new.cursor.tree))
+    → relink_root (copy_number c.args.copy) c.link-root.result c.link.result
+    ≡ relink_root (copy_number c.args.copy) (link (shape c.args.cursor.now.tree))
+    (link (shape c.climb.new.cursor.tree))
 roots g c =
     let copy = copy_number c.args.copy in
-    ap (λ b. relink_root copy b c.link.result) c.link-root.ensures ∙ ap (relink_root copy (link (shape c.args.cursor.now.tree))) c.link.ensures
+    ap (λ b. relink_root copy b c.link.result) c.link-root.ensures
+    ∙ ap (relink_root copy (link (shape c.args.cursor.now.tree))) c.link.ensures
 
 pub relink_root-requires : goal.relink_root-requires
 relink_root-requires g c =
     omega (
       arith,
       (made g c).few,
-      root_moved (copy_number c.args.copy) (link (shape c.args.cursor.now.tree)) (link (shape c.climb.new.cursor.tree)),
+      root_moved (copy_number c.args.copy) (link (shape c.args.cursor.now.tree))
+          (link (shape c.climb.new.cursor.tree)),
       ap length (roots g c),
       ap length (stored g c),
-      length-append c.args.out.now.items ((c.take_node-short.ensures.takes).0 ++ (c.climb.ensures.climbs).0),
+      length-append c.args.out.now.items
+          ((c.take_node-short.ensures.takes).0 ++ (c.climb.ensures.climbs).0),
       c.requires.list,
       c.climb.ensures.capacity,
       c.take_node-short.ensures.capacity,
@@ -52,10 +69,12 @@ relink_root-requires g c =
     )
 
 pub returns-clause-row : goal.returns-clause-row
-returns-clause-row g c = found_there (g.P.Probe.seen c.args.sought.now) c.args.cursor.now.tree ∙ sym (c.in-Some.ensures ∙ ap row_of c.seek.ensures.tree)
+returns-clause-row g c = found_there (g.P.Probe.seen c.args.sought.now) c.args.cursor.now.tree
+    ∙ sym (c.in-Some.ensures ∙ ap row_of c.seek.ensures.tree)
 
 pub returns-clause-rows : goal.returns-clause-rows
-returns-clause-rows g c = let e = made g c.before in record { front = e.front; back = e.back; was = e.was; now = e.now }
+returns-clause-rows g c = let e = made g c.before in
+    record { front = e.front; back = e.back; was = e.was; now = e.now }
 
 pub returns-clause-balanced : goal.returns-clause-balanced
 returns-clause-balanced g c = (made g c.before).good c.requires.good
@@ -63,9 +82,13 @@ returns-clause-balanced g c = (made g c.before).good c.requires.good
 pub returns-clause-links : goal.returns-clause-links
 returns-clause-links g c = λ _.
     let links = (c.take_node-short.ensures.takes).0 ++ (c.climb.ensures.climbs).0 in
-    let rs = relink_root (copy_number c.args.copy) (link (shape c.args.cursor.now.tree)) (link (shape c.climb.new.cursor.tree)) in record {
+    let rs = relink_root (copy_number c.args.copy) (link (shape c.args.cursor.now.tree))
+    (link (shape c.climb.new.cursor.tree)) in
+    record {
       links = links ++ rs;
-      stores = c.relink_root.ensures.items ∙ ap (λ ss. c.climb.new.out.items ++ ss) (roots g c.before) ∙ ap (λ ss. ss ++ rs) (stored g c.before)
+      stores =
+          c.relink_root.ensures.items ∙ ap (λ ss. c.climb.new.out.items ++ ss) (roots g c.before)
+          ∙ ap (λ ss. ss ++ rs) (stored g c.before)
           ∙ append_assoc c.args.out.now.items links rs;
       lead = (made g c.before).lead;
     }
@@ -78,10 +101,12 @@ returns-clause-few g c =
     omega (
       arith,
       (made g c.before).few,
-      root_moved (copy_number c.args.copy) (link (shape c.args.cursor.now.tree)) (link (shape c.climb.new.cursor.tree)),
+      root_moved (copy_number c.args.copy) (link (shape c.args.cursor.now.tree))
+          (link (shape c.climb.new.cursor.tree)),
       ap length (roots g c.before),
       ap length (stored g c.before),
-      length-append c.args.out.now.items ((c.take_node-short.ensures.takes).0 ++ (c.climb.ensures.climbs).0),
+      length-append c.args.out.now.items
+          ((c.take_node-short.ensures.takes).0 ++ (c.climb.ensures.climbs).0),
       simp length-append at (ap length c.relink_root.ensures.items),
       c.relink_root.new.out.ok.0,
       c.climb.new.out.ok.0,
@@ -89,7 +114,9 @@ returns-clause-few g c =
     )
 
 pub returns-in_default-clause-row : goal.returns-in_default-clause-row
-returns-in_default-clause-row g c = found_there (g.P.Probe.seen c.args.sought.now) c.args.cursor.now.tree ∙ sym (c.row.ensures ∙ ap row_of c.seek.ensures.tree) ∙ c.in_default.is
+returns-in_default-clause-row g c =
+    found_there (g.P.Probe.seen c.args.sought.now) c.args.cursor.now.tree
+    ∙ sym (c.row.ensures ∙ ap row_of c.seek.ensures.tree) ∙ c.in_default.is
 
 -- with none, the cursor is where it was
 back : (g : Over) (c : goal.After-close_all g) → c.close_all.new.self ≡ c.args.cursor.now
@@ -97,11 +124,14 @@ back g c =
     let seen = g.P.Probe.seen c.args.sought.now in
     let z = c.args.cursor.now in
     let whole = ap (plugged c.seek.new.self.path) c.seek.ensures.tree
-    ∙ ap (λ p. plugged p (place_at seen z.tree)) c.seek.ensures.path ∙ plugged_to seen z.tree z.path in
-    all_back z c.seek.new.self c.close_all.new.self c.requires.whole whole c.seek.ensures.room c.close_all.ensures
+    ∙ ap (λ p. plugged p (place_at seen z.tree)) c.seek.ensures.path
+    ∙ plugged_to seen z.tree z.path in
+    all_back z c.seek.new.self c.close_all.new.self c.requires.whole whole c.seek.ensures.room
+    c.close_all.ensures
 
 pub returns-in_default-clause-unchanged : goal.returns-in_default-clause-unchanged
 returns-in_default-clause-unchanged g c = λ _. (back g c, refl)
 
 pub returns-in_default-clause-balanced : goal.returns-in_default-clause-balanced
-returns-in_default-clause-balanced g c = subst (λ z. IsRedBlack z.tree) (sym (back g c)) c.requires.good
+returns-in_default-clause-balanced g c =
+    subst (λ z. IsRedBlack z.tree) (sym (back g c)) c.requires.good

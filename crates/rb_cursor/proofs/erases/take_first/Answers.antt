@@ -5,7 +5,8 @@ use Rattle.rb_cursor.proofs.erases.take_first.Goals as goal
 
 pub unreachable-requires : goal.unreachable-requires
 unreachable-requires c =
-    first_some c.args.cursor.now.tree c.requires.fork (sym (c.row.ensures ∙ ap row_of c.seek_first.ensures.tree) ∙ c.in_default.is)
+    first_some c.args.cursor.now.tree c.requires.fork
+    (sym (c.row.ensures ∙ ap row_of c.seek_first.ensures.tree) ∙ c.in_default.is)
 
 pub take_top-requires : goal.take_top-requires
 take_top-requires c = first_thin c.args.cursor.now.tree c.requires.fork c.seek_first.ensures.tree
@@ -13,16 +14,22 @@ take_top-requires c = first_thin c.args.cursor.now.tree c.requires.fork c.seek_f
 pub climb-short-requires-clause-steps : goal.climb-short-requires-clause-steps
 climb-short-requires-clause-steps c =
     first_few c.args.cursor.now.tree c.requires.fork c.args.cursor.now.path
-    (ap (λ z. z.path) c.lower-short.ensures.cursor ∙ ap (λ z. z.path) c.take_top.ensures ∙ c.seek_first.ensures.path) c.requires.steps
+    (ap (λ z. z.path) c.lower-short.ensures.cursor ∙ ap (λ z. z.path) c.take_top.ensures
+    ∙ c.seek_first.ensures.path) c.requires.steps
 
 -- the way up makes what is left of the tree without its first node
 made : (c : goal.After-climb-short)
-    → TakesFirst (copy_number c.args.copy) c.args.cursor.now.tree c.climb-short.new.cursor.tree c.in-Some.row c.climb-short.result (c.climb-short.ensures.climbs).0
+    → TakesFirst (copy_number c.args.copy) c.args.cursor.now.tree c.climb-short.new.cursor.tree
+    c.in-Some.row c.climb-short.result (c.climb-short.ensures.climbs).0
     × (c.climb-short.new.cursor.path ≡ c.args.cursor.now.path)
 made c =
-    first_taken c.args.cursor.now.tree c.requires.fork (copy_number c.args.copy) c.depth-depth.result c.args.cursor.now.path c.depth-depth.ensures
-    c.lower-short.new.cursor c.seek_first.new.self.tree c.take_top.new.self.tree c.seek_first.ensures.tree (ap (λ z. z.path) c.lower-short.ensures.cursor ∙ ap (λ z. z.path) c.take_top.ensures ∙ c.seek_first.ensures.path) (sym c.in-Some.ensures) c.is_red-red.ensures
-    (ap (λ z. z.tree) c.take_top.ensures) (ap (λ z. z.tree) c.lower-short.ensures.cursor) c.lower-short.ensures.short (c.climb-short.ensures.climbs).2
+    first_taken c.args.cursor.now.tree c.requires.fork (copy_number c.args.copy)
+    c.depth-depth.result c.args.cursor.now.path c.depth-depth.ensures
+    c.lower-short.new.cursor c.seek_first.new.self.tree c.take_top.new.self.tree
+    c.seek_first.ensures.tree (ap (λ z. z.path) c.lower-short.ensures.cursor ∙ ap (λ z. z.path)
+    c.take_top.ensures ∙ c.seek_first.ensures.path) (sym c.in-Some.ensures) c.is_red-red.ensures
+    (ap (λ z. z.tree) c.take_top.ensures) (ap (λ z. z.tree) c.lower-short.ensures.cursor)
+    c.lower-short.ensures.short (c.climb-short.ensures.climbs).2
 
 pub returns-clause-takes : goal.returns-clause-takes
 returns-clause-takes c = let e = c.climb-short.ensures.climbs in (e.0, e.1, (made c).0)

@@ -6,7 +6,8 @@ decreases-meets g l = weight l.tree.now
 
 abbrev pub invariant-loop-fork : goal.invariant-loop-fork
 invariant-loop-fork g l = record {
-  same : meets_on_the_way g.O.TreeOrder.order l.item l.but l.rest ≡ meets_on_the_way g.O.TreeOrder.order l.item l.but l.tree;
+  same : meets_on_the_way g.O.TreeOrder.order l.item l.but l.rest
+      ≡ meets_on_the_way g.O.TreeOrder.order l.item l.but l.tree;
   less : weight l.rest ≤ weight l.tree;
 }
 

@@ -1,4 +1,5 @@
-use Rattle.rb_words.proofs.Words.{◌∙◌, refl, sym, ap, is_some, item_with_word, word_found, item_found, any_is, found_by_word, found_by_any, any_has}
+use Rattle.rb_words.proofs.Words.{◌∙◌, refl, sym, ap, is_some, item_with_word, word_found}
+use Rattle.rb_words.proofs.Words.{item_found, any_is, found_by_word, found_by_any, any_has}
 use Rattle.rb_words.proofs.shapes.without_word.Goals as goal
 
 pub returns-in_err-row-clause-found : goal.returns-in_err-row-clause-found
@@ -31,7 +32,8 @@ returns-in_err-item-clause-found g c =
 pub returns-in_err-row-2-clause-found : goal.returns-in_err-row-2-clause-found
 returns-in_err-row-2-clause-found g c =
     let with_word = sym (ap (item_with_word c.args.a) c.tree.ensures) ∙ sym c.in_ok-item.ensures in
-    let some = found_by_any g.O.TreeOrder.order g.met.O.TreeOrder.lawful c.args.a c.args.cursor.now.tree
+    let some =
+    found_by_any g.O.TreeOrder.order g.met.O.TreeOrder.lawful c.args.a c.args.cursor.now.tree
     c.in_ok-item.item c.requires.table with_word in
     let none = ap is_some c.in_err-row-2.ensures.row in
     absurd (cc)

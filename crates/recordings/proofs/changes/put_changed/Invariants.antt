@@ -5,7 +5,8 @@ use Rattle.recordings.proofs.changes.put_changed.Given as goal
 abbrev pub invariant-loop-rest : goal.invariant-loop-rest
 invariant-loop-rest l =
     let put = with_changed (texts l.named) l.now l.old in
-    fold put (texts l.names.items) (names_of l.rest) ≡ fold put (texts l.fn.names.items) (names_of l.asked)
+    fold put (texts l.names.items) (names_of l.rest)
+    ≡ fold put (texts l.fn.names.items) (names_of l.asked)
 
 abbrev pub decreases-loop-rest : goal.decreases-loop-rest
 decreases-loop-rest l = length l.rest

@@ -7,6 +7,7 @@ loop-more-preserved c =
     let (front, parts, whole) = c.loop-more.invariant in
     let line = c.in-Some.field-0-0.now in (
       front ++ line,
-      parts ∙ ap (λ (l : List ℕ). front ++ l) c.in-Some.ensures.parts ∙ sym (append_assoc front line c.in-Some.more.now),
+      parts ∙ ap (λ (l : List ℕ). front ++ l) c.in-Some.ensures.parts
+          ∙ sym (append_assoc front line c.in-Some.more.now),
       one_more_whole front line whole c.in-Some.ensures.line,
     )

@@ -1,4 +1,6 @@
-use Rattle.shared_lookup.proofs.Words.{◌≡◌, length, arith, subst, sym, zip, range_with_len, Counts, CountsUpTo, IsWrongAnswer, IsWrongChange, IsWrongEntry, entries}
+use Rattle.shared_lookup.proofs.Words.{◌≡◌, length, arith, subst, sym, zip, range_with_len, Counts}
+use Rattle.shared_lookup.proofs.Words.{CountsUpTo, IsWrongAnswer, IsWrongChange, IsWrongEntry}
+use Rattle.shared_lookup.proofs.Words.{entries}
 use Rattle.shared_lookup.proofs.CheckLemmas.{counted_or_none}
 use Rattle.shared_lookup.proofs.checks.wrong_count.Goals as goal
 
@@ -9,10 +11,14 @@ returns c =
     let pairs = zip (entries c.args.changes.now) (entries c.args.outcomes.now) in
     let outcomes = entries c.args.outcomes.now in
     let answers = c.args.answers.now in
-    let a = subst (λ n. Counts (IsWrongAnswer log) (entries answers) n) (sym c.unwrap_or-of_answers.ensures)
+    let a = subst (λ n. Counts (IsWrongAnswer log) (entries answers) n)
+    (sym c.unwrap_or-of_answers.ensures)
     (counted_or_none log answers c.replayed.result c.replayed.ensures.count c.requires.found) in
-    let b = subst (λ us. CountsUpTo (IsWrongChange c.args.c.now us) pairs c.wrong_changes-of_changes.result) is c.wrong_changes-of_changes.ensures in
-    let d = subst (λ us. CountsUpTo (IsWrongEntry outcomes) (range_with_len 0 (length us)) c.wrong_entries-of_entries.result) is c.wrong_entries-of_entries.ensures in
+    let b = subst
+    (λ us. CountsUpTo (IsWrongChange c.args.c.now us) pairs c.wrong_changes-of_changes.result)
+    is c.wrong_changes-of_changes.ensures in
+    let d = subst (λ us. CountsUpTo (IsWrongEntry outcomes) (range_with_len 0 (length us))
+    c.wrong_entries-of_entries.result) is c.wrong_entries-of_entries.ensures in
     let first = c.saturating_add.ensures in
     let second = c.saturating_add-2.ensures in
     let third = b.2 in

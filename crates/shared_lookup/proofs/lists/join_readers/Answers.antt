@@ -1,4 +1,5 @@
-use Rattle.shared_lookup.proofs.Words.{◌++◌, ◌∷◌, [], length, take, sym, subst, arith, into_iter_items, AreHeard, AreReading}
+use Rattle.shared_lookup.proofs.Words.{◌++◌, ◌∷◌, [], length, take, sym, subst, arith}
+use Rattle.shared_lookup.proofs.Words.{into_iter_items, AreHeard, AreReading}
 use Rattle.shared_lookup.proofs.ThreadLemmas.{heard_more, next_yielded, one_yielded, room_left}
 use Rattle.shared_lookup.proofs.lists.join_readers.Goals as goal
 
@@ -14,14 +15,18 @@ loop-reader-preserved g c =
     let left = into_iter_items c.loop-reader.reader-iterator in
     let step = c.in-Some.ensures.steps.0 in
     let all = next_yielded c.args.readers.items done left rest r i.gone step in
-    let more = heard_more table changer keys done rest r c.loop-reader.heard.items c.join_reader.result (subst (AreReading changer keys) all c.requires.reading) i.heard c.join_reader.ensures in
+    let more =
+    heard_more table changer keys done rest r c.loop-reader.heard.items c.join_reader.result
+    (subst (AreReading changer keys) all c.requires.reading) i.heard c.join_reader.ensures in
     record {
       gone = one_yielded c.args.readers.items done left rest r i.gone step;
-      heard = subst (AreHeard (table changer) (take (length (done ++ r ∷ [])) keys)) (sym c.push_reserved.ensures.items) more;
+      heard = subst (AreHeard (table changer) (take (length (done ++ r ∷ [])) keys))
+          (sym c.push_reserved.ensures.items) more;
       long = let l = i.long in let k = c.push_reserved.ensures.capacity in omega (arith, l, k);
     }
 
 pub push_reserved-requires : goal.push_reserved-requires
 push_reserved-requires g c =
     let i = c.loop-reader.invariant in
-    room_left c.args.keys.now _ c.loop-reader.yielded _ _ _ c.loop-reader.heard i.gone c.in-Some.ensures.steps.0 c.requires.reading.same i.heard.same i.long
+    room_left c.args.keys.now _ c.loop-reader.yielded _ _ _ c.loop-reader.heard i.gone
+    c.in-Some.ensures.steps.0 c.requires.reading.same i.heard.same i.long

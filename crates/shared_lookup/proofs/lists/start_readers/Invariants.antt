@@ -1,4 +1,5 @@
-use Rattle.shared_lookup.proofs.Words.{◌≡◌, ◌+◌, length, take, All, vec_capacity, vec_len, IsNewReaderOf, AreReading}
+use Rattle.shared_lookup.proofs.Words.{◌≡◌, ◌+◌, length, take, All, vec_capacity, vec_len}
+use Rattle.shared_lookup.proofs.Words.{IsNewReaderOf, AreReading}
 use Rattle.std.proofs.Common.{◌≤◌}
 use Rattle.shared_lookup.proofs.lists.start_readers.Given as goal
 

@@ -1,4 +1,5 @@
-use Rattle.shared_lookup.proofs.Words.{◌≡◌, ◌++◌, length, take, Some, All, vec_capacity, into_iter_items, AreChanging}
+use Rattle.shared_lookup.proofs.Words.{◌≡◌, ◌++◌, length, take, Some, All, vec_capacity}
+use Rattle.shared_lookup.proofs.Words.{into_iter_items, AreChanging}
 use Rattle.std.proofs.Common.{◌≤◌}
 use Rattle.shared_lookup.proofs.lists.start_writers.Given as goal
 

@@ -1,4 +1,5 @@
-use Rattle.shared_lookup.proofs.Words.{◌≡◌, ◌++◌, length, take, vec_capacity, into_iter_items, EachHasLooked, EachIsAnswered, EachIsFoundIn}
+use Rattle.shared_lookup.proofs.Words.{◌≡◌, ◌++◌, length, take, vec_capacity, into_iter_items}
+use Rattle.shared_lookup.proofs.Words.{EachHasLooked, EachIsAnswered, EachIsFoundIn}
 use Rattle.std.proofs.Common.{◌≤◌}
 use Rattle.shared_lookup.proofs.meetings.meet_all.Given as goal
 

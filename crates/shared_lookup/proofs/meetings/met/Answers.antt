@@ -5,4 +5,5 @@ pub returns-in-Some-clause-known : goal.returns-in-Some-clause-known
 returns-in-Some-clause-known c =
     let log = c.args.ledger.log in
     subst (λ (seat : Option ReaderState). IsPrefix (known_by seat) log) (sym c.in-Some.is)
-    (subst (IsPrefix c.in-Some.reader.knowledge.known) c.meet-ledger.ensures.reader.1.2 c.meet-ledger.ensures.reader.1.3.known)
+    (subst (IsPrefix c.in-Some.reader.knowledge.known) c.meet-ledger.ensures.reader.1.2
+    c.meet-ledger.ensures.reader.1.3.known)

@@ -1,4 +1,5 @@
-use Rattle.shared_lookup.proofs.Words.{◌≡◌, ◌++◌, length, take, vec_capacity, into_iter_items, EachFollowsLog, EachHasOutcome}
+use Rattle.shared_lookup.proofs.Words.{◌≡◌, ◌++◌, length, take, vec_capacity, into_iter_items}
+use Rattle.shared_lookup.proofs.Words.{EachFollowsLog, EachHasOutcome}
 use Rattle.std.proofs.Common.{◌≤◌}
 use Rattle.shared_lookup.proofs.meetings.settle_all.Given as goal
 

@@ -1,4 +1,6 @@
-use Rattle.shared_lookup.proofs.Words.{◌≡◌, ◌∙◌, length, take, drop, sym, subst, arith, length-append, length-drop, range_with_len, length-take-le, range-append_from_zero, CountsUpTo, IsWrongEntry, entries}
+use Rattle.shared_lookup.proofs.Words.{◌≡◌, ◌∙◌, length, take, drop, sym, subst, arith}
+use Rattle.shared_lookup.proofs.Words.{length-append, length-drop, range_with_len, length-take-le}
+use Rattle.shared_lookup.proofs.Words.{range-append_from_zero, CountsUpTo, IsWrongEntry, entries}
 use Rattle.shared_lookup.proofs.CountLemmas.{up_to_append}
 use Rattle.shared_lookup.proofs.outcomes.wrong_entries.Goals as goal
 
@@ -21,7 +23,10 @@ loop-from-preserved c =
       within = omega (arith, least, less);
       length = all ∙ omega (arith, same, taken, left, whole, least);
       counted =
-          subst (λ xs. CountsUpTo P xs c.saturating_add-wrong.result) (sym (range-append_from_zero from n))
-          (up_to_append P (range_with_len 0 from) (range_with_len from n) c.loop-from.wrong c.wrong_behind-here.result c.saturating_add-wrong.result before.counted
-          (subst (λ k. CountsUpTo P (range_with_len from k) c.wrong_behind-here.result) taken here.counted) c.saturating_add-wrong.ensures);
+          subst (λ xs. CountsUpTo P xs c.saturating_add-wrong.result)
+          (sym (range-append_from_zero from n))
+          (up_to_append P (range_with_len 0 from) (range_with_len from n) c.loop-from.wrong
+          c.wrong_behind-here.result c.saturating_add-wrong.result before.counted
+          (subst (λ k. CountsUpTo P (range_with_len from k) c.wrong_behind-here.result) taken
+          here.counted) c.saturating_add-wrong.ensures);
     }

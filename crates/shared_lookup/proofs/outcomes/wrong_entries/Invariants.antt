@@ -1,4 +1,5 @@
-use Rattle.shared_lookup.proofs.Words.{◌≡◌, ◌-◌, length, range_with_len, CountsUpTo, IsWrongEntry, entries}
+use Rattle.shared_lookup.proofs.Words.{◌≡◌, ◌-◌, length, range_with_len, CountsUpTo, IsWrongEntry}
+use Rattle.shared_lookup.proofs.Words.{entries}
 use Rattle.std.proofs.Common.{◌≤◌}
 use Rattle.shared_lookup.proofs.outcomes.wrong_entries.Given as goal
 

@@ -1,4 +1,5 @@
-use Rattle.shared_lookup.proofs.Words.{length, take, sym, subst, arith, ◌∙◌, zip, take_all, take-zip_more, CountsUpTo, IsWrongChange}
+use Rattle.shared_lookup.proofs.Words.{length, take, sym, subst, arith, ◌∙◌, zip, take_all}
+use Rattle.shared_lookup.proofs.Words.{take-zip_more, CountsUpTo, IsWrongChange}
 use Rattle.std.proofs.Common.{◌≤◌}
 use Rattle.std.proofs.lemmas.Slice.Zip.{length-zip}
 use Rattle.shared_lookup.proofs.CountLemmas.{up_to_yes, up_to_no}
@@ -16,8 +17,12 @@ loop-place-preserved c =
     let step = take-zip_more xs ys i _ _ less (omega (arith, less, same)) in
     subst (λ zs. CountsUpTo P zs c.if-is_wrong.wrong) (sym step)
     (elim c.if-is_wrong.branch [
-      | then-is_wrong w ↦ up_to_yes P (take i (zip xs ys)) _ c.loop-place.wrong c.if-is_wrong.wrong c.loop-place.invariant (c.is_wrong.ensures.0 w.if-is_wrong.true) (w.wrong-is ∙ w.saturating_add-wrong.ensures)
-      | else-is_wrong w ↦ up_to_no P (take i (zip xs ys)) _ c.loop-place.wrong c.if-is_wrong.wrong c.loop-place.invariant (λ h. absurd (let e = c.is_wrong.ensures.1 h in let f = w.if-is_wrong.false in cc)) w.wrong-is
+      | then-is_wrong w ↦ up_to_yes P (take i (zip xs ys)) _ c.loop-place.wrong c.if-is_wrong.wrong
+          c.loop-place.invariant (c.is_wrong.ensures.0 w.if-is_wrong.true)
+          (w.wrong-is ∙ w.saturating_add-wrong.ensures)
+      | else-is_wrong w ↦ up_to_no P (take i (zip xs ys)) _ c.loop-place.wrong c.if-is_wrong.wrong
+          c.loop-place.invariant (λ h.
+          absurd (let e = c.is_wrong.ensures.1 h in let f = w.if-is_wrong.false in cc)) w.wrong-is
     ])
 
 pub returns : goal.returns
@@ -27,5 +32,7 @@ returns c =
     let ys = c.args.outcomes.now in
     let i = c.loop-place.place in
     let past = c.loop-place-test.false in
-    let all : length (zip xs ys) ≤ i = (let n = length-zip xs ys in let s = c.requires in omega (arith, n, s, past)) in
-    subst (λ zs. CountsUpTo P zs c.loop-place.wrong) (take_all i (zip xs ys) all) c.loop-place.invariant
+    let all : length (zip xs ys) ≤ i =
+    (let n = length-zip xs ys in let s = c.requires in omega (arith, n, s, past)) in
+    subst (λ zs. CountsUpTo P zs c.loop-place.wrong) (take_all i (zip xs ys) all)
+    c.loop-place.invariant

@@ -5,5 +5,6 @@ abbrev pub invariant-loop-update : goal.invariant-loop-update
 invariant-loop-update l =
     record {
       rests : HasNothingPending l.table;
-      made : ledger_of l.table ≡ with_log (take (l.done + l.update-index) l.log) (ledger_of l.fn.table);
+      made : ledger_of l.table
+          ≡ with_log (take (l.done + l.update-index) l.log) (ledger_of l.fn.table);
     }

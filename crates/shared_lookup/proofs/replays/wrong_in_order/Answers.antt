@@ -1,4 +1,6 @@
-use Rattle.shared_lookup.proofs.Words.{◌∙◌, sym, ap, arith, take, Bor, count_by_more_no, count_by_more_yes, is_wrong_answer, no_reference, with_log, LedgerState, Answer}
+use Rattle.shared_lookup.proofs.Words.{◌∙◌, sym, ap, arith, take, Bor, count_by_more_no}
+use Rattle.shared_lookup.proofs.Words.{count_by_more_yes, is_wrong_answer, no_reference, with_log}
+use Rattle.shared_lookup.proofs.Words.{LedgerState, Answer}
 use Rattle.shared_lookup.proofs.replays.wrong_in_order.Goals.{then-here, else-here}
 use Rattle.shared_lookup.proofs.replays.wrong_in_order.Goals as goal
 
@@ -13,13 +15,18 @@ loop-answer-preserved c =
     record {
       within = e.done.0;
       rests = e.done.2.0;
-      table = e.done.2.1 ∙ ap (λ (t : LedgerState). with_log (take c.in_ok-here.now log) t) c.loop-answer.invariant.table;
-      further = λ k l h. let rises = c.requires.ordered i k no_reference (omega (arith, l)) h in let now = e.done.1 in omega (arith, rises, now);
+      table = e.done.2.1 ∙ ap (λ (t : LedgerState). with_log (take c.in_ok-here.now log) t)
+          c.loop-answer.invariant.table;
+      further = λ k l h. let rises = c.requires.ordered i k no_reference (omega (arith, l)) h in
+          let now = e.done.1 in
+          omega (arith, rises, now);
       count =
           elim c.if-here.branch [
-            | then-here w ↦ let n = count_by_more_yes f answers i no_reference c.loop-answer-test.true (sym e.wrong ∙ w.if-here.true) in
+            | then-here w ↦ let n = count_by_more_yes f answers i no_reference
+                c.loop-answer-test.true (sym e.wrong ∙ w.if-here.true) in
                 let is = w.wrong-is in omega (arith, n, is, more)
-            | else-here w ↦ let n = count_by_more_no f answers i no_reference c.loop-answer-test.true (sym e.wrong ∙ w.if-here.false) in
+            | else-here w ↦ let n = count_by_more_no f answers i no_reference
+                c.loop-answer-test.true (sym e.wrong ∙ w.if-here.false) in
                 let is = w.wrong-is in omega (arith, n, is, more)
           ];
     }

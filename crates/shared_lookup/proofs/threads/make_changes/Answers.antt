@@ -21,12 +21,17 @@ loop-place-preserved g c =
     let made = c.change-outcome.ensures in
     record {
       same = length-set outcomes i r ∙ v.same;
-      made = one_made catalog changes outcomes i _ r c.loop-place-test.true v.same v.made made.outcome;
+      made =
+          one_made catalog changes outcomes i _ r c.loop-place-test.true v.same v.made made.outcome;
       beside = v.beside ∙ ap Some (sym made.place);
-      follow = one_follows catalog changes outcomes i _ r c.loop-place-test.true v.same (g.W.Changer.opened c.args.changer.now) c.loop-place.seat.knowledge.known c.change-outcome.result.1.knowledge.known v.follow made.made;
+      follow = one_follows catalog changes outcomes i _ r c.loop-place-test.true v.same
+          (g.W.Changer.opened c.args.changer.now) c.loop-place.seat.knowledge.known
+          c.change-outcome.result.1.knowledge.known v.follow made.made;
     }
 
 pub returns : goal.returns
 returns g c =
     let v = c.loop-place.invariant in
-    all_made (g.W.Changer.table c.args.changer.now) (g.W.Changer.opened c.args.changer.now) (g.W.Changer.catalog c.args.changer.now) c.args.changes.now c.loop-place.outcomes.items c.loop-place.place c.loop-place.seat c.loop-place-test.false v.same v.made v.beside v.follow
+    all_made (g.W.Changer.table c.args.changer.now) (g.W.Changer.opened c.args.changer.now)
+    (g.W.Changer.catalog c.args.changer.now) c.args.changes.now c.loop-place.outcomes.items
+    c.loop-place.place c.loop-place.seat c.loop-place-test.false v.same v.made v.beside v.follow

@@ -6,7 +6,8 @@ pub returns-in-Some-clause-line : goal.returns-in-Some-clause-line
 returns-in-Some-clause-line c =
     let (first, found) = c.in-Some.ensures in
     line_here c.args.bytes.now c.in-Some.end first.high found first.before
-    ∙ ap (λ rest. take c.in-Some.end c.args.bytes.now ∷ lines_of rest) (sym (take_rest c.args.bytes.now (c.in-Some.end + 1)))
+    ∙ ap (λ rest. take c.in-Some.end c.args.bytes.now ∷ lines_of rest)
+    (sym (take_rest c.args.bytes.now (c.in-Some.end + 1)))
 
 pub returns-in-None-clause-line : goal.returns-in-None-clause-line
 returns-in-None-clause-line c = line_nowhere c.args.bytes.now c.requires c.in-None.ensures

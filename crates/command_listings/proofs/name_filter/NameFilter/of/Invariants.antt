@@ -3,4 +3,5 @@ use Rattle.command_listings.specs.NameFilters.{HaveMarks}
 use Rattle.command_listings.proofs.name_filter.NameFilter.of.Given as goal
 
 abbrev pub invariant-loop-number : goal.invariant-loop-number
-invariant-loop-number l = (k : ℕ) → k < l.number → IfSome (module_of l.catalog k) (λ m. HaveMarks l.filter m.symbols)
+invariant-loop-number l =
+    (k : ℕ) → k < l.number → IfSome (module_of l.catalog k) (λ m. HaveMarks l.filter m.symbols)

@@ -1,4 +1,5 @@
-use Rattle.latch_steps.proofs.Definitions.{refl, ◌+◌, subst, sym, arith, Read, Lookup, Loaded, Retried, Outcome, Goes, Retries}
+use Rattle.latch_steps.proofs.Definitions.{refl, ◌+◌, subst, sym, arith, Read, Lookup, Loaded}
+use Rattle.latch_steps.proofs.Definitions.{Retried, Outcome, Goes, Retries}
 use Rattle.latch_steps.proofs.ReportLemmas.{Loading, loads_more, load_ends, all_loaded}
 use Rattle.latch_steps.proofs.lookups.Lookup.load_on.Goals as goal
 use Rattle.latch_steps.proofs.lookups.Lookup.load_on.Goals.{in-Going, in-Retrying}
@@ -10,22 +11,39 @@ loop-turn-preserved g c = λ n limit w words is e.
     let old = c.loop-turn.lookup in
     let next = c.saturating_add-events.result in
     let h = c.loop-turn.invariant n limit w words is e in
-    let told = λ (x : Outcome g.row.O-Key.Denot). reports c.loop-turn.to (Read c.args.reader) x c.report-in-loop-turn.new.to in
-    let made = λ (lk : Lookup g.row.O.Denot g.row.O-Key.Denot). Loading o n limit reports w c.args.reader c.args.most c.args.to.now (c.loop-turn._turn + 1) lk next c.report-in-loop-turn.new.to in
+    let told = λ (x : Outcome g.row.O-Key.Denot).
+    reports c.loop-turn.to (Read c.args.reader) x c.report-in-loop-turn.new.to in
+    let made =
+    λ (lk : Lookup g.row.O.Denot g.row.O-Key.Denot). Loading o n limit reports w c.args.reader
+    c.args.most c.args.to.now (c.loop-turn._turn + 1) lk next c.report-in-loop-turn.new.to in
     elim c.match-load.branch [
       | in-Going x ↦ subst made (sym x.lookup-is)
-          (loads_more o n limit reports w c.args.reader c.args.most c.args.to.now old c.loop-turn.events next c.loop-turn._turn c.loop-turn.to c.report-in-loop-turn.new.to h c.saturating_add-events.ensures c.args.words.now words c.next_load.result c.next_load.ensures c.word_at.result c.word_at.ensures Goes x.in-Going.next Loaded (x.in-Going.ensures n) (λ l. refl) (λ v. refl)
+          (loads_more o n limit reports w c.args.reader c.args.most c.args.to.now old
+          c.loop-turn.events next c.loop-turn._turn c.loop-turn.to c.report-in-loop-turn.new.to
+          h c.saturating_add-events.ensures c.args.words.now words c.next_load.result
+          c.next_load.ensures c.word_at.result c.word_at.ensures Goes x.in-Going.next Loaded
+          (x.in-Going.ensures n) (λ l. refl) (λ v. refl)
           (subst told x.outcome-is c.report-in-loop-turn.ensures))
       | in-Retrying x ↦ subst made (sym x.lookup-is)
-          (loads_more o n limit reports w c.args.reader c.args.most c.args.to.now old c.loop-turn.events next c.loop-turn._turn c.loop-turn.to c.report-in-loop-turn.new.to h c.saturating_add-events.ensures c.args.words.now words c.next_load.result c.next_load.ensures c.word_at.result c.word_at.ensures Retries x.in-Retrying.next Retried (x.in-Retrying.ensures n) (λ l. refl) (λ v. refl)
+          (loads_more o n limit reports w c.args.reader c.args.most c.args.to.now old
+          c.loop-turn.events next c.loop-turn._turn c.loop-turn.to c.report-in-loop-turn.new.to
+          h c.saturating_add-events.ensures c.args.words.now words c.next_load.result
+          c.next_load.ensures c.word_at.result c.word_at.ensures Retries x.in-Retrying.next
+          Retried (x.in-Retrying.ensures n) (λ l. refl) (λ v. refl)
           (subst told x.outcome-is c.report-in-loop-turn.ensures))
     ]
 
 pub returns-in-Returned : goal.returns-in-Returned
 returns-in-Returned g c = λ n limit w words is e.
-    load_ends g.O.TreeOrder.order n limit (g.R.Report.reports c.args.report.now) w c.args.reader c.args.most c.args.to.now c.loop-turn.lookup c.loop-turn.events c.saturating_add-events.result c.loop-turn._turn c.loop-turn.to c.report.new.to
-    (c.loop-turn.invariant n limit w words is e) c.saturating_add-events.ensures c.args.words.now words c.next_load.result c.next_load.ensures c.word_at.result c.word_at.ensures c.in-Returned.returned (omega arith) (c.in-Returned.ensures n) c.report.ensures
+    load_ends g.O.TreeOrder.order n limit (g.R.Report.reports c.args.report.now) w c.args.reader
+    c.args.most c.args.to.now c.loop-turn.lookup c.loop-turn.events
+    c.saturating_add-events.result c.loop-turn._turn c.loop-turn.to c.report.new.to
+    (c.loop-turn.invariant n limit w words is e) c.saturating_add-events.ensures c.args.words.now
+    words c.next_load.result c.next_load.ensures c.word_at.result c.word_at.ensures
+    c.in-Returned.returned (omega arith) (c.in-Returned.ensures n) c.report.ensures
 
 pub returns : goal.returns
 returns g c = λ n limit w words is e.
-    all_loaded g.O.TreeOrder.order n limit (g.R.Report.reports c.args.report.now) w c.args.reader c.args.most c.args.to.now c.loop-turn.lookup c.loop-turn.events c.loop-turn._turn c.loop-turn.to (c.loop-turn.invariant n limit w words is e) (omega arith)
+    all_loaded g.O.TreeOrder.order n limit (g.R.Report.reports c.args.report.now) w c.args.reader
+    c.args.most c.args.to.now c.loop-turn.lookup c.loop-turn.events c.loop-turn._turn
+    c.loop-turn.to (c.loop-turn.invariant n limit w words is e) (omega arith)

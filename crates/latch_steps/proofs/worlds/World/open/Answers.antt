@@ -1,4 +1,5 @@
-use Rattle.latch_steps.proofs.Definitions.{refl, ap, WriterView, capacity_of, sound_opening, opening}
+use Rattle.latch_steps.proofs.Definitions.{refl, ap, WriterView, capacity_of, sound_opening}
+use Rattle.latch_steps.proofs.Definitions.{opening}
 use Rattle.latch_steps.proofs.WorldLemmas.{none_in_hand}
 use Rattle.latch_steps.proofs.worlds.World.open.Goals as goal
 
@@ -10,7 +11,8 @@ returns-clause-shows g c =
       limit = ap (λ (v : WriterView). v.limit) ok.opened;
       words = c.in_ok-words.ensures;
       writer = ok.pictures;
-      lookups = none_in_hand g.O.TreeOrder.order (capacity_of c.args.l) c.new.result c.new.ensures.empty;
+      lookups =
+          none_in_hand g.O.TreeOrder.order (capacity_of c.args.l) c.new.result c.new.ensures.empty;
       events = refl;
     }
 
@@ -19,5 +21,6 @@ returns-clause-after g c =
     record {
       moment = opening (capacity_of c.args.l) c.args.start;
       shows = returns-clause-shows g c;
-      sound = sound_opening g.O.TreeOrder.order (capacity_of c.args.l) c.args.start c.in_ok-writer.ensures.may.0;
+      sound = sound_opening g.O.TreeOrder.order (capacity_of c.args.l) c.args.start
+          c.in_ok-writer.ensures.may.0;
     }

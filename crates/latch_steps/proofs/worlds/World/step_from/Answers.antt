@@ -24,4 +24,5 @@ returns-in-Read-clause-after g c =
 
 pub returns-in-Start-clause-steps : goal.returns-in-Start-clause-steps
 returns-in-Start-clause-steps g c =
-    subst (λ (e : Event g.row.O-Key.Denot). IsWorldStep g.O.TreeOrder.order c.args.self.now e c.start.result c.start.new.self) (sym c.in-Start.is) c.start.ensures.steps
+    subst (λ (e : Event g.row.O-Key.Denot). IsWorldStep g.O.TreeOrder.order c.args.self.now e
+    c.start.result c.start.new.self) (sym c.in-Start.is) c.start.ensures.steps

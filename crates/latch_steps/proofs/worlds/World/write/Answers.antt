@@ -7,5 +7,7 @@ returns-in-None-clause-steps g c =
     let o = g.O.TreeOrder.order in
     let made = c.make.new.self in
     let none = c.in-None.ensures.none in
-    subst (λ (old : World g.row.O.Denot g.row.O-Key.Denot). Does o old Write Idle (record made { events = c.saturating_add-self.result })) none.0
-    (idles o made c.saturating_add-self.result (subst (IsAtRest o) (sym none.0) none.1) c.saturating_add-self.ensures)
+    subst (λ (old : World g.row.O.Denot g.row.O-Key.Denot).
+    Does o old Write Idle (record made { events = c.saturating_add-self.result })) none.0
+    (idles o made c.saturating_add-self.result (subst (IsAtRest o) (sym none.0) none.1)
+    c.saturating_add-self.ensures)

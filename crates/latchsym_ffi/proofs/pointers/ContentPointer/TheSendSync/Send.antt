@@ -10,4 +10,5 @@ pub send : IsSend the_row
 send =
     let all : AllSend (fields the_type) = (search sendable, (heap.the_field_send, tt)) in
     owning_send the_type all (λ d. owned_keyless content d.alloc d.at d.content)
-    (λ k. quiet (to the_type) (exits_of k (fields the_type)) ((struct_send (shape the_type) all).leaving k))
+    (λ k. quiet (to the_type) (exits_of k (fields the_type))
+    ((struct_send (shape the_type) all).leaving k))

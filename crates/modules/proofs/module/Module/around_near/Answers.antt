@@ -6,4 +6,5 @@ use Rattle.modules.proofs.module.Module.around_near.Goals as goal
 pub around_in_order-requires : goal.around_in_order-requires
 around_in_order-requires c =
     subst IsRising (sym c.as_slice-in-Some.ensures.value)
-    (rising c.self.inside.symbols.items c.in-Some.ordered.items (c.self.invariant.ordered c.in-Some.ordered c.in-Some.is))
+    (rising c.self.inside.symbols.items c.in-Some.ordered.items
+    (c.self.invariant.ordered c.in-Some.ordered c.in-Some.is))

@@ -9,7 +9,8 @@ use Rattle.modules.proofs.module.Module.lists.Goals as goal
 pub lists_in_order-requires : goal.lists_in_order-requires
 lists_in_order-requires c =
     subst IsRising (sym c.as_slice.ensures.value)
-    (rising c.self.inside.symbols.items c.in-Some.ordered.items (c.self.invariant.ordered c.in-Some.ordered c.in-Some.is))
+    (rising c.self.inside.symbols.items c.in-Some.ordered.items
+    (c.self.invariant.ordered c.in-Some.ordered c.in-Some.is))
 
 pub returns-in-Some : goal.returns-in-Some
 returns-in-Some c =
@@ -17,5 +18,6 @@ returns-in-Some c =
     let name = c.args.name.now in
     c.lists_in_order.ensures
     ∙ ap (λ (symbols : List SymbolEntry). lists_symbol symbols addr name) c.as_slice.ensures.value
-    ∙ listed_in_order c.self.inside.symbols.items c.in-Some.ordered.items addr name (c.self.invariant.ordered c.in-Some.ordered c.in-Some.is)
+    ∙ listed_in_order c.self.inside.symbols.items c.in-Some.ordered.items addr name
+    (c.self.invariant.ordered c.in-Some.ordered c.in-Some.is)
     ∙ ap (λ (m : ModuleEntry). lists_symbol m.symbols addr name) c.self.view_is

@@ -9,4 +9,7 @@ loop-run-preserved c = grind (arith, common_steps, take_more, named_more)
 
 pub returns : goal.returns
 returns c =
-    named_more c.loop-run.names _ c.args.runs.now c.args.last.now (subst (λ (rs : List Run). AreNamed c.loop-run.names (lines_of_all rs)) (take_all c.loop-run.run-index c.args.runs.now c.loop-run-test.false) c.loop-run.invariant) c.in_ok-take-2.ensures
+    named_more c.loop-run.names _ c.args.runs.now c.args.last.now
+    (subst (λ (rs : List Run). AreNamed c.loop-run.names (lines_of_all rs))
+    (take_all c.loop-run.run-index c.args.runs.now c.loop-run-test.false) c.loop-run.invariant)
+    c.in_ok-take-2.ensures

@@ -10,5 +10,6 @@ invariant_of-result c =
     let listed : lines_at before ≡ c.args.listed.now = grind (arith, common_steps) in
     record {
       sorted = c.in_ok-sort_by_name.ensures.rises;
-      listed = λ name. named_at name after ∙ ap lines_at (c.in_ok-sort_by_name.ensures.each name) ∙ sym (named_at name before) ∙ ap (lines_named name) listed;
+      listed = λ name. named_at name after ∙ ap lines_at (c.in_ok-sort_by_name.ensures.each name)
+          ∙ sym (named_at name before) ∙ ap (lines_named name) listed;
     }

@@ -15,7 +15,8 @@ returns-in-Some c =
     (tested_by_last m c.range.ensures.ordered c.self.invariant r.start r.end s e last.1
     (lt-from_Less s r.end last.0.1)
     (λ q below found. ge_from_not_lt s q
-    (within.4 (s, e) c.next_back.new.self c.in-Some.ensures.steps q (tt, Less-from_lt q r.end below) found)))
+    (within.4 (s, e) c.next_back.new.self c.in-Some.ensures.steps q (tt, Less-from_lt q r.end below)
+    found)))
 
 pub returns-in-None : goal.returns-in-None
 returns-in-None c = grind (arith, common_steps, apart_from_none, Less-from_lt)

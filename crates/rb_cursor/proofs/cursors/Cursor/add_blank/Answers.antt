@@ -1,4 +1,5 @@
-use Rattle.rb_cursor.proofs.Words.{ℕ, ◌+◌, refl, sym, ap, ◌∙◌, arith, subst, Some, OnErr-from, Slab, slab_len, Updates, Node}
+use Rattle.rb_cursor.proofs.Words.{ℕ, ◌+◌, refl, sym, ap, ◌∙◌, arith, subst, Some, OnErr-from, Slab}
+use Rattle.rb_cursor.proofs.Words.{slab_len, Updates, Node}
 use Rattle.rb_cursor.proofs.BlankLemmas.{grows, blank_node, blanked}
 use Rattle.rb_cursor.proofs.FieldLemmas.{Moved}
 use Rattle.rb_cursor.proofs.cursors.Cursor.add_blank.Goals as goal

@@ -1,4 +1,5 @@
-use Rattle.rb_cursor.proofs.Words.{◌-◌, refl, sym, ap, ◌∙◌, arith, with_value, closed_zipper, step_at}
+use Rattle.rb_cursor.proofs.Words.{◌-◌, refl, sym, ap, ◌∙◌, arith, with_value, closed_zipper}
+use Rattle.rb_cursor.proofs.Words.{step_at}
 use Rattle.rb_cursor.proofs.ChangeLemmas.{closes, not_closed, no_path, last_leads, last_there}
 use Rattle.rb_cursor.proofs.FieldLemmas.{Moved}
 use Rattle.std.specs.Option.{option_copied_mut}

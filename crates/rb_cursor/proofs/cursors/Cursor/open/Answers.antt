@@ -1,5 +1,6 @@
 use Rattle.rb_cursor.proofs.Words.{◌-◌, ℕ, refl, sym, subst, arith, OpensSide}
-use Rattle.rb_cursor.proofs.FieldLemmas.{IsInside, show, with_step, HasOpened, opened, none_there, depth_is}
+use Rattle.rb_cursor.proofs.FieldLemmas.{IsInside, show, with_step, HasOpened, opened, none_there}
+use Rattle.rb_cursor.proofs.FieldLemmas.{depth_is}
 use Rattle.rb_cursor.proofs.cursors.Cursor.open.Goals as goal
 
 pub returns-then-self-eq0 : goal.returns-then-self-eq0

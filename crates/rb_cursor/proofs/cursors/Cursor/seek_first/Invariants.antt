@@ -1,4 +1,5 @@
-use Rattle.rb_cursor.proofs.Words.{◌≡◌, ◌+◌, ◌≤◌, length, shape, depth, first_place, first_way, weight}
+use Rattle.rb_cursor.proofs.Words.{◌≡◌, ◌+◌, ◌≤◌, length, shape, depth, first_place, first_way}
+use Rattle.rb_cursor.proofs.Words.{weight}
 use Rattle.rb_cursor.proofs.cursors.Cursor.seek_first.Given as goal
 
 abbrev pub invariant-loop-fork : goal.invariant-loop-fork

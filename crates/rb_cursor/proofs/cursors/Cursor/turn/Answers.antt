@@ -1,4 +1,5 @@
-use Rattle.rb_cursor.proofs.Words.{◌-◌, ℕ, sym, ap, ◌∙◌, arith, Side, Node, opposite, child_at, with_link}
+use Rattle.rb_cursor.proofs.Words.{◌-◌, ℕ, sym, ap, ◌∙◌, arith, Side, Node, opposite, child_at}
+use Rattle.rb_cursor.proofs.Words.{with_link}
 use Rattle.rb_cursor.proofs.TurnLemmas.{with_turn, turned_to, turns, lone, none_turned}
 use Rattle.rb_cursor.proofs.FieldLemmas.{Moved, none_there}
 use Rattle.rb_cursor.proofs.cursors.Cursor.turn.Goals as goal

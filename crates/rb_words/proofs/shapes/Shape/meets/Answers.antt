@@ -1,4 +1,5 @@
-use Rattle.rb_words.proofs.Words.{◌∙◌, sym, ap, meets, without_all, meets_on_the_way, meets_anywhere, met_meets, met_any_meets}
+use Rattle.rb_words.proofs.Words.{◌∙◌, sym, ap, meets, without_all, meets_on_the_way}
+use Rattle.rb_words.proofs.Words.{meets_anywhere, met_meets, met_any_meets}
 use Rattle.rb_words.proofs.shapes.Shape.meets.Goals as goal
 
 pub returns-then-valid : goal.returns-then-valid
@@ -15,7 +16,8 @@ returns-then-valid g c =
 pub returns-else-in_line : goal.returns-else-in_line
 returns-else-in_line g c =
     c.meets_any.ensures
-    ∙ ap (meets_anywhere g.O.TreeOrder.order c.args.item.now c.args.but.now) c.tree-else-in_line.ensures
+    ∙ ap (meets_anywhere g.O.TreeOrder.order c.args.item.now c.args.but.now)
+    c.tree-else-in_line.ensures
     ∙ met_any_meets g.O.TreeOrder.order c.args.item.now c.args.but.now c.self.inside.cursor.tree
     ∙ ap (λ p. meets g.O.TreeOrder.order c.args.item.now (without_all c.args.but.now p.table))
     c.self.view_is

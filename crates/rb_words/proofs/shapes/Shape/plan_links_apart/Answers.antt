@@ -1,4 +1,5 @@
-use Rattle.rb_words.proofs.Words.{◌≡◌, ◌∙◌, false, sym, ap, arith, meets, without_none, capacity_of, copy_number}
+use Rattle.rb_words.proofs.Words.{◌≡◌, ◌∙◌, false, sym, ap, arith, meets, without_none, capacity_of}
+use Rattle.rb_words.proofs.Words.{copy_number}
 use Rattle.rb_words.proofs.PlanLemmas.{AfterInsert, shown_insert, few_steps, met_none}
 use Rattle.rb_words.proofs.shapes.Shape.plan_links_apart.Given.{Over}
 use Rattle.rb_words.proofs.shapes.Shape.plan_links_apart.Goals as goal
@@ -74,7 +75,8 @@ returns-clause-pictures g c = λ _. (after g c).inserts
 
 pub returns-clause-plan : goal.returns-clause-plan
 returns-clause-plan g c = λ _.
-    let added = c.insert_apart.ensures.links c.if-insert_apart.false in (added.links, added.stores, (after g c).leads)
+    let added = c.insert_apart.ensures.links c.if-insert_apart.false in
+    (added.links, added.stores, (after g c).leads)
 
 pub returns-clause-few : goal.returns-clause-few
 returns-clause-few g c = omega (arith, c.insert_apart.ensures.few)

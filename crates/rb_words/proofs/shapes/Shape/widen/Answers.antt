@@ -11,7 +11,8 @@ before g c =
     picture_of (capacity_of s.layout) (copy_number s.copy) s.cursor.tree s.cursor.room
 
 more : (g : Over) (c : goal.After-l-1 g) → capacity_of c.self.inside.layout ≤ capacity_of c.args.l
-more g c = subst (λ (q : Picture). q.capacity ≤ capacity_of c.args.l) (sym c.self.view_is) c.requires
+more g c =
+    subst (λ (q : Picture). q.capacity ≤ capacity_of c.args.l) (sym c.self.view_is) c.requires
 
 pub returns-clause-pictures : goal.returns-clause-pictures
 returns-clause-pictures g c =

@@ -7,15 +7,18 @@ loop-init c = ([], none_before _ ∙ ap (λ l. l.said) c.self.view_is)
 
 pub loop-preserved-in-Some : goal.loop-preserved-in-Some
 loop-preserved-in-Some c =
-    gone_past _ _ _ c.in_ok-next_command.field-0 c.in-Some.field-0 c.in-Some.is c.in_ok-next_command.ensures.next
+    gone_past _ _ _ c.in_ok-next_command.field-0 c.in-Some.field-0 c.in-Some.is
+    c.in_ok-next_command.ensures.next
     c.loop.invariant
 
 pub loop-preserved-in-Some-2 : goal.loop-preserved-in-Some-2
 loop-preserved-in-Some-2 c =
-    gone_past _ _ _ c.in_ok-next_command.field-0 c.in-Some.field-0 c.in-Some.is c.in_ok-next_command.ensures.next
+    gone_past _ _ _ c.in_ok-next_command.field-0 c.in-Some.field-0 c.in-Some.is
+    c.in_ok-next_command.ensures.next
     c.loop.invariant
 
 pub loop-preserved-in-Some-3 : goal.loop-preserved-in-Some-3
 loop-preserved-in-Some-3 c =
-    gone_past _ _ _ c.in_ok-next_command.field-0 c.in-Some.field-0 c.in-Some.is c.in_ok-next_command.ensures.next
+    gone_past _ _ _ c.in_ok-next_command.field-0 c.in-Some.field-0 c.in-Some.is
+    c.in_ok-next_command.ensures.next
     c.loop.invariant

@@ -4,9 +4,12 @@ use Rattle.shared_lookup.proofs.ledgers.Ledger.enlarge.Goals as goal
 
 pub invariant_of-self : goal.invariant_of-self
 invariant_of-self c =
-    subst (λ (w : WriterState). IsLedger w c.self.inside.log.items c.self.inside.layout c.self.inside.start) (sym c.in_err-readers.ensures.unchanged) c.self.invariant
+    subst (λ (w : WriterState). IsLedger w c.self.inside.log.items c.self.inside.layout
+    c.self.inside.start) (sym c.in_err-readers.ensures.unchanged) c.self.invariant
 
 pub invariant_of-self-2 : goal.invariant_of-self-2
 invariant_of-self-2 c =
-    ledger_enlarged c.self.inside.writer c.args.l c.enlarge.new.self c.in_ok-readers.readers.items c.in_ok-readers.ensures.enlarged c.self.invariant.rests c.generation-generation.ensures.sound
+    ledger_enlarged c.self.inside.writer c.args.l c.enlarge.new.self c.in_ok-readers.readers.items
+    c.in_ok-readers.ensures.enlarged c.self.invariant.rests
+    c.generation-generation.ensures.sound
     c.self.inside.log.items c.self.inside.layout c.self.inside.start c.self.invariant

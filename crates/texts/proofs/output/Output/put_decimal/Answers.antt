@@ -13,4 +13,5 @@ returns-then-has_room g c =
     let written = c.write_digits-start.ensures in
     kept_is_said (c.has_room.ensures.sound c.if-has_room.true) (λ _. c.args.self.now.device)
     (c.truncate.ensures.items ∙ ap (take (c.len.result + (20 - start))) c.append.ensures
-    ∙ digits_kept old.items _ _ _ c.len.result start (c.len.ensures ∙ old.ok.0) written.start written.written)
+    ∙ digits_kept old.items _ _ _ c.len.result start (c.len.ensures ∙ old.ok.0) written.start
+    written.written)

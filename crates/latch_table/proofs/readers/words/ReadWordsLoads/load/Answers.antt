@@ -7,5 +7,6 @@ load-requires g c =
     let may = c.requires.can.1 in (
       c.requires.can.0.0,
       c.requires.within,
-      allows_word g.O.TreeOrder.order _ _ _ _ _ _ (reader_of c.args.seat.now.me.0) may.0 may.1 (ap (λ m. m.0.reader) c.requires.can.0.1) may.2 may.3,
+      allows_word g.O.TreeOrder.order _ _ _ _ _ _ (reader_of c.args.seat.now.me.0) may.0 may.1
+          (ap (λ m. m.0.reader) c.requires.can.0.1) may.2 may.3,
     )
