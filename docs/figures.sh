@@ -17,11 +17,12 @@ WORD = re.compile(r"[^\s(){}\[\],;:.`λ→×⊎≡≢≤<>=+*/∷|&]+")
 
 
 class Definition:
-    """A definition of specs/: its file, its name, its place there, its lines, and the comment above it."""
+    """A definition of specs/: its file, its name, its place there, its lines, the comment above it, and the parameters of
+    the modules that it stands in."""
 
-    def __init__(self, file, name, place, lines, about):
+    def __init__(self, file, name, place, lines, about, parameters):
         self.file, self.name, self.place, self.lines = file, name, place, len(lines)
-        self.text = "\n".join(lines)
+        self.text, self.parameters = "\n".join(lines), parameters
         self.about = about
 
 
@@ -36,19 +37,25 @@ def imports_of(text):
 
 
 def definitions_of(file, text):
-    """The definitions of a file. A line that begins another one ends it; a comment and an empty line are none of it."""
-    found, name, lines, about, comment = [], None, [], [], []
-    head = re.compile(r"(?:abbrev |unfoldable |record |data |pub )+(\S+)")
+    """The definitions of a file. A line that begins another one ends it; a comment and an empty line are none of it. One in
+    a module with parameters rests on what these name, too."""
+    found, name, lines, about, comment, modules = [], None, [], [], [], []
+    head = re.compile(r"(?:(?:abbrev |unfoldable |record |data |pub )+|(?: {2})+(?:pub )?(?:abbrev |unfoldable |record |data )(?:pub )?)([^\s{]\S*)")
     for line in [*text.split("\n"), "end"]:
         bare = re.sub(r"--.*", "", line).rstrip()
-        begins = re.match(r"\S", bare) and head.match(bare)
-        if begins or bare == "end" or bare.startswith(("use ", "pub use ", "module ")):
+        depth = len(bare) - len(bare.lstrip())
+        begins, module = head.match(bare), re.match(r" *module _", bare)
+        if begins or module or bare == "end" or bare.startswith(("use ", "pub use ")):
             if name:
-                found.append(Definition(file, name, len(found), lines, about))
+                parameters = "\n".join(header for _, header in modules)
+                found.append(Definition(file, name, len(found), lines, about, parameters))
             name, lines, about = begins[1] if begins else None, [], comment
-        if bare and name:
+            modules = [it for it in modules if it[0] < depth]
+        if module or (modules and not modules[-1][1].endswith("where")):
+            modules = [*modules, (depth, bare)] if module else [*modules[:-1], (modules[-1][0], modules[-1][1] + "\n" + bare)]
+        elif bare and name:
             lines.append(bare)
-        comment = [*comment, line] if line.startswith("--") else []
+        comment = [*comment, line] if line.lstrip().startswith("--") else []
     return found
 
 
@@ -72,7 +79,7 @@ def behind(definition):
     """The definitions that one names."""
     crate, _, stem = definition.file[7:-5].split("/")
     module = f"{crate}.specs.{stem}"
-    found = (named(module, it) for it in WORD.findall(definition.text))
+    found = (named(module, it) for it in WORD.findall(definition.parameters + definition.text))
     return {it for it in found if it and it is not definition}
 
 
