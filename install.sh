@@ -114,8 +114,8 @@ if [ -e "$here/bin/latchsym" ]; then
     }
     work=$(mktemp -d)
 else
-    . "$here/tests/program.sh"
-    . "$top/tests/library.sh"
+    . "$here/tests/lib/program.sh"
+    . "$top/tests/lib/library.sh"
     if [ -n "$static$processor" ]; then build_static latchsym "$processor"; else build_proved latchsym; fi
     build_library "$processor"
 fi

@@ -54,7 +54,7 @@ mkdir -p "$tree/bindings/rust/lib/$processor"
 cp -r "$tree"/{lib/liblatchsym.a,latchsym.spdx.json,licences} "$tree/bindings/rust/lib/$processor"
 rm -r "$tree/bindings/rust/lib/$processor/licences/glibc"
 # what the program was linked from, for whoever links it with a glibc of his own
-. "$top/tests/library.sh"
+. "$top/tests/lib/library.sh"
 tools_of "$processor"
 mkdir "$tree/relink"
 cp "$(made_in latchsym "$processor")/latchsym.o" "$c"/{libos_c.a,liblibc_c.a} "$tree/relink"

@@ -8,7 +8,7 @@
 # 100 megabytes if nothing is given, and a listing of 150000 symbols, a third of them in modules.
 set -eu
 megabytes=${1:-100}
-. "$(dirname "$0")/../tests/program.sh"
+. "$(dirname "$0")/../tests/lib/program.sh"
 build_proved latchsym
 rustc --edition 2021 -C opt-level=3 -o "$work/peer" "$top/benches/peers/annotate.rs"
 if [ $# -ge 2 ]; then

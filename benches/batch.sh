@@ -5,7 +5,7 @@
 # runs of each counts.
 set -eu
 regions=${1:-60000}
-. "$(dirname "$0")/../tests/program.sh"
+. "$(dirname "$0")/../tests/lib/program.sh"
 build_proved latchsym
 
 # no symbol reaches the next one

@@ -7,7 +7,7 @@ set -eu
 modules=${1:-200}
 symbols=${2:-2000000}
 lookups=${3:-10000000}
-. "$(dirname "$0")/../tests/program.sh"
+. "$(dirname "$0")/../tests/lib/program.sh"
 build_proved measures
 
 /usr/bin/time -f 'most memory: %M kB' "$program" build "$modules" "$symbols" "$lookups"

@@ -4,7 +4,7 @@
 set -eu
 items=${1:-1000}
 rounds=${2:-500}
-. "$(dirname "$0")/../tests/program.sh"
+. "$(dirname "$0")/../tests/lib/program.sh"
 build_proved measures
 
 /usr/bin/time -f '%e s, most memory: %M kB' "$program" drive "$items" "$rounds"

@@ -5,7 +5,7 @@
 set -eu
 modules=${1:-/proc/modules}
 kallsyms=${2:-/proc/kallsyms}
-. "$(dirname "$0")/../tests/program.sh"
+. "$(dirname "$0")/../tests/lib/program.sh"
 build_proved measures
 
 /usr/bin/time -f 'most memory: %M kB' "$program" read "$modules" "$kallsyms"

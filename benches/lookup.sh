@@ -10,7 +10,7 @@
 set -eu
 folder=$(cd "$1" && pwd)
 peer=${2:+$(realpath "$2")}
-. "$(dirname "$0")/../tests/program.sh"
+. "$(dirname "$0")/../tests/lib/program.sh"
 build_proved latchsym
 
 ours() { "$program" lookup --modules "$folder/modules.txt" --kallsyms "$folder/kallsyms.txt" --addresses "$folder/addr.$1"; }

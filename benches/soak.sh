@@ -3,7 +3,7 @@
 # of its generation. Ends with status 1 where one was wrong.
 set -euo pipefail
 seconds=${1:-60}
-. "$(dirname "$0")/../tests/program.sh"
+. "$(dirname "$0")/../tests/lib/program.sh"
 build_proved measures
 
 "$program" soak "$seconds" | tee "$work/seen"

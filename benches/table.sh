@@ -10,7 +10,7 @@
 set -eu
 repeats=${REPEATS:-7}
 seconds=${SECONDS_A_RUN:-0.2}
-. "$(dirname "$0")/../tests/program.sh"
+. "$(dirname "$0")/../tests/lib/program.sh"
 build_proved measures
 programs=("$@" "$program")
 

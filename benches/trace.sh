@@ -4,7 +4,7 @@
 # lines, a million if none is given.
 set -eu
 lines=${1:-1000000}
-. "$(dirname "$0")/../tests/program.sh"
+. "$(dirname "$0")/../tests/lib/program.sh"
 build_proved latchsym
 rustc --edition 2021 -C opt-level=3 -o "$work/peer" "$top/benches/peers/trace.rs"
 

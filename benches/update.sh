@@ -4,7 +4,7 @@
 # PAIRS of each (2000).
 set -euo pipefail
 pairs=${1:-2000}
-. "$(dirname "$0")/../tests/program.sh"
+. "$(dirname "$0")/../tests/lib/program.sh"
 build_proved measures
 
 # instructions PAIRS ITEMS: of the whole program; its output is kept

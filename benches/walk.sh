@@ -4,7 +4,7 @@
 # same words (walk.c), the nodes that these visit in a red-black tree of pointers, and the ratio of
 # both programs' user times, which take turns. Needs a C compiler and valgrind.
 set -euo pipefail
-. "$(dirname "$0")/../tests/program.sh"
+. "$(dirname "$0")/../tests/lib/program.sh"
 build_proved measures
 cc -O2 -o "$work/walk" "$top/benches/walk.c"
 TIMEFORMAT=%U

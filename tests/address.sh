@@ -4,7 +4,7 @@
 # set others), and all names of this machine where its addresses are shown, with what a plain slow
 # program finds and with what a lookup answers. Needs python3.
 set -euo pipefail
-. "$(dirname "$0")/program.sh"
+. "$(dirname "$0")/lib/program.sh"
 command -v python3 >/dev/null || { echo "address: python3 is not installed"; exit 1; }
 build latchsym
 cd "$top/examples/listings"

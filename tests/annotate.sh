@@ -5,7 +5,7 @@
 # line and the files. With EMULATED, large logs are left out, for which an emulator takes minutes, and
 # more memory than they leave.
 set -euo pipefail
-. "$(dirname "$0")/program.sh"
+. "$(dirname "$0")/lib/program.sh"
 build latchsym
 cd "$top/examples/logs"
 failed=0

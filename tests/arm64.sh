@@ -5,14 +5,14 @@
 # kind over the listings of examples/, the table on threads and beside signals; the tests of traces
 # and of annotated logs, over the program; and what a release for arm64 has, its wheel and the
 # packages for Debian among it. Looks at the order of the atomic steps in the machine code. What needs
-# a tool that is not there is skipped, with a line that says so (tools.sh).
+# a tool that is not there is skipped, with a line that says so (lib/tools.sh).
 #
 # The program is proved anew for this processor, which takes minutes: with --share it is looked at on
 # every seventh day, and on the others the library alone.
 set -euo pipefail
-. "$(dirname "$0")/program.sh"
-. "$top/tests/library.sh"
-. "$top/tests/tools.sh"
+. "$(dirname "$0")/lib/program.sh"
+. "$top/tests/lib/library.sh"
+. "$top/tests/lib/tools.sh"
 arm=aarch64-linux-gnu-
 
 fail() {

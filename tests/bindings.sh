@@ -4,11 +4,11 @@
 # seed); the header for C++, under the sanitizers too; the crate for Rust; their example programs, over
 # a listing of examples/ as `latchsym lookup` answers; what README.md has in each language; and the
 # example for many machines on a cluster of two workers. What needs a tool that is not there is
-# skipped, with a line that says so (tools.sh). Needs g++ and python3.
+# skipped, with a line that says so (lib/tools.sh). Needs g++ and python3.
 set -euo pipefail
-. "$(dirname "$0")/program.sh"
-. "$top/tests/library.sh"
-. "$top/tests/tools.sh"
+. "$(dirname "$0")/lib/program.sh"
+. "$top/tests/lib/library.sh"
+. "$top/tests/lib/tools.sh"
 build_library
 mkdir "$work/lib"
 cp "$library" "$work/lib/liblatchsym.a"

@@ -6,7 +6,7 @@
 #   stdout, stderr, status  are what is wanted: nothing, nothing and 0 where they are left out
 # Other files are the ones that it reads. With names of cases it runs those alone.
 set -euo pipefail
-. "$(dirname "$0")/program.sh"
+. "$(dirname "$0")/lib/program.sh"
 build latchsym
 cd "$top/tests/cases"
 passed=0

@@ -2,7 +2,7 @@
 # Checks the listings of examples/listings/: each note that a lookup writes of them is written, and
 # then the counts of the lookup, where both have the same bounds of the kernel; tries the statuses, more regions than a table has, and the faults.
 set -euo pipefail
-. "$(dirname "$0")/program.sh"
+. "$(dirname "$0")/lib/program.sh"
 build latchsym
 cd "$top/examples/listings"
 failed=0

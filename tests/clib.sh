@@ -11,9 +11,9 @@
 # 700 bytes under gcc's own for addresses. Looks at the object code that a call for signal handlers
 # takes no memory, and runs it on the oldest x86-64 where there is an emulator. Needs gcc.
 set -euo pipefail
-. "$(dirname "$0")/program.sh"
-. "$top/tests/library.sh"
-. "$top/tests/tools.sh"
+. "$(dirname "$0")/lib/program.sh"
+. "$top/tests/lib/library.sh"
+. "$top/tests/lib/tools.sh"
 build_library
 
 # compile NAME OPTION..: the program NAME.c of tests/c, with the static library

@@ -4,9 +4,9 @@
 # neither a program in C nor a run of the program shows. With names of crates it runs theirs alone.
 set -euo pipefail
 cd "$(dirname "$0")/.."
-. tests/needs_kit.sh
+. tests/lib/needs_kit.sh
 if [ $# = 0 ]; then
     mapfile -t crates < <(grep -rl '#\[test\]' tests/crates | cut -d/ -f3 | sort -u)
     set -- "${crates[@]}"
 fi
-tests/build.py test "$@"
+tests/lib/build.py test "$@"

@@ -10,7 +10,7 @@
 # The program is linked to the C library dynamically, so a library in front of it can fail a call.
 # Needs a C compiler.
 set -euo pipefail
-. "$(dirname "$0")/program.sh"
+. "$(dirname "$0")/lib/program.sh"
 build latchsym
 cc -O1 -shared -fPIC -o "$work/fail.so" "$top/tests/devices/fail.c"
 cd "$work"

@@ -5,7 +5,7 @@
 # completions. Says after how many seconds the first output came, and how many files were touched.
 set -euo pipefail
 cd "$(dirname "$0")/.."
-. tests/needs_kit.sh
+. tests/lib/needs_kit.sh
 unset PROVED PROGRAMS
 work=$(mktemp -d)
 trap 'rm -rf "$work"' EXIT

@@ -4,7 +4,7 @@
 # line that asks for no name makes no reading; what is noted is noted once, before the first line; and
 # while listings give no names, lines have none, which is told once.
 set -euo pipefail
-. "$(dirname "$0")/program.sh"
+. "$(dirname "$0")/lib/program.sh"
 build latchsym
 cd "$work"
 failed=0

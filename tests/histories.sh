@@ -3,7 +3,7 @@
 # program finds by the rules: 4,000 histories with a fixed seed (RUNS and SEED set others). Then what
 # commands write with --history, with what they write with the listing of that time. Needs python3.
 set -eu
-. "$(dirname "$0")/program.sh"
+. "$(dirname "$0")/lib/program.sh"
 command -v python3 >/dev/null || { echo "histories: python3 is not installed"; exit 1; }
 PROVED= build history_answers
 python3 "$top/tests/histories/compared.py" "$program" "${RUNS:-4000}" "${SEED:-1}"

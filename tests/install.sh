@@ -4,10 +4,10 @@
 # a program without shared libraries, and where a folder cannot be made; and takes them away again.
 # Looks at what the shared library shows and asks for, and builds a project of CMake's in C and one in
 # C++. Needs gcc and binutils; What needs pkg-config or CMake is skipped if they are not there, with a
-# line that says so (tools.sh).
+# line that says so (lib/tools.sh).
 set -euo pipefail
-. "$(dirname "$0")/program.sh"
-. "$top/tests/tools.sh"
+. "$(dirname "$0")/lib/program.sh"
+. "$top/tests/lib/tools.sh"
 
 fail() {
     echo "install: $1"

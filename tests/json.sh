@@ -4,7 +4,7 @@
 # (RUNS and SEED set others) whose names have bytes of every kind, by modules that are listed and by
 # the symbols alone, with the counts and without. Needs python3.
 set -eu
-. "$(dirname "$0")/program.sh"
+. "$(dirname "$0")/lib/program.sh"
 command -v python3 >/dev/null || { echo "json: python3 is not installed"; exit 1; }
 build latchsym
 mkdir "$work/run"

@@ -6,8 +6,8 @@
 # and a kernel for the cloud, and is skipped where one is missing. KERNEL may be a folder into which the
 # kernel's package was unpacked.
 set -euo pipefail
-. "$(dirname "$0")/program.sh"
-. "$top/tests/tools.sh"
+. "$(dirname "$0")/lib/program.sh"
+. "$top/tests/lib/tools.sh"
 has 'command -v qemu-system-x86_64' qemu-system-x86 || exit 0
 has 'busybox --list | grep -qx insmod && ! ldd "$(command -v busybox)"' busybox-static || exit 0
 has 'command -v cpio' cpio || exit 0

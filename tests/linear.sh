@@ -5,7 +5,7 @@
 # Nothing is proved here.
 set -euo pipefail
 top=$(cd "$(dirname "$0")/.." && pwd)
-. "$top/tests/needs_kit.sh"
+. "$top/tests/lib/needs_kit.sh"
 work=$(mktemp -d)
 trap 'rm -rf "$work"' EXIT
 git init -q "$work"

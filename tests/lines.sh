@@ -6,7 +6,7 @@
 # for none of them. Then come lines of 4096 bytes, which are read, and of one byte more, which are
 # not; and listings at size.
 set -euo pipefail
-. "$(dirname "$0")/program.sh"
+. "$(dirname "$0")/lib/program.sh"
 build latchsym
 rows=$top/tests/lines
 cd "$work"

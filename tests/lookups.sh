@@ -3,7 +3,7 @@
 # lines beside them; cuts listings at each byte and adds the counts up; reads the listings of this
 # machine; and tries what may be wrong with the command line and the files.
 set -euo pipefail
-. "$(dirname "$0")/program.sh"
+. "$(dirname "$0")/lib/program.sh"
 build latchsym
 cd "$top/examples/listings"
 failed=0

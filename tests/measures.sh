@@ -1,7 +1,7 @@
 #!/usr/bin/env bash
 # The counted jobs of the program that measures: what they write is the same on each machine.
 set -euo pipefail
-. "$(dirname "$0")/program.sh"
+. "$(dirname "$0")/lib/program.sh"
 
 # gives EXPECTED ARGUMENT..: the program writes this text
 gives() {

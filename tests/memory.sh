@@ -7,7 +7,7 @@
 #
 # LINES_OF_INPUT is the number of the trace's lines and of the listing's symbols.
 set -eu
-. "$(dirname "$0")/program.sh"
+. "$(dirname "$0")/lib/program.sh"
 build latchsym
 lines=${LINES_OF_INPUT:-200000}
 

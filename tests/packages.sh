@@ -4,11 +4,11 @@
 # crate that has it, built from what `cargo package` makes; and the packages for Debian, built by
 # dpkg-buildpackage, looked through by lintian, and installed, used and removed in a Debian by
 # debootstrap, or else unpacked. Looks at which versions of glibc the library asks for. What needs
-# a tool that is not there is skipped, with a line that says so (tools.sh).
+# a tool that is not there is skipped, with a line that says so (lib/tools.sh).
 # Needs gcc, binutils and python3.
 set -euo pipefail
-. "$(dirname "$0")/program.sh"
-. "$top/tests/tools.sh"
+. "$(dirname "$0")/lib/program.sh"
+. "$top/tests/lib/tools.sh"
 
 fail() {
     echo "packages: $1"
@@ -85,7 +85,7 @@ for deb in "${debs[@]}"; do
 done
 # (a page's links lead to what is beside it, in a package on its own too)
 for folder in "$work"/unpacked/usr/share/doc/*; do
-    [ -z "$(find "$folder" -name '*.md*')" ] || python3 "$top/tests/links.py" "$folder" || fail "dead links in $folder"
+    [ -z "$(find "$folder" -name '*.md*')" ] || python3 "$top/tests/lib/links.py" "$folder" || fail "dead links in $folder"
 done
 triplet=$(dpkg-architecture -q DEB_HOST_MULTIARCH)
 libraries=$work/unpacked/usr/lib/$triplet

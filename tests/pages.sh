@@ -7,8 +7,8 @@
 # say so where there is no kit. Needs man and groff (Debian has them in man-db and groff-base), and for
 # the examples gcc, binutils and gzip.
 set -euo pipefail
-. "$(dirname "$0")/program.sh"
-. "$top/tests/tools.sh"
+. "$(dirname "$0")/lib/program.sh"
+. "$top/tests/lib/tools.sh"
 for tool in man groff; do
     command -v $tool >/dev/null || { echo "pages: $tool is not installed (Debian: apt-get install man-db groff-base)"; exit 1; }
 done
@@ -118,7 +118,7 @@ same 'the logs of README.md' "$(cat "$top"/examples/logs/oops.{log,expected} "$t
     "$(sed -n 's/^    \(\[ .*\)/\1/p' "$top/README.md")"
 same 'the log of the archive'"'"'s README.md' "$(cat "$top/examples/logs/oops.expected")" \
     "$(sed -n 's/^    \(\[ .*\)/\1/p' "$top/packaging/archive.md")"
-python3 "$top/tests/links.py" "$top" >"$work/links" || fail "$(cat "$work/links")"
+python3 "$top/tests/lib/links.py" "$top" >"$work/links" || fail "$(cat "$work/links")"
 
 # docs/TOUR.md: the function of each stop is there
 stops=0

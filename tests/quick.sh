@@ -9,7 +9,7 @@
 # must not compile, wrong bodies.
 set -euo pipefail
 cd "$(dirname "$0")/.."
-. tests/needs_kit.sh
+. tests/lib/needs_kit.sh
 if [ "$*" = --help ]; then
     sed -n '2,/^set /s/^# \{0,1\}//p' "$0"
     exit
@@ -34,8 +34,8 @@ fi
 times=$(mktemp)
 trap 'sort -rn "$times"; rm -f "$times"' EXIT
 # (cases.sh builds the program, so it comes first, beside what needs none)
-tests/lanes.py "$times" 'tests/cases.sh annotated_log_stays_as_it_is' tests/refused_calls.sh
-tests/lanes.py "$times" tests/crates.sh tests/first_change.sh tests/unproved_library.sh tests/random_logs.sh tests/{histories,recordings}.sh tests/random.sh tests/measures.sh \
+tests/lib/lanes.py "$times" 'tests/cases.sh annotated_log_stays_as_it_is' tests/refused_calls.sh
+tests/lib/lanes.py "$times" tests/crates.sh tests/first_change.sh tests/unproved_library.sh tests/random_logs.sh tests/{histories,recordings}.sh tests/random.sh tests/measures.sh \
     tests/{refusals,devices,memory,runs}.sh tests/interface.py \
     tests/{cases,traces,lookups,lines,json,annotate,follow,checks,address,symbols_alone,pages,versions}.sh
 echo "all passed; nothing of it was proved"

@@ -4,7 +4,7 @@
 # itself within its time with a status of 0 or 1, with one line on standard error where it is 1 and
 # nothing on standard output then; and the counts of a lookup have to add up. Needs a C compiler.
 set -eu
-. "$(dirname "$0")/program.sh"
+. "$(dirname "$0")/lib/program.sh"
 build latchsym
 cc -O2 -o "$work/random" "$top/tests/random/random.c"
 mkdir "$work/inputs"

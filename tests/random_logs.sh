@@ -3,7 +3,7 @@
 # logs of examples/logs, for 10,000 random ones with a fixed seed (RUNS and SEED set others), and for
 # lines of about the greatest length. Needs python3.
 set -eu
-. "$(dirname "$0")/program.sh"
+. "$(dirname "$0")/lib/program.sh"
 command -v python3 >/dev/null || { echo "random_logs: python3 is not installed"; exit 1; }
 build latchsym
 mkdir "$work/run"

@@ -5,7 +5,7 @@
 # stays if something fails, and EVENTS may be the standard input. Then latchsym-record, over a folder
 # that stands for tracefs: of each beginning of a file it makes a history that goes on. Needs python3.
 set -euo pipefail
-. "$(dirname "$0")/program.sh"
+. "$(dirname "$0")/lib/program.sh"
 command -v python3 >/dev/null || { echo "recordings: python3 is not installed"; exit 1; }
 PROVED= build recorded_blocks
 python3 "$top/tests/recordings/compared.py" "$program" "${RUNS:-6000}" "${SEED:-1}"

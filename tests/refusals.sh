@@ -10,7 +10,7 @@
 # The program is linked to the C library dynamically, so a library in front of it can refuse a
 # request. Needs a C compiler.
 set -eu
-. "$(dirname "$0")/program.sh"
+. "$(dirname "$0")/lib/program.sh"
 build latchsym
 cc -O1 -shared -fPIC -o "$work/refuse.so" "$top/tests/refusals/refuse.c"
 

@@ -5,7 +5,7 @@
 # a call is given, the run ends with `refused 7` after the lines up to there. Between the lines
 # `steps begin` and `steps end` no request comes at all. Needs a C compiler and python3.
 set -eu
-. "$(dirname "$0")/program.sh"
+. "$(dirname "$0")/lib/program.sh"
 build refused_calls
 cc -O1 -shared -fPIC -o "$work/refuse.so" "$top/tests/refusals/refuse.c"
 

@@ -4,7 +4,7 @@
 # install.sh, with a program in C over the installed shared library. Each root takes a root user, or
 # one's own by unshare. Needs gcc, xz and python3.
 set -euo pipefail
-. "$(dirname "$0")/program.sh"
+. "$(dirname "$0")/lib/program.sh"
 
 fail() {
     echo "release: $1"
@@ -34,7 +34,7 @@ done
 for file in README.md docs/PROOF.md docs/headline.txt docs/watch/index.html docs/watch/torn.png; do
     [ -s "$work/$name/$file" ] || fail "it has no $file"
 done
-python3 "$top/tests/links.py" "$work/$name" || fail 'dead links'
+python3 "$top/tests/lib/links.py" "$work/$name" || fail 'dead links'
 size=$(stat -c %s "$work/first/$name.tar.xz")
 
 lookup=(lookup --modules /basic.modules --kallsyms /basic.kallsyms --addresses /basic.addresses)

@@ -3,7 +3,7 @@
 # runs scripts of several writers beside many readers, whose last line says that nothing is wrong;
 # and tries what may be wrong with the command line and the files.
 set -eu
-. "$(dirname "$0")/program.sh"
+. "$(dirname "$0")/lib/program.sh"
 build latchsym
 cd "$top/examples/scripts"
 failed=0

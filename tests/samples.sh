@@ -6,9 +6,9 @@
 # to a user who sees no addresses there, why there is none. Needs g++, pkg-config and python3; without
 # cargo the samples in Rust are passed over.
 set -euo pipefail
-. "$(dirname "$0")/program.sh"
-. "$top/tests/library.sh"
-. "$top/tests/tools.sh"
+. "$(dirname "$0")/lib/program.sh"
+. "$top/tests/lib/library.sh"
+. "$top/tests/lib/tools.sh"
 build latchsym
 build_library
 version=$(cat "$top/VERSION")
@@ -137,7 +137,7 @@ for tree in "$repository" "$archive"; do
     if has 'for it in python3 /usr/bin/python3; do $it -c "import google.protobuf" && break; done' python3-protobuf; then
         samples=$((samples + 1))
         (cd "$profiles" && "${with_protobuf[@]}" "$it" pprof.py --kallsyms ../listings/alone.kallsyms perf.script) >"$work/profile"
-        "$top/tests/pprof.py" "$work/profile" | cmp - "$profiles/perf.folded" || fail "$name: a profile of pprof's"
+        "$top/tests/lib/pprof.py" "$work/profile" | cmp - "$profiles/perf.folded" || fail "$name: a profile of pprof's"
     fi
     # shellcheck disable=SC2016
     if has 'perf record -o "$work/perf.data" -a -g -- sleep 0.3 && perf script -i "$work/perf.data" -F comm,ip >"$work/perf.script"' linux-perf; then

@@ -3,7 +3,7 @@
 # by the definitions: over 2,000 random listings of a few lines with a fixed seed (RUNS and SEED set
 # others), and over the symbols of this machine where their addresses are shown. Needs python3.
 set -eu
-. "$(dirname "$0")/program.sh"
+. "$(dirname "$0")/lib/program.sh"
 command -v python3 >/dev/null || { echo "symbols_alone: python3 is not installed"; exit 1; }
 build latchsym
 mkdir "$work/run"

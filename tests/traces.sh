@@ -11,7 +11,7 @@
 # again where the replay agrees, and docs/watch/examples.py puts them into the page. With EMULATED,
 # what takes an emulator minutes is smaller or left out.
 set -eu
-. "$(dirname "$0")/program.sh"
+. "$(dirname "$0")/lib/program.sh"
 build latchsym
 cd "$top/examples/traces"
 failed=0

@@ -3,12 +3,12 @@
 # runs with it those programs of tests/c that take a second, and the tests of the package for Python.
 # Needs gcc, binutils and python3.
 set -euo pipefail
-. "$(dirname "$0")/program.sh"
+. "$(dirname "$0")/lib/program.sh"
 library=$top/tests/out/liblatchsym.a
 if [ ! -e "$library" ] || is_older "$library" "$top"/crates/*/src; then
     mkdir -p "$top/tests/out"
     echo "unproved_library.sh: building the library without a proof, in a minute" >&2
-    "$top/tests/build.py" library "$library.new"
+    "$top/tests/lib/build.py" library "$library.new"
     mv "$library.new" "$library"
 fi
 for name in numbers nulls find view adding placements claims nested replace following polls; do

@@ -2,7 +2,7 @@
 # Compares the versions that files have with VERSION: those of the header, the pages, the packages,
 # the list of changes, and of the program; and the licences of the packages with those at the top.
 set -euo pipefail
-. "$(dirname "$0")/program.sh"
+. "$(dirname "$0")/lib/program.sh"
 build latchsym
 version=$(cat "$top/VERSION")
 IFS=. read -r major minor patch <<<"$version"

@@ -4,12 +4,12 @@
 # Tries keys, files, addresses and words; in a frame of 390 x 844, that a phone has both trees in
 # sight of its buttons; and in one of 1280 x 900, that the page opens with all in sight. The examples in the page are those of examples/traces. With --pictures it also
 # makes the pictures of docs/watch/ again. Without Debian's chromium it is skipped, with a line that
-# says so (tools.sh).
+# says so (lib/tools.sh).
 set -eu
 top=$(cd "$(dirname "$0")/.." && pwd)
 work=$(mktemp -d)
 trap 'rm -rf "$work"' EXIT
-. "$top/tests/tools.sh"
+. "$top/tests/lib/tools.sh"
 
 python3 "$top/docs/watch/examples.py" --check
 

@@ -33,10 +33,12 @@ import tempfile
 import threading
 import time
 
-import build
 import edits
 
-TOP = build.TOP
+TOP = edits.TOP
+sys.path.insert(0, f"{TOP}/tests/lib")
+import build
+
 FOLDER = f"{TOP}/tests/wrong_bodies"
 TRIED = f"{FOLDER}/TRIED"
 REFUSED, NOT_REFUSED, BAD = "refused", "NOT REFUSED", "BAD EDIT"

@@ -104,7 +104,7 @@ build_library() {
     archive=$(made_in latchsym_ffi "$processor")/liblatchsym_ffi.a
     tools_of "$processor"
     [ "$processor" != x86_64 ] || cpu=(--cpu x86-64)
-    if [ ! -e "$archive" ] || is_older "$archive" "$top"/crates/*/{src,specs,proofs} "$top/tests/library.sh"; then
+    if [ ! -e "$archive" ] || is_older "$archive" "$top"/crates/*/{src,specs,proofs} "$top/tests/lib/library.sh"; then
         echo "${0##*/}: proving latchsym_ffi" >&2
         {
             build_over_ci latchsym_ffi "$processor" "$archive" src/lib.rt --crate-type staticlib "${cpu[@]}" ||

@@ -1,8 +1,8 @@
 # Read by the scripts that run a program: `top` is the repository, and `work` a folder that is gone
 # when the script ends. Where PROGRAMS names a folder, the programs that stand there run, and none is
 # built.
-top=$(cd "$(dirname "${BASH_SOURCE[0]}")/.." && pwd)
-[ -n "${PROGRAMS:-}" ] || . "$top/tests/needs_kit.sh"
+top=$(cd "$(dirname "${BASH_SOURCE[0]}")/../.." && pwd)
+[ -n "${PROGRAMS:-}" ] || . "$top/tests/lib/needs_kit.sh"
 
 work=$(mktemp -d)
 trap 'rm -rf "$work"' EXIT
@@ -45,7 +45,7 @@ build_proved() {
         if [ ! -x "$program" ] || is_older "$program" "$top"/crates/*/src "$top/tests/crates"; then
             mkdir -p "$top/tests/out/proved"
             echo "${0##*/}: proving $1" >&2
-            "$top/tests/build.py" prove "$1" "$program" >&2 || exit 1
+            "$top/tests/lib/build.py" prove "$1" "$program" >&2 || exit 1
         fi
     elif [ ! -x "$program" ] || is_older "$program" "$top"/crates/*/src; then
         echo "${0##*/}: proving $1" >&2
@@ -62,7 +62,7 @@ build_unproved() {
     if [ ! -x "$program" ] || is_older "$program" "$top"/crates/*/src "$top/tests/crates"; then
         mkdir -p "$top/tests/out"
         echo "${0##*/}: building $1 without a proof, in three minutes" >&2
-        "$top/tests/build.py" build "$1" "$program.new" >&2 || exit 1
+        "$top/tests/lib/build.py" build "$1" "$program.new" >&2 || exit 1
         mv "$program.new" "$program"
     fi
 }
