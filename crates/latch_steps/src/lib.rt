@@ -5,6 +5,7 @@
 #![tactic(auto)]
 
 pub mod commands;
+mod counts;
 pub mod drivers;
 pub mod events;
 pub mod laws;

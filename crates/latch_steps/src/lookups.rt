@@ -2,6 +2,7 @@
 ghost use Rattle.word_layout.specs.Layouts.{capacity_of};
 ghost use Rattle.latch_steps.specs.Steps.{new_lookup};
 
+use crate::counts::counted_up;
 use crate::events::Event;
 use crate::replies::{NextLoad, Reply, Returned};
 use crate::reports::{Outcome, Report};
@@ -65,7 +66,7 @@ impl<O: TreeOrder> Lookup<O> {
             key: self.core.key(),
             word,
             value: word_at(words, word),
-            loads: self.loads.saturating_add(1),
+            loads: counted_up(self.loads),
             attempts: self.attempts,
         }
     }
@@ -86,7 +87,7 @@ impl<O: TreeOrder> Lookup<O> {
     {
         let mut lookup = self;
         for _turn in 0..most {
-            events = events.saturating_add(1);
+            events = counted_up(events);
             let mut outcome = Outcome {
                 number: events,
                 load: Some(lookup.next_load(words)),
@@ -131,7 +132,7 @@ impl<O: TreeOrder> Lookup<O> {
         } = self;
         let key = core.key();
         let value = word_at(words, core.wanted());
-        let loads = loads.saturating_add(1);
+        let loads = counted_up(loads);
         match core.take(value) {
             Taken::Going(core) => LoadOutcome::Going(Lookup {
                 core,
@@ -143,7 +144,7 @@ impl<O: TreeOrder> Lookup<O> {
                 core,
                 first,
                 loads,
-                attempts: attempts.saturating_add(1),
+                attempts: counted_up(attempts),
             }),
             Taken::Returned(answer, generation) => LoadOutcome::Returned(Returned {
                 reader,

@@ -8,6 +8,7 @@ ghost use Rattle.table_updates.specs.declared.updates.Update.{Update};
 ghost use Rattle.latch_steps.specs.declared.events.Event.TheVariants.{Begin, Write, Start, Read};
 ghost use Rattle.latch_steps.specs.Runs.{Moment, opening};
 
+use crate::counts::counted_up;
 use crate::events::Event;
 use crate::lookups::{LoadOutcome, Lookup, LookupProgress};
 use crate::replies::{NextLoad, Reply, Returned};
@@ -102,13 +103,13 @@ impl<O: TreeOrder> World<O> {
     {
         match self.writer.begin(update) {
             Ok(left) => {
-                self.events = self.events.saturating_add(1);
+                self.events = counted_up(self.events);
                 Reply::Begun(left)
             }
             Err(why) => {
                 match why {
                     Refusal::OutOfMemory => {}
-                    _ => self.events = self.events.saturating_add(1),
+                    _ => self.events = counted_up(self.events),
                 }
                 Reply::Refused(why)
             }
@@ -123,7 +124,7 @@ impl<O: TreeOrder> World<O> {
         match self.make() {
             Some(store) => Reply::Wrote(store),
             None => {
-                self.events = self.events.saturating_add(1);
+                self.events = counted_up(self.events);
                 Reply::Idle
             }
         }
@@ -140,7 +141,7 @@ impl<O: TreeOrder> World<O> {
         let store = self.writer.next()?;
         put(&mut self.words, store);
         self.writer.did();
-        self.events = self.events.saturating_add(1);
+        self.events = counted_up(self.events);
         Some(store)
     }
 
@@ -150,10 +151,10 @@ impl<O: TreeOrder> World<O> {
         ensures steps { MayDo O.order self.old (Start reader key) result self.new }
     {
         if self.is_looking(reader) {
-            self.events = self.events.saturating_add(1);
+            self.events = counted_up(self.events);
             return Reply::Refused(Refusal::ReaderBusy);
         }
-        let first = self.events.saturating_add(1);
+        let first = counted_up(self.events);
         let lookup = Lookup::start(self.layout, key, first);
         match self.lookups.insert(reader, Some(lookup)) {
             Ok(_) => {
@@ -176,7 +177,7 @@ impl<O: TreeOrder> World<O> {
         ensures layout { layout_in self.new ≡ layout_in self.old }
         ensures steps { Does O.order self.old (Read reader) result self.new }
     {
-        self.events = self.events.saturating_add(1);
+        self.events = counted_up(self.events);
         let Some(place) = self.lookups.get_mut(&reader) else {
             return Reply::Refused(Refusal::ReaderIdle);
         };
@@ -221,14 +222,14 @@ impl<O: TreeOrder> World<O> {
     {
         let is_busy = self.is_looking(reader);
         if is_busy {
-            self.events = self.events.saturating_add(1);
+            self.events = counted_up(self.events);
             return Err(Refusal::ReaderBusy);
         }
         let Some((answer, generation, loads)) = self.look_up(key) else {
             // Never so in words that a writer made.
             return Err(Refusal::ReaderBusy);
         };
-        let first = self.events.saturating_add(1);
+        let first = counted_up(self.events);
         self.events = first.saturating_add(loads);
         Ok(Returned {
             reader,

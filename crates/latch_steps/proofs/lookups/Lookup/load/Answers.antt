@@ -6,18 +6,18 @@ returns-in-Going g c = λ n l is.
     goes g.O.TreeOrder.order n c.args.self l is c.args.words.now c.wanted.result
     c.word_at-value.result c.wanted.ensures.word c.word_at-value.ensures c.in-Going.core _
     c.args.reader c.args.last (c.in-Going.ensures.leads l.values is.leads)
-    c.saturating_add-loads.ensures
+    c.counted_up-loads.ensures
 
 pub returns-in-Retrying : goal.returns-in-Retrying
 returns-in-Retrying g c = λ n l is.
     retries g.O.TreeOrder.order n c.args.self l is c.args.words.now c.wanted.result
     c.word_at-value.result c.wanted.ensures.word c.word_at-value.ensures c.in-Retrying.core _ _
     c.args.reader c.args.last (c.in-Retrying.ensures.leads l.values is.leads)
-    c.saturating_add-loads.ensures c.saturating_add.ensures
+    c.counted_up-loads.ensures c.saturating_add.ensures
 
 pub returns : goal.returns
 returns g c = λ n l is.
     ends g.O.TreeOrder.order n c.args.self l is c.args.words.now c.wanted.result
     c.word_at-value.result c.wanted.ensures.word c.word_at-value.ensures c.key-key.result
     c.in-Returned.answer c.in-Returned.generation _ c.args.reader c.args.last c.key-key.ensures
-    (c.in-Returned.ensures.leads l.values is.leads) c.saturating_add-loads.ensures
+    (c.in-Returned.ensures.leads l.values is.leads) c.counted_up-loads.ensures

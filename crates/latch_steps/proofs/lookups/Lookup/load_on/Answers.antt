@@ -9,7 +9,7 @@ loop-turn-preserved g c = λ n limit w words is e.
     let o = g.O.TreeOrder.order in
     let reports = g.R.Report.reports c.args.report.now in
     let old = c.loop-turn.lookup in
-    let next = c.saturating_add-events.result in
+    let next = c.counted_up-events.result in
     let h = c.loop-turn.invariant n limit w words is e in
     let told = λ (x : Outcome g.row.O-Key.Denot).
     reports c.loop-turn.to (Read c.args.reader) x c.report-in-loop-turn.new.to in
@@ -20,14 +20,14 @@ loop-turn-preserved g c = λ n limit w words is e.
       | in-Going x ↦ subst made (sym x.lookup-is)
           (loads_more o n limit reports w c.args.reader c.args.most c.args.to.now old
           c.loop-turn.events next c.loop-turn._turn c.loop-turn.to c.report-in-loop-turn.new.to
-          h c.saturating_add-events.ensures c.args.words.now words c.next_load.result
+          h c.counted_up-events.ensures c.args.words.now words c.next_load.result
           c.next_load.ensures c.word_at.result c.word_at.ensures Goes x.in-Going.next Loaded
           (x.in-Going.ensures n) (λ l. refl) (λ v. refl)
           (subst told x.outcome-is c.report-in-loop-turn.ensures))
       | in-Retrying x ↦ subst made (sym x.lookup-is)
           (loads_more o n limit reports w c.args.reader c.args.most c.args.to.now old
           c.loop-turn.events next c.loop-turn._turn c.loop-turn.to c.report-in-loop-turn.new.to
-          h c.saturating_add-events.ensures c.args.words.now words c.next_load.result
+          h c.counted_up-events.ensures c.args.words.now words c.next_load.result
           c.next_load.ensures c.word_at.result c.word_at.ensures Retries x.in-Retrying.next
           Retried (x.in-Retrying.ensures n) (λ l. refl) (λ v. refl)
           (subst told x.outcome-is c.report-in-loop-turn.ensures))
@@ -37,8 +37,8 @@ pub returns-in-Returned : goal.returns-in-Returned
 returns-in-Returned g c = λ n limit w words is e.
     load_ends g.O.TreeOrder.order n limit (g.R.Report.reports c.args.report.now) w c.args.reader
     c.args.most c.args.to.now c.loop-turn.lookup c.loop-turn.events
-    c.saturating_add-events.result c.loop-turn._turn c.loop-turn.to c.report.new.to
-    (c.loop-turn.invariant n limit w words is e) c.saturating_add-events.ensures c.args.words.now
+    c.counted_up-events.result c.loop-turn._turn c.loop-turn.to c.report.new.to
+    (c.loop-turn.invariant n limit w words is e) c.counted_up-events.ensures c.args.words.now
     words c.next_load.result c.next_load.ensures c.word_at.result c.word_at.ensures
     c.in-Returned.returned (omega arith) (c.in-Returned.ensures n) c.report.ensures
 

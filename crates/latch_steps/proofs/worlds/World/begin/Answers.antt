@@ -7,7 +7,7 @@ pub returns-in-Ok-clause-steps : goal.returns-in-Ok-clause-steps
 returns-in-Ok-clause-steps g c =
     begins g.O.TreeOrder.order c.args.self.now c.args.update.now c.in-Ok.left _ c.begin.new.self
     c.in-Ok.ensures.accepted c.in-Ok.ensures.begun.0 c.in-Ok.ensures.begun.1
-    c.saturating_add-self.ensures
+    c.counted_up-self.ensures
 
 pub returns-after-why-clause-steps : goal.returns-after-why-clause-steps
 returns-after-why-clause-steps g c =
@@ -21,5 +21,5 @@ returns-after-why-clause-steps g c =
       | in_default w ↦ subst
           (MayDo o c.args.self.now (Begin c.args.update.now) (Refused c.in-Err.why)) (sym w.self-is)
           (refused o c.args.self.now c.args.update.now c.in-Err.why _ c.begin.new.self err.unchanged
-          err.refusal w.in_default.not-OutOfMemory w.saturating_add-self-in_default.ensures)
+          err.refusal w.in_default.not-OutOfMemory w.counted_up-self-in_default.ensures)
     ]

@@ -10,4 +10,4 @@ returns-clause-made g c =
     (λ l h pictures pending. c.did.ensures.pictures l h c.in_ok-store.store pictures pending
     (sym c.in_ok-store.ensures.which))
     c.put.ensures
-    c.saturating_add-self.ensures
+    c.counted_up-self.ensures

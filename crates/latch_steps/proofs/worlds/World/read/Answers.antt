@@ -8,7 +8,7 @@ pub returns-in_default-clause-steps : goal.returns-in_default-clause-steps
 returns-in_default-clause-steps g c =
     let nowhere = sym c.get_mut.ensures.value ∙ ap option_copied_mut c.in_default.is in
     idle g.O.TreeOrder.order c.args.self.now c.args.reader _ _ (ap option_flatten nowhere)
-    (λ q. ap (λ m. lookup_at m q) c.get_mut.follows.holds-at-none) c.saturating_add-self.ensures
+    (λ q. ap (λ m. lookup_at m q) c.get_mut.follows.holds-at-none) c.counted_up-self.ensures
 
 pub returns-in_default-take-clause-steps : goal.returns-in_default-take-clause-steps
 returns-in_default-take-clause-steps g c =
@@ -19,7 +19,7 @@ returns-in_default-take-clause-steps g c =
     c.take.new.self
     ((c.get_mut.follows.holds c.take.new.self).3 (subst IsSome c.in-Some.ensures.value refl)).0
     (c.take.ensures.after ∙ sym free))
-    c.saturating_add-self.ensures
+    c.counted_up-self.ensures
 
 pub returns-in-Going-clause-steps : goal.returns-in-Going-clause-steps
 returns-in-Going-clause-steps g c =
@@ -31,7 +31,7 @@ returns-in-Going-clause-steps g c =
     (lookup_set c.args.self.now.lookups (c.get_mut.follows.lender (Some c.in-Going.next))
     c.args.reader (Some c.in-Going.next) ((c.get_mut.follows.holds (Some c.in-Going.next)).3
     (subst IsSome c.in-Some.ensures.value refl)).0)
-    c.saturating_add-self.ensures
+    c.counted_up-self.ensures
 
 pub returns-in-Retrying-clause-steps : goal.returns-in-Retrying-clause-steps
 returns-in-Retrying-clause-steps g c =
@@ -44,7 +44,7 @@ returns-in-Retrying-clause-steps g c =
     c.args.reader (Some c.in-Retrying.next)
     ((c.get_mut.follows.holds (Some c.in-Retrying.next)).3
     (subst IsSome c.in-Some.ensures.value refl)).0)
-    c.saturating_add-self.ensures
+    c.counted_up-self.ensures
 
 pub returns-in-Returned-clause-steps : goal.returns-in-Returned-clause-steps
 returns-in-Returned-clause-steps g c =
@@ -59,4 +59,4 @@ returns-in-Returned-clause-steps g c =
     (λ q. none q
     ∙ ap (λ p. cond (is_at (nat_cmp c.args.reader) q) p (lookup_at c.args.self.now.lookups q))
     c.take.ensures.after)
-    c.saturating_add-self.ensures
+    c.counted_up-self.ensures

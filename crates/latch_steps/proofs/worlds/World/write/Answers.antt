@@ -8,6 +8,6 @@ returns-in-None-clause-steps g c =
     let made = c.make.new.self in
     let none = c.in-None.ensures.none in
     subst (λ (old : World g.row.O.Denot g.row.O-Key.Denot).
-    Does o old Write Idle (record made { events = c.saturating_add-self.result })) none.0
-    (idles o made c.saturating_add-self.result (subst (IsAtRest o) (sym none.0) none.1)
-    c.saturating_add-self.ensures)
+    Does o old Write Idle (record made { events = c.counted_up-self.result })) none.0
+    (idles o made c.counted_up-self.result (subst (IsAtRest o) (sym none.0) none.1)
+    c.counted_up-self.ensures)
