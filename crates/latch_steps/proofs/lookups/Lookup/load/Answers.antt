@@ -13,7 +13,7 @@ returns-in-Retrying g c = λ n l is.
     retries g.O.TreeOrder.order n c.args.self l is c.args.words.now c.wanted.result
     c.word_at-value.result c.wanted.ensures.word c.word_at-value.ensures c.in-Retrying.core _ _
     c.args.reader c.args.last (c.in-Retrying.ensures.leads l.values is.leads)
-    c.counted_up-loads.ensures c.saturating_add.ensures
+    c.counted_up-loads.ensures c.counted_up.ensures
 
 pub returns : goal.returns
 returns g c = λ n l is.

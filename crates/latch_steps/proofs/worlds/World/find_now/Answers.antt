@@ -14,21 +14,21 @@ returns-clause-finds g c =
     let fits = c.in-Some.ensures.fits in
     look_found g.O.TreeOrder.order g.met.O.TreeOrder.lawful c.args.self.now c.args.reader c.args.key
     c.in-Some.answer c.in-Some.generation c.in-Some.loads c.counted_up-first.result
-    c.counted_up-self-2.result
+    c.saturating_add-self.result
     (omega arith) free c.in-Some.ensures.found c.counted_up-first.ensures
-    c.counted_up-self-2.ensures
+    c.saturating_add-self.ensures
 
 pub returns-clause-found : goal.returns-clause-found
 returns-clause-found g c = λ start us h.
     look_right g.O.TreeOrder.order g.met.O.TreeOrder.lawful c.args.self.now c.args.reader c.args.key
     start us h c.in-Some.answer c.in-Some.generation c.in-Some.loads
-    c.counted_up-first.result c.counted_up-self-2.result c.in-Some.ensures.found
+    c.counted_up-first.result c.saturating_add-self.result c.in-Some.ensures.found
 
 pub returns-clause-near : goal.returns-clause-near
 returns-clause-near g c = λ start us h.
     look_near g.O.TreeOrder.order g.met.O.TreeOrder.lawful c.args.self.now c.args.reader c.args.key
     start us h c.in-Some.answer c.in-Some.generation c.in-Some.loads
-    c.counted_up-first.result c.counted_up-self-2.result c.in-Some.ensures.found
+    c.counted_up-first.result c.saturating_add-self.result c.in-Some.ensures.found
 
 pub returns-clause-after : goal.returns-clause-after
 returns-clause-after g c =
