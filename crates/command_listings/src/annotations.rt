@@ -107,9 +107,8 @@ pub fn annotate_engine<M: Read, K: Read, R: Read, L: Read, E: Write, W: Write>(
     request: LogRequest<'_, '_>,
     outputs: &mut Outputs<W, E>,
 ) -> Result<u8, Fault>
-    ensures { AnnotatesLog L.remaining W.contents E.contents request.sources.now
-        request.job.now
-        (known_given M.remaining K.remaining R.remaining listings.old)
+    ensures { AnnotatesLog L.remaining W.contents E.contents request.entry.sources.now
+        request.entry.job.now (known_given M.remaining K.remaining R.remaining listings.old)
         (listing_failures listings.old listings.new)
         log.old log.new outputs.old.writer outputs.new.writer
         outputs.old.errors outputs.new.errors result }
@@ -127,10 +126,9 @@ pub(crate) fn annotate_by_texts<L: Read, E: Write, W: Write>(
     log: &mut Counted<L>,
     outputs: &mut Outputs<W, E>,
 ) -> Result<u8, Fault>
-    ensures { AnnotatesLog L.remaining W.contents E.contents request.sources.now
-        request.job.now
-        (Some (texts_in texts.now)) [] log.old log.new
-        outputs.old.writer outputs.new.writer outputs.old.errors outputs.new.errors result }
+    ensures { AnnotatesLog L.remaining W.contents E.contents request.entry.sources.now
+        request.entry.job.now (Some (texts_in texts.now)) [] log.old log.new outputs.old.writer
+        outputs.new.writer outputs.old.errors outputs.new.errors result }
 {
     let opened = open_catalog(
         alloc,

@@ -76,7 +76,7 @@ pub fn follow_engine<L: LastingLog, E: Write, W: Write>(
     request: LogRequest<'_, '_>,
     outputs: &mut Outputs<W, E>,
 ) -> Result<u8, Fault>
-    ensures { FollowsLog W.contents E.contents request.sources.now request.job.now
+    ensures { FollowsLog W.contents E.contents request.entry.sources.now request.entry.job.now
         (L.seen log.old) (L.seen log.new) outputs.old.writer outputs.new.writer
         outputs.old.errors outputs.new.errors result }
 {
@@ -122,7 +122,7 @@ fn follow_blocks<L: LastingLog, E: Write, W: Write>(
     requires room { 0 < length room.old }
     requires told { first.is_told ≡ false }
     requires known { (L.seen log.old).next ≡ (L.seen log.old).later }
-    ensures { FollowsTurns W.contents E.contents request.sources.now request.job.now
+    ensures { FollowsTurns W.contents E.contents request.entry.sources.now request.entry.job.now
         first.is_narrow (L.seen log.old) (L.seen log.new) outputs.old.writer outputs.new.writer
         outputs.old.errors outputs.new.errors result }
 {
@@ -170,7 +170,7 @@ fn put_part<L: LastingLog, E: Write, W: Write>(
     part: Part<'_>,
     outputs: &mut Outputs<W, E>,
 ) -> Result<(Followed, LogNames), Stop>
-    ensures { TakesPart W.contents E.contents request.sources.now request.job.now
+    ensures { TakesPart W.contents E.contents request.entry.sources.now request.entry.job.now
         part.entry followed annotator.old annotator.new (L.seen log.old) (L.seen log.new)
         outputs.old.writer outputs.new.writer outputs.old.errors outputs.new.errors result }
 {
@@ -200,9 +200,9 @@ fn put_after_reading<L: LastingLog, E: Write, W: Write>(
     outputs: &mut Outputs<W, E>,
 ) -> Result<(Followed, LogNames), Stop>
     ensures { (event : Event) × ReadsOnce (L.seen log.old) (L.seen log.new) (Some event)
-        × NamesAfter W.contents E.contents request.sources.now request.job.now part.entry followed
-        annotator.old annotator.new event outputs.old.writer outputs.new.writer
-        outputs.old.errors outputs.new.errors result }
+        × NamesAfter W.contents E.contents request.entry.sources.now request.entry.job.now
+        part.entry followed annotator.old annotator.new event outputs.old.writer
+        outputs.new.writer outputs.old.errors outputs.new.errors result }
 {
     let outcome = put_again(
         alloc,
@@ -272,8 +272,8 @@ fn put_again<L: LastingLog, W: Write>(
     writer: &mut Output<W>,
 ) -> Result<Result<(Followed, LogNames), NoNames>, Stop>
     ensures { (event : Event) × ReadsOnce (L.seen log.old) (L.seen log.new) (Some event)
-        × PutsIfNamed W.contents request.sources.now request.job.now part.entry followed
-        annotator.old annotator.new event writer.old writer.new result }
+        × PutsIfNamed W.contents request.entry.sources.now request.entry.job.now part.entry
+        followed annotator.old annotator.new event writer.old writer.new result }
 {
     match read_again(alloc, log)? {
         Ok(texts) => put_named(alloc, &texts, request, followed, annotator, part, writer),
@@ -330,8 +330,9 @@ fn put_named<W: Write>(
     writer: &mut Output<W>,
 ) -> Result<Result<(Followed, LogNames), NoNames>, Stop>
     requires { shows_symbol (lines_of (texts_in texts.now).kallsyms) ≡ true }
-    ensures { PutsIfNamed W.contents request.sources.now request.job.now part.entry followed
-        annotator.old annotator.new (Listings (texts_in texts.now)) writer.old writer.new result }
+    ensures { PutsIfNamed W.contents request.entry.sources.now request.entry.job.now part.entry
+        followed annotator.old annotator.new (Listings (texts_in texts.now)) writer.old writer.new
+        result }
 {
     let index = match index_of(alloc, request.sources, texts) {
         Ok(index) => index,

@@ -41,8 +41,8 @@ pub fn history_annotate_engine<H: Read, L: Read, E: Write, W: Write>(
     request: LogRequest<'_, '_>,
     outputs: &mut Outputs<W, E>,
 ) -> Result<u8, Fault>
-    ensures { AnnotatesByHistory L.remaining W.contents E.contents request.sources.now
-        request.job.now log.old log.new outputs.old.writer outputs.new.writer
+    ensures { AnnotatesByHistory L.remaining W.contents E.contents request.entry.sources.now
+        request.entry.job.now log.old log.new outputs.old.writer outputs.new.writer
         outputs.old.errors outputs.new.errors
         time H.remaining history.old history.new result }
 {
@@ -66,8 +66,8 @@ pub(crate) fn annotate_timed<L: Read, E: Write, W: Write>(
     request: LogRequest<'_, '_>,
     outputs: &mut Outputs<W, E>,
 ) -> Result<u8, Fault>
-    ensures { AnnotatesBy L.remaining W.contents E.contents request.sources.now
-        request.job.now log.old log.new outputs.old.writer outputs.new.writer
+    ensures { AnnotatesBy L.remaining W.contents E.contents request.entry.sources.now
+        request.entry.job.now log.old log.new outputs.old.writer outputs.new.writer
         outputs.old.errors outputs.new.errors history.now result }
 {
     let first = history.first_listing(alloc)?;

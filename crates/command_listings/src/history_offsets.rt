@@ -33,9 +33,10 @@ pub fn history_own_offset_engine<H: Read, L: Read, E: Write, W: Write>(
     request: LogRequest<'_, '_>,
     outputs: &mut Outputs<W, E>,
 ) -> Result<u8, Fault>
-    ensures { WritesByHistoryOffset W.contents E.contents request.sources.now
-        request.job.now outputs.old.writer outputs.new.writer outputs.old.errors outputs.new.errors
-        H.remaining L.remaining time history.old history.new log.old log.new result }
+    ensures { WritesByHistoryOffset W.contents E.contents request.entry.sources.now
+        request.entry.job.now outputs.old.writer outputs.new.writer outputs.old.errors
+        outputs.new.errors H.remaining L.remaining time history.old history.new log.old log.new
+        result }
 {
     let file = read_at(alloc, history, KALLSYMS_PLACE)?;
     let history = history_in(alloc, &file)?;
@@ -57,9 +58,9 @@ fn write_timed<E: Write, W: Write>(
     request: LogRequest<'_, '_>,
     outputs: &mut Outputs<W, E>,
 ) -> Result<u8, Fault>
-    ensures { WritesTimed W.contents E.contents request.sources.now
-        request.job.now outputs.old.writer outputs.new.writer outputs.old.errors outputs.new.errors
-        history.now log.now
+    ensures { WritesTimed W.contents E.contents request.entry.sources.now
+        request.entry.job.now outputs.old.writer outputs.new.writer outputs.old.errors
+        outputs.new.errors history.now log.now
         (own_offset log.now (first_listing history.now)) result }
 {
     let first = history.first_listing(alloc)?;

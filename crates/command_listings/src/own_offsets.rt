@@ -46,9 +46,9 @@ pub fn own_offset_engine<M: Read, K: Read, R: Read, L: Read, E: Write, W: Write>
     request: LogRequest<'_, '_>,
     outputs: &mut Outputs<W, E>,
 ) -> Result<u8, Fault>
-    ensures { WritesByOwnOffset W.contents E.contents request.sources.now
-        request.job.now outputs.old.writer outputs.new.writer outputs.old.errors outputs.new.errors
-        (known_given M.remaining K.remaining R.remaining listings.old)
+    ensures { WritesByOwnOffset W.contents E.contents request.entry.sources.now
+        request.entry.job.now outputs.old.writer outputs.new.writer outputs.old.errors
+        outputs.new.errors (known_given M.remaining K.remaining R.remaining listings.old)
         (L.remaining (device_of log.old))
         (all_failures (listing_failures listings.old listings.new) log.old log.new) result }
 {
@@ -65,9 +65,9 @@ pub(crate) fn write_by_own_offset<E: Write, W: Write>(
     request: LogRequest<'_, '_>,
     outputs: &mut Outputs<W, E>,
 ) -> Result<u8, Fault>
-    ensures { WritesByOffset W.contents E.contents request.sources.now
-        request.job.now outputs.old.writer outputs.new.writer outputs.old.errors outputs.new.errors
-        (texts_in texts) log.now
+    ensures { WritesByOffset W.contents E.contents request.entry.sources.now
+        request.entry.job.now outputs.old.writer outputs.new.writer outputs.old.errors
+        outputs.new.errors (texts_in texts) log.now
         (own_offset log.now (texts_in texts).kallsyms) result }
 {
     let offset = match own_offset(log, &texts.kallsyms) {
@@ -102,7 +102,7 @@ fn note_no_offset<E: Write>(
 ) -> u8
     ensures status { result ≡ 1 }
     ensures line { Says E.contents errors.old errors.new
-        (no_offset_line request.sources.now request.job.now why) }
+        (no_offset_line request.entry.sources.now request.entry.job.now why) }
 {
     match why {
         NoOffset::Unsaid => put_failure(errors, request.job.log, NO_OFFSET_SAID),
@@ -161,9 +161,9 @@ fn open_and_write<E: Write, W: Write>(
     rule: LogRule,
     outputs: &mut Outputs<W, E>,
 ) -> Result<u8, Fault>
-    ensures { OpensAndWrites W.contents E.contents request.sources.now
-        request.job.now outputs.old.writer outputs.new.writer outputs.old.errors outputs.new.errors
-        rule (texts_in texts.now) log.now result }
+    ensures { OpensAndWrites W.contents E.contents request.entry.sources.now
+        request.entry.job.now outputs.old.writer outputs.new.writer outputs.old.errors
+        outputs.new.errors rule (texts_in texts.now) log.now result }
 {
     let opened = open_catalog(
         alloc,

@@ -228,7 +228,8 @@ fn run_annotate<F: FileSource, W: Write, E: Write>(
 ) -> Result<Finished, Fault>
     ensures { IsOutcomeOfLog F.File.remaining (F.file_text files.now) W.contents E.contents
         outputs.old.writer outputs.new.writer outputs.old.errors outputs.new.errors
-        request.sources.now request.job.now listings.old listings.new log.old log.new result }
+        request.entry.sources.now request.entry.job.now listings.old listings.new log.old log.new
+        result }
 {
     let Some(log) = log else {
         return Err(UNREAD);
@@ -264,9 +265,9 @@ fn follow<F: FileSource, W: Write, E: Write>(
     log: &mut Counted<F::File>,
     outputs: &mut Outputs<W, E>,
 ) -> Result<u8, Fault>
-    ensures { (after : Seen) × FollowsLog W.contents E.contents request.sources.now
-        request.job.now (seen_first F.File.remaining (F.file_text files.now) request.sources.now
-        listings.old log.old) after outputs.old.writer outputs.new.writer
+    ensures { (after : Seen) × FollowsLog W.contents E.contents request.entry.sources.now
+        request.entry.job.now (seen_first F.File.remaining (F.file_text files.now)
+        request.entry.sources.now listings.old log.old) after outputs.old.writer outputs.new.writer
         outputs.old.errors outputs.new.errors result }
 {
     let mut log = FollowedFiles::new(files, &request.sources.files, listings, log);
