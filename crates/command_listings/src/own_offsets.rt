@@ -20,9 +20,10 @@ ghost use Rattle.command_listings.specs.OwnOffsets.{WritesByOwnOffset, all_failu
 ghost use Rattle.command_listings.specs.OwnOffsets.{by_offset, failure_line, no_offset_line};
 ghost use Rattle.command_listings.specs.OwnOffsets.{own_offset};
 
-use crate::annotations::{LOG_PLACE, LogRequest, conclude_log, kernel_if_said, stopped};
+use crate::annotations::{Annotate, LOG_PLACE, LogRequest, conclude_log, kernel_if_said, stopped};
 use crate::log_answers::CatalogAnswers;
 use crate::notes::note_listings;
+use crate::sources::Sources;
 use command_parts::{
     FAILED, Fault, ListingReaders, ListingTexts, Outputs, open_catalog, read_at, read_given,
 };
@@ -72,7 +73,12 @@ pub(crate) fn write_by_own_offset<E: Write, W: Write>(
 {
     let offset = match own_offset(log, &texts.kallsyms) {
         Ok(offset) => offset,
-        Err(why) => return Ok(note_no_offset(why, request, &mut outputs.errors)),
+        Err(why) => return Ok(note_no_offset(
+            why,
+            request.sources,
+            request.job,
+            &mut outputs.errors,
+        )),
     };
     let asked = asked_by(alloc, offset, texts)?;
     let rule = by_offset(offset, request.job.rule);
@@ -97,16 +103,17 @@ pub enum NoOffset {
 /// Writes why there is no offset, and returns the program's status.
 fn note_no_offset<E: Write>(
     why: NoOffset,
-    request: LogRequest<'_, '_>,
+    sources: &Sources<'_>,
+    job: &Annotate<'_>,
     errors: &mut Output<E>,
 ) -> u8
     ensures status { result ≡ 1 }
     ensures line { Says E.contents errors.old errors.new
-        (no_offset_line request.entry.sources.now request.entry.job.now why) }
+        (no_offset_line sources.now job.now why) }
 {
     match why {
-        NoOffset::Unsaid => put_failure(errors, request.job.log, NO_OFFSET_SAID),
-        NoOffset::NoBase => put_failure(errors, request.sources.files.kallsyms, NO_BASE_LISTED),
+        NoOffset::Unsaid => put_failure(errors, job.log, NO_OFFSET_SAID),
+        NoOffset::NoBase => put_failure(errors, sources.files.kallsyms, NO_BASE_LISTED),
     }
     FAILED
 }
