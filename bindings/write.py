@@ -21,7 +21,7 @@ from pathlib import Path
 TOP = Path(__file__).resolve().parent.parent
 MADE = "made of include/latchsym.h by bindings/write.py"
 # the functions of the header's own that the page has
-OWN = "text pool_fill pool_open pool_try_find pool_enlarge pool_close".split()
+OWN = "text pool_fill pool_open pool_try_find pool_enlarge pool_close pool_follow pool_enlarge_follower".split()
 # the calls that latchsym.hpp makes by others, and the structs that the crate for Rust shows itself
 NOT_OF_CPP = ("latchsym_place_of_text", "latchsym_catalog_name")
 SHOWN = {"Told": "Answer", "Counts": "Counts", "Item": "Item"}

@@ -69,7 +69,7 @@ static_assert(sizeof(struct latchsym_follower) == sizeof(struct latchsym_handle)
 /* The version of this header: 10000 times the major, 100 times the minor and once the patch
  * number. Each later minor version gives what a program of the same major version was compiled
  * with. */
-#define LATCHSYM_VERSION 10200
+#define LATCHSYM_VERSION 10300
 
 /* What calls return. A number means the same, whichever call returns it. Those below 20 are
  * refusals, with the numbers that the program prints. Each comment begins with the number's text,
@@ -411,7 +411,8 @@ static inline uint32_t latchsym_catalog_flatten(struct latchsym_catalog *catalog
 }
 
 /* The symbol of an address, as latchsym_catalog_find gives it, for any number of threads at once.
- * Returns 0, LATCHSYM_NO_SYMBOL or LATCHSYM_NOTHING. Handler. */
+ * One takes 1.1 to 2.5 times as long as there. Returns 0, LATCHSYM_NO_SYMBOL or LATCHSYM_NOTHING.
+ * Handler. */
 uint32_t latchsym_view_find(const struct latchsym_view *, uint64_t addr,
                             struct latchsym_symbol *out);
 
@@ -682,6 +683,25 @@ static inline uint32_t latchsym_pool_claim_all(struct latchsym_pool *pool, uint3
     return mine != all ? LATCHSYM_BUSY : is_open ? LATCHSYM_DONE : LATCHSYM_BAD_HANDLE;
 }
 
+/* Claims all slots of a pool, and takes their readers out. Returns 0, or what the claim is refused
+ * by: then it has no slot. */
+static inline uint32_t latchsym_pool_take_readers(struct latchsym_pool *pool,
+                                                  struct latchsym_reader *out, uint32_t *len) {
+    uint32_t i, answer;
+    *len = latchsym_pool_len(pool);
+    answer = *len ? latchsym_pool_claim_all(pool, *len) : (uint32_t)LATCHSYM_BAD_HANDLE;
+    for (i = 0; !answer && i < *len; i++) out[i] = pool->slots[i].reader;
+    return answer;
+}
+
+/* Puts the readers back into the slots, and gives these back. */
+static inline void latchsym_pool_put_readers(struct latchsym_pool *pool,
+                                             const struct latchsym_reader *readers, uint32_t len) {
+    uint32_t i;
+    for (i = 0; i < len; i++) pool->slots[i].reader = readers[i];
+    latchsym_pool_give_back_all(pool, latchsym_pool_all(len));
+}
+
 /* Opens a closed pool with 1 to 64 readers, whose handles are then the pool's. Returns 0,
  * LATCHSYM_BAD_HANDLE if the pool is open, or LATCHSYM_BAD_CAPACITY for another number. */
 static inline uint32_t latchsym_pool_fill(struct latchsym_pool *pool,
@@ -697,8 +717,7 @@ static inline uint32_t latchsym_pool_fill(struct latchsym_pool *pool,
 
 /* Opens an empty table of 1 to 65536 nodes: its writer, and a pool with 1 to 64 of its readers;
  * both or neither. Refuses what latchsym_table_open refuses, and with LATCHSYM_BAD_HANDLE a pool
- * that is open. (For a pool of a follower's readers use latchsym_follower_open and
- * latchsym_pool_fill.) */
+ * that is open. (For a pool of a follower's readers call latchsym_pool_follow.) */
 static inline uint32_t latchsym_pool_open(uint32_t nodes, size_t slots,
                                           struct latchsym_writer *writer,
                                           struct latchsym_pool *pool) {
@@ -733,13 +752,10 @@ static inline uint32_t latchsym_pool_try_find(const struct latchsym_pool *pool, 
 static inline uint32_t latchsym_pool_enlarge(uint32_t nodes, struct latchsym_writer *writer,
                                              struct latchsym_pool *pool) {
     struct latchsym_reader readers[LATCHSYM_POOL_MOST];
-    const uint32_t len = latchsym_pool_len(pool);
-    uint32_t i, answer = len ? latchsym_pool_claim_all(pool, len) : (uint32_t)LATCHSYM_BAD_HANDLE;
+    uint32_t len, answer = latchsym_pool_take_readers(pool, readers, &len);
     if (answer) return answer;
-    for (i = 0; i < len; i++) readers[i] = pool->slots[i].reader;
     answer = latchsym_table_enlarge(nodes, writer, readers, len);
-    for (i = 0; i < len; i++) pool->slots[i].reader = readers[i];
-    latchsym_pool_give_back_all(pool, latchsym_pool_all(len));
+    latchsym_pool_put_readers(pool, readers, len);
     return answer;
 }
 
@@ -773,7 +789,8 @@ static inline uint32_t latchsym_pool_close(struct latchsym_pool *pool) {
 
 /* Opens a follower without a catalog, over an empty table of 1 to 65536 nodes, and a reader of it
  * in each of 1 to 64 closed handles. Refuses what latchsym_table_open refuses. Until an update is
- * complete, new regions take nodes beside those that they replace. */
+ * complete, new regions take nodes beside those that they replace: the regions of two listings, as
+ * latchsym_catalog_sizes counts them, are enough. */
 uint32_t latchsym_follower_open_nonnull(uint32_t nodes, struct latchsym_follower *,
                                         struct latchsym_reader *readers, size_t count);
 static inline uint32_t latchsym_follower_open(uint32_t nodes, struct latchsym_follower *follower,
@@ -785,6 +802,46 @@ static inline uint32_t latchsym_follower_open(uint32_t nodes, struct latchsym_fo
 /* Opens one more reader of the table in a closed handle, as latchsym_writer_add_reader does. */
 uint32_t latchsym_follower_add_reader(struct latchsym_follower *, struct latchsym_reader *out);
 
+/* Gives the follower's table room for `nodes` nodes, as latchsym_table_enlarge does, with all its
+ * readers. So call it where latchsym_follower_show returns LATCHSYM_FULL, and show the catalog
+ * again, which is still open. The catalogs stay, each at its generation and stamp. Refuses what
+ * latchsym_table_enlarge refuses. Since 1.3. */
+uint32_t latchsym_follower_enlarge_nonnull(uint32_t nodes, struct latchsym_follower *,
+                                           struct latchsym_reader *readers, size_t count);
+static inline uint32_t latchsym_follower_enlarge(uint32_t nodes, struct latchsym_follower *follower,
+                                                 struct latchsym_reader *readers, size_t count) {
+    struct latchsym_reader none = { { 0, NULL } };
+    return latchsym_follower_enlarge_nonnull(nodes, follower, count ? readers : &none, count);
+}
+
+/* Opens a follower without a catalog, as latchsym_follower_open does, and a pool with 1 to 64
+ * readers of its table; both or neither. Refuses an open pool by LATCHSYM_BAD_HANDLE, too. Since
+ * 1.3. */
+static inline uint32_t latchsym_pool_follow(uint32_t nodes, size_t slots,
+                                            struct latchsym_follower *follower,
+                                            struct latchsym_pool *pool) {
+    struct latchsym_reader readers[LATCHSYM_POOL_MOST] = { { { 0, NULL } } };
+    uint32_t answer;
+    if (pool->slots_len) return LATCHSYM_BAD_HANDLE;
+    answer = latchsym_follower_open(nodes, follower, readers,
+                                    slots > LATCHSYM_POOL_MOST ? 0 : slots);
+    return answer ? answer : latchsym_pool_fill(pool, readers, slots);
+}
+
+/* Gives the follower's table room for `nodes` nodes, with the readers of the pool, which must be
+ * all that the table has: beside what latchsym_pool_enlarge may run beside, and with its numbers.
+ * Since 1.3. */
+static inline uint32_t latchsym_pool_enlarge_follower(uint32_t nodes,
+                                                      struct latchsym_follower *follower,
+                                                      struct latchsym_pool *pool) {
+    struct latchsym_reader readers[LATCHSYM_POOL_MOST];
+    uint32_t len, answer = latchsym_pool_take_readers(pool, readers, &len);
+    if (answer) return answer;
+    answer = latchsym_follower_enlarge(nodes, follower, readers, len);
+    latchsym_pool_put_readers(pool, readers, len);
+    return answer;
+}
+
 /* Takes the catalog out of its handle, which is then closed, and shows its regions in one update.
  * Readers give this generation from then on, and the catalog is found by it before they can. The
  * tag is a number of the caller's, such as the address of the listings. Returns 0,
@@ -793,9 +850,10 @@ uint32_t latchsym_follower_add_reader(struct latchsym_follower *, struct latchsy
 uint32_t latchsym_follower_show(struct latchsym_follower *, struct latchsym_catalog *,
                                 uint64_t since, uint64_t tag, uint64_t *generation);
 
-/* The symbol of an address, or of a return address, by the last catalog shown at or before a
- * generation, or a stamp. The numbers are those of latchsym_catalog_find, and LATCHSYM_FORGOTTEN
- * if the follower has no such catalog: then nothing is written. */
+/* The symbol of an address, or of a return address, at a generation, or a stamp: by code that was
+ * noted and there, and else by the last catalog shown at or before it. The numbers are those of
+ * latchsym_catalog_find, and LATCHSYM_FORGOTTEN if the follower has no such catalog: then nothing
+ * is written. */
 uint32_t latchsym_follower_find(struct latchsym_follower *, uint64_t generation, uint64_t addr,
                                 struct latchsym_symbol *out);
 uint32_t latchsym_follower_find_caller(struct latchsym_follower *, uint64_t generation,
@@ -805,10 +863,44 @@ uint32_t latchsym_follower_find_since(struct latchsym_follower *, uint64_t at, u
 uint32_t latchsym_follower_find_caller_since(struct latchsym_follower *, uint64_t at, uint64_t addr,
                                              struct latchsym_symbol *out);
 
+/* Code that the caller knows of itself, as by a record of perf that a program was loaded: its first
+ * address, how many bytes it has, its name, and the name of what it belongs to, such as "bpf". */
+struct latchsym_code { uint64_t addr, len; struct latchsym_place name, module; };
+#define LATCHSYM_CODE_INIT { 0, 0, LATCHSYM_PLACE_INIT, LATCHSYM_PLACE_INIT }
+
+/* Notes that code is there, or that the code which begins at `addr` is gone: from `since`, a stamp
+ * of the caller's clock, and from the generation that is written on. So code has its name on all of
+ * its bytes, which a listing does not tell, and code that came and went between two listings has it
+ * too. Until it is noted gone, a search at a moment when it was there finds it first, whatever the
+ * catalogs have: of several at an address the one noted last. The offset is counted from `addr`,
+ * the size is `len`, the names are those given, and the module's number is UINT64_MAX.
+ *
+ * The table keeps its regions, in an update of its own, so that each reader's generation says
+ * whether the code was there. Stamps of code may fall, as records may come late.
+ *
+ * Keep the names' bytes until the follower is closed, or until a call that forgets was made with a
+ * generation, or a stamp, at which the code was gone, whatever that call returned.
+ *
+ * Return 0, LATCHSYM_BAD_HANDLE, LATCHSYM_NOTHING if no code that begins there was noted and not
+ * gone, LATCHSYM_SEQUENCE_SPENT or LATCHSYM_OUT_OF_MEMORY. Unless it is 0 nothing changes and
+ * nothing is written. Since 1.3. */
+uint32_t latchsym_follower_note_nonnull(struct latchsym_follower *, const struct latchsym_code *,
+                                        uint64_t since, uint64_t *generation);
+static inline uint32_t latchsym_follower_note(struct latchsym_follower *follower,
+                                              const struct latchsym_code *code, uint64_t since,
+                                              uint64_t *generation) {
+    struct latchsym_code given = *code;
+    given.name = latchsym_place_nonnull(given.name);
+    given.module = latchsym_place_nonnull(given.module);
+    return latchsym_follower_note_nonnull(follower, &given, since, generation);
+}
+uint32_t latchsym_follower_note_gone(struct latchsym_follower *, uint64_t addr, uint64_t since,
+                                     uint64_t *generation);
+
 /* Forgets the oldest catalog if the next one was shown at or before a generation, or a stamp, so
- * that no sample from then on needs it, and gives its tag back. The newest stays. Returns 0;
- * LATCHSYM_NOTHING if none is to be forgotten, or LATCHSYM_BAD_HANDLE: these write nothing. Ask
- * until it is LATCHSYM_NOTHING. */
+ * that no sample from then on needs it, and gives its tag back. The newest stays. Noted code that
+ * was gone by then is forgotten by each of these calls. Returns 0; LATCHSYM_NOTHING if no catalog is
+ * to be forgotten, or LATCHSYM_BAD_HANDLE: these write nothing. Ask until it is LATCHSYM_NOTHING. */
 uint32_t latchsym_follower_forget(struct latchsym_follower *, uint64_t generation, uint64_t *tag);
 uint32_t latchsym_follower_forget_since(struct latchsym_follower *, uint64_t at, uint64_t *tag);
 

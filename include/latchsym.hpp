@@ -22,6 +22,7 @@
 #include <chrono>
 #include <cstddef>
 #include <cstdint>
+#include <list>
 #include <memory>
 #include <optional>
 #include <stdexcept>
@@ -489,6 +490,7 @@ public:
 
 private:
     friend struct pooled_table;
+    friend struct followed_pool;
     pool() : pool_(new latchsym_pool{}) {}
 
     std::unique_ptr<latchsym_pool> pool_;
@@ -605,6 +607,13 @@ struct table {
     }
 };
 
+/* Code that the caller knows of itself, such as a program that was loaded: its first address, how
+ * many bytes it has, its name, and the name of what it belongs to. */
+struct code {
+    std::uint64_t addr, len;
+    std::string_view name, module = "bpf";
+};
+
 /* A table that follows a listing as it changes, and the catalogs that it showed. Keep the bytes
  * of their listings until forget or forget_since gives the tag back. */
 class follower {
@@ -612,6 +621,7 @@ public:
     follower(follower &&) noexcept = default;
     follower &operator=(follower &&other) noexcept {
         std::swap(handle_, other.handle_);
+        std::swap(noted_, other.noted_);
         return *this;
     }
     ~follower() {
@@ -629,8 +639,34 @@ public:
         return generation;
     }
 
-    /* The symbol of an address, or of a return address, by the listing that was current at a
-     * generation or at a stamp; an error with LATCHSYM_FORGOTTEN if it is gone. */
+    /* Notes that code is there, or that the code noted last of those that begin at an address is
+     * gone: from a stamp on, and from the generation returned on; none if no such code was there.
+     * The names are copied, and kept until forget or forget_since of a moment when it was gone. */
+    std::uint64_t note(const code &noted, std::uint64_t since) {
+        std::uint64_t generation = 0;
+        noted_.push_back({std::string(noted.name), std::string(noted.module), noted.addr, {}, {}});
+        const names &kept = noted_.back();
+        const latchsym_code given{noted.addr, noted.len, detail::place(kept.name), detail::place(kept.module)};
+        const std::uint32_t number = latchsym_follower_note(get(), &given, since, &generation);
+        if (number != LATCHSYM_DONE) noted_.pop_back();
+        detail::check(number);
+        return generation;
+    }
+    std::optional<std::uint64_t> note_gone(std::uint64_t addr, std::uint64_t since) {
+        std::uint64_t generation = 0;
+        if (!detail::is_there(latchsym_follower_note_gone(get(), addr, since, &generation)))
+            return std::nullopt;
+        for (auto it = noted_.rbegin(); it != noted_.rend(); ++it)
+            if (it->addr == addr && !it->generation) {
+                it->generation = generation;
+                it->since = since;
+                break;
+            }
+        return generation;
+    }
+
+    /* The symbol of an address, or of a return address, by the code and the listing that were
+     * current at a generation or at a stamp; an error with LATCHSYM_FORGOTTEN if it is gone. */
     std::optional<symbol> find(std::uint64_t generation, std::uint64_t addr) {
         return detail::symbol_by(latchsym_follower_find, get(), generation, addr);
     }
@@ -647,10 +683,14 @@ public:
     /* Forgets the oldest catalog if no sample of this generation, or stamp, or a later one needs
      * it, and returns its tag; none if nothing is to be forgotten. */
     std::optional<std::uint64_t> forget(std::uint64_t generation) {
-        return gone(latchsym_follower_forget, generation);
+        const std::optional<std::uint64_t> tag = gone(latchsym_follower_forget, generation);
+        drop_names(&names::generation, generation);
+        return tag;
     }
     std::optional<std::uint64_t> forget_since(std::uint64_t at) {
-        return gone(latchsym_follower_forget_since, at);
+        const std::optional<std::uint64_t> tag = gone(latchsym_follower_forget_since, at);
+        drop_names(&names::since, at);
+        return tag;
     }
 
     /* Adds a reader of this table to its readers, if there is room. */
@@ -658,9 +698,36 @@ public:
         return readers.add([this](latchsym_reader *out) { return latchsym_follower_add_reader(get(), out); });
     }
 
+    /* Gives the table room for `nodes` nodes, with all its readers or those of its pool, as a
+     * writer does: for a catalog whose regions show() refuses by LATCHSYM_FULL. */
+    void enlarge(std::uint32_t nodes, latchsym::readers &readers) {
+        detail::check(
+            latchsym_follower_enlarge(nodes, get(), readers.handles_.get(), readers.count_));
+    }
+    bool enlarge(std::uint32_t nodes, pool &pool) {
+        const std::uint32_t number = latchsym_pool_enlarge_follower(nodes, get(), pool.get());
+        if (number == LATCHSYM_BUSY) return false;
+        detail::check(number);
+        return true;
+    }
+
 private:
     friend struct followed_table;
+    friend struct followed_pool;
+    friend class file_follower;
     follower() : handle_(new latchsym_follower{}) {}
+
+    /* The names of noted code, and from when on it is gone. */
+    struct names {
+        std::string name, module;
+        std::uint64_t addr;
+        std::optional<std::uint64_t> generation, since;
+    };
+
+    /* Drops the names of code that was gone by a moment, once the library has forgotten it. */
+    void drop_names(std::optional<std::uint64_t> names::*gone, std::uint64_t moment) {
+        noted_.remove_if([=](const names &it) { return it.*gone && *(it.*gone) <= moment; });
+    }
 
     template <class Call>
     std::optional<std::uint64_t> gone(Call call, std::uint64_t moment) {
@@ -670,6 +737,7 @@ private:
     }
 
     std::unique_ptr<latchsym_follower> handle_;
+    std::list<names> noted_;
 };
 
 /* A follower without a catalog over an empty table of 1 to 65536 nodes, and its readers, with
@@ -684,6 +752,16 @@ struct followed_table {
         if (readers.room_ < count) throw error(LATCHSYM_BAD_CAPACITY);
         detail::check(latchsym_follower_open(nodes, follower.get(), readers.handles_.get(), count));
         readers.count_ = count;
+    }
+};
+
+/* A follower without a catalog, and a pool of 1 to 64 readers of its table. */
+struct followed_pool {
+    latchsym::follower follower;
+    latchsym::pool pool;
+
+    explicit followed_pool(std::uint32_t nodes, std::size_t slots) {
+        detail::check(latchsym_pool_follow(nodes, slots, follower.get(), pool.get()));
     }
 };
 
@@ -745,6 +823,10 @@ public:
     latchsym::readers &readers() noexcept { return all_->table.readers; }
     reader add_reader() { return all_->table.follower.add_reader(readers()); }
 
+    /* Gives the table room for `nodes` nodes, with all its readers: for files whose regions poll()
+     * refuses by LATCHSYM_FULL. */
+    void enlarge(std::uint32_t nodes) { all_->table.follower.enlarge(nodes, readers()); }
+
     /* What is noted of the file of symbols, and of that of modules; LATCHSYM_NOTHING if nothing. */
     std::uint32_t symbols_note() const noexcept { return all_->followed.shown->notes[0]; }
     std::uint32_t modules_note() const noexcept { return all_->followed.shown->notes[1]; }
@@ -764,9 +846,23 @@ public:
         return all_->table.follower.find_caller_since(at, addr);
     }
 
+    /* Notes code, as a follower does. */
+    std::uint64_t note(const code &noted, std::uint64_t since) {
+        return all_->table.follower.note(noted, since);
+    }
+    std::optional<std::uint64_t> note_gone(std::uint64_t addr, std::uint64_t since) {
+        return all_->table.follower.note_gone(addr, since);
+    }
+
     /* Forgets each listing that no sample of this generation, or stamp, or a later one needs. */
-    void forget(std::uint64_t generation) { latchsym_followed_forget(get(), generation); }
-    void forget_since(std::uint64_t at) { latchsym_followed_forget_since(get(), at); }
+    void forget(std::uint64_t generation) {
+        latchsym_followed_forget(get(), generation);
+        all_->table.follower.drop_names(&follower::names::generation, generation);
+    }
+    void forget_since(std::uint64_t at) {
+        latchsym_followed_forget_since(get(), at);
+        all_->table.follower.drop_names(&follower::names::since, at);
+    }
 
 private:
     /* They stay in place when the follower is moved, as the names of files are pointed to. */

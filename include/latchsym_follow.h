@@ -22,6 +22,9 @@
  * tested: when it reads, that it compares the bytes, and that it frees a listing once the follower
  * gives its tag back. No poll sees a module that came and went between two readings.
  *
+ * If a poll returns LATCHSYM_FULL, call latchsym_follower_enlarge with twice the nodes, and poll
+ * again.
+ *
  * No call here is for signal handlers, and none locks: one call at a time with one struct, and one
  * at a time with one follower. latchsym_followed_read takes the time of a poll and no follower, so
  * beside it another thread may name samples. */

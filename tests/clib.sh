@@ -5,7 +5,8 @@
 # calls, readers that are added and taken back, readers that calls share, each order of such calls' steps,
 # each request for memory refused, files that are read and each call for that refused, which polls read a
 # listing, items replaced, code that is sampled
-# while it comes and goes, a listing that is followed while it changes and named by its time, the listings of examples/ as
+# while it comes and goes, a listing that is followed while it changes and named by its time, a table that
+# such a listing outgrows, code that is noted beside it, the listings of examples/ as
 # `latchsym lookup` answers, its logs as `latchsym annotate` writes them, and addresses of this
 # machine's kernel as libbcc answers; under valgrind and sanitizers where these are there, and names of
 # 700 bytes under gcc's own for addresses. Looks at the object code that a call for signal handlers
@@ -21,7 +22,7 @@ compile() {
     gcc -std=gnu11 -Wall -Wextra -Werror -O2 -I"$top/include" "$top/tests/c/$1.c" "$library" -lpthread -o "$work/$1" "${@:2}"
 }
 
-for name in numbers nulls order find view table adding placements claims pool stops nested replace refused following polls; do
+for name in numbers nulls order find view table adding placements claims pool stops nested replace refused following outgrown noted polls; do
     compile $name
     "$work/$name"
 done
@@ -46,7 +47,10 @@ is_unseen() {
     "$top/tests/edits.py" --put "$work/wrong" "$1"
     if "$2"; then echo "clib: ${1##*/} is not seen"; fi
 }
-claims_pass() { is_right "$wrong" placements && is_right "$wrong" claims -fsanitize=thread && is_right "$wrong" pool; }
+claims_pass() {
+    is_right "$wrong" placements && is_right "$wrong" claims -fsanitize=thread && is_right "$wrong" pool &&
+        is_right "$wrong" outgrown && is_right "$wrong" noted
+}
 polls_pass() { is_right "$wrong" polls; }
 
 # What claims readers for a call, and when files are read again, is of the headers, and no proof sees
@@ -70,7 +74,7 @@ if has 'command -v valgrind' valgrind; then
 fi
 compile table -g
 compile adding -g
-for name in nulls find view following polls; do
+for name in nulls find view following outgrown noted polls; do
     if compile $name -g -fsanitize=address,undefined 2>/dev/null; then
         "$work/$name"
     fi

@@ -273,7 +273,7 @@ lines '0xffffffffc0001040 ext4_a+0x30/0x30 [ext4]\n0x1000 -\n' --offset 4096 --c
 "$program" lookup "${basic[@]}" --no-counts --addresses basic.addresses | cmp -s - <(head -n -2 basic.expected) || fail "--no-counts"
 "$program" lookup "${basic[@]}" --no-counts --addresses /dev/null >"$work/out" && [ ! -s "$work/out" ] || fail "--no-counts without an address"
 "$program" lookup "${basic[@]}" --json --no-counts 0xffffffff81000108 0 | cmp -s - <(printf '{"address":"0xffffffff81000108","symbol":"do_one","offset":8,"size":7936}\n{"address":"0x0"}\n') || fail "--json"
-"$program" --version | cmp -s - <(echo 'latchsym 1.2.0') || fail "--version"
+"$program" --version | cmp -s - <(echo 'latchsym 1.3.0') || fail "--version"
 "$program" --help | grep -q 'hold an address' || fail "--help says not what the program is for"
 
 # a line of 4096 bytes is read, and one byte more makes it long

@@ -53,6 +53,8 @@ static void lengths(void) {
 static void tables(void) {
     struct latchsym_writer writer = {0};
     struct latchsym_reader reader = {0};
+    struct latchsym_follower follower = {0};
+    struct latchsym_code code;
     const struct latchsym_item item = {0x1000, 0x2000, 0};
     const uint64_t start = 0x1000;
     struct latchsym_found found;
@@ -74,6 +76,13 @@ static void tables(void) {
     CHECK(latchsym_catalog_items(&catalog, NULL, 0) == LATCHSYM_BAD_LENGTH);
     latchsym_writer_begin_batch(&writer, NULL, 0, NULL, 0);
     latchsym_writer_close(&writer);
+    latchsym_reader_close(&reader);
+    CHECK(latchsym_follower_open(4, &follower, NULL, 0) == LATCHSYM_BAD_CAPACITY);
+    CHECK(latchsym_follower_enlarge(8, &follower, NULL, 0) == LATCHSYM_BAD_HANDLE);
+    memset(&code, 0, sizeof code); /* both names are null */
+    CHECK(!latchsym_follower_open(4, &follower, &reader, 1));
+    CHECK(!latchsym_follower_note(&follower, &code, 0, &generation) && generation == 1);
+    CHECK(latchsym_follower_close(&follower, &generation) == LATCHSYM_NOTHING);
     latchsym_reader_close(&reader);
 }
 

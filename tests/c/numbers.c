@@ -52,7 +52,7 @@ int main(void) {
     const char *none = latchsym_text(UINT32_MAX);
     struct latchsym_place place = LATCHSYM_PLACE_INIT;
     int others = 0;
-    CHECK(latchsym_version() == LATCHSYM_VERSION && LATCHSYM_VERSION == 10200);
+    CHECK(latchsym_version() == LATCHSYM_VERSION && LATCHSYM_VERSION == 10300);
     CHECK(!strcmp(none, "no number of this library"));
     for (int i = 0; i < TEXTS; i++) {
         CHECK(!strcmp(latchsym_text(texts[i].number), texts[i].text));

@@ -73,6 +73,14 @@ static uint32_t batch(void) { return latchsym_writer_begin_batch(&writer, starts
 
 static uint32_t open_follower(void) { return latchsym_follower_open(4, &follower, readers, 3); }
 static uint32_t add_following(void) { return latchsym_follower_add_reader(&follower, &added); }
+static uint32_t enlarge_following(void) { return latchsym_follower_enlarge(8, &follower, readers, 3); }
+static uint32_t note(void) {
+    struct latchsym_code code = LATCHSYM_CODE_INIT;
+    code.addr = 0x1000, code.len = 1;
+    return latchsym_follower_note(&follower, &code, since, &shown);
+}
+static uint32_t note_gone(void) { return latchsym_follower_note_gone(&follower, 0x1000, since, &shown); }
+static uint32_t open_followed(void) { return latchsym_pool_follow(4, 3, &follower, &pool); }
 static uint32_t show(void) { return latchsym_follower_show(&follower, &catalog, since, since, &shown); }
 static uint32_t find_name(void) {
     uint64_t number = 7;
@@ -132,6 +140,15 @@ static void close_follower(void) {
     uint64_t tag;
     while (!latchsym_follower_close(&follower, &tag)) CHECK(tag <= since);
     for (int i = 0; i < 3; i++) latchsym_reader_close(&readers[i]);
+}
+static void close_followed(void) {
+    CHECK(!latchsym_pool_close(&pool));
+    close_follower();
+}
+static uint32_t enlarge_followed(void) {
+    uint32_t answer = latchsym_pool_enlarge_follower(8, &follower, &pool);
+    for (int i = 0; i < 3; i++) CHECK(pool.slots[i].reader.handle.at && pool.slots[i].claims % 2 == 0);
+    return answer;
 }
 /* The next catalog, for the next request. */
 static void reopen_catalog(void) {
@@ -220,9 +237,17 @@ int main(void) {
     each_request("catalog_find_name", find_name, close_found);
     each_request("follower_show", show, reopen_catalog);
     CHECK(!latchsym_reader_try_find(&readers[2], 0xffffffffc0000018, &found) && found.generation == shown);
+    each_request("follower_enlarge", enlarge_following, leave);
+    CHECK(!latchsym_reader_try_find(&readers[2], 0xffffffffc0000018, &found) && found.generation == shown);
+    each_request("follower_note", note, leave);
+    each_request("follower_note_gone", note_gone, leave);
     each_request("follower_add_reader", add_following, close_added);
     close_added();
     close_follower();
+    CHECK(blocks == had);
+    each_request("pool_follow", open_followed, close_followed);
+    each_request("pool_enlarge_follower", enlarge_followed, leave);
+    close_followed();
     CHECK(blocks == had);
     puts("refused: ok");
 }

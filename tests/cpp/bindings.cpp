@@ -235,6 +235,54 @@ static void follows() {
     CHECK(refused([&] { table.follower.find(1, addr); }) == LATCHSYM_FORGOTTEN);
     latchsym::follower moved = std::move(table.follower);
     CHECK(moved.find(2, addr)->name == "two");
+    CHECK(refused([&] { moved.enlarge(1, table.readers); }) == LATCHSYM_BAD_CAPACITY);
+    moved.enlarge(16, table.readers);
+    CHECK(moved.find(2, addr)->name == "two" && table.readers[1].find(addr).generation == 2);
+}
+
+/* Code that is noted beside a listing, and gone again. */
+static void notes() {
+    const std::uint64_t addr = 0xffffffffc0000018;
+    const std::string text = "ffffffffc0000010 t listed\t[bpf]\n";
+    latchsym::followed_table table(8);
+    latchsym::listings listings;
+    listings.kallsyms = text;
+    latchsym::catalog catalog(listings);
+    CHECK(table.follower.show(catalog, 10) == 1 && !table.follower.note_gone(addr, 5));
+    std::string name = "noted_with_a_name_that_is_long";
+    CHECK(table.follower.note({addr, 10000, name, "bpf"}, 20) == 2);
+    name.assign(name.size(), 'x'); /* it was copied */
+    latchsym::follower moved = std::move(table.follower);
+    const auto last = moved.find_since(20, addr + 9999);
+    CHECK(last->name == "noted_with_a_name_that_is_long" && last->module == "bpf" && last->offset == 9999);
+    CHECK(last->size == 10000 && last->module_number == UINT64_MAX && moved.find(1, addr)->name == "listed");
+    CHECK(moved.find_caller(2, addr + 10000)->offset == 10000 && !moved.find(2, addr + 10000));
+    CHECK(moved.note_gone(addr, 30) == 3 && !moved.note_gone(addr, 30));
+    CHECK(moved.find_since(29, addr)->name == last->name && moved.find_since(30, addr)->name == "listed");
+    CHECK(table.readers[0].find(addr).generation == 3);
+    CHECK(!moved.forget(2) && moved.find(2, addr)->name == last->name && !moved.forget_since(29));
+    CHECK(moved.find(2, addr)->name == last->name && !moved.forget(3) && moved.find(2, addr)->name == "listed");
+    CHECK(moved.note({addr, 1, "short", "m"}, 40) == 4 && moved.find(4, addr)->name == "short");
+    CHECK(moved.note_gone(addr, 50) == 5 && !moved.forget_since(50) && moved.find(4, addr)->name == "listed");
+}
+
+/* A listing that needs more nodes than the table of a pool has. */
+static void outgrows() {
+    const std::uint64_t addr = 0xffffffffc0000018;
+    const std::string text = "ffffffffc0000010 t one\t[a]\nffffffffc0200000 t two\t[b]\n";
+    auto [follower, pool] = latchsym::followed_pool(1, 2);
+    latchsym::listings listings;
+    listings.kallsyms = text;
+    latchsym::catalog catalog(listings);
+    CHECK(refused([&] { latchsym::followed_pool table(4, 65); }) == LATCHSYM_BAD_CAPACITY);
+    /* (lambdas capture no structured bindings in C++17) */
+    latchsym::follower &shows = follower;
+    CHECK(refused([&] { shows.show(catalog, 10); }) == LATCHSYM_FULL && !pool.find(addr).item);
+    CHECK(follower.enlarge(2, pool) && follower.show(catalog, 10) == 1);
+    CHECK(pool.find(addr).item && pool.try_find(addr)->generation == 1 && follower.find(1, addr)->name == "one");
+    pool.get()->slots[0].claims++;
+    CHECK(!follower.enlarge(4, pool));
+    pool.get()->slots[0].claims++;
 }
 
 /* A file of the text, which is gone with the object. */
@@ -268,6 +316,11 @@ static void follows_files() {
     CHECK(follower.symbols_note() == LATCHSYM_NOTHING && follower.modules_note() == LATCHSYM_NOTHING);
     follower.forget(2);
     CHECK(refused([&] { follower.find(1, addr); }) == LATCHSYM_FORGOTTEN);
+    CHECK(follower.note({addr, 8, "noted"}, 1) == 3 && follower.find(3, addr)->name == "noted");
+    CHECK(follower.find(3, addr)->module == "bpf" && follower.note_gone(addr, follower.now()) == 4);
+    follower.forget_since(follower.now());
+    follower.enlarge(64);
+    CHECK(follower.find(4, addr)->name == "two" && follower.readers()[1].find(addr).generation == 4);
 
     /* a listing that is not taken: it has a note, it is missing, or the table has too few nodes */
     files.watched = std::nullopt;
@@ -305,6 +358,8 @@ static void follows_files() {
 
 int main() {
     follows();
+    outgrows();
+    notes();
     follows_files();
     finds();
     finds_in_a_view();

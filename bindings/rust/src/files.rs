@@ -1,5 +1,5 @@
 // SPDX-License-Identifier: MIT OR Apache-2.0
-use crate::{follower_with_room, Catalog, Error, Follower, Readers};
+use crate::{follower_with_room, Catalog, Code, Error, Follower, Readers};
 use std::{
     collections::BTreeSet,
     fmt, fs, io,
@@ -209,6 +209,22 @@ impl FileFollower {
     /// One more reader, where the readers have room: [`file_follower_with_room`].
     pub fn add_reader(&mut self, readers: &mut Readers) -> Result<(), Error> {
         self.follower.add_reader(readers)
+    }
+
+    /// Notes code, as [`Follower::note`] does.
+    pub fn note(&mut self, code: Code<'_>, since: u64) -> Result<u64, Error> {
+        self.follower.note(code, since)
+    }
+
+    /// Notes that code is gone, as [`Follower::note_gone`] does.
+    pub fn note_gone(&mut self, addr: u64, since: u64) -> Result<Option<u64>, Error> {
+        self.follower.note_gone(addr, since)
+    }
+
+    /// Goes on with so many nodes, with all readers of its table: for files whose regions
+    /// [`poll`](FileFollower::poll) refuses by [`Error::Full`].
+    pub fn enlarge(&mut self, nodes: u32, readers: &mut Readers) -> Result<(), Error> {
+        self.follower.enlarge(nodes, readers)
     }
 
     /// What the watched file says of each module: of none where it is missing. None where it cannot be

@@ -25,13 +25,7 @@ pub fn follower_with_room(
     room: usize,
 ) -> Result<(Follower, Readers), Error> {
     let readers = Readers::closed(count, room)?;
-    let handle = Box::new(UnsafeCell::new(sys::Handle::CLOSED));
-    let follower = Follower { handle, shown: BTreeMap::new(), newest: 0 };
-    // SAFETY: the handles are closed, and as many as are told.
-    Error::check(unsafe {
-        sys::latchsym_follower_open(nodes, follower.handle(), readers.handles(), count)
-    })?;
-    Ok((follower, readers))
+    Ok((Follower::open(nodes, readers.handles(), count)?, readers))
 }
 
 /// A table that follows a listing as it changes, and the listings that it showed. An address is named
@@ -41,12 +35,49 @@ pub struct Follower {
     /// The bytes of each listing, by its tag: its catalog points into them.
     shown: BTreeMap<u64, (Vec<u8>, Option<Vec<u8>>)>,
     newest: u64,
+    /// The names of noted code, which the library points to.
+    noted: Vec<Noted>,
+}
+
+/// Code that the caller knows of itself, such as a program that was loaded.
+#[derive(Clone, Copy, Debug, PartialEq, Eq)]
+pub struct Code<'n> {
+    /// Its first address.
+    pub addr: u64,
+    /// How many bytes it has.
+    pub len: u64,
+    /// Its name.
+    pub name: &'n [u8],
+    /// The name of what it belongs to, such as `bpf`.
+    pub module: &'n [u8],
+}
+
+/// The names of noted code, its address, and the generation and the stamp from which on it is gone.
+struct Noted {
+    _names: [Box<[u8]>; 2],
+    addr: u64,
+    gone: Option<(u64, u64)>,
 }
 
 // SAFETY: between two calls a handle may go to another thread.
 unsafe impl Send for Follower {}
 
 impl Follower {
+    /// Opens one, and this many of the closed handles of readers, which are in no other call.
+    pub(crate) fn open(
+        nodes: u32,
+        readers: *mut sys::Handle,
+        count: usize,
+    ) -> Result<Follower, Error> {
+        let handle = Box::new(UnsafeCell::new(sys::Handle::CLOSED));
+        let follower = Follower { handle, shown: BTreeMap::new(), newest: 0, noted: Vec::new() };
+        // SAFETY: the handles are closed, and as many as are told.
+        Error::check(unsafe {
+            sys::latchsym_follower_open(nodes, follower.handle(), readers, count)
+        })?;
+        Ok(follower)
+    }
+
     fn handle(&self) -> *mut sys::Handle {
         self.handle.get()
     }
@@ -98,7 +129,41 @@ impl Follower {
         newest.map_or(false, |it| (&it.0[..], it.1.as_deref()) == (kallsyms, modules))
     }
 
-    /// The symbol of an address by the listing that stood at a generation. Refused by
+    /// Notes that code is there, from a stamp on and from the generation returned on. Until it is
+    /// noted gone it is found before what the listings have, each of its bytes with its name: of
+    /// several the one noted last. The names are copied. A refusal changes nothing.
+    pub fn note(&mut self, code: Code<'_>, since: u64) -> Result<u64, Error> {
+        let names = [code.name.into(), code.module.into()];
+        let place = |name: &Box<[u8]>| sys::Place { at: name.as_ptr(), len: name.len() };
+        let (name, module) = (place(&names[0]), place(&names[1]));
+        let given = sys::Code { addr: code.addr, len: code.len, name, module };
+        let mut generation = 0;
+        // SAFETY: the handle is in no other call. The names stay where they are until the library has
+        // forgotten the code: a box that is moved keeps its place in memory.
+        Error::check(unsafe {
+            sys::latchsym_follower_note(self.handle(), &given, since, &mut generation)
+        })?;
+        self.noted.push(Noted { _names: names, addr: code.addr, gone: None });
+        Ok(generation)
+    }
+
+    /// Notes that the code noted last of those that begin at an address is gone, from a stamp on and
+    /// from the generation returned on; none where no such code was there.
+    pub fn note_gone(&mut self, addr: u64, since: u64) -> Result<Option<u64>, Error> {
+        let mut generation = 0;
+        // SAFETY: the handle is in no other call.
+        let number = unsafe {
+            sys::latchsym_follower_note_gone(self.handle(), addr, since, &mut generation)
+        };
+        if !Error::is_there(number)? {
+            return Ok(None);
+        }
+        let newest = self.noted.iter_mut().rev().find(|it| it.addr == addr && it.gone.is_none());
+        newest.expect("what the library knew").gone = Some((generation, since));
+        Ok(Some(generation))
+    }
+
+    /// The symbol of an address by the code and the listing that stood at a generation. Refused by
     /// [`Error::Forgotten`].
     pub fn find(&self, generation: u64, addr: u64) -> Result<Option<Symbol<'_>>, Error> {
         self.found(sys::latchsym_follower_find, generation, addr)
@@ -130,14 +195,16 @@ impl Follower {
         unsafe { symbol_found(|out| find(self.handle(), moment, addr, out)) }
     }
 
-    /// Forgets each listing that no sample of this generation or a later one needs.
+    /// Forgets each listing, and the code, that no sample of this generation or a later one needs.
     pub fn forget(&mut self, generation: u64) {
         self.gone(sys::latchsym_follower_forget, generation);
+        self.noted.retain(|it| it.gone.map_or(true, |gone| generation < gone.0));
     }
 
-    /// Forgets each listing that no sample of this stamp or a later one needs.
+    /// Forgets each listing, and the code, that no sample of this stamp or a later one needs.
     pub fn forget_since(&mut self, at: u64) {
         self.gone(sys::latchsym_follower_forget_since, at);
+        self.noted.retain(|it| it.gone.map_or(true, |gone| at < gone.1));
     }
 
     fn gone(
@@ -150,6 +217,24 @@ impl Follower {
         while unsafe { forget(self.handle(), moment, &mut tag) } == sys::DONE {
             self.shown.remove(&tag);
         }
+    }
+
+    /// Goes on with so many nodes, with all readers of its table: for a listing whose regions
+    /// [`show`](Follower::show) refuses by [`Error::Full`].
+    pub fn enlarge(&mut self, nodes: u32, readers: &mut Readers) -> Result<(), Error> {
+        // SAFETY: the readers are borrowed, so that none is in a call.
+        Error::check(unsafe { self.enlarge_with(nodes, readers.handles(), readers.len()) })
+    }
+
+    /// What the call returns. The handles are as many as are told, and in no other call.
+    pub(crate) unsafe fn enlarge_with(
+        &mut self,
+        nodes: u32,
+        readers: *mut sys::Handle,
+        count: usize,
+    ) -> u32 {
+        // SAFETY: as the caller says.
+        unsafe { sys::latchsym_follower_enlarge(nodes, self.handle(), readers, count) }
     }
 
     /// One more reader, where the readers have room: [`follower_with_room`].

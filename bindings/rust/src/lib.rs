@@ -66,8 +66,8 @@ mod sys;
 pub use catalog::{Answer, Catalog, Counts, Entry, Listings, Module, Region, Symbol};
 pub use error::Error;
 pub use files::{file_follower, file_follower_with_room, FileFollower, Files, PollError};
-pub use follower::{follower, follower_with_room, Follower};
-pub use pool::{pooled_table, Pool};
+pub use follower::{follower, follower_with_room, Code, Follower};
+pub use pool::{followed_pool, pooled_table, Pool};
 pub use table::{table, table_with_room, Found, Item, Reader, Readers, Step, Writer};
 pub use view::View;
 

@@ -1,5 +1,5 @@
 // SPDX-License-Identifier: MIT OR Apache-2.0
-use crate::{sys, table::first_answer, Error, Found, Writer};
+use crate::{sys, table::first_answer, Error, Follower, Found, Writer};
 use std::{
     cell::UnsafeCell,
     fmt,
@@ -27,14 +27,22 @@ const LAST_LOOKS: usize = 10;
 /// # Ok::<(), latchsym::Error>(())
 /// ```
 pub fn pooled_table(nodes: u32, slots: usize) -> Result<(Writer, Pool), Error> {
-    // (the call itself refuses these, and so many handles might not be had)
-    if !(1..=MOST_SLOTS).contains(&slots) {
-        return Err(Error::BadCapacity);
-    }
-    let mut readers = [sys::Handle::CLOSED; MOST_SLOTS];
-    let writer = Writer::open(nodes, readers.as_mut_ptr(), slots)?;
-    let slots = readers.into_iter().take(slots).map(Slot::of).collect();
-    Ok((writer, Pool { slots, is_wanted: AtomicBool::new(false) }))
+    Pool::open(slots, |readers| Writer::open(nodes, readers, slots))
+}
+
+/// Opens a follower without a listing, as [`follower`](crate::follower) does, with a pool of 1 to 64
+/// readers of its table.
+///
+/// ```
+/// let (mut follower, pool) = latchsym::followed_pool(64, 4)?;
+/// follower.show(b"ffffffffc0000010 t ext4_a\t[ext4]\n".to_vec(), None, 10)?;
+/// let found = pool.find(0xffffffffc0000018)?;
+/// let symbol = follower.find(found.generation, 0xffffffffc0000018)?;
+/// assert_eq!(symbol.unwrap().name, Some(&b"ext4_a"[..]));
+/// # Ok::<(), latchsym::Error>(())
+/// ```
+pub fn followed_pool(nodes: u32, slots: usize) -> Result<(Follower, Pool), Error> {
+    Pool::open(slots, |readers| Follower::open(nodes, readers, slots))
 }
 
 /// A reader, and its claims: odd while a call has it. Each claim adds 1, and so does its end.
@@ -85,6 +93,21 @@ unsafe impl Send for Pool {}
 unsafe impl Sync for Pool {}
 
 impl Pool {
+    /// Opens what changes a table, with this many readers in closed handles, and the pool of these.
+    fn open<T>(
+        slots: usize,
+        open: impl FnOnce(*mut sys::Handle) -> Result<T, Error>,
+    ) -> Result<(T, Pool), Error> {
+        // (the call itself refuses these, and so many handles might not be had)
+        if !(1..=MOST_SLOTS).contains(&slots) {
+            return Err(Error::BadCapacity);
+        }
+        let mut readers = [sys::Handle::CLOSED; MOST_SLOTS];
+        let owner = open(readers.as_mut_ptr())?;
+        let slots = readers.into_iter().take(slots).map(Slot::of).collect();
+        Ok((owner, Pool { slots, is_wanted: AtomicBool::new(false) }))
+    }
+
     /// A slot that was free, or none where an enlarging wants all, or all were claimed at one moment.
     /// Claims only rise, so two rounds with one sum met the same claims, all of which held between the
     /// rounds. A thread begins at a slot of its own, as its stack lies elsewhere.
@@ -155,6 +178,25 @@ impl Pool {
         }
         claims.into_iter().collect()
     }
+
+    /// Enlarges its table by a call that takes all readers, as many handles as are told.
+    fn enlarge_by(
+        &self,
+        enlarge: impl FnOnce(*mut sys::Handle, usize) -> u32,
+    ) -> Result<(), Error> {
+        let claims = self.claim_all().ok_or(Error::Busy)?;
+        let mut readers = [sys::Handle::CLOSED; MOST_SLOTS];
+        for (reader, claim) in readers.iter_mut().zip(&claims) {
+            // SAFETY: the handle is claimed, and moves to where the call takes it.
+            std::mem::swap(reader, unsafe { &mut *claim.handle() });
+        }
+        let number = enlarge(readers.as_mut_ptr(), claims.len());
+        for (reader, claim) in readers.iter_mut().zip(&claims) {
+            // SAFETY: the handle is still claimed, and moves back.
+            std::mem::swap(reader, unsafe { &mut *claim.handle() });
+        }
+        Error::check(number)
+    }
 }
 
 impl Writer {
@@ -163,19 +205,16 @@ impl Writer {
     ///
     /// A pool of another table goes over to this one.
     pub fn enlarge_pool(&mut self, nodes: u32, pool: &Pool) -> Result<(), Error> {
-        let claims = pool.claim_all().ok_or(Error::Busy)?;
-        let mut readers = [sys::Handle::CLOSED; MOST_SLOTS];
-        for (reader, claim) in readers.iter_mut().zip(&claims) {
-            // SAFETY: the handle is claimed, and moves to where the call takes it.
-            std::mem::swap(reader, unsafe { &mut *claim.handle() });
-        }
         // SAFETY: as many handles as are told, which are in no other call.
-        let number = unsafe { self.enlarge_with(nodes, readers.as_mut_ptr(), claims.len()) };
-        for (reader, claim) in readers.iter_mut().zip(&claims) {
-            // SAFETY: the handle is still claimed, and moves back.
-            std::mem::swap(reader, unsafe { &mut *claim.handle() });
-        }
-        Error::check(number)
+        pool.enlarge_by(|readers, count| unsafe { self.enlarge_with(nodes, readers, count) })
+    }
+}
+
+impl Follower {
+    /// Goes on with so many nodes, with the readers of its pool, as [`Writer::enlarge_pool`] does.
+    pub fn enlarge_pool(&mut self, nodes: u32, pool: &Pool) -> Result<(), Error> {
+        // SAFETY: as many handles as are told, which are in no other call.
+        pool.enlarge_by(|readers, count| unsafe { self.enlarge_with(nodes, readers, count) })
     }
 }
 

@@ -52,6 +52,8 @@ impl ViewRegion { pub const NONE: ViewRegion = ViewRegion { a: 0, b: 0, module_n
 impl View { pub const NONE: View = View { regions: NonNull::dangling().as_ptr(), regions_len: 0 }; }
 #[repr(C)] #[derive(Clone, Copy)] pub struct Sizes { pub regions: usize, pub symbols: usize }
 impl Sizes { pub const NONE: Sizes = Sizes { regions: 0, symbols: 0 }; }
+#[repr(C)] #[derive(Clone, Copy)] pub struct Code { pub addr: u64, pub len: u64, pub name: Place, pub module: Place }
+impl Code { pub const NONE: Code = Code { addr: 0, len: 0, name: Place::NONE, module: Place::NONE }; }
 
 extern "C" {
     pub fn latchsym_place_of_text(number: u32, out: *mut Place);
@@ -91,11 +93,14 @@ extern "C" {
     #[link_name = "latchsym_reader_close_nonnull"] pub fn latchsym_reader_close(reader: *mut Handle);
     #[link_name = "latchsym_follower_open_nonnull"] pub fn latchsym_follower_open(nodes: u32, follower: *mut Handle, readers: *mut Handle, count: usize) -> u32;
     pub fn latchsym_follower_add_reader(follower: *mut Handle, out: *mut Handle) -> u32;
+    #[link_name = "latchsym_follower_enlarge_nonnull"] pub fn latchsym_follower_enlarge(nodes: u32, follower: *mut Handle, readers: *mut Handle, count: usize) -> u32;
     pub fn latchsym_follower_show(follower: *mut Handle, catalog: *mut Handle, since: u64, tag: u64, generation: *mut u64) -> u32;
     pub fn latchsym_follower_find(follower: *mut Handle, generation: u64, addr: u64, out: *mut Symbol) -> u32;
     pub fn latchsym_follower_find_caller(follower: *mut Handle, generation: u64, addr: u64, out: *mut Symbol) -> u32;
     pub fn latchsym_follower_find_since(follower: *mut Handle, at: u64, addr: u64, out: *mut Symbol) -> u32;
     pub fn latchsym_follower_find_caller_since(follower: *mut Handle, at: u64, addr: u64, out: *mut Symbol) -> u32;
+    #[link_name = "latchsym_follower_note_nonnull"] pub fn latchsym_follower_note(follower: *mut Handle, code: *const Code, since: u64, generation: *mut u64) -> u32;
+    pub fn latchsym_follower_note_gone(follower: *mut Handle, addr: u64, since: u64, generation: *mut u64) -> u32;
     pub fn latchsym_follower_forget(follower: *mut Handle, generation: u64, tag: *mut u64) -> u32;
     pub fn latchsym_follower_forget_since(follower: *mut Handle, at: u64, tag: *mut u64) -> u32;
     pub fn latchsym_follower_close(follower: *mut Handle, tag: *mut u64) -> u32;

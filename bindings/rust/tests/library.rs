@@ -315,6 +315,74 @@ fn an_address_is_named_by_the_listing_of_its_time() {
 }
 
 #[test]
+fn a_listing_that_outgrows_the_table_of_a_follower_is_shown_once_it_is_enlarged() {
+    const ADDR: u64 = 0xffffffffc0000018;
+    let small = || b"ffffffffc0000010 t one\t[a]\n".to_vec();
+    let large = || b"ffffffffc0000010 t two\t[a]\nffffffffc0200000 t two\t[b]\n".to_vec();
+    let is_named = |follower: &latchsym::Follower, generation, wanted: &[u8]| {
+        follower.find(generation, ADDR).unwrap().unwrap().name == Some(wanted)
+    };
+    let (mut follower, mut readers) = latchsym::follower(1, 2).unwrap();
+    follower.show(small(), None, 10).unwrap();
+    assert_eq!(follower.show(large(), None, 20), Err(Error::Full));
+    assert_eq!(follower.enlarge(0, &mut readers), Err(Error::BadCapacity));
+    follower.enlarge(3, &mut readers).unwrap();
+    assert_eq!(follower.show(large(), None, 20), Ok(2));
+    assert_eq!(readers.get(1).unwrap().find(ADDR).unwrap().generation, 2);
+    assert!(is_named(&follower, 1, b"one") && is_named(&follower, 2, b"two"));
+
+    let (mut follower, pool) = latchsym::followed_pool(1, 2).unwrap();
+    follower.show(small(), None, 10).unwrap();
+    assert_eq!(follower.show(large(), None, 20), Err(Error::Full));
+    assert_eq!(follower.enlarge_pool(0, &pool), Err(Error::BadCapacity));
+    follower.enlarge_pool(3, &pool).unwrap();
+    assert_eq!(follower.show(large(), None, 20), Ok(2));
+    assert_eq!(pool.find(ADDR).unwrap().generation, 2);
+    assert!(is_named(&follower, 1, b"one") && is_named(&follower, 2, b"two"));
+    assert_eq!(latchsym::followed_pool(4, 65).err(), Some(Error::BadCapacity));
+}
+
+#[test]
+fn code_that_is_noted_goes_before_the_listing_until_it_is_gone() {
+    const ADDR: u64 = 0xffffffffc0000018;
+    fn found(symbol: Result<Option<latchsym::Symbol<'_>>, Error>) -> (String, u64, u64) {
+        let symbol = symbol.unwrap().unwrap();
+        (symbol.to_string(), symbol.offset, symbol.module_number)
+    }
+    let (mut follower, mut readers) = latchsym::follower(8, 1).unwrap();
+    let listed = ("listed+0x8/0xff0 [bpf]".to_string(), 8, 1);
+    follower.show(b"ffffffffc0000010 t listed\t[bpf]\n".to_vec(), None, 10).unwrap();
+    assert_eq!(follower.note_gone(ADDR, 5), Ok(None));
+    let name = b"noted".to_vec();
+    let code = latchsym::Code { addr: ADDR, len: 10000, name: &name, module: b"bpf" };
+    assert_eq!(follower.note(code, 20), Ok(2));
+    drop(name);
+    let mut follower = Box::new(follower);
+    let noted = ("noted+0x270f/0x2710 [bpf]".to_string(), 9999, u64::MAX);
+    assert_eq!(found(follower.find_since(20, ADDR + 9999)), noted);
+    assert_eq!(found(follower.find(1, ADDR)), listed);
+    assert_eq!(follower.find_caller(2, ADDR + 10000).unwrap().unwrap().offset, 10000);
+    assert!(follower.find(2, ADDR + 10000).unwrap().is_none());
+    assert_eq!(
+        (follower.note_gone(ADDR, 30), follower.note_gone(ADDR, 30)),
+        (Ok(Some(3)), Ok(None))
+    );
+    assert_eq!(readers.get(0).unwrap().find(ADDR).unwrap().generation, 3);
+    assert_eq!(found(follower.find_since(29, ADDR + 9999)), noted);
+    assert_eq!(found(follower.find_since(30, ADDR)), listed);
+    follower.forget(2);
+    follower.forget_since(29);
+    assert_eq!(found(follower.find(2, ADDR + 9999)), noted);
+    follower.forget(3);
+    assert_eq!(found(follower.find(2, ADDR)), listed);
+    let code = latchsym::Code { addr: ADDR, len: 1, name: b"short", module: b"" };
+    assert_eq!((follower.note(code, 40), follower.note_gone(ADDR, 50)), (Ok(4), Ok(Some(5))));
+    assert_eq!(found(follower.find(4, ADDR)), ("short+0x0/0x1 []".to_string(), 0, u64::MAX));
+    follower.forget_since(50);
+    assert_eq!(found(follower.find(4, ADDR)), listed);
+}
+
+#[test]
 fn a_name_is_found_in_all_modules() {
     let text = b"ffffffffc0000010 t one\t[a]\nffffffffc0001010 t two\t[b]\nffffffffc0001020 t one\t[b]\n";
     let catalog = Listings::new(text).open().unwrap();

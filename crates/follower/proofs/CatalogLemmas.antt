@@ -1,10 +1,10 @@
 -- Which catalog stands at a moment, by the place up to which the catalogs were shown at or before
 -- it.
-use Rattle.follower.proofs.Words.{◌≡◌, ℕ, suc, zero, ◌-◌, ◌<◌, ◌≤◌, nat_le, Bool, true, false, cond}
-use Rattle.follower.proofs.Words.{List, [], ◌∷◌, ◌++◌, get_or, Option, Some, None, IfSome, refl}
-use Rattle.follower.proofs.Words.{sym, subst, ◌∙◌, arith, ⊎_elim, DatedCatalog, Moment}
-use Rattle.follower.proofs.Words.{CatalogEntries, AreInOrder, EachStands, ForgetsOldest, at_number}
-use Rattle.follower.proofs.Words.{number_of, standing_at, start_by, IsSplitBy}
+use Rattle.follower.proofs.Words.{All, ◌≡◌, ℕ, suc, zero, ◌+◌, ◌-◌, ◌<◌, ◌≤◌, nat_le, Bool, true}
+use Rattle.follower.proofs.Words.{false, cond, List, [], ◌∷◌, ◌++◌, get_or, Option, Some, None}
+use Rattle.follower.proofs.Words.{IfSome, refl, sym, subst, ◌∙◌, arith, ⊎_elim, DatedCatalog}
+use Rattle.follower.proofs.Words.{Moment, CatalogEntries, AreInOrder, EachStands, ForgetsOldest}
+use Rattle.follower.proofs.Words.{at_number, number_of, standing_at, start_by, IsSplitBy}
 use Rattle.std.proofs.lemmas.Bool.{cases_lt, le-leb, lt-leb}
 use Rattle.std.proofs.lemmas.Option.{IfSome_then}
 use Rattle.std.proofs.lemmas.List.Elements.{All-append, All-cons, All-nil}
@@ -169,3 +169,30 @@ pub in_order : (m : Moment) (ds : List DatedCatalog) → AreInOrder ds
 in_order (Generation g) ds ordered = λ i j d le lt. let h = ordered.generations i j d le lt in
     omega (arith, h)
 in_order (Stamp s) ds ordered = ordered.stamps
+
+-- all of them having been shown, the last stands, also later
+all_stand : (ds : List DatedCatalog) (now : ℕ) → All (λ d. d.previous < now) ds
+    → standing_at ds (Generation (suc now)) ≡ standing_at ds (Generation now)
+all_stand [] now reached = refl
+all_stand (d ∷ ds) now reached =
+    let here : d.previous < now = reached 0 d (omega arith) in
+    rw (le-leb (d.previous + 1) (suc now) (omega arith))
+    (rw (le-leb (d.previous + 1) now (omega arith))
+    (rw (all_stand ds now (λ k e lt. reached (suc k) e (omega arith))) refl))
+
+-- one generation on the same catalogs stand, the newest at the next, if it is right there
+pub stand_on : (P : ℕ → CatalogEntries → Type 0) (now : ℕ) (ds : List DatedCatalog)
+    → EachStands P now ds → (Q : ℕ → CatalogEntries → Type 0)
+    → ((c : CatalogEntries) → Q now c → P (suc now) c) → EachStands Q now ds
+    → EachStands P (suc now) ds
+stand_on P now ds stands Q goes_on before = record {
+  reached = λ k d lt. let r = stands.reached k d lt in omega arith;
+  right = λ g le. ⊎_elim
+      (λ earlier. stands.right g (omega arith))
+      (λ at. subst (λ h. IfSome (standing_at ds (Generation h)) (λ d. P h d.catalog))
+      (let e : suc now ≡ g = omega arith in e)
+      (subst (λ o. IfSome o (λ d. P (suc now) d.catalog)) (sym (all_stand ds now stands.reached))
+      (IfSome_then (standing_at ds (Generation now)) (before.right now (omega arith))
+      (λ d p. goes_on d.catalog p))))
+      (cases_lt g (suc now));
+}

@@ -1,14 +1,14 @@
 -- What a table shows at each generation.
-use Rattle.follower.proofs.Words.{◌≡◌, ℕ, suc, ◌+◌, ◌-◌, ◌*◌, ◌≤◌, List, [], ◌∷◌, ◌++◌, length}
-use Rattle.follower.proofs.Words.{take, Option, Some, None, sym, ap, subst, ◌∙◌, arith}
-use Rattle.follower.proofs.Words.{Contains-permutation, IsPermutation-sym, IsSoundCatalog}
+use Rattle.follower.proofs.Words.{Begins, half_open, ◌≡◌, ℕ, suc, ◌+◌, ◌-◌, ◌*◌, ◌≤◌, List, [], ◌∷◌}
+use Rattle.follower.proofs.Words.{◌++◌, length, take, Option, Some, None, refl, sym, ap, subst, ◌∙◌}
+use Rattle.follower.proofs.Words.{arith, Contains-permutation, IsPermutation-sym, IsSoundCatalog}
 use Rattle.follower.proofs.Words.{CatalogEntries, IsIndexOf, DatedCatalog, Moment, DropsOldest}
-use Rattle.follower.proofs.Words.{EachStands, Forgets, BeginsToShow, IsBegun, IsFollowed, IsShownAt}
-use Rattle.follower.proofs.Words.{generation_of, table_at}
+use Rattle.follower.proofs.Words.{EachStands, Forgets, BeginsMoment, BeginsToShow, IsBegun}
+use Rattle.follower.proofs.Words.{IsFollowed, IsShownAt, generation_of, no_change, table_at}
+use Rattle.follower.proofs.Words.{PassesMoment}
 use Rattle.std.proofs.lemmas.List.{length-append, take-append-le, take_all}
 use Rattle.order_laws.specs.declared.items.Item.{Item}
-use Rattle.order_laws.specs.Orders.{half_open}
-use Rattle.order_laws.specs.Tables.{IsLook, look}
+use Rattle.order_laws.specs.Tables.{IsLook, look, without_all}
 use Rattle.order_laws.proofs.HalfOpenLemmas.{begins, ends, equal_inside}
 use Rattle.order_laws.proofs.TableLemmas.{look_is, same_look}
 use Rattle.table_updates.specs.declared.updates.Update.{Update}
@@ -17,15 +17,19 @@ use Rattle.modules.specs.Items.{item_of_address, items_of}
 use Rattle.modules.proofs.ApartItemLemmas.{none_found, some_found}
 use Rattle.latch_core.specs.Invariants.{IsPendingOf, IsSound}
 use Rattle.latch_core.specs.Replacements.{replacement}
+use Rattle.latch_core.proofs.SoundLemmas.{replay_push}
 use Rattle.latch_core.specs.Sequences.{generation_of as sequence_generation}
 use Rattle.word_layout.specs.Words.{at}
 use Rattle.order_laws.specs.declared.refusals.Refusal.{Refusal}
 use Rattle.std.specs.Prelude.{IfOk, OnErr, Result, Ok, Err}
 use Rattle.latch_table.specs.Adding.{AddsReader}
+use Rattle.latch_table.specs.Enlarging.{Enlarges}
 use Rattle.latch_table.specs.Readers.{ReaderState}
+use Rattle.std.specs.Global.{Vec}
+use Rattle.word_layout.specs.declared.layouts.Layout.{Layout}
 use Rattle.latch_table.specs.Replacing.{BeginsReplacing}
 use Rattle.latch_table.specs.Writers.{Finishes, WriterState, state_with_update}
-use Rattle.follower.proofs.CatalogLemmas.{newest_too, right_too, still_stands}
+use Rattle.follower.proofs.CatalogLemmas.{newest_too, right_too, stand_on, still_stands}
 
 -- the items of a catalog in another order have at each address what the catalog has
 index_looks : (c : CatalogEntries) (items : List Item) → IsSoundCatalog c → IsIndexOf c items
@@ -56,6 +60,20 @@ pub reader_added : (w w' : WriterState) (ds : List DatedCatalog)
 reader_added w w' ds (Ok r) adds same followed =
     other_readers w w' (w.readers + 1) ds adds.writer followed
 reader_added w w' ds (Err e) adds same followed =
+    subst (λ (x : WriterState). IsFollowed x ds) (sym same) followed
+
+-- in larger words the tables of all generations stay, and no update is pending
+in_larger_words : (w w' : WriterState) (l : Layout) (all : List ReaderState)
+    (ds : List DatedCatalog) → Enlarges w l w' all → IsFollowed w ds → IsFollowed w' ds
+in_larger_words w w' l all ds moves followed =
+    subst (λ (x : WriterState). IsFollowed x ds) (sym moves.state)
+    (record { rests = rw followed.rests refl; stands = followed.stands })
+
+pub enlarged : (w w' : WriterState) (l : Layout) (ds : List DatedCatalog)
+    (moved : Result (Vec ReaderState) Refusal) → IfOk moved (λ all. Enlarges w l w' all.items)
+    → OnErr moved (w' ≡ w) → IsFollowed w ds → IsFollowed w' ds
+enlarged w w' l ds (Ok all) moves same followed = in_larger_words w w' l all.items ds moves followed
+enlarged w w' l ds (Err e) moves same followed =
     subst (λ (x : WriterState). IsFollowed x ds) (sym same) followed
 
 -- one update more leaves the table of each generation before it
@@ -131,23 +149,82 @@ forgotten w m old new (Some tag) d f =
     without_oldest w old new (Some tag) (d.oldest, d.gone, d.told) f
 
 -- while no flip is made the sequence is that of the generation before
-module _ (w p : WriterState) (items : List Item) (b : BeginsReplacing half_open w items p)
-    (sound : IsSound half_open p.capacity (2 * p.base) p.history p.latch) where
-  not_flipped : sequence_generation (at p.latch.words 0) ≡ generation_of w
-  not_flipped =
-      let u : Update = replacement w.latch.newest_table items in
-      let begun = state_with_update half_open w u b.begins.1.0 in
-      let hand : IsPendingOf half_open (2 * w.base) (at w.latch.words 0) (w.history ++ u ∷ [])
-      begun.latch.pending =
-      subst (λ (x : WriterState). IsPendingOf half_open (2 * x.base) (at x.latch.words 0) x.history
-      x.latch.pending) b.begins.1.3 sound.in_hand in
-      ap (λ (x : WriterState). sequence_generation (at x.latch.words 0)) b.begins.1.3
-      ∙ omega (arith, hand.count, length-append w.history (u ∷ []))
+not_flipped : (w p : WriterState) (u : Update) → Begins half_open w u p
+    → IsSound half_open p.capacity (2 * p.base) p.history p.latch
+    → sequence_generation (at p.latch.words 0) ≡ generation_of w
+not_flipped w p u b sound =
+    let begun = state_with_update half_open w u b.1.0 in
+    let hand : IsPendingOf half_open (2 * w.base) (at w.latch.words 0) (w.history ++ u ∷ [])
+    begun.latch.pending =
+    subst (λ (x : WriterState). IsPendingOf half_open (2 * x.base) (at x.latch.words 0) x.history
+    x.latch.pending) b.1.3 sound.in_hand in
+    ap (λ (x : WriterState). sequence_generation (at x.latch.words 0)) b.1.3
+    ∙ omega (arith, hand.count, length-append w.history (u ∷ []))
 
-  pub begun_so : (previous : ℕ) → previous ≡ sequence_generation (at p.latch.words 0)
-      → IsBegun w items p previous
-  begun_so previous is = record {
-    replaces = b;
-    reaches = sym sound.table_is ∙ b.newest;
-    before = is ∙ not_flipped;
+pub begun_so : (w p : WriterState) (items : List Item) (b : BeginsReplacing half_open w items p)
+    (sound : IsSound half_open p.capacity (2 * p.base) p.history p.latch) (previous : ℕ)
+    → previous ≡ sequence_generation (at p.latch.words 0) → IsBegun w items p previous
+begun_so w p items b sound previous is = record {
+  replaces = b;
+  reaches = sym sound.table_is ∙ b.newest;
+  before = is ∙ not_flipped w p (replacement w.latch.newest_table items) b.begins sound;
+}
+
+pub moment_begun_so : (w p : WriterState) (u : Update) → u ≡ no_change → Begins half_open w u p
+    → IsSound half_open p.capacity (2 * p.base) p.history p.latch → (previous : ℕ)
+    → previous ≡ sequence_generation (at p.latch.words 0) → BeginsMoment w p previous
+moment_begun_so w p u none b sound previous is =
+    record {
+      begins = subst (λ v. Begins half_open w v p) none b;
+      before = is ∙ not_flipped w p u b sound;
+    }
+
+pub passes_moment : (w p w' : WriterState) (previous g : ℕ) → BeginsMoment w p previous
+    → Finishes p w' g → PassesMoment w w' g
+passes_moment w p w' previous g is end =
+    record { pending = p; begun = record { begins = is.begins; before = refl }; finished = end }
+
+-- an update that changes nothing leaves the table
+none_erased : (table : List Item) → without_all [] table ≡ table
+none_erased [] = refl
+none_erased (x ∷ xs) = ap (λ l. x ∷ l) (none_erased xs)
+
+-- where no update but such a one comes, each catalog is shown as before
+module _ (w p w' : WriterState) (previous g : ℕ) (ds : List DatedCatalog)
+    (is : BeginsMoment w p previous) (end : Finishes p w' g) where
+  base_stays : w'.base ≡ w.base
+  base_stays =
+      ap (λ (x : WriterState). x.base) end.0 ∙ ap (λ (x : WriterState). x.base) is.begins.1.3
+
+  one_moment : w'.history ≡ w.history ++ no_change ∷ []
+  one_moment =
+      ap (λ (x : WriterState). x.history) end.0 ∙ ap (λ (x : WriterState). x.history) is.begins.1.3
+
+  moment_next : generation_of w' ≡ suc (generation_of w)
+  moment_next = one_more w w' no_change base_stays one_moment
+
+  table_stays : table_at w' (generation_of w') ≡ table_at w (generation_of w)
+  table_stays =
+      table_now w' ∙ ap (replay half_open []) one_moment
+      ∙ replay_push half_open [] w.history no_change
+      ∙ none_erased (replay half_open [] w.history) ∙ sym (table_now w)
+
+  shown_before : (h : ℕ) (c : CatalogEntries) → h ≤ generation_of w → IsShownAt w h c
+      → IsShownAt w' h c
+  shown_before h c le shown addr =
+      ap (look half_open addr) (same_before w w' no_change base_stays one_moment h le) ∙ shown addr
+
+  shown_after : (c : CatalogEntries) → IsShownAt w (generation_of w) c
+      → IsShownAt w' (suc (generation_of w)) c
+  shown_after c shown addr = ap (look half_open addr)
+      (subst (λ k. table_at w' k ≡ table_at w (generation_of w)) moment_next table_stays)
+      ∙ shown addr
+
+  pub passes_on : IsFollowed w ds → IsFollowed w' ds
+  passes_on followed = record {
+    rests = end.1;
+    stands = subst (λ k. EachStands (IsShownAt w') k ds) (sym moment_next)
+        (stand_on (IsShownAt w') (generation_of w) ds (right_too (IsShownAt w) (IsShownAt w')
+        (generation_of w) ds (λ h c le shown. shown_before h c le shown) followed.stands)
+        (IsShownAt w) (λ c shown. shown_after c shown) followed.stands);
   }

@@ -5,6 +5,7 @@ ghost use Rattle.std.specs.Option.{option_copied};
 ghost use Rattle.order_laws.specs.Orders.{half_open};
 ghost use Rattle.latch_table.specs.declared.knowledge.Origin.TheVariants.{Start};
 ghost use Rattle.latch_table.specs.Adding.{AddsReader, RefusesReader};
+ghost use Rattle.latch_table.specs.Enlarging.{Enlarges, RefusesEnlarging};
 ghost use Rattle.latch_table.specs.Readers.{new_reader};
 ghost use Rattle.latch_table.specs.Replacing.{RefusesReplacing};
 ghost use Rattle.latch_table.specs.Seats.{first_knowledge};
@@ -12,13 +13,18 @@ ghost use Rattle.latch_table.specs.Writers.{MayOpenWith, RefusesOpening, new_wri
 ghost use Rattle.follower.specs.Catalogs.{DropsOldest, Forgets, standing_at};
 ghost use Rattle.follower.specs.declared.catalogs.Moment.TheVariants.{Generation as At};
 ghost use Rattle.follower.specs.Following.{BeginsToShow, IsBegun, IsFollowed, IsShownAt};
+ghost use Rattle.follower.specs.Following.{BeginsMoment, Notes, NotesGoneAny, RefusesMoment};
 ghost use Rattle.follower.specs.Following.{RefusesToShow, Shows, dated_as, generation_of};
+ghost use Rattle.follower.specs.Noted.{AreSameFrom, noted_at, without_gone};
 
 use crate::catalogs::{Catalogs, DatedCatalog, Moment, SharedCatalog};
+use crate::code::NotedCode;
+use crate::noted::{DatedCode, NotedCodes, NotedTime};
 use latch_table::{Reader, Writer, open};
 use order_laws::{HalfOpen, Item, Refusal};
 use std::alloc::{AllocError, Global};
 use std::marker::Model;
+use table_updates::Update;
 use word_layout::Layout;
 
 /// Why a catalog is not shown.
@@ -51,11 +57,12 @@ impl From<AllocError> for NotShown {
     }
 }
 
-/// The one writer of a table, and the catalogs that it showed.
+/// The one writer of a table, the catalogs that it showed, and the code that was noted.
 #[derive(Drop)]
 pub struct Follower<'a> {
     writer: Writer<HalfOpen>,
     catalogs: Catalogs<'a>,
+    codes: NotedCodes<'a>,
 }
 
 impl<'a> Model for Follower<'a> {
@@ -63,7 +70,11 @@ impl<'a> Model for Follower<'a> {
 
     ghost Value = { Followed };
 
-    ghost view = { λ f. record { writer = f.writer; catalogs = f.catalogs.items } };
+    ghost view = { λ f. record {
+      writer = f.writer;
+      catalogs = f.catalogs.items;
+      noted = f.codes.items;
+    } };
 
     ghost invariant = { λ f. IsFollowed f.writer f.catalogs.items };
 }
@@ -76,6 +87,19 @@ fn begin_replacing(writer: &mut Writer<HalfOpen>, items: &[Item]) -> Result<u64,
     ensures refused { IfErr result (RefusesReplacing half_open writer.old items.now) }
 {
     writer.begin_replace(items)?.leave();
+    // (no flip is made yet)
+    Ok(writer.generation())
+}
+
+/// Begins an update that changes nothing of the table, and returns the generation before it.
+#[tactic(auto, using(crate::proofs::FollowingLemmas::moment_begun_so))]
+fn begin_moment(alloc: Global, writer: &mut Writer<HalfOpen>) -> Result<u64, Refusal>
+    ensures begun { IfOk result (λ previous. BeginsMoment writer.old writer.new previous) }
+    ensures unchanged { OnErr result (writer.new ≡ writer.old) }
+    ensures refused { IfErr result (RefusesMoment writer.old) }
+{
+    let update = Update::batch(alloc, &[], &[])?;
+    writer.begin(update)?.leave();
     // (no flip is made yet)
     Ok(writer.generation())
 }
@@ -125,7 +149,7 @@ impl<'a> Follower<'a> {
         ensures may { IfOk result (λ r. MayOpenWith l start readers) }
         ensures writer { IfOk result
             (λ r. r.0.writer ≡ new_writer r.0.writer.place l start readers) }
-        ensures catalogs { IfOk result (λ r. r.0.catalogs ≡ []) }
+        ensures catalogs { IfOk result (λ r. (r.0.catalogs ≡ []) × (r.0.noted ≡ [])) }
         ensures readers { IfOk result (λ r. (vec_len r.1 ≡ readers)
             × All (λ x. x ≡ new_reader r.0.writer.place (first_knowledge (Start l start)))
             r.1.items) }
@@ -133,7 +157,15 @@ impl<'a> Follower<'a> {
     {
         let (writer, readers) = open::<HalfOpen>(alloc, l, start, readers)?;
         let catalogs = Catalogs::new(alloc);
-        Ok((Follower { writer, catalogs }, readers))
+        let codes = NotedCodes::new(alloc);
+        Ok((
+            Follower {
+                writer,
+                catalogs,
+                codes,
+            },
+            readers,
+        ))
     }
 
     /// Shows the regions of a catalog in place of those in the table, in one whole update, and
@@ -169,19 +201,76 @@ impl<'a> Follower<'a> {
         self.catalogs.of(moment)
     }
 
+    /// Notes code that the caller knows of itself, with `since`, the caller's stamp of the moment
+    /// from which on it is there. The table stays as it is, in an update of its own, from whose
+    /// generation on the code is there. Returns this generation.
+    ///
+    /// Refused by [`Refusal::SequenceSpent`] and [`Refusal::OutOfMemory`]; a refusal changes
+    /// nothing.
+    pub fn note(&mut self, alloc: Global, code: NotedCode<'a>, since: u64) -> Result<u64, Refusal>
+        ensures noted { IfOk result (Notes code.entry since self.old self.new) }
+        ensures unchanged { OnErr result (self.new ≡ self.old) }
+        ensures refused { IfErr result (RefusesMoment self.old.writer) }
+    {
+        self.codes.reserve_one()?;
+        let previous = begin_moment(alloc, &mut self.writer)?;
+        self.codes.keep_reserved(DatedCode {
+            code,
+            begun: NotedTime { previous, since },
+            gone: None,
+        });
+        Ok(self.writer.finish())
+    }
+
+    /// Notes that the code which begins at an address is gone, with the caller's stamp of that
+    /// moment; of several the one noted last. Returns the generation from which on it is gone;
+    /// none, and nothing changes, if no code begins there that was not gone already.
+    ///
+    /// Refused as [`Follower::note`] is.
+    pub fn note_gone(
+        &mut self,
+        alloc: Global,
+        start: u64,
+        since: u64,
+    ) -> Result<Option<u64>, Refusal>
+        ensures gone { IfOk result (NotesGoneAny start since self.old self.new) }
+        ensures unchanged { OnErr result (self.new ≡ self.old) }
+        ensures refused { IfErr result (RefusesMoment self.old.writer) }
+    {
+        let Some(place) = self.codes.place_at(start) else {
+            return Ok(None);
+        };
+        let previous = begin_moment(alloc, &mut self.writer)?;
+        self.codes.end(place, NotedTime { previous, since });
+        Ok(Some(self.writer.finish()))
+    }
+
+    /// The code that was noted and there at a moment, and has the address: of several the one noted
+    /// last. It goes before what the catalog of the moment has.
+    pub fn code_at(&self, moment: Moment, addr: u64) -> Option<&DatedCode<'a>>
+        ensures { option_copied result ≡ noted_at self.now.noted moment addr }
+    {
+        self.codes.at(moment, addr)
+    }
+
     /// Drops the oldest catalog if the next one was shown at or before the moment, and returns its
     /// tag. No answer of a generation from this one on needs it, nor a stamp that is not below.
+    ///
+    /// Code that was gone by the moment is dropped, too.
     pub fn forget(&mut self, moment: Moment) -> Option<u64>
         ensures forgotten { Forgets moment self.old.catalogs self.new.catalogs result }
+        ensures noted { self.new.noted ≡ without_gone moment self.old.noted }
+        ensures same { AreSameFrom moment self.old.noted self.new.noted }
         ensures writer { self.new.writer ≡ self.old.writer }
     {
+        self.codes.forget(moment);
         self.catalogs.forget(moment)
     }
 
     /// Drops the oldest catalog, if there is one, and returns its tag.
     pub fn drop_oldest(&mut self) -> Option<u64>
         ensures dropped { DropsOldest self.old.catalogs self.new.catalogs result }
-        ensures writer { self.new.writer ≡ self.old.writer }
+        ensures others { (self.new.writer ≡ self.old.writer) × (self.new.noted ≡ self.old.noted) }
     {
         self.catalogs.drop_oldest()
     }
@@ -191,9 +280,29 @@ impl<'a> Follower<'a> {
         ensures added { IfOk result (AddsReader self.old.writer self.new.writer) }
         ensures refusal { IfErr result (RefusesReader self.old.writer) }
         ensures unchanged { OnErr result (self.new ≡ self.old) }
-        ensures catalogs { self.new.catalogs ≡ self.old.catalogs }
+        ensures others { (self.new.catalogs ≡ self.old.catalogs) × (self.new.noted ≡ self.old.noted) }
     {
         self.writer.add_reader()
+    }
+
+    /// How many readers the table has.
+    pub fn readers(&self) -> u32
+        ensures { result ≡ self.now.writer.readers }
+    {
+        self.writer.readers()
+    }
+
+    /// Goes on with the nodes of a layout ([`Writer::move_to`]), and hands out the readers of the
+    /// new words. The old readers keep the table as it is: they see no catalog that is shown from
+    /// now on. The catalogs stay, each at its generation and its stamp.
+    pub fn move_to(&mut self, alloc: Global, l: Layout) -> Result<Vec<Reader<HalfOpen>>, Refusal>
+        ensures enlarged { IfOk result
+            (λ all. Enlarges self.old.writer l self.new.writer all.items) }
+        ensures refusal { IfErr result (RefusesEnlarging self.old.writer l) }
+        ensures unchanged { OnErr result (self.new ≡ self.old) }
+        ensures others { (self.new.catalogs ≡ self.old.catalogs) × (self.new.noted ≡ self.old.noted) }
+    {
+        self.writer.move_to(alloc, l)
     }
 
     /// Gives up a reader of the table, and counts one fewer ([`Writer::take_back`]).
@@ -201,7 +310,7 @@ impl<'a> Follower<'a> {
         requires { 0 < self.old.writer.readers }
         ensures writer { self.new.writer
             ≡ record self.old.writer { readers = self.old.writer.readers - 1 } }
-        ensures catalogs { self.new.catalogs ≡ self.old.catalogs }
+        ensures others { (self.new.catalogs ≡ self.old.catalogs) × (self.new.noted ≡ self.old.noted) }
     {
         self.writer.take_back(reader);
     }

@@ -17,10 +17,18 @@
 //!
 //! A reader's generations never fall: once each has passed 2, no answer needs A, which
 //! [`Follower::forget`] then drops.
+//!
+//! The caller may know more than a listing: a record of perf gives the exact length of a program,
+//! and programs come and go between two listings. [`Follower::note`] keeps such code, with a
+//! generation of its own, and it goes before the catalogs until [`Follower::note_gone`].
 #![tactic(auto)]
 
 pub mod catalogs;
+pub mod code;
 pub mod follower;
+pub mod noted;
 
 pub use catalogs::{Catalogs, DatedCatalog, Moment, SharedCatalog};
+pub use code::NotedCode;
 pub use follower::{Follower, NotShown};
+pub use noted::{DatedCode, NotedCodes, NotedTime};

@@ -34,6 +34,7 @@ pub use Rattle.latch_table.specs.Readers.{ReaderState}
 pub use Rattle.latch_table.specs.Replacing.{RefusesReplacing}
 pub use Rattle.latch_table.specs.Writers.{new_writer, WriterState}
 pub use Rattle.latch_table.specs.declared.readers.Try.TheVariants.{Answered}
+pub use Rattle.follower.specs.Following.{Followed}
 pub use Rattle.latchsym_ffi.specs.Answers.{has_number}
 pub use Rattle.latchsym_ffi.specs.Batches.{told_at, told_of}
 pub use Rattle.latchsym_ffi.specs.Enlarging.{RefusesNodes}

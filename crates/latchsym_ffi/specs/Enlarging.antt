@@ -13,9 +13,13 @@ use Rattle.latchsym_ffi.specs.Handles.{HoldsReader}
 use Rattle.latchsym_ffi.specs.Kinds.{reader_kind}
 use Rattle.latchsym_ffi.specs.Tables.{IsWide}
 
--- as many handles as the writer has readers, and a reader in each
+-- so many handles, and a reader in each
+abbrev pub AreReaders : ℕ → List Handle → Type 0
+AreReaders count handles = (length handles ≡ count) × All (λ h. h.kind ≡ reader_kind) handles
+
+-- as many as the writer has readers
 abbrev pub AreItsReaders : WriterState → List Handle → Type 0
-AreItsReaders w handles = (length handles ≡ w.readers) × All (λ h. h.kind ≡ reader_kind) handles
+AreItsReaders w handles = AreReaders w.readers handles
 
 -- the writer goes on with this many nodes, and with these readers
 pub record IsMoved (nodes : ℕ) (w w' : WriterState) (readers : List ReaderState) : Type 0 where

@@ -30,9 +30,9 @@ AreClosed w readers = (w.kind ≡ 0) × All (λ h. h.kind ≡ 0) readers
 abbrev pub first_reader : TableId → Layout → ReaderState
 first_reader place l = new_reader place (first_knowledge (Start l 0))
 
--- a follower that has shown no catalog
+-- a follower that has shown no catalog and was told of no code
 abbrev pub first_follower : WriterState → Content
-first_follower w = Follower (record { writer = w; catalogs = [] })
+first_follower w = Follower (record { writer = w; catalogs = []; noted = [] })
 
 -- what changes a table, by its writer
 abbrev pub first_content : Owner → WriterState → Content

@@ -93,7 +93,8 @@ pub extern "C" fn latchsym_writer_add_reader(
 /// Opens a closed handle with one more reader of a follower's table.
 fn add_following_in(alloc: Global, follower: &mut Follower<'static>, out: &mut Handle) -> u32
     ensures added { result ≡ 0 → AddsHandle out.new follower.old.writer follower.new.writer
-        × (follower.new.catalogs ≡ follower.old.catalogs) }
+        × (follower.new.catalogs ≡ follower.old.catalogs)
+        × (follower.new.noted ≡ follower.old.noted) }
     ensures unchanged { result ≢ 0 → (follower.new ≡ follower.old) × (out.new ≡ out.old) }
     ensures why { result ≢ 0
         → (e : Why) × (result ≡ refusal_number e) × RefusesReader follower.old.writer e }
@@ -110,7 +111,7 @@ pub extern "C" fn latchsym_follower_add_reader(
 ) -> u32
     ensures added { result ≡ 0 → (follower.old.kind ≡ follower_kind) × (out.old.kind ≡ 0)
         × FollowerGoes (λ f f'. AddsHandle out.new f.writer f'.writer
-        × (f'.catalogs ≡ f.catalogs)) follower.old follower.new }
+        × (f'.catalogs ≡ f.catalogs) × (f'.noted ≡ f.noted)) follower.old follower.new }
     ensures unchanged { result ≢ 0 → Stays follower.old follower.new × (out.new ≡ out.old) }
     ensures why { (f : Followed) → HoldsFollower f follower.old → out.old.kind ≡ 0 → result ≢ 0
         → (e : Why) × (result ≡ refusal_number e) × RefusesReader f.writer e }

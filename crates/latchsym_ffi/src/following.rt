@@ -5,8 +5,10 @@ ghost use Rattle.follower.specs.declared.catalogs.Moment.TheVariants.{Generation
 ghost use Rattle.follower.specs.Catalogs.{DropsOldest};
 ghost use Rattle.follower.specs.Following.{Followed, Shows};
 ghost use Rattle.modules.specs.Entries.{CatalogEntries};
-ghost use Rattle.latchsym_ffi.specs.Finding.{known_as, known_at, known_call};
-ghost use Rattle.latchsym_ffi.specs.Following.{FindsAt, ForgetsBy, RefusesShowing, TellsTag};
+ghost use Rattle.std.specs.Option.{option_copied};
+ghost use Rattle.latchsym_ffi.specs.declared.finding.AddressUse.TheVariants.{AsItIs, AsReturn};
+ghost use Rattle.latchsym_ffi.specs.Following.{FindsAt, ForgetsBy, IsToldOf, RefusesShowing};
+ghost use Rattle.latchsym_ffi.specs.Following.{TellsTag, noted_as};
 ghost use Rattle.latchsym_ffi.specs.Handles.{FollowerGoes, HoldsCatalog, HoldsFollower};
 ghost use Rattle.latchsym_ffi.specs.Handles.{RefusesOther, Stays};
 ghost use Rattle.latchsym_ffi.specs.Kinds.{catalog_kind, follower_kind};
@@ -15,7 +17,7 @@ use crate::answers::{BAD_STAMP, DONE, FORGOTTEN, NOTHING};
 use crate::calls::{with_catalog, with_follower};
 use crate::finding::{AddressUse, CatalogSymbol, name_places, seek_as};
 use crate::handles::Handle;
-use follower::{Follower, Moment, NotShown, SharedCatalog};
+use follower::{DatedCode, Follower, Moment, NotShown, NotedCode, SharedCatalog};
 
 /// Shows a catalog, and writes the generation of its update.
 fn show(
@@ -92,7 +94,39 @@ pub extern "C" fn latchsym_follower_show(
     result
 }
 
-/// Looks an address up, or the call before it, in the catalog that is current at a moment.
+/// The code that was noted and there at a moment, of an address or of the byte before a return
+/// address.
+fn noted_as<'f>(
+    follower: &'f Follower<'static>,
+    moment: Moment,
+    taken: AddressUse,
+    addr: u64,
+) -> Option<&'f DatedCode<'static>>
+    ensures { option_copied result ≡ noted_as taken follower.now.noted moment addr }
+{
+    match taken {
+        AddressUse::AsItIs => follower.code_at(moment, addr),
+        AddressUse::AsReturn => follower.code_at(moment, addr.checked_sub(1)?),
+    }
+}
+
+/// Writes what is known of an address in noted code: a module of no catalog, and the places of the
+/// caller's own names.
+fn name_noted(code: &NotedCode<'static>, addr: u64, out: &mut CatalogSymbol) -> u32
+    ensures { IsToldOf code.now addr result out.new }
+{
+    *out = CatalogSymbol {
+        module_number: u64::MAX,
+        offset: addr.saturating_sub(code.start),
+        size: code.len,
+        name: code.name,
+        module: code.owner,
+    };
+    DONE
+}
+
+/// Looks an address up, or the call before it, at a moment: in the code that was noted, and else in
+/// the current catalog.
 #[inline(always)]
 fn find_at(
     follower: &mut Handle,
@@ -101,19 +135,21 @@ fn find_at(
     addr: u64,
     out: &mut CatalogSymbol,
 ) -> u32
-    ensures { FindsAt moment (known_as taken) addr follower.old follower.new result
-        out.old out.new }
+    ensures { FindsAt moment taken addr follower.old follower.new result out.old out.new }
 {
-    with_follower!(follower, |open| match open.catalog_at(moment) {
-        Some(dated) => {
-            let catalog = dated.catalog.indexed();
-            name_places(catalog.catalog(), seek_as(taken, catalog, addr), out)
-        }
-        None => FORGOTTEN,
+    with_follower!(follower, |open| match noted_as(open, moment, taken, addr) {
+        Some(noted) => name_noted(&noted.code, addr, out),
+        None => match open.catalog_at(moment) {
+            Some(dated) => {
+                let catalog = dated.catalog.indexed();
+                name_places(catalog.catalog(), seek_as(taken, catalog, addr), out)
+            }
+            None => FORGOTTEN,
+        },
     })
 }
 
-/// Looks an address up in the catalog that is current at a generation.
+/// Looks an address up in what is current at a generation.
 #[unsafe(no_mangle)]
 pub extern "C" fn latchsym_follower_find(
     follower: &mut Handle,
@@ -121,7 +157,7 @@ pub extern "C" fn latchsym_follower_find(
     addr: u64,
     out: &mut CatalogSymbol,
 ) -> u32
-    ensures { FindsAt (Generation generation) known_at addr follower.old follower.new result
+    ensures { FindsAt (Generation generation) AsItIs addr follower.old follower.new result
         out.old out.new }
 {
     find_at(
@@ -133,7 +169,7 @@ pub extern "C" fn latchsym_follower_find(
     )
 }
 
-/// Looks a return address up in the catalog that is current at a generation.
+/// Looks a return address up in what is current at a generation.
 #[unsafe(no_mangle)]
 pub extern "C" fn latchsym_follower_find_caller(
     follower: &mut Handle,
@@ -141,7 +177,7 @@ pub extern "C" fn latchsym_follower_find_caller(
     addr: u64,
     out: &mut CatalogSymbol,
 ) -> u32
-    ensures { FindsAt (Generation generation) known_call addr follower.old follower.new result
+    ensures { FindsAt (Generation generation) AsReturn addr follower.old follower.new result
         out.old out.new }
 {
     find_at(
@@ -153,7 +189,7 @@ pub extern "C" fn latchsym_follower_find_caller(
     )
 }
 
-/// Looks an address up in the catalog that is current at a stamp.
+/// Looks an address up in what is current at a stamp.
 #[unsafe(no_mangle)]
 pub extern "C" fn latchsym_follower_find_since(
     follower: &mut Handle,
@@ -161,13 +197,12 @@ pub extern "C" fn latchsym_follower_find_since(
     addr: u64,
     out: &mut CatalogSymbol,
 ) -> u32
-    ensures { FindsAt (Stamp at) known_at addr follower.old follower.new result
-        out.old out.new }
+    ensures { FindsAt (Stamp at) AsItIs addr follower.old follower.new result out.old out.new }
 {
     find_at(follower, Moment::Stamp(at), AddressUse::AsItIs, addr, out)
 }
 
-/// Looks a return address up in the catalog that is current at a stamp.
+/// Looks a return address up in what is current at a stamp.
 #[unsafe(no_mangle)]
 pub extern "C" fn latchsym_follower_find_caller_since(
     follower: &mut Handle,
@@ -175,8 +210,7 @@ pub extern "C" fn latchsym_follower_find_caller_since(
     addr: u64,
     out: &mut CatalogSymbol,
 ) -> u32
-    ensures { FindsAt (Stamp at) known_call addr follower.old follower.new result
-        out.old out.new }
+    ensures { FindsAt (Stamp at) AsReturn addr follower.old follower.new result out.old out.new }
 {
     find_at(follower, Moment::Stamp(at), AddressUse::AsReturn, addr, out)
 }
@@ -230,7 +264,7 @@ pub extern "C" fn latchsym_follower_forget_since(
 #[unsafe(no_mangle)]
 pub extern "C" fn latchsym_follower_close(follower: &mut Handle, tag: &mut u64) -> u32
     ensures dropped { result ≡ 0 → FollowerGoes (λ f f'. DropsOldest f.catalogs f'.catalogs
-        (Some tag.new) × (f'.writer ≡ f.writer)) follower.old follower.new }
+        (Some tag.new) × (f'.writer ≡ f.writer) × (f'.noted ≡ f.noted)) follower.old follower.new }
     ensures closed { (f : Followed) → HoldsFollower f follower.old → result ≢ 0
         → (result ≡ 22) × (f.catalogs ≡ []) × (follower.new.kind ≡ 0) × (tag.new ≡ tag.old) }
     ensures other { RefusesOther follower_kind follower.old follower.new tag.old tag.new result }

@@ -33,6 +33,7 @@ mod handles;
 mod listings;
 mod lookups;
 mod loose;
+mod noting;
 mod number_texts;
 mod open_catalogs;
 mod opening;

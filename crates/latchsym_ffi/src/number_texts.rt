@@ -25,7 +25,7 @@ pub extern "C" fn latchsym_place_of_text(number: u32, out: &mut StaticBytes)
 /// The version of the library: 10000 of each major, 100 of each minor and 1 of each patch number.
 #[unsafe(no_mangle)]
 pub extern "C" fn latchsym_version() -> u32
-    ensures { result ≡ 10200 }
+    ensures { result ≡ 10300 }
 {
-    10200
+    10300
 }

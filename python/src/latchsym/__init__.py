@@ -45,7 +45,7 @@ from ._history import History
 from ._library import lib as _lib
 from ._table import Found, Reader, Step, Table, Writer
 
-__version__ = "1.2.0"
+__version__ = "1.3.0"
 
 
 def library_version() -> int:

@@ -7,9 +7,9 @@ import os
 import threading
 import time
 from contextlib import ExitStack
-from ctypes import c_uint64
+from ctypes import addressof, c_uint64, create_string_buffer
 from pathlib import Path
-from typing import Iterable, List, NamedTuple, Tuple
+from typing import Any, Iterable, List, NamedTuple, Tuple
 
 from . import _library as it
 from ._buffers import Closing
@@ -30,6 +30,11 @@ def _loads(modules: bytes) -> Loads:
     and go while it stays loaded."""
     lines = (line.split() for line in modules.splitlines())
     return [(*words[:2], *words[4:]) for words in lines]
+
+
+def _stamp(time_ns: int | None) -> int:
+    """A time that was given, or now."""
+    return time.monotonic_ns() if time_ns is None else word(time_ns, "time_ns")
 
 
 class Sample(NamedTuple):
@@ -91,11 +96,13 @@ class Follower(Closing):
         self._polling = threading.RLock()
         self._lock = threading.RLock()
         self._shown: dict[int, Catalog] = {}  # by their tags; each keeps the bytes of its listings
+        # the bytes of the names of noted code, its address, and from which generation on it is gone
+        self._noted: list[tuple[Any, int, int | None]] = []
         self._newest = 0
-        handles = (it.Handle * 2)()
-        self._handle = handles[1]
-        check(lib.latchsym_follower_open(word(nodes, "nodes", 32), self._handle, handles, 1))
-        self._reader = Reader(handles, handles[0], lib.latchsym_reader_close)
+        self._handles = (it.Handle * 2)()
+        self._handle = self._handles[1]
+        check(lib.latchsym_follower_open(word(nodes, "nodes", 32), self._handle, self._handles, 1))
+        self._reader = Reader(self._handles, self._handles[0], lib.latchsym_reader_close)
         self.poll()
         warn_of(self._shown[self._newest].counts, self._paths, 3)
 
@@ -106,7 +113,7 @@ class Follower(Closing):
         rights, are warned of and not taken: those shown stay. (Of a listing that is cut after
         `_etext` nothing is noted.) One call polls at a time: a second one waits for it and then
         reads for itself, so that no older listing is shown over a newer one. New regions take nodes
-        beside old ones.
+        beside old ones: where it raises for a full table, call `enlarge` and poll again.
         """
         with self._polling, ExitStack() as refused:
             now, seen = time.monotonic(), self._watch()
@@ -187,6 +194,38 @@ class Follower(Closing):
         perf gives it with CLOCK_MONOTONIC."""
         return self._name(lib.latchsym_follower_find_since, word(time_ns, "time_ns"), address)
 
+    def note(
+        self, address: int, length: int, name: str, module: str = "bpf", time_ns: int | None = None
+    ) -> int:
+        """Notes that code is there, such as a program that was loaded: so many bytes from the
+        address on have this name, from a time of `time.monotonic_ns` on, which is now if none is
+        given, and from the generation returned on. Until it is noted gone it is found before what
+        the listings have; of several the one noted last."""
+        code, generation = it.Code(word(address, "address"), word(length, "length")), c_uint64()
+        texts = [create_string_buffer(it.encoded(text)) for text in (name, module)]
+        for place, text in zip((code.name, code.module), texts):
+            place.at, place.len = addressof(text), len(text) - 1
+        with self._lock:
+            check(lib.latchsym_follower_note(self._handle, code, _stamp(time_ns), generation), self)
+            self._noted.append((texts, code.addr, None))
+        return generation.value
+
+    def note_gone(self, address: int, time_ns: int | None = None) -> int | None:
+        """Notes that the code noted last of those that begin at the address is gone. Returns the
+        generation from which on it is, or None where no such code was there."""
+        address, generation = word(address, "address"), c_uint64()
+        with self._lock:
+            number = lib.latchsym_follower_note_gone(
+                self._handle, address, _stamp(time_ns), generation
+            )
+            if number == it.NOTHING:
+                return None
+            check(number, self)
+            known = [(at, gone) for _, at, gone in self._noted]
+            place = len(known) - 1 - known[::-1].index((address, None))
+            self._noted[place] = (self._noted[place][0], address, generation.value)
+        return generation.value
+
     def _name(self, find: it.Call, moment: int, address: int) -> Symbol | None:
         address = word(address, "address")
         with self._lock:
@@ -196,9 +235,19 @@ class Follower(Closing):
         count = len(self._shown)
         return f"<Follower of {self._paths[0]}{f': listings {count}' if count else ', closed'}>"
 
+    def enlarge(self, nodes: int) -> None:
+        """Goes on with so many nodes of the table; its listings and samples stay."""
+        nodes = word(nodes, "nodes", 32)
+        with self._lock, self._reader._lock:
+            check(lib.latchsym_follower_enlarge(nodes, self._handle, self._handles, 1), self)
+
     def forget_below(self, generation: int) -> None:
-        """Closes each listing that no sample of this generation or a later one needs."""
-        self._close_each(lib.latchsym_follower_forget, word(generation, "generation"))
+        """Closes each listing, and forgets code, that no sample of this generation or a later one
+        needs."""
+        generation = word(generation, "generation")
+        with self._lock:
+            self._close_each(lib.latchsym_follower_forget, generation)
+            self._noted = [one for one in self._noted if one[2] is None or generation < one[2]]
 
     def close(self) -> None:
         """Closes the table and all listings."""

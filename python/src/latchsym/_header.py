@@ -42,6 +42,7 @@ class ViewSymbol(Structure): _fields_ = [("addr", c_uint64), ("place", c_size_t)
 class ViewRegion(Structure): _fields_ = [("a", c_uint64), ("b", c_uint64), ("module_number", c_uint64), ("module", Place), ("symbols", c_void_p), ("symbols_len", c_size_t), ("addresses", c_void_p), ("addresses_len", c_size_t)]
 class View(Structure): _fields_ = [("regions", c_void_p), ("regions_len", c_size_t)]
 class Sizes(Structure): _fields_ = [("regions", c_size_t), ("symbols", c_size_t)]
+class Code(Structure): _fields_ = [("addr", c_uint64), ("len", c_uint64), ("name", Place), ("module", Place)]
 
 # what each call takes, and whether it returns a number
 CALLS = {
@@ -82,11 +83,14 @@ CALLS = {
     "latchsym_reader_close": ([POINTER(Handle)], False),
     "latchsym_follower_open": ([c_uint32, POINTER(Handle), POINTER(Handle), c_size_t], True),
     "latchsym_follower_add_reader": ([POINTER(Handle), POINTER(Handle)], True),
+    "latchsym_follower_enlarge": ([c_uint32, POINTER(Handle), POINTER(Handle), c_size_t], True),
     "latchsym_follower_show": ([POINTER(Handle), POINTER(Handle), c_uint64, c_uint64, POINTER(c_uint64)], True),
     "latchsym_follower_find": ([POINTER(Handle), c_uint64, c_uint64, POINTER(Symbol)], True),
     "latchsym_follower_find_caller": ([POINTER(Handle), c_uint64, c_uint64, POINTER(Symbol)], True),
     "latchsym_follower_find_since": ([POINTER(Handle), c_uint64, c_uint64, POINTER(Symbol)], True),
     "latchsym_follower_find_caller_since": ([POINTER(Handle), c_uint64, c_uint64, POINTER(Symbol)], True),
+    "latchsym_follower_note": ([POINTER(Handle), POINTER(Code), c_uint64, POINTER(c_uint64)], True),
+    "latchsym_follower_note_gone": ([POINTER(Handle), c_uint64, c_uint64, POINTER(c_uint64)], True),
     "latchsym_follower_forget": ([POINTER(Handle), c_uint64, POINTER(c_uint64)], True),
     "latchsym_follower_forget_since": ([POINTER(Handle), c_uint64, POINTER(c_uint64)], True),
     "latchsym_follower_close": ([POINTER(Handle), POINTER(c_uint64)], True),
@@ -97,5 +101,5 @@ latchsym_catalog_open latchsym_catalog_find_many latchsym_catalog_name
 latchsym_catalog_place_of_name latchsym_catalog_find_name latchsym_catalog_flatten
 latchsym_catalog_close latchsym_table_open latchsym_writer_begin_batch latchsym_writer_begin_replace
 latchsym_catalog_items latchsym_table_enlarge latchsym_writer_close latchsym_reader_find_name
-latchsym_reader_close latchsym_follower_open
+latchsym_reader_close latchsym_follower_open latchsym_follower_enlarge latchsym_follower_note
 """.split())
