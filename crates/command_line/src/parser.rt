@@ -9,7 +9,7 @@ use clap::{Arg, ArgAction, Command};
 use std::alloc::{AllocError, Global};
 
 /// The version that `--version` prints.
-const VERSION: &str = "1.2.0";
+const VERSION: &str = "1.3.0";
 
 /// What the help ends with.
 const STATUSES: &str = "\

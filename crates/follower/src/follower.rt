@@ -280,7 +280,8 @@ impl<'a> Follower<'a> {
         ensures added { IfOk result (AddsReader self.old.writer self.new.writer) }
         ensures refusal { IfErr result (RefusesReader self.old.writer) }
         ensures unchanged { OnErr result (self.new ≡ self.old) }
-        ensures others { (self.new.catalogs ≡ self.old.catalogs) × (self.new.noted ≡ self.old.noted) }
+        ensures others { (self.new.catalogs ≡ self.old.catalogs)
+            × (self.new.noted ≡ self.old.noted) }
     {
         self.writer.add_reader()
     }
@@ -300,7 +301,8 @@ impl<'a> Follower<'a> {
             (λ all. Enlarges self.old.writer l self.new.writer all.items) }
         ensures refusal { IfErr result (RefusesEnlarging self.old.writer l) }
         ensures unchanged { OnErr result (self.new ≡ self.old) }
-        ensures others { (self.new.catalogs ≡ self.old.catalogs) × (self.new.noted ≡ self.old.noted) }
+        ensures others { (self.new.catalogs ≡ self.old.catalogs)
+            × (self.new.noted ≡ self.old.noted) }
     {
         self.writer.move_to(alloc, l)
     }
@@ -310,7 +312,8 @@ impl<'a> Follower<'a> {
         requires { 0 < self.old.writer.readers }
         ensures writer { self.new.writer
             ≡ record self.old.writer { readers = self.old.writer.readers - 1 } }
-        ensures others { (self.new.catalogs ≡ self.old.catalogs) × (self.new.noted ≡ self.old.noted) }
+        ensures others { (self.new.catalogs ≡ self.old.catalogs)
+            × (self.new.noted ≡ self.old.noted) }
     {
         self.writer.take_back(reader);
     }

@@ -1,6 +1,6 @@
 //! Code that the caller noted, by generation and by stamp.
 
-ghost use Rattle.std.specs.Prelude.{◌≡◌, ◌<◌, [], ◌∷◌, nat_le, IfSome, OnOk, length, position, slice_get};
+ghost use Rattle.std.specs.Prelude.{◌≡◌, ◌<◌, [], ◌∷◌, IfSome, OnOk, length, position, slice_get};
 ghost use Rattle.std.specs.Prelude.{slice_set, vec_capacity, vec_len};
 ghost use Rattle.std.specs.Option.{option_copied};
 ghost use Rattle.follower.specs.declared.noted.DatedCode.{DatedCode as Dated};

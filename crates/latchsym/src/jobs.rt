@@ -14,7 +14,6 @@ ghost use Rattle.latchsym.specs.Files.{IsOpenedFor};
 ghost use Rattle.latchsym.specs.Files.{IsOpenedIfGiven};
 ghost use Rattle.latchsym.specs.Files.{or_standard};
 ghost use Rattle.latchsym.specs.Outcomes.{AnswersSources, ComesTo, IsLookedUpBy, IsOutcome};
-ghost use Rattle.latchsym.specs.Outcomes.{IsLogAt, IsLogBy, IsOutcomeBy};
 ghost use Rattle.latchsym.specs.Outcomes.{IsOutcomeOfLog, IsOutcomeOfRun, query_of, seen_first};
 ghost use Rattle.latchsym.specs.Reasons.{error_if_given, error_of_listings, error_of_request};
 
