@@ -38,7 +38,7 @@ pub(crate) fn with_room<'s>(
 /// and adds them to a list.
 pub(crate) fn start_writers<'s, E, R: Threads + Wait + Sync, G: Gate + Sync, W: Changer + Sync>(
     scope: &Scope<'s, E>,
-    context: &'s ThreadContext<'s, R, G>,
+    context: &ThreadContext<'s, R, G>,
     changer: &'s W,
     changes: &[Vec<Change>],
     lists: Vec<Changing<'s>>,
@@ -61,7 +61,7 @@ pub(crate) fn start_writers<'s, E, R: Threads + Wait + Sync, G: Gate + Sync, W: 
 /// Starts the threads of lists of keys, one for each reader, and adds them to a list.
 pub(crate) fn start_readers<'s, E, R: Threads + Wait + Sync, G: Gate + Sync, W: Changer + Sync>(
     scope: &Scope<'s, E>,
-    context: &'s ThreadContext<'s, R, G>,
+    context: &ThreadContext<'s, R, G>,
     changer: &'s W,
     mut seats: Vec<Reader<HalfOpen>>,
     keys: &'s [Vec<u64>],

@@ -58,9 +58,12 @@ fn run_threads<R: Threads + Wait + Sync, G: Gate + Sync, W: Changer + Sync>(
     ensures heard { IfOk result (λ r.
         AreHeard (W.table changer.now) keys.now r.heard.items) }
 {
+    let rt = context.rt;
+    let alloc = context.alloc;
+    let gate = context.gate;
     thread::scope(
         thread::scope_env(),
-        context.rt,
+        rt,
         |scope| -> Result<ThreadResults, AllocError>
             requires beside { All (λ r. W.table changer.now ≡ Some r.place) beside.items }
             requires seats { All (IsNewReaderOf (W.table changer.now)) seats.items }
@@ -72,16 +75,16 @@ fn run_threads<R: Threads + Wait + Sync, G: Gate + Sync, W: Changer + Sync>(
             ensures heard { IfOk result (λ r.
                 AreHeard (W.table changer.entry.now) keys.entry.now r.heard.items) }
         {
-            let alloc = context.alloc;
             let lists = with_room(alloc, changes)?;
             let made = Vec::with_capacity(alloc, changes.len())?;
             let heard = Vec::with_capacity(alloc, keys.len())?;
             let writers = Vec::with_capacity(alloc, changes.len())?;
             let readers = Vec::with_capacity(alloc, keys.len())?;
-            let writers = start_writers(scope, context, changer, changes, lists, beside, writers);
-            let readers = start_readers(scope, context, changer, seats, keys, readers);
-            let made = join_writers(context.rt, changer, changes, writers, made);
-            let heard = join_readers(context.rt, alloc, changer, keys, readers, heard);
+            let context = ThreadContext { rt, alloc, gate };
+            let writers = start_writers(scope, &context, changer, changes, lists, beside, writers);
+            let readers = start_readers(scope, &context, changer, seats, keys, readers);
+            let made = join_writers(rt, changer, changes, writers, made);
+            let heard = join_readers(rt, alloc, changer, keys, readers, heard);
             Ok(ThreadResults { made, heard })
         },
     )

@@ -147,7 +147,8 @@ fn refused(mut outcomes: Outcomes) -> Outcomes
 /// Makes the changes of one list beside a reader of the table, and puts each outcome into its
 /// place.
 fn make_changes<R: Wait, G: Gate, W: Changer>(
-    context: &ThreadContext<'_, R, G>,
+    rt: &R,
+    g: &G,
     changer: &W,
     writer: u32,
     changes: &[Change],
@@ -162,17 +163,11 @@ fn make_changes<R: Wait, G: Gate, W: Changer>(
     let mut outcomes = outcomes;
     let mut seat = seat;
     for place in 0..changes.len() {
-        let (outcome, back) = changer.change(
-            context.rt,
-            context.gate,
-            writer,
-            seat,
-            changes[place],
-        );
+        let (outcome, back) = changer.change(rt, g, writer, seat, changes[place]);
         outcomes[place] = outcome;
         seat = back;
     }
-    context.gate.tell(Point::WriterDone { writer });
+    g.tell(Point::WriterDone { writer });
     ChangeResults {
         outcomes,
         seat: Some(seat),
@@ -199,7 +194,9 @@ fn look_until<R: Wait>(rt: &R, seat: &mut Reader<HalfOpen>, key: u64) -> (Option
 /// Looks the keys of one list up, by a reader of the changer's table.
 #[tactic(auto, using(crate::proofs::FoundLemmas::none_found))]
 fn look_up<R: Wait, G: Gate, W: Changer>(
-    context: &ThreadContext<'_, R, G>,
+    rt: &R,
+    alloc: Global,
+    g: &G,
     _changer: &W,
     reader: u32,
     mut seat: Reader<HalfOpen>,
@@ -209,7 +206,7 @@ fn look_up<R: Wait, G: Gate, W: Changer>(
     ensures { IsHeard (W.table _changer.now) reader keys.now result.answers.items result.ended
         result.seat }
 {
-    let mut answers = Vec::new(context.alloc);
+    let mut answers = Vec::new(alloc);
     for (index, key) in keys.iter().enumerate() {
         if answers.reserve(1).is_err() {
             return LookupResults {
@@ -219,9 +216,9 @@ fn look_up<R: Wait, G: Gate, W: Changer>(
             };
         }
         let place = index as u64;
-        context.gate.tell(Point::ReaderStart { reader, place });
-        let (item, generation) = look_until(context.rt, &mut seat, *key);
-        context.gate.tell(Point::ReaderDone { reader, place });
+        g.tell(Point::ReaderStart { reader, place });
+        let (item, generation) = look_until(rt, &mut seat, *key);
+        g.tell(Point::ReaderDone { reader, place });
         answers.push_reserved(Answer {
             reader,
             place,
@@ -242,7 +239,7 @@ fn look_up<R: Wait, G: Gate, W: Changer>(
 /// once more before.
 pub(crate) fn start_writer<'s, E, R: Threads + Wait + Sync, G: Gate + Sync, W: Changer + Sync>(
     scope: &Scope<'s, E>,
-    context: &'s ThreadContext<'s, R, G>,
+    context: &ThreadContext<'s, R, G>,
     changer: &'s W,
     list: Changing<'s>,
     seat: Option<Reader<HalfOpen>>,
@@ -263,6 +260,8 @@ pub(crate) fn start_writer<'s, E, R: Threads + Wait + Sync, G: Gate + Sync, W: C
         Ok(spare) if !changes.is_empty() => spare,
         _ => return WriterThread::without(changer, changes, outcomes),
     };
+    let rt = context.rt;
+    let g = context.gate;
     let started = Stack::new().stack_size(STACK_SIZE).spawn_scoped_with(
         scope,
         OutcomesOf { changer, changes },
@@ -272,7 +271,7 @@ pub(crate) fn start_writer<'s, E, R: Threads + Wait + Sync, G: Gate + Sync, W: C
             ensures { AreMade (W.table changer.entry.now) (W.opened changer.entry.now)
                 (W.catalog changer.entry.now) changes.entry.now result.outcomes.items
                 result.seat }
-        { make_changes(context, changer, writer, changes, outcomes, seat) },
+        { make_changes(rt, g, changer, writer, changes, outcomes, seat) },
     );
     match started {
         Ok(thread) => WriterThread {
@@ -288,7 +287,7 @@ pub(crate) fn start_writer<'s, E, R: Threads + Wait + Sync, G: Gate + Sync, W: C
 /// Starts the thread of one list of keys, unless it is empty.
 pub(crate) fn start_reader<'s, E, R: Threads + Wait + Sync, G: Gate + Sync, W: Changer + Sync>(
     scope: &Scope<'s, E>,
-    context: &'s ThreadContext<'s, R, G>,
+    context: &ThreadContext<'s, R, G>,
     changer: &'s W,
     reader: u32,
     seat: Reader<HalfOpen>,
@@ -300,6 +299,9 @@ pub(crate) fn start_reader<'s, E, R: Threads + Wait + Sync, G: Gate + Sync, W: C
 {
     let mut thread = None;
     if !keys.is_empty() {
+        let rt = context.rt;
+        let alloc = context.alloc;
+        let g = context.gate;
         let started = Stack::new().stack_size(STACK_SIZE).spawn_scoped_with(
             scope,
             AnswersTo {
@@ -311,7 +313,7 @@ pub(crate) fn start_reader<'s, E, R: Threads + Wait + Sync, G: Gate + Sync, W: C
                 requires { IsNewReaderOf (W.table changer.now) seat }
                 ensures { IsHeard (W.table changer.entry.now) reader keys.entry.now
                     result.answers.items result.ended result.seat }
-            { look_up(context, changer, reader, seat, keys) },
+            { look_up(rt, alloc, g, changer, reader, seat, keys) },
         );
         thread = started.ok();
     }
