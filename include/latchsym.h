@@ -899,8 +899,9 @@ uint32_t latchsym_follower_note_gone(struct latchsym_follower *, uint64_t addr, 
 
 /* Forgets the oldest catalog if the next one was shown at or before a generation, or a stamp, so
  * that no sample from then on needs it, and gives its tag back. The newest stays. Noted code that
- * was gone by then is forgotten by each of these calls. Returns 0; LATCHSYM_NOTHING if no catalog is
- * to be forgotten, or LATCHSYM_BAD_HANDLE: these write nothing. Ask until it is LATCHSYM_NOTHING. */
+ * was gone by then is forgotten by each of these calls. Returns 0; LATCHSYM_NOTHING if no catalog
+ * is to be forgotten, or LATCHSYM_BAD_HANDLE: these write nothing. Ask until it is
+ * LATCHSYM_NOTHING. */
 uint32_t latchsym_follower_forget(struct latchsym_follower *, uint64_t generation, uint64_t *tag);
 uint32_t latchsym_follower_forget_since(struct latchsym_follower *, uint64_t at, uint64_t *tag);
 

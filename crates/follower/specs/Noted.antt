@@ -1,7 +1,6 @@
 -- Code that the caller noted, by generation and by stamp.
-use Rattle.std.specs.Prelude.{◌≡◌, ℕ, ◌+◌, ◌≤◌, Bool, false, not, ◌&&◌, nat_le, nat_eq}
+use Rattle.std.specs.Prelude.{◌≡◌, ℕ, ◌+◌, ◌≤◌, Bool, false, not, ◌&&◌, nat_le, nat_eq, is_none}
 use Rattle.std.specs.Prelude.{List, filter, find, position, slice_get, slice_set, Option, Some}
-use Rattle.std.specs.Prelude.{is_none}
 use Rattle.std.specs.Option.{option_map_or}
 use Rattle.follower.specs.declared.catalogs.Moment.{Moment}
 use Rattle.follower.specs.declared.catalogs.Moment.TheVariants.{Generation, Stamp}
