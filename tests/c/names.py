@@ -160,7 +160,7 @@ def numbers():
     place = no_place()
     lib.latchsym_place_of_text(NOTHING, place)
     assert ctypes.string_at(place.at, place.len) == b"nothing is there\0"
-    assert lib.latchsym_version() == 10200
+    assert lib.latchsym_version() == 10300
 
 numbers()
 folder = pathlib.Path(sys.argv[2])
