@@ -1,5 +1,6 @@
 -- Words of a command line that begin as options do, and are none.
-use Rattle.std.specs.Prelude.{ℕ, Bool, nat_eq, if◌then◌else◌, codes, List, [], insert, position}
+use Rattle.std.specs.Prelude.{ℕ, Bool, ◌||◌, nat_eq, if◌then◌else◌, codes, List, [], insert}
+use Rattle.std.specs.Prelude.{position}
 use Rattle.std.specs.Prelude.{slice_index_or, Option, Some, None, option_and_then}
 use Rattle.std.specs.List.{starts_with}
 use Rattle.std.specs.Option.{option_map_or}
