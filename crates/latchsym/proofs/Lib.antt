@@ -2,3 +2,5 @@
 mod Words
 -- what is known of a log before it is followed
 mod FileTextLemmas
+-- what comes of a log
+mod LogOutcomeLemmas

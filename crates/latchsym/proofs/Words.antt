@@ -16,7 +16,7 @@ pub use Rattle.command_parts.specs.OpenedCatalogs.{known_given, listing_failures
 pub use Rattle.histories.specs.Grammar.{HistoryPart}
 pub use Rattle.histories.specs.ListingsAt.{listing_at}
 pub use Rattle.latchsym.specs.JobNotes.{notes_text, bounds_of_lookup, run_lines, run_line}
-pub use Rattle.latchsym.specs.Outcomes.{AnswersSources, HoldsOfInput, IsLogBy, IsLogOf}
+pub use Rattle.latchsym.specs.Outcomes.{AnswersSources, HoldsOfInput, IsLogOf}
 pub use Rattle.latchsym.specs.Outcomes.{IsLookedUpBy, IsOutcomeOfRun}
 pub use Rattle.latchsym.specs.Reports.{IsConcluded, message_text}
 pub use Rattle.command_line.specs.declared.requests.JobFault.TheVariants.{OutOfMemory}

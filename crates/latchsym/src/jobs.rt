@@ -247,7 +247,12 @@ fn run_annotate<F: FileSource, W: Write, E: Write>(
             let history = &mut listings.kallsyms;
             history_own_offset_engine(alloc, history, time, log, request, outputs)
         }
-        (SymbolSource::History { time }, LogReading::Blocks | LogReading::Followed) => {
+        (SymbolSource::History { time }, LogReading::Blocks) => {
+            let history = &mut listings.kallsyms;
+            history_annotate_engine(alloc, history, time, log, request, outputs)
+        }
+        (SymbolSource::History { time }, LogReading::Followed) => {
+            // (the command line refuses to follow a log beside a history)
             let history = &mut listings.kallsyms;
             history_annotate_engine(alloc, history, time, log, request, outputs)
         }

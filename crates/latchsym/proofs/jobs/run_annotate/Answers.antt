@@ -1,35 +1,54 @@
-use Rattle.latchsym.proofs.Words.{Some, ap, subst, sym, ◌∙◌, with_notes, HoldsOfInput, IsLogOf}
-use Rattle.latchsym.proofs.Words.{SymbolSource}
+use Rattle.latchsym.proofs.Words.{◌∙◌, ap, with_notes}
+use Rattle.latchsym.proofs.LogOutcomeLemmas.{outcome_of}
+use Rattle.latchsym.proofs.jobs.run_annotate.Goals.{in-Listing-Blocks, in-Listing-Followed}
+use Rattle.latchsym.proofs.jobs.run_annotate.Goals.{in-Listing-Whole, in-History-Whole}
+use Rattle.latchsym.proofs.jobs.run_annotate.Goals.{in-History-Blocks, in-History-Followed}
 use Rattle.latchsym.proofs.jobs.run_annotate.Goals as goal
 
-pub returns-in-Listing : goal.returns-in-Listing
-returns-in-Listing g c =
+pub returns : goal.returns
+returns g c =
     let a = c.args in
-    let done = c.annotate_listed in
-    let Of : SymbolSource → _ =
-    λ symbols. IsLogOf g.F.File.Read.remaining (g.F.FileSource.file_text a.files.now)
-    g.W.Write.contents g.E.Write.contents a.outputs.now.writer done.new.outputs.writer
-    a.outputs.now.errors done.new.outputs.errors a.request.sources.now a.request.job.now symbols
-    a.listings.now done.new.listings done.result in
-    subst
-    (λ log. HoldsOfInput (Of a.request.sources.now.symbols) log (Some done.new.log) done.result)
-    (sym c.in-Some.is)
-    (subst (λ symbols. Of symbols c.in-Some.log done.new.log) (sym c.in-Listing.is) done.ensures)
-
-pub returns-in-History : goal.returns-in-History
-returns-in-History g c =
-    let a = c.args in
+    let m = c.match-request in
     let l = a.listings.now in
-    let done = c.annotate_at-done in
-    let Of : SymbolSource → _ =
-    λ symbols. IsLogOf g.F.File.Read.remaining (g.F.FileSource.file_text a.files.now)
-    g.W.Write.contents g.E.Write.contents a.outputs.now.writer done.new.outputs.writer
-    a.outputs.now.errors done.new.outputs.errors a.request.sources.now a.request.job.now symbols
-    l (record l { kallsyms = done.new.history }) c.with_notes.result in
-    subst (λ log. HoldsOfInput (Of a.request.sources.now.symbols) log (Some done.new.log)
-    c.with_notes.result) (sym c.in-Some.is)
-    (subst (λ symbols. Of symbols c.in-Some.log done.new.log) (sym c.in-History.is) (
-      done.result,
-      done.ensures,
-      c.with_notes.ensures ∙ ap (λ n. with_notes n done.result) c.none.ensures,
-    ))
+    let noted = c.with_notes.ensures ∙ ap (λ n. with_notes n m.done) c.none.ensures in
+    let outcome = outcome_of g.F.File.Read.remaining (g.F.FileSource.file_text a.files.now)
+    g.W.Write.contents g.E.Write.contents a.outputs.now.writer a.outputs.now.errors
+    a.request.sources.now a.request.job.now l c.in-Some.log in
+    elim m.branch [
+      | in-Listing-Blocks w ↦
+          let done = w.annotate_engine-done in
+          outcome done.new.log _ _ m.outputs done.new.outputs m.listings done.new.listings a.log.now
+          m.log m.done done.result c.with_notes.result w.in-Listing-Blocks.is-0
+          w.in-Listing-Blocks.is-1 c.in-Some.is w.log-is w.outputs-is w.listings-is w.done-is
+          noted done.ensures
+      | in-Listing-Followed w ↦
+          let done = w.follow-done in
+          outcome done.new.log _ _ m.outputs done.new.outputs m.listings done.new.listings a.log.now
+          m.log m.done done.result c.with_notes.result w.in-Listing-Followed.is-0
+          w.in-Listing-Followed.is-1 c.in-Some.is w.log-is w.outputs-is w.listings-is w.done-is
+          noted done.ensures
+      | in-Listing-Whole w ↦
+          let done = w.own_offset_engine-done in
+          outcome done.new.log _ _ m.outputs done.new.outputs m.listings done.new.listings a.log.now
+          m.log m.done done.result c.with_notes.result w.in-Listing-Whole.is-0
+          w.in-Listing-Whole.is-1 c.in-Some.is w.log-is w.outputs-is w.listings-is w.done-is
+          noted done.ensures
+      | in-History-Whole w ↦
+          let done = w.history_own_offset_engine-done in
+          outcome done.new.log _ _ m.outputs done.new.outputs m.listings
+          (record l { kallsyms = done.new.history }) a.log.now m.log m.done done.result
+          c.with_notes.result w.in-History-Whole.is-0 w.in-History-Whole.is-1 c.in-Some.is
+          w.log-is w.outputs-is w.listings-is w.done-is noted done.ensures
+      | in-History-Blocks w ↦
+          let done = w.history_annotate_engine-done in
+          outcome done.new.log _ _ m.outputs done.new.outputs m.listings
+          (record l { kallsyms = done.new.history }) a.log.now m.log m.done done.result
+          c.with_notes.result w.in-History-Blocks.is-0 w.in-History-Blocks.is-1 c.in-Some.is
+          w.log-is w.outputs-is w.listings-is w.done-is noted done.ensures
+      | in-History-Followed w ↦
+          let done = w.history_annotate_engine-done-in-History-Followed in
+          outcome done.new.log _ _ m.outputs done.new.outputs m.listings
+          (record l { kallsyms = done.new.history }) a.log.now m.log m.done done.result
+          c.with_notes.result w.in-History-Followed.is-0 w.in-History-Followed.is-1 c.in-Some.is
+          w.log-is w.outputs-is w.listings-is w.done-is noted done.ensures
+    ]
