@@ -2,7 +2,7 @@
 # tests/quick.sh [NAME..]
 # Runs what is named without a proof: a script of tests/ (annotate), a case of tests/cases, or the
 # tests of a crate of tests/crates. What is there of builds and is not older than a source is used;
-# else the program is built, in three minutes.
+# else the program is built, in two minutes or, after an edit, in one.
 #
 # Without a name it runs all that needs no proved work, in some ten minutes on two processors. What is
 # left out: the library for C as it is proved, with its packages, installing, a release, programs that

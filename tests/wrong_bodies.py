@@ -218,7 +218,8 @@ def try_by_test(edit):
         _, why = edits.put_in(edits.folder_of(folder, edit.crate), edit.path)
         if why:
             return record(edit, BAD, f": {why}")
-        ran = subprocess.run(["bash", "-c", edit.test], cwd=folder, stdin=subprocess.DEVNULL, stdout=subprocess.PIPE, stderr=subprocess.STDOUT, text=True, errors="replace")
+        with_objects = {**os.environ, "OBJECTS": build.OBJECTS}
+        ran = subprocess.run(["bash", "-c", edit.test], cwd=folder, env=with_objects, stdin=subprocess.DEVNULL, stdout=subprocess.PIPE, stderr=subprocess.STDOUT, text=True, errors="replace")
         if "is not compiled" in ran.stdout:
             return record(edit, BAD, next((f": {it}" for it in ran.stdout.splitlines() if "error[" in it), ""))
         return record(edit, REFUSED if ran.returncode else NOT_REFUSED)

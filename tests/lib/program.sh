@@ -61,7 +61,7 @@ build_unproved() {
     program=$top/tests/out/$1
     if [ ! -x "$program" ] || is_older "$program" "$top"/crates/*/src "$top/tests/crates"; then
         mkdir -p "$top/tests/out"
-        echo "${0##*/}: building $1 without a proof, in three minutes" >&2
+        echo "${0##*/}: building $1 without a proof, in two minutes" >&2
         "$top/tests/lib/build.py" build "$1" "$program.new" >&2 || exit 1
         mv "$program.new" "$program"
     fi
