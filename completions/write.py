@@ -33,13 +33,13 @@ Command = namedtuple("Command", "about rows options")
 def commands():
     """Each command with what the help says of it and its rows, in the order of the help."""
     text = (TOP / "crates/command_line/src/rows.rt").read_text().replace("\\\n", "")
-    clashes = dict(re.findall(r'const (\w+): Option<Clash> = Some\(Clash \{\s+other: "([\w-]+)"', text))
+    conflicts = dict(re.findall(r'const (\w+): Option<Conflict> = Some\(Conflict \{\s+other: "([\w-]+)"', text))
     row = r'row!\((\w+) "([\w-]+)" \[(.*?)\]:\s+"(.*?)"((?:,\s+\w+: [\w"/-]+)*)\)'
 
     def read(kind, name, values, help, fields):
         field = dict(re.findall(r"(\w+): (\w+)", fields))
-        clash = (clashes.get(field.get(it)) for it in ("excluded_by", "needs"))
-        return Row(kind, name, " ".join(re.findall(r"\w+", values)), help, "is_required" in field, *clash)
+        conflict = (conflicts.get(field.get(it)) for it in ("excluded_by", "needs"))
+        return Row(kind, name, " ".join(re.findall(r"\w+", values)), help, "is_required" in field, *conflict)
 
     named = {name: read(*parts) for name, *parts in re.findall(r"const (\w+): Argument = " + row, text)}
     tables = {

@@ -3,7 +3,8 @@
 # slow program writes by the rules, and read again as a history: 6,000 recordings with a fixed seed
 # (RUNS and SEED set others). Then the command: the listing is the one behind the block, what was written
 # stays if something fails, and EVENTS may be the standard input. Then latchsym-record, over a folder
-# that stands for tracefs: of each beginning of a file it makes a history that goes on. Needs python3.
+# that stands for tracefs: of each beginning of a file it makes a history that goes on. `--help` and words
+# that it does not take are tried, too. Needs python3.
 set -euo pipefail
 . "$(dirname "$0")/lib/program.sh"
 command -v python3 >/dev/null || { echo "recordings: python3 is not installed"; exit 1; }
@@ -98,6 +99,17 @@ exec 3>events
 exec 3>&-
 : >got
 ends 1 ''
+
+# the script's own command line
+usage='usage: latchsym-record FILE'
+for word in -h --help; do
+    [ "$("$top/scripts/latchsym-record" $word 2>err)" = "$usage" ] || fail "latchsym-record $word: $(cat err)"
+done
+for words in '' '--boot' 'a b'; do
+    status=0
+    "$top/scripts/latchsym-record" $words >got 2>err || status=$?
+    [ "$status $(cat err)" = "2 latchsym-record: $usage" ] || fail "latchsym-record $words: $status $(cat err)"
+done
 
 timeout 120 python3 "$top/tests/recordings/script.py" "$top/scripts/latchsym-record" "$program"
 echo 'recordings: blocks, listings, faults and the script are as they are to be'
