@@ -216,7 +216,7 @@ for tree in "$repository" "$archive"; do
     fi
 done
 
-# listings that are saved by one who sees addresses name a log to anyone (a kernel may have no modules)
+# a listing that is saved by one who sees addresses names a log to anyone
 cd "$top"
 if grep -qvE '^0+ ' /proc/kallsyms; then
     # shellcheck disable=SC2016
@@ -225,7 +225,7 @@ if grep -qvE '^0+ ' /proc/kallsyms; then
     mkdir "$work/logs"
     echo "[<${addr#0x}>]" >"$work/logs/crash.log"
     bash -c "$(block docs/LISTINGS.md boot= | sed "s|/var/lib/latchsym|$work/saved|")" 2>"$work/out" ||
-        [ ! -e /proc/modules ] || fail "LISTINGS: saving: $(cat "$work/out")"
+        fail "LISTINGS: saving: $(cat "$work/out")"
     mv "$work"/saved/*/kallsyms "$work/logs"
     chmod -R a+rX "$work/logs"
     text=$("$program" lookup --no-counts "$addr")
