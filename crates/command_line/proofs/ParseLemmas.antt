@@ -1,5 +1,5 @@
 -- What a parse by the program's command gives.
-use Rattle.command_line.proofs.Words.{◌≡◌, ◌∙◌, ◌+◌, ◌<◌, ◌∷◌, ◌||◌, ap, sym, ℕ, List, [], fold}
+use Rattle.command_line.proofs.Words.{◌≡◌, ◌∙◌, ◌+◌, ◌<◌, ◌∷◌, ◌||◌, ap, ℕ, List, [], fold}
 use Rattle.command_line.proofs.Words.{fold-append, get_or, length, map, map-append, new_app, take}
 use Rattle.command_line.proofs.Words.{take_more, Argument, row_of, Option, Some, None, Result, Ok}
 use Rattle.command_line.proofs.Words.{Err, true, false, refl, subst, inl, inr, Box, IfOk, box_value}
@@ -33,7 +33,7 @@ fails : (words : List Text) (e : Error) (f : JobFault) → IsFaultOf e f
     → HasKind (fault_of latchsym_app words) e → IsUnparsed words (Err f)
 fails words e OutOfMemory is has = tt
 fails words e (CommandLine shown) is has =
-    among words shown (subst (HasKind (fault_of latchsym_app words)) (sym is.0) has) is.1
+    among words shown (rw is.0 has) is.1
 fails words e _ is has = absurd is
 
 -- the answer to an error of the parse
@@ -53,7 +53,7 @@ answers_matches a words m r is none has says =
     let Q : App → Type 0 = λ b. HasMatchesOf b words m in
     let entered : subcommand_rows_of m ≡ subcommand_of latchsym_app words =
     (subst Q is has is_simple_latchsym).1 in
-    inl (subst P is none is_free_latchsym, subst (λ s. AnswersMatches s r) entered says)
+    inl (subst P is none is_free_latchsym, rw entered at says)
 
 -- the command of this name with the arguments of these rows
 abbrev pub app_with : Text → List Argument → App

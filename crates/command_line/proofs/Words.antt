@@ -34,14 +34,11 @@ pub use Rattle.clap.specs.declared.parser.matches.ArgMatches.{ArgMatches}
 pub use Rattle.clap.specs.declared.parser.matches.ArgMatches.TheViews.{out-ArgMatches}
 pub use Rattle.clap.specs.declared.parser.matches.ArgMatches.TheViews.{out-SubCommand}
 pub use Rattle.clap.specs.declared.parser.matches.SubCommand.{SubCommand}
-pub use Rattle.command_parts.proofs.FaultLemmas.{handed_on}
 pub use Rattle.facts.proofs.Lists.{map-insert}
 pub use Rattle.facts.proofs.Options.{Some-from_parts}
-pub use Rattle.command_line.specs.CommandLine.{IsCommand, IsPlainArg, command_app, latchsym_app}
-pub use Rattle.command_line.specs.CommandLine.{row_of}
-pub use Rattle.command_line.specs.Jobs.{AnswersMatches, AnswersWords, Gives, IsAddressIn}
-pub use Rattle.command_line.specs.Jobs.{IsAnnotateIn, IsFaultOf, IsLookupIn, IsRequestIn}
-pub use Rattle.command_line.specs.Jobs.{IsSourceIn, IsUnparsed, conflict_of, is_no_address, rows_in}
+pub use Rattle.command_line.specs.CommandLine.{IsCommand, IsPlainArg, latchsym_app, row_of}
+pub use Rattle.command_line.specs.Jobs.{AnswersMatches, AnswersWords, Gives, IsFaultOf, IsUnparsed}
+pub use Rattle.command_line.specs.Jobs.{conflict_of, is_no_address, rows_in}
 pub use Rattle.command_line.specs.Operands.{ends_options, is_kernel_name, operand_place}
 pub use Rattle.command_line.specs.declared.requests.Job.{Job}
 pub use Rattle.command_line.specs.declared.requests.JobFault.{JobFault}

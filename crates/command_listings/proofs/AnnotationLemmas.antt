@@ -2,17 +2,17 @@
 use Rattle.command_listings.specs.declared.log_notes.ListedKernel.{ListedKernel}
 use Rattle.command_listings.specs.declared.annotations.Stop.{Stop}
 use Rattle.command_listings.specs.declared.annotations.Stop.TheVariants as stop
-use Rattle.command_listings.specs.LogNotes.{IsLogNoted, note_of_log}
+use Rattle.command_listings.specs.LogNotes.{note_of_log}
 use Rattle.logs.specs.declared.log_names.LogNames.{LogNames}
 use Rattle.std.proofs.Common.{None}
 use Rattle.command_listings.proofs.Words.{listed_kernel, ◌≡◌, ℕ, List, [], Option, Some, Result, Ok}
-use Rattle.command_listings.proofs.Words.{Err, refl, sym, subst, inl, inr, ⊎_elim, IfSome, Counted}
-use Rattle.command_listings.proofs.Words.{Output, answered_by, AnnotatesBy, AnnotatesLog, IsTold}
-use Rattle.command_listings.proofs.Words.{AreReadAs, Given, HasBadRegion, HasCrowdedRegions}
-use Rattle.command_listings.proofs.Words.{IsCatalogOf, OpensCatalog, Failures, NoReaderFailed}
-use Rattle.command_listings.proofs.Words.{Fault, Refused, BadLine, Read, TooLong, Write}
-use Rattle.command_listings.proofs.Words.{ListingTexts, Annotate, Sources, is_narrow, lines_of}
-use Rattle.command_listings.proofs.Words.{Findings, LogFault, IsEndTold, stopped}
+use Rattle.command_listings.proofs.Words.{Err, refl, inl, inr, ⊎_elim, IfSome, Counted, Output}
+use Rattle.command_listings.proofs.Words.{answered_by, AnnotatesBy, AnnotatesLog, IsTold, AreReadAs}
+use Rattle.command_listings.proofs.Words.{Given, HasBadRegion, HasCrowdedRegions, IsCatalogOf}
+use Rattle.command_listings.proofs.Words.{OpensCatalog, Failures, NoReaderFailed, Fault, Refused}
+use Rattle.command_listings.proofs.Words.{BadLine, Read, TooLong, Write, ListingTexts, Annotate}
+use Rattle.command_listings.proofs.Words.{Sources, is_narrow, lines_of, Findings, LogFault}
+use Rattle.command_listings.proofs.Words.{IsEndTold, stopped}
 use Rattle.logs.specs.declared.annotation.LogFault.TheVariants as log_fault
 use Rattle.order_laws.specs.declared.refusals.Refusal.TheVariants as refusal
 use Rattle.command_listings.proofs.GivenLemmas.{known_too}
@@ -48,12 +48,12 @@ module _ {L W E : Type 0} (remaining : L → Option (List ℕ)) (contents : W �
   of_log : (listed : ListedKernel) (e e' : Output E) (end : Result Findings LogFault)
       (result : Result ℕ Fault) → IsEndTold errors a.log.now listed e e' (stopped end) result
       → IsOfLog result
-  of_log listed e e' (Ok found) result told = subst IsOfLog (sym told.0) tt
-  of_log listed e e' (Err log_fault.Closed) result told = subst IsOfLog (sym told.0) tt
-  of_log listed e e' (Err log_fault.OutOfMemory) result told = subst IsOfLog (sym told.0) tt
-  of_log listed e e' (Err log_fault.Read) result told = subst IsOfLog (sym told.0) tt
-  of_log listed e e' (Err log_fault.Write) result told = subst IsOfLog (sym told.0) tt
-  of_log listed e e' (Err log_fault.TooLong) result told = subst IsOfLog (sym told.0) tt
+  of_log listed e e' (Ok found) result told = rw told.0 tt
+  of_log listed e e' (Err log_fault.Closed) result told = rw told.0 tt
+  of_log listed e e' (Err log_fault.OutOfMemory) result told = rw told.0 tt
+  of_log listed e e' (Err log_fault.Read) result told = rw told.0 tt
+  of_log listed e e' (Err log_fault.Write) result told = rw told.0 tt
+  of_log listed e e' (Err log_fault.TooLong) result told = rw told.0 tt
 
   module _ (l l' : Counted L) (w w' : Output W) (e e' : Output E) where
     abbrev Told : Option Given → Result ℕ Fault → Type 0
@@ -116,6 +116,6 @@ pub told_by : {E : Type 0} (errors : E → Option (List ℕ)) (log : List ℕ) (
     → note_of_log head found.names k ≡ note_of_log head found.names k')
     → IsEndTold errors log k e e' end result → IsEndTold errors log k' e e' end result
 told_by errors log k k' e e' (Ok found) result same told =
-    (told.0, subst (IsLogNoted errors e e' log) (same found refl found.head.items) told.1)
+    (told.0, rw (same found refl found.head.items) at told.1)
 told_by errors log k k' e e' (Err stop.Closed) result same told = told
 told_by errors log k k' e e' (Err (stop.Failed f)) result same told = told

@@ -2,12 +2,11 @@
 use Rattle.command_listings.proofs.Words.{◌≡◌, ◌∙◌, ℕ, zero, suc, ◌+◌, ◌-◌, ◌<◌, ◌≤◌, ◌==◌, true}
 use Rattle.command_listings.proofs.Words.{false, cond, List, [], ◌∷◌, length, take, drop, Option}
 use Rattle.command_listings.proofs.Words.{Some, None, refl, sym, ap, arith, subst, nat_le, nat_lt}
-use Rattle.command_listings.proofs.Words.{⊎_elim, All, MatchOption, option_and_then, and_parts}
-use Rattle.command_listings.proofs.Words.{false_from_ne_true, ltb-true, filter_passes, Nowhere}
-use Rattle.command_listings.proofs.Words.{Passes, is_byte, Item, module_of, CatalogEntries}
-use Rattle.command_listings.proofs.Words.{ModuleEntry, SymbolEntry, Found, IsFound, found_in}
-use Rattle.command_listings.proofs.Words.{symbol_at, symbols_from, holds, found_by_place}
-use Rattle.command_listings.proofs.Words.{cut_at_last, cut_before, end_of}
+use Rattle.command_listings.proofs.Words.{⊎_elim, option_and_then, and_parts, false_from_ne_true}
+use Rattle.command_listings.proofs.Words.{ltb-true, filter_passes, Nowhere, Passes, is_byte, Item}
+use Rattle.command_listings.proofs.Words.{module_of, CatalogEntries, ModuleEntry, SymbolEntry}
+use Rattle.command_listings.proofs.Words.{Found, IsFound, found_in, symbol_at, symbols_from, holds}
+use Rattle.command_listings.proofs.Words.{found_by_place, cut_at_last, cut_before, end_of}
 
 -- ---- the last byte
 
@@ -51,8 +50,7 @@ pub ends_within : (symbols : List SymbolEntry) (start end addr : ℕ) (f : Found
 ends_within symbols start end addr f below is =
     let own = symbols_from symbols start end in
     let found : IsFound own end addr f =
-    subst (λ o. MatchOption o (All (λ s. addr < s.addr) own) (IsFound own end addr)) is
-    (found_by_place own end addr) in
+    rw is at (found_by_place own end addr) in
     let low = found.below in
     ⊎_elim
     (λ last. let size : f.size ≡ end - f.symbol.addr = last.1 in omega arith)

@@ -1,7 +1,7 @@
 -- Marks that are put, those that stay, and names without one.
 use Rattle.command_listings.proofs.Words.{◌≡◌, ◌∙◌, ℕ, ◌+◌, ◌<◌, ◌==◌, Bool, true, false, ⊎_elim}
-use Rattle.command_listings.proofs.Words.{List, length, take, get_or, refl, sym, subst, IfSome}
-use Rattle.command_listings.proofs.Words.{◌&&◌, item_of_address, Option, Some, None, eqb-true, ap}
+use Rattle.command_listings.proofs.Words.{List, length, take, get_or, refl, sym, IfSome, ◌&&◌}
+use Rattle.command_listings.proofs.Words.{item_of_address, Option, Some, None, eqb-true, ap}
 use Rattle.command_listings.proofs.Words.{bytes_eq, bytes_eq-Decides, and_parts, false_from_ne_true}
 use Rattle.command_listings.proofs.Words.{nat_eq, option_and_then, option_map_or, Item, module_of}
 use Rattle.command_listings.proofs.Words.{found_in, symbols_from, CatalogEntries, ModuleEntry}
@@ -42,7 +42,7 @@ module _ (marks marks' : List Bool)
       → HaveMarks marks (take k symbols) → has_mark marks' (get_or symbols k d).name ≡ true
       → HaveMarks marks' (take (k + 1) symbols)
   one_more symbols k d within have marked =
-      subst (HaveMarks marks') (sym (take_more symbols k d within))
+      rw (take_more symbols k d within)
       (All-push (λ s. has_mark marks' s.name ≡ true) (take k symbols) (get_or symbols k d)
       (stay (take k symbols) have) marked)
 

@@ -1,27 +1,26 @@
 -- Parts of a log that are put, with what is read of the listings for each.
 use Rattle.command_listings.proofs.Words.{◌≡◌, ◌∙◌, ◌+◌, ◌≤◌, ℕ, List, [], ◌∷◌, ◌++◌, Option, Some}
 use Rattle.command_listings.proofs.Words.{None, Result, Ok, Err, refl, sym, ap, subst, inl, inr}
-use Rattle.command_listings.proofs.Words.{arith, length, flat_map, flat_map-append, append-nil}
-use Rattle.command_listings.proofs.Words.{append_assoc, IfSome, Output, Sources, Annotate, Given}
-use Rattle.command_listings.proofs.Words.{Fault, Read, Refused, TooLong, Bool, false, true}
-use Rattle.command_listings.proofs.Words.{or-false, or-true, CatalogEntries, answered_by, is_narrow}
-use Rattle.command_listings.proofs.Words.{lines_of, take, length-append, ◌⊎◌, ◌^◌, IsErrAnd}
-use Rattle.command_listings.proofs.Words.{handed_on, Findings, LogFault, is_some, option_to_list}
-use Rattle.command_listings.proofs.Words.{Bor, ◌<◌}
-use Rattle.command_listings.proofs.Words.{AreAnswersOf, AreAsKnown, Block, By, EndsBy, Event}
-use Rattle.command_listings.proofs.Words.{Failed, Followed, FollowsTurns, GivesCatalog, GoesOn}
-use Rattle.command_listings.proofs.Words.{HasNoNames, Happen, IsAskedFor, IsNamingAfter, Listings}
-use Rattle.command_listings.proofs.Words.{IsCutOff, IsEnded, IsFollowed, IsNamedAtEnd, IsNamedIn}
-use Rattle.command_listings.proofs.Words.{IsNamingOf, IsOutOfMemory, IsStarved, IsTooLong, IsUnread}
-use Rattle.command_listings.proofs.Words.{NamesAfter, NamesBlock, NamesLast, NamesSome, Naming}
-use Rattle.command_listings.proofs.Words.{PassesBy, Point, PutsAs, PutsIfNamed, PutsNameless}
-use Rattle.command_listings.proofs.Words.{PutsPart, ReadsBlock, ReadsOnce, Seen, TakesPart, Turn}
-use Rattle.command_listings.proofs.Words.{Unnamed, events_of, first_point, is_told_after, no_turn}
-use Rattle.command_listings.proofs.Words.{one_more, point_after, read_in, stopped, told_once}
+use Rattle.command_listings.proofs.Words.{arith, length, Output, Sources, Annotate, Given, Fault}
+use Rattle.command_listings.proofs.Words.{Read, Refused, TooLong, Bool, false, true, or-false}
+use Rattle.command_listings.proofs.Words.{or-true, CatalogEntries, answered_by, is_narrow, lines_of}
+use Rattle.command_listings.proofs.Words.{take, length-append, ◌⊎◌, ◌^◌, IsErrAnd, handed_on}
+use Rattle.command_listings.proofs.Words.{Findings, LogFault, is_some, Bor, ◌<◌, AreAnswersOf}
+use Rattle.command_listings.proofs.Words.{Block, By, EndsBy, Event, Failed, Followed, FollowsTurns}
+use Rattle.command_listings.proofs.Words.{GivesCatalog, GoesOn, HasNoNames, IsAskedFor}
+use Rattle.command_listings.proofs.Words.{IsNamingAfter, Listings, IsCutOff, IsEnded, IsFollowed}
+use Rattle.command_listings.proofs.Words.{IsNamedAtEnd, IsNamedIn, IsNamingOf, IsOutOfMemory}
+use Rattle.command_listings.proofs.Words.{IsStarved, IsTooLong, IsUnread, NamesAfter, NamesBlock}
+use Rattle.command_listings.proofs.Words.{NamesLast, NamesSome, Naming, PassesBy, Point, PutsAs}
+use Rattle.command_listings.proofs.Words.{PutsIfNamed, PutsNameless, PutsPart, ReadsBlock}
+use Rattle.command_listings.proofs.Words.{ReadsOnce, Seen, TakesPart, Turn, Unnamed, first_point}
+use Rattle.command_listings.proofs.Words.{is_told_after, no_turn, one_more, point_after, read_in}
+use Rattle.command_listings.proofs.Words.{stopped, told_once}
 use Rattle.std.specs.Prelude.{◌-◌}
-use Rattle.std.specs.Io.KnownBytes.{Consumes, IsAtEnd}
 use Rattle.std.proofs.KnownBytes.{Appends-nil, Appends-trans}
-use Rattle.std.proofs.lemmas.List.Elements.{All-nil, All-push}
+use Rattle.command_listings.proofs.ReadLemmas.{AreRead, happened, is_over, known_now, lost}
+use Rattle.command_listings.proofs.ReadLemmas.{nothing_read, one_turn, read_more, reads_nothing}
+use Rattle.command_listings.proofs.ReadLemmas.{turn_read}
 use Rattle.texts.specs.Output.{Says}
 use Rattle.texts.proofs.OutputLemmas.{nothing_said, then as said_then}
 use Rattle.logs.proofs.PutLemmas.{puts_as, puts_failed}
@@ -41,32 +40,6 @@ use Rattle.command_listings.specs.declared.no_names.NoNames.{NoNames}
 use Rattle.command_listings.specs.declared.no_names.NoNames.TheVariants as no
 use Rattle.command_listings.specs.declared.sources.ListingFiles.{ListingFiles}
 use Rattle.command_listings.specs.declared.following.Part.TheVariants as part
-
--- events, and then more
-pub happen_then : (h h' h'' : Option (List Event)) (events more : List Event) → Happen h h' events
-    → Happen h' h'' more → Happen h h'' (events ++ more)
-happen_then None h' h'' events more first second = tt
-happen_then (Some earlier) h' h'' events more first second =
-    let is : h'' ≡ Some ((earlier ++ events) ++ more) =
-    subst (λ h. IfSome h (λ e. h'' ≡ Some (e ++ more))) first second in
-    is ∙ ap Some (append_assoc earlier events more)
-
-nothing_happens : (h : Option (List Event)) → Happen h h []
-nothing_happens None = tt
-nothing_happens (Some earlier) = ap Some (sym (append-nil earlier))
-
--- bytes are lost, and then more
-consumed_then : (l l' l'' : Option (List ℕ)) (bytes more : List ℕ) → Consumes l l' bytes
-    → Consumes l' l'' more → Consumes l l'' (bytes ++ more)
-consumed_then None l' l'' bytes more first second = tt
-consumed_then (Some xs) None l'' bytes more first second = absurd first
-consumed_then (Some xs) (Some ys) None bytes more first second = absurd second
-consumed_then (Some xs) (Some ys) (Some zs) bytes more first second =
-    first ∙ ap (λ l. bytes ++ l) second ∙ sym (append_assoc bytes more zs)
-
-nothing_consumed : (l : Option (List ℕ)) → Consumes l l []
-nothing_consumed None = tt
-nothing_consumed (Some xs) = refl
 
 -- what a block is passed with names the lines that end in it
 names_block : (n : Naming) (a a' : Annotator) (line block text : List ℕ)
@@ -144,10 +117,6 @@ abbrev done_in : {X : Type 0} → Result X Stop → X → X
 done_in (Ok x) other = x
 done_in (Err s) other = other
 
-abbrev IsStop : {X : Type 0} → Result X Stop → Type 0
-IsStop (Ok x) = ⊥
-IsStop (Err s) = Unit {0}
-
 module _ {W : Type 0} (contents : W → Option (List ℕ)) (w w' : Output W) where
   -- what was put, or why it was not
   pub stopped_is : {X : Type 0} (P : X → List ℕ → Type 0) (put : Result X LogFault)
@@ -159,7 +128,7 @@ module _ {W : Type 0} (contents : W → Option (List ℕ)) (w w' : Output W) whe
       (other : X → Y) → ((x : X) (text : List ℕ) → P x text → Q (other x) text)
       → (put : Result X LogFault) (s : Stop) → stopped put ≡ Err s
       → Puts contents P w w' put → PutsAs contents Q w w' (Err s)
-  stopped_so P Q other less (Ok x) s is puts = absurd (subst IsStop (sym is) tt)
+  stopped_so P Q other less (Ok x) s is puts = cc
   stopped_so P Q other less (Err f) s is puts =
       (f, sym (ap (λ r. stop_in r s) is), puts_as contents P Q w w' other less f puts)
 
@@ -168,24 +137,14 @@ module _ {W : Type 0} (contents : W → Option (List ℕ)) (w w' : Output W) whe
       → (put : Result X LogFault) (x : X) → stopped put ≡ Ok x
       → Puts contents P w w' put → Puts contents Q w w' (Ok (other x))
   stopped_ok P Q other less (Ok y) x is (text, put, holds) =
-      (text, put, subst (λ z. Q (other z) text) (ap (λ r. done_in r y) is) (less y text holds))
-  stopped_ok P Q other less (Err f) x is puts = absurd (subst IsStop is tt)
+      (text, put, rw (ap (λ r. done_in r y) is) at (less y text holds))
+  stopped_ok P Q other less (Err f) x is puts = cc
 
   -- the same of what was put already, as another value is returned with it
   pub puts_on : {X Y : Type 0} (P : X → List ℕ → Type 0) (Q : Y → List ℕ → Type 0) (other : X → Y)
       → ((x : X) (text : List ℕ) → P x text → Q (other x) text) → (s : Stop)
       → PutsAs contents P w w' (Err s) → PutsAs contents Q w w' (Err s)
   puts_on P Q other less s (f, is, puts) = (f, is, puts_as contents P Q w w' other less f puts)
-
--- nothing is read
-pub reads_nothing : (seen : Seen) → ReadsOnce seen seen None
-reads_nothing seen = record {
-  happen = nothing_happens seen.events;
-  left = refl;
-  known = λ _. tt;
-  next = λ is. is;
-  later = refl;
-}
 
 -- nothing is told
 pub nothing_told : {E : Type 0} {errors : E → Option (List ℕ)} (told : Bool) (e : Output E)
@@ -241,8 +200,7 @@ module _ {W E : Type 0} (contents : W → Option (List ℕ)) (errors : E → Opt
   after_nameless b' b'' event w w' w'' e e' why note result (has, same, same_written) tells said
       puts =
       let from_here : PutsAs contents (PutsNameless p s b b'') w w'' result =
-      subst (λ x. PutsAs contents (PutsNameless p s x b'') w w'' result) same
-      (subst (λ x. PutsAs contents (PutsNameless p s b' b'') x w'' result) same_written puts) in
+      rw (same_written, same) at puts in
       inr (
         Unnamed s.is_narrow,
         note,
@@ -269,40 +227,31 @@ module _ {W E : Type 0} (contents : W → Option (List ℕ)) (errors : E → Opt
       → GoesOn s None (Unnamed s.is_narrow) s × PutsPart p b b' (Unnamed s.is_narrow) names text
   quiet b' names text put = ((refl, sym (or-false s.is_told)), put)
 
+  unasked : (b' : Annotator) (seen : Seen) (w w' : Output W) (e : Output E)
+      (result : Result (Followed × LogNames) Stop) → IsAskedFor p s.is_narrow b None
+      → PutsAs contents (λ (x : Followed × LogNames) text. GoesOn s None (Unnamed s.is_narrow) x.0
+      × PutsPart p b b' (Unnamed s.is_narrow) x.1 text) w w' result
+      → TakesPart contents errors q a p s b b' seen seen w w' e e result
+  unasked b' seen w w' e result asked puts = (
+    None,
+    reads_nothing seen,
+    inr (Unnamed s.is_narrow, [], asked, (refl, refl), nothing_told s.is_told e, puts),
+  )
+
   pub takes_quiet : (b' : Annotator) (seen : Seen) (w w' : Output W) (e : Output E)
       (names : LogNames) → IsAskedFor p s.is_narrow b None
       → PutsAs contents (PutsPart p b b' (Unnamed s.is_narrow)) w w' (Ok names)
       → TakesPart contents errors q a p s b b' seen seen w w' e e (Ok (s, names))
-  takes_quiet b' seen w w' e names asked (text, put, holds) = (
-    None,
-    reads_nothing seen,
-    inr (
-      Unnamed s.is_narrow,
-      [],
-      asked,
-      (refl, refl),
-      nothing_told s.is_told e,
-      (text, put, quiet b' names text holds),
-    ),
-  )
+  takes_quiet b' seen w w' e names asked (text, put, holds) =
+      unasked b' seen w w' e (Ok (s, names)) asked (text, put, quiet b' names text holds)
 
   pub takes_unput : (b' : Annotator) (seen : Seen) (w w' : Output W) (e : Output E) (why : Stop)
       → IsAskedFor p s.is_narrow b None
       → PutsAs contents (PutsPart p b b' (Unnamed s.is_narrow)) w w' (Err why)
       → TakesPart contents errors q a p s b b' seen seen w w' e e (Err why)
-  takes_unput b' seen w w' e why asked puts = (
-    None,
-    reads_nothing seen,
-    inr (
-      Unnamed s.is_narrow,
-      [],
-      asked,
-      (refl, refl),
-      nothing_told s.is_told e,
-      puts_on contents w w' (PutsPart p b b' (Unnamed s.is_narrow)) _ (λ names. (s, names))
-          (quiet b') why puts,
-    ),
-  )
+  takes_unput b' seen w w' e why asked puts = unasked b' seen w w' e (Err why) asked
+      (puts_on contents w w' (PutsPart p b b' (Unnamed s.is_narrow)) _ (λ names. (s, names))
+      (quiet b') why puts)
 
 module _ {W E : Type 0} (contents : W → Option (List ℕ)) (errors : E → Option (List ℕ))
     (q : Sources) (a : Annotate) where
@@ -317,8 +266,7 @@ module _ {W E : Type 0} (contents : W → Option (List ℕ)) (errors : E → Opt
     pub narrow : point.narrow ≡ s.is_narrow
     pub is_told : point.told ≡ s.is_told
     pub followed : IsFollowed contents errors q a first turns point before then w now e told
-    pub next : then.next ≡ then.later
-    pub later : then.later ≡ before.later
+    pub read : AreRead before then turns
     pub first_bytes : head ≡ take 2 (read_in turns)
     pub many : n ≤ length turns
 
@@ -326,30 +274,31 @@ module _ {W E : Type 0} (contents : W → Option (List ℕ)) (errors : E → Opt
     pub begun : (s : Followed) (b : Annotator) (head : List ℕ) → s.is_narrow ≡ first
         → s.is_told ≡ false → before.next ≡ before.later → context_in b ≡ first_context
         → IsOpen b [] → head ≡ [] → IsOn first before before w w e e s b head 0
-    begun s b head narrow untold known context is_open empty = record {
-      turns = [];
-      point = first_point first;
-      is_open = is_open;
-      context = sym context;
-      narrow = sym narrow;
-      is_told = sym untold;
-      followed = record {
-        written = [];
-        notes = [];
-        named = no_turn;
-        happen = nothing_happens before.events;
-        consumed = nothing_consumed before.left;
-        known = All-nil _;
-        appended = Appends-nil _;
-        sound = refl;
-        none_back = inl refl;
-        told = nothing_said e;
-      };
-      next = known;
-      later = refl;
-      first_bytes = empty;
-      many = omega arith;
-    }
+    begun s b head narrow untold known context is_open empty =
+        let none = nothing_read before known in
+        record {
+          turns = [];
+          point = first_point first;
+          is_open = is_open;
+          context = sym context;
+          narrow = sym narrow;
+          is_told = sym untold;
+          followed = record {
+            written = [];
+            notes = [];
+            named = no_turn;
+            happen = none.happen;
+            consumed = none.consumed;
+            known = none.known;
+            appended = Appends-nil _;
+            sound = refl;
+            none_back = inl refl;
+            told = nothing_said e;
+          };
+          read = none;
+          first_bytes = empty;
+          many = omega arith;
+        }
 
     module _ (then : Seen) (now : Output W) (told : Output E) (s : Followed) (b : Annotator)
         (head : List ℕ) (n : ℕ) (on : IsOn first before then w now e told s b head n) where
@@ -359,15 +308,19 @@ module _ {W E : Type 0} (contents : W → Option (List ℕ)) (errors : E → Opt
           → IsNamingOf q a s.is_narrow reading m note
           → IsNamedIn q a on.point (record { block = bytes; reading = reading }) m note
       asked_in bytes reading m note asked naming =
-          subst (λ x. (is_some reading ≡ ends_address x (on.point.line ++ bytes))
-          × IsNamingOf q a x reading m note) (sym on.narrow) (asked, naming)
+          rw on.narrow (asked, naming)
 
       asked_last : (reading : Option Event) (m : Naming) (note : List ℕ)
           → is_some reading ≡ has_address s.is_narrow on.point.line
           → IsNamingOf q a s.is_narrow reading m note → IsNamedAtEnd q a on.point reading m note
       asked_last reading m note asked naming =
-          subst (λ x. (is_some reading ≡ has_address x on.point.line)
-          × IsNamingOf q a x reading m note) (sym on.narrow) (asked, naming)
+          rw on.narrow (asked, naming)
+
+      -- and how a block is named after it
+      named_so : (m : Naming) (b' : Annotator) (line' bytes block text : List ℕ) → bytes ≡ block
+          → NamesBlock m (context_in b) (context_in b') on.point.line bytes line' text
+          → NamesBlock m on.point.context (context_in b') on.point.line block line' text
+      named_so m b' line' bytes block text same named = rw (on.context, ← same) named
 
       told_so : (note : List ℕ) (told' : Output E)
           → Says errors told told' (told_once s.is_told note)
@@ -376,35 +329,9 @@ module _ {W E : Type 0} (contents : W → Option (List ℕ)) (errors : E → Opt
 
       module _ (mid after : Seen) (room : List ℕ) (count : ℕ)
           (read : ReadsBlock then mid room (Ok count)) where
-        abbrev pub block : List ℕ
-        block = take count room
-
-        next_known : mid.next ≡ mid.later
-        next_known = read.next ∙ on.next ∙ sym read.later
-
-        -- what was read in a turn more
-        one_turn : (reading : Option Event) → ReadsOnce mid after reading
-            → Happen then.events after.events (Block block ∷ option_to_list reading)
-        one_turn reading once = happen_then then.events mid.events after.events (Block block ∷ [])
-            (option_to_list reading) read.event once.happen
-
-        lost : (reading : Option Event) → ReadsOnce mid after reading
-            → Consumes then.left after.left block
-        lost reading once = subst (λ l. Consumes then.left l block) (sym once.left) read.bytes.0
-
-        known_of : (reading : Option Event) → ReadsOnce mid after reading
-            → AreAsKnown before.later reading
-        known_of reading once =
-            subst (λ g. AreAsKnown g reading) (read.later ∙ on.later) (once.known next_known)
-
-        known_now : (reading : Option Event) → ReadsOnce mid after reading
-            → AreAsKnown then.later reading
-        known_now reading once =
-            subst (λ g. AreAsKnown g reading) read.later (once.known next_known)
-
         -- one turn more
         pub turned : (bytes : Bor (List ℕ)) (b' : Annotator) (s' : Followed) (names : LogNames)
-            (w' : Output W) (e' : Output E) (head' : List ℕ) → bytes.now ≡ block
+            (w' : Output W) (e' : Output E) (head' : List ℕ) → bytes.now ≡ take count room
             → ((log : List ℕ) → head ≡ take 2 log → head' ≡ take 2 (log ++ bytes.now))
             → TakesPart contents errors q a (part.Lines bytes) s b b' mid after now w' told
             e' (Ok (s', names)) → IsOn first before after w w' e e' s' b' head' (n + 1)
@@ -413,12 +340,10 @@ module _ {W E : Type 0} (contents : W → Option (List ℕ)) (errors : E → Opt
             (reading, once, inr (m, note, asked, naming, said, (text, put, (goes, passes)))) =
             let (line', block_named, is_open) =
             names_block m b b' on.point.line bytes.now text passes on.is_open in
+            let block = take count room in
             let t : Turn = record { block = block; reading = reading } in
-            let named : NamesBlock m on.point.context (context_in b') on.point.line block
-            line' text = subst
-            (λ l. NamesBlock m on.point.context (context_in b') on.point.line l line' text) same
-            (subst (λ h. NamesBlock m h (context_in b') on.point.line bytes.now line' text)
-            (sym on.context) block_named) in
+            let are = turn_read read once on.read in
+            let named = named_so m b' line' bytes.now block text same block_named in
             let asked_so : is_some reading ≡ ends_address s.is_narrow (on.point.line ++ block) =
             asked on.point.line on.is_open
             ∙ ap (λ l. ends_address s.is_narrow (on.point.line ++ l)) same in
@@ -435,29 +360,17 @@ module _ {W E : Type 0} (contents : W → Option (List ℕ)) (errors : E → Opt
                 named = one_more on.turns on.point on.followed.written text on.followed.notes note
                     (context_in b') line' t m on.followed.named
                     (asked_in block reading m note asked_so naming) named;
-                happen = subst (Happen before.events after.events)
-                    (sym (flat_map-append events_of on.turns (t ∷ [])
-                    ∙ ap (λ l. flat_map events_of on.turns ++ l) (append-nil (events_of t))))
-                    (happen_then before.events then.events after.events _ _ on.followed.happen
-                    (one_turn reading once));
-                consumed = subst (Consumes before.left after.left)
-                    (sym (flat_map-append (λ (x : Turn). x.block) on.turns (t ∷ [])
-                    ∙ ap (λ l. read_in on.turns ++ l) (append-nil block)))
-                    (consumed_then before.left then.left after.left (read_in on.turns) block
-                    on.followed.consumed (lost reading once));
-                known = All-push (λ (x : Turn). AreAsKnown before.later x.reading) on.turns t
-                    on.followed.known (known_of reading once);
+                happen = are.happen;
+                consumed = are.consumed;
+                known = are.known;
                 appended = Appends-trans _ _ _ on.followed.written text on.followed.appended put.2;
                 sound = put.1 ∙ sym put.0 ∙ on.followed.sound;
                 none_back = inr put.3;
                 told = said_then on.followed.told (told_so note e' said);
               };
-              next = once.next next_known ∙ sym once.later;
-              later = once.later ∙ read.later ∙ on.later;
-              first_bytes = kept (read_in on.turns) on.first_bytes
-                  ∙ ap (take 2) (ap (λ l. read_in on.turns ++ l) same
-                  ∙ sym (flat_map-append (λ (x : Turn). x.block) on.turns (t ∷ [])
-                  ∙ ap (λ l. read_in on.turns ++ l) (append-nil block)));
+              read = are;
+              first_bytes = kept (read_in on.turns) on.first_bytes ∙ ap (take 2)
+                  (ap (λ l. read_in on.turns ++ l) same ∙ sym (read_more on.turns t));
               many = omega (arith, on.many, length-append on.turns (t ∷ []));
             }
 
@@ -489,7 +402,7 @@ module _ {W E : Type 0} (contents : W → Option (List ℕ)) (errors : E → Opt
           → FollowsTurns contents errors q a first before after w now e told result
       unread after room f result handed is read =
           failed_so after now told _ result handed (inl (
-            subst (λ f. Happen then.events after.events (Failed f ∷ [])) is read.event,
+            rw is at read.event,
             refl,
             refl,
             ap (λ f. Err (stop.Failed f)) is,
@@ -519,8 +432,8 @@ module _ {W E : Type 0} (contents : W → Option (List ℕ)) (errors : E → Opt
             → IsOutOfMemory contents errors q a then after now w' told e' (Err why)
         starved_so reading why once (same, same_told, is) = (
           record { block = take count room; reading = reading },
-          one_turn mid after room count read reading once,
-          lost mid after room count read reading once,
+          one_turn read once,
+          lost read once,
           same,
           same_told,
           ap Err is,
@@ -547,18 +460,15 @@ module _ {W E : Type 0} (contents : W → Option (List ℕ)) (errors : E → Opt
             names_block m b b' on.point.line bytes.now text passes on.is_open in (
               context_in b',
               line',
-              subst (λ l. NamesBlock m on.point.context (context_in b') on.point.line l line' text)
-                  same
-                  (subst (λ h. NamesBlock m h (context_in b') on.point.line bytes.now line' text)
-                  (sym on.context) named),
+              named_so m b' line' bytes.now block text same named,
             ) in
             failed_so after w' e' why result handed (inr (inr (inl (
               record { block = block; reading = reading },
               m,
               note,
-              one_turn mid after room count read reading once,
-              lost mid after room count read reading once,
-              known_now mid after room count read reading once,
+              one_turn read once,
+              lost read once,
+              known_now read once on.read.next,
               asked_in block reading m note asked_so naming,
               told_so note e' said,
               why,
@@ -572,20 +482,11 @@ module _ {W E : Type 0} (contents : W → Option (List ℕ)) (errors : E → Opt
             ))))
 
         module _ (end : count ≡ 0) (room_for : 0 < length room) where
-          happened : (reading : Option Event) → ReadsOnce mid after reading
-              → Happen then.events after.events (Block [] ∷ option_to_list reading)
-          happened reading once = subst
-              (λ k. Happen then.events after.events (Block (take k room) ∷ option_to_list reading))
-              end (one_turn mid after room count read reading once)
-
-          is_over : (reading : Option Event) → ReadsOnce mid after reading → IsAtEnd after.left
-          is_over reading once = subst IsAtEnd (sym once.left) (read.bytes.1 end room_for)
-
           last_so : (reading : Option Event) (m : Naming) (x : Followed × LogNames) (text : List ℕ)
               → GoesOn s reading m x.0 × EndsBy m b x.1 text
               → NamesLast on.point.context on.point.line m x.1 text
-          last_so reading m x text (goes, ends) = subst (λ h. NamesLast h on.point.line m x.1 text)
-              (sym on.context) (names_last m b on.point.line x.1 text ends on.is_open)
+          last_so reading m x text (goes, ends) =
+              rw on.context (names_last m b on.point.line x.1 text ends on.is_open)
 
           -- the log is at its end
           pub at_end : (s' : Followed) (found : Findings) → found.head.items ≡ head → TakesPart
@@ -598,9 +499,9 @@ module _ {W E : Type 0} (contents : W → Option (List ℕ)) (errors : E → Opt
                 reading,
                 m,
                 note,
-                happened reading once,
-                is_over reading once,
-                known_now mid after room count read reading once,
+                happened read once end,
+                is_over read once end room_for,
+                known_now read once on.read.next,
                 asked_last reading m note (asked on.point.line on.is_open) naming,
                 told_so note e' said,
                 (
@@ -622,9 +523,9 @@ module _ {W E : Type 0} (contents : W → Option (List ℕ)) (errors : E → Opt
                 reading,
                 m,
                 note,
-                happened reading once,
-                is_over reading once,
-                known_now mid after room count read reading once,
+                happened read once end,
+                is_over read once end room_for,
+                known_now read once on.read.next,
                 asked_last reading m note (asked on.point.line on.is_open) naming,
                 told_so note e' said,
                 (

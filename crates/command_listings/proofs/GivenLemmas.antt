@@ -21,7 +21,7 @@ missing_mapped f (Some a) false is = refl
 pub known_too : {G : Type 0} (P : G → Type 0) (g : G) (known : Option G) → IfSome known (λ k. g ≡ k)
     → P g → IfSome known P
 known_too P g None is p = tt
-known_too P g (Some x) is p = subst P is p
+known_too P g (Some x) is p = rw is at p
 
 module _ {V W : Type 0} (contents : W → Option (List ℕ)) (Is : Given → List ℕ → V → Type 0) where
   -- the catalog could not be opened

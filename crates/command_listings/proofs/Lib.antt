@@ -14,6 +14,8 @@ mod NumberLemmas
 mod AnnotationLemmas
 -- which readers failed of a log that is read whole
 mod OwnOffsetLemmas
+-- what is read of a log that lasts, and of its listings, turn by turn
+pub mod ReadLemmas
 -- blocks of a log that are read, with the listings behind each, and written
 mod FollowingLemmas
 -- the kept symbols of the names that words ask for, symbol by symbol

@@ -1,7 +1,7 @@
 -- Which lines a listing may name, line by line.
 use Rattle.command_listings.proofs.Words.{◌≡◌, ◌∙◌, ℕ, ◌+◌, ◌-◌, Bool, true, false, List, [], ◌∷◌}
-use Rattle.command_listings.proofs.Words.{◌++◌, length, take, refl, sym, ap, subst, arith}
-use Rattle.command_listings.proofs.Words.{append_assoc, append-nil, length-append}
+use Rattle.command_listings.proofs.Words.{◌++◌, length, take, refl, sym, ap, arith, append_assoc}
+use Rattle.command_listings.proofs.Words.{append-nil, length-append}
 use Rattle.std.specs.Prelude.{filter}
 use Rattle.std.proofs.Math.Seq.{take-append-add, take-append_seam}
 use Rattle.logs.proofs.LineLemmas.{last_line, line_has_end, line_then, no_end_behind, opened_line}
@@ -56,22 +56,19 @@ module _ (parts : List HistoryPart) (narrow : Bool) (count : ℕ) where
       let one : IsRun parts narrow count t' last (line ∷ ended_in more) =
       run_first t' t'' last line (ended_in more) named same run in
       let whole : IsRun parts narrow count t' last (ended_in (line ++ more)) =
-      subst (λ ls. IsRun parts narrow count t' last ls) (sym (ended_then line more is)) one in
-      subst (λ l. IsRun parts narrow count t last (ended_in l)) (sym (append_assoc done line more))
-      (before (line ++ more) last whole)
+      rw (ended_then line more is) one in
+      rw (append_assoc done line more) (before (line ++ more) last whole)
 
   -- nothing more is named
   pub goes_no_further : (t t' : LogTimes) (done : List ℕ) → GoesOnTo t t' done
       → IsRun parts narrow count t t' (ended_in done)
-  goes_no_further t t' done before = subst (λ l. IsRun parts narrow count t t' (ended_in l))
-      (append-nil done) (before [] t' (refl, refl))
+  goes_no_further t t' done before = rw (append-nil done) at (before [] t' (refl, refl))
 
   -- the rest has no line that ends
   pub goes_to_rest : (t t' : LogTimes) (done rest : List ℕ) → has_end rest ≡ false
       → GoesOnTo t t' done → IsRun parts narrow count t t' (ended_in (done ++ rest))
   goes_to_rest t t' done rest unended before =
-      before rest t' (subst (λ ls. IsRun parts narrow count t' t' ls)
-      (sym (none_ended_in rest unended)) (refl, refl))
+      before rest t' (rw (none_ended_in rest unended) (refl, refl))
 
   -- after a line that is open, bytes that end it and then others
   pub opened_run : (a : Annotator) (t t' t'' : LogTimes) (line more : List ℕ) → IsLine line
@@ -82,16 +79,15 @@ module _ (parts : List HistoryPart) (narrow : Bool) (count : ℕ) where
   opened_run a t t' t'' line more is named run = λ begun is_open.
       let whole = opened_line begun line is_open.no_end is in
       let (may, same) = named begun is_open in
-      subst (λ ls. IsRun parts narrow count t t'' ls) (sym (ap ended_in
-      (sym (append_assoc begun line more)) ∙ ended_then (begun ++ line) more whole))
+      rw (ap ended_in
+      (sym (append_assoc begun line more)) ∙ ended_then (begun ++ line) more whole)
       (run_first t t' t'' (begun ++ line) (ended_in more) may same run)
 
   -- and bytes in which no line ends
   pub unended_run : (a : Annotator) (t : LogTimes) (bytes : List ℕ) → has_end bytes ≡ false
       → IsRunAfter parts narrow count a t t bytes
   unended_run a t bytes unended = λ begun is_open.
-      subst (λ ls. IsRun parts narrow count t t ls)
-      (sym (none_ended_in (begun ++ bytes) (no_end_behind begun bytes is_open.no_end unended)))
+      rw (none_ended_in (begun ++ bytes) (no_end_behind begun bytes is_open.no_end unended))
       (refl, refl)
 
   -- after a line that is open, nothing

@@ -190,8 +190,7 @@ module _ (words : List (List ℕ)) (kept : List Kept) (c : CatalogEntries) (line
   all = kept ++ option_to_list (kept_line c line)
 
   passed : kept_line c line ≡ None → IsSought words all m
-  passed none = subst (λ ks. IsSought words ks m)
-      (sym (ap (λ o. kept ++ option_to_list o) none ∙ append-nil kept)) holds
+  passed none = rw (ap (λ o. kept ++ option_to_list o) none ∙ append-nil kept) holds
 
   pub no_symbol : None ≡ result_ok (symbol_of line) → IsSought words all m
   no_symbol none = passed (ap (option_and_then (kept_symbol c)) (sym none))

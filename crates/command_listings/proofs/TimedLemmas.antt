@@ -4,11 +4,11 @@ use Rattle.command_listings.proofs.Words.{Option, Result, Ok, Err, Bool, true, f
 use Rattle.command_listings.proofs.Words.{subst, inl, inr, arith, take, append-nil, append_assoc}
 use Rattle.command_listings.proofs.Words.{Output, Counted, LogFault, CatalogEntries, answered_by}
 use Rattle.command_listings.proofs.Words.{WrotePart}
-use Rattle.std.specs.Io.KnownBytes.{Consumes, IsAtEnd}
+use Rattle.std.specs.Io.KnownBytes.{IsAtEnd}
 use Rattle.std.proofs.Common.{true≢false}
 use Rattle.std.proofs.KnownBytes.{Appends-nil, Appends-trans, Consumes-kept, Consumes-nil}
 use Rattle.std.proofs.KnownBytes.{Consumes-trans}
-use Rattle.texts.specs.Counted.{Rose, device_of, failures_of}
+use Rattle.texts.specs.Counted.{device_of}
 use Rattle.modules.specs.Listed.{BoundNames}
 use Rattle.listing.specs.declared.address_rules.LogRule.{LogRule}
 use Rattle.logs.specs.Annotation.{IsOpen, Puts, context_in}
@@ -21,8 +21,8 @@ use Rattle.histories.specs.ListingsAt.{IsOf, ListingAfter}
 use Rattle.command_parts.specs.HistoryFiles.{symbols_alone}
 use Rattle.command_parts.specs.OpenedCatalogs.{IsCatalogOf}
 use Rattle.listing.specs.declared.listing_notes.ListingNotes.{ListingNotes}
-use Rattle.command_listings.specs.LineRuns.{IsRun, ended_in, first_times, may_name, times_behind}
-use Rattle.command_listings.specs.TimedLogs.{AreAnswersAfter, AreNamed, EndsBy, IsCutOff, IsNamedOn}
+use Rattle.command_listings.specs.LineRuns.{IsRun, ended_in, first_times, times_behind}
+use Rattle.command_listings.specs.TimedLogs.{AreAnswersAfter, EndsBy, IsCutOff, IsNamedOn}
 use Rattle.command_listings.specs.TimedLogs.{IsNamedTo, IsTimed, IsNamedWhole, IsStopped, IsTimedTo}
 use Rattle.command_listings.specs.TimedLogs.{IsTurn, IsUpTo, NamesEnd, NamesRun, PutsLast, PutsRun}
 use Rattle.command_listings.specs.TimedLogs.{ReadsOn, TimedPoint, first_point, is_narrow_history}
@@ -53,7 +53,7 @@ module _ (kernel : Option BoundNames) (rule : LogRule) (parts : List HistoryPart
     (
       c,
       notes,
-      subst (λ t. IsCatalogOf kernel (symbols_alone t) c notes) (same ∙ is_after) said,
+      rw (same ∙ is_after) at said,
       ap (λ x. answered_by x rule' narrow) index ∙ ap (λ r. answered_by c r narrow) by
           ∙ ap (answered_by c rule) sized,
     ),
@@ -83,9 +83,7 @@ module _ (kernel : Option BoundNames) (rule : LogRule) (parts : List HistoryPart
               parts_are = passed.parts;
               whole = passed.whole;
               no_end = passed.is_open.no_end;
-              run = subst (λ n. IsRun parts n count p.times s'.times (ended_in (p.line ++ run)))
-                  (answers_narrow count answer are) (subst (λ t. IsRun parts answer.is_narrow count
-                  t s'.times (ended_in (p.line ++ run))) (sym times) is_run);
+              run = rw (← times, answers_narrow count answer are) at is_run;
               context = rw (← context) at passed.context;
               put = rw (← context) at passed.put;
             },
@@ -112,7 +110,7 @@ module _ (kernel : Option BoundNames) (rule : LogRule) (parts : List HistoryPart
         context = sym context;
         times = sym times;
         read = refl;
-        consumed = subst (Consumes _ _) (sym none) (Consumes-nil _);
+        consumed = rw none (Consumes-nil _);
         head_is = head ∙ ap (take 2) (sym none);
         sound = refl;
         none_back = inl refl;
@@ -163,7 +161,7 @@ module _ (kernel : Option BoundNames) (rule : LogRule) (parts : List HistoryPart
               context = context;
               times = times;
               read = to.read;
-              consumed = subst (Consumes _ _) all to.consumed;
+              consumed = rw all at to.consumed;
               head_is = to.head_is ∙ ap (take 2) all;
               sound = put.1 ∙ sym put.0 ∙ to.sound;
               none_back = inr put.3;
@@ -185,13 +183,13 @@ module _ (kernel : Option BoundNames) (rule : LogRule) (parts : List HistoryPart
                 left_of pending,
                 to.text ++ part,
                 lost,
-                subst (Consumes _ _) all to.consumed,
+                rw all at to.consumed,
                 Appends-trans _ _ _ to.text part to.appended put,
                 (
                   n + 1,
                   p',
-                  inl (subst (λ t. AreNamed kernel rule parts (n + 1) p' (to.log ++ run) t)
-                      (ap (λ t. to.text ++ t) parted_text ∙ sym (append_assoc to.text part lost))
+                  inl (rw
+                      (ap (λ t. to.text ++ t) parted_text ∙ sym (append_assoc to.text part lost)) at
                       (one_more n count answer to.point p' to.log run to.text text to.named are
                       named)),
                 ),
@@ -230,9 +228,7 @@ module _ (kernel : Option BoundNames) (rule : LogRule) (parts : List HistoryPart
                 answer = answer;
                 answers = are;
                 named =
-                    subst (λ b. may_name parts b count to.point.times to.point.line ≡ true) narrow
-                    (subst (λ t. may_name parts answer.is_narrow count t to.point.line ≡ true)
-                    (sym to.times) may);
+                    rw (← to.times, narrow) at may;
                 times_are =
                     same ∙ ap (λ t. times_behind answer.is_narrow t to.point.line) (sym to.times)
                     ∙ ap (λ b. times_behind b to.point.times to.point.line) narrow;
@@ -253,7 +249,7 @@ module _ (kernel : Option BoundNames) (rule : LogRule) (parts : List HistoryPart
             named = to.named;
             ended = last_named names times text ends;
             read = to.read;
-            consumed = subst (Consumes _ _) log_is to.consumed;
+            consumed = rw log_is at to.consumed;
             at_end = at_end;
             head_is = to.head_is ∙ ap (take 2) log_is;
             sound = put.1;
@@ -321,13 +317,12 @@ module _ (kernel : Option BoundNames) (rule : LogRule) (parts : List HistoryPart
             log = to.log;
             text = to.text;
             named = to.named;
-            is_open = subst (λ (x : TimedLines). IsOpen x.annotator to.point.line) (sym same.0)
-                to.is_open;
+            is_open = rw same.0 to.is_open;
             context = to.context ∙ ap (λ (x : TimedLines). context_in x.annotator) (sym same.0);
             times = to.times ∙ ap (λ (x : TimedLines). x.times) (sym same.0);
             read = all ∙ to.read;
             consumed =
-                Consumes-trans _ _ _ to.log block (subst (Consumes _ _) log_so to.consumed) took;
+                Consumes-trans _ _ _ to.log block (rw log_so at to.consumed) took;
             head_is = head to.log (to.head_is ∙ ap (take 2) log_so);
             sound = to.sound;
             none_back = to.none_back;
@@ -338,7 +333,7 @@ module _ (kernel : Option BoundNames) (rule : LogRule) (parts : List HistoryPart
       pub read_stopped : (f : LogFault) → ReadsOn remaining l' l'' s s' (Err f)
           → IsStopped kernel rule parts remaining contents l w f l'' w'
       read_stopped fault.Read (rose, keeps) = (
-        subst (λ k. Rose k (failures_of l'')) to.read rose,
+        rw to.read at rose,
         (
           n,
           (
@@ -364,7 +359,7 @@ module _ (kernel : Option BoundNames) (rule : LogRule) (parts : List HistoryPart
             to.text,
             bytes,
             to.named,
-            Consumes-trans _ _ _ to.log bytes (subst (Consumes _ _) log_so to.consumed) took,
+            Consumes-trans _ _ _ to.log bytes (rw log_so at to.consumed) took,
             to.sound,
             to.none_back,
             to.appended,
@@ -395,10 +390,7 @@ module _ (kernel : Option BoundNames) (rule : LogRule) (parts : List HistoryPart
       left_named n s s' l' w' w'' pending (to, ended) puts left head on =
           let named = run_put n s.lines s.left.items s.head.items l' w' to count answer are s'.lines
           w'' pending puts in (
-            subst (λ h. IsNamedTo kernel rule parts remaining contents l w (n + 1) s'.lines
-                s'.left.items h l' w'') (sym head)
-                (subst (λ b. IsNamedTo kernel rule parts remaining contents l w (n + 1) s'.lines b
-                s.head.items l' w'') (sym left) named),
+            rw (head, left) named,
             λ is. ended (sym on ∙ is),
           )
 
@@ -428,10 +420,7 @@ module _ (kernel : Option BoundNames) (rule : LogRule) (parts : List HistoryPart
         block_named s'' w'' pending some puts left head on =
             let named = run_put n s'.lines (take k s'.room.items) s'.head.items l'' w' to_block
             count answer are s''.lines w'' pending puts in (
-              subst (λ h. IsNamedTo kernel rule parts remaining contents l w (n + 1) s''.lines
-                  s''.left.items h l'' w'') (sym head)
-                  (subst (λ b. IsNamedTo kernel rule parts remaining contents l w (n + 1) s''.lines
-                  b s'.head.items l'' w'') (sym left) named),
+              rw (head, left) named,
               λ is. is_over read.6 (sym on ∙ is),
             )
           where
@@ -455,8 +444,7 @@ module _ (kernel : Option BoundNames) (rule : LogRule) (parts : List HistoryPart
           where
             to_end : IsNamedTo kernel rule parts remaining contents l w n s'.lines [] s'.head.items
                 l'' w'
-            to_end = subst (λ (i : ℕ). IsNamedTo kernel rule parts remaining contents l w n s'.lines
-                (take i s'.room.items) s'.head.items l'' w') zero to_block
+            to_end = rw zero at to_block
 
             over : IsAtEnd (remaining (device_of l''))
             over = read.5 zero timed.1
@@ -469,12 +457,10 @@ module _ (kernel : Option BoundNames) (rule : LogRule) (parts : List HistoryPart
             by (Ok (turn.Other time)) same = (
               n,
               omega arith,
-              subst (λ x. IsTimedTo kernel rule parts remaining contents l w n s' l'' x)
-                  (sym same) (
-                    subst (λ b. IsNamedTo kernel rule parts remaining contents l w n s'.lines b
-                        s'.head.items l'' w') (sym (read.0.1 ∙ none)) to_end,
-                    λ is. over,
-                  ),
+              rw same (
+                rw (read.0.1 ∙ none) to_end,
+                λ is. over,
+              ),
             )
             by (Err f) puts = last_stopped n s'.lines [] s'.head.items l'' w' to_end refl count
                 answer are w'' f puts
@@ -497,10 +483,7 @@ module _ (kernel : Option BoundNames) (rule : LogRule) (parts : List HistoryPart
     ended_as s (Ok x) (Ok end) l' w' (names, times, head) is =
         subst (λ n. IsNamedWhole kernel rule parts remaining contents l w n end.times
         end.found.head.items l' w') (sym names)
-        (subst (λ t. IsNamedWhole kernel rule parts remaining contents l w x.0 t
-        end.found.head.items l' w') (sym times)
-        (subst (λ h. IsNamedWhole kernel rule parts remaining contents l w x.0 x.1 h l' w')
-        (sym head) is))
+        (rw (times, head) is)
     ended_as s (Err f) (Err f') l' w' same is =
         subst (λ f. IsStopped kernel rule parts remaining contents l w f l' w') (sym same) is
     ended_as s (Ok x) (Err f) l' w' none is = absurd none

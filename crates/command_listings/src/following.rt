@@ -37,7 +37,7 @@ use crate::notes::note_listings;
 use crate::sources::{ListingFiles, Sources};
 use command_parts::{Fault, ListingTexts, Outputs, open_catalog};
 use listing::{is_narrow, shows_symbol};
-use logs::{Annotator, Answers, Findings, LogFault, LogNames, keep_head, says_nothing};
+use logs::{Annotator, Answers, Findings, LogFault, LogNames, keep_head};
 use modules::{ExpectedLookups, IndexedCatalog};
 use order_laws::Refusal;
 use std::alloc::Global;
@@ -369,9 +369,7 @@ fn put_by<A: Answers, W: Write>(
 {
     match part {
         Part::Lines(block) => {
-            let is_silent = says_nothing(block);
-            answers.prepare(is_silent)?;
-            annotator.pass(alloc, answers, block, is_silent, writer)?;
+            annotator.pass_block(alloc, answers, block, writer)?;
             Ok(annotator.names())
         }
         Part::Last => annotator.end(alloc, answers, writer),

@@ -45,7 +45,8 @@ pub fn history_own_offset_engine<H: Read, L: Read, E: Write, W: Write>(
         None => write_timed(alloc, &history, &log, request, outputs),
         Some(_) => {
             let texts = texts_at(alloc, &history, time)?;
-            write_by_own_offset(alloc, texts, &log, request, outputs)
+            let said = own_offset(&log, &texts.kallsyms);
+            write_by_own_offset(alloc, texts, &log, said, request, outputs)
         }
     }
 }
@@ -64,7 +65,8 @@ fn write_timed<E: Write, W: Write>(
         (own_offset log.now (first_listing history.now)) result }
 {
     let first = history.first_listing(alloc)?;
-    if let Ok(0) = own_offset(log, first.text()) {
+    let said = own_offset(log, first.text());
+    if let Ok(0) = said {
         let job = job_by(0, request.job);
         let request = LogRequest {
             sources: request.sources,
@@ -73,12 +75,8 @@ fn write_timed<E: Write, W: Write>(
         let mut log = Counted::new(log);
         return annotate_timed(alloc, history, &mut log, request, outputs);
     }
-    let texts = ListingTexts {
-        modules: None,
-        kallsyms: first.into_text(alloc)?,
-        regions: None,
-    };
-    write_by_own_offset(alloc, texts, log, request, outputs)
+    let texts = ListingTexts::of_symbols(first.into_text(alloc)?);
+    write_by_own_offset(alloc, texts, log, said, request, outputs)
 }
 
 /// The job with this offset.

@@ -55,23 +55,24 @@ pub fn own_offset_engine<M: Read, K: Read, R: Read, L: Read, E: Write, W: Write>
 {
     let texts = read_given(alloc, listings)?;
     let log = read_at(alloc, log, LOG_PLACE)?;
-    write_by_own_offset(alloc, texts, &log, request, outputs)
+    let said = own_offset(&log, &texts.kallsyms);
+    write_by_own_offset(alloc, texts, &log, said, request, outputs)
 }
 
-/// Writes a log with this text again by the offset that it says.
+/// Writes a log with this text again by the offset that it says, if it says one.
 pub(crate) fn write_by_own_offset<E: Write, W: Write>(
     alloc: Global,
     texts: ListingTexts,
     log: &[u8],
+    said: Result<u64, NoOffset>,
     request: LogRequest<'_, '_>,
     outputs: &mut Outputs<W, E>,
 ) -> Result<u8, Fault>
     ensures { WritesByOffset W.contents E.contents request.entry.sources.now
         request.entry.job.now outputs.old.writer outputs.new.writer outputs.old.errors
-        outputs.new.errors (texts_in texts) log.now
-        (own_offset log.now (texts_in texts).kallsyms) result }
+        outputs.new.errors (texts_in texts) log.now said result }
 {
-    let offset = match own_offset(log, &texts.kallsyms) {
+    let offset = match said {
         Ok(offset) => offset,
         Err(why) => return Ok(note_no_offset(
             why,
@@ -145,11 +146,8 @@ fn asked_by(alloc: Global, offset: u64, texts: ListingTexts) -> Result<ListingTe
     if offset == 0 {
         return Ok(texts);
     }
-    Ok(ListingTexts {
-        modules: None,
-        kallsyms: without_modules(alloc, &texts.kallsyms)?,
-        regions: None,
-    })
+    let kallsyms = without_modules(alloc, &texts.kallsyms)?;
+    Ok(ListingTexts::of_symbols(kallsyms))
 }
 
 /// The rule with this offset.

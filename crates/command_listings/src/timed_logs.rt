@@ -25,7 +25,7 @@ use crate::log_answers::CatalogAnswers;
 use command_parts::open_symbols;
 use histories::{History, ListingAt};
 use listing::{ListingNotes, LogRule};
-use logs::{Annotator, Answers, Findings, LogFault, LogNames, keep_head, says_nothing};
+use logs::{Annotator, Answers, Findings, LogFault, LogNames, keep_head};
 use modules::{ExpectedLookups, IndexedCatalog, KernelBounds};
 use std::alloc::{AllocError, Global};
 use std::io::{Read, Write};
@@ -179,11 +179,9 @@ fn name_run<A: Answers, W: Write>(
         bytes,
     )?;
     let pending = pending_of(alloc, run.left, run.other)?;
-    let is_silent = says_nothing(run.named);
-    answers.prepare(is_silent)?;
     lines.times = run.times;
     let annotator = &mut lines.annotator;
-    annotator.pass(alloc, answers, run.named, is_silent, writer)?;
+    annotator.pass_block(alloc, answers, run.named, writer)?;
     Ok(pending)
 }
 

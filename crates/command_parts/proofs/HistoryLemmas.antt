@@ -1,6 +1,6 @@
 -- What is returned where a history is read.
 use Rattle.command_parts.proofs.Words.{◌≡◌, ℕ, List, Option, Some, None, Result, Ok, Err, IfSome}
-use Rattle.command_parts.proofs.Words.{inl, refl, subst, sym, IsErrAnd}
+use Rattle.command_parts.proofs.Words.{inl, refl, IsErrAnd}
 use Rattle.std.specs.Global.{Vec}
 use Rattle.texts.specs.Counted.{NoneFailed, device_of, failures_of}
 use Rattle.texts.specs.declared.counted.Counted.{Counted}
@@ -20,7 +20,7 @@ said_if_known : (known : Option (List ℕ)) (bytes : List ℕ) (said : Result (L
     → IfSome known (λ text. bytes ≡ text) → history_of (lines bytes) ≡ said
     → IfSome known (λ text. history_of (lines text) ≡ said)
 said_if_known None bytes said read is = tt
-said_if_known (Some text) bytes said read is = subst (λ t. history_of (lines t) ≡ said) read is
+said_if_known (Some text) bytes said read is = rw read at is
 
 module _ {R : Type 0} (remaining : R → Option (List ℕ)) (r r' : Counted R) where
   -- the file was read whole
@@ -51,11 +51,11 @@ module _ {R : Type 0} (remaining : R → Option (List ℕ)) (r r' : Counted R) w
       → AnswersHistory remaining Answers r r' w w result
   no_history Answers w (Ok done) fault is h = absurd is
   no_history Answers w (Err f) fault is h =
-      inl (subst (IsNoHistory remaining r r') (sym is) h, refl)
+      inl (rw is h, refl)
 
   -- the same of a listing
   pub no_listing : (time : Option ℕ) (result : Result ListingTexts Fault) (fault : Fault)
       → IsErrAnd result (λ f. f ≡ fault) → IsNoHistory remaining r r' fault
       → ReadsListingAt remaining time r r' result
   no_listing time (Ok texts) fault is h = absurd is
-  no_listing time (Err f) fault is h = subst (IsNoHistory remaining r r') (sym is) h
+  no_listing time (Err f) fault is h = rw is h

@@ -1,6 +1,6 @@
 -- What holds of a catalog that was opened.
 use Rattle.command_parts.proofs.Words.{◌≡◌, ◌∙◌, Bool, List, ℕ, Option, Some, None, Result, Ok, Err}
-use Rattle.command_parts.proofs.Words.{IfOk, ap, false, refl, subst}
+use Rattle.command_parts.proofs.Words.{IfOk, ap, false, refl}
 use Rattle.texts.specs.Lines.{lines_of}
 use Rattle.modules.specs.Listed.{BoundNames, ListedRegion}
 use Rattle.listing.specs.Opening.{Given, IsOpened, Listed, listings_of, listings_with}
@@ -45,7 +45,7 @@ of_regions g (Some text) = of_lines g (regions_of_text text)
 
 pub same_texts : (g : Given) (l : Listed) → listings_of g ≡ Ok l
     → (l.modules ≡ g.modules) × (l.kallsyms ≡ g.kallsyms)
-same_texts g l is = subst (λ r. IfOk r (HasTexts g)) is (of_regions g g.regions)
+same_texts g l is = rw is at (of_regions g g.regions)
 
 -- its lines went where the listings say
 pub tallies_said : (kernel : Option BoundNames) (mapping : Bool) (l : Listed) (o : OpenedCatalog)

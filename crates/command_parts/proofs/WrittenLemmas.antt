@@ -1,5 +1,5 @@
 -- What a command returns that wrote all of its text, or a beginning of it.
-use Rattle.command_parts.proofs.Words.{◌≡◌, ℕ, List, Result, Ok, Err, false, subst, sym}
+use Rattle.command_parts.proofs.Words.{◌≡◌, ℕ, List, Result, Ok, Err, false}
 use Rattle.std.proofs.Common.{true, OnErr, Option, IfErr, OnOk}
 use Rattle.command_parts.specs.declared.fault.Fault.{Fault}
 use Rattle.command_parts.specs.declared.fault.Fault.TheVariants.{Write}
@@ -15,4 +15,4 @@ module _ {W : Type 0} (contents : W → Option (List ℕ)) (w w' : Output W) (te
       → OnErr r (has_failed w' ≡ true) → IfErr r (λ f. f ≡ Write) → Answers r
   said_written (Ok u) sound failed is = whole u (all_delivered delivers sound)
   said_written (Err f) sound failed is =
-      subst (λ (e : Fault). Answers (Err e)) (sym is) (part (part_written delivers.0 failed))
+      rw is (part (part_written delivers.0 failed))

@@ -53,9 +53,5 @@ pub fn texts_at(
         (λ texts. texts_in texts ≡ symbols_alone (listing_at time history.now)) }
 {
     let listing = history.listing_at(alloc, time)?;
-    Ok(ListingTexts {
-        modules: None,
-        kallsyms: listing.into_text(alloc)?,
-        regions: None,
-    })
+    Ok(ListingTexts::of_symbols(listing.into_text(alloc)?))
 }

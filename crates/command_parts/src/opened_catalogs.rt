@@ -37,6 +37,17 @@ pub struct ListingTexts {
 impl ListingTexts {
     ghost use Rattle.command_parts.specs.OpenedCatalogs.{GivesListings};
 
+    /// A listing of symbols with this text, and no other listing.
+    pub fn of_symbols(kallsyms: Vec<u8>) -> ListingTexts
+        ensures { texts_in result ≡ symbols_alone kallsyms.items }
+    {
+        ListingTexts {
+            modules: None,
+            kallsyms,
+            regions: None,
+        }
+    }
+
     /// The listings with these texts, with the lines of the listing of regions.
     pub fn listings(&self, alloc: Global) -> Result<Listings<'_>, Fault>
         ensures listings { GivesListings (texts_in self.now) result }

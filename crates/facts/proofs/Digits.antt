@@ -1,7 +1,7 @@
 -- Facts about the values of digits alone.
 use Rattle.facts.proofs.Words.{◌&&◌, ◌*◌, ◌++◌, ◌+◌, ◌<◌, ◌^◌, ◌∙◌, ◌∷◌, ◌≡◌, ◌≤◌, Bool, List, []}
 use Rattle.facts.proofs.Words.{ap, arith, drop, drop_of_length-le, le-add_right, le_trans, length}
-use Rattle.facts.proofs.Words.{refl, subst, sym, true, ℕ, ⊎_elim, list_all, and_assoc}
+use Rattle.facts.proofs.Words.{refl, sym, true, ℕ, ⊎_elim, list_all, and_assoc}
 use Rattle.facts.proofs.Words.{mul-le-mul_left, pow-le-pow_right, pow-suc, pow-zero, and_parts}
 use Rattle.facts.proofs.Words.{cases_lt, eqb-true, nat_tests, pow_more}
 use Rattle.std.proofs.Common.{◌==◌, nat_lt}
@@ -60,21 +60,12 @@ next_digit value i digit h d = rw (pow_more 16 i) (omega arith)
 
 pub digit_fits : (value i n digit : ℕ) → value < 16 ^ i → digit < 16 → i < n → n ≤ 16
     → value * 16 + digit < 2 ^ 64
-digit_fits value i n digit h d lt few =
-    let most : 16 ^ (i + 1) ≤ 16 ^ 16 =
-    pow-le-pow_right {n = 16} (omega arith) {i = i + 1} {j = 16} (omega arith) in
-    let next = next_digit value i digit h d in
-    let all : 16 ^ 16 ≡ 2 ^ 64 = refl in
-    omega arith
+digit_fits value i n digit h d lt few = grind (arith, nat_tests, pow-le-pow_right, next_digit)
 
 -- ---- one more of eight digits, of which each may be any byte
 
 pub room_for_digit : (value i : ℕ) → value + 17 ≤ 17 * 16 ^ i → i < 8 → value * 16 + 255 < 2 ^ 64
-room_for_digit value i h lt =
-    let most : 16 ^ i ≤ 16 ^ 8 =
-    pow-le-pow_right {n = 16} (omega arith) {i = i} {j = 8} (omega arith) in
-    let all : 16 ^ 8 ≡ 4294967296 = refl in
-    omega arith
+room_for_digit value i h lt = grind (arith, nat_tests, pow-le-pow_right)
 
 pub digit_room : (value i digit : ℕ) → value + 17 ≤ 17 * 16 ^ i → digit < 256
     → value * 16 + digit + 17 ≤ 17 * 16 ^ (i + 1)
@@ -103,15 +94,7 @@ more_bits bits digit rest =
 pub two_halves : (high low : List ℕ) → length low ≡ 8
     → digits_value 16 high * 4294967296 + digits_value 16 low ≡ digits_value 16 (high ++ low)
 two_halves high low eight =
-    let scale : 16 ^ length low ≡ 4294967296 = ap (λ n. 16 ^ n) eight in
-    let e : digits_value_after 16 (digits_value 16 high) low
-    ≡ digits_value 16 high * 16 ^ length low + digits_value 16 low =
-    digits_value_after-is 16 (digits_value 16 high) low in
-    let f : digits_value 16 (high ++ low) ≡ digits_value_after 16 (digits_value 16 high) low =
-    digits_value_after-append 16 0 high low in
-    let g : digits_value 16 high * 16 ^ length low ≡ digits_value 16 high * 4294967296 =
-    ap (λ x. digits_value 16 high * x) scale in
-    sym (f ∙ e ∙ ap (λ x. x + digits_value 16 low) g)
+    grind (arith, nat_tests, digits_value_after-is, digits_value_after-append)
 
 pub AllDigits-from_list_all : (cs : List ℕ) → list_all (λ c. is_digit c 16) cs ≡ true
     → AllDigits 16 cs
@@ -122,12 +105,7 @@ AllDigits-from_list_all (c ∷ cs) all =
 
 pub half_fits : (cs : List ℕ) → length cs ≡ 8 → list_all (λ c. is_digit c 16) cs ≡ true
     → digits_value 16 cs < 4294967296
-half_fits cs eight all =
-    let scale : 16 ^ length cs ≡ 4294967296 = ap (λ n. 16 ^ n) eight in
-    omega (arith, digits_value-lt 16 cs (AllDigits-from_list_all cs all), scale)
+half_fits cs eight all = grind (arith, nat_tests, digits_value-lt, AllDigits-from_list_all)
 
 pub digit_not_blank : (c : ℕ) → is_digit c 16 ≡ true → (c == 32) ≡ true → ⊥
-digit_not_blank c digit blank =
-    let same : c ≡ 32 = eqb-true c 32 blank in
-    let at_blank : is_digit 32 16 ≡ true = subst (λ n. is_digit n 16 ≡ true) same digit in
-    cc
+digit_not_blank c digit blank = grind (arith, nat_tests, eqb-true)

@@ -1,11 +1,12 @@
 -- Facts about what each element of a list has, as `AllByRecursion` says it.
-use Rattle.facts.proofs.Words.{◌++◌, ◌<◌, ◌∷◌, ◌≡◌, ◌≢◌, ◌≤◌, Bool, List, Some, [], arith, cond}
+use Rattle.facts.proofs.Words.{◌++◌, ◌<◌, ◌∷◌, ◌≡◌, ◌≢◌, ◌≤◌, Bool, List, Some, [], arith}
 use Rattle.facts.proofs.Words.{drop, eqb, false, get_or, length, subst, suc, true, zero, ℕ, ⊎_elim}
 use Rattle.facts.proofs.Words.{Contains, filter, slice_get, AllByRecursion, list_any}
 use Rattle.facts.proofs.Words.{IsNonDecreasingBy, eqb-true, ne_eqb, or_cases, All-contains}
 use Rattle.facts.proofs.Words.{All-from_recursion}
 use Rattle.std.specs.Prelude.{insert, remove}
 use Rattle.facts.proofs.Members.{Contains-rest}
+use Rattle.std.proofs.lemmas.Bool.Decides.{nat_tests}
 
 pub all_left : {X : Type 0} (P : X → Type 0) (xs ys : List X) → AllByRecursion P (xs ++ ys)
     → AllByRecursion P xs
@@ -45,11 +46,7 @@ all_from P (x ∷ xs) f =
 pub all_filtered : {X : Type 0} (P : X → Type 0) (test : X → Bool) (xs : List X)
     → AllByRecursion P xs → AllByRecursion P (filter test xs)
 all_filtered P test [] h = tt
-all_filtered P test (x ∷ xs) h =
-    elim (test x) as (λ b. AllByRecursion P (cond b (x ∷ filter test xs) (filter test xs))) [
-      | true ↦ (h.0, all_filtered P test xs h.1)
-      | false ↦ all_filtered P test xs h.1
-    ]
+all_filtered P test (x ∷ xs) h = grind (arith, nat_tests, all_filtered P test xs h.1)
 
 -- ---- with an element put in or taken out, a rest, and the element at a place
 

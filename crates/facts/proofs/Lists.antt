@@ -1,14 +1,15 @@
 -- Facts about lists and the places in them alone.
-use Rattle.facts.proofs.Words.{◌++◌, ◌+◌, ◌-◌, ◌<◌, ◌∙◌, ◌∷◌, ◌≡◌, ◌≤◌, List, Some, [], ap}
+use Rattle.facts.proofs.Words.{◌++◌, ◌+◌, ◌<◌, ◌∙◌, ◌∷◌, ◌≡◌, ◌≤◌, List, Some, [], ap}
 use Rattle.facts.proofs.Words.{append_assoc, arith, drop, false, get_or, inl, inr, length, map}
-use Rattle.facts.proofs.Words.{refl, suc, sym, take, true, zero, ℕ, ⊎_elim, slice_get}
-use Rattle.facts.proofs.Words.{slice_index_or, slice_set, onto_first, swap_remove, lt-ltb, take-set}
+use Rattle.facts.proofs.Words.{refl, suc, sym, take, zero, ℕ, slice_get}
+use Rattle.facts.proofs.Words.{onto_first, swap_remove, lt-ltb, take-set}
 use Rattle.facts.proofs.Words.{take-take, take_more, Option, None, filter_map, cons_option}
 use Rattle.facts.proofs.Words.{filter_map-append}
 use Rattle.std.proofs.Common.{append-nil}
 use Rattle.std.specs.Prelude.{◌⊎◌, insert, nat_lt, remove}
 use Rattle.std.specs.Global.{Vec}
 use mathlib.Core.List.{IsPrefix}
+use Rattle.std.proofs.lemmas.Bool.Decides.{nat_tests}
 
 -- ---- joined lists
 
@@ -27,12 +28,7 @@ pub gathered : {A : Type 0} (before taken mid more rest new text so_far : List A
     → taken ++ mid ≡ before ++ so_far → more ++ rest ≡ mid ++ [] → new ≡ rest ++ text
     → (taken ++ more) ++ new ≡ before ++ (so_far ++ text)
 gathered before taken mid more rest new text so_far first second third =
-    ap (λ l. (taken ++ more) ++ l) third
-    ∙ append_assoc taken more (rest ++ text)
-    ∙ ap (λ l. taken ++ l)
-    (sym (append_assoc more rest text) ∙ ap (λ l. l ++ text) (second ∙ append-nil mid))
-    ∙ sym (append_assoc taken mid text) ∙ ap (λ l. l ++ text) first
-    ∙ append_assoc before so_far text
+    grind (arith, nat_tests, append_assoc, append-nil)
 
 pub append_nil_left : {X : Type 0} (xs ys : List X) → xs ++ ys ≡ [] → xs ≡ []
 append_nil_left [] ys e = refl
@@ -52,9 +48,7 @@ IsPrefix-along xs ys zs p q =
 
 pub nil-from_length : {X : Type 0} (xs : List X) → nat_lt 0 (length xs) ≡ false → xs ≡ []
 nil-from_length [] e = refl
-nil-from_length (x ∷ xs) e =
-    absurd (let more : nat_lt 0 (suc (length xs)) ≡ true =
-    lt-ltb 0 (suc (length xs)) (omega arith) in let f : true ≡ false = sym more ∙ e in cc)
+nil-from_length (x ∷ xs) e = grind (arith, nat_tests, lt-ltb)
 
 pub length-onto_first : (x : ℕ) (lines : List (List ℕ))
     → length (onto_first x lines) ≤ length lines + 1
@@ -90,9 +84,7 @@ take_push xs i x lt is = ap (λ y. take i xs ++ y ∷ []) is ∙ sym (take_more 
 -- the front of a list, after an element beyond it was taken out
 pub take-swap_remove : {X : Type 0} (xs : List X) (i : ℕ) (d : X) → i < length xs
     → take i (swap_remove xs i d) ≡ take i xs
-take-swap_remove xs i d lt =
-    take-take i (length xs - 1) (slice_set xs i (slice_index_or xs (length xs - 1) d)) (omega arith)
-    ∙ take-set xs i (slice_index_or xs (length xs - 1) d)
+take-swap_remove xs i d lt = grind (arith, nat_tests, take-take, take-set)
 
 pub take-append_whole : {X : Type 0} (xs ys : List X) → take (length xs) (xs ++ ys) ≡ xs
 take-append_whole [] ys = refl
@@ -131,8 +123,7 @@ slice_get-push_cases [] u v zero e = inr (refl, cc)
 slice_get-push_cases [] u v (suc j) e = absurd cc
 slice_get-push_cases (x ∷ xs) u v zero e = inl (omega arith, e)
 slice_get-push_cases (x ∷ xs) u v (suc j) e =
-    ⊎_elim (λ k. inl (let l = k.0 in omega arith, k.1)) (λ k. inr (ap suc k.0, k.1))
-    (slice_get-push_cases xs u v j e)
+    grind (arith, nat_tests, slice_get-push_cases xs u v j e)
 
 -- the place of an element of a list is also that of what is made of it
 pub get_or-map_default : {X Y : Type 0} (f : X → Y) (xs : List X) (i : ℕ) (d : X)
@@ -177,6 +168,4 @@ module _ {A T : Type 0} (f : A → Option T) (xs : List A) (x : A) where
       filter_map-append f xs (x ∷ []) ∙ ap (λ o. filter_map f xs ++ cons_option o []) is
 
   pub none_given_more : f x ≡ None → filter_map f (xs ++ x ∷ []) ≡ filter_map f xs
-  none_given_more is =
-      filter_map-append f xs (x ∷ []) ∙ ap (λ o. filter_map f xs ++ cons_option o []) is
-      ∙ append-nil (filter_map f xs)
+  none_given_more is = grind (arith, nat_tests, filter_map-append, append-nil)

@@ -44,9 +44,7 @@ pub list_all-inserted : (p : ℕ × ℕ → Bool) (e : ℕ × ℕ) (es rest : Li
     ≡ (p (k, v) && (p e && list_all p es))
 list_all-inserted p e es rest k v found Less h ih = refl
 list_all-inserted p e es rest k v found Equal h ih = absurd (cc)
-list_all-inserted p e es rest k v found Greater h ih =
-    let is : list_all p rest ≡ (p (k, v) && list_all p es) = ih h in
-    grind arith
+list_all-inserted p e es rest k v found Greater h ih = grind (arith, nat_tests)
 
 -- a test of all entries after one more was put in
 pub list_all-insert_entry : (p : ℕ × ℕ → Bool) (es : List (ℕ × ℕ)) (k v : ℕ)

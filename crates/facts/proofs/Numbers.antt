@@ -1,5 +1,5 @@
 -- Facts about numbers and tests on them alone.
-use Rattle.facts.proofs.Words.{◌&&◌, ◌+◌, ◌<◌, ◌||◌, ◌∙◌, ◌≡◌, ◌≤◌, arith, false, if◌then◌else◌}
+use Rattle.facts.proofs.Words.{◌&&◌, ◌+◌, ◌<◌, ◌||◌, ◌≡◌, ◌≤◌, arith, false, if◌then◌else◌}
 use Rattle.facts.proofs.Words.{inl, inr, min, nat_le, not, subst, suc, sym, true, ℕ, ⊎_elim, max}
 use Rattle.facts.proofs.Words.{is_lt, nat_cmp, ordering_then, min-eq_left, min-eq_right}
 use Rattle.facts.proofs.Words.{min-le_left, min-le_right, cases_Bool, cases_eq, cases_lt, eq-eqb}
@@ -9,11 +9,7 @@ use Rattle.std.specs.Prelude.{◌==◌}
 use Rattle.std.proofs.Math.Dec.{leb}
 
 pub eqb-flip : (a b : ℕ) → (a == b) ≡ (b == a)
-eqb-flip a b =
-    ⊎_elim
-    (λ same. eq-eqb a b same ∙ sym (eq-eqb b a (sym same)))
-    (λ differ. ne_eqb a b differ ∙ sym (ne_eqb b a (λ e. differ (sym e))))
-    (cases_eq a b)
+eqb-flip a b = grind (arith, nat_tests, eq-eqb, ne_eqb, cases_eq)
 
 -- what the last number and each below it have, each number has
 pub below_suc : (P : ℕ → Type 0) (k : ℕ) → P k → ((i : ℕ) → i < k → P i) → (i : ℕ) → i < suc k →

@@ -6,6 +6,8 @@ use Rattle.facts.proofs.Words.{option_eq, option_map_or, bytes_eq, false_from_ne
 use Rattle.std.proofs.Common.{Result}
 use Rattle.std.specs.Prelude.{nat_eq, option_map}
 use Rattle.std.specs.Borrow.{Bor}
+use Rattle.std.proofs.Common.{arith}
+use Rattle.std.proofs.lemmas.Bool.Decides.{nat_tests}
 
 pub None-from_is_none : {X : Type 0} (x : Option X) → is_some x ≡ false → x ≡ None
 None-from_is_none None e = refl
@@ -36,10 +38,7 @@ pub Some-from_parts : {A B : Type 0} (o : Option (A × B)) (name : A) (rows : B)
     → Some name ≡ option_map (λ p. p.0) o → Some rows ≡ option_map (λ p. p.1) o
     → o ≡ Some (name, rows)
 Some-from_parts None name rows e f = absurd (cc)
-Some-from_parts (Some p) name rows e f =
-    let a : p.0 ≡ name = cc in
-    let b : p.1 ≡ rows = cc in
-    ap Some (λ i. (a i, b i))
+Some-from_parts (Some p) name rows e f = grind (arith, nat_tests)
 
 pub option_copied-same : (m n : Option (Bor (List ℕ)))
     → option_eq (λ x y. pointwise nat_eq x.now y.now) m n ≡ true → option_copied m ≡ option_copied n

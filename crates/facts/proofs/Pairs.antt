@@ -1,7 +1,7 @@
 -- Facts about pairs of elements of lists alone: of one list, and of two side by side.
 use Rattle.facts.proofs.Words.{◌++◌, ◌+◌, ◌<◌, ◌∙◌, ◌∷◌, ◌≡◌, ◌≤◌, List, Some, [], ap, arith}
 use Rattle.facts.proofs.Words.{flat_map, get_or, inl, inr, length, length-append, refl, subst, suc}
-use Rattle.facts.proofs.Words.{sym, take, zero, ℕ, ⊎_elim, Contains, slice_get, zip, AllPairs}
+use Rattle.facts.proofs.Words.{take, zero, ℕ, Contains, slice_get, zip, AllPairs}
 use Rattle.facts.proofs.Words.{range_with_len, flat_map-append, get_or-append-add}
 use Rattle.facts.proofs.Words.{get_or_append_left, get_or_default, take_more}
 use Rattle.std.proofs.Common.{◌⊎◌}
@@ -9,6 +9,7 @@ use Rattle.std.proofs.lemmas.List.{append-nil}
 use Rattle.std.proofs.lemmas.List.FromFn.{get_or-range_with_len}
 use Rattle.std.proofs.lemmas.Slice.Zip.{get_or-zip, length-zip}
 use Rattle.facts.proofs.Lists.{slice_get-push_cases}
+use Rattle.std.proofs.lemmas.Bool.Decides.{nat_tests}
 
 pub AllPairs-few : {A : Type 0} (R : A → A → Type 0) (xs : List A) → length xs ≤ 1 → AllPairs R xs
 AllPairs-few R xs short = λ i j d lt within. absurd (omega arith)
@@ -27,17 +28,12 @@ AllPairs-across R xs ys x y all (i, lt, is) (j, less, there) =
 pub AllPairs-left : {X : Type 0} (R : X → X → Type 0) (xs ys : List X) → AllPairs R (xs ++ ys)
     → AllPairs R xs
 AllPairs-left R xs ys all i j d less lt =
-    let r = all i j d less (omega (arith, length-append xs ys)) in
-    subst (λ b. R (get_or xs i d) b) (get_or_append_left xs ys d j lt)
-    (subst (λ a. R a (get_or (xs ++ ys) j d)) (get_or_append_left xs ys d i (omega arith)) r)
+    grind (arith, nat_tests, length-append, get_or_append_left)
 
 pub AllPairs-right : {X : Type 0} (R : X → X → Type 0) (xs ys : List X) → AllPairs R (xs ++ ys)
     → AllPairs R ys
 AllPairs-right R xs ys all i j d less lt =
-    let r =
-    all (length xs + i) (length xs + j) d (omega arith) (omega (arith, length-append xs ys)) in
-    subst (λ b. R (get_or ys i d) b) (get_or-append-add xs ys j d)
-    (subst (λ a. R a (get_or (xs ++ ys) (length xs + j) d)) (get_or-append-add xs ys i d) r)
+    grind (arith, nat_tests, length-append, get_or-append-add)
 
 -- ---- two lists side by side
 
@@ -100,12 +96,7 @@ pub numbered-zip : {X Y : Type 0} (xs : List X) (ys : List Y) (n : ℕ) (x : X) 
     → x ≡ get_or xs n x → y ≡ get_or ys n y → ◌≡◌ {A = ℕ × (X × Y)} (n + 1, (x, y))
     (get_or (range_with_len 1 (length xs)) n 0, get_or (zip xs ys) n (x, y))
 numbered-zip {X} {Y} xs ys n x y below_x below_y is_x is_y =
-    let number : n + 1 ≡ get_or (range_with_len 1 (length xs)) n 0 =
-    omega (arith, get_or-range_with_len 1 (length xs) n 0 below_x) in
-    let here : ◌≡◌ {A = X × Y} (x, y) (get_or xs n x, get_or ys n y) = λ i. (is_x i, is_y i) in
-    let pair : ◌≡◌ {A = X × Y} (x, y) (get_or (zip xs ys) n (x, y)) =
-    here ∙ sym (get_or-zip xs ys n (x, y) below_x below_y) in
-    λ i. (number i, pair i)
+    grind (arith, nat_tests, get_or-range_with_len, get_or-zip)
 
 -- what each pair of entries has, after one more at both ends
 pub both_pushed : {A B : Type 0} (P : ℕ → A → B → Type 0) (xs : List A) (ys : List B) (x : A)
@@ -115,13 +106,4 @@ pub both_pushed : {A B : Type 0} (P : ℕ → A → B → Type 0) (xs : List A) 
     → P (length xs) x y
     → (i : ℕ) (a : A) (b : B) → slice_get (xs ++ x ∷ []) i ≡ Some a
     → slice_get (ys ++ y ∷ []) i ≡ Some b → P i a b
-both_pushed P xs ys x y same each last i a b ea eb =
-    ⊎_elim
-    (λ p. ⊎_elim (λ q. each i a b p.1 q.1) (λ q. absurd (let l = p.0 in let m = q.0 in omega arith))
-    (slice_get-push_cases ys y b i eb))
-    (λ p. ⊎_elim
-    (λ q. absurd (let l = p.0 in let m = q.0 in omega arith))
-    (λ q. subst (λ k. P k a b) (sym p.0)
-    (subst (λ z. P (length xs) z b) p.1 (subst (λ z. P (length xs) x z) q.1 last)))
-    (slice_get-push_cases ys y b i eb))
-    (slice_get-push_cases xs x a i ea)
+both_pushed P xs ys x y same each last i a b ea eb = grind (arith, nat_tests, slice_get-push_cases)

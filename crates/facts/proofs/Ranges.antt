@@ -1,6 +1,7 @@
 -- Facts about lists of numbers that follow one another alone.
 use Rattle.facts.proofs.Words.{◌++◌, ◌+◌, ◌∙◌, ◌∷◌, ◌≡◌, [], add-zero, ap, arith, refl, suc, zero}
 use Rattle.facts.proofs.Words.{ℕ, range_with_len}
+use Rattle.std.proofs.lemmas.Bool.Decides.{nat_tests}
 
 -- so many numbers, and then more
 pub range-append : (a k m : ℕ)
@@ -21,7 +22,4 @@ range-append_from_zero k m = range-append 0 k m
 -- one number more
 pub range-push : (a n : ℕ) → range_with_len a (n + 1) ≡ range_with_len a n ++ (a + n) ∷ []
 range-push a zero = rw add-zero refl
-range-push a (suc n) =
-    let one : suc n + 1 ≡ suc (n + 1) = omega arith in
-    let last : (a + 1) + n ≡ a + suc n = omega arith in
-    rw (one, ← last) (ap (λ xs. a ∷ xs) (range-push (a + 1) n))
+range-push a (suc n) = grind (arith, nat_tests, range-push (a + 1) n)

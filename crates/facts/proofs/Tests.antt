@@ -3,7 +3,7 @@ use Rattle.facts.proofs.Words.{◌&&◌, ◌++◌, ◌+◌, ◌-◌, ◌<◌, �
 use Rattle.facts.proofs.Words.{None, Ok, Option, Some, [], add-zero, ap, arith, cond, drop, false}
 use Rattle.facts.proofs.Words.{get_or, inl, inr, length, length-append, map, not, refl, subst, suc}
 use Rattle.facts.proofs.Words.{sym, take, true, zero, ℕ, ⊎_elim, All, count_by, filter, find, is_ok}
-use Rattle.facts.proofs.Words.{is_some, bytes_decides, AllByRecursion, list_all, list_any}
+use Rattle.facts.proofs.Words.{is_some, AllByRecursion, list_all, list_any}
 use Rattle.facts.proofs.Words.{position_from, IsBinarySearchResult, IsNonDecreasing, nat_cmp}
 use Rattle.facts.proofs.Words.{bytes_eq, cases_Bool, cases_lt, eq-eqb, false_from_ne_true, ne_eqb}
 use Rattle.facts.proofs.Words.{or_parts, get_or_default_zero, get_or-map, get_or_append_left}
@@ -20,6 +20,8 @@ use Rattle.facts.proofs.Bools.{and-false_if, count_either}
 use Rattle.facts.proofs.Options.{cond-is_some}
 use Rattle.facts.proofs.Bools.{left_of_or}
 use Rattle.facts.proofs.Members.{Contains-head, Contains-rest}
+use Rattle.std.proofs.lemmas.Bool.Decides.{nat_tests}
+use Rattle.std.proofs.Common.{rules}
 
 -- ---- whether any passes, or all
 
@@ -62,8 +64,7 @@ pub list_all-each_agree : {X Y : Type 0} (p : Y → X → Bool) (xs ys : List X)
     → list_all (λ r. list_all (p r) xs) rs ≡ list_all (λ r. list_all (p r) ys) rs
 list_all-each_agree p xs ys [] same = refl
 list_all-each_agree p xs ys (r ∷ rs) same =
-    ap (λ b. b && list_all (λ x. list_all (p x) xs) rs) (same (p r))
-    ∙ ap (λ b. list_all (p r) ys && b) (list_all-each_agree p xs ys rs same)
+    grind (arith, nat_tests, list_all-each_agree p xs ys rs same)
 
 -- a binary search finds what is there
 pub list_any-binary_search : (xs : List ℕ) (a : ℕ) (r : Result ℕ ℕ) →
@@ -85,12 +86,7 @@ list_any-binary_search xs a (Err i) is rise =
 pub length-filter_le : {X : Type 0} (test : X → Bool) (xs : List X)
     → length (filter test xs) ≤ length xs
 length-filter_le test [] = omega arith
-length-filter_le test (x ∷ xs) =
-    elim (test x) as (λ b.
-    length (cond b (x ∷ filter test xs) (filter test xs)) ≤ length (x ∷ xs)) [
-      | true ↦ omega (arith, length-filter_le test xs)
-      | false ↦ omega (arith, length-filter_le test xs)
-    ]
+length-filter_le test (x ∷ xs) = grind (arith, nat_tests, length-filter_le test xs)
 
 pub count_by-either : {A : Type 0} (p : A → Bool) (xs : List A)
     → count_by p xs + count_by (λ x. not (p x)) xs ≡ length xs
@@ -219,18 +215,12 @@ find-number p f (x ∷ xs) a all some =
 pub find-filter : {A : Type 0} (p q : A → Bool) (xs : List A)
     → find p (filter q xs) ≡ find (λ x. q x && p x) xs
 find-filter p q [] = refl
-find-filter p q (x ∷ xs) =
-    elim (q x) as (λ b. find p (cond b (x ∷ filter q xs) (filter q xs))
-    ≡ cond (b && p x) (Some x) (find (λ y. q y && p y) xs))
-    [ true ↦ ap (λ o. cond (p x) (Some x) o) (find-filter p q xs) | false ↦ find-filter p q xs ]
+find-filter p q (x ∷ xs) = grind (arith, nat_tests, find-filter p q xs)
 
 pub list_all-filter : {A : Type 0} (r q : A → Bool) (xs : List A)
     → list_all r (filter q xs) ≡ list_all (λ x. not (q x) || r x) xs
 list_all-filter r q [] = refl
-list_all-filter r q (x ∷ xs) =
-    elim (q x) as (λ b. list_all r (cond b (x ∷ filter q xs) (filter q xs))
-    ≡ ((not b || r x) && list_all (λ y. not (q y) || r y) xs))
-    [ true ↦ ap (λ b. r x && b) (list_all-filter r q xs) | false ↦ list_all-filter r q xs ]
+list_all-filter r q (x ∷ xs) = grind (arith, nat_tests, list_all-filter r q xs)
 
 -- one test more, which does not tell apart what the other finds
 pub find-neither : {A : Type 0} (e p : A → Bool) (xs : List A)
@@ -283,9 +273,7 @@ pub is_some-position_from : {A : Type 0} (test : A → Bool) (i : ℕ) (xs : Lis
     → is_some (position_from test i xs) ≡ list_any test xs
 is_some-position_from test i [] = refl
 is_some-position_from test i (x ∷ xs) =
-    elim (test x) as (λ b.
-    is_some (cond b (Some i) (position_from test (i + 1) xs)) ≡ (b || list_any test xs))
-    [ true ↦ refl | false ↦ is_some-position_from test (i + 1) xs ]
+    grind (arith, nat_tests, is_some-position_from test (i + 1) xs)
 
 -- one more element at the end
 pub position_from-push : {A : Type 0} (test : A → Bool) (i : ℕ) (xs : List A) (y : A)
@@ -293,13 +281,7 @@ pub position_from-push : {A : Type 0} (test : A → Bool) (i : ℕ) (xs : List A
     (position_from test i xs) (cond (test y) (Some (i + length xs)) None)
 position_from-push test i [] y = rw (add-zero) refl
 position_from-push test i (x ∷ xs) y =
-    elim (test x) as (λ b. cond b (Some i) (position_from test (i + 1) (xs ++ y ∷ []))
-    ≡ cond (is_some (cond b (Some i) (position_from test (i + 1) xs))) (cond b (Some i)
-    (position_from test (i + 1) xs)) (cond (test y) (Some (i + length (x ∷ xs))) None)) [
-      | true ↦ refl
-      | false ↦ let n : i + length (x ∷ xs) ≡ (i + 1) + length xs = omega arith in
-          rw n (position_from-push test (i + 1) xs y)
-    ]
+    grind (arith, nat_tests, position_from-push test (i + 1) xs y)
 
 pub position_from-last : (b1 b2 : Bool) (n m : ℕ) (o : Option ℕ) → b1 ≡ true → b2 ≡ true
     → is_some o ≡ false → n ≡ m → cond b1 (Some n) o ≡ cond (is_some o) o (cond b2 (Some m) None)
@@ -315,23 +297,15 @@ pub position_from-new : (names : List (List ℕ)) (new name : List ℕ) (n : ℕ
     → cond (bytes_eq new name) (Some n) (position_from (bytes_eq name) 0 names)
     ≡ position_from (bytes_eq name) 0 (names ++ new ∷ [])
 position_from-new names new name n absent last =
-    rw (position_from-push (bytes_eq name) 0 names new)
-    (⊎_elim
-    (λ same.
-    let is : new ≡ name = (bytes_decides new name).0 same in
-    let back : bytes_eq name new ≡ true = (bytes_decides name new).1 (sym is) in
-    let none : is_some (position_from (bytes_eq name) 0 names) ≡ false =
-    is_some-position_from (bytes_eq name) 0 names
-    ∙ ap (λ w. list_any (bytes_eq w) names) (sym is) ∙ absent in
-    position_from-last (bytes_eq new name) (bytes_eq name new) n (0 + length names)
-    (position_from (bytes_eq name) 0 names) same back none (omega arith))
-    (λ other.
-    let back : bytes_eq name new ≡ false =
-    false_from_ne_true (bytes_eq name new) (λ t. let turned : bytes_eq new name ≡ true =
-    (bytes_decides new name).1 (sym ((bytes_decides name new).0 t)) in cc) in
-    position_from-kept (bytes_eq new name) (bytes_eq name new) n (0 + length names)
-    (position_from (bytes_eq name) 0 names) other back)
-    (cases_Bool (bytes_eq new name)))
+    search (
+      rules,
+      position_from-push,
+      is_some-position_from,
+      position_from-last,
+      false_from_ne_true,
+      position_from-kept,
+      cases_Bool,
+    )
 
 -- ---- what each of some elements is made into
 

@@ -1,26 +1,26 @@
 -- An update that begins: what was tested; an update whose items are placed in free nodes, and whose
 -- links lead both copies: the stores that are planned for it carry it out.
 use Rattle.latch_core.proofs.Words.{◌≡◌, ℕ, ◌+◌, ◌<◌, ◌≤◌, List, [], ◌∷◌, ◌++◌, length, None, ap}
-use Rattle.latch_core.proofs.Words.{subst, arith, length-append, ◌≢◌, take, refl, sym, ◌∙◌, inl}
-use Rattle.latch_core.proofs.Words.{inr, All, insert, Contains, ltb-false, or_parts, All-append}
+use Rattle.latch_core.proofs.Words.{subst, arith, length-append, ◌≢◌, take, refl, sym, ◌∙◌}
+use Rattle.latch_core.proofs.Words.{All, insert, Contains, ltb-false, or_parts, All-append}
 use Rattle.latch_core.proofs.Words.{All-cons, All-from_recursion, Contains-append_right, Item}
 use Rattle.latch_core.proofs.Words.{Order, place_for, place_of, Store, words_for, Nodes, listed, at}
-use Rattle.latch_core.proofs.Words.{a_word, b_word, tag_word, Holds, IsUnreached, AreLinkStores}
+use Rattle.latch_core.proofs.Words.{Holds, IsUnreached, AreLinkStores}
 use Rattle.latch_core.proofs.Words.{words_after_all, IsItemWord, Picture, IsPictured}
 use Rattle.latch_core.proofs.Words.{links_in_range, same_item, Update, Batch, Insert, Erase, after}
-use Rattle.latch_core.proofs.Words.{size_of, some_missing, some_twice, with_items, Latch, flip_to}
+use Rattle.latch_core.proofs.Words.{size_of, with_items, Latch, flip_to}
 use Rattle.latch_core.proofs.Words.{update_stores, AreAllNodes, WriterView, IsMemoryAtRest}
-use Rattle.latch_core.proofs.Words.{HasBegun, AreInStep, why_refused, has_pending, AllByRecursion}
+use Rattle.latch_core.proofs.Words.{HasBegun, AreInStep, why_refused, AllByRecursion}
 use Rattle.latch_core.proofs.Words.{length-map, take-append-le, take_all, all_append, all_weaker}
 use Rattle.latch_core.proofs.Words.{one_item, item_place, length_after, untouched, tree_untouched}
 use Rattle.latch_core.proofs.Words.{IsBalanced, Inserts, Erases, LeadsWithItem, LeadsByLinks}
 use Rattle.latch_core.proofs.Words.{item_stores, mirror_stores, mirror_store, second_picture}
 use Rattle.latch_core.proofs.Words.{AreDistinct, stable_copy_of, PlacedItems, stores_of_placed}
-use Rattle.latch_core.proofs.Words.{AreInPlace, RelinksBoth, ErasesWords, InsertsItems}
+use Rattle.latch_core.proofs.Words.{AreInPlace, RelinksBoth, ErasesWords, InsertsItems, nat_tests}
 use Rattle.std.proofs.Common.{◌*◌}
 use Rattle.std.specs.Prelude.{map}
 use Rattle.std.proofs.Math.Nat.{mul-le-mul_right}
-use Rattle.latch_core.proofs.TestLemmas.{NoneHolds, all_tests, none_holds}
+use Rattle.latch_core.proofs.TestLemmas.{all_tests, none_holds}
 use Rattle.latch_core.proofs.StoreOrderLemmas.{Leading, AreFreeStores, items_unused}
 use Rattle.latch_core.proofs.ChangeLemmas.{last_is_free, node_taken, node_freed, both_then}
 use Rattle.latch_core.proofs.ChangeLemmas.{both_insert, both_erase, few_words, free_node}
@@ -33,23 +33,13 @@ pub batch_is_small : {K : Type 0} (o : Order K) (w : WriterView) (erase : List �
     (insert : List Item) → why_refused o w (Batch erase insert) ≡ None
     → (length erase ≤ length w.table) × (length w.table + length insert ≤ w.capacity)
 batch_is_small o w erase insert e =
-    let h : NoneHolds
-    (all_tests o w.capacity w.limit (has_pending w) w.table w.sequence (Batch erase insert)) =
-    none_holds
-    (all_tests o w.capacity w.limit (has_pending w) w.table w.sequence (Batch erase insert))
-    e in
-    let words = or_parts (some_missing erase w.table) (some_twice erase) h.1.1.0 in (
-      few_words erase w.table words.0 words.1,
-      ltb-false w.capacity (length w.table + length insert) h.1.1.1.1.0,
-    )
+    grind (arith, nat_tests, all_tests, none_holds, or_parts, few_words, ltb-false)
 
 -- the free node that an insert takes
 pub taken_node : (n : ℕ) (zero : Picture) (free rest : List ℕ) (node : ℕ) (left : List Store)
     → AreInStep n zero free left → free ≡ rest ++ node ∷ []
     → (node < n) × (Contains (listed zero.tree) node → ⊥)
-taken_node n zero free rest node left step e =
-    last_is_free n node rest (listed zero.tree)
-    (subst (λ xs. AreAllNodes n (xs ++ listed zero.tree)) e step.nodes)
+taken_node n zero free rest node left step e = grind (arith, nat_tests, last_is_free)
 
 -- the stores lie in the memory
 update_in_range : (n seq : ℕ) (items links0 links1 : List Store)
@@ -69,19 +59,11 @@ update_in_range n seq items links0 links1 all zero one =
 update_length : (seq : ℕ) (items links0 links1 : List Store)
     → length (update_stores seq items links0 links1)
     ≡ length items + length links0 + length links1 + 2
-update_length seq items links0 links1 =
-    omega (
-      arith,
-      length-append (items ++ flip_to (seq + 1) ∷ links0) (flip_to (seq + 2) ∷ links1),
-      length-append items (flip_to (seq + 1) ∷ links0),
-    )
+update_length seq items links0 links1 = grind (arith, nat_tests, length-append)
 
 -- the steps of an update are few
 few_steps : (n size k : ℕ) → k ≤ 2 * (16 * size) + 2 → k ≤ 64 * (n + 1) * (size + 1)
-few_steps n size k le =
-    let one : 64 ≤ 64 * (n + 1) = omega arith in
-    let more : 64 * (size + 1) ≤ 64 * (n + 1) * (size + 1) = mul-le-mul_right (size + 1) one in
-    omega (arith, le, more)
+few_steps n size k le = grind (arith, nat_tests, mul-le-mul_right)
 
 -- the core with a pending update
 has_begun : {K : Type 0} (o : Order K) (w : WriterView) (u : Update)
@@ -111,14 +93,7 @@ others_away : (node : ℕ) (placed : PlacedItems)
     → AllByRecursion (λ (s : Store). IsItemWord node s.word → ⊥) (stores_of_placed placed)
 others_away node [] h = tt
 others_away node (p ∷ rest) h =
-    let no : (w : ℕ) → IsItemWord p.0 w → IsItemWord node w → ⊥ =
-    (λ w a b. h.0 (sym (one_item node p.0 w b a))) in
-    all_append (λ (s : Store). IsItemWord node s.word → ⊥) (item_stores p.0 p.1)
-    (stores_of_placed rest) (
-      no (a_word p.0) (inl refl),
-      (no (b_word p.0) (inr (inl refl)), (no (tag_word p.0) (inr (inr refl)), tt)),
-    )
-    (others_away node rest h.1)
+    grind (arith, nat_tests, others_away node rest h.1, one_item, all_append)
 
 all_placed : (m : List ℕ) (n : ℕ) (placed : PlacedItems) → length m ≡ words_for n
     → AllByRecursion (λ (p : ℕ × Item). p.0 < n) placed
@@ -139,12 +114,7 @@ on_stores : (P Q : ℕ → Type 0) → ((node w : ℕ) → Q node → IsItemWord
     → (placed : PlacedItems) → AllByRecursion (λ (p : ℕ × Item). Q p.0) placed
     → AllByRecursion (λ (s : Store). P s.word) (stores_of_placed placed)
 on_stores P Q each [] h = tt
-on_stores P Q each (p ∷ rest) h =
-    all_append (λ (s : Store). P s.word) (item_stores p.0 p.1) (stores_of_placed rest) (
-      each p.0 _ h.0 (inl refl),
-      (each p.0 _ h.0 (inr (inl refl)), (each p.0 _ h.0 (inr (inr refl)), tt)),
-    )
-    (on_stores P Q each rest h.1)
+on_stores P Q each (p ∷ rest) h = grind (arith, nat_tests, on_stores P Q each rest h.1, all_append)
 
 -- stores of placed items are stores of free nodes, and lie in the memory
 free_placed : (m : List ℕ) (n : ℕ) (placed : PlacedItems)
@@ -174,10 +144,7 @@ pictured m n copy r p sized ec ek holds =
 
 unpictured : (m : List ℕ) (n copy : ℕ) (table : List Item) (p : Picture) → p.capacity ≡ n
     → p.copy ≡ copy → p.table ≡ table → IsPictured m p → Holds m n copy table p.tree
-unpictured m n copy table p ec ek et is =
-    subst (λ k. Holds m k copy table p.tree) ec
-    (subst (λ c. Holds m p.capacity c table p.tree) ek
-    (subst (λ t. Holds m p.capacity p.copy t p.tree) et is.holds))
+unpictured m n copy table p ec ek et is = grind (arith, nat_tests)
 
 -- what is planned for an update of a core at rest whose free nodes are these: its items are placed
 -- in free nodes, the stores lead both copies to the table after it, and these nodes are free then
@@ -198,15 +165,10 @@ module _ {K : Type 0} (o : Order K) (n : ℕ) (zero new : Picture) (r : ℕ) (u 
     (step : AreInStep n zero free left)
     (planned : PlansUpdate o n (with_room zero r) new u free free' placed seq stores) where
   links_zero : AreLinkStores n 0 planned.links
-  links_zero =
-      subst (λ k. AreLinkStores k 0 planned.links) step.capacity
-      (subst (λ c. AreLinkStores zero.capacity c planned.links) step.copy
-      planned.both.zero.links_only)
+  links_zero = grind (arith, nat_tests)
 
   links_one : AreLinkStores n 1 (mirror_stores planned.links)
-  links_one =
-      subst (λ k. AreLinkStores k 1 (mirror_stores planned.links)) step.capacity
-      planned.both.one.links_only
+  links_one = grind (arith, nat_tests)
 
   within : AllByRecursion (λ (p : ℕ × Item). p.0 < n) placed
   within =

@@ -25,9 +25,9 @@ use Rattle.latch_core.proofs.Words.{AreInPlace, RelinksCopy, RelinksBoth, Erases
 use Rattle.latch_core.proofs.Words.{AreApart, AreOff, all_valid, all_apart, all_off, still_off}
 use Rattle.latch_core.proofs.Words.{IsPermutation, nat_tests, slice_get_within, slice_get-get_or}
 use Rattle.latch_core.proofs.Words.{IsDistinct-IsPermutation, IsDistinct-push, IsDistinct-head}
+use Rattle.std.specs.List.{IsDistinct}
 use Rattle.std.proofs.Common.{◌-◌}
 use Rattle.std.specs.Prelude.{map}
-use Rattle.std.specs.List.{IsDistinct}
 use Rattle.std.proofs.lemmas.Bool.{eq-eqb}
 use Rattle.std.proofs.lemmas.List.{append-nil}
 use Rattle.rb_words.proofs.MirrorLemmas.{inserts_mirrored, with_item_mirrored, erases_mirrored}
@@ -293,8 +293,7 @@ placing_more : (placed : PlacedItems) (node : ℕ) (item : Item)
     ≡ stores_of_placed placed ++ item_stores node item
 placing_more [] node item = append-nil (item_stores node item)
 placing_more (p ∷ rest) node item =
-    ap (λ xs. item_stores p.0 p.1 ++ xs) (placing_more rest node item)
-    ∙ sym (append_assoc (item_stores p.0 p.1) (stores_of_placed rest) (item_stores node item))
+    grind (arith, nat_tests, placing_more rest node item, append_assoc)
 
 with_more : {K : Type 0} (o : Order K) (items : List Item) (i : Item) (table : List Item)
     → with_items o (items ++ i ∷ []) table ≡ with_item o i (with_items o items table)

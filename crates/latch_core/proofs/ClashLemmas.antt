@@ -1,17 +1,18 @@
 -- Entries of a batch that stand against each other are neighbours in a sorted list.
 use Rattle.latch_core.proofs.Words.{◌≡◌, ◌≢◌, ℕ, suc, zero, ◌+◌, ◌<◌, ◌≤◌, true, false, List, []}
 use Rattle.latch_core.proofs.Words.{◌∷◌, length, drop, get_or, refl, sym, ◌∙◌, ap, subst, arith}
-use Rattle.latch_core.proofs.Words.{Bool, not, ◌||◌, ◌==◌, nat_lt, AllByRecursion, list_any}
+use Rattle.latch_core.proofs.Words.{Bool, not, ◌||◌, ◌==◌, AllByRecursion, list_any}
 use Rattle.latch_core.proofs.Words.{IsPermutation, IsNonDecreasingBy, ne_eqb, or_parts}
 use Rattle.latch_core.proofs.Words.{IsPermutation-sym, IsNonDecreasingBy-drop}
 use Rattle.latch_core.proofs.Words.{list_any-IsPermutation, IsDistinct-IsPermutation, drop_more}
-use Rattle.latch_core.proofs.Words.{Item, Order, IsLawful, IsInLine, has, meets, BadItem, Overlap}
-use Rattle.latch_core.proofs.Words.{NoSuchItem, Full, same_by_false, all_drop, all_not_below}
+use Rattle.latch_core.proofs.Words.{Item, Order, IsLawful, IsInLine, meets}
+use Rattle.latch_core.proofs.Words.{same_by_false, all_drop, all_not_below}
 use Rattle.latch_core.proofs.Words.{all_weaker, rest_in_order, all_fail, list_any-all_fail}
-use Rattle.latch_core.proofs.Words.{eqb-flip, no_meeting, Batch, first_that_holds, failed_test}
-use Rattle.latch_core.proofs.Words.{some_invalid, some_twice, some_overlap, some_meet, all_apart}
-use Rattle.std.proofs.Common.{◌-◌}
+use Rattle.latch_core.proofs.Words.{eqb-flip, no_meeting, Batch, failed_test}
+use Rattle.latch_core.proofs.Words.{some_twice, some_overlap, all_apart}
+use Rattle.latch_core.proofs.Words.{nat_tests}
 use Rattle.std.specs.List.{IsDistinct}
+use Rattle.std.proofs.Common.{◌-◌}
 use Rattle.order_laws.proofs.LeftOutLemmas.{without_moved}
 use Rattle.order_laws.proofs.InLineLemmas.{precedes, beyond}
 
@@ -61,22 +62,11 @@ pub tests_moved : {K : Type 0} (o : Order K) (n : ℕ) (table : List Item) (word
     (insert : List Item) → IsPermutation words words'
     → failed_test o n table (Batch words insert) ≡ failed_test o n table (Batch words' insert)
 tests_moved o n table words words' insert p =
-    let missing = list_any-IsPermutation (λ a. not (has a table)) words words' p in
-    let twice = twice_moved words words' p in
-    let rest = without_moved words words' p table in
-    λ i. first_that_holds (
-    (some_invalid o insert, BadItem)
-    ∷ (missing i || twice i, NoSuchItem)
-    ∷ (some_overlap o insert || some_meet o insert (rest i), Overlap)
-    ∷ (nat_lt n (length table + length insert), Full)
-    ∷ []
-    )
+    grind (arith, nat_tests, list_any-IsPermutation, twice_moved, without_moved)
 
 pub overlap_moved : {K : Type 0} (o : Order K) → IsLawful o → (xs ys : List Item)
     → IsPermutation xs ys → some_overlap o xs ≡ some_overlap o ys
-overlap_moved o law xs ys p = overlap_clash o xs
-    ∙ clash_moved (λ i x. not (o.apart x i)) (λ i x. ap not (law.symmetric x i)) xs ys p
-    ∙ sym (overlap_clash o ys)
+overlap_moved o law xs ys p = grind (arith, nat_tests, overlap_clash, clash_moved)
 
 -- a number that is not its neighbour stands nowhere after it
 pub twice_next : (x y : ℕ) (rest : List ℕ) → IsNonDecreasingBy (λ a. a) (x ∷ y ∷ rest) → y ≢ x
@@ -117,19 +107,13 @@ module _ {K : Type 0} (o : Order K) (law : IsLawful o) (line : IsInLine o) where
 -- one place further in a list, whose elements there are two neighbours
 neighbours : {X : Type 0} (xs : List X) (p : ℕ) (d : X) → 1 ≤ p → p < length xs
     → drop (p - 1) xs ≡ get_or xs (p - 1) d ∷ get_or xs p d ∷ drop (p + 1) xs
-neighbours xs p d some lt =
-    let up : p - 1 + 1 ≡ p = omega arith in
-    drop_more xs (p - 1) d (omega arith) ∙ ap (λ k. get_or xs (p - 1) d ∷ drop k xs) up
-    ∙ ap (λ ys. get_or xs (p - 1) d ∷ ys) (drop_more xs p d lt)
+neighbours xs p d some lt = grind (arith, nat_tests, drop_more)
 
 pub one_place_on : {X : Type 0} (test : List X → Bool) (xs : List X) (p : ℕ) (d : X) → 1 ≤ p
     → p < length xs → test (get_or xs (p - 1) d ∷ get_or xs p d ∷ drop (p + 1) xs)
     ≡ test (get_or xs p d ∷ drop (p + 1) xs)
     → test (drop (p - 1) xs) ≡ test xs → test (drop (p + 1 - 1) xs) ≡ test xs
-one_place_on test xs p d some lt on same =
-    let there : p + 1 - 1 ≡ p = omega arith in
-    ap (λ k. test (drop k xs)) there ∙ ap test (drop_more xs p d lt) ∙ sym on
-    ∙ sym (ap test (neighbours xs p d some lt)) ∙ same
+one_place_on test xs p d some lt on same = grind (arith, nat_tests, drop_more, neighbours)
 
 pub twice_on : (words : List ℕ) (p : ℕ) → 1 ≤ p → p < length words
     → IsNonDecreasingBy (λ a. a) words → get_or words p 0 ≢ get_or words (p - 1) 0
@@ -156,11 +140,13 @@ overlap_on o law line items p d some lt valid sorted apart same =
     one_place_on (some_overlap o) items p d some lt (overlap_next o law line
     (get_or items (p - 1) d) (get_or items p d) (drop (p + 1) items) here in_order apart) same
 
--- no two are left
-pub none_left : {K : Type 0} (o : Order K) (items : List Item) (k : ℕ) → length items ≤ k + 1
-    → some_overlap o (drop k items) ≡ false
-none_left o [] zero le = refl
-none_left o [] (suc k) le = refl
-none_left o (x ∷ []) zero le = refl
-none_left o (x ∷ y ∷ rest) zero le = absurd (omega arith)
-none_left o (x ∷ rest) (suc k) le = none_left o rest k (omega (arith, le))
+-- what a test gives of lists of at most one element it gives where no more are left
+pub at_most_one : {X : Type 0} (test : List X → Bool) (b : Bool) → test [] ≡ b
+    → ((x : X) → test (x ∷ []) ≡ b) → (xs : List X) (k : ℕ) → length xs ≤ k + 1
+    → test (drop k xs) ≡ b
+at_most_one test b none one [] zero le = none
+at_most_one test b none one [] (suc k) le = none
+at_most_one test b none one (x ∷ []) zero le = one x
+at_most_one test b none one (x ∷ y ∷ rest) zero le = absurd (omega arith)
+at_most_one test b none one (x ∷ rest) (suc k) le =
+    at_most_one test b none one rest k (omega (arith, le))

@@ -8,6 +8,7 @@ use Rattle.latch_core.proofs.Words.{WalkEnd, outcome, last_load, after_item, vis
 use Rattle.latch_core.proofs.Words.{attempt_after, rest_after, Stand, Again, AtItem, AtEmptyLink}
 use Rattle.latch_core.proofs.Words.{IsReady, HasLoaded, HasTried, outcome_in, loads_in, ◌==◌}
 use Rattle.latch_core.proofs.Words.{nat_lt, lt-ltb, ne_eqb, First, Root, WordA, WordB, Tag}
+use Rattle.latch_core.proofs.Words.{nat_tests}
 use Rattle.std.proofs.Common.{◌-◌, ◌*◌, append-nil}
 use Rattle.std.specs.declared.cmp.Ordering.{Ordering}
 use Rattle.latch_core.specs.Loading.{Leads}
@@ -28,9 +29,7 @@ pub next_from : {O K : Type 0} (o : Order K) (c : ReaderCore O K) (p : AwaitedVa
     (go : ℕ → Reading) (x : ℕ) (values : List ℕ) → c.progress.awaited ≡ p
     → rest_of_attempt o c.key c.progress p ≡ Load w go → HasTaken o values c
     → rest_after (attempt o c.progress.capacity c.key) (values ++ x ∷ []) ≡ Some (go x)
-next_from o c p w go x values is shape leads =
-    rest_push (attempt o c.progress.capacity c.key) values w go x
-    (leads ∙ ap (λ q. Some (rest_of_attempt o c.key c.progress q)) is ∙ ap Some shape)
+next_from o c p w go x values is shape leads = grind (arith, nat_tests, rest_push)
 
 -- each place waits for a word
 loads_at : {K : Type 0} (o : Order K) (k : K) (s : AttemptProgress) (p : AwaitedValue)
@@ -59,9 +58,7 @@ values_before o n k values w go e =
 pub values_of_place : {K : Type 0} (o : Order K) (k : K) (s : AttemptProgress) (p : AwaitedValue)
     (values : List ℕ) → rest_after (attempt o s.capacity k) values ≡ Some (rest_of_attempt o k s p)
     → length values ≤ 4 * s.capacity + 2
-values_of_place o k s p values leads =
-    let at_place = loads_at o k s p in
-    values_before o s.capacity k values at_place.0 at_place.1 (leads ∙ ap Some at_place.2)
+values_of_place o k s p values leads = grind (arith, nat_tests, loads_at, values_before)
 
 -- what a followed link leads to
 pub walk_visits : {K : Type 0} (o : Order K) (n : ℕ) (k : K) (s visits link : ℕ) → link ≢ 0 → visits
@@ -88,6 +85,20 @@ pub moved : {K : Type 0} (o : Order K) (n n' : ℕ) (k k' : K) (values : List �
 moved o n n' k k' values r r' en ek h er =
     (λ i. rest_after (attempt o (en i) (ek i)) values) ∙ h ∙ ap Some (sym er)
 
+-- a core that goes on itself, or as one to which a followed link led
+pub goes_on : {K : Type 0} (o : Order K) (n : ℕ) (k : K) (values : List ℕ) (w : ℕ)
+    (go : ℕ → Reading) → rest_after (attempt o n k) values ≡ Some (Load w go)
+    → (n ≡ n) × (k ≡ k) × (rest_after (attempt o n k) values ≡ Some (Load w go))
+    × (length values ≤ 4 * n + 2)
+goes_on o n k values w go h = (refl, refl, h, values_before o n k values w go h)
+
+pub follows : {O K : Type 0} (o : Order K) (n : ℕ) (k : K) (c : ReaderCore O K) (values : List ℕ)
+    (r : Reading) → c.progress.capacity ≡ n → c.key ≡ k
+    → rest_after (attempt o n k) values ≡ Some r → rest_of_core o c ≡ r
+    → (c.progress.capacity ≡ n) × (c.key ≡ k) × HasTaken o values c
+    × (length values ≤ 4 * n + 2)
+follows o n k c values r en ek h er = grind (arith, nat_tests, moved, values_of_place)
+
 -- the place that an item's comparison leads to
 abbrev pub side : Ordering → AwaitedValue
 side Less = Go_left
@@ -113,13 +124,7 @@ module _ {S : Type 0} (gives : S → ℕ → ℕ → S → Type 0) where
   leads_push : (s : S) (r : Reading) (v : List ℕ) (m : S) (w : ℕ) (go : ℕ → Reading) (x : ℕ)
       (m' : S)
       → Leads gives s r v m (Load w go) → gives m w x m' → Leads gives s r (v ++ x ∷ []) m' (go x)
-  leads_push s (Load u go') [] m w go x m' h g =
-      let word : w ≡ u = (let e = h.1 in cc) in
-      let on : go ≡ go' = (let e = h.1 in cc) in (
-        m',
-        subst (λ (z : S × ℕ). gives z.0 z.1 x m') (λ i. (h.0 i, word i)) g,
-        (refl, ap (λ (f : ℕ → Reading). f x) on),
-      )
+  leads_push s (Load u go') [] m w go x m' h g = grind (arith, nat_tests)
   leads_push s (Ends out) [] m w go x m' h g = absurd (let e = h.1 in cc)
   leads_push s (Load u go') (y ∷ v) m w go x m' h g =
       (h.0, h.1, leads_push h.0 (go' y) v m w go x m' h.2 g)
@@ -132,14 +137,16 @@ module _ {S : Type 0} (gives : S → ℕ → ℕ → S → Type 0) where
       → (s : S) (r : Reading) (u : List ℕ) → P s u → rest_after whole u ≡ Some r
       → (v : List ℕ) (m : S) (r' : Reading) → Leads gives s r v m r'
       → P m (u ++ v) × (rest_after whole (u ++ v) ≡ Some r')
-  leads_along P whole step s r u p e [] m r' h =
-      subst (λ (z : S × Reading). P z.0 (u ++ []) × (rest_after whole (u ++ []) ≡ Some z.1))
-      (λ i. (sym h.0 i, sym h.1 i))
-      (subst (λ z. P s z × (rest_after whole z ≡ Some r)) (sym (append-nil u)) (p, e))
+  leads_along P whole step s r u p e [] m r' h = grind (arith, nat_tests, append-nil)
   leads_along P whole step s (Load w go) u p e (x ∷ v) m r' h =
-      subst (λ z. P m z × (rest_after whole z ≡ Some r')) (append_assoc u (x ∷ []) v)
-      (leads_along P whole step h.0 (go x) (u ++ x ∷ []) (step s h.0 u w x go p e h.1)
-      (rest_push whole u w go x e) v m r' h.2)
+      grind (
+        arith,
+        nat_tests,
+        leads_along P whole step h.0 (go x) (u ++ x ∷ []) (step s h.0 u w x go p e h.1)
+            (rest_push whole u w go x e) v m r' h.2,
+        append_assoc,
+        rest_push,
+      )
   leads_along P whole step s (Ends out) u p e (x ∷ v) m r' h = absurd h
 
   pub starts : (s : S) (r : Reading) → HasLoaded gives s r s r 1
@@ -177,11 +184,7 @@ module _ {S : Type 0} (gives : S → ℕ → ℕ → S → Type 0) where
       pub enters : link ≢ 0 → link ≤ n → loads < 4 * n + 2
           → HasLoaded gives s (attempt_after o n k first) m
           (visit o k first (link - 1) (walk o n k first (on.visits_left - 1))) loads
-      enters some low room =
-          let f = on.few in
-          let more : on.visits_left ≢ 0 = λ e. omega arith in
-          subst (λ r. HasLoaded gives s (attempt_after o n k first) m r loads)
-          (sym (walk_visits o n k first on.visits_left link some more low)) on.here
+      enters some low room = grind (arith, nat_tests, walk_visits)
 
       pub leaves : link ≢ 0 → loads < 4 * n + 2 → (m' : S) (next : ℕ)
           → HasLoaded gives s (attempt_after o n k first)

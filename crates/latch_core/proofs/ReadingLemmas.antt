@@ -1,7 +1,8 @@
 -- Readings in one memory.
 use Rattle.latch_core.proofs.Words.{◌≡◌, ℕ, suc, zero, ◌<◌, ◌≤◌, List, [], ◌∷◌, ◌++◌, length, Some}
-use Rattle.latch_core.proofs.Words.{refl, sym, ◌∙◌, ap, subst, arith, length-append, at, Outcome}
+use Rattle.latch_core.proofs.Words.{refl, ◌∙◌, ap, subst, arith, length-append, at, Outcome}
 use Rattle.latch_core.proofs.Words.{Reading, Load, Ends, rest_after, Stand, outcome_in, loads_in}
+use Rattle.latch_core.proofs.Words.{nat_tests}
 
 -- each word that it loads there is such a word
 abbrev pub AllLoads : List ℕ → (ℕ → Type 0) → Reading → Type 0
@@ -18,19 +19,12 @@ pub ends_as : (m : List ℕ) (r : Reading) (v : List ℕ) (out : Outcome) → St
     → rest_after r v ≡ Some (Ends out) → (out ≡ outcome_in m r) × (length v ≡ loads_in m r)
 ends_as m (Load w go) [] out st e = absurd (cc)
 ends_as m (Ends o) [] out st e = (cc, refl)
-ends_as m (Load w go) (x ∷ v) out st e =
-    let h = ends_as m (go x) v out st.1 e in (
-      h.0 ∙ ap (λ y. outcome_in m (go y)) (sym st.0),
-      ap suc (h.1 ∙ ap (λ y. loads_in m (go y)) (sym st.0)),
-    )
+ends_as m (Load w go) (x ∷ v) out st e = grind (arith, nat_tests, ends_as m (go x) v out st.1 e)
 ends_as m (Ends o) (x ∷ v) out st e = absurd st
 
 pub loads_so_far : (m : List ℕ) (r : Reading) (v : List ℕ) → Stand m r v → length v ≤ loads_in m r
 loads_so_far m r [] st = omega arith
-loads_so_far m (Load w go) (x ∷ v) st =
-    let h = loads_so_far m (go x) v st.1 in
-    let e = ap (λ y. loads_in m (go y)) st.0 in
-    omega arith
+loads_so_far m (Load w go) (x ∷ v) st = grind (arith, nat_tests, loads_so_far m (go x) v st.1)
 loads_so_far m (Ends o) (x ∷ v) st = absurd st
 
 -- what stands in one memory stands in another that has the same in each word that is loaded

@@ -1,6 +1,6 @@
 -- What a difference finds of a table and a list of items; and a table whose items were replaced by
 -- a list that rises is that list.
-use Rattle.latch_core.proofs.Words.{◌≡◌, ℕ, zero, suc, ◌+◌, ◌<◌, ◌≤◌, true, false, cond, List, []}
+use Rattle.latch_core.proofs.Words.{◌≡◌, ℕ, ◌+◌, ◌<◌, ◌≤◌, true, false, cond, List, []}
 use Rattle.latch_core.proofs.Words.{◌∷◌, ◌++◌, length, take, drop, get_or, None, Some, refl, sym}
 use Rattle.latch_core.proofs.Words.{◌∙◌, ap, subst, inl, inr, ⊎_elim, arith, append_assoc, Bool}
 use Rattle.latch_core.proofs.Words.{not, ◌&&◌, ◌||◌, ◌==◌, ◌⊎◌, slice_get, Contains, filter}
@@ -12,7 +12,7 @@ use Rattle.latch_core.proofs.Words.{filter_passes, slice_get-get_or, Item, Order
 use Rattle.latch_core.proofs.Words.{IsLawful, IsTable, without_all, false_by_contrary, all_at}
 use Rattle.latch_core.proofs.Words.{all_from, all_weaker, pushed_before, Update, Batch, after}
 use Rattle.latch_core.proofs.Words.{refusal_for, is_same, not_among, replacement, is_rising}
-use Rattle.latch_core.proofs.Words.{update_found, Tells, Difference}
+use Rattle.latch_core.proofs.Words.{Tells, Difference}
 use Rattle.std.proofs.Common.{map, append-nil}
 use Rattle.std.proofs.lemmas.Bool.{eq-eqb}
 use Rattle.std.proofs.lemmas.List.Folds.{Any-from_list_any, list_any_at}
@@ -69,13 +69,7 @@ of_word (z ∷ xs) a m =
 
 -- two items with the same words are one
 pub same_is_one : (x y : Item) → is_same x y ≡ true → x ≡ y
-same_is_one x y h =
-    let two = and_parts (x.a == y.a && x.b == y.b) (x.tag == y.tag) h in
-    let one = and_parts (x.a == y.a) (x.b == y.b) two.0 in
-    let a : x.a ≡ y.a = eqb-true x.a y.a one.0 in
-    let b : x.b ≡ y.b = eqb-true x.b y.b one.1 in
-    let t : x.tag ≡ y.tag = eqb-true x.tag y.tag two.1 in
-    λ i. record { a = a i; b = b i; tag = t i }
+same_is_one x y h = grind (arith, nat_tests, and_parts, eqb-true)
 
 pub same_as_itself : (x : Item) → is_same x x ≡ true
 same_as_itself x = grind (arith, nat_tests)
@@ -86,9 +80,7 @@ is_among x others = list_any (λ y. is_same x y) others
 
 -- an item is among others where it is one of them
 pub among_them : (x : Item) (others : List Item) → is_among x others ≡ true → Contains others x
-among_them x others h =
-    let one = any_has (λ y. is_same x y) others h in
-    subst (λ z. Contains others z) (sym (same_is_one x one.0 one.2)) one.1
+among_them x others h = grind (arith, nat_tests, any_has, same_is_one)
 
 pub one_of_them : (x : Item) (others : List Item) → Contains others x → is_among x others ≡ true
 one_of_them x others m = has_any (λ y. is_same x y) others x m (same_as_itself x)
@@ -106,30 +98,25 @@ module _ {K : Type 0} (o : Order K) (law : IsLawful o) where
   below_rising : (x y : Item) (ys : List Item) → o.less x y ≡ true → is_rising o (y ∷ ys) ≡ true
       → list_all (λ z. o.less x z) (y ∷ ys) ≡ true
   below_rising x y ys l h =
-      let two = and_parts (list_all (λ z. o.less y z) ys) (is_rising o ys) h in
-      let all = All-weaker (λ z. o.less y z ≡ true) (λ z. o.less x z ≡ true)
-      (λ z. law.transitive x y z l) ys (AllPass-from_list_all (o.less y) ys two.0) in
-      and_from (o.less x y) (list_all (λ z. o.less x z) ys) l
-      (list_all-from_AllPass (o.less x) ys all)
+      grind (
+        arith,
+        nat_tests,
+        and_parts,
+        All-weaker,
+        AllPass-from_list_all,
+        and_from,
+        list_all-from_AllPass,
+      )
 
   -- the first of some that rise, where an item is not above it and not the same
   not_in_rising : (x y : Item) (ys : List Item) → o.less y x ≡ false → is_same x y ≡ false
       → is_rising o (y ∷ ys) ≡ true → is_among x (y ∷ ys) ≡ false
-  not_in_rising x y ys n d h =
-      ap (λ b. b || is_among x ys) d
-      ∙ among_none (o.less y) x ys (and_parts (list_all (λ z. o.less y z) ys) (is_rising o ys) h).0
-      n
+  not_in_rising x y ys n d h = grind (arith, nat_tests, among_none, and_parts)
 
   -- the lists that rise, by their neighbours
   pub rising_on : (x y : Item) (ys : List Item) → o.less x y ≡ true
       → is_rising o (x ∷ y ∷ ys) ≡ is_rising o (y ∷ ys)
-  rising_on x y ys l =
-      elim (is_rising o (y ∷ ys)) as (λ b. is_rising o (y ∷ ys) ≡ b
-      → (list_all (λ z. o.less x z) (y ∷ ys) && b) ≡ b) [
-        | true ↦ λ e.
-            and_from (list_all (λ z. o.less x z) (y ∷ ys)) true (below_rising x y ys l e) refl
-        | false ↦ λ e. grind arith
-      ] refl
+  rising_on x y ys l = grind (arith, nat_tests, and_from, below_rising)
 
 -- an item that is not among some others changes nothing of what is not among them
 one_more_other : (x : Item) (others list : List Item) → is_among x list ≡ false
@@ -184,14 +171,6 @@ rising_drop : {K : Type 0} (o : Order K) (xs : List Item) (i : ℕ) → is_risin
 rising_drop o xs i h =
     rising_after o (take i xs) (drop i xs) (ap (is_rising o) (take-append-drop i xs) ∙ h)
 
-pub rising_short : {K : Type 0} (o : Order K) (xs : List Item) (k : ℕ) → length xs ≤ k + 1
-    → is_rising o (drop k xs) ≡ true
-rising_short o [] zero h = refl
-rising_short o [] (suc k) h = refl
-rising_short o (x ∷ []) zero h = refl
-rising_short o (x ∷ y ∷ ys) zero h = absurd (omega arith)
-rising_short o (x ∷ xs) (suc k) h = rising_short o xs k (omega arith)
-
 -- one step of a difference at a place of its list
 module _ {K : Type 0} (o : Order K) (law : IsLawful o) (erase : List ℕ) (insert items : List Item)
     (k : ℕ) (d x : Item) where
@@ -201,19 +180,16 @@ module _ {K : Type 0} (o : Order K) (law : IsLawful o) (erase : List ℕ) (inser
       → found erase new (drop (k + 1) items) (x ∷ more)
       ≡ found erase insert (drop k items) (x ∷ more)
   passed_at more new lt e l h =
-      let r = get_or items k d in
-      let rest = drop (k + 1) items in
-      let below : is_among r (x ∷ more) ≡ false = among_none (o.less r) r (x ∷ more)
-      (below_rising o law r x more l h) (law.irreflexive r) in
-      let here : not_among (x ∷ more) (r ∷ rest) ≡ r ∷ not_among (x ∷ more) rest =
-      one_not_among r (x ∷ more) rest below in
-      let there : not_among (r ∷ rest) (x ∷ more) ≡ not_among rest (x ∷ more) =
-      one_more_other r rest (x ∷ more) below in
-      let pushed : new ++ not_among (x ∷ more) rest ≡ insert ++ not_among (x ∷ more) (r ∷ rest) =
-      ap (λ i. i ++ not_among (x ∷ more) rest) e
-      ∙ pushed_before r insert (not_among (x ∷ more) rest) ∙ ap (λ l. insert ++ l) (sym here) in
-      (λ i. Batch (erase ++ map (λ (x : Item). x.a) (sym there i)) (pushed i))
-      ∙ ap (λ ys. found erase insert ys (x ∷ more)) (sym (drop_more items k d lt))
+      grind (
+        arith,
+        nat_tests,
+        among_none,
+        below_rising,
+        one_not_among,
+        one_more_other,
+        pushed_before,
+        drop_more,
+      )
 
   -- the same item in both
   pub met_at : (more : List Item) → k < length items → get_or items k d ≡ x
@@ -272,11 +248,7 @@ pub tells_both : {K : Type 0} (o : Order K) (items : List Item) (d d' d'' : Diff
     (xs ys : List Item) → Tells o items d xs d' → Tells o items d' ys d''
     → Tells o items d (xs ++ ys) d''
 tells_both o items d d' d'' xs ys first second more h =
-    let whole : (xs ++ ys) ++ more ≡ xs ++ (ys ++ more) = append_assoc xs ys more in
-    let rises : is_rising o (xs ++ (ys ++ more)) ≡ true =
-    subst (λ l. is_rising o l ≡ true) whole h in
-    second more (rising_after o xs (ys ++ more) rises) ∙ first (ys ++ more) rises
-    ∙ ap (λ l. update_found d items l) (sym whole)
+    grind (arith, nat_tests, append_assoc, rising_after)
 
 -- ---- a table whose items were replaced
 
@@ -284,9 +256,15 @@ module _ {K : Type 0} (o : Order K) (law : IsLawful o) where
   pub table_rises : (t : List Item) → IsTable o t → is_rising o t ≡ true
   table_rises [] is = refl
   table_rises (x ∷ xs) is =
-      let less = all_weaker (Precedes o x) (λ y. o.less x y ≡ true) (λ y p. p.is_less) xs is.1 in
-      and_from (list_all (λ y. o.less x y) xs) (is_rising o xs) (list_all-from_AllPass (o.less x) xs
-      (All-from_recursion (λ y. o.less x y ≡ true) xs less)) (table_rises xs is.2)
+      grind (
+        arith,
+        nat_tests,
+        table_rises xs is.2,
+        all_weaker,
+        and_from,
+        list_all-from_AllPass,
+        All-from_recursion,
+      )
 
   -- of two items of a table one precedes the other
   one_precedes : (t : List Item) (x y : Item) → IsTable o t → Contains t x → Contains t y
@@ -305,13 +283,7 @@ module _ {K : Type 0} (o : Order K) (law : IsLawful o) where
   -- the lesser of two does
   lesser_precedes : (t : List Item) (x y : Item) → IsTable o t → Contains t x → Contains t y
       → o.less x y ≡ true → Precedes o x y
-  lesser_precedes t x y is mx my l =
-      let never : o.less x x ≡ false = law.irreflexive x in
-      ⊎_elim
-      (λ e. absurd (let itself : o.less x x ≡ true = ap (o.less x) e ∙ l in cc))
-      (λ p. ⊎_elim (λ q. q)
-      (λ q. absurd (let itself : o.less x x ≡ true = law.transitive x y x l q.is_less in cc)) p)
-      (one_precedes t x y is mx my)
+  lesser_precedes t x y is mx my l = grind (arith, nat_tests, one_precedes)
 
   -- and two with one first word are one
   one_of_word : (t : List Item) (x y : Item) → IsTable o t → Contains t x → Contains t y → x.a ≡ y.a
@@ -426,6 +398,4 @@ none_among others (x ∷ xs) h =
     ∙ none_among others xs (λ y m. h y (Contains-rest x y xs m))
 
 pub replaced_by_itself : (table : List Item) → replacement table table ≡ Batch [] []
-replaced_by_itself table =
-    let none : not_among table table ≡ [] = none_among table table (λ x m. m) in
-    λ i. Batch (map (λ (z : Item). z.a) (none i)) (none i)
+replaced_by_itself table = grind (arith, nat_tests, none_among)

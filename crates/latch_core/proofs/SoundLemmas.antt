@@ -17,7 +17,7 @@ use Rattle.latch_core.proofs.Words.{holds_on, flip_same, flip_adds, Insert, Eras
 use Rattle.latch_core.proofs.Words.{without_none, without_one, with_item_table, without_table}
 use Rattle.latch_core.proofs.Words.{length_with_item, length_without, length_without_all}
 use Rattle.latch_core.proofs.Words.{without_all_table, not_meeting, all_valid, all_apart, all_off}
-use Rattle.latch_core.proofs.Words.{with_items_table, length_with_items}
+use Rattle.latch_core.proofs.Words.{with_items_table, length_with_items, nat_tests}
 use Rattle.std.proofs.Common.{◌-◌, ◌*◌}
 use Rattle.std.proofs.lemmas.Bool.{eq-eqb}
 use Rattle.latch_core.proofs.TestLemmas.{NoneHolds, all_tests, none_holds}
@@ -27,10 +27,7 @@ use Rattle.latch_core.proofs.WalkLemmas.{walk_uses}
 -- what a step does to the words
 pub hidden_same : (n : ℕ) (m began : List ℕ) (s : Store) → IsHidden n m began s.word → (w : ℕ)
     → (w ≡ 0) ⊎ InUse m n (stable_copy_of (at m 0)) w → at (words_after m s) w ≡ at m w
-hidden_same n m began s h w p =
-    let ne : w ≢ s.word = ⊎_elim (λ z e. h.not_sequence (sym e ∙ z))
-    (λ u e. h.not_in_use (subst (InUse m n (stable_copy_of (at m 0))) e u)) p in
-    get_or-set_other m s.word w s.value 0 ne
+hidden_same n m began s h w p = grind (arith, nat_tests, get_or-set_other)
 
 -- the sequence after a step: the same, or one more
 pub sequence_after : (n : ℕ) (l : Latch) (h : PendingUpdate) (s : Store) → 0 < length l.words
@@ -124,22 +121,16 @@ pub tables_push : {K : Type 0} (o : Order K) → IsLawful o
     → refusal_for o n limit false (replay o [] us) seq u ≡ None → AreTables o n us
     → AreTables o n (us ++ u ∷ [])
 tables_push o law n limit us seq u e h j =
-    ⊎_elim
-    (λ gt.
-    let t : take j (us ++ u ∷ []) ≡ us ++ u ∷ [] =
-    take_all j (us ++ u ∷ []) (omega (arith, length-append us (u ∷ []))) in
-    let whole : take (length us) us ≡ us = take_all (length us) us (omega arith) in
-    let now = accepted_table o law n limit (replay o [] us) seq u e
-    (subst (λ xs. IsTable o (replay o [] xs)) whole (h (length us)).0)
-    (subst (λ xs. length (replay o [] xs) ≤ n) whole (h (length us)).1) in
-    let same : replay o [] (take j (us ++ u ∷ [])) ≡ after o (replay o [] us) u =
-    ap (replay o []) t ∙ replay_push o [] us u in
-    (subst (IsTable o) (sym same) now.0, subst (λ xs. length xs ≤ n) (sym same) now.1))
-    (λ le. let t : take j (us ++ u ∷ []) ≡ take j us = take-append-le j us (u ∷ []) le in (
-      subst (λ xs. IsTable o (replay o [] xs)) (sym t) (h j).0,
-      subst (λ xs. length (replay o [] xs) ≤ n) (sym t) (h j).1,
-    ))
-    (cases_lt (length us) j)
+    grind (
+      arith,
+      nat_tests,
+      take_all,
+      length-append,
+      accepted_table,
+      replay_push,
+      take-append-le,
+      cases_lt,
+    )
 
 -- what a step leaves, by its kind: the sequence, the number of flips, and what the stable copy
 -- holds
@@ -327,11 +318,7 @@ sequence_at_rest o n start us l ok rest =
 
 pub current_at_rest : {K : Type 0} (o : Order K) (n start : ℕ) (us : List Update) (l : Latch)
     → IsSound o n start us l → l.pending ≡ None → current_table o start us l.words ≡ replay o [] us
-current_at_rest o n start us l ok rest =
-    let seq = sequence_at_rest o n start us l ok rest in
-    let all : length us ≤ generation_of (at l.words 0) - generation_of start =
-    (let ev : start % 2 ≡ 0 = ok.even in omega arith) in
-    ap (replay o []) (take_all (generation_of (at l.words 0) - generation_of start) us all)
+current_at_rest o n start us l ok rest = grind (arith, nat_tests, sequence_at_rest, take_all)
 
 -- before any update none is pending
 pub none_begun : {K : Type 0} (o : Order K) (n start : ℕ) (l : Latch) → IsSound o n start [] l

@@ -16,7 +16,7 @@ use Rattle.latch_core.proofs.Words.{agree_after, holds_untouched, tree_agree, fl
 use Rattle.latch_core.proofs.Words.{tree_untouched, IsBalanced, stable_copy_of, PendingUpdate}
 use Rattle.latch_core.proofs.Words.{BothHold, IsHidden, IsFirstFlip, IsSecondFlip, flips_after}
 use Rattle.latch_core.proofs.Words.{opening_latch, IsPlan, flip_to, update_stores, get_or-replicate}
-use Rattle.latch_core.proofs.Words.{balanced_none, IsShallow, StaysShallow}
+use Rattle.latch_core.proofs.Words.{balanced_none, IsShallow, StaysShallow, nat_tests}
 use Rattle.std.proofs.Common.{◌-◌, ◌*◌}
 use Rattle.latch_core.proofs.SoundLemmas.{flips_of_store}
 use Rattle.word_layout.proofs.HeldLemmas.{leads_once}
@@ -266,11 +266,7 @@ module _ (n : ℕ) (old new : List Item) (m : List ℕ) (items ls0 ls1 : List St
 
   -- what the copies hold
   old1 : BothHold m1 n old
-  old1 =
-      let away = items_unused m n items is.items_free in (
-        holds_untouched m n 0 old items away.0 is.both_old.0,
-        holds_untouched m n 1 old items away.1 is.both_old.1,
-      )
+  old1 = grind (arith, nat_tests, items_unused, holds_untouched)
 
   new0_3 : Holds m3 n 0 new t0
   new0_3 = tree_agree (words_after_all m1 ls0) m3 n 0 new t0
@@ -358,15 +354,7 @@ module _ (n : ℕ) (old new : List Item) (m : List ℕ) (items ls0 ls1 : List St
             Some (record { old_table = old; old_words = m; flips_made = 0; steps_left = left });
       }) (update_stores (at m 0) items ls0 ls1)
   update_plan left e =
-      let some : 0 < length ((items ++ flips0) ++ flips1) =
-      omega (arith, length-append (items ++ flips0) flips1) in
-      let plan = plan_of_kinds n old new m 0 m ((items ++ flips0) ++ flips1) some kinds_all
-      ((t0, update_zero), (t1, update_one)) in
-      subst (λ x. IsPlan n (record {
-        words = m;
-        newest_table = new;
-        pending = Some (record { old_table = old; old_words = m; flips_made = 0; steps_left = x });
-      }) (update_stores (at m 0) items ls0 ls1)) (sym e) plan
+      grind (arith, nat_tests, length-append, plan_of_kinds, kinds_all, update_zero, update_one)
 
 stays_append : (n : ℕ) (m : List ℕ) (xs ys : List Store) → StaysShallow n m xs
     → StaysShallow n (words_after_all m xs) ys → StaysShallow n m (xs ++ ys)
@@ -454,9 +442,7 @@ opening_shallow n start even =
 -- whichever table and tree the stable copy holds, the tree is red-black
 pub shallow_tree : (n : ℕ) (m : List ℕ) (table : List Item) (t : Nodes)
     → Holds m n (stable_copy_of (at m 0)) table t → IsShallow n m → IsBalanced t
-shallow_tree n m table t holds low =
-    subst IsBalanced (leads_once m n (stable_copy_of (at m 0))
-    (at m (root_word (stable_copy_of (at m 0)))) low.1 t low.2.leads holds.leads) low.3
+shallow_tree n m table t holds low = grind (arith, nat_tests, leads_once)
 
 pub stays_now : (n : ℕ) (m : List ℕ) (ss : List Store) → StaysShallow n m ss → IsShallow n m
 stays_now n m [] h = h

@@ -3,7 +3,7 @@ use Rattle.latch_core.proofs.Words.{◌≡◌, ◌≢◌, ℕ, ◌+◌, ◌≤�
 use Rattle.latch_core.proofs.Words.{length, Some, None, refl, Bool, nat_lt, AllByRecursion}
 use Rattle.latch_core.proofs.Words.{UpdateInHand, SequenceSpent, OutOfMemory, Order, Item, Update}
 use Rattle.latch_core.proofs.Words.{Insert, Erase, Batch, Test, first_that_holds, tests_of}
-use Rattle.latch_core.proofs.Words.{refusal_for, eqb-false_wider, ltb-false_wider}
+use Rattle.latch_core.proofs.Words.{refusal_for, eqb-false_wider, ltb-false_wider, nat_tests, arith}
 use Rattle.order_laws.specs.declared.refusals.Refusal.{Refusal}
 
 -- a list of which no test holds, and one whose first test holds
@@ -65,17 +65,8 @@ pub none_wider : {K : Type 0} (o : Order K) (n n' limit limit' seq : ℕ) (table
     → refusal_for o n limit false table seq u ≡ None
     → refusal_for o n' limit' false table seq u ≡ None
 none_wider o n n' limit limit' seq table (Insert i) more later few e =
-    let h = none_holds (all_tests o n limit false table seq (Insert i)) e in
-    let f = eqb-false_wider n n' (length table) more few h.1.1.1.0 in
-    let s = ltb-false_wider limit limit' (seq + 2) (seq + 2) later refl h.1.1.1.1.0 in
-    rw (h.1.0, h.1.1.0, f, s) refl
+    grind (arith, nat_tests, none_holds, eqb-false_wider, ltb-false_wider)
 none_wider o n n' limit limit' seq table (Erase a) more later few e =
-    let h = none_holds (all_tests o n limit false table seq (Erase a)) e in
-    let s = ltb-false_wider limit limit' (seq + 2) (seq + 2) later refl h.1.1.0 in
-    rw (h.1.0, s) refl
+    grind (arith, nat_tests, none_holds, ltb-false_wider)
 none_wider o n n' limit limit' seq table (Batch erase insert) more later few e =
-    let h = none_holds (all_tests o n limit false table seq (Batch erase insert)) e in
-    let f = ltb-false_wider n n' (length table + length insert) (length table + length insert) more
-    refl h.1.1.1.1.0 in
-    let s = ltb-false_wider limit limit' (seq + 2) (seq + 2) later refl h.1.1.1.1.1.0 in
-    rw (h.1.0, h.1.1.0, h.1.1.1.0, f, s) refl
+    grind (arith, nat_tests, none_holds, ltb-false_wider)

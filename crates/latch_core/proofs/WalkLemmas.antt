@@ -6,16 +6,15 @@ use Rattle.latch_core.proofs.Words.{arith, [], ◌∷◌, ◌++◌, ◌⊎◌, �
 use Rattle.latch_core.proofs.Words.{lt-ltb, ltb-true, eqb-true, Item, Order, IsLawful, IsTable}
 use Rattle.latch_core.proofs.Words.{look, at, root_word, left_word, right_word, item_at, Nodes}
 use Rattle.latch_core.proofs.Words.{none, fork, items, Holds, Reaches, by_left, by_right, InUse}
-use Rattle.latch_core.proofs.Words.{listed, generation_of, stable_copy_of, Outcome, Answer, Reading}
+use Rattle.latch_core.proofs.Words.{generation_of, stable_copy_of, Outcome, Answer, Reading}
 use Rattle.latch_core.proofs.Words.{Load, Ends, WalkEnd, AtItem, AtEmptyLink, outcome, last_load}
 use Rattle.latch_core.proofs.Words.{after_item, visit, walk, attempt, rest_after, Stand, IsAttempt}
 use Rattle.latch_core.proofs.Words.{Again, size, size_items, size_listed, IsBalanced, depth}
 use Rattle.latch_core.proofs.Words.{balanced_depth, parted, look_less, look_greater, look_equal}
-use Rattle.latch_core.proofs.Words.{outcome_in, loads_in, IsStanding}
+use Rattle.latch_core.proofs.Words.{outcome_in, loads_in, IsStanding, nat_tests, Stuck}
 use Rattle.std.proofs.Common.{◌*◌}
 use Rattle.std.proofs.lemmas.Bool.{eq-eqb}
 use Rattle.word_layout.specs.Words.{Leads}
-use Rattle.latch_core.specs.Attempts.{Stuck}
 use Rattle.latch_core.proofs.ReadingLemmas.{AllLoads, Within, ends_as, loads_so_far, loads_below}
 use Rattle.latch_core.proofs.ReadingLemmas.{within_length, stand_push}
 
@@ -210,9 +209,7 @@ pub few_deep_any : (m : List ℕ) (n : ℕ) (table : List Item) (t : Nodes)
     → Holds m n (stable_copy_of (at m 0)) table t → IsBalanced t
     → 2 ^ depth t ≤ (length table + 1) * (length table + 1)
 few_deep_any m n table t holds good =
-    let same : length (listed t) ≡ length table =
-    omega (arith, size_listed t, size_items m t, ap length holds.listed_items) in
-    subst (λ q. 2 ^ depth t ≤ (q + 1) * (q + 1)) same (balanced_depth t good)
+    grind (arith, nat_tests, size_listed, size_items, balanced_depth)
 
 -- an answer is given only at a load of word 0 that gives the first number again
 abbrev AnswersAt : ℕ → ℕ → ℕ → Reading → Type 0
@@ -226,12 +223,7 @@ Closes s (Ends out) = Unit {0}
 
 if_equal : (s t : ℕ) (r : Option Item)
     → AnswersAt s 0 t (Ends (cond (s == t) (Answer r (generation_of s)) Again)) × Unit {0}
-if_equal s t r =
-    elim (s == t) as (λ b. (s == t) ≡ b
-    → AnswersAt s 0 t (Ends (cond b (Answer r (generation_of s)) Again)) × Unit {0}) [
-      | true ↦ λ e. ((refl, sym (eqb-true s t e)), tt)
-      | false ↦ λ e. (tt, tt)
-    ] refl
+if_equal s t r = grind (arith, nat_tests, eqb-true)
 
 closing_closes : (s : ℕ) (f : WalkEnd) → Closes s (last_load s f)
 closing_closes s Stuck t = (tt, tt)
@@ -242,9 +234,7 @@ module _ {K : Type 0} (o : Order K) (n : ℕ) (k : K) (s : ℕ) where
   not_answer : (w x left link : ℕ) → AnswersAt s w x (walk o n k s left link)
   not_answer w x left zero = tt
   not_answer w x zero (suc i) = tt
-  not_answer w x (suc left) (suc i) =
-      elim (nat_lt i n) as (λ b. AnswersAt s w x (cond b (visit o k s i (walk o n k s left))
-      (last_load s Stuck))) [ true ↦ tt | false ↦ tt ]
+  not_answer w x (suc left) (suc i) = grind (arith, nat_tests)
 
   turn_answers : (w x i : ℕ) (y : Item) (left : ℕ)
       → AnswersAt s w x (after_item s i y (walk o n k s left) (o.comp k y))
@@ -285,9 +275,7 @@ closes_rest s (Ends out) (x ∷ v) r' h e = absurd (cc)
 pub standing_push : (m : List ℕ) (go0 : ℕ → Reading) (v : List ℕ) (word : ℕ) (go : ℕ → Reading)
     → rest_after (Load 0 go0) v ≡ Some (Load word go) → IsStanding m (Load 0 go0) v
     → IsStanding m (Load 0 go0) (v ++ at m word ∷ [])
-standing_push m go0 [] word go e st =
-    let z : word ≡ 0 = cc in
-    (let f : at m word ≡ at m 0 = ap (at m) z in omega arith, λ is. (sym is, tt))
+standing_push m go0 [] word go e st = grind (arith, nat_tests)
 standing_push m go0 (s ∷ v) word go e st =
     (st.0, λ is. stand_push m (Load 0 go0) (s ∷ v) word go (at m word) e (st.1 is) refl)
 

@@ -43,7 +43,7 @@ pub use Rattle.facts.proofs.Tests.{all_fail, list_any-above, list_any-all_fail}
 pub use Rattle.latch_core.specs.Attempts.{Reading, Load, Ends, Outcome, Answer, attempt, rest_after}
 pub use Rattle.latch_core.specs.Attempts.{IsAttempt, Stand, WalkEnd, outcome, last_load, after_item}
 pub use Rattle.latch_core.specs.Attempts.{visit, walk, attempt_after, Again, AtItem, AtEmptyLink}
-pub use Rattle.latch_core.specs.Attempts.{after_a, after_b}
+pub use Rattle.latch_core.specs.Attempts.{after_a, after_b, Stuck}
 pub use Rattle.latch_core.specs.Changes.{PlacedItems, stores_of_placed, AreInPlace, RelinksBoth}
 pub use Rattle.latch_core.specs.Changes.{ErasesWords, InsertsItems, RelinksCopy}
 pub use Rattle.latch_core.specs.FreeNodes.{AreAllNodes}
@@ -121,3 +121,4 @@ pub use Rattle.word_layout.specs.Words.{words_per_node, root_word, none, HoldsTa
 pub use Rattle.word_layout.specs.Words.{right_word, Reaches, by_left, by_right, fork, items}
 pub use Rattle.word_layout.specs.declared.layouts.Layout.{Layout}
 pub use Rattle.word_layout.specs.declared.stores.Store.{Store}
+pub use Rattle.std.proofs.lemmas.Grind.{common_steps}

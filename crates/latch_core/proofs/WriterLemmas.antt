@@ -1,11 +1,11 @@
 -- One step of a plan, and what the writer's core pictures, from one call to the next.
-use Rattle.latch_core.proofs.Words.{◌≡◌, ℕ, suc, ◌+◌, ◌%◌, ◌<◌, true, false, cond, List, [], ◌∷◌}
-use Rattle.latch_core.proofs.Words.{length, drop, Some, None, refl, sym, ◌∙◌, ap, subst, ⊎_elim}
+use Rattle.latch_core.proofs.Words.{◌≡◌, ℕ, suc, ◌%◌, ◌<◌, cond, List, [], ◌∷◌}
+use Rattle.latch_core.proofs.Words.{length, drop, Some, None, sym, ◌∙◌, ap, subst}
 use Rattle.latch_core.proofs.Words.{arith, get_or-set_other, get_or-set_same, ◌==◌, MatchOption}
-use Rattle.latch_core.proofs.Words.{is_some, nat_lt, slice_get, Contains, slice_set, nat_tests}
+use Rattle.latch_core.proofs.Words.{is_some, nat_lt, slice_get, Contains, nat_tests}
 use Rattle.latch_core.proofs.Words.{lt-ltb, cases_eq, ne_eqb, Order, first_and_rest}
 use Rattle.latch_core.proofs.Words.{nil-from_length, get_or-replicate, length-replicate, Layout}
-use Rattle.latch_core.proofs.Words.{capacity_of, Store, words_per_node, at, words_for, Nodes, Holds}
+use Rattle.latch_core.proofs.Words.{capacity_of, Store, at, Nodes, Holds}
 use Rattle.latch_core.proofs.Words.{IsUnreached, listed, words_after, words_after_all, length_after}
 use Rattle.latch_core.proofs.Words.{Update, stable_copy_of, refusal_for, after, PendingUpdate}
 use Rattle.latch_core.proofs.Words.{Latch, IsWriterStep, latch_after_step, latch_with_update}
@@ -13,7 +13,6 @@ use Rattle.latch_core.proofs.Words.{opening_latch, IsPlan, update_stores, Writer
 use Rattle.latch_core.proofs.Words.{IsMemoryAtRest, StaysShallow, RepresentsLatch, next_store}
 use Rattle.latch_core.proofs.Words.{why_refused, sequence_after, writer_after_step, opening_writer}
 use Rattle.latch_core.proofs.Words.{has_pending, balanced_none}
-use Rattle.std.proofs.Common.{◌*◌, ◌-◌}
 use Rattle.std.proofs.lemmas.Bool.{eq-eqb}
 use Rattle.word_layout.proofs.ReachLemmas.{reached_listed}
 use Rattle.latch_core.proofs.StoreOrderLemmas.{Leading, update_plan, update_zero, update_one}
@@ -24,10 +23,7 @@ use Rattle.latch_core.proofs.TestLemmas.{all_tests, none_holds}
 pub plan_step : (n : ℕ) (l : Latch) (h : PendingUpdate) (s : Store) (xs : List Store)
     → IsPlan n l xs → l.pending ≡ Some h → slice_get xs 0 ≡ Some s
     → IsPlan n (latch_after_step l h s) (drop 1 xs)
-plan_step n l h s xs plan pending is =
-    let p = subst (IsPlan n l) (first_and_rest xs s is) plan in
-    let same : p.0 ≡ h = (let e = p.1 in cc) in
-    subst (λ g. IsPlan n (latch_after_step l g s) (drop 1 xs)) same p.3
+plan_step n l h s xs plan pending is = grind (arith, nat_tests, first_and_rest)
 
 -- how many steps are left, by what is pending after one
 at_last : (left : ℕ) (g : PendingUpdate) → cond (left == 1) None (Some g) ≡ None → left ≡ 1
@@ -39,17 +35,14 @@ before_last left g k e = grind (arith, nat_tests)
 pub plan_left : (n : ℕ) (l : Latch) (h : PendingUpdate) (ss : List Store) → IsPlan n l ss
     → l.pending ≡ Some h → h.steps_left ≡ length ss
 plan_left n l h [] plan e = absurd (cc)
-plan_left n l h (s ∷ []) plan e =
-    let same : plan.0 ≡ h = (let f = plan.1 in cc) in
-    ap (λ (g : PendingUpdate). g.steps_left) (sym same) ∙ at_last plan.0.steps_left _ plan.3
+plan_left n l h (s ∷ []) plan e = grind (arith, nat_tests, at_last)
 plan_left n l h (s ∷ t ∷ ss) plan e =
-    let same : plan.0 ≡ h = (let f = plan.1 in cc) in
-    let rest = plan_left n (latch_after_step l plan.0 s) plan.3.0 (t ∷ ss) plan.3 plan.3.1 in
-    let g = before_last plan.0.steps_left _ plan.3.0 plan.3.1 in
-    let less : plan.0.steps_left - 1 ≡ length (t ∷ ss) =
-    ap (λ (k : PendingUpdate). k.steps_left) g ∙ rest in
-    ap (λ (k : PendingUpdate). k.steps_left) (sym same)
-    ∙ (let two : plan.0.steps_left ≡ suc (suc (length ss)) = omega arith in two)
+    grind (
+      arith,
+      nat_tests,
+      plan_left n (latch_after_step l plan.0 s) plan.3.0 (t ∷ ss) plan.3 plan.3.1,
+      before_last,
+    )
 
 -- the next store, and whether there is a pending update
 plan_next : (n : ℕ) (l : Latch) (xs : List Store) → IsPlan n l xs → MatchOption (slice_get xs 0)
@@ -80,41 +73,13 @@ refuses_pictured o w l u p =
 sequence_stored : (m : List ℕ) (seq : ℕ) (s : Store) → 0 < length m → at m 0 ≡ seq
     → at (words_after m s) 0 ≡ sequence_after seq s
 sequence_stored m seq s sized e =
-    ⊎_elim
-    (λ (z : s.word ≡ 0).
-    let same : (s.word == 0) ≡ true = eq-eqb s.word 0 z in
-    ap (λ w. at (slice_set m w s.value) 0) z ∙ get_or-set_same m 0 s.value 0 sized
-    ∙ sym (ap (λ b. cond b s.value seq) same))
-    (λ ne.
-    let other : (s.word == 0) ≡ false = ne_eqb s.word 0 ne in
-    get_or-set_other m s.word 0 s.value 0 (λ z. ne (sym z)) ∙ e
-    ∙ sym (ap (λ b. cond b s.value seq) other))
-    (cases_eq s.word 0)
+    grind (arith, nat_tests, eq-eqb, get_or-set_same, ne_eqb, get_or-set_other, cases_eq)
 
 pub did_pictures : (w : WriterView) (l : Latch) (h : PendingUpdate) (s : Store)
     → RepresentsLatch w l → l.pending ≡ Some h → next_store w ≡ Some s
     → RepresentsLatch (writer_after_step w s) (latch_after_step l h s)
 did_pictures w l h s p pending is =
-    let whole : words_after_all l.words w.stores_left
-    ≡ words_after_all (words_after l.words s) (drop 1 w.stores_left) =
-    ap (words_after_all l.words) (first_and_rest w.stores_left s is) in
-    let rest = p.at_rest in
-    let sized = sym (length_after l.words w.stores_left) ∙ rest.sized in
-    record {
-      plan = plan_step w.capacity l h s w.stores_left p.plan pending is;
-      at_rest = record {
-        sized = subst (λ m. length m ≡ words_for w.capacity) whole rest.sized;
-        even = subst (λ m. stable_copy_of (at m 0) ≡ 0) whole rest.even;
-        zero = subst (λ m. Holds m w.capacity 0 w.table w.zero_tree) whole rest.zero;
-        one = subst (λ m. Holds m w.capacity 1 w.table w.one_tree) whole rest.one;
-        zero_balanced = rest.zero_balanced;
-        one_balanced = rest.one_balanced;
-      };
-      table = p.table;
-      sequence = sequence_stored l.words w.sequence s (omega (arith, sized)) p.sequence;
-      shallow =
-          (subst (StaysShallow w.capacity l.words) (first_and_rest w.stores_left s is) p.shallow).1;
-    }
+    grind (arith, nat_tests, first_and_rest, length_after, plan_step, sequence_stored)
 
 pub remaining_pictured : (w : WriterView) (l : Latch) (h : PendingUpdate) → RepresentsLatch w l
     → l.pending ≡ Some h → h.steps_left ≡ length w.stores_left
@@ -195,24 +160,7 @@ rest_now w l p idle = subst (λ ss. IsMemoryAtRest w (words_after_all l.words ss
 pub opening_pictures : (l : Layout) (start : ℕ) → stable_copy_of start ≡ 0
     → RepresentsLatch (opening_writer l start) (opening_latch (capacity_of l) start)
 opening_pictures l start even =
-    let n = capacity_of l in
-    let m = (opening_latch n start).words in
-    let first : at m 1 ≡ 0 = get_or-replicate (words_per_node * n + 2) 0 0 0 (omega arith) in
-    let second : at m 2 ≡ 0 = get_or-replicate (words_per_node * n + 2) 1 0 0 (omega arith) in
-    record {
-      plan = refl;
-      at_rest = record {
-        sized = omega (arith, length-replicate {A = ℕ} (words_per_node * n + 2) 0);
-        even = even;
-        zero = record { leads = first; listed_items = refl };
-        one = record { leads = second; listed_items = refl };
-        zero_balanced = balanced_none;
-        one_balanced = balanced_none;
-      };
-      table = refl;
-      sequence = refl;
-      shallow = opening_shallow n start even;
-    }
+    grind (arith, nat_tests, get_or-replicate, length-replicate, balanced_none, opening_shallow)
 
 -- an update begins at rest
 pub rests_before : {K : Type 0} (o : Order K) (w : WriterView) (u : Update)

@@ -3,21 +3,21 @@
 use Rattle.latch_steps.proofs.Definitions.{◌≡◌, ℕ, List, [], ◌∷◌, ◌++◌, refl, sym, ◌∙◌, ap, subst}
 use Rattle.latch_steps.proofs.Definitions.{⊎_elim, append_assoc, append-nil, ◌≢◌, zero, suc, ◌+◌}
 use Rattle.latch_steps.proofs.Definitions.{◌-◌, ◌*◌, ◌≤◌, length, Option, Some, None, arith}
-use Rattle.latch_steps.proofs.Definitions.{AllByRecursion, Order, IsLawful, capacity_of, limit_of}
-use Rattle.latch_steps.proofs.Definitions.{Store, Update, IsSound, rest_is_current, Event, Begin}
-use Rattle.latch_steps.proofs.Definitions.{Write, Start, Read, Reply, Wrote, Refused, Started}
-use Rattle.latch_steps.proofs.Definitions.{Loaded, OutOfMemory, World, Moment, Done, step_done}
-use Rattle.latch_steps.proofs.Definitions.{last_of, accepted, history, PendingLookup, machine}
-use Rattle.latch_steps.proofs.Definitions.{machine_of, Run, counted_up, with_lookups, new_lookup}
-use Rattle.latch_steps.proofs.Definitions.{with_value, after_value, load_left, start_done}
-use Rattle.latch_steps.proofs.Definitions.{load_done, read_done, StaysAfter, RepresentsMoment}
-use Rattle.latch_steps.proofs.Definitions.{IsAtRest, layout_in, IsAfter, machine_in, Does, GivesUp}
-use Rattle.latch_steps.proofs.Definitions.{IsWorldStep, min, get, insert, remove, cases_eq, Item}
-use Rattle.latch_steps.proofs.Definitions.{look, get-insert_other, get-insert_same}
-use Rattle.latch_steps.proofs.Definitions.{get-remove_other, get-remove_same, at, words_for}
-use Rattle.latch_steps.proofs.Definitions.{generation_of, current_table, Answer, Reading, Load}
-use Rattle.latch_steps.proofs.Definitions.{Ends, attempt, rest_after, RepresentsLatch, IsShallow}
-use Rattle.latch_steps.proofs.Definitions.{rest_push, attempt_ran, attempt_count}
+use Rattle.latch_steps.proofs.Definitions.{return_of, AllByRecursion, Order, IsLawful, capacity_of}
+use Rattle.latch_steps.proofs.Definitions.{limit_of, Store, Update, IsSound, rest_is_current, Event}
+use Rattle.latch_steps.proofs.Definitions.{Begin, Write, Start, Read, Reply, Wrote, Refused}
+use Rattle.latch_steps.proofs.Definitions.{Started, Loaded, OutOfMemory, World, Moment, Done}
+use Rattle.latch_steps.proofs.Definitions.{step_done, last_of, accepted, history, PendingLookup}
+use Rattle.latch_steps.proofs.Definitions.{machine, machine_of, Run, counted_up, with_lookups}
+use Rattle.latch_steps.proofs.Definitions.{new_lookup, with_value, after_value, load_left}
+use Rattle.latch_steps.proofs.Definitions.{start_done, load_done, read_done, StaysAfter}
+use Rattle.latch_steps.proofs.Definitions.{RepresentsMoment, IsAtRest, layout_in, IsAfter}
+use Rattle.latch_steps.proofs.Definitions.{machine_in, Does, GivesUp, IsWorldStep, min, get, insert}
+use Rattle.latch_steps.proofs.Definitions.{remove, cases_eq, Item, look, get-insert_other}
+use Rattle.latch_steps.proofs.Definitions.{get-insert_same, get-remove_other, get-remove_same, at}
+use Rattle.latch_steps.proofs.Definitions.{words_for, generation_of, current_table, Answer, Reading}
+use Rattle.latch_steps.proofs.Definitions.{Load, Ends, attempt, rest_after, RepresentsLatch}
+use Rattle.latch_steps.proofs.Definitions.{IsShallow, rest_push, attempt_ran, attempt_count}
 use Rattle.latch_steps.proofs.Definitions.{attempt_depth_count, few_deep_any, shallow_tree}
 use Rattle.latch_steps.proofs.Definitions.{stays_now, depth, IsPendingLookup, lookup_at}
 use Rattle.latch_steps.specs.declared.replies.Reply.TheVariants.{Returned as ReturnedReply}
@@ -168,16 +168,7 @@ later_is (suc steps) count most = later_is steps (counted_up count) (omega arith
 abbrev pub returned_after : {K : Type 0} → ℕ → Moment K → PendingLookup K → Option Item → ℕ → ℕ
     → Returned K
 returned_after r w l answer g loads =
-    record {
-      reader = r;
-      key = l.key;
-      answer = answer;
-      generation = g;
-      first = l.first;
-      last = later loads w.events;
-      loads = later loads l.loads;
-      attempts = l.attempts;
-    }
+    record (return_of w r l answer g) { last = later loads w.events; loads = later loads l.loads }
 
 -- so many loads of a reader lead from a moment, where this lookup is pending, to its return
 pub record Ending {K : Type 0} (o : Order K) (n limit : ℕ) (r : ℕ) (w : Moment K)
@@ -336,9 +327,8 @@ module _ {O K : Type 0} (o : Order K) (law : IsLawful o) (old : World O K) (r : 
               ts.0 ts.1,
         )
 
-    pub look_right : (answer : Option Item) (g loads first last : ℕ)
-        → LooksUp o old k answer g loads
-        → IsFoundNow o (table_in h) (generation_of (at h.moment.latch.words 0)) r k (record {
+    pub look_told : (answer : Option Item) (g loads first last : ℕ) → LooksUp o old k answer g loads
+        → (let x : Returned K = record {
           reader = r;
           key = k;
           answer = answer;
@@ -347,33 +337,10 @@ module _ {O K : Type 0} (o : Order K) (law : IsLawful o) (old : World O K) (r : 
           last = last;
           loads = loads;
           attempts = 1;
-        })
-    look_right answer g loads first last found =
+        } in IsFoundNow o (table_in h) (generation_of (at h.moment.latch.words 0)) r k x
+        × IsNear (table_in h) x)
+    look_told answer g loads first last found =
         let same = sym found.comes_to ∙ right_answer in
-        record {
-          reader = refl;
-          key = refl;
-          look = record {
-            answer = cc;
-            generation = cc;
-            attempts = refl;
-            loads = few_loads answer g loads found;
-          };
-        }
-
-    pub look_near : (answer : Option Item) (g loads first last : ℕ) → LooksUp o old k answer g loads
-        → IsNear (table_in h)
-        (record {
-          reader = r;
-          key = k;
-          answer = answer;
-          generation = g;
-          first = first;
-          last = last;
-          loads = loads;
-          attempts = 1;
-        })
-    look_near answer g loads first last found =
         let n = capacity_of old.layout in
         let m = h.moment.latch.words in
         let table = current_table o start' us m in
@@ -383,9 +350,21 @@ module _ {O K : Type 0} (o : Order K) (law : IsLawful o) (old : World O K) (r : 
         let low : IsShallow n m = subst (λ q. IsShallow q m) h.shows.capacity
         (stays_now old.writer.capacity m old.writer.stores_left h.shows.writer.shallow) in
         let e = sym found.counts ∙ ap (λ v. loads_in v (attempt o n k)) h.shows.words in (
-          depth t,
-          few_deep_any m n table t holds (shallow_tree n m table t holds low),
-          omega (arith, attempt_depth_count o law m n k table t holds ts.0 ts.1),
+          record {
+            reader = refl;
+            key = refl;
+            look = record {
+              answer = cc;
+              generation = cc;
+              attempts = refl;
+              loads = few_loads answer g loads found;
+            };
+          },
+          (
+            depth t,
+            few_deep_any m n table t holds (shallow_tree n m table t holds low),
+            omega (arith, attempt_depth_count o law m n k table t holds ts.0 ts.1),
+          ),
         )
 
     -- there is always an answer

@@ -244,37 +244,13 @@ module _ {K : Type 0} (o : Order K) (law : IsLawful o) (n limit start : ℕ)
       sym (ap (replay o [])
       (ap (take g) split ∙ take-append-le g us rest (gen_within o n start us w.latch ok.latch)))
 
-  pub quiet_run : (run : List (Done K)) (us : List Update) (c : ℕ) (w : Moment K)
+  -- both at once
+  both_runs : (run : List (Done K)) (us : List Update) (c : ℕ) (w : Moment K)
       → IsWorld o n start us c w → c + length run < 2 ^ 64 → Run (machine o n limit) w run
-      → whole ≡ us ++ history run → AreUndisturbed o start whole run
-  quiet_run [] us c w ok room steps e = tt
-  quiet_run (d ∷ run) us c w ok room steps e =
-      let leads =
-      step_leads o law n limit start us c w ok (omega arith) d.event d.reply d.after steps.0 in
-      let us' = us ++ accepted d.event d.reply in
-      let e' : whole ≡ us' ++ history run =
-      e ∙ sym (append_assoc us (accepted d.event d.reply) (history run)) in
-      let latch = leads.world.latch in
-      let m = d.after.latch.words in
-      let ts = latch.tables (generation_of (at m 0) - generation_of start) in
-      let below : Below d.after (4 * length (current_table o start us' m) + 3) =
-      λ k v word go st left. attempt_below o law m n k (current_table o start us' m) latch.current.0
-      latch.current.1 ts.0 ts.1 v word go st left in (
-        subst (λ xs. ReturnsFromStart (4 * length xs + 3) d.event d.reply run)
-            (still_current us' (history run) (c + 1) d.after e' leads.world)
-            (from_start run us' (c + 1) w d.after d.event d.reply
-            (4 * length (current_table o start us' m) + 3) below (omega arith) leads.world
-            steps.0 steps.1),
-        quiet_run run us' (c + 1) d.after leads.world (omega arith) steps.1 e',
-      )
-
-  -- and near, where each of its moments has its stable copy in a red-black tree
-  pub near_run : (run : List (Done K)) (us : List Update) (c : ℕ) (w : Moment K)
-      → IsWorld o n start us c w → c + length run < 2 ^ 64 → Run (machine o n limit) w run
-      → AreShallow n run
-      → whole ≡ us ++ history run → AreNear o start whole run
-  near_run [] us c w ok room steps low e = tt
-  near_run (d ∷ run) us c w ok room steps low e =
+      → whole ≡ us ++ history run
+      → AreUndisturbed o start whole run × (AreShallow n run → AreNear o start whole run)
+  both_runs [] us c w ok room steps e = (tt, λ low. tt)
+  both_runs (d ∷ run) us c w ok room steps e =
       let leads =
       step_leads o law n limit start us c w ok (omega arith) d.event d.reply d.after steps.0 in
       let us' = us ++ accepted d.event d.reply in
@@ -286,18 +262,41 @@ module _ {K : Type 0} (o : Order K) (law : IsLawful o) (n limit start : ℕ)
       let t = latch.current.0 in
       let holds = latch.current.1 in
       let ts = latch.tables (generation_of (at m 0) - generation_of start) in
-      let below : Below d.after (4 * depth t + 3) = λ k v word go st left.
-      attempt_below_depth o law m n k table t holds ts.0 ts.1 v word go st left in (
+      let same = still_current us' (history run) (c + 1) d.after e' leads.world in
+      let rest = both_runs run us' (c + 1) d.after leads.world (omega arith) steps.1 e' in (
         (
-          depth t,
-          subst (λ xs. IsDepth (length xs) (depth t))
-              (still_current us' (history run) (c + 1) d.after e' leads.world)
-              (few_deep_any m n table t holds (shallow_tree n m table t holds low.0)),
-          from_start run us' (c + 1) w d.after d.event d.reply (4 * depth t + 3) below (omega arith)
-              leads.world steps.0 steps.1,
+          subst (λ xs. ReturnsFromStart (4 * length xs + 3) d.event d.reply run) same
+              (from_start run us' (c + 1) w d.after d.event d.reply (4 * length table + 3)
+              (λ k v word go st left.
+              attempt_below o law m n k table t holds ts.0 ts.1 v word go st left) (omega arith)
+              leads.world steps.0 steps.1),
+          rest.0,
         ),
-        near_run run us' (c + 1) d.after leads.world (omega arith) steps.1 low.1 e',
+        λ low. (
+          (
+            depth t,
+            subst (λ xs. IsDepth (length xs) (depth t)) same
+                (few_deep_any m n table t holds (shallow_tree n m table t holds low.0)),
+            from_start run us' (c + 1) w d.after d.event d.reply (4 * depth t + 3)
+                (λ k v word go st left.
+                attempt_below_depth o law m n k table t holds ts.0 ts.1 v word go st left)
+                (omega arith) leads.world steps.0 steps.1,
+          ),
+          rest.1 low.1,
+        ),
       )
+
+  pub quiet_run : (run : List (Done K)) (us : List Update) (c : ℕ) (w : Moment K)
+      → IsWorld o n start us c w → c + length run < 2 ^ 64 → Run (machine o n limit) w run
+      → whole ≡ us ++ history run → AreUndisturbed o start whole run
+  quiet_run run us c w ok room steps e = (both_runs run us c w ok room steps e).0
+
+  -- and near, where each of its moments has its stable copy in a red-black tree
+  pub near_run : (run : List (Done K)) (us : List Update) (c : ℕ) (w : Moment K)
+      → IsWorld o n start us c w → c + length run < 2 ^ 64 → Run (machine o n limit) w run
+      → AreShallow n run
+      → whole ≡ us ++ history run → AreNear o start whole run
+  near_run run us c w ok room steps low e = (both_runs run us c w ok room steps e).1 low
 
 -- the attempts so far, against the sequence at the start and at this attempt's first load
 abbrev Tried : ℕ → ℕ → ℕ → List ℕ → Type 0

@@ -6,7 +6,7 @@ use Rattle.latch_table.proofs.Words.{IsLook, IsPrefix-along, IsPrefix-whole, Upd
 use Rattle.latch_table.proofs.Words.{replay, ReaderKnowledge, Knowledge, Try, Answered, Retry}
 use Rattle.latch_table.proofs.Words.{reader_of, with_sequence, LoadsSequence, KnowsMore, Answers}
 use Rattle.latch_table.proofs.Words.{Tried, Remembers, MemoryHolds, IsRecalled, Recalled, Looked}
-use Rattle.latch_table.proofs.Words.{memory_after, LearnsSequence}
+use Rattle.latch_table.proofs.Words.{memory_after, LearnsSequence, IfSome}
 use Rattle.order_laws.proofs.TableLemmas.{look_is, look_only}
 
 -- a prefix that is as long is the whole list
@@ -88,7 +88,7 @@ module _ {K : Type 0} (o : Order K) where
       → (k : K) (e : ReaderKnowledge) (s : ℕ) (known : List Update) (last : Option (Item × ℕ))
       → LoadsSequence o e s known → MemoryHolds o e last → (r : Option (Item × ℕ))
       → IsRecalled o k (generation_of s) last r → Recalled o k last e (with_sequence s known e) r
-  recalls law k e s known last looks m None h = record {
+  recalls law k e s known last looks m r h = record {
     sequence = s;
     seen = refl;
     once = refl;
@@ -96,24 +96,20 @@ module _ {K : Type 0} (o : Order K) where
     more = loads_more o e s known looks;
     floored = looks.floored;
     recalled = h;
-    answers = tt;
+    answers = found r h;
   }
-  recalls law k e s known last looks m (Some r) h =
-      let there : Remembers o e r.0 r.1 = subst (MemoryHolds o e) h.0 m in record {
-        sequence = s;
-        seen = refl;
-        once = refl;
-        last = refl;
-        more = loads_more o e s known looks;
-        floored = looks.floored;
-        recalled = h;
-        answers = record {
-          floored = looks.floored;
-          counted = looks.counted ∙ sym h.1;
-          found = look_only o law k (replay o [] known) (Some r.0) looks.is_table
-              (inside_now e s known r.0 r.1 looks h.1 there, h.2);
-        };
-      }
+    where
+      found : (r : Option (Item × ℕ)) → IsRecalled o k (generation_of s) last r
+          → IfSome r (λ x. Answers o k (with_sequence s known e) (Some x.0) x.1)
+      found None h = tt
+      found (Some r) h =
+          let there : Remembers o e r.0 r.1 = subst (MemoryHolds o e) h.0 m in
+          record {
+            floored = looks.floored;
+            counted = looks.counted ∙ sym h.1;
+            found = look_only o law k (replay o [] known) (Some r.0) looks.is_table
+                (inside_now e s known r.0 r.1 looks h.1 there, h.2);
+          }
 
   -- a load of the sequence through a reader's seat
   module _ {S : Type 0} (m m' : Me S Knowledge) (s : ℕ) (learns : LearnsSequence o m s m') where

@@ -9,7 +9,7 @@ use Rattle.latch_table.proofs.Words.{Difference, replacement, is_rising, update_
 use Rattle.latch_table.proofs.Words.{WriterView, IsMemoryAtRest, words_after_all, table_at_rest}
 use Rattle.latch_table.proofs.Words.{Knowledge, WriterKnowledge, writer_of, writer_knowledge}
 use Rattle.latch_table.proofs.Words.{WriterState, writer_state, writer_refusal, pending_of, IsTied}
-use Rattle.latch_table.proofs.Words.{LeadsToFew, TellsTree, IsReplacement}
+use Rattle.latch_table.proofs.Words.{LeadsToFew, TellsTree, IsReplacement, ◌≢◌}
 use Rattle.word_layout.specs.Words.{Leads}
 use Rattle.latch_core.proofs.ReplacementLemmas.{tells_both, replaced_table, table_rises}
 
@@ -59,6 +59,11 @@ module _ (m : List ℕ) (n link : ℕ) where
         subst (λ xs. Tells o list d xs d3) (ap (items m) (sym f.2))
         (tells_both o list d d1 d3 (items m f.0) (item_at m i ∷ items m f.1) (left f.0 f.4)
         (tells_both o list d1 d2 d3 (item_at m i ∷ []) (items m f.1) here (right f.1 f.5)))
+
+  pub few_here : (most : ℕ) → link ≢ 0 → LeadsToFew m n link most
+      → (link - 1 < n) × (0 < most) × LeadsToFew m n (at m (left_word 0 (link - 1))) (most - 1)
+      × LeadsToFew m n (at m (right_word 0 (link - 1))) (most - 1)
+  few_here most some = few_below (link - 1) (omega (arith, some)) most
 
 -- the same in the words that a seat knows after a load
 pub few_there : (m : List ℕ) (n most : ℕ) (m' : List ℕ) (link' link : ℕ) → m' ≡ m → link' ≡ link

@@ -13,12 +13,12 @@ use Rattle.latch_table.proofs.Words.{ReaderKnows, WriterKnows, WriterPart, Reade
 use Rattle.latch_table.proofs.Words.{KnowledgeHolds, LoadsSequence, as_writer, sequence_loaded}
 use Rattle.latch_table.proofs.Words.{word_loaded, lookup_begun, writer_loaded, word_copied}
 use Rattle.latch_table.proofs.Words.{update_taken, word_stored}
-use mathlib.Core.Option as maybe
 use mathlib.Core.Option.{some-injective, some-ne-none}
 use lib.Seq.{set-get_or}
 use Rattle.atomic_table.proofs.Lists.{at_set, at_snoc, set_else}
 use Rattle.latch_table.proofs.ReaderLemmas.{reader_step, reader_sequence, looks, reader_word}
 use Rattle.latch_table.proofs.ReaderLemmas.{reader_new}
+use mathlib.Core.Option as maybe
 
 -- what the seats know, after one of them has a new view
 seats : (P : ℕ → Knowledge → Type 0) (vs : List Knowledge) (me : ℕ) (w : Knowledge) → P me w

@@ -256,18 +256,18 @@ module _ {T S K : Type 0} (table_of : T → TableId) (me_of : T → Me S Knowled
     ends_is : reader_of (me_of s').0 ≡ with_sequence h.last h.ended.1.0 (reader_of (me_of h.m).0)
     ends_is = ap (λ (m : Me S Knowledge). reader_of m.0) h.ended.1.2
 
-    pub table_now : table_of s' ≡ table
+    table_now : table_of s' ≡ table
     table_now = h.ended.0 ∙ there.0.0
 
     -- the attempt began with that load
-    pub begun_now : IsPrefix (before.seen ++ first ∷ []) (reader_of (me_of s').0).seen
+    begun_now : IsPrefix (before.seen ++ first ∷ []) (reader_of (me_of s').0).seen
     begun_now = (
       h.last ∷ [],
       sym (ap (λ (e : ReaderKnowledge). e.seen) ends_is
           ∙ ap (λ (e : ReaderKnowledge). e.seen ++ h.last ∷ []) there.1.same),
     )
 
-    pub tried_now : (t : Try) → outcome_of_try t ≡ out → Tried o k before (reader_of (me_of s').0) t
+    tried_now : (t : Try) → outcome_of_try t ≡ out → Tried o k before (reader_of (me_of s').0) t
     tried_now (Answered a g) is =
         let comes = sym h.comes_to ∙ sym is in
         subst (λ (e : ReaderKnowledge). Tried o k before e (Answered a g)) (sym ends_is)
@@ -278,6 +278,12 @@ module _ {T S K : Type 0} (table_of : T → TableId) (me_of : T → Me S Knowled
         subst (λ (e : ReaderKnowledge). Tried o k before e Retry) (sym ends_is)
         (retries_now o k before begun (reader_of (me_of h.m).0) first h.found learns.0 learns.1 refl
         there.1 h.last h.ended.1.0 h.ended.1.1 (sym h.comes_to ∙ sym is))
+
+    -- all that an attempt says
+    pub walk_now : (table_of s' ≡ table)
+        × IsPrefix (before.seen ++ first ∷ []) (reader_of (me_of s').0).seen
+        × ((t : Try) → outcome_of_try t ≡ out → Tried o k before (reader_of (me_of s').0) t)
+    walk_now = (table_now, begun_now, tried_now)
 
 -- one attempt after another
 grows_along : (a b c : ReaderKnowledge) → KnowsMore a b → KnowsMore b c → KnowsMore a c
@@ -392,10 +398,10 @@ module _ {T S K : Type 0} (table_of : T → TableId) (me_of : T → Me S Knowled
           own_goes_along h.m s' (first ∷ h.values) 0 h.last (λ t. Ends (outcome first t h.found))
           a.0 a.1 h.ended
 
-      pub own_table_now : table_of s' ≡ table
+      own_table_now : table_of s' ≡ table
       own_table_now = ends_at.own
 
-      pub view_now : me_of s' ≡ (writer_knowledge (with_loads (writer_of (me_of s').0).loads p), [])
+      view_now : me_of s' ≡ (writer_knowledge (with_loads (writer_of (me_of s').0).loads p), [])
       view_now = ends_at.view
           ∙ (λ i. (writer_knowledge (with_loads (writer_of (sym ends_at.view i).0).loads p), []))
 
@@ -404,10 +410,10 @@ module _ {T S K : Type 0} (table_of : T → TableId) (me_of : T → Me S Knowled
         right = attempt_answers o law p.picture n k (replay o [] p.known) latched.holds.0
             latched.holds.1 latched.is_table latched.fits own_values out ends_at.stand h.whole
 
-        pub not_again : out ≡ Again → ⊥
+        not_again : out ≡ Again → ⊥
         not_again is' = absurd (let wrong = sym right ∙ is' in cc)
 
-        pub finds : (a : Option Item) (g : ℕ) → out ≡ Answer a g
+        finds : (a : Option Item) (g : ℕ) → out ≡ Answer a g
             → FindsIn o n k p (writer_of (me_of s').0).loads (a, g)
         finds a g is' =
             let same : Answer a g
@@ -422,3 +428,11 @@ module _ {T S K : Type 0} (table_of : T → TableId) (me_of : T → Me S Knowled
               few = attempt_loads o law p.picture n k (replay o [] p.known) latched.holds.0
                   latched.holds.1 latched.is_table latched.fits own_values ends_at.stand;
             }
+
+        -- all that such an attempt says
+        pub own_walk_now : (table_of s' ≡ table)
+            × (me_of s' ≡ (writer_knowledge (with_loads (writer_of (me_of s').0).loads p), []))
+            × ((a : Option Item) (g : ℕ) → out ≡ Answer a g
+            → FindsIn o n k p (writer_of (me_of s').0).loads (a, g))
+            × (out ≡ Again → ⊥)
+        own_walk_now = (own_table_now, view_now, finds, not_again)

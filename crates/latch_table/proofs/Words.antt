@@ -9,7 +9,7 @@ pub use Rattle.std.proofs.lemmas.List.{take_all, take-append-le, take-append-dro
 pub use Rattle.std.proofs.lemmas.List.{length-replicate, nil_from_length}
 pub use Rattle.std.specs.Arc.{arc_value}
 pub use Rattle.std.specs.Prelude.{Contains, is_some, ◌==◌, ◌⊎◌, ◌&&◌, MatchOption, nat_lt}
-pub use Rattle.std.specs.Prelude.{slice_set, replicate}
+pub use Rattle.std.specs.Prelude.{slice_set, replicate, IfSome}
 pub use mathlib.Core.List.{IsPrefix}
 pub use lib.ListN.{get_elem?, get_or}
 pub use Rattle.atomic_table.specs.Seated.{TableId}

@@ -1,5 +1,4 @@
 -- The writer's core, its seat and the pending update, from one call to the next.
-use mathlib.Core.Option as maybe
 use Rattle.latch_table.proofs.Words.{◌≡◌, ◌≢◌, ℕ, suc, ◌+◌, ◌-◌, ◌*◌, ◌%◌, ◌<◌, ◌≤◌, true, false}
 use Rattle.latch_table.proofs.Words.{cond, List, [], ◌∷◌, ◌++◌, length, take, drop, Option, Some}
 use Rattle.latch_table.proofs.Words.{None, refl, sym, ◌∙◌, ap, subst, inl, inr, ⊎_elim, arith}
@@ -27,6 +26,7 @@ use Rattle.latch_core.proofs.WriterLemmas.{rests_before, next_may, did_pictures,
 use Rattle.latch_table.proofs.RuleLemmas.{allows_store, opens}
 use Rattle.latch_table.specs.declared.writers.Did.{Did}
 use Rattle.latch_table.specs.declared.writers.Did.TheVariants.{Flip, Store as ToStore}
+use mathlib.Core.Option as maybe
 
 -- what a step does to the sequence, and at which of its numbers
 abbrev StepKind : ℕ → ℕ → ℕ → ℕ → Type 0

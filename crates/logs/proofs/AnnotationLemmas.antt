@@ -1,7 +1,7 @@
 -- Blocks that are read and written one after the other.
 use Rattle.logs.proofs.Definitions.{◌≡◌, ◌∙◌, ℕ, ◌+◌, ◌<◌, ◌≤◌, inl, inr, List, [], ◌∷◌, ◌++◌}
-use Rattle.logs.proofs.Definitions.{length, length-append, arith, refl, sym, ap, subst, Ok, Err}
-use Rattle.logs.proofs.Definitions.{take, append_assoc, append-nil, ◌^◌, Appends, Consumes, IsAtEnd}
+use Rattle.logs.proofs.Definitions.{length, length-append, arith, refl, sym, ap, Ok, Err, take}
+use Rattle.logs.proofs.Definitions.{append_assoc, append-nil, ◌^◌, Appends, Consumes, IsAtEnd}
 use Rattle.logs.proofs.Definitions.{Keeps, NoneFailed, Rose, device_of, failures_of, Output}
 use Rattle.logs.proofs.Definitions.{WrotePart, contents_of, has_failed, Answering, lines, annotated}
 use Rattle.logs.proofs.Definitions.{first_context, context_over, Annotates, BeginsLog, EndsLog}
@@ -169,7 +169,7 @@ module _ {R W : Type 0} {remaining : R → Option (List ℕ)} {contents : W → 
           → Keeps (remaining (device_of r')) (remaining (device_of r''))
           → Annotates remaining contents answer r r'' w w' (Err fault.Read)
       not_read rose keeps = (
-        subst (λ n. Rose n (failures_of r'')) on.read_all rose,
+        rw on.read_all at rose,
         (
           on.written_all,
           on.none_back,
@@ -207,8 +207,7 @@ module _ {R W : Type 0} {remaining : R → Option (List ℕ)} {contents : W → 
         pub not_more : w'' ≡ w'
             → Annotates remaining contents answer r r'' w w'' (Err fault.OutOfMemory)
         not_more same =
-            subst (λ x. Annotates remaining contents answer r r'' w x (Err fault.OutOfMemory))
-            (sym same) (
+            rw same (
               all ∙ on.read_all,
               (
                 on.written_all,

@@ -1,5 +1,5 @@
 -- A line in which a text is inserted.
-use Rattle.logs.proofs.Definitions.{◌≡◌, ◌∙◌, ◌+◌, ℕ, List, ap, sym, subst, ◌∷◌, ◌++◌, Some, refl}
+use Rattle.logs.proofs.Definitions.{◌≡◌, ◌∙◌, ◌+◌, ℕ, List, ap, sym, ◌∷◌, ◌++◌, Some, refl}
 use Rattle.logs.proofs.Definitions.{append_assoc, Answering, AddressWord, LogContext, address_at}
 use Rattle.logs.proofs.Definitions.{is_closer, owed, run_of, taken_among, taken_at, words_behind}
 use Rattle.logs.proofs.Definitions.{annotated_from}
@@ -41,9 +41,4 @@ pub owed_with : (answer : Answering) (context : LogContext) (line : List ℕ) (p
     (Some (taken_at answer.is_narrow context line p.last w v)) (words_behind line place))
 owed_with answer context line p w v place text closers gap has is =
     let t = taken_at answer.is_narrow context line p.last w v in
-    rw (has, gap) (subst (λ at. annotated_from answer line p.put
-    (t ∷ taken_among answer.is_narrow context line (Some t) (words_behind line place))
-    ≡ part line p.put at ++ text ++ annotated_from answer line at (taken_among answer.is_narrow
-    context line (Some t) (words_behind line place))) (sym closers)
-    (annotated_with answer line p.put t _ text (subst (λ at. insertion answer v (drop at line)
-    (text_for answer (as_read answer (drop at line) t)) ≡ Some text) closers is)))
+    rw (has, gap, closers) (annotated_with answer line p.put t _ text (rw closers at is))

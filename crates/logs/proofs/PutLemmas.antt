@@ -1,16 +1,23 @@
 -- What a failed write leaves.
-use Rattle.logs.proofs.Definitions.{◌≡◌, ◌∙◌, ◌++◌, List, [], ℕ, Result, Ok, Err, ap, subst, sym}
-use Rattle.logs.proofs.Definitions.{IfErr, IfOk, OnErr, Output, Delivered, WrotePart, error_in}
-use Rattle.logs.proofs.Definitions.{Adds, IsWriteFault, Puts, LogFault}
+use Rattle.logs.proofs.Definitions.{◌≡◌, ◌∙◌, ◌++◌, List, [], ℕ, Result, Ok, Err, ap, IfErr, IfOk}
+use Rattle.logs.proofs.Definitions.{OnErr, Output, Delivered, WrotePart, error_in, Adds}
+use Rattle.logs.proofs.Definitions.{IsWriteFault, Puts, LogFault}
 use Rattle.std.proofs.Common.{Option}
+use Rattle.std.specs.Prelude.{IsErrAnd}
 use Rattle.texts.proofs.OutputLemmas.{all_delivered, part_written, then_flushed}
 use Rattle.logs.specs.declared.annotation.LogFault.TheVariants as fault
+
+-- a fault that is handed on
+pub is_handed : {A F : Type 0} {fault : F} (result : Result A F) → IsErrAnd result (λ f. f ≡ fault)
+    → result ≡ Err fault
+is_handed (Ok done) is = absurd is
+is_handed (Err f) is = ap Err is
 
 -- a text that was added to nothing
 pub added : (out out' text : List ℕ) (P : List ℕ → Type 0) → out ≡ [] → text ≡ out'
     → Adds out out' P → P text
 added out out' text P none same (more, put, holds) =
-    subst P (sym (same ∙ put ∙ ap (λ o. o ++ more) none)) holds
+    rw (same ∙ put ∙ ap (λ o. o ++ more) none) holds
 
 module _ {W X : Type 0} (contents : W → Option (List ℕ)) (P : X → List ℕ → Type 0)
     (w w' : Output W) where

@@ -85,9 +85,7 @@ pub fn annotate<A: Answers, R: Read, W: Write>(
             return Ok(Findings { names, head });
         }
         keep_head(&mut head, &block[..count])?;
-        let is_silent = says_nothing(&block[..count]);
-        answers.prepare(is_silent)?;
-        annotator.pass(alloc, answers, &block[..count], is_silent, writer)?;
+        annotator.pass_block(alloc, answers, &block[..count], writer)?;
     }
     Err(LogFault::TooLong)
 }

@@ -25,7 +25,7 @@ ghost use Rattle.logs.specs.Unnamed.{EndsUnnamed, PassesUnnamed, ends_address, h
 use crate::annotation::LogFault;
 use crate::answers::Answers;
 use crate::contexts::LogContext;
-use crate::kernel_reports::Said;
+use crate::kernel_reports::{Said, says_nothing};
 use crate::line::{LONGEST, put_line};
 use crate::log_names::LogNames;
 use crate::unnamed::{Unanswered, ends_address, has_address};
@@ -79,6 +79,25 @@ impl Annotator {
         let mut out = Vec::with_capacity(alloc, room)?;
         self.pass_bytes(answers, bytes, is_silent, &mut out)?;
         put_now(writer, &out)
+    }
+
+    /// Takes a block in as [`pass`](Annotator::pass) does, by answers that are prepared for what it
+    /// says.
+    pub fn pass_block<A: Answers, W: Write>(
+        &mut self,
+        alloc: Global,
+        answers: &mut A,
+        bytes: &[u8],
+        writer: &mut Output<W>,
+    ) -> Result<(), LogFault>
+        ensures answers { A.answering answers.new ≡ A.answering answers.old }
+        ensures put { Puts W.contents
+            (λ _. Passes (A.answering answers.old) self.old self.new bytes.now)
+            writer.old writer.new result }
+    {
+        let is_silent = says_nothing(bytes);
+        answers.prepare(is_silent)?;
+        self.pass(alloc, answers, bytes, is_silent, writer)
     }
 
     /// The names of the log so far.

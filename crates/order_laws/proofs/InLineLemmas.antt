@@ -1,27 +1,12 @@
 -- Items of an order in line: what comes first, and what lies beyond a neighbour.
-use Rattle.order_laws.proofs.Words.{◌≡◌, ◌≤◌, true, false, List, [], ◌∷◌, refl, ◌∙◌, ap, arith, not}
+use Rattle.order_laws.proofs.Words.{◌≡◌, ◌≤◌, true, List, [], ◌∷◌, ◌∙◌, arith}
 use Rattle.order_laws.proofs.Words.{AllByRecursion, Item, Order, Precedes, IsLawful, IsInLine}
+use Rattle.std.proofs.lemmas.Bool.Decides.{nat_tests}
 
 module _ {K : Type 0} (o : Order K) (law : IsLawful o) (line : IsInLine o) where
   pub precedes : (x y : Item) → o.valid x ≡ true → o.valid y ≡ true → o.apart x y ≡ true → x.a ≤ y.a
       → Precedes o x y
-  precedes x y vx vy ap' le =
-      elim (o.less y x) as (λ b. o.less y x ≡ b → Precedes o x y) [
-        | true ↦ λ l.
-            let back : Precedes o y x = record {
-              first_valid = vy;
-              second_valid = vx;
-              is_apart = law.symmetric y x ∙ ap';
-              is_less = l;
-            } in
-            absurd (let lt = line.first_words_rise y x back in omega (arith, le, lt))
-        | false ↦ λ l. record {
-          first_valid = vx;
-          second_valid = vy;
-          is_apart = ap';
-          is_less = law.one_is_less x y vx vy ap' ∙ ap not l;
-        }
-      ] refl
+  precedes x y vx vy ap' le = grind (arith, nat_tests)
 
   pub beyond : (x y : Item) (rest : List Item) → Precedes o x y → o.valid y ≡ true
       → AllByRecursion (λ i. o.valid i ≡ true) rest → AllByRecursion (λ z. y.a ≤ z.a) rest

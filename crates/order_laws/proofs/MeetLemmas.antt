@@ -1,12 +1,14 @@
 -- What it says of a table that an item meets none of its items.
 use Rattle.order_laws.proofs.Words.{◌∙◌, ◌∷◌, ◌≡◌, List, [], ap, false, get_or, refl, true, ◌||◌}
 use Rattle.order_laws.proofs.Words.{Contains, not, AllByRecursion, Order, half_open, meets, Item, ℕ}
-use Rattle.order_laws.proofs.Words.{cond, ◌++◌, sym, ◌==◌, ◌&&◌, list_any, without_all}
+use Rattle.order_laws.proofs.Words.{◌++◌, ◌==◌, ◌&&◌, list_any, without_all}
 use Rattle.std.proofs.lemmas.List.Elements.{Contains-get_or}
 use Rattle.std.proofs.lemmas.List.Folds.{list_any_none}
 use Rattle.std.proofs.Common.{Bool}
 use Rattle.std.proofs.Math.Bool.{or-true}
 use Rattle.facts.proofs.Bools.{or_assoc, or_swap}
+use Rattle.std.proofs.Common.{arith}
+use Rattle.std.proofs.lemmas.Bool.Decides.{nat_tests}
 
 -- an item that meets none is apart from each
 pub not_meeting : {K : Type 0} (o : Order K) (i : Item) (xs : List Item) → meets o i xs ≡ false
@@ -40,48 +42,20 @@ module _ {K : Type 0} (o : Order K) (i : Item) (but : List ℕ) where
 
   pub meets_split : (is js : List Item) → Meets (is ++ js) ≡ (Meets is || Meets js)
   meets_split [] js = refl
-  meets_split (z ∷ is) js =
-      elim (gone z) as (λ g.
-      meets o i (cond (not g) (z ∷ without_all but (is ++ js)) (without_all but (is ++ js)))
-      ≡ (meets o i (cond (not g) (z ∷ without_all but is) (without_all but is)) || Meets js)) [
-        | true ↦ meets_split is js
-        | false ↦ ap (λ b. not (o.apart z i) || b) (meets_split is js)
-            ∙ or_assoc (not (o.apart z i)) (Meets is) (Meets js)
-      ]
+  meets_split (z ∷ is) js = grind (arith, nat_tests, meets_split is js, or_assoc)
 
   pub meets_none : (js : List Item) → AllByRecursion (λ z. o.apart z i ≡ true) js → Meets js ≡ false
   meets_none [] h = refl
-  meets_none (z ∷ js) h =
-      let e : o.apart z i ≡ true = h.0 in
-      elim (gone z) as (λ g.
-      meets o i (cond (not g) (z ∷ without_all but js) (without_all but js)) ≡ false) [
-        | true ↦ meets_none js h.1
-        | false ↦ rw e (meets_none js h.1)
-      ]
+  meets_none (z ∷ js) h = grind (arith, nat_tests, meets_none js h.1)
 
   pub apart_head : (z : Item) (js : List Item) → o.apart z i ≡ true → Meets (z ∷ js) ≡ Meets js
-  apart_head z js e =
-      elim (gone z) as (λ g.
-      meets o i (cond (not g) (z ∷ without_all but js) (without_all but js)) ≡ Meets js) [
-        | true ↦ refl
-        | false ↦ rw e refl
-      ]
+  apart_head z js e = grind (arith, nat_tests)
 
   pub any_head : (z : Item) (is js : List Item)
       → ((not (gone z) && not (o.apart z i)) || (Meets is || Meets js))
       ≡ (Meets is || Meets (z ∷ js))
-  any_head z is js =
-      elim (gone z) as (λ g. ((not g && not (o.apart z i)) || (Meets is || Meets js))
-      ≡ (Meets is || meets o i (cond (not g) (z ∷ without_all but js) (without_all but js)))) [
-        | true ↦ refl
-        | false ↦ or_swap (not (o.apart z i)) (Meets is) (Meets js)
-      ]
+  any_head z is js = grind (arith, nat_tests, or_swap)
 
   pub meeting_head : (z : Item) (is js : List Item) → o.apart z i ≡ false
       → (not (gone z) || (Meets is || Meets js)) ≡ (Meets is || Meets (z ∷ js))
-  meeting_head z is js e =
-      elim (gone z) as (λ g. (not g || (Meets is || Meets js))
-      ≡ (Meets is || meets o i (cond (not g) (z ∷ without_all but js) (without_all but js)))) [
-        | true ↦ refl
-        | false ↦ rw e (sym (or-true (Meets is)))
-      ]
+  meeting_head z is js e = grind (arith, nat_tests, or-true)

@@ -1,9 +1,11 @@
 -- Tables as sets of items.
 use Rattle.order_laws.proofs.Words.{◌≡◌, ◌≢◌, ℕ, true, false, cond, List, [], ◌∷◌, refl, sym, ◌∙◌}
-use Rattle.order_laws.proofs.Words.{ap, subst, inl, inr, ⊎_elim, ◌⊎◌, ◌↔◌, Contains, not, ◌==◌}
+use Rattle.order_laws.proofs.Words.{ap, inl, inr, ⊎_elim, ◌⊎◌, ◌↔◌, Contains, not, ◌==◌}
 use Rattle.order_laws.proofs.Words.{eq-eqb, eqb-true, Item, Order, Precedes, IsLawful, IsTable}
 use Rattle.order_laws.proofs.Words.{with_item, without, all_at, Contains-cons_cases, Contains-head}
 use Rattle.order_laws.proofs.Words.{Contains-none, Contains-one, Contains-rest}
+use Rattle.std.proofs.Common.{arith}
+use Rattle.std.proofs.lemmas.Bool.Decides.{nat_tests}
 
 -- the items of a table with one item more
 module _ {K : Type 0} (o : Order K) (i x : Item) where
@@ -72,16 +74,10 @@ module _ (a : ℕ) (x : Item) where
 -- two tables of the same items
 module _ {K : Type 0} (o : Order K) (law : IsLawful o) where
   not_before_itself : (x y : Item) → Precedes o x y → x ≡ y → ⊥
-  not_before_itself x y p e =
-      let l : o.less x x ≡ true = subst (λ z. o.less x z ≡ true) (sym e) p.is_less in
-      let n : o.less x x ≡ false = law.irreflexive x in
-      absurd (cc)
+  not_before_itself x y p e = grind (arith, nat_tests)
 
   not_both : (x y : Item) → Precedes o x y → Precedes o y x → ⊥
-  not_both x y p q =
-      let l : o.less x x ≡ true = law.transitive x y x p.is_less q.is_less in
-      let n : o.less x x ≡ false = law.irreflexive x in
-      absurd (cc)
+  not_both x y p q = grind (arith, nat_tests)
 
   same_head : (x y : Item) (t u : List Item) → IsTable o (x ∷ t) → IsTable o (y ∷ u)
       → Contains (y ∷ u) x → Contains (x ∷ t) y → x ≡ y

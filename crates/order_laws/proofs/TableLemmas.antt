@@ -1,7 +1,7 @@
 -- What follows from an order's laws for tables.
 use Rattle.order_laws.proofs.Words.{◌≡◌, ◌≢◌, ℕ, suc, ◌+◌, ◌≤◌, true, false, cond, List, [], ◌∷◌}
 use Rattle.order_laws.proofs.Words.{◌++◌, length, Option, None, refl, sym, ◌∙◌, ap, subst, ⊎_elim}
-use Rattle.order_laws.proofs.Words.{arith, not, ◌==◌, Contains, AllByRecursion, Less, Equal}
+use Rattle.order_laws.proofs.Words.{arith, Contains, AllByRecursion, Less, Equal}
 use Rattle.order_laws.proofs.Words.{Greater, Item, Order, Precedes, IsLawful, IsTable, look, IsLook}
 use Rattle.order_laws.proofs.Words.{with_item, without, all_at, all_filtered, all_left, all_right}
 use Rattle.order_laws.proofs.Words.{all_weaker, Contains-cons_cases, Contains-rest}
@@ -9,6 +9,7 @@ use Rattle.std.proofs.Common.{Some}
 use Rattle.std.specs.Ordering.{is_eq}
 use Rattle.facts.proofs.Orderings.{cases_ordering, greater_not_equal, is_equal, less_not_equal}
 use Rattle.facts.proofs.Orderings.{not_equal}
+use Rattle.std.proofs.lemmas.Bool.Decides.{nat_tests}
 
 -- where a table is split at an item
 pub record Parted {K : Type 0} (o : Order K) (xs : List Item) (x : Item) (ys : List Item) : Type
@@ -51,28 +52,17 @@ module _ {K : Type 0} (o : Order K) (law : IsLawful o) where
   pub look_less : (k : K) (xs : List Item) (x : Item) (ys : List Item) → IsTable o (xs ++ x ∷ ys)
       → o.comp k x ≡ Less → look o k (xs ++ x ∷ ys) ≡ look o k xs
   look_less k xs x ys t e =
-      let p = parted o xs x ys t in
-      look_within o k xs (x ∷ ys) (
-        less_not_equal _ e,
-        all_weaker (Precedes o x) (λ y. is_eq (o.comp k y) ≡ false)
-            (λ y b. less_not_equal _ (law.below_lesser k x y b e)) ys p.behind,
-      )
+      grind (arith, nat_tests, parted, look_within, less_not_equal, all_weaker)
 
   pub look_greater : (k : K) (xs : List Item) (x : Item) (ys : List Item) → IsTable o (xs ++ x ∷ ys)
       → o.comp k x ≡ Greater → look o k (xs ++ x ∷ ys) ≡ look o k ys
   look_greater k xs x ys t e =
-      let p = parted o xs x ys t in
-      look_past o k xs (x ∷ ys) (all_weaker (λ y. Precedes o y x) (λ y. is_eq (o.comp k y) ≡ false)
-      (λ y b. greater_not_equal _ (law.above_greater k y x b e)) xs p.before)
-      ∙ (let f : is_eq (o.comp k x) ≡ false = greater_not_equal _ e in rw f refl)
+      grind (arith, nat_tests, parted, look_past, all_weaker, greater_not_equal)
 
   pub look_equal : (k : K) (xs : List Item) (x : Item) (ys : List Item) → IsTable o (xs ++ x ∷ ys)
       → o.comp k x ≡ Equal → look o k (xs ++ x ∷ ys) ≡ Some x
   look_equal k xs x ys t e =
-      let p = parted o xs x ys t in
-      look_past o k xs (x ∷ ys) (all_weaker (λ y. Precedes o y x) (λ y. is_eq (o.comp k y) ≡ false)
-      (λ y b. greater_not_equal _ (law.in_greater k y x b e)) xs p.before)
-      ∙ (let f : is_eq (o.comp k x) ≡ true = is_equal _ e in rw f refl)
+      grind (arith, nat_tests, parted, look_past, all_weaker, greater_not_equal, is_equal)
 
   -- the item that a key is in is the one that look gives
   pub look_only : (k : K) (table : List Item) (r : Option Item) → IsTable o table
@@ -106,54 +96,27 @@ pub look_is : {K : Type 0} (o : Order K) (k : K) (table : List Item)
     → IsLook o k table (look o k table)
 look_is o k [] = λ x is. absurd (omega (arith, is.1))
 look_is o k (x ∷ xs) =
-    ⊎_elim
-    (λ e. let f : is_eq (o.comp k x) ≡ true = is_equal (o.comp k x) e in
-    rw f ((0, omega arith, refl), e))
-    (λ ne. let f : is_eq (o.comp k x) ≡ false = not_equal (o.comp k x) ne in
-    rw f (is_look_more o k x xs (look o k xs) ne (look_is o k xs)))
-    (cases_ordering (o.comp k x))
+    grind (arith, nat_tests, look_is o k xs, is_equal, not_equal, is_look_more, cases_ordering)
 
 -- what updates keep
 pub all_with_item : {K : Type 0} (o : Order K) (P : Item → Type 0) (i : Item) (xs : List Item) → P i
     → AllByRecursion P xs → AllByRecursion P (with_item o i xs)
 all_with_item o P i [] p h = (p, tt)
-all_with_item o P i (x ∷ xs) p h =
-    elim (o.less i x) as (λ b. AllByRecursion P (cond b (i ∷ x ∷ xs) (x ∷ with_item o i xs))) [
-      | true ↦ (p, h)
-      | false ↦ (h.0, all_with_item o P i xs p h.1)
-    ]
+all_with_item o P i (x ∷ xs) p h = grind (arith, nat_tests, all_with_item o P i xs p h.1)
 
 pub length_with_item : {K : Type 0} (o : Order K) (i : Item) (xs : List Item)
     → length (with_item o i xs) ≡ length xs + 1
 length_with_item o i [] = omega arith
-length_with_item o i (x ∷ xs) =
-    elim (o.less i x) as (λ b.
-    length (cond b (i ∷ x ∷ xs) (x ∷ with_item o i xs)) ≡ length (x ∷ xs) + 1) [
-      | true ↦ omega arith
-      | false ↦ omega (arith, length_with_item o i xs)
-    ]
+length_with_item o i (x ∷ xs) = grind (arith, nat_tests, length_with_item o i xs)
 
 pub length_without : (a : ℕ) (xs : List Item) → length (without a xs) ≤ length xs
 length_without a [] = omega arith
-length_without a (x ∷ xs) =
-    elim (x.a == a) as (λ b.
-    length (cond (not b) (x ∷ without a xs) (without a xs)) ≤ length (x ∷ xs)) [
-      | true ↦ omega (arith, length_without a xs)
-      | false ↦ omega (arith, length_without a xs)
-    ]
+length_without a (x ∷ xs) = grind (arith, nat_tests, length_without a xs)
 
 pub without_table : {K : Type 0} (o : Order K) (a : ℕ) (xs : List Item) → IsTable o xs
     → IsTable o (without a xs)
 without_table o a [] t = tt
-without_table o a (x ∷ xs) t =
-    elim (x.a == a) as (λ b. IsTable o (cond (not b) (x ∷ without a xs) (without a xs))) [
-      | true ↦ without_table o a xs t.2
-      | false ↦ (
-        t.0,
-        all_filtered (Precedes o x) (λ y. not (y.a == a)) xs t.1,
-        without_table o a xs t.2,
-      )
-    ]
+without_table o a (x ∷ xs) t = grind (arith, nat_tests, without_table o a xs t.2, all_filtered)
 
 module _ {K : Type 0} (o : Order K) (law : IsLawful o) where
   precedes_all : (i x : Item) (xs : List Item) → o.valid i ≡ true → o.less i x ≡ true
@@ -174,32 +137,7 @@ module _ {K : Type 0} (o : Order K) (law : IsLawful o) where
       → AllByRecursion (λ x. o.apart x i ≡ true) xs → IsTable o xs → IsTable o (with_item o i xs)
   with_item_table i [] v free t = (v, tt, tt)
   with_item_table i (x ∷ xs) v free t =
-      elim (o.less i x) as (λ b. o.less i x ≡ b
-      → IsTable o (cond b (i ∷ x ∷ xs) (x ∷ with_item o i xs))) [
-        | true ↦ λ e. (
-          v,
-          (
-            record {
-              first_valid = v;
-              second_valid = t.0;
-              is_apart = law.symmetric i x ∙ free.0;
-              is_less = e;
-            },
-            precedes_all i x xs v e free.1 t.1,
-          ),
-          t,
-        )
-        | false ↦ λ e. (
-          t.0,
-          all_with_item o (Precedes o x) i xs (record {
-            first_valid = t.0;
-            second_valid = v;
-            is_apart = free.0;
-            is_less = law.one_is_less x i t.0 v free.0 ∙ ap not e;
-          }) t.1,
-          with_item_table i xs v free.1 t.2,
-        )
-      ] refl
+      grind (arith, nat_tests, with_item_table i xs v free.1 t.2, precedes_all, all_with_item)
 
 -- what is found depends on the items alone
 pub same_look : {K : Type 0} (o : Order K) (k : K) (xs ys : List Item) (r : Option Item)

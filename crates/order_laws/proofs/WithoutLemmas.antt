@@ -2,21 +2,19 @@
 use Rattle.order_laws.proofs.Words.{◌++◌, ◌+◌, ◌∙◌, ◌∷◌, ◌≡◌, ◌≢◌, ◌≤◌, List, [], ap, arith, cond}
 use Rattle.order_laws.proofs.Words.{false, length, refl, sym, true, ℕ, ⊎_elim, ◌==◌, ◌||◌, filter}
 use Rattle.order_laws.proofs.Words.{not, AllByRecursion, list_any, cases_eq, eq-eqb, eqb-true}
-use Rattle.order_laws.proofs.Words.{ne_eqb, or_parts, all_filtered, Order, Precedes, IsTable, has}
+use Rattle.order_laws.proofs.Words.{ne_eqb, or_parts, all_filtered, Order, IsTable, has}
 use Rattle.order_laws.proofs.Words.{without, without_all, Item}
 use Rattle.std.specs.Prelude.{Bool}
 use Rattle.order_laws.proofs.TableLemmas.{length_without}
 use Rattle.facts.proofs.Tests.{length-filter_le}
+use Rattle.std.proofs.lemmas.Bool.Decides.{nat_tests}
 
 -- a part of a table is one, and no longer
 pub filtered_table : {K : Type 0} (o : Order K) (test : Item → Bool) (xs : List Item) → IsTable o xs
     → IsTable o (filter test xs)
 filtered_table o test [] t = tt
 filtered_table o test (x ∷ xs) t =
-    elim (test x) as (λ b. IsTable o (cond b (x ∷ filter test xs) (filter test xs))) [
-      | true ↦ (t.0, all_filtered (Precedes o x) test xs t.1, filtered_table o test xs t.2)
-      | false ↦ filtered_table o test xs t.2
-    ]
+    grind (arith, nat_tests, filtered_table o test xs t.2, all_filtered)
 
 pub without_all_table : {K : Type 0} (o : Order K) (gone : List ℕ) (xs : List Item) → IsTable o xs
     → IsTable o (without_all gone xs)
@@ -67,12 +65,7 @@ without_more gone a (x ∷ xs) =
     any_more : (gone : List ℕ) (w : ℕ)
         → list_any (λ b. b == w) (gone ++ a ∷ []) ≡ (list_any (λ b. b == w) gone || (w == a))
     any_more [] w = flipped a w
-    any_more (b ∷ rest) w =
-        elim (b == w) as (λ e. (e || list_any (λ b. b == w) (rest ++ a ∷ []))
-        ≡ ((e || list_any (λ b. b == w) rest) || (w == a))) [
-          | true ↦ refl
-          | false ↦ any_more rest w
-        ]
+    any_more (b ∷ rest) w = grind (arith, nat_tests, any_more rest w)
 
 -- a table without a first word has the other ones still
 pub has_without : (a b : ℕ) (xs : List Item) → b ≢ a → has b xs ≡ true → has b (without a xs) ≡ true
@@ -103,6 +96,4 @@ all_has_without a (b ∷ rest) xs d h =
 
 pub has_either : (a : ℕ) (is js : List Item) → has a (is ++ js) ≡ (has a is || has a js)
 has_either a [] js = refl
-has_either a (z ∷ is) js =
-    elim (z.a == a) as (λ b. (b || has a (is ++ js)) ≡ ((b || has a is) || has a js))
-    [ true ↦ refl | false ↦ has_either a is js ]
+has_either a (z ∷ is) js = grind (arith, nat_tests, has_either a is js)

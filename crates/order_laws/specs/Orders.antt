@@ -1,5 +1,5 @@
 -- How items are ordered, and how a key compares with them.
-use Rattle.std.specs.Prelude.{◌≡◌, ◌≢◌, ◌↔◌, ◌<◌, ℕ, Bool, true, false, not, ◌||◌}
+use Rattle.std.specs.Prelude.{◌≡◌, ◌≢◌, ◌↔◌, ◌<◌, ◌≤◌, ℕ, Bool, true, false, not, ◌||◌}
 use Rattle.std.specs.Prelude.{nat_lt, nat_le, if◌then◌else◌}
 use Rattle.std.specs.declared.cmp.Ordering.{Ordering}
 use Rattle.std.specs.declared.cmp.Ordering.TheVariants.{Less, Equal, Greater}
@@ -52,79 +52,79 @@ pub record IsInLine {K : Type 0} (o : Order K) : Type 0 where
   -- items with one between them are apart
   pub apart_beyond : (x y z : Item) → Precedes o x y → Precedes o y z → o.apart x z ≡ true
 
+-- ranges in order of their starts; one `ends` before a number or not
+abbrev pub ranges : (valid ends : ℕ → ℕ → Bool) → Order ℕ
+ranges valid ends =
+    record {
+      key_of = λ i. i.a;
+      valid = λ i. valid i.a i.b;
+      apart = λ x y. ends x.b y.a || ends y.b x.a;
+      less = λ x y. nat_lt x.a y.a;
+      comp = λ k i. if nat_lt k i.a then Less else if ends i.b k then Greater else Equal;
+    }
+
 -- ranges without their end, and with it
 abbrev pub half_open : Order ℕ
-half_open =
-    record {
-      key_of = λ i. i.a;
-      valid = λ i. nat_lt i.a i.b;
-      apart = λ x y. nat_le x.b y.a || nat_le y.b x.a;
-      less = λ x y. nat_lt x.a y.a;
-      comp = λ k i. if nat_lt k i.a then Less else if nat_le i.b k then Greater else Equal;
-    }
+half_open = ranges nat_lt nat_le
 
 abbrev pub closed : Order ℕ
-closed =
-    record {
-      key_of = λ i. i.a;
-      valid = λ i. nat_le i.a i.b;
-      apart = λ x y. nat_lt x.b y.a || nat_lt y.b x.a;
-      less = λ x y. nat_lt x.a y.a;
-      comp = λ k i. if nat_lt k i.a then Less else if nat_lt i.b k then Greater else Equal;
-    }
+closed = ranges nat_le nat_lt
+
+-- what makes ranges lawful, and puts them in line
+module _ (valid ends : ℕ → ℕ → Bool) (valid_is : (a b : ℕ) → valid a b ≡ not (ends b a))
+    (ends_more : (b a c : ℕ) → a ≤ c → ends b a ≡ true → ends b c ≡ true) where
+  ranges_lawful : IsLawful (ranges valid ends)
+  ranges_lawful =
+      record {
+        irreflexive = λ x. grind (arith, nat_tests);
+        transitive = λ x y z p q. grind (arith, nat_tests);
+        one_is_less = λ x y vx vy ap. grind (arith, nat_tests, valid_is, ends_more);
+        own_key = λ x v. grind (arith, nat_tests, valid_is);
+        key_below = λ x y vx vy ap.
+            (grind (arith, nat_tests, valid_is, ends_more), grind (arith, nat_tests));
+        key_above = λ x y vx vy ap. (
+          grind (arith, nat_tests, valid_is, ends_more),
+          grind (arith, nat_tests, valid_is, ends_more),
+        );
+        below_lesser = λ k x y b c. grind (arith, nat_tests, valid_is, ends_more);
+        above_greater = λ k x y b c. grind (arith, nat_tests, valid_is, ends_more);
+        in_lesser = λ k x y b c. grind (arith, nat_tests, valid_is, ends_more);
+        in_greater = λ k x y b c. grind (arith, nat_tests, valid_is, ends_more);
+        symmetric = λ x y. grind (arith, nat_tests);
+        own_first_word = λ x y vx vy ap e. grind (arith, nat_tests, valid_is, ends_more);
+      }
+
+  ranges_in_line : IsInLine (ranges valid ends)
+  ranges_in_line =
+      record {
+        first_words_rise = λ x y p. let l = p.is_less in grind (arith, nat_tests);
+        apart_beyond = λ x y z p q.
+            let a = p.is_apart in let b = q.is_apart in
+            let u = p.first_valid in let v = p.second_valid in let w = q.second_valid in
+            let l = p.is_less in let m = q.is_less in
+            grind (arith, nat_tests, valid_is, ends_more);
+      }
+
+within : (a b : ℕ) → nat_lt a b ≡ not (nat_le b a)
+within a b = grind (arith, nat_tests)
+
+within_end : (a b : ℕ) → nat_le a b ≡ not (nat_lt b a)
+within_end a b = grind (arith, nat_tests)
+
+below_more : (b a c : ℕ) → a ≤ c → nat_le b a ≡ true → nat_le b c ≡ true
+below_more b a c m e = grind (arith, nat_tests)
+
+below_end : (b a c : ℕ) → a ≤ c → nat_lt b a ≡ true → nat_lt b c ≡ true
+below_end b a c m e = grind (arith, nat_tests)
 
 pub half_open_lawful : IsLawful half_open
-half_open_lawful =
-    record {
-      irreflexive = λ x. grind (arith, nat_tests);
-      transitive = λ x y z p q. grind (arith, nat_tests);
-      one_is_less = λ x y vx vy ap. grind (arith, nat_tests);
-      own_key = λ x v. grind (arith, nat_tests);
-      key_below = λ x y vx vy ap. (grind (arith, nat_tests), grind (arith, nat_tests));
-      key_above = λ x y vx vy ap. (grind (arith, nat_tests), grind (arith, nat_tests));
-      below_lesser = λ k x y b c. grind (arith, nat_tests);
-      above_greater = λ k x y b c. grind (arith, nat_tests);
-      in_lesser = λ k x y b c. grind (arith, nat_tests);
-      in_greater = λ k x y b c. grind (arith, nat_tests);
-      symmetric = λ x y. grind (arith, nat_tests);
-      own_first_word = λ x y vx vy ap e. grind (arith, nat_tests);
-    }
+half_open_lawful = ranges_lawful nat_lt nat_le within below_more
 
 pub closed_lawful : IsLawful closed
-closed_lawful =
-    record {
-      irreflexive = λ x. grind (arith, nat_tests);
-      transitive = λ x y z p q. grind (arith, nat_tests);
-      one_is_less = λ x y vx vy ap. grind (arith, nat_tests);
-      own_key = λ x v. grind (arith, nat_tests);
-      key_below = λ x y vx vy ap. (grind (arith, nat_tests), grind (arith, nat_tests));
-      key_above = λ x y vx vy ap. (grind (arith, nat_tests), grind (arith, nat_tests));
-      below_lesser = λ k x y b c. grind (arith, nat_tests);
-      above_greater = λ k x y b c. grind (arith, nat_tests);
-      in_lesser = λ k x y b c. grind (arith, nat_tests);
-      in_greater = λ k x y b c. grind (arith, nat_tests);
-      symmetric = λ x y. grind (arith, nat_tests);
-      own_first_word = λ x y vx vy ap e. grind (arith, nat_tests);
-    }
+closed_lawful = ranges_lawful nat_le nat_lt within_end below_end
 
 pub half_open_in_line : IsInLine half_open
-half_open_in_line =
-    record {
-      first_words_rise = λ x y p. let l = p.is_less in grind (arith, nat_tests);
-      apart_beyond = λ x y z p q.
-          let a = p.is_apart in let b = q.is_apart in
-          let u = p.first_valid in let v = p.second_valid in let w = q.second_valid in
-          let l = p.is_less in let m = q.is_less in
-          grind (arith, nat_tests);
-    }
+half_open_in_line = ranges_in_line nat_lt nat_le within below_more
 
 pub closed_in_line : IsInLine closed
-closed_in_line =
-    record {
-      first_words_rise = λ x y p. let l = p.is_less in grind (arith, nat_tests);
-      apart_beyond = λ x y z p q.
-          let a = p.is_apart in let b = q.is_apart in
-          let u = p.first_valid in let v = p.second_valid in let w = q.second_valid in
-          let l = p.is_less in let m = q.is_less in
-          grind (arith, nat_tests);
-    }
+closed_in_line = ranges_in_line nat_le nat_lt within_end below_end

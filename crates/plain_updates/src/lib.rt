@@ -23,6 +23,7 @@ use table_updates::Update;
 use word_layout::Layout;
 
 /// Why an update of a table is refused, if it is.
+#[tactic(auto, using(crate::proofs::TestLemmas::none_then, crate::proofs::TestLemmas::some_then))]
 pub fn refusal_for<O: TreeOrder>(
     l: Layout,
     in_hand: bool,
@@ -206,6 +207,7 @@ fn meets<O: TreeOrder>(table: &[Item], item: &Item) -> bool
 }
 
 /// The table after an update.
+#[tactic(auto, using(crate::proofs::TestLemmas::without_few))]
 pub fn after<O: TreeOrder>(
     alloc: Global,
     table: &[Item],

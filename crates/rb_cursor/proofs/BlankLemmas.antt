@@ -6,13 +6,13 @@ use Rattle.rb_cursor.proofs.Words.{with_value, Updates, Updates-with_value, Reco
 use Rattle.rb_cursor.proofs.Words.{tip, branch, Left, Node, Inside, Zipper, weight, HasOneSubtree}
 use Rattle.rb_cursor.proofs.Words.{only_subtree, Keyed, nil, keyed, link_of, link_to, plain}
 use Rattle.rb_cursor.proofs.Words.{plain_path, size, at_key, uses, path_uses, list_uses, node_with}
-use Rattle.rb_cursor.proofs.Words.{node_of, IsLinked, IsChain, with_last_link, IsPlace}
+use Rattle.rb_cursor.proofs.Words.{node_of, IsLinked, with_last_link, IsPlace, nat_tests}
 use Rattle.facts.proofs.Numbers.{if_suc}
 use Rattle.rb_cursor.proofs.KeyedLemmas.{at_same, at_apart, at_most, linked_kept, path_kept}
 use Rattle.rb_cursor.proofs.KeyedLemmas.{chain_kept, linked_beside, path_beside, chain_beside}
 use Rattle.rb_cursor.proofs.KeyedLemmas.{linked_vacant, path_vacant, chain_vacant, same_len}
 use Rattle.rb_cursor.proofs.FieldLemmas.{IsInside, show, FieldsHold, Moved, held, held_on}
-use Rattle.rb_cursor.proofs.FieldLemmas.{none_there, shut}
+use Rattle.rb_cursor.proofs.FieldLemmas.{other_hand, none_there, shut}
 use Rattle.rb_cursor.proofs.TurnLemmas.{IsLoose, tightened}
 
 -- a tree without nodes
@@ -32,16 +32,11 @@ chain_leads (k ∷ ks) some = omega arith
 
 pub blank_leads : (i : Inside) (now : Zipper) → IsInside i → show i ≡ now → 0 < now.room
     → 0 < i.blank
-blank_leads i now f is some =
-    let e = ap (λ (z : Zipper). z.room) (held i now f is).shows in
-    omega (arith, chain_leads f.blanks (omega (arith, f.room_is)), f.blank_link)
+blank_leads i now f is some = grind (arith, nat_tests, held, chain_leads)
 
 pub blank_there : (i : Inside) (key : ℕ) → IsInside i → i.blank ≡ suc key → get i.nodes key ≡ None
     → ⊥
-blank_there i key f some none =
-    let here = (subst (IsChain i.nodes) (blanks_are key f.blanks (sym f.blank_link ∙ some)).1
-    f.place.chained).0.1 in
-    cc
+blank_there i key f some none = grind (arith, nat_tests, blanks_are)
 
 -- a blank node becomes a red leaf
 pub plants : (i : Inside) (u : Slab Node) (now : Zipper) (key : ℕ) (row : Record) (n : Node) →
@@ -81,12 +76,14 @@ plants i u now key row n f shown leaf some found is =
     let new' : Zipper =
     record { tree = branch true tip row tip; path = now.path; room = now.room - 1 } in
     shut j new' hand path ks (record {
-      place = tightened z u i.steps i.depth 0 i.blank hand path ks is some loose g.path_steps;
-      tree_link = some;
-      path_steps = g.path_steps;
-      blank_link = ap (λ (m : Node). m.left) (sym node) ∙ old.2;
-      room_is = omega (arith, g.room_is);
-      few = g.few;
+      fields = record {
+        place = tightened z u i.steps i.depth 0 i.blank hand path ks is some loose g.path_steps;
+        tree_link = some;
+        path_steps = g.path_steps;
+        blank_link = ap (λ (m : Node). m.left) (sym node) ∙ old.2;
+        room_is = omega (arith, g.room_is);
+        few = g.few;
+      };
       shows = ap (λ (q : Zipper). record {
         tree = branch true tip row tip;
         path = q.path;
@@ -104,9 +101,7 @@ thin_leads i now f is thin = elim (cases_eq i.tree 0) [
 
 pub room_fits : (i : Inside) (now : Zipper) → IsInside i → show i ≡ now → 0 < i.tree
     → i.room + 1 < 2 ^ 32
-room_fits i now f is some =
-    let h = (held_on i now Left (i.tree - 1) f is (omega arith)).held in
-    omega (arith, h.room_is, h.place.counted, h.place.small)
+room_fits i now f is some = grind (arith, nat_tests, held_on)
 
 -- with a subtree of the node, which both the tree and the links tell
 record IsOnly (red : Bool) (l : Keyed) (x : Record) (r : Keyed) (only : Keyed) : Type 0 where
@@ -185,13 +180,15 @@ takes i u now key subtree n f shown thin some found sub is =
     let new' : Zipper =
     record { tree = only_subtree now.tree; path = now.path; room = now.room + 1 } in
     shut j new' only path (key ∷ blanks) (record {
-      place = tightened z u i.steps i.depth (suc key) subtree only path (key ∷ blanks) is link loose
-          g.path_steps;
-      tree_link = link;
-      path_steps = g.path_steps;
-      blank_link = some;
-      room_is = omega (arith, g.room_is);
-      few = g.few;
+      fields = record {
+        place = tightened z u i.steps i.depth (suc key) subtree only path (key ∷ blanks) is link
+            loose g.path_steps;
+        tree_link = link;
+        path_steps = g.path_steps;
+        blank_link = some;
+        room_is = omega (arith, g.room_is);
+        few = g.few;
+      };
       shows = ap (λ (q : Zipper). record {
         tree = only_subtree q.tree;
         path = q.path;
@@ -220,12 +217,8 @@ grows i u now f shows is more =
       small = p.small;
     } in
     shut (record i { nodes = u }) now f.hand f.path f.blanks (record {
-      place = subst (λ (z : Slab Node). IsPlace z f.hand f.path f.blanks) (sym is) place;
-      tree_link = h.tree_link;
-      path_steps = h.path_steps;
-      blank_link = h.blank_link;
-      room_is = h.room_is;
-      few = h.few;
+      fields = other_hand h.fields
+          (subst (λ (z : Slab Node). IsPlace z f.hand f.path f.blanks) (sym is) place) h.tree_link;
       shows = h.shows;
     })
 
@@ -279,11 +272,13 @@ blanked i v u now key n f shows grown more room small vacant w left len capacity
     } in
     shut (record i { nodes = u; blank = key + 1; room = i.room + 1 })
     (record now { room = now.room + 1 }) hand path (key ∷ blanks) (record {
-      place = place;
-      tree_link = h.tree_link;
-      path_steps = h.path_steps;
-      blank_link = omega arith;
-      room_is = omega (arith, h.room_is);
-      few = h.few;
+      fields = record {
+        place = place;
+        tree_link = h.tree_link;
+        path_steps = h.path_steps;
+        blank_link = omega arith;
+        room_is = omega (arith, h.room_is);
+        few = h.few;
+      };
       shows = ap (λ (q : Zipper). record q { room = q.room + 1 }) h.shows;
     })

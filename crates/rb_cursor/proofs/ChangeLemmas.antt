@@ -1,17 +1,17 @@
 -- Going up from the tree in hand, and writes of the node in hand.
-use Rattle.rb_cursor.proofs.Words.{◌≡◌, ℕ, suc, ◌-◌, ◌<◌, ◌≤◌, Bool, List, [], ◌∷◌, length}
-use Rattle.rb_cursor.proofs.Words.{if◌then◌else◌, Some, None, inl, inr, refl, sym, ap, subst, ◌∙◌}
-use Rattle.rb_cursor.proofs.Words.{arith, cases_eq, le-ltb, lt-ltb, Slab, get, with_value}
-use Rattle.rb_cursor.proofs.Words.{Updates-with_value, Record, ColouredTree, branch, Node, Step}
-use Rattle.rb_cursor.proofs.Words.{Side, Left, Right, Inside, Above, Zipper, sided, joined, plugged}
-use Rattle.rb_cursor.proofs.Words.{closed_zipper, closed_to, IsNearest, Keyed, keyed, Level}
-use Rattle.rb_cursor.proofs.Words.{link_of, plain, plain_level, plain_path, node_with, node_of}
-use Rattle.rb_cursor.proofs.Words.{sided_node, record_of, step_at, IsPlace}
+use Rattle.rb_cursor.proofs.Words.{◌≡◌, ℕ, suc, ◌-◌, ◌<◌, ◌≤◌, Bool, List, [], ◌∷◌, length, Some}
+use Rattle.rb_cursor.proofs.Words.{None, inl, inr, refl, sym, ap, subst, ◌∙◌, arith, cases_eq}
+use Rattle.rb_cursor.proofs.Words.{le-ltb, lt-ltb, Slab, get, with_value, Updates-with_value}
+use Rattle.rb_cursor.proofs.Words.{Record, ColouredTree, branch, Node, Step, Side, Left, Right}
+use Rattle.rb_cursor.proofs.Words.{Inside, Above, Zipper, sided, joined, plugged, closed_zipper}
+use Rattle.rb_cursor.proofs.Words.{closed_to, IsNearest, Keyed, keyed, Level, link_of, plain}
+use Rattle.rb_cursor.proofs.Words.{plain_level, plain_path, node_with, node_of, sided_node}
+use Rattle.rb_cursor.proofs.Words.{record_of, step_at, IsPlace, tip, nat_tests}
 use Rattle.rb_cursor.proofs.KeyedLemmas.{at_same, linked_beside, path_beside, chain_beside}
 use Rattle.rb_cursor.proofs.KeyedLemmas.{steps_length, plain_length, same_len}
 use Rattle.rb_cursor.proofs.SideLemmas.{read-sided, plain-joined}
 use Rattle.rb_cursor.proofs.FieldLemmas.{IsInside, show, FieldsHold, Moved, held, held_on, shut}
-use Rattle.rb_cursor.proofs.FieldLemmas.{back, gone_back, without_step}
+use Rattle.rb_cursor.proofs.FieldLemmas.{none_there, other_hand, back, gone_back, without_step}
 
 -- the node in hand is written anew, with the same subtrees
 pub record Rewritten (i : Inside) (now : Zipper) (key : ℕ) (red : Bool) (row : Record) (n : Node) :
@@ -61,14 +61,10 @@ rewrites i now key red row n f is some found =
       was = ap (λ (z : Zipper). z.tree) g.shows
           ∙ ap (λ (z : Node). branch z.red (plain v.near) (record_of z) (plain v.far)) node;
       moved = shut j now' (keyed red v.near key row v.far) f.path f.blanks (record {
-        place = subst
+        fields = other_hand g.fields
+            (subst
             (λ (z : Slab Node). IsPlace z (keyed red v.near key row v.far) f.path f.blanks) nodes
-            place;
-        tree_link = some;
-        path_steps = g.path_steps;
-        blank_link = g.blank_link;
-        room_is = g.room_is;
-        few = g.few;
+            place) some;
         shows = ap (λ (z : Zipper). record z { tree = branch red (plain v.near) row (plain v.far) })
             g.shows;
       });
@@ -92,42 +88,38 @@ last_is i now f is some =
 last_step : (i : Inside) (now : Zipper) (hand : Keyed) (a : Level) (path : List Level)
     (blanks : List ℕ) → FieldsHold i now hand (a ∷ path) blanks →
     step_at i.steps (i.depth - 1) ≡ record { link = suc a.key; side = a.side }
-last_step i now hand a path blanks h =
-    let d : i.depth - 1 ≡ length path = omega (arith, h.path_steps.0) in
-    ap (step_at i.steps) d ∙ h.path_steps.1
+last_step i now hand a path blanks h = grind (arith, nat_tests)
+
+abbrev pub last : Inside → Step
+last i = step_at i.steps (i.depth - 1)
 
 pub last_leads : (i : Inside) (now : Zipper) → IsInside i → show i ≡ now → 0 < i.depth
-    → (step : Step) →
-    step_at i.steps (i.depth - 1) ≡ step → 0 < step.link
-last_leads i now f is some step at =
+    → 0 < (last i).link
+last_leads i now f is some =
     let t = last_is i now f is some in
-    let e = ap (λ (z : Step). z.link) (sym at
-    ∙ last_step i now f.hand t.level t.rest f.blanks t.held) in
+    let e = ap (λ (z : Step). z.link) (last_step i now f.hand t.level t.rest f.blanks t.held) in
     omega arith
 
-pub last_there : (i : Inside) (now : Zipper) → IsInside i → show i ≡ now → 0 < i.depth →
-    (step : Step) (key : ℕ) → step_at i.steps (i.depth - 1) ≡ step → step.link ≡ suc key →
-    get i.nodes key ≡ None → ⊥
-last_there i now f is some step key at link none =
+pub last_there : (i : Inside) (now : Zipper) → IsInside i → show i ≡ now → 0 < i.depth
+    → get i.nodes ((last i).link - 1) ≡ None → ⊥
+last_there i now f is some none =
     let t = last_is i now f is some in
-    let e = ap (λ (z : Step). z.link) (sym at
-    ∙ last_step i now f.hand t.level t.rest f.blanks t.held) in
-    let same : t.level.key ≡ key = omega arith in
+    let e = ap (λ (z : Step). z.link) (last_step i now f.hand t.level t.rest f.blanks t.held) in
+    let same : t.level.key ≡ (last i).link - 1 = omega arith in
     let here = t.held.place.path_linked.0 in let there = ap (get i.nodes) same in
     cc
 
 -- what is read of it
-pub nearest_is : (i : Inside) (now : Zipper) → IsInside i → show i ≡ now → 0 < i.depth →
-    (step : Step) (key : ℕ) (n : Node) → step_at i.steps (i.depth - 1) ≡ step →
-    step.link ≡ suc key → get i.nodes key ≡ Some n →
-    IsNearest now.path (record { side = step.side; red = n.red; node = n.node })
-nearest_is i now f is some step key n at link found =
+pub nearest_is : (i : Inside) (now : Zipper) (n : Node) → IsInside i → show i ≡ now → 0 < i.depth
+    → get i.nodes ((last i).link - 1) ≡ Some n
+    → IsNearest now.path (record { side = (last i).side; red = n.red; node = n.node })
+nearest_is i now n f is some found =
     let t = last_is i now f is some in
     let a = t.level in
-    let last = sym at ∙ last_step i now f.hand a t.rest f.blanks t.held in
-    let e = ap (λ (z : Step). z.link) last in
-    let side : step.side ≡ a.side = ap (λ (z : Step). z.side) last in
-    let same : a.key ≡ key = omega arith in
+    let there = last_step i now f.hand a t.rest f.blanks t.held in
+    let e = ap (λ (z : Step). z.link) there in
+    let side : (last i).side ≡ a.side = ap (λ (z : Step). z.side) there in
+    let same : a.key ≡ (last i).link - 1 = omega arith in
     let here = t.held.place.path_linked.0 in let there = ap (get i.nodes) same in
     let node : sided_node a.side a.red a.row (link_of f.hand) (link_of a.other) ≡ n = cc in
     let parts = read-sided a.side a.red a.row (link_of f.hand) (link_of a.other) n node in
@@ -144,7 +136,7 @@ nearest_is i now f is some step key n at link found =
             other = plain a.other;
           } ∷ plain_path t.rest) (sym side)
           ∙ ap (λ (z : Bool). record {
-            side = step.side;
+            side = (last i).side;
             red = z;
             row = a.row;
             other = plain a.other;
@@ -166,20 +158,20 @@ repainted : (side : Side) (hue red : Bool) (t : ColouredTree) (x : Record) (o : 
 repainted Left hue red t x o hue' l y r e = cc
 repainted Right hue red t x o hue' l y r e = cc
 
-pub closes : (i : Inside) (now : Zipper) (step : Step) (key : ℕ) (red : Bool) (n : Node)
-    → IsInside i →
-    show i ≡ now → 0 < i.depth → step_at i.steps (i.depth - 1) ≡ step → step.link ≡ suc key →
-    get i.nodes key ≡ Some n →
+pub closes : (i : Inside) (now : Zipper) (red : Bool) (n : Node) → IsInside i → show i ≡ now
+    → 0 < i.depth → get i.nodes ((last i).link - 1) ≡ Some n →
     Moved (record i {
-      nodes = with_value i.nodes key (record n { red = red });
-      tree = step.link;
+      nodes = with_value i.nodes ((last i).link - 1) (record n { red = red });
+      tree = (last i).link;
       depth = i.depth - 1;
     }) (closed_zipper red now.tree now.path now.room)
-closes i now step key red n f is some at link found =
+closes i now red n f is some found =
     let t = last_is i now f is some in
     let a = t.level in
-    let last = sym at ∙ last_step i now f.hand a t.rest f.blanks t.held in
-    let e = ap (λ (z : Step). z.link) last in
+    let step = last i in
+    let key = step.link - 1 in
+    let e = ap (λ (z : Step). z.link) (last_step i now f.hand a t.rest f.blanks t.held) in
+    let link : step.link ≡ suc key = omega arith in
     let g = gone_back i now f.hand a t.rest f.blanks step.link t.held e in
     let mid : Zipper =
     record { tree = plain (back a f.hand); path = plain_path t.rest; room = i.room } in
@@ -198,23 +190,17 @@ closes i now step key red n f is some at link found =
 
 pub not_closed : (red : Bool) (now : Zipper) → now.path ≡ [] →
     now ≡ closed_zipper red now.tree now.path now.room
-not_closed red now e =
-    ap (λ (p : List Above). record { tree = now.tree; path = p; room = now.room }) e
-    ∙ sym (ap (λ (p : List Above). closed_zipper red now.tree p now.room) e)
+not_closed red now e = grind (arith, nat_tests)
 
 -- up to some node
 pub stays_closed : (d : ℕ) (t : ColouredTree) (p : List Above) (room : ℕ) → length p ≤ d →
     closed_to d t p room ≡ record { tree = t; path = p; room = room }
 stays_closed d t [] room h = refl
-stays_closed d t (a ∷ p) room h =
-    ap (λ (b : Bool). if b then record { tree = t; path = a ∷ p; room = room }
-    else closed_to d (joined a a.red t) p room) (lt-ltb (length p) d (omega arith))
+stays_closed d t (a ∷ p) room h = grind (arith, nat_tests, lt-ltb)
 
 goes_up : (d : ℕ) (t : ColouredTree) (a : Above) (p : List Above) (room : ℕ) → d ≤ length p →
     closed_to d t (a ∷ p) room ≡ closed_to d (joined a a.red t) p room
-goes_up d t a p room h =
-    ap (λ (b : Bool). if b then record { tree = t; path = a ∷ p; room = room }
-    else closed_to d (joined a a.red t) p room) (le-ltb (length p) d h)
+goes_up d t a p room h = grind (arith, nat_tests, le-ltb)
 
 pub closed_to_none : (t : ColouredTree) (p : List Above) (room : ℕ) →
     closed_to 0 t p room ≡ record { tree = plugged p t; path = []; room = room }
@@ -272,7 +258,12 @@ closes_to i now d step f is some at =
 pub not_closed_to : (i : Inside) (now : Zipper) (d : ℕ) → IsInside i → show i ≡ now → i.depth ≤ d →
     now ≡ closed_to d now.tree now.path now.room
 not_closed_to i now d f is h =
-    let g = held i now f is in
-    let e = ap (λ (z : Zipper). length z.path) g.shows in
-    sym (stays_closed d now.tree now.path now.room
-    (omega (arith, steps_length i.steps i.depth f.path g.path_steps, plain_length f.path)))
+    grind (arith, nat_tests, held, stays_closed, steps_length, plain_length)
+
+-- what changes no empty tree changes nothing where there is no node in hand
+pub unchanged : (change : ColouredTree → ColouredTree) → change tip ≡ tip → (i : Inside)
+    (now : Zipper) → IsInside i → show i ≡ now → i.tree ≡ 0
+    → now ≡ record now { tree = change now.tree }
+unchanged change none i now f is empty =
+    let e = none_there i now f is empty in
+    ap (λ (t : ColouredTree). record now { tree = t }) (e ∙ sym none ∙ sym (ap change e))

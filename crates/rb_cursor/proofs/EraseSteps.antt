@@ -7,6 +7,7 @@ use Rattle.rb_cursor.proofs.Words.{Lost, link_sided, moved_one, not_moved, relin
 use Rattle.rb_cursor.proofs.Words.{filling, filled_sided, fill_links_sided, at_side, kept_up}
 use Rattle.rb_cursor.proofs.Words.{kept_still, lost_kept, kept_lost, lost_filled, Nearest, Zipper}
 use Rattle.rb_cursor.proofs.Words.{holding, IsNearest, risen, closed_to, most_on_climb, Climbs}
+use Rattle.rb_cursor.proofs.Words.{nat_tests}
 use Rattle.rb_cursor.proofs.StepLemmas.{zipper, above_of, risen_there, closed_past}
 
 -- a part of a path above which some nodes stand has a first node, where there are more
@@ -62,29 +63,6 @@ module _ (copy depth from0 : ℕ) (short0 : Bool) (start : Zipper) where
       × Climbs copy depth from0 short0 start new short links
 
 module _ {copy depth from0 : ℕ} {short0 : Bool} {start : Zipper} where
-  pub erase_begins : {after : ℕ} → after ≡ link (shape start.tree) → (first : List Store)
-      → EraseRises copy depth from0 short0 start first start from0 after short0 first
-  erase_begins {after = after} e first = record {
-    links = [];
-    stores = sym (append-nil first);
-    linked = e;
-    few = omega (arith, most_one short0);
-    low = λ _. omega (arith, moved_one from0 after);
-    was_short = λ s. s;
-    rises = λ part base whole was rs gone ss path deep from lost. record {
-      part = part;
-      was = was;
-      path = path;
-      from = from;
-      lost = subst (λ qs. Lost copy gone whole rs part was start.tree qs short0)
-          (sym (append-nil ss)) lost;
-    };
-  }
-    where
-      most_one : (b : Bool) → moved from0 after ≤ most_on_climb b
-      most_one true = omega (arith, moved_one from0 after)
-      most_one false = omega (arith, moved_one from0 after)
-
   -- one step up
   module _ {first : List Store} {here : Zipper} {before after : ℕ} {short : Bool} {now : List Store}
       (is : EraseRises copy depth from0 short0 start first here before after short now)
@@ -113,9 +91,7 @@ module _ {copy depth from0 : ℕ} {short0 : Bool} {start : Zipper} where
         (ss : List Store) (deep : depth ≡ length base)
         (l : IsLostHere copy gone whole rs base here before short (ss ++ is.links)) where
       part_first : HasFirst l.part base (above_of up near) near.rest
-      part_first =
-          has_first l.part base (above_of up near) near.rest (sym l.path ∙ near.was)
-          (omega (arith, more, deep, ap length near.was))
+      part_first = grind (arith, nat_tests, has_first, above_of)
 
       lost_first : Lost copy gone whole rs (at_side up.side up.red near.row near.other
           ∷ part_first.later) l.was here.tree (ss ++ is.links) short
@@ -124,18 +100,12 @@ module _ {copy depth from0 : ℕ} {short0 : Bool} {start : Zipper} where
 
       relinked_is : relinked
           ≡ relink up.side copy near.row.node (link (shape l.was)) (link (shape here.tree))
-      relinked_is =
-          ap (λ n. relink up.side copy n before after) near.node
-          ∙ ap (λ b. relink up.side copy near.row.node b after) l.from
-          ∙ ap (λ a. relink up.side copy near.row.node (link (shape l.was)) a) is.linked
+      relinked_is = grind (arith, nat_tests)
 
       stores_are : (ts : List Store) → (((ss ++ is.links)
           ++ relink up.side copy near.row.node (link (shape l.was)) (link (shape here.tree))) ++ ts)
           ≡ ss ++ ((is.links ++ relinked) ++ ts)
-      stores_are ts =
-          ap (λ qs. ((ss ++ is.links) ++ qs) ++ ts) (sym relinked_is)
-          ∙ ap (λ qs. qs ++ ts) (append_assoc ss is.links relinked)
-          ∙ append_assoc ss (is.links ++ relinked) ts
+      stores_are ts = grind (arith, nat_tests, relinked_is, append_assoc)
 
     fills : Filling near.row 8 (filled up.side there) (fill_links up.side copy there)
     fills = subst (λ r. Filling near.row 8 r (fill_links up.side copy there))

@@ -1,13 +1,13 @@
 -- What the fields of a cursor hold, and what the calls that go down and up make of it.
-use Rattle.rb_cursor.proofs.Words.{◌≡◌, ℕ, suc, ◌+◌, ◌-◌, ◌<◌, ◌≤◌, Bool, List, [], ◌∷◌, length}
-use Rattle.rb_cursor.proofs.Words.{Option, Some, None, is_some, count_by, set, refl, sym, ap, subst}
-use Rattle.rb_cursor.proofs.Words.{◌∙◌, arith, get_or-set_same, set-get_or, Slab, get, slab_len}
-use Rattle.rb_cursor.proofs.Words.{ContainsKey, with_value, Record, ColouredTree, tip, Node, Step}
-use Rattle.rb_cursor.proofs.Words.{Side, Left, Inside, Above, Zipper, sided, child_at, weight}
-use Rattle.rb_cursor.proofs.Words.{OpensSide, Keyed, nil, Level, link_of, link_to, plain}
-use Rattle.rb_cursor.proofs.Words.{plain_level, plain_path, sided_node, record_of, IsPath}
-use Rattle.rb_cursor.proofs.Words.{tree_from, no_step, step_at, IsPlace, AreSteps, IsCursor}
-use Rattle.rb_cursor.proofs.Words.{path_from}
+use Rattle.rb_cursor.proofs.Words.{Step, ◌≡◌, ℕ, suc, ◌+◌, ◌-◌, ◌<◌, Bool, List, [], ◌∷◌, length}
+use Rattle.rb_cursor.proofs.Words.{Option}
+use Rattle.rb_cursor.proofs.Words.{Some, is_some, count_by, set, refl, sym, ap, subst, ◌∙◌, arith}
+use Rattle.rb_cursor.proofs.Words.{get_or-set_same, set-get_or, Slab, get, slab_len, ContainsKey}
+use Rattle.rb_cursor.proofs.Words.{with_value, Record, ColouredTree, tip, Node, Side, Left, Inside}
+use Rattle.rb_cursor.proofs.Words.{Above, Zipper, sided, child_at, weight, OpensSide, Keyed, nil}
+use Rattle.rb_cursor.proofs.Words.{Level, link_of, plain, plain_level, plain_path, sided_node}
+use Rattle.rb_cursor.proofs.Words.{record_of, IsPath, tree_from, IsPlace, AreFields, AreSteps}
+use Rattle.rb_cursor.proofs.Words.{IsCursor, path_from, nat_tests}
 use Rattle.rb_cursor.specs.Places.{shown}
 use Rattle.rb_cursor.proofs.SideLemmas.{joined_keyed, seen, nothing, parted, linked-joined}
 use Rattle.rb_cursor.proofs.SideLemmas.{read-sided, plain-joined, link-joined, uses-joined}
@@ -20,17 +20,26 @@ IsInside i = IsCursor i.nodes i.tree i.steps i.depth i.blank i.room
 abbrev pub show : Inside → Zipper
 show i = shown i.nodes i.tree i.steps i.depth i.room
 
--- what the fields hold, with the trees at their keys
+-- what the fields hold and show
 pub record FieldsHold (i : Inside) (now : Zipper) (hand : Keyed) (path : List Level)
-    (blanks : List ℕ) :
-    Type 0 where
-  pub place : IsPlace i.nodes hand path blanks
-  pub tree_link : i.tree ≡ link_of hand
-  pub path_steps : AreSteps i.steps i.depth path
-  pub blank_link : i.blank ≡ link_to blanks
-  pub room_is : i.room ≡ length blanks
-  pub few : i.depth ≤ 64
+    (blanks : List ℕ) : Type 0 where
+  pub fields : AreFields i.nodes i.tree i.steps i.depth i.blank i.room hand path blanks
+  pub open fields use *
   pub shows : now ≡ record { tree = plain hand; path = plain_path path; room = i.room }
+
+-- the slab, the tree in hand and its link alone are others
+pub other_hand : {s u : Slab Node} {tree link : ℕ} {steps : List Step} {depth blank room : ℕ}
+    {hand new : Keyed} {path : List Level} {blanks : List ℕ}
+    → AreFields s tree steps depth blank room hand path blanks → IsPlace u new path blanks
+    → link ≡ link_of new → AreFields u link steps depth blank room new path blanks
+other_hand f place leads = record {
+  place = place;
+  tree_link = leads;
+  path_steps = f.path_steps;
+  blank_link = f.blank_link;
+  room_is = f.room_is;
+  few = f.few;
+}
 
 -- the fields are those of a cursor that shows this
 pub record Moved (i : Inside) (now : Zipper) : Type 0 where
@@ -58,29 +67,14 @@ shown_is i hand path blanks p link steps =
 pub held : (i : Inside) (now : Zipper) (f : IsInside i) → show i ≡ now
     → FieldsHold i now f.hand f.path f.blanks
 held i now f is = record {
-  place = f.place;
-  tree_link = f.tree_link;
-  path_steps = f.path_steps;
-  blank_link = f.blank_link;
-  room_is = f.room_is;
-  few = f.few;
+  fields = f.fields;
   shows = sym is ∙ shown_is i f.hand f.path f.blanks f.place f.tree_link f.path_steps;
 }
 
 pub shut : (i : Inside) (now : Zipper) (hand : Keyed) (path : List Level) (blanks : List ℕ) →
     FieldsHold i now hand path blanks → Moved i now
 shut i now hand path blanks h = record {
-  is = record {
-    hand = hand;
-    path = path;
-    blanks = blanks;
-    place = h.place;
-    tree_link = h.tree_link;
-    path_steps = h.path_steps;
-    blank_link = h.blank_link;
-    room_is = h.room_is;
-    few = h.few;
-  };
+  is = record { hand = hand; path = path; blanks = blanks; fields = h.fields };
   shows = shown_is i hand path blanks h.place h.tree_link h.path_steps ∙ sym h.shows;
 }
 
@@ -90,20 +84,22 @@ pub first : (i : Inside) → i.nodes.slots ≡ [] → i.tree ≡ 0 → i.depth �
 first i empty tree depth blank room =
     let len : slab_len i.nodes ≡ 0 = ap (λ (z : List (Option Node)). count_by is_some z) empty in
     shut i (record { tree = tip; path = []; room = 0 }) nil [] [] (record {
-      place = record {
-        hand_linked = tt;
-        path_linked = tt;
-        chained = tt;
-        apart = λ k. omega arith;
-        counted = sym len;
-        fits = omega arith;
-        small = omega arith;
+      fields = record {
+        place = record {
+          hand_linked = tt;
+          path_linked = tt;
+          chained = tt;
+          apart = λ k. omega arith;
+          counted = sym len;
+          fits = omega arith;
+          small = omega arith;
+        };
+        tree_link = tree;
+        path_steps = depth;
+        blank_link = blank;
+        room_is = room;
+        few = omega arith;
       };
-      tree_link = tree;
-      path_steps = depth;
-      blank_link = blank;
-      room_is = room;
-      few = omega arith;
       shows = ap (λ (r : ℕ). record { tree = tip; path = []; room = r }) (sym room);
     })
 
@@ -145,19 +141,7 @@ steps_more : (i : Inside) (side : Side) (key : ℕ) (path : List Level) (red : B
     AreSteps (set i.steps i.depth (record { link = i.tree; side = side })) (i.depth + 1)
     (record { side = side; red = red; key = key; row = row; other = other } ∷ path)
 steps_more i side key path red row other some steps within =
-    let step : Step = record { link = i.tree; side = side } in
-    let d = steps_length i.steps i.depth path steps in
-    let last : step_at (set i.steps i.depth step) (length path) ≡ record {
-      link = suc key;
-      side = side;
-    } =
-    ap (step_at (set i.steps i.depth step)) (sym d)
-    ∙ get_or-set_same i.steps i.depth step no_step within
-    ∙ ap (λ (l : ℕ). record { link = l; side = side }) some in
-    let kept : AreSteps (set i.steps i.depth step) (length path) path =
-    subst (λ (e : ℕ). AreSteps (set i.steps i.depth step) e path) d
-    (steps_kept i.steps i.depth i.depth step path (omega arith) steps) in
-    (omega arith, last, kept)
+    grind (arith, nat_tests, steps_length, get_or-set_same, steps_kept)
 
 -- the tree in hand seen from a side
 pub record HeldOn (i : Inside) (now : Zipper) (side : Side) (key : ℕ) (path : List Level)
@@ -196,27 +180,30 @@ opened i now side key n f is some found room within =
     let new : Zipper =
     record { tree = plain v.near; path = plain_level a ∷ plain_path f.path; room = i.room } in
     let m : Moved j new = shut j new v.near (a ∷ f.path) f.blanks (record {
-      place = record {
-        hand_linked = parts.near;
-        path_linked = (
-          parts.here,
-          parts.far,
-          subst (λ (l : ℕ). IsPath i.nodes l f.path) (link-joined side v.red v.near key v.row v.far)
-              p.path_linked,
-        );
-        chained = p.chained;
-        apart = λ e. (let all = p.apart e in
-            let here = uses-joined e side v.red v.near key v.row v.far in omega arith);
-        counted = omega (arith, p.counted, size-joined side v.red v.near key v.row v.far);
-        fits = p.fits;
-        small = p.small;
+      fields = record {
+        place = record {
+          hand_linked = parts.near;
+          path_linked = (
+            parts.here,
+            parts.far,
+            subst (λ (l : ℕ). IsPath i.nodes l f.path)
+                (link-joined side v.red v.near key v.row v.far)
+                p.path_linked,
+          );
+          chained = p.chained;
+          apart = λ e. (let all = p.apart e in
+              let here = uses-joined e side v.red v.near key v.row v.far in omega arith);
+          counted = omega (arith, p.counted, size-joined side v.red v.near key v.row v.far);
+          fits = p.fits;
+          small = p.small;
+        };
+        tree_link = sym (ap (child_at side) node)
+            ∙ child-sided side v.red v.row (link_of v.near) (link_of v.far);
+        path_steps = steps_more i side key f.path v.red v.row v.far some h.path_steps within;
+        blank_link = h.blank_link;
+        room_is = h.room_is;
+        few = omega arith;
       };
-      tree_link = sym (ap (child_at side) node)
-          ∙ child-sided side v.red v.row (link_of v.near) (link_of v.far);
-      path_steps = steps_more i side key f.path v.red v.row v.far some h.path_steps within;
-      blank_link = h.blank_link;
-      room_is = h.room_is;
-      few = omega arith;
       shows = refl;
     }) in
     let e : now.tree ≡ sided side n.red (plain v.near) v.row (plain v.far) =
@@ -271,13 +258,15 @@ pub gone_back : (i : Inside) (now : Zipper) (hand : Keyed) (a : Level) (path : L
     (record { tree = plain (back a hand); path = plain_path path; room = i.room }) (back a hand)
     path blanks
 gone_back i now hand a path blanks link h e = record {
-  place = place_back i.nodes hand a path blanks h.place;
-  tree_link = e ∙ sym (link-joined a.side a.red hand a.key a.row a.other);
-  path_steps = let d : length path ≡ i.depth - 1 = omega (arith, h.path_steps.0) in
-      subst (λ (e : ℕ). AreSteps i.steps e path) d h.path_steps.2;
-  blank_link = h.blank_link;
-  room_is = h.room_is;
-  few = omega (arith, h.few);
+  fields = record {
+    place = place_back i.nodes hand a path blanks h.place;
+    tree_link = e ∙ sym (link-joined a.side a.red hand a.key a.row a.other);
+    path_steps = let d : length path ≡ i.depth - 1 = omega (arith, h.path_steps.0) in
+        subst (λ (e : ℕ). AreSteps i.steps e path) d h.path_steps.2;
+    blank_link = h.blank_link;
+    room_is = h.room_is;
+    few = omega (arith, h.few);
+  };
   shows = refl;
 }
 
@@ -289,9 +278,7 @@ top_present i key f some =
 -- a value written back is no change
 pub same_value : (s : Slab Node) (key : ℕ) (n : Node) → get s key ≡ Some n →
     with_value s key n ≡ s
-same_value s key n found =
-    ap (λ (o : Option Node). record s { slots = set s.slots key o }) (sym found)
-    ∙ ap (λ (z : List (Option Node)). record s { slots = z }) (set-get_or s.slots key None)
+same_value s key n found = grind (arith, nat_tests, set-get_or)
 
 abbrev pub written_back : Inside → ℕ → Node → Inside
 written_back i key n = record i { nodes = with_value i.nodes key n }

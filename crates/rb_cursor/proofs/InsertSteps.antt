@@ -10,9 +10,9 @@ use Rattle.rb_cursor.proofs.Words.{short_to, leaf_lies, red_sided, link_sided, r
 use Rattle.rb_cursor.proofs.Words.{moved_one, not_moved, relink_moved, root_moved, replaced_lead}
 use Rattle.rb_cursor.proofs.Words.{Grown, at_side, grown_leaf, grown_red, mended_calm, grown_black}
 use Rattle.rb_cursor.proofs.Words.{grown_kept, kept_still, grown_good, kept_good, Nearest, Zipper}
-use Rattle.rb_cursor.proofs.Words.{altered, IsNearest, risen, PutsIn}
+use Rattle.rb_cursor.proofs.Words.{altered, IsNearest, risen, PutsIn, nat_tests}
 use Rattle.order_laws.specs.Tables.{IsTable}
-use Rattle.rb_trees.specs.Inserted.{mended, mend_links, red_violation}
+use Rattle.rb_trees.specs.Inserted.{mended, mend_links}
 use Rattle.rb_trees.proofs.PlaceRows.{rows_grown}
 use Rattle.rb_trees.proofs.ColourLemmas.{calm_of_near}
 use Rattle.rb_trees.proofs.RelinkLemmas.{shape_blackened}
@@ -81,25 +81,18 @@ module _ {copy : ℕ} {x : Record} {start : List Above} {first : List Store} whe
     pub grown_here : Grown copy x.node (plugged start tip)
         (rows (plugged start (branch true tip x tip))) (above_of up near ∷ near.rest) is.was
         here.tree is.links
-    grown_here = subst (λ p. Grown copy x.node (plugged start tip)
-        (rows (plugged start (branch true tip x tip))) p is.was here.tree is.links) near.was
-        is.grown
+    grown_here = grind (arith, nat_tests)
 
     pub relinked_is : relinked
         ≡ relink up.side copy near.row.node (link (shape is.was)) (link (shape here.tree))
-    relinked_is =
-        ap (λ n. relink up.side copy n before after) near.node
-        ∙ ap (λ b. relink up.side copy near.row.node b after) is.from
-        ∙ ap (λ a. relink up.side copy near.row.node (link (shape is.was)) a) is.linked
+    relinked_is = grind (arith, nat_tests)
 
     pub relink_fits : length relinked ≡ moved before after
     relink_fits = relink_moved up.side copy up.node before after
 
     stored : {now1 : List Store} → now1 ≡ now ++ relinked → now1 ≡ first ++ (is.links
         ++ relink up.side copy near.row.node (link (shape is.was)) (link (shape here.tree)))
-    stored e =
-        e ∙ ap (λ ss. ss ++ relinked) is.stores ∙ append_assoc first is.links relinked
-        ∙ ap (λ ss. first ++ (is.links ++ ss)) relinked_is
+    stored e = grind (arith, nat_tests, append_assoc, relinked_is)
 
     longer : length (is.links ++ relink up.side copy near.row.node (link (shape is.was))
         (link (shape here.tree))) ≡ length is.links + moved before after
@@ -150,11 +143,7 @@ module _ {copy : ℕ} {x : Record} {start : List Above} {first : List Store} whe
 
       mends : Mending near.row (mended up.side (sided up.side false here.tree near.row near.other))
           (mend_links up.side copy (sided up.side false here.tree near.row near.other))
-      mends = subst (λ u. Mending near.row u (mend_links up.side copy bare))
-          (sym (mended_sided up.side here.tree near.row near.other))
-          (subst (Mending near.row _)
-          (sym (mend_links_sided up.side copy here.tree near.row near.other)) (mending copy
-          up.side near.row near.other (red_violation up.side here.tree) here.tree))
+      mends = grind (arith, nat_tests, mended_sided, mend_links_sided, mending)
 
       pub mend_fits : length is.links + moved before after + length (mend_links up.side copy z.tree)
           ≤ 8
@@ -235,9 +224,7 @@ module _ {copy : ℕ} {x : Record} {start : List Above} {first : List Store} whe
 
     pub insert_settled_black : red ≡ false → {z : Zipper} → z ≡ risen here → {now1 : List Store}
         → now1 ≡ now ++ relinked → InsertEnds copy x start first (plugged z.path z.tree) now1
-    insert_settled_black black rises e =
-        let b : is_red here.tree ≡ false = sym is.red_is ∙ black in
-        insert_settled (λ h s. calm_of_near here.tree b (is.grown.near h s).0) (λ _. b) rises e
+    insert_settled_black black rises e = grind (arith, nat_tests, insert_settled, calm_of_near)
 
     pub insert_settled_below : up.red ≡ false → clashes ≡ false → {z : Zipper} → z ≡ risen here
         → {now1 : List Store} → now1 ≡ now ++ relinked
@@ -269,9 +256,6 @@ module _ {copy : ℕ} {x : Record} {start : List Above} {first : List Store} whe
 
   -- with the top black, and the root's link
   module _ {u : ColouredTree} {now : List Store} (ends : InsertEnds copy x start first u now) where
-    pub ends_rows : rows (blackened u) ≡ rows (plugged start (branch true tip x tip))
-    ends_rows = rows_blackened u ∙ ends.replaced.in_order
-
     pub ends_lead : Lead (λ i. i ≡ x.node) copy (shape (plugged start tip)) (shape (blackened u))
         (ends.links
         ++ relink_root copy (link (shape (plugged start tip))) (link (shape (blackened u))))
@@ -279,14 +263,7 @@ module _ {copy : ℕ} {x : Record} {start : List Above} {first : List Store} whe
 
     pub ends_few : length ends.links + length
         (relink_root copy (link (shape (plugged start tip))) (link (shape (blackened u)))) ≤ 9
-    ends_few =
-        omega (
-          arith,
-          ends.few,
-          root_moved copy (link (shape (plugged start tip))) (link (shape (blackened u))),
-          ap (λ t. moved (link (shape t)) (link (shape u))) ends.replaced.old,
-          ap (λ t. moved (link (shape (plugged start tip))) (link t)) (shape_blackened u),
-        )
+    ends_few = grind (arith, nat_tests, root_moved, shape_blackened)
 
 -- from the place of an item
 module _ {K : Type 0} (o : Order K) (added : Record) (t : ColouredTree) {from path : List Above}

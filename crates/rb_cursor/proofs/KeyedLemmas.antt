@@ -1,15 +1,13 @@
 -- Trees, paths and chains at keys: what a write of other nodes leaves as it is, and what is read
 -- back.
 use Rattle.rb_cursor.proofs.Words.{◌≡◌, ◌≢◌, ℕ, zero, suc, ◌<◌, ◌≤◌, Bool, List, [], ◌∷◌, length}
-use Rattle.rb_cursor.proofs.Words.{Option, Some, None, is_some, get_or, set, cond, refl, ap, ◌∙◌}
-use Rattle.rb_cursor.proofs.Words.{arith, get_or-set_other, Slab, get, ContainsKey, slab_len}
-use Rattle.rb_cursor.proofs.Words.{with_value, ContainsKey-within, Record, ColouredTree, branch}
+use Rattle.rb_cursor.proofs.Words.{Some, None, set, refl, ap, ◌∙◌, arith, get_or-set_other, Slab}
+use Rattle.rb_cursor.proofs.Words.{get, slab_len, with_value, ContainsKey-within, Record, branch}
 use Rattle.rb_cursor.proofs.Words.{Node, Step, Side, Left, Right, Above, Keyed, nil, keyed, Level}
 use Rattle.rb_cursor.proofs.Words.{link_of, plain, plain_level, plain_path, size, path_size, at_key}
 use Rattle.rb_cursor.proofs.Words.{uses, path_uses, list_uses, sided_node, IsLinked, IsPath}
 use Rattle.rb_cursor.proofs.Words.{IsChain, tree_below, tree_from, no_step, AreSteps, above_with}
-use Rattle.rb_cursor.proofs.Words.{node_or, above_at, path_from}
-use Rattle.std.proofs.lemmas.Bool.Decides.{nat_tests}
+use Rattle.rb_cursor.proofs.Words.{node_or, above_at, path_from, nat_tests}
 use Rattle.std.proofs.lemmas.List.Sums.{sum_by-set}
 
 pub at_same : (k : ℕ) → at_key k k ≡ 1
@@ -56,42 +54,30 @@ linked_beside s u k t same none h =
 
 pub path_beside : (s u : Slab Node) (k link : ℕ) (p : List Level) →
     ((i : ℕ) → i ≢ k → get u i ≡ get s i) → path_uses k p ≡ 0 → IsPath s link p → IsPath u link p
-path_beside s u k link p same none h =
-    path_kept s u link p (λ i used. same i (λ e. let z = ap (λ (j : ℕ). path_uses j p) e in
-    omega arith)) h
+path_beside s u k link p same none h = grind (arith, nat_tests, path_kept)
 
 pub chain_beside : (s u : Slab Node) (k : ℕ) (ks : List ℕ) → ((i : ℕ) → i ≢ k → get u i ≡ get s i) →
     list_uses k ks ≡ 0 → IsChain s ks → IsChain u ks
-chain_beside s u k ks same none h =
-    chain_kept s u ks (λ i used. same i (λ e. let z = ap (λ (j : ℕ). list_uses j ks) e in
-    omega arith)) h
+chain_beside s u k ks same none h = grind (arith, nat_tests, chain_kept)
 
 -- a vacant key is not in use
 pub linked_vacant : (s : Slab Node) (k : ℕ) (t : Keyed) → get s k ≡ None → IsLinked s t →
     uses k t ≡ 0
 linked_vacant s k nil empty h = refl
 linked_vacant s k (keyed red l j x r) empty h =
-    let other : k ≢ j = λ same. (let here = h.0 in let there = ap (get s) same in cc) in
-    omega (arith, at_apart k j other, linked_vacant s k l empty h.1, linked_vacant s k r empty h.2)
+    grind (arith, nat_tests, linked_vacant s k l empty h.1, linked_vacant s k r empty h.2, at_apart)
 
 pub path_vacant : (s : Slab Node) (k link : ℕ) (p : List Level) → get s k ≡ None → IsPath s link p →
     path_uses k p ≡ 0
 path_vacant s k link [] empty h = refl
 path_vacant s k link (a ∷ p) empty h =
-    let other : k ≢ a.key = λ same. (let here = h.0 in let there = ap (get s) same in cc) in
-    omega (
-      arith,
-      at_apart k a.key other,
-      linked_vacant s k a.other empty h.1,
-      path_vacant s k (suc a.key) p empty h.2,
-    )
+    grind (arith, nat_tests, path_vacant s k (suc a.key) p empty h.2, at_apart, linked_vacant)
 
 pub chain_vacant : (s : Slab Node) (k : ℕ) (ks : List ℕ) → get s k ≡ None → IsChain s ks →
     list_uses k ks ≡ 0
 chain_vacant s k [] empty h = refl
 chain_vacant s k (j ∷ ks) empty h =
-    let other : k ≢ j = λ same. (let here = h.0.1 in let there = ap (get s) same in cc) in
-    omega (arith, at_apart k j other, chain_vacant s k ks empty h.1)
+    grind (arith, nat_tests, chain_vacant s k ks empty h.1, at_apart)
 
 -- to a depth that suffices the tree is found
 pub tree_is : (s : Slab Node) (t : Keyed) (fuel : ℕ) → IsLinked s t → size t ≤ fuel →
@@ -113,14 +99,8 @@ above_by : (s : Slab Node) (side : Side) (red : Bool) (key : ℕ) (row : Record)
       row = row;
       other = plain other;
     }
-above_by s Left red key row other link fuel h o e =
-    ap (λ (n : Option Node). above_with s fuel Left (node_or n)) h
-    ∙ ap (λ (t : ColouredTree). record { side = Left; red = red; row = row; other = t })
-    (tree_is s other fuel o e)
-above_by s Right red key row other link fuel h o e =
-    ap (λ (n : Option Node). above_with s fuel Right (node_or n)) h
-    ∙ ap (λ (t : ColouredTree). record { side = Right; red = red; row = row; other = t })
-    (tree_is s other fuel o e)
+above_by s Left red key row other link fuel h o e = grind (arith, nat_tests, tree_is)
+above_by s Right red key row other link fuel h o e = grind (arith, nat_tests, tree_is)
 
 -- and the path
 pub path_is : (s : Slab Node) (steps : List Step) (depth link : ℕ) (p : List Level) (fuel : ℕ) →
@@ -159,12 +139,4 @@ plain_length (a ∷ p) = ap suc (plain_length p)
 -- one record is written in the place of another
 pub same_len : (s : Slab Node) (k : ℕ) (old new : Node) → get s k ≡ Some old →
     slab_len (with_value s k new) ≡ slab_len s
-same_len s k old new found =
-    let present : ContainsKey s k = rw found refl in
-    let within = ContainsKey-within s k present in
-    let one : ℕ = 1 in
-    let counted =
-    sum_by-set (λ (o : Option Node). cond (is_some o) 1 0) s.slots k (Some new) None within in
-    let was : cond (is_some (get_or s.slots k None)) 1 0 ≡ one =
-    ap (λ (o : Option Node). cond (is_some o) one 0) found in
-    omega (arith, counted, was)
+same_len s k old new found = grind (arith, nat_tests, ContainsKey-within, sum_by-set)

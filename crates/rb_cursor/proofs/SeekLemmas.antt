@@ -5,7 +5,7 @@ use Rattle.rb_cursor.proofs.Words.{Record, Ordering, Less, Equal, Greater, Colou
 use Rattle.rb_cursor.proofs.Words.{branch, shape, depth, Node, Step, Side, Left, Right, Inside}
 use Rattle.rb_cursor.proofs.Words.{Above, past_left, past_right, way_by, apart_lies, plugged_to}
 use Rattle.rb_cursor.proofs.Words.{place_at, way_at, sided, Zipper, weight, record_of, child_at}
-use Rattle.rb_cursor.proofs.Words.{side_by, is_fork, meets_on_the_way, Order}
+use Rattle.rb_cursor.proofs.Words.{side_by, is_fork, meets_on_the_way, Order, nat_tests}
 use Rattle.std.specs.Ordering.{is_eq, is_lt}
 use Rattle.order_laws.specs.declared.items.Item.{Item}
 use Rattle.rb_cursor.proofs.ChangeLemmas.{rewrites}
@@ -136,13 +136,11 @@ module _ {K : Type 0} (o : Order K) (x : Item) where
   pub apart_by : (t : ColouredTree) (p : List Above) → Apart t p
   apart_by tip p = (refl, λ e. refl)
   apart_by (branch red l y r) p =
-      elim (o.apart y.item x) as (λ v. o.apart y.item x ≡ v → Apart (branch red l y r) p) [
-        | true ↦ λ a.
-            elim (o.less x y.item) as (λ v. o.less x y.item ≡ v → Apart (branch red l y r) p) [
-              | true ↦ λ e. rw a (rw e (apart_by l (past_left red y r ∷ p)))
-              | false ↦ λ e. rw a (rw e (apart_by r (past_right red l y ∷ p)))
-            ] refl
-        | false ↦ λ a. rw a (refl, λ e. absurd (cc))
-      ] refl
+      grind (
+        arith,
+        nat_tests,
+        apart_by l (past_left red y r ∷ p),
+        apart_by r (past_right red l y ∷ p),
+      )
 
 pub ruleset apart_ways = (apart_by, plugged_to)

@@ -16,23 +16,22 @@ pub record Seen (side : Side) (key : ℕ) (t : Keyed) : Type 0 where
   pub far : Keyed
   pub is : t ≡ joined_keyed side red near key row far
 
+seen_as : (side : Side) (red : Bool) (near : Keyed) (k key : ℕ) (row : Record) (far : Keyed)
+    → suc k ≡ suc key → Seen side key (joined_keyed side red near k row far)
+seen_as side red near k key row far e = record {
+  red = red;
+  near = near;
+  row = row;
+  far = far;
+  is = let same : k ≡ key = omega arith in
+      ap (λ (j : ℕ). joined_keyed side red near j row far) same;
+}
+
 -- a tree that a link leads to is such a node
 pub seen : (side : Side) (key : ℕ) (t : Keyed) → link_of t ≡ suc key → Seen side key t
 seen side key nil e = absurd (omega arith)
-seen Left key (keyed red l k x r) e = record {
-  red = red;
-  near = l;
-  row = x;
-  far = r;
-  is = let same : k ≡ key = omega arith in ap (λ (j : ℕ). keyed red l j x r) same;
-}
-seen Right key (keyed red l k x r) e = record {
-  red = red;
-  near = r;
-  row = x;
-  far = l;
-  is = let same : k ≡ key = omega arith in ap (λ (j : ℕ). keyed red l j x r) same;
-}
+seen Left key (keyed red l k x r) e = seen_as Left red l k key x r e
+seen Right key (keyed red l k x r) e = seen_as Right red r k key x l e
 
 pub nothing : (t : Keyed) → link_of t ≡ 0 → t ≡ nil
 nothing nil e = refl

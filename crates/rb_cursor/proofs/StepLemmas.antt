@@ -1,8 +1,8 @@
 -- Steps up, as the calls of a cursor show them.
-use Rattle.rb_cursor.proofs.Words.{◌≡◌, ℕ, suc, true, false, cond, List, [], ◌∷◌, ◌++◌, refl, sym}
-use Rattle.rb_cursor.proofs.Words.{◌∙◌, ap, length, length-append, arith, nat_lt, le-ltb, lt-ltb}
-use Rattle.rb_cursor.proofs.Words.{ColouredTree, Above, joined, plugged, Nearest, Zipper, IsNearest}
-use Rattle.rb_cursor.proofs.Words.{closed_to, all_closed, risen_from, risen}
+use Rattle.rb_cursor.proofs.Words.{◌≡◌, ℕ, suc, List, [], ◌∷◌, ◌++◌, refl, ◌∙◌, ap, length}
+use Rattle.rb_cursor.proofs.Words.{length-append, arith, le-ltb, lt-ltb, ColouredTree, Above}
+use Rattle.rb_cursor.proofs.Words.{joined, plugged, Nearest, Zipper, IsNearest, closed_to}
+use Rattle.rb_cursor.proofs.Words.{all_closed, risen_from, risen, nat_tests}
 
 -- the nearest node above, as the path has it
 abbrev pub above_of : {path : List Above} (up : Nearest) → IsNearest path up → Above
@@ -19,25 +19,15 @@ shorter here up near = ap length near.was
 pub closed_past : (part base : List Above) (t : ColouredTree) (room : ℕ)
     → closed_to (length base) t (part ++ base) room ≡ zipper (plugged part t) base room
 closed_past [] [] t room = refl
-closed_past [] (b ∷ base) t room =
-    ap (λ v. cond v (zipper t (b ∷ base) room)
-    (closed_to (suc (length base)) (joined b b.red t) base room))
-    (lt-ltb (length base) (suc (length base)) (omega arith))
+closed_past [] (b ∷ base) t room = grind (arith, nat_tests, lt-ltb)
 closed_past (a ∷ part) base t room =
-    ap (λ v. cond v (zipper t (a ∷ (part ++ base)) room)
-    (closed_to (length base) (joined a a.red t) (part ++ base) room))
-    (le-ltb (length (part ++ base)) (length base) (omega (arith, length-append part base)))
-    ∙ closed_past part base (joined a a.red t) room
+    grind (arith, nat_tests, closed_past part base (joined a a.red t) room, le-ltb, length-append)
 
 pub closed_room : (d : ℕ) (t : ColouredTree) (path : List Above) (room : ℕ)
     → (closed_to d t path room).room ≡ room
 closed_room d t [] room = refl
 closed_room d t (a ∷ path) room =
-    elim (nat_lt (length path) d) as (λ v. (cond v (zipper t (a ∷ path) room)
-    (closed_to d (joined a a.red t) path room)).room ≡ room) [
-      | true ↦ refl
-      | false ↦ closed_room d (joined a a.red t) path room
-    ]
+    grind (arith, nat_tests, closed_room d (joined a a.red t) path room)
 
 -- the jump of one step
 pub risen_by : (d : ℕ) (t : ColouredTree) (path : List Above) (room : ℕ) → suc d ≡ length path
@@ -56,8 +46,4 @@ risen_there here up near = ap (λ p. risen_from here.tree p here.room) near.was
 pub all_back : (start here new : Zipper) → start.path ≡ [] →
     plugged here.path here.tree ≡ plugged start.path start.tree → here.room ≡ start.room →
     new ≡ all_closed here → new ≡ start
-all_back start here new root whole room closes =
-    closes
-    ∙ ap (λ t. zipper t [] here.room) (whole ∙ ap (λ p. plugged p start.tree) root)
-    ∙ ap (zipper start.tree []) room
-    ∙ ap (λ p. record start { path = p }) (sym root)
+all_back start here new root whole room closes = grind (arith, nat_tests)

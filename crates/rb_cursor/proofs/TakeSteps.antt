@@ -1,16 +1,15 @@
 -- How a node is taken out, as the calls of a cursor show it.
-use Rattle.rb_cursor.proofs.Words.{not, Ordering, Less, Equal, Greater, ◌≡◌, ℕ, suc, ◌+◌, ◌≤◌, ◌<◌}
-use Rattle.rb_cursor.proofs.Words.{Bool, true, false, List, [], ◌∷◌, ◌++◌, refl, sym, ◌∙◌, ap}
-use Rattle.rb_cursor.proofs.Words.{subst, arith, length, length-append, append-nil, Some, None}
-use Rattle.rb_cursor.proofs.Words.{Store, Record, Left, Right, ColouredTree, tip, branch, is_red}
-use Rattle.rb_cursor.proofs.Words.{shape, rows, depth, IsRedBlack, set_link, link, relink_root}
-use Rattle.rb_cursor.proofs.Words.{moved, lowered, filled, fill_links, record_found_at, found, Lead}
-use Rattle.rb_cursor.proofs.Words.{Above, plugged, first_place, first_way, place_from, place_at}
-use Rattle.rb_cursor.proofs.Words.{way_at, Lost, Nothing, short_first, short_to, plugged_to}
-use Rattle.rb_cursor.proofs.Words.{filling, around, replaced_lead, lost_good, Zipper, closed_zipper}
-use Rattle.rb_cursor.proofs.Words.{record_of, IsForked, OpensSide, is_fork, row_of, with_row}
-use Rattle.rb_cursor.proofs.Words.{HasOneSubtree, only_subtree, most_on_climb, Climbs, TakesFirst}
-use Rattle.rb_cursor.proofs.Words.{TakesTop}
+use Rattle.rb_cursor.proofs.Words.{not, Ordering, ◌≡◌, ℕ, ◌+◌, ◌≤◌, ◌<◌, Bool, true, false, List}
+use Rattle.rb_cursor.proofs.Words.{[], ◌∷◌, ◌++◌, refl, sym, ◌∙◌, ap, subst, arith, length}
+use Rattle.rb_cursor.proofs.Words.{length-append, append-nil, Some, None, Store, Record, Left}
+use Rattle.rb_cursor.proofs.Words.{Right, ColouredTree, tip, branch, is_red, shape, rows, depth}
+use Rattle.rb_cursor.proofs.Words.{IsRedBlack, set_link, link, relink_root, moved, lowered, filled}
+use Rattle.rb_cursor.proofs.Words.{fill_links, found, Lead, Above, plugged, first_place, first_way}
+use Rattle.rb_cursor.proofs.Words.{place_at, way_at, Lost, Nothing, short_first, short_to}
+use Rattle.rb_cursor.proofs.Words.{plugged_to, filling, around, replaced_lead, lost_good, Zipper}
+use Rattle.rb_cursor.proofs.Words.{closed_zipper, record_of, IsForked, OpensSide, is_fork, row_of}
+use Rattle.rb_cursor.proofs.Words.{with_row, HasOneSubtree, only_subtree, most_on_climb, Climbs}
+use Rattle.rb_cursor.proofs.Words.{TakesFirst, TakesTop, nat_tests}
 use Rattle.rb_trees.proofs.TopLemmas.{first_way_on, first_lost, first_rows, lone_lost, next_kept}
 use Rattle.rb_trees.proofs.TopLemmas.{next_filled}
 use Rattle.rb_cursor.specs.declared.nodes.Top.{Top}
@@ -19,10 +18,7 @@ use Rattle.rb_cursor.proofs.StepLemmas.{zipper}
 
 pub row_link : (t : ColouredTree) (x : Record) → row_of t ≡ Some x → x.node + 1 ≡ link (shape t)
 row_link tip x e = absurd (cc)
-row_link (branch red l y r) x e =
-    let same : y ≡ x = cc in
-    let next : x.node + 1 ≡ suc x.node = omega arith in
-    next ∙ ap (λ z. suc z.node) (sym same)
+row_link (branch red l y r) x e = grind (arith, nat_tests)
 
 -- the first node has no left subtree
 pub record HasFirstNode (t : ColouredTree) : Type 0 where
@@ -63,16 +59,10 @@ module _ (t : ColouredTree) (fork : is_fork t ≡ true) where
       (takes : taken ≡ only_subtree place) (lefts : left.tree ≡ (lowered red taken).tree)
       (shorts : short ≡ (lowered red taken).short) where
     first_is : row ≡ (first_node t fork).row
-    first_is = let e : row_of (branch (first_node t fork).red tip (first_node t fork).row
-        (first_node t fork).right) ≡ Some row =
-        ap row_of (sym (first_node t fork).is) ∙ ap row_of (sym there) ∙ rows_is in
-        cc
+    first_is = grind (arith, nat_tests, first_node, row)
 
     lowered_is : lowered red taken ≡ lowered (first_node t fork).red (first_node t fork).right
-    lowered_is =
-        let at = there ∙ (first_node t fork).is in
-        ap (λ v. lowered v taken) (reds ∙ ap is_red at)
-        ∙ ap (lowered (first_node t fork).red) (takes ∙ ap only_subtree at)
+    lowered_is = grind (arith, nat_tests, first_node)
 
     pub first_taken : {new : Zipper} {after : Bool} {links : List Store}
         → Climbs copy d (row.node + 1) short left new after links
@@ -112,10 +102,7 @@ module _ (t : ColouredTree) (fork : is_fork t ≡ true) where
 pub same_fork : {old opened : Zipper} {top : Top} {f : Fork} → IsForked old.tree f
     → (is : OpensSide Right old opened top)
     → (f.node.now.red ≡ top.red) × (f.left ≡ is.other) × (f.right ≡ opened.tree)
-same_fork {opened = opened} {top = top} {f = f} g is =
-    let e : branch f.node.now.red f.left (record_of f.node.now) f.right
-    ≡ branch top.red is.other is.row opened.tree = sym g.was ∙ is.was in
-    (cc, cc, cc)
+same_fork {opened = opened} {top = top} {f = f} g is = grind (arith, nat_tests)
 
 tip_there : (t : ColouredTree) → true ≡ not (is_fork t) → t ≡ tip
 tip_there tip e = refl
@@ -167,11 +154,7 @@ module _ (copy : ℕ) {old opened : Zipper} {top : Top} (is : OpensSide Right ol
       → path ≡ opened.path → {up : Zipper} → up ≡ closed_zipper red taken path room
       → {z : Zipper} → z ≡ record up { tree = with_row next up.tree }
       → z ≡ zipper (branch top.red is.other next taken) old.path room
-  next_placed {room = room} {red = red} reds goes closes places =
-      places
-      ∙ ap (λ y. zipper (with_row next y.tree) y.path y.room)
-      (closes ∙ ap (λ p. closed_zipper red taken p room) (goes ∙ is.path)
-      ∙ ap (λ v. zipper (branch v is.other is.row taken) old.path room) reds)
+  next_placed {room = room} {red = red} reds goes closes places = grind (arith, nat_tests, zipper)
 
   longer : length (links ++ two) ≡ length links + 2
   longer = length-append links two
@@ -223,13 +206,7 @@ pub found_there : (seen : Record → Ordering) (t : ColouredTree)
     → found seen t ≡ row_of (place_at seen t)
 found_there seen tip = refl
 found_there seen (branch red l y r) =
-    elim (seen y) as (λ v.
-    record_found_at v y (found seen l) (found seen r)
-    ≡ row_of (place_from v (place_at seen l) (branch red l y r) (place_at seen r))) [
-      | Less ↦ found_there seen l
-      | Equal ↦ refl
-      | Greater ↦ found_there seen r
-    ]
+    grind (arith, nat_tests, found_there seen l, found_there seen r)
 
 -- what an erase makes of the whole tree
 pub record ErasedWhole (copy : ℕ) (t : ColouredTree) (row : Record) (new : Zipper)

@@ -16,6 +16,7 @@ use Rattle.rb_cursor.proofs.SideLemmas.{link-joined, uses-joined, size-joined, c
 use Rattle.rb_cursor.proofs.SideLemmas.{relinked, coloured-sided, plain-turned, plain-lone}
 use Rattle.rb_cursor.proofs.SideLemmas.{tip-turned}
 use Rattle.rb_cursor.proofs.FieldLemmas.{IsInside, show, FieldsHold, Moved, shut, held_on}
+use Rattle.rb_cursor.proofs.FieldLemmas.{other_hand}
 
 -- all but the link that leads to the tree in hand, which leads elsewhere
 pub record IsLoose (s : Slab Node) (hand : Keyed) (link : ℕ) (path : List Level) (blanks : List ℕ) :
@@ -231,13 +232,9 @@ turn_at i side u now hue red a b other x y path blanks nk ck link child_red node
     ∙ ap (λ (m : Node). with_last_link (with_value v nk m) i.steps i.depth link) high_new in
     let leads_to : link ≡ link_of hand = t.some ∙ sym (link-joined side child_red sunk ck x a) in
     shut (with_turn i u link) (turned_to now side child_red node_red) hand path blanks (record {
-      place = tightened z u i.steps i.depth (suc nk) link hand path blanks nodes leads_to loose
-          h.path_steps;
-      tree_link = leads_to;
-      path_steps = h.path_steps;
-      blank_link = h.blank_link;
-      room_is = h.room_is;
-      few = h.few;
+      fields = other_hand h.fields
+          (tightened z u i.steps i.depth (suc nk) link hand path blanks nodes leads_to loose
+          h.path_steps) leads_to;
       shows = ap (λ (q : Zipper). turned_to q side child_red node_red) h.shows
           ∙ ap (λ (q : ColouredTree). record { tree = q; path = plain_path path; room = i.room })
           (plain-turned side hue red child_red node_red a b other ck nk x y);

@@ -20,8 +20,8 @@ pub use Rattle.rb_cursor.specs.Keyed.{size, at_key, uses, path_uses, list_uses, 
 pub use Rattle.rb_cursor.specs.Keyed.{IsLinked, IsChain, plain_level, sided_node, record_of, IsPath}
 pub use Rattle.rb_cursor.specs.Keyed.{tree_from, path_size, tree_below}
 pub use Rattle.rb_cursor.specs.Opening.{weight, IsNearest, OpensSide}
-pub use Rattle.rb_cursor.specs.Places.{IsPlace, AreSteps, IsCursor, path_from, above_with, node_or}
-pub use Rattle.rb_cursor.specs.Places.{above_at}
+pub use Rattle.rb_cursor.specs.Places.{IsPlace, AreFields, AreSteps, IsCursor, path_from}
+pub use Rattle.rb_cursor.specs.Places.{above_with, node_or, above_at}
 pub use Rattle.rb_cursor.specs.Readings.{IsForked}
 pub use Rattle.rb_cursor.specs.Sides.{child_at, side_by, with_link}
 pub use Rattle.rb_cursor.specs.Tops.{HasOneSubtree, only_subtree, is_fork, row_of, with_row}
@@ -62,3 +62,5 @@ pub use Rattle.slab.proofs.SlabLemmas.{Updates-with_value, ContainsKey-within}
 pub use Rattle.slab.specs.Slab.{Slab, get, slab_len, with_value, Updates, ContainsKey}
 pub use Rattle.word_layout.specs.Copies.{copy_number}
 pub use Rattle.word_layout.specs.declared.stores.Store.{Store}
+pub use Rattle.std.proofs.lemmas.Bool.Decides.{nat_tests}
+pub use Rattle.std.proofs.lemmas.Grind.{common_steps}

@@ -31,18 +31,24 @@ AreSteps steps depth (a ∷ path) =
     × (step_at steps (length path) ≡ record { link = suc a.key; side = a.side })
     × AreSteps steps (length path) path
 
--- the fields of a cursor
-pub record IsCursor (s : Slab Node) (tree : ℕ) (steps : List Step) (depth blank room : ℕ) :
-    Type 0 where
-  pub hand : Keyed
-  pub path : List Level
-  pub blanks : List ℕ
+-- the fields of a cursor, with the trees at their keys
+pub record AreFields (s : Slab Node) (tree : ℕ) (steps : List Step) (depth blank room : ℕ)
+    (hand : Keyed) (path : List Level) (blanks : List ℕ) : Type 0 where
   pub place : IsPlace s hand path blanks
   pub tree_link : tree ≡ link_of hand
   pub path_steps : AreSteps steps depth path
   pub blank_link : blank ≡ link_to blanks
   pub room_is : room ≡ length blanks
   pub few : depth ≤ 64
+
+-- the fields of a cursor
+pub record IsCursor (s : Slab Node) (tree : ℕ) (steps : List Step) (depth blank room : ℕ) :
+    Type 0 where
+  pub hand : Keyed
+  pub path : List Level
+  pub blanks : List ℕ
+  pub fields : AreFields s tree steps depth blank room hand path blanks
+  pub open fields use *
 
 -- the node above that a step names
 abbrev pub above_with : Slab Node → ℕ → Side → Node → Above

@@ -6,6 +6,7 @@ use Rattle.rb_trees.proofs.Words.{depth, Bool}
 use Rattle.std.proofs.lemmas.Nat.{pow-add}
 use Rattle.std.proofs.Math.Nat.{pow-suc, pow-le-pow_right, mul-le-mul}
 use Rattle.word_layout.proofs.HoldsLemmas.{size, size_listed}
+use Rattle.std.proofs.lemmas.Bool.Decides.{nat_tests}
 
 -- at most two nodes for each black one, and one more under a red top
 abbrev extra : Bool → ℕ
@@ -20,20 +21,10 @@ depth_by_height : (t : ColouredTree) (h : ℕ) → HasNoClash t → HasBlackHeig
     → depth (shape t) ≤ 2 * h + extra (is_red t)
 depth_by_height tip h c e = omega arith
 depth_by_height (branch true l x r) h c e =
-    let il : depth (shape l) ≤ 2 * h + 0 =
-    subst (λ b. depth (shape l) ≤ 2 * h + extra b) c.0 (depth_by_height l h c.2 e.0) in
-    let jr : depth (shape r) ≤ 2 * h + 0 =
-    subst (λ b. depth (shape r) ≤ 2 * h + extra b) c.1 (depth_by_height r h c.3 e.1) in
-    omega (arith, il, jr)
+    grind (arith, nat_tests, depth_by_height l h c.2 e.0, depth_by_height r h c.3 e.1)
 depth_by_height (branch false l x r) zero c e = absurd e
 depth_by_height (branch false l x r) (suc h) c e =
-    omega (
-      arith,
-      depth_by_height l h c.0 e.0,
-      depth_by_height r h c.1 e.1,
-      extra_one (is_red l),
-      extra_one (is_red r),
-    )
+    grind (arith, nat_tests, depth_by_height l h c.0 e.0, depth_by_height r h c.1 e.1, extra_one)
 
 -- as many nodes at least as a full tree of the black ones has
 size_by_height : (t : ColouredTree) (h : ℕ) → HasBlackHeight t h → 2 ^ h ≤ suc (size (shape t))

@@ -1,5 +1,5 @@
 -- A filled node: its records, its colours and black height, where its stores lead, and how many.
-use Rattle.rb_trees.proofs.Words.{◌≡◌, ℕ, zero, suc, ◌<◌, ◌≤◌, true, false, cond, List, [], ◌∷◌}
+use Rattle.rb_trees.proofs.Words.{◌≡◌, ℕ, zero, suc, ◌<◌, ◌≤◌, true, false, cond, List, []}
 use Rattle.rb_trees.proofs.Words.{◌++◌, length, length-append, refl, sym, ◌∙◌, ap, subst, inl, inr}
 use Rattle.rb_trees.proofs.Words.{arith, append_assoc, not, Store, fork, Record, Side, Left, Right}
 use Rattle.rb_trees.proofs.Words.{ColouredTree, tip, branch, is_red, blackened, shape, rows}
@@ -14,6 +14,7 @@ use Rattle.rb_trees.proofs.ColourLemmas.{over, near_of_calm, black_blackened, so
 use Rattle.rb_trees.proofs.ColourLemmas.{sound_black, sound_red, sound_over}
 use Rattle.rb_trees.proofs.RelinkLemmas.{same, then, in_sided, in_far, turn_relinks}
 use Rattle.rb_trees.proofs.RelinkLemmas.{shape_blackened}
+use Rattle.std.proofs.lemmas.Bool.Decides.{nat_tests}
 
 -- what is filled of a node with these trees
 pub filled_sided : (s : Side) (red : Bool) (near : ColouredTree) (y : Record) (far : ColouredTree)
@@ -44,11 +45,7 @@ module _ (s : Side) (red : Bool) (near : ColouredTree) (y : Record) (k : Bool)
 
   -- the records stay
   turned_rows : rows inner_filled.tree ≡ rows (sided s red near y (sided s k inner x outer))
-  turned_rows =
-      let far = sided s k inner x outer in
-      rows_turned s red false (sided s red near y (turned (opposite s) false false far))
-      ∙ rows_sided s red red near near y (turned (opposite s) false false far) far refl
-      (rows_turned (opposite s) false false far)
+  turned_rows = grind (arith, nat_tests, rows_turned, rows_sided)
 
   outer_rows : rows outer_filled.tree ≡ rows (sided s red near y (sided s k inner x outer))
   outer_rows =
@@ -58,19 +55,7 @@ module _ (s : Side) (red : Bool) (near : ColouredTree) (y : Record) (k : Bool)
       ∙ rows_turned s red false (sided s red near y (sided s k inner x outer))
 
   pub by_rows : rows filled_by.tree ≡ rows (sided s red near y (sided s k inner x outer))
-  by_rows =
-      let far = sided s k inner x outer in
-      elim (is_red outer) as (λ v. rows (cond v outer_filled
-      (cond (is_red inner) inner_filled none_filled)).tree ≡ rows (sided s red near y far)) [
-        | true ↦ outer_rows
-        | false ↦
-            elim (is_red inner) as (λ v.
-            rows (cond v inner_filled none_filled).tree ≡ rows (sided s red near y far)) [
-              | true ↦ turned_rows
-              | false ↦ rows_sided s false red near near y (sided s true inner x outer) far refl
-                  (rows_sided s true k inner inner x outer outer refl refl)
-            ]
-      ]
+  by_rows = grind (arith, nat_tests, outer_rows, turned_rows, rows_sided)
 
 pub rows_filled_black : (s : Side) (red : Bool) (near : ColouredTree) (y : Record)
     (far : ColouredTree)
@@ -84,11 +69,9 @@ pub rows_filled : (s : Side) (red : Bool) (near : ColouredTree) (y : Record) (fa
 rows_filled s red near y tip = refl
 rows_filled s red near y (branch false a x b) = rows_filled_black s red near y (branch false a x b)
 rows_filled Left red near y (branch true a x b) =
-    ap (λ zs. zs ++ x ∷ rows b) (rows_filled_black Left true near y a)
-    ∙ append_assoc (rows near) (y ∷ rows a) (x ∷ rows b)
+    grind (arith, nat_tests, rows_filled_black, append_assoc)
 rows_filled Right red near y (branch true a x b) =
-    ap (λ zs. rows a ++ x ∷ zs) (rows_filled_black Right true near y b)
-    ∙ sym (append_assoc (rows a) (x ∷ rows b) (y ∷ rows near))
+    grind (arith, nat_tests, rows_filled_black, append_assoc)
 
 pub rows_lowered : (red : Bool) (t : ColouredTree) → rows (lowered red t).tree ≡ rows t
 rows_lowered true t = refl
@@ -134,14 +117,7 @@ middle_fits : (s : Side) (red : Bool) (near : ColouredTree) (y : Record) (a : Co
     → Fits red (over red (suc h)) (turned s red false (sided s red near y
     (turned (opposite s) false false (sided s false (sided s true a z b) x outer)))) false
 middle_fits s red near y a z b x outer h n sa sb o =
-    subst (λ t. Fits red (over red (suc h)) t false)
-    (sym (ap (λ t. turned s red false (sided s red near y t)) (turned_back s false false true false
-    a z b x outer) ∙ turned_sided s red false false red near y a z (sided s false b x outer))) (
-      sound_over s red (sided s false near y a) z (sided s false b x outer) (suc h)
-          (λ e. red_sided s false near y a) (λ e. red_sided s false b x outer)
-          (sound_black s near y a h n sa) (sound_black s b x outer h sb o),
-      λ e. red_sided s red (sided s false near y a) z (sided s false b x outer) ∙ e,
-    )
+    grind (arith, nat_tests, over, turned_back, turned_sided, sound_over, red_sided, sound_black)
 
 inner_fits : (s : Side) (red : Bool) (near : ColouredTree) (y : Record) (inner : ColouredTree)
     (x : Record) (outer : ColouredTree) (h : ℕ)
@@ -151,11 +127,9 @@ inner_fits : (s : Side) (red : Bool) (near : ColouredTree) (y : Record) (inner :
 inner_fits s red near y tip x outer h n ri i o = absurd (cc)
 inner_fits s red near y (branch false a z b) x outer h n ri i o = absurd (cc)
 inner_fits Left red near y (branch true a z b) x outer h n ri i o =
-    middle_fits Left red near y a z b x outer h n (record { calm = i.calm.2; high = i.high.0 })
-    (record { calm = i.calm.3; high = i.high.1 }) o
+    grind (arith, nat_tests, middle_fits)
 inner_fits Right red near y (branch true a z b) x outer h n ri i o =
-    middle_fits Right red near y b z a x outer h n (record { calm = i.calm.3; high = i.high.1 })
-    (record { calm = i.calm.2; high = i.high.0 }) o
+    grind (arith, nat_tests, middle_fits)
 
 by_fits : (s : Side) (red : Bool) (near : ColouredTree) (y : Record) (inner : ColouredTree)
     (x : Record) (outer : ColouredTree) (h : ℕ)
@@ -163,19 +137,7 @@ by_fits : (s : Side) (red : Bool) (near : ColouredTree) (y : Record) (inner : Co
     → Fits red (over red (suc h)) (filled_by s red near y false inner x outer).tree
     (filled_by s red near y false inner x outer).short
 by_fits s red near y inner x outer h n i o =
-    let one = outer_filled s red near y false inner x outer in
-    let two = inner_filled s red near y false inner x outer in
-    let three = none_filled s red near y false inner x outer in
-    elim (is_red outer) as (λ v. is_red outer ≡ v → Fits red (over red (suc h)) (cond v one
-    (cond (is_red inner) two three)).tree (cond v one (cond (is_red inner) two three)).short) [
-      | true ↦ λ ro. outer_fits s red near y inner x outer h n i o ro
-      | false ↦ λ ro.
-          elim (is_red inner) as (λ v. is_red inner ≡ v
-          → Fits red (over red (suc h)) (cond v two three).tree (cond v two three).short) [
-            | true ↦ λ ri. inner_fits s red near y inner x outer h n ri i o
-            | false ↦ λ ri. none_fits s red near y inner x outer h n i o red ri ro
-          ] refl
-    ] refl
+    grind (arith, nat_tests, over, outer_fits, inner_fits, none_fits)
 
 fill_black_fits : (s : Side) (red : Bool) (near : ColouredTree) (y : Record) (far : ColouredTree)
     (h : ℕ) → Sound near h → Sound far (suc h) → is_red far ≡ false
@@ -183,12 +145,8 @@ fill_black_fits : (s : Side) (red : Bool) (near : ColouredTree) (y : Record) (fa
     (filled_over_black s red near y far).short
 fill_black_fits s red near y tip h n f b = absurd (let z = f.high in omega arith)
 fill_black_fits s red near y (branch true l x r) h n f b = absurd (cc)
-fill_black_fits Left red near y (branch false a x b) h n f e =
-    by_fits Left red near y a x b h n (record { calm = f.calm.0; high = f.high.0 })
-    (record { calm = f.calm.1; high = f.high.1 })
-fill_black_fits Right red near y (branch false a x b) h n f e =
-    by_fits Right red near y b x a h n (record { calm = f.calm.1; high = f.high.1 })
-    (record { calm = f.calm.0; high = f.high.0 })
+fill_black_fits Left red near y (branch false a x b) h n f e = grind (arith, nat_tests, by_fits)
+fill_black_fits Right red near y (branch false a x b) h n f e = grind (arith, nat_tests, by_fits)
 
 -- a red node's place takes nothing short
 sound_of_red : (h : ℕ) (s : Remainder) → Fits true h s.tree s.short → Sound s.tree h
@@ -208,17 +166,9 @@ fill_fits s red near y (branch false l x r) h n f b =
     fill_black_fits s red near y (branch false l x r) h n f refl
 fill_fits s true near y (branch true l x r) h n f b = absurd (let e = b refl in cc)
 fill_fits Left false near y (branch true a x b) h n f e =
-    let s = filled_over_black Left true near y a in
-    let i = sound_of_red (suc h) s (fill_black_fits Left true near y a h n
-    (record { calm = f.calm.2; high = f.high.0 }) f.calm.0) in
-    (sound_black Left s.tree x b (suc h) i (record { calm = f.calm.3; high = f.high.1 }), λ z. refl)
+    grind (arith, nat_tests, sound_of_red, fill_black_fits, sound_black)
 fill_fits Right false near y (branch true a x b) h n f e =
-    let s = filled_over_black Right true near y b in
-    let i = sound_of_red (suc h) s (fill_black_fits Right true near y b h n
-    (record { calm = f.calm.3; high = f.high.1 }) f.calm.1) in (
-      sound_black Right s.tree x a (suc h) i (record { calm = f.calm.2; high = f.high.0 }),
-      λ z. refl,
-    )
+    grind (arith, nat_tests, sound_of_red, fill_black_fits, sound_black)
 
 -- how many stores there are: none where the whole stays short, and its link is as it was
 pub record Filling (y : Record) (most : ℕ) (s : Remainder) (links : List Store) : Type 0 where

@@ -16,6 +16,8 @@ use Rattle.rb_trees.proofs.FillLemmas.{filled_sided, fill_links_sided, rows_fill
 use Rattle.rb_trees.proofs.FillLemmas.{fill_relinks}
 use Rattle.rb_trees.proofs.TurnLemmas.{relink_same}
 use Rattle.rb_trees.proofs.ReplaceLemmas.{replaced_up, replaced_here}
+use Rattle.std.proofs.Common.{arith}
+use Rattle.std.proofs.lemmas.Bool.Decides.{nat_tests}
 
 -- a node above
 abbrev pub at_side : Side → Bool → Record → ColouredTree → Above
@@ -48,15 +50,8 @@ grown_leaf c x path = record {
 near_red : (s : Side) (was t : ColouredTree) (y : Record) (other : ColouredTree) (h : ℕ)
     → ((k : ℕ) → Sound was k → NearBy was t k) → Sound (sided s true was y other) h
     → NearBy (sided s true was y other) (sided s true t y other) h
-near_red Left was t y other h f is =
-    let g = f h (record { calm = is.calm.2; high = is.high.0 }) in
-    (((λ e. is.calm.1), g.2 is.calm.0, is.calm.3), (g.1, is.high.1), λ e. absurd (cc))
-near_red Right was t y other h f is =
-    let g = f h (record { calm = is.calm.3; high = is.high.1 }) in (
-      ((λ e. let b = is.calm.0 in absurd (cc)), is.calm.2, g.2 is.calm.1),
-      (is.high.0, g.1),
-      λ e. absurd (cc),
-    )
+near_red Left was t y other h f is = grind (arith, nat_tests)
+near_red Right was t y other h f is = grind (arith, nat_tests)
 
 module _ {c x : ℕ} {whole : ColouredTree} {rs : List Record} (s : Side) (y : Record)
     (other : ColouredTree) (path : List Above) {was t : ColouredTree} {ss : List Store} where
@@ -110,13 +105,7 @@ keeps_over : (s : Side) (red : Bool) (was t : ColouredTree) (y : Record) (other 
     → Sound (sided s red was y other) h
     → Sound (sided s red t y other) h
     × (is_red (sided s red was y other) ≡ false → is_red (sided s red t y other) ≡ false)
-keeps_over s red was t y other h f is =
-    let two = halves s red was y other h is in
-    let k = f two.height two.near in (
-      subst (Sound (sided s red t y other)) two.level (sound_over s red t y other two.height
-          (λ e. k.1 e (two.near_black e)) two.far_black k.0 two.far),
-      λ e. red_sided s red t y other ∙ sym (red_sided s red was y other) ∙ e,
-    )
+keeps_over s red was t y other h f is = grind (arith, nat_tests, halves, sound_over, red_sided)
 
 module _ {c : ℕ} {others gone : ℕ → Type 0} {whole : ColouredTree} {rs : List Record} where
   pub kept_up : (a : Above) (path : List Above) {was t : ColouredTree} {ss : List Store}
@@ -158,20 +147,12 @@ grown_kept a path {was = was} {t = t} g calm black = record {
 
 pub grown_good : {c x : ℕ} {whole : ColouredTree} {rs : List Record} {was t : ColouredTree}
     {ss : List Store} → Grown c x whole rs [] was t ss → IsRedBlack whole → IsRedBlack (blackened t)
-grown_good {t = t} g good =
-    let h = (good.even).0 in
-    let n = g.near h (subst (λ u. Sound u h) (sym g.replaced.old)
-    (record { calm = good.calm; high = (good.even).1 })) in
-    blackened_good t h n.0 n.1
+grown_good {t = t} g good = grind (arith, nat_tests, blackened_good)
 
 pub kept_good : {c : ℕ} {others gone : ℕ → Type 0} {whole : ColouredTree} {rs : List Record}
     {was t : ColouredTree} {ss : List Store} → Kept c others gone whole rs [] was t ss
     → IsRedBlack whole → IsRedBlack (blackened t)
-kept_good {t = t} k good =
-    let h = (good.even).0 in
-    let n = k.keeps h (subst (λ u. Sound u h) (sym k.replaced.old)
-    (record { calm = good.calm; high = (good.even).1 })) in
-    blackened_good t h (near_of_calm t (n.0).calm) (n.0).high
+kept_good {t = t} k good = grind (arith, nat_tests, blackened_good, near_of_calm)
 
 -- in an erase, a short tree is filled at each node above it
 pub fill_at : (s : Side) (red colour : Bool) (t : ColouredTree) (y : Record) (other : ColouredTree)

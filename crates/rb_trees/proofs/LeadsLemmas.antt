@@ -5,12 +5,13 @@ use Rattle.rb_trees.proofs.Words.{Contains, slice_set, AllByRecursion, eqb-true,
 use Rattle.rb_trees.proofs.Words.{Contains-append_left, Contains-append_right, all_append, all_left}
 use Rattle.rb_trees.proofs.Words.{all_right, Contains-rest, Store, Nodes, none, fork, at, root_word}
 use Rattle.rb_trees.proofs.Words.{left_word, right_word, item_at, items, listed, words_for, Leads}
-use Rattle.rb_trees.proofs.Words.{words_after_all, IsLinkWord, AreLinkStores, at_stored, at_other}
+use Rattle.rb_trees.proofs.Words.{words_after_all, AreLinkStores, at_stored, at_other}
 use Rattle.rb_trees.proofs.Words.{untouched, after_append, length_after, Record, ColouredTree, tip}
 use Rattle.rb_trees.proofs.Words.{branch, shape, rows, link, relink_root, Among, LeadLinks}
 use Rattle.rb_trees.proofs.Words.{items_of_records, IsLinkOf, root_no_link, owns_no_root}
 use Rattle.rb_trees.proofs.Words.{owns_links, owns_values, Relinks, length-map, Inner}
 use Rattle.rb_trees.proofs.RelinkLemmas.{link_fits}
+use Rattle.std.proofs.lemmas.Bool.Decides.{nat_tests}
 
 pub leads_link : (m : List ℕ) (n c w : ℕ) (t : Nodes) → Leads m n c w t → w ≡ link t
 leads_link m n c w none h = h
@@ -52,18 +53,10 @@ module _ (n c : ℕ) (small : c ≤ 1) (P : ℕ → Type 0) (below : (i : ℕ) �
   root_fits = link_fits n u (λ i a. below i (q.within i a))
 
   root_links : AreLinkStores n c (ss ++ relink_root c (link t) (link u))
-  root_links = all_append (λ (s : Store). IsLinkWord n c s.word) ss
-      (relink_root c (link t) (link u)) (owns_links n c P below ss q.owns)
-      (elim (link t == link u) as (λ b.
-      AreLinkStores n c (cond b [] (record { word = root_word c; value = link u }
-      ∷ []))) [ true ↦ tt | false ↦ (inl refl, tt) ])
+  root_links = grind (arith, nat_tests, all_append, owns_links)
 
   root_values : AllByRecursion (λ (s : Store). s.value ≤ n) (ss ++ relink_root c (link t) (link u))
-  root_values = all_append (λ (s : Store). s.value ≤ n) ss (relink_root c (link t) (link u))
-      (owns_values n c P ss q.owns)
-      (elim (link t == link u) as (λ b. AllByRecursion (λ (s : Store). s.value ≤ n)
-      (cond b [] (record { word = root_word c; value = link u }
-      ∷ []))) [ true ↦ tt | false ↦ (root_fits, tt) ])
+  root_values = grind (arith, nat_tests, all_append, owns_values, root_fits)
 
   root_leads : (m : List ℕ) → length m ≡ words_for n → Leads m n c (at m (root_word c)) t
       → Leads (words_after_all m (ss ++ relink_root c (link t) (link u))) n c
@@ -97,9 +90,7 @@ module _ (n c : ℕ) (small : c ≤ 1) (P : ℕ → Type 0) (below : (i : ℕ) �
 -- nodes as a list
 pub listed_rows : (t : ColouredTree) → listed (shape t) ≡ map (λ r. r.node) (rows t)
 listed_rows tip = refl
-listed_rows (branch red l y r) = ap (λ xs. xs ++ y.node ∷ listed (shape r)) (listed_rows l)
-    ∙ ap (λ xs. map (λ r. r.node) (rows l) ++ y.node ∷ xs) (listed_rows r)
-    ∙ sym (map-append (λ r. r.node) (rows l) (y ∷ rows r))
+listed_rows (branch red l y r) = grind (arith, nat_tests, listed_rows l, listed_rows r, map-append)
 
 pub as_many_rows : (t : ColouredTree)
     → length (listed (shape t)) ≡ length (items_of_records (rows t))
@@ -128,9 +119,7 @@ pub items_rows : (m : List ℕ) (t : ColouredTree)
     → items m (shape t) ≡ map (λ r. item_at m r.node) (rows t)
 items_rows m tip = refl
 items_rows m (branch red l y r) =
-    ap (λ xs. xs ++ item_at m y.node ∷ items m (shape r)) (items_rows m l)
-    ∙ ap (λ xs. map (λ r. item_at m r.node) (rows l) ++ item_at m y.node ∷ xs) (items_rows m r)
-    ∙ sym (map-append (λ r. item_at m r.node) (rows l) (y ∷ rows r))
+    grind (arith, nat_tests, items_rows m l, items_rows m r, map-append)
 
 abbrev pub Stored : List ℕ → List Record → Type 0
 Stored m rs = AllByRecursion (λ r. item_at m r.node ≡ r.item) rs

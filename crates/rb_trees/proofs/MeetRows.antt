@@ -1,12 +1,14 @@
 -- The search for an item that is not apart.
 use Rattle.rb_trees.proofs.Words.{◌≡◌, ℕ, true, false, cond, List, ◌∷◌, ◌++◌, refl, sym, ◌∙◌, ap}
-use Rattle.rb_trees.proofs.Words.{◌==◌, ◌||◌, ◌&&◌, not, list_any, or-false, Item, Order, Precedes}
+use Rattle.rb_trees.proofs.Words.{◌==◌, ◌||◌, not, list_any, or-false, Item, Order, Precedes}
 use Rattle.rb_trees.proofs.Words.{IsLawful, IsInLine, IsTable, meets, without_all, all_weaker}
 use Rattle.rb_trees.proofs.Words.{ColouredTree, tip, branch, rows, items_of_records}
 use Rattle.rb_trees.proofs.Words.{meets_on_the_way, meets_anywhere, Bool}
 use Rattle.order_laws.proofs.MeetLemmas.{meets_split, meets_none, apart_head, any_head}
 use Rattle.order_laws.proofs.MeetLemmas.{meeting_head}
 use Rattle.rb_trees.proofs.PlaceRows.{parts, items_append}
+use Rattle.std.proofs.Common.{arith}
+use Rattle.std.proofs.lemmas.Bool.Decides.{nat_tests}
 
 module _ {K : Type 0} (o : Order K) (i : Item) (but : List ℕ) where
   abbrev Meets : List Item → Bool
@@ -19,39 +21,24 @@ module _ {K : Type 0} (o : Order K) (i : Item) (but : List ℕ) where
       → meets_anywhere o i but t ≡ meets o i (without_all but (items_of_records (rows t)))
   met_any_meets tip = refl
   met_any_meets (branch red l y r) =
-      let is = items_of_records (rows l) in
-      let js = items_of_records (rows r) in
-      let split : Meets (items_of_records (rows l ++ y ∷ rows r))
-      ≡ (Meets is || Meets (y.item ∷ js)) =
-      ap Meets (items_append (rows l) (y ∷ rows r)) ∙ meets_split o i but is (y.item ∷ js) in
-      ap (λ v. (not (gone y.item) && not (o.apart y.item i)) || (v || meets_anywhere o i but r))
-      (met_any_meets l)
-      ∙ ap (λ v. (not (gone y.item) && not (o.apart y.item i)) || (Meets is || v)) (met_any_meets r)
-      ∙ any_head o i but y.item is js ∙ sym split
+      grind (
+        arith,
+        nat_tests,
+        met_any_meets l,
+        met_any_meets r,
+        items_append,
+        meets_split,
+        any_head,
+      )
 
   module _ (law : IsLawful o) (line : IsInLine o) (valid : o.valid i ≡ true) where
     apart_above : (y z : Item) → Precedes o y z → o.apart y i ≡ true → o.less i y ≡ true
         → o.apart z i ≡ true
-    apart_above y z p a l =
-        let q : Precedes o i y = record {
-          first_valid = valid;
-          second_valid = p.first_valid;
-          is_apart = law.symmetric i y ∙ a;
-          is_less = l;
-        } in
-        law.symmetric z i ∙ line.apart_beyond i y z q p
+    apart_above y z p a l = grind (arith, nat_tests)
 
     apart_below : (y z : Item) → Precedes o z y → o.apart y i ≡ true → o.less i y ≡ false
         → o.apart z i ≡ true
-    apart_below y z p a l =
-        let less : o.less y i ≡ true = law.one_is_less y i p.second_valid valid a ∙ ap not l in
-        line.apart_beyond z y i p
-        (record {
-          first_valid = p.second_valid;
-          second_valid = valid;
-          is_apart = a;
-          is_less = less;
-        })
+    apart_below y z p a l = grind (arith, nat_tests)
 
     pub met_meets : (t : ColouredTree) → IsTable o (items_of_records (rows t))
         → meets_on_the_way o i but t ≡ meets o i (without_all but (items_of_records (rows t)))

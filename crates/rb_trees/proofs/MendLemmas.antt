@@ -1,6 +1,6 @@
 -- A mended node: its records, its colours and black height, where its stores lead, and how many.
 use Rattle.rb_trees.proofs.Words.{◌≡◌, ℕ, suc, ◌<◌, ◌≤◌, true, false, cond, List, [], ◌++◌, length}
-use Rattle.rb_trees.proofs.Words.{length-append, refl, sym, ◌∙◌, ap, subst, arith, Store, Record}
+use Rattle.rb_trees.proofs.Words.{length-append, refl, arith, Store, Record}
 use Rattle.rb_trees.proofs.Words.{Side, Left, Right, ColouredTree, tip, branch, is_red, blackened}
 use Rattle.rb_trees.proofs.Words.{shape, rows, HasBlackHeight, opposite, sided, link, relink}
 use Rattle.rb_trees.proofs.Words.{turned, turn_links, red_violation, recoloured, mended_over}
@@ -15,6 +15,7 @@ use Rattle.rb_trees.proofs.TurnLemmas.{turned_back, turn_two, moved_one, relink_
 use Rattle.rb_trees.proofs.ColourLemmas.{IsNear, near_of_calm, black_blackened, sound_blackened}
 use Rattle.rb_trees.proofs.ColourLemmas.{sound_black, sound_red}
 use Rattle.rb_trees.proofs.RelinkLemmas.{same, then, in_sided, turn_relinks, shape_recoloured}
+use Rattle.std.proofs.lemmas.Bool.Decides.{nat_tests}
 
 -- what is mended of a black node with these trees
 pub mended_sided : (s : Side) (near : ColouredTree) (y : Record) (far : ColouredTree)
@@ -32,31 +33,15 @@ module _ (s : Side) (y : Record) (far : ColouredTree) where
   pub rows_mended : (k : RedViolation) (near : ColouredTree)
       → rows (mended_over s k near y far) ≡ rows (sided s false near y far)
   rows_mended Nowhere near = refl
-  rows_mended Outer near =
-      elim (is_red far) as (λ b. rows (cond b (recoloured s near y far) (turned (opposite s) false
-      true (sided s false near y far))) ≡ rows (sided s false near y far)) [
-        | true ↦ rows_sided s true false (blackened near) near y (blackened far) far
-            (rows_blackened near) (rows_blackened far)
-        | false ↦ rows_turned (opposite s) false true (sided s false near y far)
-      ]
-  rows_mended Inner near =
-      let u = turned s true true near in
-      elim (is_red far) as (λ b. rows (cond b (recoloured s near y far) (turned (opposite s) false
-      true (sided s false u y far))) ≡ rows (sided s false near y far)) [
-        | true ↦ rows_sided s true false (blackened near) near y (blackened far) far
-            (rows_blackened near) (rows_blackened far)
-        | false ↦ rows_turned (opposite s) false true (sided s false u y far)
-            ∙ rows_sided s false false u near y far far (rows_turned s true true near) refl
-      ]
+  rows_mended Outer near = grind (arith, nat_tests, rows_sided, rows_blackened, rows_turned)
+  rows_mended Inner near = grind (arith, nat_tests, rows_sided, rows_blackened, rows_turned)
 
   -- colours and black height
   module _ (h : ℕ) (f : Sound far h) where
     recoloured_sound : (near : ColouredTree) → is_red near ≡ true → IsNear near
         → HasBlackHeight near h → is_red far ≡ true → Sound (recoloured s near y far) (suc h)
     recoloured_sound near rn n e rf =
-        sound_red s (blackened near) y (blackened far) (suc h) (black_blackened near)
-        (black_blackened far)
-        (sound_blackened near h rn n e) (sound_blackened far h rf (near_of_calm far f.calm) f.high)
+        grind (arith, nat_tests, sound_red, black_blackened, sound_blackened, near_of_calm)
 
     module _ (outer : ColouredTree) (x : Record) (inner : ColouredTree) (o : Sound outer h)
         (i : Sound inner h) (one : is_red outer ≡ true → is_red inner ≡ false)
@@ -65,15 +50,7 @@ module _ (s : Side) (y : Record) (far : ColouredTree) where
       outer_sound : is_red outer ≡ true
           → Sound (mended_over s Outer (sided s true outer x inner) y far) (suc h)
       outer_sound ro =
-          let t = sided s true outer x inner in
-          elim (is_red far) as (λ v. is_red far ≡ v → Sound (cond v (recoloured s t y far)
-          (turned (opposite s) false true (sided s false t y far))) (suc h)) [
-            | true ↦ λ rf. recoloured_sound t (red_sided s true outer x inner) n e rf
-            | false ↦ λ rf. subst (λ u. Sound u (suc h))
-                (sym (turned_back s false true true false outer x inner y far))
-                (sound_black s outer x (sided s true inner y far) h o
-                (sound_red s inner y far h (one ro) rf i f))
-          ] refl
+          grind (arith, nat_tests, recoloured_sound, red_sided, turned_back, sound_black, sound_red)
 
       nowhere_sound : is_red outer ≡ false → is_red inner ≡ false
           → Sound (mended_over s Nowhere (sided s true outer x inner) y far) (suc h)
@@ -87,17 +64,16 @@ module _ (s : Side) (y : Record) (far : ColouredTree) where
         → HasBlackHeight (sided s true outer x (sided s true a z b)) h
         → Sound (mended_over s Inner (sided s true outer x (sided s true a z b)) y far) (suc h)
     inner_sound outer x a z b o ro ra rb sa sb n e =
-        let t = sided s true outer x (sided s true a z b) in
-        elim (is_red far) as (λ v. is_red far ≡ v → Sound (cond v (recoloured s t y far) (turned
-        (opposite s) false true (sided s false (turned s true true t) y far))) (suc h)) [
-          | true ↦ λ rf. recoloured_sound t (red_sided s true outer x (sided s true a z b)) n e rf
-          | false ↦ λ rf. subst (λ u. Sound u (suc h))
-              (sym (ap (λ u. turned (opposite s) false true (sided s false u y far))
-              (turned_sided s true true true true outer x a z b)
-              ∙ turned_back s false true true false (sided s true outer x a) z b y far))
-              (sound_black s (sided s true outer x a) z (sided s true b y far) h
-              (sound_red s outer x a h ro ra o sa) (sound_red s b y far h rb rf sb f))
-        ] refl
+        grind (
+          arith,
+          nat_tests,
+          recoloured_sound,
+          red_sided,
+          turned_sided,
+          turned_back,
+          sound_black,
+          sound_red,
+        )
 
 -- either side
 module _ (y : Record) (far : ColouredTree) (h : ℕ) (f : Sound far h) where
@@ -140,8 +116,7 @@ module _ (y : Record) (far : ColouredTree) (h : ℕ) (f : Sound far h) where
   mended_sound Left (branch true a x b) n e = two_sound Left a x b
       (record { calm = n.1; high = e.0 }) (record { calm = n.2; high = e.1 }) n.0 n e
   mended_sound Right (branch true a x b) n e =
-      two_sound Right b x a (record { calm = n.2; high = e.1 }) (record { calm = n.1; high = e.0 })
-      (false_by_contrary (is_red a) (is_red b) n.0) n e
+      grind (arith, nat_tests, two_sound, false_by_contrary)
 
 -- its stores lead to it
 module _ (n c : ℕ) (small : c ≤ 1) (P : ℕ → Type 0) (below : (i : ℕ) → P i → i < n) (s : Side)
@@ -150,10 +125,7 @@ module _ (n c : ℕ) (small : c ≤ 1) (P : ℕ → Type 0) (below : (i : ℕ) �
     (sep : IsSeparate (shape (sided s false near y far))) where
   recoloured_relinks : Relinks n c P (shape (sided s false near y far))
       (shape (recoloured s near y far)) []
-  recoloured_relinks =
-      subst (λ t. Relinks n c P (shape (sided s false near y far)) t [])
-      (sym (shape_recoloured s near y far))
-      (same n c small P (shape (sided s false near y far)) within sep)
+  recoloured_relinks = grind (arith, nat_tests, shape_recoloured, same)
 
   pub mend_relinks : (k : RedViolation) → Relinks n c P (shape (sided s false near y far))
       (shape (mended_over s k near y far)) (mend_links_over s c k near y far)
@@ -214,31 +186,15 @@ module _ (c : ℕ) (s : Side) (y : Record) (far : ColouredTree) where
       → Mending y (mended_over s k near y far) (mend_links_over s c k near y far)
   mending Nowhere near =
       record { few = omega arith; still = λ e. absurd (let b = red_sided s false near y far in cc) }
-  mending Outer near =
-      let t = sided s false near y far in
-      elim (is_red far) as (λ b. Mending y (cond b (recoloured s near y far)
-      (turned (opposite s) false true t)) (cond b [] (turn_links (opposite s) c t))) [
-        | true ↦ recoloured_mending near
-        | false ↦ turned_mending near (turn_links (opposite s) c t)
-            (omega (arith, turn_two (opposite s) c t))
-      ]
+  mending Outer near = grind (arith, nat_tests, recoloured_mending, turned_mending, turn_two)
   mending Inner near =
-      let u = turned s true true near in
-      let v = sided s false u y far in
-      let ss = turn_links s c near in
-      let rs = relink s c y.node (link (shape near)) (link (shape u)) in
-      elim (is_red far) as (λ b.
-      Mending y (cond b (recoloured s near y far) (turned (opposite s) false true v))
-      (cond b [] ((ss ++ rs) ++ turn_links (opposite s) c v))) [
-        | true ↦ recoloured_mending near
-        | false ↦ turned_mending u ((ss ++ rs) ++ turn_links (opposite s) c v)
-            (omega (
-              arith,
-              length-append (ss ++ rs) (turn_links (opposite s) c v),
-              length-append ss rs,
-              turn_two s c near,
-              turn_two (opposite s) c v,
-              relink_moved s c y.node (link (shape near)) (link (shape u)),
-              moved_one (link (shape near)) (link (shape u)),
-            ))
-      ]
+      grind (
+        arith,
+        nat_tests,
+        recoloured_mending,
+        turned_mending,
+        length-append,
+        turn_two,
+        relink_moved,
+        moved_one,
+      )

@@ -1,11 +1,13 @@
 -- What an insert puts at its place, and what an erase takes out.
-use Rattle.rb_trees.proofs.Words.{◌≡◌, ℕ, suc, true, false, cond, List, [], ◌∷◌, ◌++◌, Some, refl}
+use Rattle.rb_trees.proofs.Words.{◌≡◌, ℕ, true, false, cond, List, [], ◌∷◌, ◌++◌, Some, refl}
 use Rattle.rb_trees.proofs.Words.{sym, ◌∙◌, ap, subst, ◌==◌, insert, remove, slice_get}
 use Rattle.rb_trees.proofs.Words.{AllByRecursion, map-append, Item, Order, Precedes, IsLawful}
 use Rattle.rb_trees.proofs.Words.{IsTable, place_for, place_of, Parted, parted, Lacks}
 use Rattle.rb_trees.proofs.Words.{differs_before, all_weaker, Record, ColouredTree, tip, branch}
-use Rattle.rb_trees.proofs.Words.{rows, Above, plugged, past_left, past_right, way_from, way_by}
-use Rattle.rb_trees.proofs.Words.{items_of_records, Less, Greater, Bool, eq-eqb}
+use Rattle.rb_trees.proofs.Words.{rows, Above, plugged, past_left, past_right, way_by}
+use Rattle.rb_trees.proofs.Words.{items_of_records, Bool, eq-eqb}
+use Rattle.std.proofs.Common.{arith}
+use Rattle.std.proofs.lemmas.Bool.Decides.{nat_tests}
 
 pub items_append : (xs ys : List Record)
     → items_of_records (xs ++ ys) ≡ items_of_records xs ++ items_of_records ys
@@ -23,13 +25,7 @@ module _ {K : Type 0} (o : Order K) (x : Record) where
       → insert (xs ++ y ∷ ys) (place_for o x.item (items_of_records (xs ++ y ∷ ys))) x
       ≡ insert xs (place_for o x.item (items_of_records xs)) x ++ y ∷ ys
   insert_front [] y ys e = rw e refl
-  insert_front (z ∷ xs) y ys e =
-      elim (o.less x.item z.item) as (λ b. insert (z ∷ (xs ++ y ∷ ys))
-      (cond b 0 (suc (place_for o x.item (items_of_records (xs ++ y ∷ ys))))) x ≡ insert
-      (z ∷ xs) (cond b 0 (suc (place_for o x.item (items_of_records xs)))) x ++ y ∷ ys) [
-        | true ↦ refl
-        | false ↦ ap (λ zs. z ∷ zs) (insert_front xs y ys e)
-      ]
+  insert_front (z ∷ xs) y ys e = grind (arith, nat_tests, insert_front xs y ys e)
 
   insert_back : (xs : List Record) (y : Record) (ys : List Record)
       → AllByRecursion (λ (z : Item). o.less x.item z ≡ false) (items_of_records xs)
@@ -37,18 +33,11 @@ module _ {K : Type 0} (o : Order K) (x : Record) where
       → insert (xs ++ y ∷ ys) (place_for o x.item (items_of_records (xs ++ y ∷ ys))) x
       ≡ xs ++ y ∷ insert ys (place_for o x.item (items_of_records ys)) x
   insert_back [] y ys h e = rw e refl
-  insert_back (z ∷ xs) y ys h e =
-      let i = insert_back xs y ys h.1 e in
-      let f : o.less x.item z.item ≡ false = h.0 in
-      rw f (ap (λ zs. z ∷ zs) i)
+  insert_back (z ∷ xs) y ys h e = grind (arith, nat_tests, insert_back xs y ys h.1 e)
 
 not_before : {K : Type 0} (o : Order K) → IsLawful o → (i y z : Item) → Precedes o z y
     → o.less i y ≡ false → o.less i z ≡ false
-not_before o law i y z p e =
-    elim (o.less i z) as (λ b. o.less i z ≡ b → b ≡ false) [
-      | true ↦ λ f. let g : o.less i y ≡ true = law.transitive i z y f p.is_less in absurd (cc)
-      | false ↦ λ f. refl
-    ] refl
+not_before o law i y z p e = grind (arith, nat_tests)
 
 -- the tree with the new leaf, before anything is mended
 abbrev with_leaf : (Item → Item → Bool) → Record → ColouredTree → ColouredTree
@@ -61,14 +50,12 @@ plugged_leaf : (less : Item → Item → Bool) (x : Record) (t : ColouredTree) (
     ≡ plugged path (with_leaf less x t)
 plugged_leaf less x tip path = refl
 plugged_leaf less x (branch red l y r) path =
-    elim (less x.item y.item) as (λ v.
-    plugged (way_from (cond v Less Greater) (way_by less x.item l (past_left red y r ∷ path)) path
-    (way_by less x.item r (past_right red l y ∷ path))) (branch true tip x tip)
-    ≡ plugged path
-    (cond v (branch red (with_leaf less x l) y r) (branch red l y (with_leaf less x r)))) [
-      | true ↦ plugged_leaf less x l (past_left red y r ∷ path)
-      | false ↦ plugged_leaf less x r (past_right red l y ∷ path)
-    ]
+    grind (
+      arith,
+      nat_tests,
+      plugged_leaf less x l (past_left red y r ∷ path),
+      plugged_leaf less x r (past_right red l y ∷ path),
+    )
 
 rows_leaf : {K : Type 0} (o : Order K) → IsLawful o → (x : Record) (t : ColouredTree)
     → IsTable o (items_of_records (rows t)) → rows (with_leaf o.less x t)
@@ -116,9 +103,4 @@ module _ (a : ℕ) where
       → (remove (xs ++ x ∷ ys) (place_of a (items_of_records (xs ++ x ∷ ys))) ≡ xs ++ ys)
       × (slice_get (xs ++ x ∷ ys) (place_of a (items_of_records (xs ++ x ∷ ys))) ≡ Some x)
   taken_out o law xs x ys t e =
-      let lacks : Lacks a (items_of_records xs) = subst (λ b. Lacks b (items_of_records xs)) e
-      (all_weaker (λ z. Precedes o z x.item) (λ (z : Item). (z.a == x.item.a) ≡ false)
-      (differs_before o law x.item) (items_of_records xs) (parts o xs x ys t).before) in (
-        remove_here xs x ys lacks (eq-eqb x.item.a a e),
-        get_here xs x ys lacks (eq-eqb x.item.a a e),
-      )
+      grind (arith, nat_tests, all_weaker, differs_before, parts, remove_here, eq-eqb, get_here)

@@ -10,6 +10,7 @@ use Rattle.rb_trees.proofs.Words.{link_word, set_link, link, relink, turned, tur
 use Rattle.rb_trees.proofs.Words.{IsSeparate, Relinks, Bool, Inner}
 use Rattle.rb_trees.proofs.SideLemmas.{forked, link_forked, inner_on, on_inner, apart_on, on_apart}
 use Rattle.rb_trees.proofs.SideLemmas.{among_on, on_among, other_side, other_node, word_in, is_link}
+use Rattle.std.proofs.lemmas.Bool.Decides.{nat_tests}
 
 pub inner_kept : (n c : ℕ) (P : ℕ → Type 0) (m : List ℕ) (ss : List Store) → Owns n c P ss
     → (t : Nodes) → ((i : ℕ) → Among t i → P i → ⊥) → Inner m c t → Inner (words_after_all m ss) c t
@@ -84,9 +85,7 @@ module _ (n c : ℕ) (small : c ≤ 1) where
         ] refl
 
     owns_relink : (s : Side) (before after : ℕ) → after ≤ n → Owns n c P (relink s c y before after)
-    owns_relink s before after fits =
-        elim (before == after) as (λ b. Owns n c P (cond b [] (set_link s c y after
-        ∷ []))) [ true ↦ tt | false ↦ (((y, own, is_link s c y), fits), tt) ]
+    owns_relink s before after fits = grind (arith, nat_tests, is_link)
 
     -- a change in the subtree on a side, in nodes that are neither this one nor in the other
     -- subtree

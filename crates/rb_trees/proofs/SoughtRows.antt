@@ -14,6 +14,7 @@ use Rattle.rb_trees.proofs.Words.{found, items_of_records, first_item_of, item_w
 use Rattle.rb_trees.proofs.Words.{eq-eqb}
 use Rattle.order_laws.proofs.WithoutLemmas.{has_either}
 use Rattle.rb_trees.proofs.PlaceRows.{items_append, parts}
+use Rattle.std.proofs.lemmas.Bool.Decides.{nat_tests}
 
 -- what a comparison says of both sides, and of the side that it leads to
 pub data Lies (a : ℕ) (P : ColouredTree → Type 0) (l : ColouredTree) (y : Record)
@@ -75,15 +76,11 @@ lies_equal false false e = absurd (cc)
 
 pub word_found : (a : ℕ) (t : ColouredTree) (x : Record) → found (first_word_at a) t ≡ Some x
     → x.item.a ≡ a
-word_found a t x e =
-    sym (eqb-true a x.item.a
-    (lies_equal (a == x.item.a) (nat_lt a x.item.a) (found_lies (first_word_at a) t x e)))
+word_found a t x e = grind (arith, nat_tests, eqb-true, lies_equal, found_lies)
 
 pub item_found : (less : Item → Item → Bool) (i : Item) (t : ColouredTree) (x : Record)
     → found (item_lies less i) t ≡ Some x → x.item.a ≡ i.a
-item_found less i t x e =
-    eqb-true x.item.a i.a
-    (lies_equal (x.item.a == i.a) (less i x.item) (found_lies (item_lies less i) t x e))
+item_found less i t x e = grind (arith, nat_tests, eqb-true, lies_equal, found_lies)
 
 -- first words lead, where they rise along the order
 module _ {K : Type 0} (o : Order K) (line : IsInLine o) (a : ℕ) where
@@ -204,19 +201,16 @@ pub any_has : (a : ℕ) (t : ColouredTree)
     → is_some (item_with_word a t) ≡ has a (items_of_records (rows t))
 any_has a tip = refl
 any_has a (branch red l y r) =
-    let split : has a (items_of_records (rows l ++ y ∷ rows r))
-    ≡ (has a (items_of_records (rows l)) || has a (y.item ∷ items_of_records (rows r))) =
-    ap (has a) (items_append (rows l) (y ∷ rows r))
-    ∙ has_either a (items_of_records (rows l)) (y.item ∷ items_of_records (rows r)) in
-    (elim (y.item.a == a) as (λ b. is_some
-    (cond b (Some y.item) (first_item_of (item_with_word a l) (item_with_word a r)))
-    ≡ (has a (items_of_records (rows l)) || (b || has a (items_of_records (rows r))))) [
-      | true ↦ sym (or-true (has a (items_of_records (rows l))))
-      | false ↦ either_is_some (item_with_word a l) (item_with_word a r)
-          ∙ ap (λ b. b || is_some (item_with_word a r)) (any_has a l)
-          ∙ ap (λ b. has a (items_of_records (rows l)) || b) (any_has a r)
-    ])
-    ∙ sym split
+    grind (
+      arith,
+      nat_tests,
+      any_has a l,
+      any_has a r,
+      items_append,
+      has_either,
+      or-true,
+      either_is_some,
+    )
 
 -- of this first word, and an item of the tree
 abbrev IsWith : ℕ → List Item → Option Item → Type 0

@@ -1,15 +1,15 @@
 -- What is planned for copy 0 leads copy 1 as well, mirrored: for each memory there is one whose
 -- copy 0 is as its copy 1.
-use Rattle.rb_words.proofs.Words.{◌≡◌, ◌≢◌, ℕ, suc, zero, ◌<◌, ◌≤◌, false, List, [], ◌∷◌, ◌++◌}
-use Rattle.rb_words.proofs.Words.{length, refl, sym, ◌∙◌, ap, subst, inl, inr, ⊎_elim, arith}
-use Rattle.rb_words.proofs.Words.{length-set, slice_set, ◌==◌, AllByRecursion, ne_eqb, cases_eq}
-use Rattle.rb_words.proofs.Words.{Item, Order, Store, Nodes, none, fork, words_for, at, item_at}
-use Rattle.rb_words.proofs.Words.{items, Leads, Holds, root_word, left_word, right_word, a_word}
-use Rattle.rb_words.proofs.Words.{b_word, tag_word, words_after, words_after_all, IsLinkWord}
-use Rattle.rb_words.proofs.Words.{IsItemWord, AreLinkStores, of_item, at_stored, at_other}
-use Rattle.rb_words.proofs.Words.{same_store, after_append, Picture, IsPictured, AreLinks}
-use Rattle.rb_words.proofs.Words.{item_stores, Inserts, LeadsWithItem, Erases, LeadsByLinks}
-use Rattle.rb_words.proofs.Words.{mirror_word, mirror_store, mirror_stores, second_picture}
+use Rattle.rb_words.proofs.Words.{◌≡◌, ◌≢◌, ℕ, suc, zero, ◌<◌, ◌≤◌, false, List, [], ◌∷◌, length}
+use Rattle.rb_words.proofs.Words.{refl, sym, ◌∙◌, ap, subst, inl, inr, ⊎_elim, arith, length-set}
+use Rattle.rb_words.proofs.Words.{slice_set, ◌==◌, AllByRecursion, ne_eqb, cases_eq, Item, Order}
+use Rattle.rb_words.proofs.Words.{Store, Nodes, none, fork, words_for, at, item_at, items, Leads}
+use Rattle.rb_words.proofs.Words.{Holds, root_word, left_word, right_word, a_word, b_word, tag_word}
+use Rattle.rb_words.proofs.Words.{words_after, words_after_all, IsLinkWord, IsItemWord}
+use Rattle.rb_words.proofs.Words.{AreLinkStores, of_item, at_stored, at_other, same_store}
+use Rattle.rb_words.proofs.Words.{after_append, Picture, IsPictured, AreLinks, item_stores, Inserts}
+use Rattle.rb_words.proofs.Words.{LeadsWithItem, Erases, LeadsByLinks, mirror_word, mirror_store}
+use Rattle.rb_words.proofs.Words.{mirror_stores, second_picture, nat_tests}
 use Rattle.facts.proofs.Numbers.{below_suc}
 
 -- copy 1 of the second memory is as copy 0 of the first, and the nodes have the same items
@@ -52,10 +52,7 @@ module _ (n : ℕ) (m m' : List ℕ) (same : Mirrors n m m') where
 
   same_items : (t : Nodes) → items m' t ≡ items m t
   same_items none = refl
-  same_items (fork l i r) =
-      ap (λ xs. xs ++ item_at m' i ∷ items m' r) (same_items l)
-      ∙ ap (λ x. items m l ++ x ∷ items m' r) (same_item i)
-      ∙ ap (λ xs. items m l ++ item_at m i ∷ xs) (same_items r)
+  same_items (fork l i r) = grind (arith, nat_tests, same_items l, same_items r, same_item)
 
   there : (table : List Item) (t : Nodes) → Holds m n 0 table t → Holds m' n 1 table t
   there table t h = record {
@@ -103,12 +100,7 @@ mirror_right i = let e : (right_word 0 i == root_word 0) ≡ false =
 -- two words, of which the one is written where the other is
 written : (m m' : List ℕ) (w w' v x x' : ℕ) → w < length m → w' < length m' → (x ≡ w → x' ≡ w') →
     (x' ≡ w' → x ≡ w) → at m' x' ≡ at m x → at (slice_set m' w' v) x' ≡ at (slice_set m w v) x
-written m m' w w' v x x' lt lt' to back e =
-    ⊎_elim
-    (λ same. ap (at (slice_set m' w' v)) (to same) ∙ at_stored m' w' v lt'
-    ∙ sym (at_stored m w v lt) ∙ ap (at (slice_set m w v)) (sym same))
-    (λ ne. at_other m' w' v x' (λ f. ne (back f)) ∙ e ∙ sym (at_other m w v x ne))
-    (cases_eq x w)
+written m m' w w' v x x' lt lt' to back e = grind (arith, nat_tests, at_stored, at_other, cases_eq)
 
 -- a link word of copy 0 and the same of copy 1
 record Twins (n w w' : ℕ) : Type 0 where
@@ -121,52 +113,17 @@ record Twins (n w w' : ℕ) : Type 0 where
       × (right_word 1 i ≡ w' → right_word 0 i ≡ w)
   items : (i x : ℕ) → IsItemWord i x → (x ≢ w) × (x ≢ w')
 
-twin_roots : (n : ℕ) → Twins n (root_word 0) (root_word 1)
-twin_roots n = record {
-  within = omega arith;
-  within_too = omega arith;
-  root = ((λ e. refl), (λ e. refl));
-  left = λ i. ((λ e. absurd (omega arith)), (λ e. absurd (omega arith)));
-  right = λ i. ((λ e. absurd (omega arith)), (λ e. absurd (omega arith)));
-  items = λ i x is. let k = of_item i x is in let ke = k.2 in
-      ((λ e. absurd (omega arith)), (λ e. absurd (omega arith)));
-}
-
-twin_lefts : (n j : ℕ) → j < n → Twins n (left_word 0 j) (left_word 1 j)
-twin_lefts n j lt = record {
-  within = omega arith;
-  within_too = omega arith;
-  root = ((λ e. absurd (omega arith)), (λ e. absurd (omega arith)));
-  left = λ i. ((λ e. omega arith), (λ e. omega arith));
-  right = λ i. ((λ e. absurd (omega arith)), (λ e. absurd (omega arith)));
-  items = λ i x is. let k = of_item i x is in let kl = k.1 in let ke = k.2 in
-      ((λ e. absurd (omega arith)), (λ e. absurd (omega arith)));
-}
-
-twin_rights : (n j : ℕ) → j < n → Twins n (right_word 0 j) (right_word 1 j)
-twin_rights n j lt = record {
-  within = omega arith;
-  within_too = omega arith;
-  root = ((λ e. absurd (omega arith)), (λ e. absurd (omega arith)));
-  left = λ i. ((λ e. absurd (omega arith)), (λ e. absurd (omega arith)));
-  right = λ i. ((λ e. omega arith), (λ e. omega arith));
-  items = λ i x is. let k = of_item i x is in let kl = k.1 in let ke = k.2 in
-      ((λ e. absurd (omega arith)), (λ e. absurd (omega arith)));
-}
-
 twins : (n w : ℕ) → IsLinkWord n 0 w → Twins n w (mirror_word w)
-twins n w is =
-    ⊎_elim
-    (λ e. subst (λ x. Twins n x (mirror_word x)) (sym e)
-    (subst (Twins n (root_word 0)) (sym mirror_root) (twin_roots n)))
-    (λ (j, lt, f).
-    ⊎_elim
-    (λ e. subst (λ x. Twins n x (mirror_word x)) (sym e)
-    (subst (Twins n (left_word 0 j)) (sym (mirror_left j)) (twin_lefts n j lt)))
-    (λ e. subst (λ x. Twins n x (mirror_word x)) (sym e)
-    (subst (Twins n (right_word 0 j)) (sym (mirror_right j)) (twin_rights n j lt)))
-    f)
-    is
+twins n w is = record {
+  within = grind (arith, nat_tests);
+  within_too = grind (arith, nat_tests);
+  root = (grind (arith, nat_tests), grind (arith, nat_tests));
+  left = λ i. (grind (arith, nat_tests), grind (arith, nat_tests));
+  right = λ i. (grind (arith, nat_tests), grind (arith, nat_tests));
+  items = λ i x of.
+      let k = of_item i x of in let kl = k.1 in let ke = k.2 in
+      (grind (arith, nat_tests), grind (arith, nat_tests));
+}
 
 -- a store in copy 0 and the same in copy 1
 twin_stores : (n : ℕ) (m m' : List ℕ) (w w' v : ℕ) → Twins n w w' → Mirrors n m m' →

@@ -2,19 +2,18 @@
 use Rattle.rb_words.proofs.Words.{◌≡◌, ◌≢◌, ℕ, suc, ◌+◌, ◌*◌, ◌^◌, ◌<◌, ◌≤◌, true, false, List, []}
 use Rattle.rb_words.proofs.Words.{◌∷◌, ◌++◌, length, map, Some, refl, sym, ◌∙◌, ap, subst, inl, inr}
 use Rattle.rb_words.proofs.Words.{⊎_elim, arith, length-set, Contains, insert, remove, slice_get}
-use Rattle.rb_words.proofs.Words.{slice_set, AllByRecursion, cases_lt, Item, Order, IsLawful}
-use Rattle.rb_words.proofs.Words.{IsInLine, IsTable, with_item, without, place_for, place_of, has}
-use Rattle.rb_words.proofs.Words.{meets, with_place, without_place, without_none, all_differ}
-use Rattle.rb_words.proofs.Words.{all_get, all_insert, all_left, all_remove, all_right}
-use Rattle.rb_words.proofs.Words.{length-insert, length-remove_at, map-insert, map-remove}
-use Rattle.rb_words.proofs.Words.{Contains-insert, Contains-insert_cases, Contains-remove}
-use Rattle.rb_words.proofs.Words.{as_many_rows, Store, Nodes, none, fork, words_for, a_word, b_word}
-use Rattle.rb_words.proofs.Words.{tag_word, item_at, listed, Reaches, InUse, words_after_all}
-use Rattle.rb_words.proofs.Words.{AreLinkStores, unused_item, length_after, after_append, at_stored}
-use Rattle.rb_words.proofs.Words.{at_other, items_of_records, meets_on_the_way, met_meets}
-use Rattle.rb_words.proofs.Words.{AreDistinct, Picture, IsPicture, IsPictured, Inserts}
-use Rattle.rb_words.proofs.Words.{LeadsWithItem, Erases, LeadsByLinks, item_stores, picture_of}
-use Rattle.rb_words.proofs.Words.{LosesWord}
+use Rattle.rb_words.proofs.Words.{AllByRecursion, cases_lt, Item, Order, IsLawful, IsInLine}
+use Rattle.rb_words.proofs.Words.{IsTable, with_item, without, place_for, place_of, has, meets}
+use Rattle.rb_words.proofs.Words.{with_place, without_place, without_none, all_differ, all_get}
+use Rattle.rb_words.proofs.Words.{all_insert, all_left, all_remove, all_right, length-insert}
+use Rattle.rb_words.proofs.Words.{length-remove_at, map-insert, map-remove, Contains-insert}
+use Rattle.rb_words.proofs.Words.{Contains-insert_cases, Contains-remove, as_many_rows, Store}
+use Rattle.rb_words.proofs.Words.{Nodes, none, fork, words_for, a_word, b_word, tag_word, item_at}
+use Rattle.rb_words.proofs.Words.{listed, Reaches, InUse, words_after_all, AreLinkStores}
+use Rattle.rb_words.proofs.Words.{unused_item, length_after, after_append, at_stored, at_other}
+use Rattle.rb_words.proofs.Words.{items_of_records, meets_on_the_way, met_meets, AreDistinct}
+use Rattle.rb_words.proofs.Words.{Picture, IsPicture, IsPictured, Inserts, LeadsWithItem, Erases}
+use Rattle.rb_words.proofs.Words.{LeadsByLinks, item_stores, picture_of, LosesWord, nat_tests}
 use Rattle.std.specs.Option.{option_map}
 use Rattle.std.proofs.Math.Nat.{pow-le-pow_right, mul-le-mul}
 use Rattle.std.proofs.lemmas.Option.{slice_get-map}
@@ -31,8 +30,8 @@ use Rattle.rb_trees.specs.Replaced.{Nothing}
 use Rattle.rb_cursor.specs.Changes.{PutsIn}
 use Rattle.rb_trees.proofs.DepthLemmas.{balanced_depth}
 use Rattle.rb_trees.proofs.PlaceRows.{taken_out}
-use Rattle.rb_trees.proofs.LeadsLemmas.{listed_rows, all_among}
-use Rattle.rb_trees.proofs.LeadsLemmas.{among_listed, Stored, stored_items, items_stored}
+use Rattle.rb_trees.proofs.LeadsLemmas.{listed_rows, all_among, among_listed, Stored, stored_items}
+use Rattle.rb_trees.proofs.LeadsLemmas.{items_stored}
 use Rattle.rb_words.proofs.ListLemmas.{distinct_insert, distinct_remove, distinct_fit}
 use Rattle.rb_words.proofs.ListLemmas.{member_remove}
 
@@ -41,8 +40,7 @@ distinct_parts : (xs ys : List ℕ) → AreDistinct (xs ++ ys) →
     AreDistinct xs × AreDistinct ys × AllByRecursion (λ x. AllByRecursion (λ y. x ≢ y) ys) xs
 distinct_parts [] ys h = (tt, h, tt)
 distinct_parts (x ∷ xs) ys h =
-    let i = distinct_parts xs ys h.1 in
-    ((all_left (λ y. x ≢ y) xs ys h.0, i.0), i.1, (all_right (λ y. x ≢ y) xs ys h.0, i.2))
+    grind (arith, nat_tests, distinct_parts xs ys h.1, all_left, all_right)
 
 separate : (t : Nodes) → AreDistinct (listed t) → IsSeparate t
 separate none h = tt
@@ -68,21 +66,7 @@ stored_kept m n c links (r ∷ rs) small are h =
 -- the words of an item in a node
 pub item_put : (m : List ℕ) (n node : ℕ) (i : Item) → node < n → length m ≡ words_for n →
     item_at (words_after_all m (item_stores node i)) node ≡ i
-item_put m n node i lt sized =
-    let wa = a_word node in
-    let wb = b_word node in
-    let wt = tag_word node in
-    let m1 = slice_set m wa i.a in
-    let m2 = slice_set m1 wb i.b in
-    let len1 : length m1 ≡ words_for n = length-set m wa i.a ∙ sized in
-    let len2 : length m2 ≡ words_for n = length-set m1 wb i.b ∙ len1 in
-    let ea = at_other m2 wt i.tag wa (λ e. absurd (omega arith))
-    ∙ at_other m1 wb i.b wa (λ e. absurd (omega arith))
-    ∙ at_stored m wa i.a (omega (arith, sized)) in
-    let eb = at_other m2 wt i.tag wb (λ e. absurd (omega arith))
-    ∙ at_stored m1 wb i.b (omega (arith, len1)) in
-    let et = at_stored m2 wt i.tag (omega (arith, len2)) in
-    λ d. record { a = ea d; b = eb d; tag = et d }
+item_put m n node i lt sized = grind (arith, nat_tests, length-set, at_other, at_stored)
 
 -- the whole of a planned insert, as a shape shows it
 pub record AfterInsert {K : Type 0} (o : Order K) (n c : ℕ) (t u : ColouredTree) (room : ℕ)
@@ -111,16 +95,11 @@ module _ {K : Type 0} (o : Order K) (law : IsLawful o) (n c : ℕ) (t u : Colour
     (valid : o.valid x.item ≡ true)
     (apart : meets o x.item (items_of_records (rows t)) ≡ false) where
   items_with : items_of_records (rows u) ≡ with_item o x.item (items_of_records (rows t))
-  items_with = ap items_of_records puts
-      ∙ map-insert (λ r. r.item) (rows t) (place_for o x.item (items_of_records (rows t))) x
-      ∙ sym (with_place o x.item (items_of_records (rows t)))
+  items_with = grind (arith, nat_tests, map-insert, with_place)
 
   listed_with : listed (shape u)
       ≡ insert (listed (shape t)) (place_for o x.item (items_of_records (rows t))) x.node
-  listed_with =
-      let p = place_for o x.item (items_of_records (rows t)) in
-      listed_rows u ∙ ap (map (λ r. r.node)) puts ∙ map-insert (λ r. r.node) (rows t) p x
-      ∙ ap (λ xs. insert xs p x.node) (sym (listed_rows t))
+  listed_with = grind (arith, nat_tests, listed_rows, map-insert)
 
   led_with : LeadLinks n c (shape t) (shape u) links
   led_with = lead n is.one_copy (record {
@@ -359,9 +338,7 @@ pub met_none : {K : Type 0} (o : Order K) → IsLawful o → IsInLine o → {i :
     o.valid i ≡ true → (t : ColouredTree) → IsTable o (items_of_records (rows t)) → {n c room : ℕ} →
     {shown : Picture} → picture_of n c t room ≡ shown
     → meets_on_the_way o i [] t ≡ meets o i shown.table
-met_none o law line {i = i} valid t is view =
-    met_meets o i [] law line valid t is ∙ ap (meets o i) (without_none (items_of_records (rows t)))
-    ∙ ap (λ (p : Picture). meets o i p.table) view
+met_none o law line {i = i} valid t is view = grind (arith, nat_tests, met_meets, without_none)
 
 -- a way down has so few nodes that a cursor has a step for each
 pub few_steps : {K : Type 0} (o : Order K) (n c : ℕ) (t : ColouredTree) (room : ℕ) → n ≤ most_nodes

@@ -40,3 +40,5 @@ pub use Rattle.word_layout.specs.Words.{Nodes, none, fork, words_for, at, item_a
 pub use Rattle.word_layout.specs.Words.{Holds, root_word, left_word, right_word, a_word, b_word}
 pub use Rattle.word_layout.specs.Words.{tag_word, listed, Reaches, InUse}
 pub use Rattle.word_layout.specs.declared.stores.Store.{Store}
+pub use Rattle.std.proofs.lemmas.Grind.{common_steps}
+pub use Rattle.std.proofs.lemmas.Bool.Decides.{nat_tests}

@@ -1,10 +1,9 @@
 -- Lines that are cut off, and a line that is open.
 use Rattle.recordings.proofs.Words.{◌≡◌, ◌∙◌, ◌++◌, ◌<◌, ◌∷◌, ◌==◌, ℕ, List, [], Bool, true, false}
-use Rattle.recordings.proofs.Words.{refl, sym, ap, subst, inl, inr, arith, length, map}
-use Rattle.recordings.proofs.Words.{append_assoc, append-nil, AreWhole, IsLine, has_end, is_long}
-use Rattle.recordings.proofs.Words.{lines, said_by, said_in, IsOpen, TakesBlock, kept_with}
-use Rattle.recordings.proofs.Words.{length-append, cond, onto_first, or_parts, ltb-true, lt-ltb}
-use Rattle.recordings.proofs.Words.{true≢false}
+use Rattle.recordings.proofs.Words.{refl, sym, ap, inl, inr, arith, length, map, append_assoc}
+use Rattle.recordings.proofs.Words.{append-nil, AreWhole, IsLine, has_end, is_long, lines, said_by}
+use Rattle.recordings.proofs.Words.{said_in, IsOpen, TakesBlock, kept_with, length-append, cond}
+use Rattle.recordings.proofs.Words.{onto_first, or_parts, ltb-true, lt-ltb, true≢false}
 use Rattle.logs.proofs.LineLemmas.{line_then, last_line, no_end_behind, whole_nothing, whole_then}
 
 -- a line, and then others
@@ -125,8 +124,7 @@ takes_none begun begun' line block o unended is = (
     whole = whole_nothing;
     no_end = no_end_behind line block o.no_end unended;
   },
-  subst (λ b. IsOpen b (line ++ block)) (sym is)
-      (kept_so begun line block (is_long begun) refl o unended),
+  rw is (kept_so begun line block (is_long begun) refl o unended),
   refl,
 )
 

@@ -1,17 +1,15 @@
 -- Events that are recorded, block by block.
 use Rattle.recordings.proofs.Words.{◌≡◌, ◌∙◌, ◌+◌, ◌≤◌, ◌<◌, ◌-◌, ◌^◌, ◌⊎◌, ◌∷◌, ◌++◌, ℕ, List, []}
-use Rattle.recordings.proofs.Words.{Option, Some, None, Result, Ok, Err, refl, sym, ap, subst, inl}
-use Rattle.recordings.proofs.Words.{inr, arith, length, take, append_assoc, append-nil}
-use Rattle.recordings.proofs.Words.{length-append, flat_map, flat_map-append, option_to_list}
-use Rattle.recordings.proofs.Words.{IfSome, IsErrAnd, handed_on, said_in, IsOpen, TakesBlock}
-use Rattle.recordings.proofs.Words.{CarriedOn, EventLine, BlockWritten, after_block}
-use Rattle.recordings.proofs.Words.{Output, Fault, Read, TooLong, Stop, Block, Event, Failed}
-use Rattle.recordings.proofs.Words.{Happen, ReadsBlock, Seen, AreAsKnown, ReadsOnce, Turn}
-use Rattle.recordings.proofs.Words.{events_of, read_in}
+use Rattle.recordings.proofs.Words.{Option, None, Result, Ok, Err, refl, sym, ap, subst, inl, inr}
+use Rattle.recordings.proofs.Words.{arith, length, take, append-nil, length-append, IsErrAnd}
+use Rattle.recordings.proofs.Words.{handed_on, said_in, IsOpen, TakesBlock, CarriedOn, EventLine}
+use Rattle.recordings.proofs.Words.{BlockWritten, after_block, Output, Fault, Read, TooLong, Stop}
+use Rattle.recordings.proofs.Words.{Event, Failed, ReadsBlock, Seen, Turn}
 use Rattle.recordings.specs.declared.recorder.Stop.TheVariants as stop
-use Rattle.std.specs.Io.KnownBytes.{Appends, Consumes, IsAtEnd}
+use Rattle.std.specs.Io.KnownBytes.{Appends}
 use Rattle.std.proofs.KnownBytes.{Appends-nil, Appends-trans}
-use Rattle.std.proofs.lemmas.List.Elements.{All-nil, All-push}
+use Rattle.command_listings.proofs.ReadLemmas.{AreRead, happened, is_over, known_now, lost}
+use Rattle.command_listings.proofs.ReadLemmas.{nothing_read, one_turn, turn_read}
 use Rattle.texts.specs.Output.{contents_of, has_failed}
 use Rattle.logs.specs.Annotation.{KeepsNothingBack}
 use Rattle.recordings.proofs.LineLemmas.{same_open}
@@ -19,41 +17,6 @@ use Rattle.recordings.specs.Recorder.{IsEnded, IsOutOfMemory, IsRecordedTo, IsSt
 use Rattle.recordings.specs.Recorder.{IsUnread, Point, FailsToWrite, PutsLines, PutsSaid, ReadsFor}
 use Rattle.recordings.specs.Recorder.{RecordsBlocks, Writes, first_point, no_memory, no_turn}
 use Rattle.recordings.specs.Recorder.{one_more, written_of}
-
--- events, and then more
-happen_then : (h h' h'' : Option (List Event)) (events more : List Event) → Happen h h' events
-    → Happen h' h'' more → Happen h h'' (events ++ more)
-happen_then None h' h'' events more first second = tt
-happen_then (Some earlier) h' h'' events more first second =
-    let is : h'' ≡ Some ((earlier ++ events) ++ more) =
-    subst (λ h. IfSome h (λ e. h'' ≡ Some (e ++ more))) first second in
-    is ∙ ap Some (append_assoc earlier events more)
-
-nothing_happens : (h : Option (List Event)) → Happen h h []
-nothing_happens None = tt
-nothing_happens (Some earlier) = ap Some (sym (append-nil earlier))
-
-consumed_then : (l l' l'' : Option (List ℕ)) (bytes more : List ℕ) → Consumes l l' bytes
-    → Consumes l' l'' more → Consumes l l'' (bytes ++ more)
-consumed_then None l' l'' bytes more first second = tt
-consumed_then (Some xs) None l'' bytes more first second = absurd first
-consumed_then (Some xs) (Some ys) None bytes more first second = absurd second
-consumed_then (Some xs) (Some ys) (Some zs) bytes more first second =
-    first ∙ ap (λ l. bytes ++ l) second ∙ sym (append_assoc bytes more zs)
-
-nothing_consumed : (l : Option (List ℕ)) → Consumes l l []
-nothing_consumed None = tt
-nothing_consumed (Some xs) = refl
-
--- nothing is read
-pub reads_nothing : (seen : Seen) → ReadsOnce seen seen None
-reads_nothing seen = record {
-  happen = nothing_happens seen.events;
-  left = refl;
-  known = λ _. tt;
-  next = λ is. is;
-  later = refl;
-}
 
 module _ {W : Type 0} (contents : W → Option (List ℕ)) where
   -- what a text that was written is for all that was
@@ -64,10 +27,7 @@ module _ {W : Type 0} (contents : W → Option (List ℕ)) where
   appended_more w now w' written text before (inl (none, same)) =
       subst (λ o. Appends (contents_of contents w) (contents_of contents o) (written ++ text))
       (sym same)
-      (subst (λ t. Appends (contents_of contents w) (contents_of contents now) (written ++ t))
-      (sym none)
-      (subst (Appends (contents_of contents w) (contents_of contents now))
-      (sym (append-nil written)) before))
+      (rw (none, append-nil written) before)
   appended_more w now w' written text before (inr put) =
       Appends-trans _ _ _ written text before put.2
 
@@ -88,15 +48,7 @@ module _ {W : Type 0} (contents : W → Option (List ℕ)) where
       → PutsSaid contents c said reading w w' result
       → PutsSaid contents c' said' reading w w' result
   puts_same {c' = c'} {said = said} reading w w' result same lines puts =
-      subst (λ s. PutsSaid contents c' s reading w w' result) lines
-      (subst (λ x. PutsSaid contents x said reading w w' result) same puts)
-
-  pub puts_text : (c : CarriedOn) (text text' : List ℕ) (before after : Seen) (w w' : Output W)
-      (result : Result CarriedOn Stop) → text ≡ text'
-      → PutsLines contents c (said_in text) before after w w' result
-      → PutsLines contents c (said_in text') before after w w' result
-  puts_text c text text' before after w w' result same puts =
-      subst (λ t. PutsLines contents c (said_in t) before after w w' result) same puts
+      rw (same, lines) at puts
 
   -- a write of what lines say failed
   pub puts_failed : (c : CarriedOn) (said : List EventLine) (listing : Option (List ℕ))
@@ -113,8 +65,8 @@ module _ {W : Type 0} (contents : W → Option (List ℕ)) where
         inr (inr (
           asked,
           shown,
-          subst (λ t. FailsToWrite contents w w' t why) (text_is ∙ ap (λ (p : BlockWritten). p.text)
-              is ∙ ap (λ (l : Option (List ℕ)). (after_block said l c).text) listed) fails,
+          rw (text_is ∙ ap (λ (p : BlockWritten). p.text)
+              is ∙ ap (λ (l : Option (List ℕ)). (after_block said l c).text) listed) at fails,
         )),
       )
 
@@ -128,70 +80,45 @@ module _ {W : Type 0} (contents : W → Option (List ℕ)) where
       pub carried : c ≡ point.carried
       pub is_open : IsOpen begun point.line
       pub to : IsRecordedTo contents turns point before then w now
-      pub next : then.next ≡ then.later
-      pub later : then.later ≡ before.later
+      pub read : AreRead before then turns
       pub many : n ≤ length turns
 
     pub begun : (c : CarriedOn) (line : List ℕ) → c ≡ first_point.carried → IsOpen line []
         → before.next ≡ before.later → IsOn before w c line 0
-    begun c line first is_open known = record {
-      turns = [];
-      point = first_point;
-      carried = first;
-      is_open = is_open;
-      to = record {
-        written = [];
-        recorded = no_turn;
-        happen = nothing_happens before.events;
-        consumed = nothing_consumed before.left;
-        known = All-nil _;
-        appended = Appends-nil _;
-        sound = refl;
-        none_back = inl refl;
-      };
-      next = known;
-      later = refl;
-      many = omega arith;
-    }
+    begun c line first is_open known =
+        let none = nothing_read before known in
+        record {
+          turns = [];
+          point = first_point;
+          carried = first;
+          is_open = is_open;
+          to = record {
+            written = [];
+            recorded = no_turn;
+            happen = none.happen;
+            consumed = none.consumed;
+            known = none.known;
+            appended = Appends-nil _;
+            sound = refl;
+            none_back = inl refl;
+          };
+          read = none;
+          many = omega arith;
+        }
 
     module _ (then : Seen) (now : Output W) (c : CarriedOn) (begun : List ℕ) (n : ℕ)
         (on : IsOn then now c begun n) where
       module _ (mid after : Seen) (room : List ℕ) (count : ℕ)
           (read : ReadsBlock then mid room (Ok count)) where
-        abbrev pub block : List ℕ
-        block = take count room
-
-        next_known : mid.next ≡ mid.later
-        next_known = read.next ∙ on.next ∙ sym read.later
-
-        -- what was read in a turn more
-        one_turn : (reading : Option Event) → ReadsOnce mid after reading
-            → Happen then.events after.events (Block block ∷ option_to_list reading)
-        one_turn reading once = happen_then then.events mid.events after.events (Block block ∷ [])
-            (option_to_list reading) read.event once.happen
-
-        lost : (reading : Option Event) → ReadsOnce mid after reading
-            → Consumes then.left after.left block
-        lost reading once = subst (λ l. Consumes then.left l block) (sym once.left) read.bytes.0
-
-        known_of : (reading : Option Event) → ReadsOnce mid after reading
-            → AreAsKnown before.later reading
-        known_of reading once =
-            subst (λ g. AreAsKnown g reading) (read.later ∙ on.later) (once.known next_known)
-
-        known_now : (reading : Option Event) → ReadsOnce mid after reading
-            → AreAsKnown then.later reading
-        known_now reading once =
-            subst (λ g. AreAsKnown g reading) read.later (once.known next_known)
-
         -- one turn more
         pub turned : (begun' text : List ℕ) (c' : CarriedOn) (w' : Output W)
-            → ((line : List ℕ) → IsOpen begun line → TakesBlock begun' line block text)
+            → ((line : List ℕ) → IsOpen begun line → TakesBlock begun' line (take count room) text)
             → PutsLines contents c (said_in text) mid after now w' (Ok c')
             → IsOn after w' c' begun' (n + 1)
         turned begun' text c' w' takes (reading, once, puts) =
             let (ended, line', ends, is_open, same) = takes on.point.line on.is_open in
-            let t : Turn = record { block = block; reading = reading } in
+            let t : Turn = record { block = take count room; reading = reading } in
+            let are = turn_read read once on.read in
             let (asked, shown, carried, writes) =
             puts_same reading now w' (Ok c') on.carried same puts in
             let more = (written_of on.point.carried (said_in ended) reading).text in
@@ -207,24 +134,14 @@ module _ {W : Type 0} (contents : W → Option (List ℕ)) where
                 written = on.to.written ++ more;
                 recorded = one_more on.turns on.point on.to.written ended line' t on.to.recorded
                     ends asked shown;
-                happen = subst (Happen before.events after.events)
-                    (sym (flat_map-append events_of on.turns (t ∷ [])
-                    ∙ ap (λ l. flat_map events_of on.turns ++ l) (append-nil (events_of t))))
-                    (happen_then before.events then.events after.events _ _ on.to.happen
-                    (one_turn reading once));
-                consumed = subst (Consumes before.left after.left)
-                    (sym (flat_map-append (λ (x : Turn). x.block) on.turns (t ∷ [])
-                    ∙ ap (λ l. read_in on.turns ++ l) (append-nil block)))
-                    (consumed_then before.left then.left after.left (read_in on.turns) block
-                    on.to.consumed (lost reading once));
-                known = All-push (λ (x : Turn). AreAsKnown before.later x.reading) on.turns t
-                    on.to.known (known_of reading once);
+                happen = are.happen;
+                consumed = are.consumed;
+                known = are.known;
                 appended = appended_more w now w' on.to.written more on.to.appended writes;
                 sound = sound_more now w' more writes ∙ on.to.sound;
                 none_back = none_back_more w now w' more on.to.none_back writes;
               };
-              next = once.next next_known ∙ sym once.later;
-              later = once.later ∙ read.later ∙ on.later;
+              read = are;
               many = omega (arith, on.many, length-append on.turns (t ∷ []));
             }
 
@@ -252,7 +169,7 @@ module _ {W : Type 0} (contents : W → Option (List ℕ)) where
           → ReadsBlock then after room (Err f) → RecordsBlocks contents before after w now result
       unread after room f result handed is read =
           failed_so after now _ result handed (inl (
-            subst (λ f. Happen then.events after.events (Failed f ∷ [])) is read.event,
+            rw is at read.event,
             refl,
             ap (λ f. Err (stop.Failed f)) is,
           ))
@@ -285,24 +202,15 @@ module _ {W : Type 0} (contents : W → Option (List ℕ)) where
               ended,
               line',
               why,
-              one_turn mid after room count read reading once,
-              lost mid after room count read reading once,
-              known_now mid after room count read reading once,
+              one_turn read once,
+              lost read once,
+              known_now read once on.read.next,
               ends,
               puts_same reading now w' (Err why) on.carried same puts,
               refl,
             ))))
 
         module _ (end : count ≡ 0) (room_for : 0 < length room) where
-          happened : (reading : Option Event) → ReadsOnce mid after reading
-              → Happen then.events after.events (Block [] ∷ option_to_list reading)
-          happened reading once = subst
-              (λ k. Happen then.events after.events (Block (take k room) ∷ option_to_list reading))
-              end (one_turn mid after room count read reading once)
-
-          is_over : (reading : Option Event) → ReadsOnce mid after reading → IsAtEnd after.left
-          is_over reading once = subst IsAtEnd (sym once.left) (read.bytes.1 end room_for)
-
           last_so : (reading : Option Event) (result : Result CarriedOn Stop)
               → PutsSaid contents c (said_in begun) reading now w' result
               → PutsSaid contents on.point.carried (said_in on.point.line) reading now w' result
@@ -315,9 +223,9 @@ module _ {W : Type 0} (contents : W → Option (List ℕ)) where
               → RecordsBlocks contents before after w w' (Ok tt)
           at_end c' (reading, once, puts) = so_far after w' (Ok tt) (inr (inr (inr (inl (
             reading,
-            happened reading once,
-            is_over reading once,
-            known_now mid after room count read reading once,
+            happened read once end,
+            is_over read once end room_for,
+            known_now read once on.read.next,
             (c', last_so reading (Ok c') puts),
           )))))
 
@@ -329,9 +237,9 @@ module _ {W : Type 0} (contents : W → Option (List ℕ)) where
           not_ended why result handed (reading, once, puts) =
               failed_so after w' why result handed (inr (inr (inr (inl (
                 reading,
-                happened reading once,
-                is_over reading once,
-                known_now mid after room count read reading once,
+                happened read once end,
+                is_over read once end room_for,
+                known_now read once on.read.next,
                 last_so reading (Err why) puts,
               )))))
 

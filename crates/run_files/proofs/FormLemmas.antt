@@ -1,62 +1,39 @@
 -- Words of another number than that of a form are not of this form.
 use Rattle.run_files.proofs.Words.{◌≡◌, ℕ, ◌<◌, ◌≤◌, Bool, ◌&&◌, List, [], ◌∷◌, length, map, None}
-use Rattle.run_files.proofs.Words.{Option, refl, ap, arith, Bor, slice_index_or, bytes_eq, codes}
-use Rattle.run_files.proofs.Words.{Words, header_of_words, header_with, number_of, command_of}
-use Rattle.run_files.proofs.Words.{command_with, erase_of, insert_of, read_of, start_of, write_of}
+use Rattle.run_files.proofs.Words.{◌≢◌, Option, refl, ap, arith, Bor, slice_index_or, bytes_eq}
+use Rattle.run_files.proofs.Words.{codes, Words, header_of_words, header_with, number_of}
+use Rattle.run_files.proofs.Words.{command_of, command_with, erase_of, insert_of, read_of, start_of}
+use Rattle.run_files.proofs.Words.{write_of}
 use Rattle.facts.proofs.Options.{cond-None}
 
-pub insert_short : (words : Words) → length words < 3 → insert_of (map (λ w. w.now) words) ≡ None
-insert_short [] few = refl
-insert_short (a ∷ []) few = refl
-insert_short (a ∷ b ∷ []) few = refl
-insert_short (a ∷ b ∷ c ∷ words) few = absurd (omega arith)
+pub insert_other : (words : Words) → length words ≢ 3 → insert_of (map (λ w. w.now) words) ≡ None
+insert_other [] other = refl
+insert_other (a ∷ []) other = refl
+insert_other (a ∷ b ∷ []) other = refl
+insert_other (a ∷ b ∷ c ∷ []) other = absurd (other refl)
+insert_other (a ∷ b ∷ c ∷ d ∷ words) other = refl
 
-pub insert_long : (words : Words) → 4 ≤ length words → insert_of (map (λ w. w.now) words) ≡ None
-insert_long [] many = absurd (omega arith)
-insert_long (a ∷ []) many = absurd (omega arith)
-insert_long (a ∷ b ∷ []) many = absurd (omega arith)
-insert_long (a ∷ b ∷ c ∷ []) many = absurd (omega arith)
-insert_long (a ∷ b ∷ c ∷ d ∷ words) many = refl
+pub erase_other : (words : Words) → length words ≢ 1 → erase_of (map (λ w. w.now) words) ≡ None
+erase_other [] other = refl
+erase_other (a ∷ []) other = absurd (other refl)
+erase_other (a ∷ b ∷ words) other = refl
 
-pub erase_short : (words : Words) → length words < 1 → erase_of (map (λ w. w.now) words) ≡ None
-erase_short [] few = refl
-erase_short (a ∷ words) few = absurd (omega arith)
+pub write_other : (words : Words) → length words ≢ 1 → write_of (map (λ w. w.now) words) ≡ None
+write_other [] other = refl
+write_other (a ∷ []) other = absurd (other refl)
+write_other (a ∷ b ∷ words) other = refl
 
-pub erase_long : (words : Words) → 2 ≤ length words → erase_of (map (λ w. w.now) words) ≡ None
-erase_long [] many = absurd (omega arith)
-erase_long (a ∷ []) many = absurd (omega arith)
-erase_long (a ∷ b ∷ words) many = refl
+pub start_other : (words : Words) → length words ≢ 2 → start_of (map (λ w. w.now) words) ≡ None
+start_other [] other = refl
+start_other (a ∷ []) other = refl
+start_other (a ∷ b ∷ []) other = absurd (other refl)
+start_other (a ∷ b ∷ c ∷ words) other = refl
 
-pub write_short : (words : Words) → length words < 1 → write_of (map (λ w. w.now) words) ≡ None
-write_short [] few = refl
-write_short (a ∷ words) few = absurd (omega arith)
-
-pub write_long : (words : Words) → 2 ≤ length words → write_of (map (λ w. w.now) words) ≡ None
-write_long [] many = absurd (omega arith)
-write_long (a ∷ []) many = absurd (omega arith)
-write_long (a ∷ b ∷ words) many = refl
-
-pub start_short : (words : Words) → length words < 2 → start_of (map (λ w. w.now) words) ≡ None
-start_short [] few = refl
-start_short (a ∷ []) few = refl
-start_short (a ∷ b ∷ words) few = absurd (omega arith)
-
-pub start_long : (words : Words) → 3 ≤ length words → start_of (map (λ w. w.now) words) ≡ None
-start_long [] many = absurd (omega arith)
-start_long (a ∷ []) many = absurd (omega arith)
-start_long (a ∷ b ∷ []) many = absurd (omega arith)
-start_long (a ∷ b ∷ c ∷ words) many = refl
-
-pub read_short : (words : Words) → length words < 2 → read_of (map (λ w. w.now) words) ≡ None
-read_short [] few = refl
-read_short (a ∷ []) few = refl
-read_short (a ∷ b ∷ words) few = absurd (omega arith)
-
-pub read_long : (words : Words) → 3 ≤ length words → read_of (map (λ w. w.now) words) ≡ None
-read_long [] many = absurd (omega arith)
-read_long (a ∷ []) many = absurd (omega arith)
-read_long (a ∷ b ∷ []) many = absurd (omega arith)
-read_long (a ∷ b ∷ c ∷ words) many = refl
+pub read_other : (words : Words) → length words ≢ 2 → read_of (map (λ w. w.now) words) ≡ None
+read_other [] other = refl
+read_other (a ∷ []) other = refl
+read_other (a ∷ b ∷ []) other = absurd (other refl)
+read_other (a ∷ b ∷ c ∷ words) other = refl
 
 pub verb_alone : (batches : Bool) (verb : List ℕ) → command_with batches (verb ∷ []) ≡ None
 verb_alone batches verb =
@@ -69,43 +46,27 @@ verb_alone batches verb =
 
 pub command_long : (verb : List ℕ) (words : List (List ℕ)) → 3 < length words
     → command_of (verb ∷ words) ≡ None
-command_long verb [] many = absurd (omega arith)
-command_long verb (a ∷ []) many = absurd (omega arith)
-command_long verb (a ∷ b ∷ []) many = absurd (omega arith)
-command_long verb (a ∷ b ∷ c ∷ []) many = absurd (omega arith)
 command_long verb (a ∷ b ∷ c ∷ d ∷ words) many =
     cond-None (bytes_eq verb (codes "insert")) _ _ refl
     (cond-None (bytes_eq verb (codes "erase")) _ _ refl
     (cond-None (bytes_eq verb (codes "write")) _ _ refl
     (cond-None (bytes_eq verb (codes "start")) _ _ refl
     (cond-None (bytes_eq verb (codes "read")) _ _ refl refl))))
+command_long verb _ many = absurd (omega arith)
 
-pub header_short : (words : Words) → length words < 4
+pub header_other : (words : Words) → length words ≢ 4 → length words ≢ 5
     → header_of_words (map (λ w. w.now) words) ≡ None
-header_short [] few = refl
-header_short (a ∷ []) few = refl
-header_short (a ∷ b ∷ []) few = refl
-header_short (a ∷ b ∷ c ∷ []) few = refl
-header_short (a ∷ b ∷ c ∷ d ∷ words) few = absurd (omega arith)
-
-pub header_long : (words : Words) → 6 ≤ length words
-    → header_of_words (map (λ w. w.now) words) ≡ None
-header_long [] many = absurd (omega arith)
-header_long (a ∷ []) many = absurd (omega arith)
-header_long (a ∷ b ∷ []) many = absurd (omega arith)
-header_long (a ∷ b ∷ c ∷ []) many = absurd (omega arith)
-header_long (a ∷ b ∷ c ∷ d ∷ []) many = absurd (omega arith)
-header_long (a ∷ b ∷ c ∷ d ∷ e ∷ []) many = absurd (omega arith)
-header_long (a ∷ b ∷ c ∷ d ∷ e ∷ f ∷ words) many = refl
+header_other [] four five = refl
+header_other (a ∷ []) four five = refl
+header_other (a ∷ b ∷ []) four five = refl
+header_other (a ∷ b ∷ c ∷ []) four five = refl
+header_other (a ∷ b ∷ c ∷ d ∷ []) four five = absurd (four refl)
+header_other (a ∷ b ∷ c ∷ d ∷ e ∷ []) four five = absurd (five refl)
+header_other (a ∷ b ∷ c ∷ d ∷ e ∷ f ∷ words) four five = refl
 
 pub header_too_long : (words : List (List ℕ)) → 5 < length words → header_of_words words ≡ None
-header_too_long [] many = absurd (omega arith)
-header_too_long (a ∷ []) many = absurd (omega arith)
-header_too_long (a ∷ b ∷ []) many = absurd (omega arith)
-header_too_long (a ∷ b ∷ c ∷ []) many = absurd (omega arith)
-header_too_long (a ∷ b ∷ c ∷ d ∷ []) many = absurd (omega arith)
-header_too_long (a ∷ b ∷ c ∷ d ∷ e ∷ []) many = absurd (omega arith)
 header_too_long (a ∷ b ∷ c ∷ d ∷ e ∷ f ∷ words) many = refl
+header_too_long _ many = absurd (omega arith)
 
 pub header_five : (words : Words) (d : Bor (List ℕ)) (start : Option ℕ)
     → start ≡ number_of (slice_index_or words 4 d).now → 5 ≤ length words → length words < 6

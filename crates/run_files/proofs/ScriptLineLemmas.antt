@@ -1,12 +1,12 @@
 -- What a line of a script is.
-use Rattle.run_files.proofs.Words.{cond, ◌≡◌, ℕ, ◌<◌, ◌≤◌, Bool, true, false, nat_lt, List, [], ◌∷◌}
+use Rattle.run_files.proofs.Words.{cond, ◌≡◌, ℕ, ◌<◌, Bool, true, false, nat_lt, List, [], ◌∷◌}
 use Rattle.run_files.proofs.Words.{length, map, Option, Some, None, Result, Ok, Err, MatchResult}
 use Rattle.run_files.proofs.Words.{refl, sym, ap, ◌∙◌, subst, arith, All, IfOk, codes}
 use Rattle.run_files.proofs.Words.{option_and_then, option_map_or, bytes_eq, words_of, between}
 use Rattle.run_files.proofs.Words.{number_of, entries_from, GivesInGrammar, is_passed_over}
 use Rattle.run_files.proofs.Words.{is_too_long, change_by, change_named, has_actor, lies_between}
 use Rattle.run_files.proofs.Words.{look_with, most_writers, script_line_by, script_line_of}
-use Rattle.run_files.proofs.Words.{are_entries, Words}
+use Rattle.run_files.proofs.Words.{are_entries, Words, ◌≢◌}
 use Rattle.std.specs.Global.{Vec}
 use Rattle.std.specs.List.{filter_map, cons_option}
 use Rattle.std.proofs.lemmas.List.Elements.{All-cons}
@@ -19,28 +19,18 @@ use Rattle.texts.specs.Understood.{entry_by, AreSaidBy, IsFirstBadFrom}
 
 -- ---- words of another number
 
-pub line_short : (readers : ℕ) (words : Words) → length words < 3
+pub line_other : (readers : ℕ) (words : Words) → length words ≢ 3
     → script_line_of readers (map (λ w. w.now) words) ≡ None
-line_short readers [] few = refl
-line_short readers (a ∷ []) few = refl
-line_short readers (a ∷ b ∷ []) few = refl
-line_short readers (a ∷ b ∷ c ∷ words) few = absurd (omega arith)
-
-pub line_long : (readers : ℕ) (words : Words) → 4 ≤ length words
-    → script_line_of readers (map (λ w. w.now) words) ≡ None
-line_long readers [] many = absurd (omega arith)
-line_long readers (a ∷ []) many = absurd (omega arith)
-line_long readers (a ∷ b ∷ []) many = absurd (omega arith)
-line_long readers (a ∷ b ∷ c ∷ []) many = absurd (omega arith)
-line_long readers (a ∷ b ∷ c ∷ d ∷ words) many = refl
+line_other readers [] other = refl
+line_other readers (a ∷ []) other = refl
+line_other readers (a ∷ b ∷ []) other = refl
+line_other readers (a ∷ b ∷ c ∷ []) other = absurd (other refl)
+line_other readers (a ∷ b ∷ c ∷ d ∷ words) other = refl
 
 pub line_too_long : (readers : ℕ) (words : List (List ℕ)) → 3 < length words
     → script_line_of readers words ≡ None
-line_too_long readers [] many = refl
-line_too_long readers (a ∷ []) many = refl
-line_too_long readers (a ∷ b ∷ []) many = refl
 line_too_long readers (a ∷ b ∷ c ∷ []) many = absurd (omega arith)
-line_too_long readers (a ∷ b ∷ c ∷ d ∷ words) many = refl
+line_too_long readers _ many = refl
 
 -- ---- the numbers of actors
 

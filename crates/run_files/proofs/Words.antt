@@ -1,5 +1,6 @@
 -- The words that the proofs of this crate use, of whatever crate.
-pub use Rattle.std.proofs.Common.{◌≡◌, ℕ, ◌<◌, ◌≤◌, Bool, ◌&&◌, List, [], ◌∷◌, length, map, None}
+pub use Rattle.std.proofs.Common.{◌≡◌, ◌≢◌, ℕ, ◌<◌, ◌≤◌, Bool, ◌&&◌, List, [], ◌∷◌, length, map}
+pub use Rattle.std.proofs.Common.{None}
 pub use Rattle.std.proofs.Common.{Option, refl, ap, arith, Bor, slice_index_or, cond, true, false}
 pub use Rattle.std.proofs.Common.{nat_lt, Some, Result, Ok, Err, MatchResult, sym, ◌∙◌, subst, ◌++◌}
 pub use Rattle.std.proofs.Common.{inl, inr, rules, tests}

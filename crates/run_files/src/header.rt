@@ -63,7 +63,7 @@ pub(crate) fn header_in(line: &[u8]) -> Option<Header>
     header_in_words(&words_in::<5>(line)?)
 }
 
-#[tactic(auto, using(crate::proofs::FormLemmas::header_short, crate::proofs::FormLemmas::header_long))]
+#[tactic(auto, using(crate::proofs::FormLemmas::header_other))]
 fn header_in_words(words: &[&[u8]]) -> Option<Header>
     ensures { result ≡ header_of_words (map (λ w. w.now) words.now) }
 {

@@ -1,7 +1,7 @@
 -- What histories of updates, and updates that insert alone, leave in a table.
 use Rattle.table_updates.proofs.Words.{◌+◌, ◌<◌, ◌∙◌, ◌∷◌, ◌≡◌, ◌≤◌, Bool, List, None, [], ap}
 use Rattle.table_updates.proofs.Words.{arith, false, flat_map, get_or, inl, inr, length}
-use Rattle.table_updates.proofs.Words.{length-append, refl, subst, sym, true, ℕ, ⊎_elim, ◌==◌, ◌||◌}
+use Rattle.table_updates.proofs.Words.{length-append, refl, subst, sym, true, ℕ, ⊎_elim, ◌||◌}
 use Rattle.table_updates.proofs.Words.{◌⊎◌, Contains, nat_lt, not, lt-ltb, replay, after, erased}
 use Rattle.table_updates.proofs.Words.{first_that_holds, inserted, refusal_for, some_invalid}
 use Rattle.table_updates.proofs.Words.{some_meet, with_items, none_meets, Order, half_open, meets}
@@ -95,11 +95,7 @@ pub insert_accepted : (n limit : ℕ) (i : Item) (table : List Item) (seq : ℕ)
     → length table < n → seq + 2 ≤ limit
     → refusal_for half_open n limit false table seq (Insert i) ≡ None
 insert_accepted n limit i table seq valid apart room left =
-    let v : nat_lt i.a i.b ≡ true = lt-ltb i.a i.b valid in
-    let m = none_meets i table apart in
-    let f : (length table == n) ≡ false = grind (arith, nat_tests) in
-    let s : nat_lt limit (seq + 2) ≡ false = grind (arith, nat_tests) in
-    rw (v, m, f, s) refl
+    grind (arith, nat_tests, lt-ltb, none_meets)
 
 -- of the tests of a batch none holds
 pub no_test_holds : (invalid overlap meet full spent : Bool) → invalid ≡ false → overlap ≡ false

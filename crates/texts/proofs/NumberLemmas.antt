@@ -4,6 +4,8 @@ use Rattle.texts.proofs.Words.{true, List, ◌∷◌, length, Some, None, Bool, 
 use Rattle.texts.proofs.Words.{sym, ap, ◌∙◌, arith, common_steps, list_all, is_digit, digit_value}
 use Rattle.texts.proofs.Words.{digits_value, digits_value_after, digits_value_after-ge, half_fits}
 use Rattle.texts.proofs.Words.{two_halves, numeral}
+use Rattle.texts.proofs.Words.{lt-ltb}
+use Rattle.std.specs.Prelude.{nat_lt, max}
 use Rattle.std.proofs.lemmas.List.Folds.{list_all-append}
 
 pub too_great : (radix most : ℕ) (digits : List ℕ) → 2 ^ 64 ≤ digits_value radix digits
@@ -36,6 +38,14 @@ overflows radix most value i text two h e big =
 -- ---- sixteen digits fit 64 bits
 
 -- ---- eight digits of any value, and two times eight
+
+-- the digits of two halves, by the greater of their bits
+pub both_digits : (high low : List ℕ) (a b m : ℕ)
+    → nat_lt a 16 ≡ list_all (λ c. is_digit c 16) high
+    → nat_lt b 16 ≡ list_all (λ c. is_digit c 16) low → m ≡ max a b → m < 16
+    → (list_all (λ c. is_digit c 16) high ≡ true) × (list_all (λ c. is_digit c 16) low ≡ true)
+both_digits high low a b m of_high of_low greater small =
+    (sym of_high ∙ lt-ltb a 16 (omega arith), sym of_low ∙ lt-ltb b 16 (omega arith))
 
 -- sixteen digits, by their halves
 pub is_sixteen : (high low : List ℕ) → length high ≡ 8 → length low ≡ 8

@@ -4,6 +4,7 @@ use Rattle.word_layout.proofs.Words.{refl, sym, ◌∙◌, ap, subst, append_ass
 use Rattle.word_layout.proofs.Words.{Item, at, root_word, left_word, right_word, Nodes, none, fork}
 use Rattle.word_layout.proofs.Words.{listed, Leads, HoldsTable}
 use Rattle.word_layout.proofs.HoldsLemmas.{size_items, size_listed}
+use Rattle.std.proofs.lemmas.Bool.Decides.{nat_tests}
 
 module _ (m : List ℕ) (n c : ℕ) where
   pub leads_once : (link : ℕ) (t u : Nodes) → Leads m n c link t → Leads m n c link u → t ≡ u
@@ -32,10 +33,7 @@ module _ (m : List ℕ) (n c : ℕ) where
         → ((u : Nodes) → Leads m n c (at m (left_word c i)) u → left - 1 < length (listed u))
         → (t : Nodes) → Leads m n c link t → left < length (listed t)
     left_too_large left some all_large none h = absurd (omega (arith, h, is))
-    left_too_large left some all_large (fork l j r) h =
-        let same : j ≡ i = (let e : suc j ≡ suc i = sym h.0 ∙ is in cc) in
-        let large = all_large l (subst (λ k. Leads m n c (at m (left_word c k)) l) same h.2) in
-        omega (arith, large, length-append (listed l) (j ∷ listed r))
+    left_too_large left some all_large (fork l j r) h = grind (arith, nat_tests, length-append)
 
     pub right_too_large : (left rest : ℕ) (l : Nodes) → 0 < left
         → Leads m n c (at m (left_word c i)) l → rest + length (listed l) ≡ left - 1
@@ -43,17 +41,7 @@ module _ (m : List ℕ) (n c : ℕ) where
         → (t : Nodes) → Leads m n c link t → left < length (listed t)
     right_too_large left rest l some leads count all_large none h = absurd (omega (arith, h, is))
     right_too_large left rest l some leads count all_large (fork k j r) h =
-        let same : j ≡ i = (let e : suc j ≡ suc i = sym h.0 ∙ is in cc) in
-        let twin : k ≡ l = leads_once (at m (left_word c i)) k l
-        (subst (λ p. Leads m n c (at m (left_word c p)) k) same h.2) leads in
-        let large = all_large r (subst (λ p. Leads m n c (at m (right_word c p)) r) same h.3) in
-        omega (
-          arith,
-          large,
-          count,
-          ap (λ x. length (listed x)) twin,
-          length-append (listed k) (j ∷ listed r),
-        )
+        grind (arith, nat_tests, leads_once, length-append)
 
   -- a table is as long as its tree
   pub table_length : (link : ℕ) (table : List Item) → HoldsTable m n c table
@@ -65,6 +53,4 @@ module _ (m : List ℕ) (n c : ℕ) where
 -- the items of a tree, appended in three parts
 pub three_parts : (xs ls rs : List Item) (i : Item) (ys zs ws : List Item) → ys ≡ xs ++ ls
     → zs ≡ ys ++ i ∷ [] → ws ≡ zs ++ rs → ws ≡ xs ++ (ls ++ i ∷ rs)
-three_parts xs ls rs i ys zs ws a b d =
-    d ∙ ap (λ v. v ++ rs) b ∙ append_assoc ys (i ∷ []) rs ∙ ap (λ v. v ++ i ∷ rs) a
-    ∙ append_assoc xs ls (i ∷ rs)
+three_parts xs ls rs i ys zs ws a b d = grind (arith, nat_tests, append_assoc)

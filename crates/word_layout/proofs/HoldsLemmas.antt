@@ -4,11 +4,12 @@ use Rattle.word_layout.proofs.Words.{subst, inl, inr, arith, length-append, AllB
 use Rattle.word_layout.proofs.Words.{Store, at, root_word, a_word, b_word, tag_word, left_word}
 use Rattle.word_layout.proofs.Words.{right_word, item_at, Nodes, none, fork, listed, items, Leads}
 use Rattle.word_layout.proofs.Words.{Holds, HoldsTable, Reaches, by_root, by_left, by_right, InUse}
-use Rattle.word_layout.proofs.Words.{words_after_all, ◌≢◌, ap, get_or-set_other, get_or-set_same}
+use Rattle.word_layout.proofs.Words.{words_after_all, ap, get_or-set_other, get_or-set_same}
 use Rattle.word_layout.proofs.Words.{slice_set, words_after}
 use Rattle.word_layout.proofs.WordLemmas.{IsCopyWord, in_copy}
 use Rattle.word_layout.proofs.StoreLemmas.{Agree, untouched}
 use Rattle.word_layout.proofs.WordLemmas.{used_not_zero}
+use Rattle.std.proofs.lemmas.Bool.Decides.{nat_tests}
 
 -- how many nodes a tree has
 abbrev pub size : Nodes → ℕ
@@ -91,9 +92,7 @@ holds_untouched m n copy table ss away (t, h) = (t, tree_untouched m n copy tabl
 -- a store of word 0, and one that adds one to it
 pub flip_same : (n copy : ℕ) (m : List ℕ) (s : Store) → s.word ≡ 0 → (w : ℕ) → InUse m n copy w
     → at (words_after m s) w ≡ at m w
-flip_same n copy m s z w u =
-    let ne : w ≢ s.word = λ e. used_not_zero m n copy w u (e ∙ z) in
-    get_or-set_other m s.word w s.value 0 ne
+flip_same n copy m s z w u = grind (arith, nat_tests, used_not_zero, get_or-set_other)
 
 pub flip_adds : (m : List ℕ) (s : Store) → 0 < length m → s.word ≡ 0 → s.value ≡ at m 0 + 1
     → at (words_after m s) 0 ≡ at m 0 + 1

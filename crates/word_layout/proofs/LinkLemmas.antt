@@ -4,10 +4,11 @@ use Rattle.word_layout.proofs.Words.{All, AllByRecursion, All-from_recursion, al
 use Rattle.word_layout.proofs.Words.{AreLinkStores, IsItemWord, IsLinkWord, words_after_all, InUse}
 use Rattle.word_layout.proofs.Words.{Reaches, a_word, at, b_word, by_left, by_right, by_root}
 use Rattle.word_layout.proofs.Words.{item_at, left_word, right_word, root_word, tag_word, words_for}
-use Rattle.word_layout.proofs.Words.{Store, ◌-◌}
+use Rattle.word_layout.proofs.Words.{Store}
 use Rattle.word_layout.proofs.StoreLemmas.{Agree, untouched}
 use Rattle.word_layout.proofs.WordLemmas.{IsCopyWord, in_copy, link_no_item, link_no_other}
 use Rattle.word_layout.proofs.WordLemmas.{link_place}
+use Rattle.std.proofs.lemmas.Bool.Decides.{nat_tests}
 
 pub left_in : (n c i : ℕ) → c ≤ 1 → i < n → left_word c i < words_for n
 left_in n c i small lt = omega arith
@@ -18,9 +19,7 @@ right_in n c i small lt = omega arith
 pub links_in_range : (n copy : ℕ) (links : List Store) → copy ≤ 1 → AreLinkStores n copy links
     → All (λ (s : Store). s.word < words_for n) links
 links_in_range n copy links one are =
-    All-from_recursion (λ (s : Store). s.word < words_for n) links
-    (all_weaker (λ (s : Store). IsLinkWord n copy s.word) (λ (s : Store). s.word < words_for n)
-    (λ s a. (link_place n copy s.word one a).1) links are)
+    grind (arith, nat_tests, All-from_recursion, all_weaker, link_place)
 
 -- links leave the words of items as they are
 pub same_item : (m m' : List ℕ) (i : ℕ) → Agree (IsItemWord i) m m' → item_at m' i ≡ item_at m i
@@ -38,9 +37,7 @@ links_not_zero n copy ss c are = all_weaker (λ (s : Store). IsLinkWord n copy s
 
 pub links_elsewhere : (n copy other : ℕ) (ss : List Store) → copy + other ≡ 1
     → AreLinkStores n copy ss → AllByRecursion (λ (s : Store). IsCopyWord other s.word → ⊥) ss
-links_elsewhere n copy other ss c are =
-    all_weaker (λ (s : Store). IsLinkWord n copy s.word) (λ (s : Store). IsCopyWord other s.word
-    → ⊥) (λ s a. link_no_other n copy other s.word c a) ss are
+links_elsewhere n copy other ss c are = grind (arith, nat_tests, all_weaker, link_no_other)
 
 pub zero_kept : (m : List ℕ) (ss : List Store) → AllByRecursion (λ (s : Store). s.word ≢ 0) ss
     → at (words_after_all m ss) 0 ≡ at m 0

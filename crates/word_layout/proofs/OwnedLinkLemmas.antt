@@ -3,14 +3,13 @@ use Rattle.word_layout.proofs.Words.{◌≡◌, ◌≢◌, ℕ, ◌<◌, ◌≤�
 use Rattle.word_layout.proofs.Words.{arith, ◌⊎◌, AllByRecursion, Store, at, left_word, right_word}
 use Rattle.word_layout.proofs.Words.{root_word, words_after_all, AreLinkStores}
 use Rattle.word_layout.proofs.StoreLemmas.{untouched}
+use Rattle.std.proofs.lemmas.Bool.Decides.{nat_tests}
 
 abbrev pub IsLinkOf : ℕ → ℕ → ℕ → Type 0
 IsLinkOf c i w = (w ≡ left_word c i) ⊎ (w ≡ right_word c i)
 
 pub link_owner : (c i j w : ℕ) → IsLinkOf c i w → IsLinkOf c j w → i ≡ j
-link_owner c i j w a b =
-    ⊎_elim (λ e. ⊎_elim (λ f. omega arith) (λ f. absurd (omega arith)) b)
-    (λ e. ⊎_elim (λ f. absurd (omega arith)) (λ f. omega arith) b) a
+link_owner c i j w a b = grind (arith, nat_tests)
 
 -- stores of links of these nodes, each of a link to one of n nodes
 abbrev pub Owns : ℕ → ℕ → (ℕ → Type 0) → List Store → Type 0

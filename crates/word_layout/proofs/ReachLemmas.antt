@@ -5,6 +5,7 @@ use Rattle.word_layout.proofs.Words.{Contains-append_right, Contains-append_case
 use Rattle.word_layout.proofs.Words.{root_word, left_word, right_word, Nodes, none, fork, listed}
 use Rattle.word_layout.proofs.Words.{Leads, Reaches, by_root, by_left, by_right}
 use Rattle.facts.proofs.Members.{Contains-cons_cases, Contains-rest}
+use Rattle.std.proofs.lemmas.Bool.Decides.{nat_tests}
 
 abbrev pub IsIn : Nodes → ℕ → Type 0
 IsIn none i = ⊥
@@ -18,6 +19,18 @@ record Below (m : List ℕ) (n copy : ℕ) (t : Nodes) (i : ℕ) : Type 0 where
   leads_right : Leads m n copy (at m (right_word copy i)) r
   in_left : (j : ℕ) → IsIn l j → IsIn t j
   in_right : (j : ℕ) → IsIn r j → IsIn t j
+
+-- what is below a node of a subtree is below it in the tree
+within : (m : List ℕ) (n copy i : ℕ) (part whole : Nodes)
+    → ((j : ℕ) → IsIn part j → IsIn whole j) → Below m n copy part i → Below m n copy whole i
+within m n copy i part whole is_part b = record {
+  l = b.l;
+  r = b.r;
+  leads_left = b.leads_left;
+  leads_right = b.leads_right;
+  in_left = λ j q. is_part j (b.in_left j q);
+  in_right = λ j q. is_part j (b.in_right j q);
+}
 
 below : (m : List ℕ) (n copy : ℕ) (t : Nodes) (link i : ℕ) → Leads m n copy link t → IsIn t i
     → Below m n copy t i
@@ -33,22 +46,8 @@ below m n copy (fork l j r) link i h is =
       in_right = λ k p. inr (inr p);
     })
     (⊎_elim
-    (λ p. let b = below m n copy l _ i h.2 p in record {
-      l = b.l;
-      r = b.r;
-      leads_left = b.leads_left;
-      leads_right = b.leads_right;
-      in_left = λ k q. inr (inl (b.in_left k q));
-      in_right = λ k q. inr (inl (b.in_right k q));
-    })
-    (λ p. let b = below m n copy r _ i h.3 p in record {
-      l = b.l;
-      r = b.r;
-      leads_left = b.leads_left;
-      leads_right = b.leads_right;
-      in_left = λ k q. inr (inr (b.in_left k q));
-      in_right = λ k q. inr (inr (b.in_right k q));
-    }))
+    (λ p. within m n copy i l (fork l j r) (λ k q. inr (inl q)) (below m n copy l _ i h.2 p))
+    (λ p. within m n copy i r (fork l j r) (λ k q. inr (inr q)) (below m n copy r _ i h.3 p)))
     is
 
 at_top : (m : List ℕ) (n copy : ℕ) (t : Nodes) (link i : ℕ) → Leads m n copy link t → link ≡ suc i
@@ -98,6 +97,10 @@ pub listed_below : (m : List ℕ) (n copy link : ℕ) (t : Nodes) → Leads m n 
     → AllByRecursion (λ i. i < n) (listed t)
 listed_below m n copy link none h = tt
 listed_below m n copy link (fork l i r) h =
-    all_append (λ j. j < n) (listed l) (i ∷ listed r)
-    (listed_below m n copy (at m (left_word copy i)) l h.2)
-    (h.1, listed_below m n copy (at m (right_word copy i)) r h.3)
+    grind (
+      arith,
+      nat_tests,
+      listed_below m n copy (at m (left_word copy i)) l h.2,
+      listed_below m n copy (at m (right_word copy i)) r h.3,
+      all_append,
+    )

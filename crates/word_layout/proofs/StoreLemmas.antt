@@ -1,11 +1,12 @@
 -- What lists of stores change and what they leave.
 use Rattle.word_layout.proofs.Words.{◌≡◌, ◌≢◌, ℕ, ◌<◌, List, [], ◌∷◌, ◌++◌, length, refl, sym, ◌∙◌}
-use Rattle.word_layout.proofs.Words.{ap, subst, ⊎_elim, arith, length-set, get_or-set_other}
+use Rattle.word_layout.proofs.Words.{ap, subst, arith, length-set, get_or-set_other}
 use Rattle.word_layout.proofs.Words.{get_or-set_same, slice_set, AllByRecursion, cases_eq, cases_lt}
 use Rattle.word_layout.proofs.Words.{set_past, Store, at, words_after, words_after_all, suc, ◌+◌}
 use Rattle.word_layout.proofs.Words.{◌-◌, ◌≤◌, take, append_assoc, replicate, length-take-le}
 use Rattle.word_layout.proofs.Words.{take_more}
 use Rattle.std.proofs.Math.Seq.{set-append_seam}
+use Rattle.std.proofs.lemmas.Bool.Decides.{nat_tests}
 
 -- two memories agree on the words of a kind
 abbrev pub Agree : (ℕ → Type 0) → List ℕ → List ℕ → Type 0
@@ -32,22 +33,12 @@ pub untouched : (P : ℕ → Type 0) (m : List ℕ) (ss : List Store)
     → AllByRecursion (λ (s : Store). P s.word → ⊥) ss → Agree P m (words_after_all m ss)
 untouched P m [] h w p = refl
 untouched P m (s ∷ ss) h w p =
-    untouched P (words_after m s) ss h.1 w p
-    ∙ get_or-set_other m s.word w s.value 0 (λ e. h.0 (subst P e p))
+    grind (arith, nat_tests, untouched P (words_after m s) ss h.1 w p, get_or-set_other)
 
 pub same_store : (m m' : List ℕ) (i v w : ℕ) → length m' ≡ length m → at m' w ≡ at m w
     → at (slice_set m' i v) w ≡ at (slice_set m i v) w
 same_store m m' i v w el e =
-    ⊎_elim
-    (λ same.
-    ⊎_elim
-    (λ lt. ap (at (slice_set m' i v)) same ∙ at_stored m' i v (omega arith)
-    ∙ sym (at_stored m i v lt) ∙ ap (at (slice_set m i v)) (sym same))
-    (λ ge. ap (λ l. at l w) (set_past m' i v (omega arith)) ∙ e
-    ∙ sym (ap (λ l. at l w) (set_past m i v ge)))
-    (cases_lt i (length m)))
-    (λ ne. at_other m' i v w ne ∙ e ∙ sym (at_other m i v w ne))
-    (cases_eq w i)
+    grind (arith, nat_tests, at_stored, set_past, cases_lt, at_other, cases_eq)
 
 pub agree_after : (P : ℕ → Type 0) (m m' : List ℕ) (ss : List Store) → length m' ≡ length m
     → Agree P m m' → Agree P (words_after_all m ss) (words_after_all m' ss)

@@ -1,5 +1,5 @@
-use Rattle.command_line.proofs.Words.{◌≡◌, [], ◌∷◌, ◌++◌, ◌∙◌, None, ap, refl, subst, sym, find}
-use Rattle.command_line.proofs.Words.{filter_map, take_all, address_of_text, is_no_address}
+use Rattle.command_line.proofs.Words.{[], ◌∷◌, ◌++◌, ◌∙◌, ap, refl, sym, find, filter_map, take_all}
+use Rattle.command_line.proofs.Words.{address_of_text, is_no_address}
 use Rattle.command_line.proofs.AddressLemmas.{first_bad, one_address_more, still_addresses, texts}
 use Rattle.command_line.proofs.arguments.addresses_of.Goals as goal
 
@@ -29,6 +29,6 @@ returns c = λ rows are.
     let all =
     ap texts (take_all c.loop-word.word-index c.args.words.now c.loop-word-test.false) ∙ are in
     record {
-      none_bad = subst (λ ws. find is_no_address ws ≡ None) all c.loop-word.invariant.none_bad;
+      none_bad = rw all at c.loop-word.invariant.none_bad;
       items = c.loop-word.invariant.items ∙ ap (filter_map address_of_text) all;
     }

@@ -1,4 +1,4 @@
-use Rattle.command_line.proofs.Words.{subst, sym, found_of, rows_of, AnswersMatches}
+use Rattle.command_line.proofs.Words.{found_of, rows_of}
 use Rattle.command_line.proofs.ParseLemmas.{entered_is}
 use Rattle.command_line.proofs.arguments.job_in.Goals as goal
 
@@ -6,5 +6,4 @@ pub returns-in-Some : goal.returns-in-Some
 returns-in-Some c =
     let entered = entered_is c.args.matches.now c.in-Some.name.now
     (rows_of (found_of c.in-Some.found.now)) c.in-Some.ensures.name c.in-Some.ensures.rows in
-    subst (λ s. AnswersMatches s c.job_of_subcommand.result) (sym entered)
-    c.job_of_subcommand.ensures
+    rw entered c.job_of_subcommand.ensures

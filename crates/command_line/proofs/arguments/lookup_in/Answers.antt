@@ -1,8 +1,8 @@
 use Rattle.command_line.proofs.Words.{◌≡◌, ◌∙◌, ◌&&◌, ap, sym, refl, nat_eq, List, [], ◌∷◌, length}
 use Rattle.command_line.proofs.Words.{map, Option, Some, None, option_map, true, false, codes}
 use Rattle.command_line.proofs.Words.{arith, rules, tests, is_none, is_some, Bor, false≢true}
-use Rattle.command_line.proofs.Words.{nat_tests, common_steps, Text, found_of, rows_of, Gives}
-use Rattle.command_line.proofs.Words.{IsLookupIn, handed_on}
+use Rattle.command_line.proofs.Words.{nat_tests, common_steps, Text, found_of, rows_of}
+use Rattle.command_parts.proofs.FaultLemmas.{is_handed}
 use Rattle.command_line.proofs.arguments.lookup_in.Goals as goal
 
 -- no word is an address, and there is no file of them
@@ -26,16 +26,14 @@ returns-then-is_none c =
 
 pub returns-in_err-offset : goal.returns-in_err-offset
 returns-in_err-offset c =
-    let rows = rows_of (found_of c.args.found.now) in
-    handed_on (Gives IsLookupIn (codes "lookup") rows) c.from_residual.result
-    c.in_err-offset.field-0.0 c.from_residual.ensures.1
+    rw (is_handed c.from_residual.result c.from_residual.ensures.1)
     (c.in_err-offset.ensures (codes "lookup") refl)
 
 pub returns-in_err-addresses : goal.returns-in_err-addresses
 returns-in_err-addresses c =
     let rows = rows_of (found_of c.args.found.now) in
-    handed_on (Gives IsLookupIn (codes "lookup") rows) c.from_residual-in_err-addresses.result
-    c.in_err-addresses.field-0.0 c.from_residual-in_err-addresses.ensures.1
+    rw (is_handed c.from_residual-in_err-addresses.result
+    c.from_residual-in_err-addresses.ensures.1)
     (c.in_err-addresses.ensures rows c.values_of-words.ensures)
 
 pub returns : goal.returns

@@ -1,19 +1,15 @@
-use Rattle.command_line.proofs.Words.{found_of, rows_of, Gives, IsRequestIn, handed_on}
+use Rattle.command_parts.proofs.FaultLemmas.{is_handed}
 use Rattle.command_line.proofs.arguments.request_in.Goals as goal
 
 pub returns-in_err-kernel : goal.returns-in_err-kernel
 returns-in_err-kernel c =
     let name = c.args.name.now in
-    let rows = rows_of (found_of c.args.found.now) in
-    handed_on (Gives (IsRequestIn name) name rows) c.from_residual.result c.in_err-kernel.field-0.0
-    c.from_residual.ensures.1 (c.in_err-kernel.ensures name)
+    rw (is_handed c.from_residual.result c.from_residual.ensures.1) (c.in_err-kernel.ensures name)
 
 pub returns-in_err-symbols : goal.returns-in_err-symbols
 returns-in_err-symbols c =
     let name = c.args.name.now in
-    let rows = rows_of (found_of c.args.found.now) in
-    handed_on (Gives (IsRequestIn name) name rows) c.from_residual-in_err-symbols.result
-    c.in_err-symbols.field-0.0 c.from_residual-in_err-symbols.ensures.1
+    rw (is_handed c.from_residual-in_err-symbols.result c.from_residual-in_err-symbols.ensures.1)
     (c.in_err-symbols.ensures name)
 
 pub returns : goal.returns

@@ -1,6 +1,6 @@
 use Rattle.command_line.proofs.Words.{◌≡◌, ◌∙◌, ap, sym, Bor, Option, None, Some, is_some, not}
-use Rattle.command_line.proofs.Words.{option_map, true, false≢true, Text, Gives, IsSourceIn}
-use Rattle.command_line.proofs.Words.{handed_on, rows_in}
+use Rattle.command_line.proofs.Words.{option_map, true, false≢true, Text}
+use Rattle.command_parts.proofs.FaultLemmas.{is_handed}
 use Rattle.command_line.proofs.arguments.symbol_source_in.Goals as goal
 
 -- what is given has a text
@@ -11,8 +11,7 @@ given (Some w) text is some = ap is_some (sym is)
 
 pub returns-in_err-time : goal.returns-in_err-time
 returns-in_err-time c = λ name.
-    handed_on (Gives IsSourceIn name (rows_in c.args.found.now)) c.from_residual.result
-    c.in_err-time.field-0.0 c.from_residual.ensures.1 (c.in_err-time.ensures name)
+    rw (is_handed c.from_residual.result c.from_residual.ensures.1) (c.in_err-time.ensures name)
 
 pub returns : goal.returns
 returns c = λ name. (

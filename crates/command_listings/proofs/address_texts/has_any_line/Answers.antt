@@ -1,5 +1,5 @@
-use Rattle.command_listings.proofs.Words.{◌∙◌, [], List, ℕ, ap, arith, has_line, list_any, map, sym}
-use Rattle.command_listings.proofs.Words.{take_all, unwrap_or, Kept, found_by}
+use Rattle.command_listings.proofs.Words.{◌∙◌, [], List, ℕ, ap, arith, has_line, sym, take_all}
+use Rattle.command_listings.proofs.Words.{unwrap_or, Kept, found_by}
 use Rattle.command_listings.proofs.SoughtLemmas.{none_passes, one_passes}
 use Rattle.command_listings.proofs.address_texts.has_any_line.Goals as goal
 
@@ -18,8 +18,5 @@ loop-word-preserved c =
     ∙ ap (has_line c.args.form found) c.as_bytes.ensures.value) c.if-has_line.false
 
 pub returns : goal.returns
-returns c =
-    let found : List ℕ → List Kept = λ name. unwrap_or (found_by c.args.sought.now name) [] in
-    sym (ap (λ ws. list_any (has_line c.args.form found) (map (λ w. w.now) ws)) (sym
-    (take_all c.loop-word.word-index c.args.words.now (omega (arith, c.loop-word-test.false))))
-    ∙ c.loop-word.invariant)
+returns c = sym (rw (take_all c.loop-word.word-index c.args.words.now
+    (omega (arith, c.loop-word-test.false))) at c.loop-word.invariant)

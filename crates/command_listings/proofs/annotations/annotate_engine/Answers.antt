@@ -1,6 +1,6 @@
-use Rattle.command_listings.proofs.Words.{texts_in, known_given, listing_failures, AnnotatesLog}
-use Rattle.command_listings.proofs.Words.{handed_on}
+use Rattle.command_listings.proofs.Words.{texts_in, known_given, listing_failures}
 use Rattle.command_listings.proofs.AnnotationLemmas.{not_read, readers_known}
+use Rattle.logs.proofs.PutLemmas.{is_handed}
 use Rattle.command_listings.proofs.annotations.annotate_engine.Goals as goal
 
 pub returns-in_err-texts : goal.returns-in_err-texts
@@ -10,10 +10,7 @@ returns-in_err-texts g c =
     known_given g.M.Read.remaining g.K.Read.remaining g.R.Read.remaining a.listings.now in
     let counts = listing_failures a.listings.now c.read_given.new.readers in
     let fault = c.in_err-texts.field-0.0 in
-    handed_on (AnnotatesLog g.L.Read.remaining g.W.Write.contents g.E.Write.contents
-    a.request.sources.now a.request.job.now known counts a.log.now a.log.now
-    a.outputs.now.writer a.outputs.now.writer a.outputs.now.errors a.outputs.now.errors)
-    c.from_residual.result fault c.from_residual.ensures.1
+    rw (is_handed c.from_residual.result c.from_residual.ensures.1)
     (not_read g.L.Read.remaining g.W.Write.contents g.E.Write.contents a.request.sources.now
     a.request.job.now known counts a.log.now a.outputs.now.writer a.outputs.now.errors fault
     c.in_err-texts.ensures.read)

@@ -1,14 +1,14 @@
-use Rattle.command_listings.proofs.Words.{◌≡◌, ◌∙◌, ℕ, List, Option, ap, false, subst, sym}
-use Rattle.command_listings.proofs.Words.{option_copied, lines_of, texts_in, bounds_are, bounds_for}
-use Rattle.command_listings.proofs.Words.{BoundNames, HoldsOf, IsOpened, Tallies}
-use Rattle.command_listings.proofs.Words.{are_modules_hidden, are_symbols_hidden, holds_at}
-use Rattle.command_listings.proofs.Words.{listings_of, same_texts, symbols_of, tallies_of}
-use Rattle.command_listings.proofs.Words.{tallies_said, IsChecked, IsReport, opened_report, report}
-use Rattle.command_listings.proofs.Words.{report_by, AnswersGiven, option_map_or, handed_on}
+use Rattle.command_listings.proofs.Words.{◌≡◌, ◌∙◌, ℕ, List, Option, ap, false, sym, option_copied}
+use Rattle.command_listings.proofs.Words.{lines_of, texts_in, bounds_are, bounds_for, BoundNames}
+use Rattle.command_listings.proofs.Words.{IsOpened, Tallies, are_modules_hidden, are_symbols_hidden}
+use Rattle.command_listings.proofs.Words.{holds_at, listings_of, same_texts, symbols_of, tallies_of}
+use Rattle.command_listings.proofs.Words.{tallies_said, IsChecked, opened_report, report, report_by}
+use Rattle.command_listings.proofs.Words.{option_map_or}
 use Rattle.listing.specs.ModuleListing.{modules_in}
 use Rattle.listing.specs.Owners.{unlisted_owner}
 use Rattle.std.specs.Option.{option_and_then}
 use Rattle.command_listings.proofs.GivenLemmas.{not_opened, said_or_not}
+use Rattle.logs.proofs.PutLemmas.{is_handed}
 use Rattle.command_listings.proofs.checks.check_given.Goals as goal
 
 pub returns-in_err-opened : goal.returns-in_err-opened
@@ -18,25 +18,20 @@ returns-in_err-opened g c =
     let Is = IsChecked kernel a.files.now (option_copied a.history) in
     let given = texts_in a.texts.now in
     let fault = c.in_err-opened.field-0.0 in
-    handed_on (AnswersGiven g.W.Write.contents Is given a.writer.now a.writer.now)
-    c.from_residual.result fault c.from_residual.ensures.1
+    rw (is_handed c.from_residual.result c.from_residual.ensures.1)
     (not_opened g.W.Write.contents Is kernel given a.writer.now fault c.in_err-opened.ensures)
 
 pub put_report-requires-clause-modules : goal.put_report-requires-clause-modules
 put_report-requires-clause-modules g c = λ text listed.
     let given = texts_in c.args.texts.now in
-    let (l, at, is) =
-    holds_at (λ x. IsOpened (option_copied c.args.kernel) false x c.in_ok-opened.opened)
-    (listings_of given) c.in_ok-opened.ensures in
+    let (l, at, is) = holds_at _ (listings_of given) c.in_ok-opened.ensures in
     is.modules_hidden ∙ ap (λ m. option_map_or (λ t. are_modules_hidden (lines_of t)) m false)
     ((same_texts given l at).0 ∙ listed)
 
 pub put_report-requires-clause-unlisted : goal.put_report-requires-clause-unlisted
 put_report-requires-clause-unlisted g c = λ text listed.
     let given = texts_in c.args.texts.now in
-    let (l, at, is) =
-    holds_at (λ x. IsOpened (option_copied c.args.kernel) false x c.in_ok-opened.opened)
-    (listings_of given) c.in_ok-opened.ensures in
+    let (l, at, is) = holds_at _ (listings_of given) c.in_ok-opened.ensures in
     let (modules, kallsyms) = same_texts given l at in
     is.unlisted
     ∙ ap (option_and_then (λ t.
@@ -46,9 +41,7 @@ put_report-requires-clause-unlisted g c = λ text listed.
 pub put_report-requires-clause-symbols : goal.put_report-requires-clause-symbols
 put_report-requires-clause-symbols g c =
     let given = texts_in c.args.texts.now in
-    let (l, at, is) =
-    holds_at (λ x. IsOpened (option_copied c.args.kernel) false x c.in_ok-opened.opened)
-    (listings_of given) c.in_ok-opened.ensures in
+    let (l, at, is) = holds_at _ (listings_of given) c.in_ok-opened.ensures in
     is.symbols_hidden ∙ ap (λ t. are_symbols_hidden (lines_of t)) (same_texts given l at).1
 
 pub returns : goal.returns
@@ -77,6 +70,5 @@ returns g c =
     (tallies_said kernel false l o is) in
     said_or_not g.W.Write.contents (IsChecked kernel files history) given a.writer.now
     c.put_report.new.writer status text
-    (subst (HoldsOf (IsReport kernel files history text status)) (sym at)
-    (o.catalog, o.built, is.said, text_is, c.status_of_kept.ensures))
+    (rw at (o.catalog, o.built, is.said, text_is, c.status_of_kept.ensures))
     c.put_report.ensures c.unless_failed.result c.unless_failed.ensures

@@ -1,4 +1,3 @@
-use Rattle.command_listings.proofs.Words.{Says, subst, sym, told_once}
 use Rattle.texts.proofs.OutputLemmas.{nothing_said}
 use Rattle.command_listings.proofs.FollowingLemmas.{some_note}
 use Rattle.command_listings.proofs.following.note_once.Goals as goal
@@ -8,8 +7,7 @@ returns-then-is_told g c =
     let (note, tells) = some_note c.args.files.now c.args.why.now in (
       note,
       tells,
-      subst (λ told. Says g.E.Write.contents c.args.errors.now c.args.errors.now
-          (told_once told note)) (sym c.if-is_told.true) (nothing_said c.args.errors.now),
+      rw c.if-is_told.true (nothing_said c.args.errors.now),
     )
 
 pub returns : goal.returns
@@ -17,6 +15,5 @@ returns g c =
     let (note, tells, said) = c.put_unread.ensures in (
       note,
       tells,
-      subst (λ told. Says g.E.Write.contents c.args.errors.now c.put_unread.new.writer
-          (told_once told note)) (sym c.if-is_told.false) said,
+      rw c.if-is_told.false said,
     )

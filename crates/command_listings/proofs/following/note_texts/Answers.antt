@@ -1,4 +1,4 @@
-use Rattle.command_listings.proofs.Words.{subst, texts_in, catalog_opened, IsCatalogOf}
+use Rattle.command_listings.proofs.Words.{texts_in, catalog_opened}
 use Rattle.command_listings.proofs.following.note_texts.Goals as goal
 
 pub returns : goal.returns
@@ -7,7 +7,6 @@ returns g c =
     let opened = c.in_ok-opened.opened in (
       opened.catalog,
       opened.notes,
-      subst (λ k. IsCatalogOf k given opened.catalog opened.notes) c.as_ref.ensures.value
-          (catalog_opened _ given opened c.in_ok-opened.ensures),
+      rw c.as_ref.ensures.value at (catalog_opened _ given opened c.in_ok-opened.ensures),
       c.note_listings.ensures,
     )

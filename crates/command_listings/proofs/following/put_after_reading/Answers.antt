@@ -1,14 +1,12 @@
-use Rattle.command_listings.proofs.Words.{Ok, PutsIfNamed, subst}
 use Rattle.command_listings.proofs.FollowingLemmas.{after_failed, after_nameless, after_put}
-use Rattle.std.proofs.lemmas.Result.{err_from_is_err_and}
+use Rattle.logs.proofs.PutLemmas.{is_handed}
 use Rattle.command_listings.proofs.following.put_after_reading.Goals as goal
 
 pub returns-in_err-outcome : goal.returns-in_err-outcome
 returns-in_err-outcome g c =
     let a = c.args in
     let (event, once, puts) = c.in_err-outcome.ensures in
-    let (told, is, same) = err_from_is_err_and c.from_residual.result c.from_residual.ensures.1 in
-    rw (is, same) (
+    rw (is_handed c.from_residual.result c.from_residual.ensures.1) (
       event,
       once,
       after_failed g.W.Write.contents g.E.Write.contents a.request.sources.now a.request.job.now
@@ -25,9 +23,7 @@ returns-in-Ok g c =
       after_put g.W.Write.contents g.E.Write.contents a.request.sources.now a.request.job.now a.part
           a.followed a.annotator.now c.put_again.new.annotator event a.outputs.now.writer
           c.put_again.new.writer a.outputs.now.errors c.in-Ok.put
-          (subst (λ o. PutsIfNamed g.W.Write.contents a.request.sources.now a.request.job.now a.part
-          a.followed a.annotator.now c.put_again.new.annotator event a.outputs.now.writer
-          c.put_again.new.writer (Ok o)) c.in-Ok.is puts),
+          (rw c.in-Ok.is at puts),
     )
 
 pub returns-in-Err : goal.returns-in-Err
@@ -41,7 +37,5 @@ returns-in-Err g c =
           a.part a.followed a.annotator.now c.put_again.new.annotator c.put_nameless.new.annotator
           event a.outputs.now.writer c.put_again.new.writer c.put_nameless.new.writer
           a.outputs.now.errors c.note_once.new.errors c.in-Err.why note c.put_nameless.result
-          (subst (λ o. PutsIfNamed g.W.Write.contents a.request.sources.now a.request.job.now a.part
-          a.followed a.annotator.now c.put_again.new.annotator event a.outputs.now.writer
-          c.put_again.new.writer (Ok o)) c.in-Err.is puts) tells said c.put_nameless.ensures,
+          (rw c.in-Err.is at puts) tells said c.put_nameless.ensures,
     )

@@ -1,13 +1,12 @@
 use Rattle.command_listings.proofs.Words.{None, inl, refl, sym, ◌∙◌}
-use Rattle.command_listings.proofs.FollowingLemmas.{reads_nothing, takes_asked, takes_quiet}
-use Rattle.command_listings.proofs.FollowingLemmas.{takes_unput}
-use Rattle.std.proofs.lemmas.Result.{err_from_is_err_and}
+use Rattle.command_listings.proofs.FollowingLemmas.{takes_asked, takes_quiet, takes_unput}
+use Rattle.command_listings.proofs.ReadLemmas.{reads_nothing}
+use Rattle.logs.proofs.PutLemmas.{is_handed}
 use Rattle.command_listings.proofs.following.put_part.Goals as goal
 
 pub returns-in_err-asks : goal.returns-in_err-asks
 returns-in_err-asks g c =
-    let (told, is, same) = err_from_is_err_and c.from_residual.result c.from_residual.ensures.1 in
-    rw (is, same) (
+    rw (is_handed c.from_residual.result c.from_residual.ensures.1) (
       None,
       reads_nothing (g.L.LastingLog.seen c.args.log.now),
       inl (refl, refl, c.in_err-asks.ensures.memory),
@@ -27,9 +26,8 @@ returns-then-asks g c =
 pub returns-in_err-names : goal.returns-in_err-names
 returns-in_err-names g c =
     let a = c.args in
-    let (told, is, same) = err_from_is_err_and c.from_residual-in_err-names.result
-    c.from_residual-in_err-names.ensures.1 in
-    rw (is, same) (takes_unput g.W.Write.contents g.E.Write.contents a.request.sources.now
+    rw (is_handed c.from_residual-in_err-names.result c.from_residual-in_err-names.ensures.1)
+    (takes_unput g.W.Write.contents g.E.Write.contents a.request.sources.now
     a.request.job.now a.part a.followed a.annotator.now c.put_unnamed.new.annotator
     (g.L.LastingLog.seen a.log.now) a.outputs.now.writer c.put_unnamed.new.writer
     a.outputs.now.errors

@@ -1,16 +1,14 @@
 use Rattle.command_listings.proofs.Words.{◌≡◌, ◌∙◌, ◌+◌, List, ℕ, ap, inr, is_narrow, lines_of}
-use Rattle.command_listings.proofs.Words.{listed_kernel, subst, IsCatalogOf, symbols_alone}
+use Rattle.command_listings.proofs.Words.{listed_kernel}
 use Rattle.std.specs.Option.{option_copied}
 use Rattle.histories.specs.ListingsAt.{listing_after}
 use Rattle.command_listings.proofs.TimedLemmas.{answers_after, begun, ended_as}
-use Rattle.command_listings.specs.HistoryAnnotations.{IsTimedEndTold}
 use Rattle.command_listings.specs.TimedLogs.{IsTimed, first_listing}
 use Rattle.command_listings.proofs.history_annotations.annotate_timed.Goals as goal
 
 pub returns : goal.returns
 returns g c =
     let a = c.args in
-    let q = a.request.sources.now in
     let rule = a.request.job.now.rule in
     let parts = a.history.now in
     let first = c.in_ok-first.first in
@@ -47,14 +45,8 @@ returns g c =
       notes = c.in_ok-index.notes;
       noted = c.note_listings.new.writer;
       end = end;
-      said = subst (λ k. IsCatalogOf k (symbols_alone (first_listing parts)) c.in_ok-index.index
-          c.in_ok-index.notes) c.as_ref.ensures.value
-          (subst (λ t. IsCatalogOf kernel (symbols_alone t) c.in_ok-index.index c.in_ok-index.notes)
-          (c.text-3.ensures ∙ listing_is) c.in_ok-index.ensures);
+      said = rw (c.text-3.ensures ∙ listing_is, c.as_ref.ensures.value) at c.in_ok-index.ensures;
       told = c.note_listings.ensures;
-      timed = subst (λ k. IsTimed k rule parts remaining contents a.log.now a.outputs.now.writer end
-          reader writer) c.as_ref.ensures.value is_timed;
-      end_told = subst (λ k. IsTimedEndTold g.E.Write.contents a.request.job.now.log.now k
-          c.note_listings.new.writer c.conclude_timed_log.new.errors end
-          c.conclude_timed_log.result) kernel_is c.conclude_timed_log.ensures;
+      timed = rw c.as_ref.ensures.value at is_timed;
+      end_told = rw kernel_is at c.conclude_timed_log.ensures;
     })

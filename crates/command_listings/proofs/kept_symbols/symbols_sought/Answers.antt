@@ -1,6 +1,6 @@
-use Rattle.command_listings.proofs.Words.{[], ◌∷◌, ◌++◌, ◌∙◌, length, map, refl, subst, sym}
-use Rattle.command_listings.proofs.Words.{moved_over, eqb-true, nil_from_length, lines_of}
-use Rattle.command_listings.proofs.Words.{symbols_in, IsSought, kept_symbols}
+use Rattle.command_listings.proofs.Words.{[], ◌∷◌, ◌++◌, ◌∙◌, length, map, refl, sym, moved_over}
+use Rattle.command_listings.proofs.Words.{eqb-true, nil_from_length, lines_of, symbols_in}
+use Rattle.command_listings.proofs.Words.{kept_symbols}
 use Rattle.command_listings.proofs.SoughtLemmas.{line_more, whole_text}
 use Rattle.command_listings.proofs.kept_symbols.symbols_sought.Goals as goal
 
@@ -17,16 +17,13 @@ loop-rest-preserved c =
       moved_over (lines_of c.args.kallsyms.now) done (lines_of c.loop-rest.rest.now)
           (lines_of c.cut_tabbed_line-tab.result.2.now) line joined
           c.cut_tabbed_line-tab.ensures.line,
-      subst (λ kept. IsSought words kept c.take_line.new.sought) (sym (line_more index done line))
+      rw (line_more index done line)
           (c.in_ok-take_line.ensures words (kept_symbols index (symbols_in done)) holds),
     )
 
 pub returns : goal.returns
 returns c =
-    let words = map (λ w. w.now) c.args.words.now in
-    let index = c.args.index.now in
     let (done, joined, holds) = c.loop-rest.invariant in
-    subst (λ lines. IsSought words (kept_symbols index (symbols_in lines)) c.loop-rest.sought)
-    (whole_text done c.loop-rest.rest.now c.args.kallsyms.now joined
+    rw (whole_text done c.loop-rest.rest.now c.args.kallsyms.now joined
     (nil_from_length c.loop-rest.rest.now (eqb-true (length c.loop-rest.rest.now) 0
-    (sym c.is_empty.ensures ∙ c.loop-rest-test.false)))) holds
+    (sym c.is_empty.ensures ∙ c.loop-rest-test.false)))) at holds

@@ -1,14 +1,11 @@
-use Rattle.command_listings.proofs.Words.{◌∙◌, ◌++◌, List, [], ℕ, ap, append_assoc, subst, sym}
+use Rattle.command_listings.proofs.Words.{◌∙◌, ◌++◌, List, [], ℕ, ap, append_assoc, sym}
 use Rattle.command_listings.proofs.RunLemmas.{before_rest, goes_no_further, goes_on, goes_to_rest}
-use Rattle.command_listings.specs.LineRuns.{IsRun, ended_in}
 use Rattle.command_listings.proofs.line_runs.later_lines.Goals as goal
 
 pub returns-in-Err-clause-run : goal.returns-in-Err-clause-run
 returns-in-Err-clause-run c =
     let (done, is, goes) = c.loop-line.invariant in
-    subst (λ (b : List ℕ). IsRun c.args.history.now c.args.is_narrow c.args.listing.now.count
-    c.args.times c.loop-line.times (ended_in b))
-    (sym (before_rest c.args.bytes.now done c.loop-line.rest.now is))
+    rw (before_rest c.args.bytes.now done c.loop-line.rest.now is)
     (goes_no_further c.args.history.now c.args.is_narrow c.args.listing.now.count c.args.times
     c.loop-line.times done goes)
 

@@ -1,6 +1,5 @@
-use Rattle.command_listings.proofs.Words.{◌∙◌, ◌++◌, List, ℕ, ap, append_assoc, subst, sym}
+use Rattle.command_listings.proofs.Words.{◌∙◌, ◌++◌, List, ℕ, ap, append_assoc, sym}
 use Rattle.command_listings.proofs.RunLemmas.{nothing_run, opened_run, two_before, unended_run}
-use Rattle.command_listings.specs.LineRuns.{IsRunAfter}
 use Rattle.command_listings.proofs.line_runs.run_in.Goals as goal
 
 pub returns-in_default-clause-run : goal.returns-in_default-clause-run
@@ -24,11 +23,9 @@ returns-in_ok-later-in-Ok-clause-run c =
     let a = c.args in
     let line = c.in-Some.line.now in
     let later = c.in_ok-later-in-Ok.later in
-    subst (λ (b : List ℕ). IsRunAfter a.history.now a.is_narrow a.listing.now.count a.annotator.now
-    a.times later.times b)
-    (sym (two_before a.block.now line c.in-Some.more.now later.named.now later.left.now
-    c.in-Some.ensures.parts c.in_ok-later-in-Ok.ensures.parts))
-    (opened_run a.history.now a.is_narrow a.listing.now.count a.annotator.now a.times c.in-Ok.next
+    rw (two_before a.block.now line c.in-Some.more.now later.named.now later.left.now
+    c.in-Some.ensures.parts c.in_ok-later-in-Ok.ensures.parts) (opened_run a.history.now a.is_narrow
+    a.listing.now.count a.annotator.now a.times c.in-Ok.next
     later.times line later.named.now c.in-Some.ensures.line
     (λ begun is_open. c.in-Ok.ensures (begun ++ line) (c.in_ok-whole.ensures begun is_open))
     c.in_ok-later-in-Ok.ensures.run)

@@ -1,10 +1,8 @@
-use Rattle.command_listings.proofs.Words.{◌≡◌, ◌∙◌, ap, append-nil, true, subst}
-use Rattle.std.proofs.lemmas.Result.{err_from_is_err_and}
-use Rattle.logs.proofs.PutLemmas.{puts_as}
+use Rattle.command_listings.proofs.Words.{◌∙◌, ap, append-nil}
+use Rattle.logs.proofs.PutLemmas.{is_handed, puts_as}
 use Rattle.logs.specs.Annotation.{EndsLog}
 use Rattle.logs.specs.Lines.{unless_long}
 use Rattle.logs.specs.declared.log_names.LogNames.{LogNames}
-use Rattle.command_listings.specs.LineRuns.{may_name, times_behind}
 use Rattle.command_listings.specs.TimedLogs.{EndsBy}
 use Rattle.command_listings.proofs.timed_logs.name_last.Goals as goal
 
@@ -12,18 +10,13 @@ pub returns-in_err-names-in-Ok : goal.returns-in_err-names-in-Ok
 returns-in_err-names-in-Ok g c =
     let a = c.args in
     let answer = g.A.Answers.answering a.answers.now in
-    let times = c.in-Ok.times in
-    let (fault, is, same) = err_from_is_err_and c.from_residual-in_err-names-in-Ok.result
-    c.from_residual-in_err-names-in-Ok.ensures.1 in
-    rw (is, same) (puts_as g.W.Write.contents (EndsLog answer a.lines.now.annotator) (λ x. EndsBy
+    rw (is_handed c.from_residual-in_err-names-in-Ok.result
+    c.from_residual-in_err-names-in-Ok.ensures.1)
+    (puts_as g.W.Write.contents (EndsLog answer a.lines.now.annotator) (λ x. EndsBy
     a.history.now a.listing.now.count answer a.lines.now x.0 x.1) a.writer.now c.end.new.writer
-    (λ (names : LogNames). (names, times))
+    (λ (names : LogNames). (names, c.in-Ok.times))
     (λ names text ends. (
       ends,
-      λ line is_open.
-          subst (λ n. (may_name a.history.now n a.listing.now.count a.lines.now.times line ≡ true)
-          × (times ≡ times_behind n a.lines.now.times line)) c.is_narrow-is_narrow.ensures
-          (c.in-Ok.ensures line
+      λ line is_open. rw c.is_narrow-is_narrow.ensures at (c.in-Ok.ensures line
           (c.in_ok-whole.ensures line is_open ∙ ap unless_long (append-nil line))),
-    ))
-    c.in_err-names-in-Ok.field-0.0 c.in_err-names-in-Ok.ensures)
+    )) c.in_err-names-in-Ok.field-0.0 c.in_err-names-in-Ok.ensures)

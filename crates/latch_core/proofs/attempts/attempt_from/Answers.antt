@@ -3,8 +3,6 @@ use Rattle.latch_core.proofs.Words.{outcome, outcome_of, found_by}
 use Rattle.latch_core.proofs.LoadingLemmas.{again, again_none, tries, few}
 use Rattle.latch_core.proofs.WalkLemmas.{answers}
 use Rattle.latch_core.proofs.attempts.attempt_from.Goals as goal
-use Rattle.latch_core.proofs.attempts.attempt_from.Goals.{in-At, in-Nowhere, in_default-2}
-use Rattle.latch_core.proofs.attempts.attempt_from.Goals.{in_default-3, in_default}
 
 pub overflow_add-result : goal.overflow_add-result
 overflow_add-result g c =
@@ -23,22 +21,22 @@ returns g c =
     (found_by c.walk-walked.result.0) c.walk-walked.result.1 t (outcome_of c.match-walked.came_to)
     c.walk-walked.ensures c.sequence-last.ensures
     (elim c.match-walked.branch [
-      | in-At w ↦
+      | goal.in-At w ↦
           let same = w.if-last-first.true in
           ap (λ f. outcome s t (found_by f)) w.in-At.is ∙ answers s t w.generation.result
           (Some w.in-At.item) (sym same) (w.generation.ensures ∙ ap generation_of (sym same))
           ∙ sym (ap outcome_of w.came_to-is)
-      | in-Nowhere w ↦
+      | goal.in-Nowhere w ↦
           let same = w.if-last-first-2.true in
           ap (λ f. outcome s t (found_by f)) w.in-Nowhere.is
           ∙ answers s t w.generation-in-Nowhere.result None (sym same)
           (w.generation-in-Nowhere.ensures ∙ ap generation_of (sym same))
           ∙ sym (ap outcome_of w.came_to-is)
-      | in_default-2 w ↦ ap (λ f. outcome s t (found_by f)) w.in-At.is
+      | goal.in_default-2 w ↦ ap (λ f. outcome s t (found_by f)) w.in-At.is
           ∙ again s t w.in-At.item (λ e. w.if-last-first.false (sym e))
           ∙ sym (ap outcome_of w.came_to-is)
-      | in_default-3 w ↦ ap (λ f. outcome s t (found_by f)) w.in-Nowhere.is
+      | goal.in_default-3 w ↦ ap (λ f. outcome s t (found_by f)) w.in-Nowhere.is
           ∙ again_none s t (λ e. w.if-last-first-2.false (sym e)) ∙ sym (ap outcome_of w.came_to-is)
-      | in_default w ↦ ap (λ f. outcome s t (found_by f)) w.in_default.is
+      | goal.in_default w ↦ ap (λ f. outcome s t (found_by f)) w.in_default.is
           ∙ sym (ap outcome_of w.came_to-is)
     ])

@@ -6,8 +6,8 @@ use Rattle.latch_core.proofs.Words.{attempt_after, AtItem, HasLoaded}
 use Rattle.std.proofs.Common.{◌-◌, ◌*◌}
 use Rattle.latch_core.proofs.LoadingLemmas.{item_of, starts, may_load, loads_on, goes_aside}
 use Rattle.latch_core.proofs.LoadingLemmas.{walk_starts, enters, turns, leaves}
-use Rattle.latch_core.proofs.attempts.walk.Given.{Over}
 use Rattle.latch_core.proofs.attempts.walk.Goals as goal
+use Rattle.latch_core.proofs.attempts.walk.Given.{Over}
 use Rattle.latch_core.proofs.attempts.walk.Goals.{After-a_of, After-load-a, After-load-b}
 use Rattle.latch_core.proofs.attempts.walk.Goals.{After-load-tag}
 

@@ -1,6 +1,5 @@
-use Rattle.logs.proofs.Definitions.{[], IsAnnotation, IsAnnotationOf, subst, sym}
-use Rattle.std.proofs.lemmas.Result.{err_from_is_err_and}
-use Rattle.logs.proofs.PutLemmas.{fault_puts}
+use Rattle.logs.proofs.Definitions.{[], IsAnnotationOf}
+use Rattle.logs.proofs.PutLemmas.{is_handed, fault_puts}
 use Rattle.logs.specs.declared.annotation.Findings.{Findings}
 use Rattle.logs.proofs.annotation.annotate_text.Goals as goal
 
@@ -9,12 +8,10 @@ returns-in_err-put_now g c =
     let answer = g.A.Answers.answering c.args.answers.now in
     let fault = c.in_err-put_now.field-0.0 in
     let found : Findings = record { names = c.in_ok-out.names; head = c.keep_head.new.head } in
-    let (told, is, same) = err_from_is_err_and c.from_residual-in_err-put_now.result
-    c.from_residual-in_err-put_now.ensures.1 in
-    rw (is, same) (fault_puts g.W.Write.contents (IsAnnotationOf answer c.args.log.now)
+    rw (is_handed c.from_residual-in_err-put_now.result c.from_residual-in_err-put_now.ensures.1)
+    (fault_puts g.W.Write.contents (IsAnnotationOf answer c.args.log.now)
     c.args.writer.now c.put_now.new.writer found c.deref.result.now fault (
-      subst (λ l. IsAnnotation answer c.args.log.now l c.in_ok-out.names)
-          (sym c.deref.ensures.value) (rw c.prepare.ensures at c.in_ok-out.ensures),
+      rw c.deref.ensures.value (rw c.prepare.ensures at c.in_ok-out.ensures),
       c.in_ok-keep_head.ensures [] c.new-head.ensures.items,
     )
     c.in_err-put_now.ensures.fault c.in_err-put_now.ensures.begun)
@@ -24,9 +21,7 @@ returns g c = (
   c.deref.result.now,
   c.in_ok-put_now.ensures.written,
   (
-    subst (λ l.
-        IsAnnotation (g.A.Answers.answering c.args.answers.now) c.args.log.now l c.in_ok-out.names)
-        (sym c.deref.ensures.value) (rw c.prepare.ensures at c.in_ok-out.ensures),
+    rw c.deref.ensures.value (rw c.prepare.ensures at c.in_ok-out.ensures),
     c.in_ok-keep_head.ensures [] c.new-head.ensures.items,
   ),
 )

@@ -1,6 +1,6 @@
 -- Each goal of the loop is one of the facts of EraseSteps at the values of the step.
 use Rattle.rb_cursor.proofs.Words.{◌≡◌, ◌<◌, sym, ◌∙◌, ap, subst, arith, length, length-append}
-use Rattle.rb_cursor.proofs.Words.{copy_number, closed_to, most_on_climb}
+use Rattle.rb_cursor.proofs.Words.{copy_number, closed_to, most_on_climb, common_steps}
 use Rattle.rb_cursor.proofs.StepLemmas.{shorter, closed_room}
 use Rattle.rb_cursor.proofs.EraseSteps.{EraseEnds, erase_filled, fill_fits, relink_fits, there_is}
 use Rattle.rb_cursor.proofs.EraseSteps.{erase_stays, erase_arrived}
@@ -32,26 +32,7 @@ fill-short-requires-clause-list c =
     )
 
 pub loop-copy-preserved : goal.loop-copy-preserved
-loop-copy-preserved c =
-    let inv = c.loop-copy.invariant in
-    let near = c.in-Some.ensures in
-    let more : c.args.depth < length c.loop-copy.cursor.path =
-    omega (arith, c.loop-copy-test.true, c.depth.ensures) in
-    let there = there_is inv.rises near more c.rise.ensures in record {
-      rises = erase_filled inv.rises near more c.if-not-short.false c.rise.ensures
-          c.fill-short.ensures.cursor c.fill-short.ensures.short c.relink.ensures.items
-          c.fill-short.ensures.items
-          c.link-after-in-loop-copy.ensures;
-      few = omega (
-        arith,
-        inv.few,
-        shorter c.loop-copy.cursor c.in-Some.above near,
-        ap (λ z. length z.path) there,
-        ap (λ z. length z.path) c.fill-short.ensures.cursor,
-      );
-      room = ap (λ z. z.room) c.fill-short.ensures.cursor ∙ ap (λ z. z.room) there ∙ inv.room;
-      capacity = c.fill-short.ensures.capacity ∙ c.relink.ensures.capacity ∙ inv.capacity;
-    }
+loop-copy-preserved c = grind (arith, common_steps, there_is, erase_filled, shorter)
 
 -- the way ended at the depth, or where nothing is short
 ends : (c : goal.After-close_to)
@@ -85,6 +66,4 @@ pub returns-clause-climbs : goal.returns-clause-climbs
 returns-clause-climbs c = (ends c).0
 
 pub returns-clause-room : goal.returns-clause-room
-returns-clause-room c =
-    ap (λ z. z.room) c.close_to.ensures ∙ closed_room c.args.depth c.loop-copy-test.cursor.tree
-    c.loop-copy-test.cursor.path c.loop-copy-test.cursor.room ∙ (ends c).1
+returns-clause-room c = grind (arith, common_steps, closed_room, ends)

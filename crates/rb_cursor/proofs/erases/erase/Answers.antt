@@ -1,27 +1,19 @@
 -- The way up from the node's place is the whole erase: the facts of TakeSteps at the values of the
 -- calls.
 use Rattle.rb_cursor.proofs.Words.{◌≡◌, ◌++◌, refl, sym, ◌∙◌, ap, subst, arith, length}
-use Rattle.rb_cursor.proofs.Words.{length-append, append_assoc, copy_number, shape, depth}
-use Rattle.rb_cursor.proofs.Words.{IsRedBlack, link, relink_root, plugged, place_at, plugged_to}
-use Rattle.rb_cursor.proofs.Words.{root_moved, row_of}
+use Rattle.rb_cursor.proofs.Words.{length-append, append_assoc, copy_number, shape, IsRedBlack}
+use Rattle.rb_cursor.proofs.Words.{link, relink_root, plugged_to, root_moved, row_of, common_steps}
 use Rattle.rb_cursor.proofs.StepLemmas.{all_back}
 use Rattle.rb_cursor.proofs.TakeSteps.{ErasedWhole, found_there, place_few, place_fewer}
 use Rattle.rb_cursor.proofs.TakeSteps.{erased_whole}
-use Rattle.rb_cursor.proofs.erases.erase.Given.{Over}
 use Rattle.rb_cursor.proofs.erases.erase.Goals as goal
+use Rattle.rb_cursor.proofs.erases.erase.Given.{Over}
 
 pub take_node-short-requires-clause-steps : goal.take_node-short-requires-clause-steps
-take_node-short-requires-clause-steps g c =
-    let few = place_few (g.P.Probe.seen c.args.sought.now) c.args.cursor.now.tree
-    c.seek.ensures.path c.requires.whole in
-    omega (arith, few, ap (λ t. depth (shape t)) c.seek.ensures.tree, c.requires.steps)
+take_node-short-requires-clause-steps g c = grind (arith, common_steps, place_few)
 
 pub climb-requires-clause-steps : goal.climb-requires-clause-steps
-climb-requires-clause-steps g c =
-    let less = place_fewer (g.P.Probe.seen c.args.sought.now) c.args.cursor.now.tree
-    (c.take_node-short.ensures.path ∙ c.seek.ensures.path)
-    c.requires.whole (sym (c.in-Some.ensures ∙ ap row_of c.seek.ensures.tree)) in
-    omega (arith, less, c.requires.steps)
+climb-requires-clause-steps g c = grind (arith, common_steps, place_fewer)
 
 -- the whole tree, with the stores of both calls
 made : (g : Over) (c : goal.After-link g)
@@ -35,20 +27,13 @@ made g c =
 
 stored : (g : Over) (c : goal.After-link g) → c.climb.new.out.items
     ≡ c.args.out.now.items ++ ((c.take_node-short.ensures.takes).0 ++ (c.climb.ensures.climbs).0)
-stored g c =
-    (c.climb.ensures.climbs).1
-    ∙ ap (λ ss. ss ++ (c.climb.ensures.climbs).0) (c.take_node-short.ensures.takes).1
-    ∙ append_assoc c.args.out.now.items (c.take_node-short.ensures.takes).0
-    (c.climb.ensures.climbs).0
+stored g c = grind (arith, common_steps, append_assoc)
 
 roots : (g : Over) (c : goal.After-link g)
     → relink_root (copy_number c.args.copy) c.link-root.result c.link.result
     ≡ relink_root (copy_number c.args.copy) (link (shape c.args.cursor.now.tree))
     (link (shape c.climb.new.cursor.tree))
-roots g c =
-    let copy = copy_number c.args.copy in
-    ap (λ b. relink_root copy b c.link.result) c.link-root.ensures
-    ∙ ap (relink_root copy (link (shape c.args.cursor.now.tree))) c.link.ensures
+roots g c = grind (arith, common_steps)
 
 pub relink_root-requires : goal.relink_root-requires
 relink_root-requires g c =
@@ -114,20 +99,11 @@ returns-clause-few g c =
     )
 
 pub returns-in_default-clause-row : goal.returns-in_default-clause-row
-returns-in_default-clause-row g c =
-    found_there (g.P.Probe.seen c.args.sought.now) c.args.cursor.now.tree
-    ∙ sym (c.row.ensures ∙ ap row_of c.seek.ensures.tree) ∙ c.in_default.is
+returns-in_default-clause-row g c = grind (arith, common_steps, found_there)
 
 -- with none, the cursor is where it was
 back : (g : Over) (c : goal.After-close_all g) → c.close_all.new.self ≡ c.args.cursor.now
-back g c =
-    let seen = g.P.Probe.seen c.args.sought.now in
-    let z = c.args.cursor.now in
-    let whole = ap (plugged c.seek.new.self.path) c.seek.ensures.tree
-    ∙ ap (λ p. plugged p (place_at seen z.tree)) c.seek.ensures.path
-    ∙ plugged_to seen z.tree z.path in
-    all_back z c.seek.new.self c.close_all.new.self c.requires.whole whole c.seek.ensures.room
-    c.close_all.ensures
+back g c = grind (arith, common_steps, plugged_to, all_back)
 
 pub returns-in_default-clause-unchanged : goal.returns-in_default-clause-unchanged
 returns-in_default-clause-unchanged g c = λ _. (back g c, refl)

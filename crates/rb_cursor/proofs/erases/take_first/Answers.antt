@@ -1,21 +1,16 @@
 -- The way up from the first node's place: the facts of TakeSteps at the values of the calls.
-use Rattle.rb_cursor.proofs.Words.{◌≡◌, sym, ◌∙◌, ap, copy_number, row_of, TakesFirst}
+use Rattle.rb_cursor.proofs.Words.{◌≡◌, sym, ◌∙◌, ap, copy_number, TakesFirst, common_steps, arith}
 use Rattle.rb_cursor.proofs.TakeSteps.{first_some, first_thin, first_few, first_taken}
 use Rattle.rb_cursor.proofs.erases.take_first.Goals as goal
 
 pub unreachable-requires : goal.unreachable-requires
-unreachable-requires c =
-    first_some c.args.cursor.now.tree c.requires.fork
-    (sym (c.row.ensures ∙ ap row_of c.seek_first.ensures.tree) ∙ c.in_default.is)
+unreachable-requires c = grind (arith, common_steps, first_some)
 
 pub take_top-requires : goal.take_top-requires
 take_top-requires c = first_thin c.args.cursor.now.tree c.requires.fork c.seek_first.ensures.tree
 
 pub climb-short-requires-clause-steps : goal.climb-short-requires-clause-steps
-climb-short-requires-clause-steps c =
-    first_few c.args.cursor.now.tree c.requires.fork c.args.cursor.now.path
-    (ap (λ z. z.path) c.lower-short.ensures.cursor ∙ ap (λ z. z.path) c.take_top.ensures
-    ∙ c.seek_first.ensures.path) c.requires.steps
+climb-short-requires-clause-steps c = grind (arith, common_steps, first_few)
 
 -- the way up makes what is left of the tree without its first node
 made : (c : goal.After-climb-short)

@@ -2,7 +2,7 @@
 use Rattle.rb_cursor.proofs.Words.{◌≡◌, ℕ, ◌-◌, [], ◌∷◌, ◌++◌, refl, sym, ◌∙◌, ap, subst, arith}
 use Rattle.rb_cursor.proofs.Words.{length, length-append, append_assoc, vec_capacity, copy_number}
 use Rattle.rb_cursor.proofs.Words.{Store, Left, set_link, tip, shape, blackened, IsRedBlack, link}
-use Rattle.rb_cursor.proofs.Words.{relink_root, Lead, plugged}
+use Rattle.rb_cursor.proofs.Words.{relink_root, Lead, plugged, common_steps}
 use Rattle.rb_cursor.proofs.StepLemmas.{shorter}
 use Rattle.rb_cursor.proofs.InsertSteps.{InsertEnds, insert_begins, insert_at_red, insert_at_black}
 use Rattle.rb_cursor.proofs.InsertSteps.{mend_fits, relink_fits, there_is, insert_settled_black}
@@ -31,57 +31,13 @@ loop-above-init c = record {
 }
 
 pub loop-above-preserved-then-above : goal.loop-above-preserved-then-above
-loop-above-preserved-then-above c =
-    let inv = c.loop-above.invariant in
-    let near = c.in-Some.ensures in record {
-      rises = insert_at_red inv.rises near c.if-above.true c.if-not-red.false c.rise.ensures
-          c.relink.ensures.items;
-      few = omega (
-        arith,
-        inv.few,
-        shorter c.loop-above.cursor c.in-Some.above near,
-        ap (λ z. length z.path) (there_is inv.rises near c.rise.ensures),
-      );
-      room = ap (λ z. z.room) (there_is inv.rises near c.rise.ensures) ∙ inv.room;
-      capacity = c.relink.ensures.capacity ∙ inv.capacity;
-    }
+loop-above-preserved-then-above c = grind (arith, common_steps, insert_at_red, shorter, there_is)
 
 pub mend-requires-clause-list : goal.mend-requires-clause-list
-mend-requires-clause-list c =
-    let inv = c.loop-above.invariant in
-    let longer = simp length-append at (ap length c.relink.ensures.items) in
-    let now = simp length-append at (ap length inv.rises.stores) in
-    omega (
-      arith,
-      mend_fits inv.rises c.in-Some.ensures c.if-above.false c.if-not-red.false c.rise.ensures,
-      longer,
-      now,
-      relink_fits inv.rises c.in-Some.ensures,
-      c.requires.list,
-      inv.capacity,
-      c.relink.ensures.capacity,
-      c.relink.new.out.ok.0,
-      c.args.out.now.ok.0,
-    )
+mend-requires-clause-list c = grind (arith, common_steps, length-append, mend_fits, relink_fits)
 
 pub loop-above-preserved : goal.loop-above-preserved
-loop-above-preserved c =
-    let inv = c.loop-above.invariant in
-    let near = c.in-Some.ensures in
-    let there = there_is inv.rises near c.rise.ensures in record {
-      rises = insert_at_black inv.rises near c.if-above.false c.if-not-red.false c.rise.ensures
-          c.mend.ensures.cursor c.relink.ensures.items c.mend.ensures.items c.link-after.ensures
-          c.is_red-red.ensures;
-      few = omega (
-        arith,
-        inv.few,
-        shorter c.loop-above.cursor c.in-Some.above near,
-        ap (λ z. length z.path) there,
-        ap (λ z. length z.path) c.mend.ensures.cursor,
-      );
-      room = ap (λ z. z.room) c.mend.ensures.cursor ∙ ap (λ z. z.room) there ∙ inv.room;
-      capacity = c.mend.ensures.capacity ∙ c.relink.ensures.capacity ∙ inv.capacity;
-    }
+loop-above-preserved c = grind (arith, common_steps, there_is, insert_at_black, shorter)
 
 -- the way ended at a node above which nothing changes, or at the top
 ends : (c : goal.After-link)
@@ -111,26 +67,14 @@ ends c =
     ])
 
 kept : (c : goal.After-link) → vec_capacity c.match-above.out ≡ vec_capacity c.args.out.now
-kept c =
-    let inv = c.loop-above.invariant in
-    elim c.match-above.branch [
-      | in-Some+then-not-red w ↦ ap (λ v. vec_capacity v) w.out-is ∙ w.relink.ensures.capacity
-          ∙ inv.capacity
-      | in-Some+else-not-red+else-above+else-clashes w ↦ ap (λ v. vec_capacity v) w.out-is
-          ∙ w.relink.ensures.capacity ∙ inv.capacity
-      | in_default w ↦ ap (λ v. vec_capacity v) w.out-is ∙ inv.capacity
-    ]
+kept c = grind (arith, common_steps, in_default)
 
 -- the root's link is told by the trees
 roots : (c : goal.After-link)
     → relink_root (copy_number c.args.copy) c.args.root c.link.result
     ≡ relink_root (copy_number c.args.copy) (link (shape (plugged c.args.cursor.now.path tip)))
     (link (shape (blackened c.close_all.new.self.tree)))
-roots c =
-    let copy = copy_number c.args.copy in
-    ap (λ b. relink_root copy b c.link.result) c.requires.root
-    ∙ ap (relink_root copy (link (shape (plugged c.args.cursor.now.path tip))))
-    (c.link.ensures ∙ ap (λ z. link (shape z.tree)) c.blacken.ensures)
+roots c = grind (arith, common_steps)
 
 pub relink_root-requires : goal.relink_root-requires
 relink_root-requires c =

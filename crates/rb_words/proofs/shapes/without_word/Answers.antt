@@ -1,18 +1,13 @@
 use Rattle.rb_words.proofs.Words.{◌∙◌, refl, sym, ap, is_some, item_with_word, word_found}
-use Rattle.rb_words.proofs.Words.{item_found, any_is, found_by_word, found_by_any, any_has}
+use Rattle.rb_words.proofs.Words.{item_found, any_is, found_by_word, found_by_any, any_has, arith}
+use Rattle.rb_words.proofs.Words.{common_steps}
 use Rattle.rb_words.proofs.shapes.without_word.Goals as goal
 
 pub returns-in_err-row-clause-found : goal.returns-in_err-row-clause-found
-returns-in_err-row-clause-found g c =
-    ap is_some c.from_residual.ensures ∙ ap is_some (sym c.in_err-row.ensures.row)
-    ∙ found_by_word g.O.TreeOrder.order (c.in_line.ensures c.if-in_line.true) c.args.a
-    c.args.cursor.now.tree c.requires.table
+returns-in_err-row-clause-found g c = grind (arith, common_steps, found_by_word)
 
 pub returns-then-in_line-clause-found : goal.returns-then-in_line-clause-found
-returns-then-in_line-clause-found g c =
-    ap is_some (sym c.in_ok-row.ensures.row)
-    ∙ found_by_word g.O.TreeOrder.order (c.in_line.ensures c.if-in_line.true) c.args.a
-    c.args.cursor.now.tree c.requires.table
+returns-then-in_line-clause-found g c = grind (arith, common_steps, found_by_word)
 
 pub returns-then-in_line-clause-gone : goal.returns-then-in_line-clause-gone
 returns-then-in_line-clause-gone g c =
@@ -30,13 +25,7 @@ returns-in_err-item-clause-found g c =
     ∙ any_has c.args.a c.args.cursor.now.tree
 
 pub returns-in_err-row-2-clause-found : goal.returns-in_err-row-2-clause-found
-returns-in_err-row-2-clause-found g c =
-    let with_word = sym (ap (item_with_word c.args.a) c.tree.ensures) ∙ sym c.in_ok-item.ensures in
-    let some =
-    found_by_any g.O.TreeOrder.order g.met.O.TreeOrder.lawful c.args.a c.args.cursor.now.tree
-    c.in_ok-item.item c.requires.table with_word in
-    let none = ap is_some c.in_err-row-2.ensures.row in
-    absurd (cc)
+returns-in_err-row-2-clause-found g c = grind (arith, common_steps, found_by_any)
 
 pub returns-clause-found : goal.returns-clause-found
 returns-clause-found g c =

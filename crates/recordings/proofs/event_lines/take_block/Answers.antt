@@ -1,6 +1,5 @@
-use Rattle.recordings.proofs.Words.{◌≡◌, ◌∙◌, ◌<◌, ◌++◌, ◌-◌, List, ℕ, ap, arith, sym, subst, drop}
-use Rattle.recordings.proofs.Words.{take, length, length-take, has_end, take-append-drop, take_rest}
-use Rattle.recordings.proofs.Words.{TakesBlock}
+use Rattle.recordings.proofs.Words.{◌≡◌, ◌∙◌, ◌<◌, ◌++◌, ◌-◌, List, ℕ, ap, arith, sym, drop, take}
+use Rattle.recordings.proofs.Words.{length, length-take, has_end, take-append-drop, take_rest}
 use Rattle.recordings.proofs.LineLemmas.{takes_lines, takes_none}
 use Rattle.recordings.proofs.event_lines.take_block.Goals as goal
 
@@ -9,8 +8,7 @@ returns-then-end-eq0 c = λ line o.
     let block = c.args.block.now in
     let none = ap (λ (n : ℕ). has_end (drop n block)) (sym c.if-end-eq0.true)
     ∙ c.whole_length-end.ensures.none in
-    subst (λ (text : List ℕ). TakesBlock c.keep.new.begun.items line block text)
-    (sym c.new.ensures.items)
+    rw c.new.ensures.items
     (takes_none c.args.begun.now.items c.keep.new.begun.items line block o none
     c.in_ok-keep.ensures)
 
@@ -33,6 +31,6 @@ returns c = λ line o.
     let kept : c.extend_from_slice-3.new.self.items ≡ rest =
     c.in_ok-extend_from_slice-3.ensures.items
     ∙ ap (λ (l : List ℕ). l ++ rest) c.clear.ensures.items in
-    subst (λ (l : List ℕ). TakesBlock l line block c.extend_from_slice-2.new.self.items) (sym kept)
+    rw kept
     (takes_lines begun line block front rest c.extend_from_slice-2.new.self.items o some parts
     c.whole_length-end.ensures.whole unended text)

@@ -1,5 +1,5 @@
-use Rattle.recordings.proofs.Words.{◌∙◌, ap, subst, List, ℕ, said_in, EventLine, ReadsFor}
-use Rattle.recordings.proofs.Words.{BlockWritten, after_block, option_copied, Ok, Option}
+use Rattle.recordings.proofs.Words.{◌∙◌, ap, List, ℕ, said_in, EventLine, BlockWritten, after_block}
+use Rattle.recordings.proofs.Words.{option_copied, Option}
 use Rattle.recordings.proofs.RecorderLemmas.{puts_failed}
 use Rattle.recordings.proofs.recorder.put_lines.Goals as goal
 
@@ -8,10 +8,7 @@ returns-in_err-put_text g c =
     let said = said_in c.args.text.now in
     let first = c.deref.ensures.value ∙ c.in_ok-said.ensures in
     let again = c.deref-2.ensures.value ∙ c.in_ok-said.ensures in
-    let reads = subst
-    (λ (s : List EventLine). ReadsFor c.args.recording s (g.L.LastingLog.seen c.args.events.now)
-    (g.L.LastingLog.seen c.read_if_needed.new.events) (Ok c.in_ok-listing.listing)) first
-    c.in_ok-listing.ensures in
+    let reads = rw first at c.in_ok-listing.ensures in
     let part =
     c.in_ok-part.ensures ∙ ap (λ (s : List EventLine).
     after_block s (option_copied c.as_ref.result) c.args.recording) again

@@ -1,14 +1,6 @@
-use Rattle.run_files.proofs.Words.{rules, sym, tests}
-use Rattle.run_files.proofs.FormLemmas.{erase_long, erase_short}
-use Rattle.run_files.proofs.commands.erase_in.Goals.{in_default-via-then-arguments-lt1}
-use Rattle.run_files.proofs.commands.erase_in.Goals.{in_default-via-else-arguments-lt1+else-arguments-lt2}
+use Rattle.run_files.proofs.Words.{arith, tests}
+use Rattle.run_files.proofs.FormLemmas.{erase_other}
 use Rattle.run_files.proofs.commands.erase_in.Goals as goal
 
 pub returns-in_default : goal.returns-in_default
-returns-in_default c =
-    elim c.in_default.branch [
-      | in_default-via-then-arguments-lt1 w ↦ sym
-          (erase_short c.args.arguments.now (search (rules, tests)))
-      | in_default-via-else-arguments-lt1+else-arguments-lt2 w ↦ sym
-          (erase_long c.args.arguments.now (search (rules, tests)))
-    ]
+returns-in_default c = grind (arith, tests, erase_other c.args.arguments.now)

@@ -1,8 +1,6 @@
 use Rattle.texts.proofs.Words.{rules, ◌<◌, ◌-◌, drop_of_length-le, false, ap, ◌∙◌, arith}
 use Rattle.texts.proofs.Words.{digits_onto}
 use Rattle.texts.proofs.HexadecimalLemmas.{all_of, smaller_next, told_more, told_last, small_at_one}
-use Rattle.texts.proofs.exact.write_digits.Goals.{then-loop-start-test+else-left-ge16}
-use Rattle.texts.proofs.exact.write_digits.Goals.{else-loop-start-test}
 use Rattle.texts.proofs.exact.write_digits.Goals as goal
 
 pub loop-start-init : goal.loop-start-init
@@ -30,8 +28,8 @@ pub returns-clause-written : goal.returns-clause-written
 returns-clause-written c =
     let start = c.loop-start.start in
     let small : c.loop-start.left < 16 = elim c.loop-start-test.branch [
-      | then-loop-start-test+else-left-ge16 w ↦ w.if-left-ge16.false
-      | else-loop-start-test w ↦ small_at_one (start - 2) c.loop-start.left
+      | goal.then-loop-start-test+else-left-ge16 w ↦ w.if-left-ge16.false
+      | goal.else-loop-start-test w ↦ small_at_one (start - 2) c.loop-start.left
           (omega (arith, w.loop-start-test.false)) c.loop-start.invariant.small
     ] in
     told_last start c.loop-start.left c.digit-2.result c.args.n c.loop-start.buffer

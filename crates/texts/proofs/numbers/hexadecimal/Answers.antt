@@ -6,21 +6,19 @@ use Rattle.texts.proofs.numbers.hexadecimal.Goals as goal
 pub overflow_mul-value : goal.overflow_mul-value
 overflow_mul-value c =
     let i = c.loop-byte.invariant in
-    let few = i.few in
     omega (
       arith,
       digit_fits c.loop-byte.value c.loop-byte.byte-index _ 0 i.fits (omega arith)
-          c.loop-byte-test.true few,
+          c.loop-byte-test.true i.few,
     )
 
 pub overflow_add-value : goal.overflow_add-value
 overflow_add-value c =
     let i = c.loop-byte.invariant in
-    let few = i.few in
     omega (
       arith,
       digit_fits c.loop-byte.value c.loop-byte.byte-index _ c.digit_of-digit.result i.fits
-          (omega arith) c.loop-byte-test.true few,
+          (omega arith) c.loop-byte-test.true i.few,
     )
 
 pub loop-byte-preserved : goal.loop-byte-preserved

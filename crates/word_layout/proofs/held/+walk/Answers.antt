@@ -1,20 +1,19 @@
 use Rattle.word_layout.proofs.Words.{◌≡◌, ◌+◌, ◌-◌, ◌<◌, [], ◌∷◌, ◌++◌, length, suc, ◌∙◌, ap, subst}
+use Rattle.std.proofs.Common.{rules}
 use Rattle.word_layout.proofs.Words.{length-append, arith, IfSome, IfNone, Item, capacity_of}
 use Rattle.word_layout.proofs.Words.{copy_number, at, item_at, Nodes, fork, listed, items, Leads}
 use Rattle.facts.proofs.Options.{IfNone-weaker, IfSome-weaker}
 use Rattle.word_layout.proofs.HeldLemmas.{past_no_tree, some_visit, left_too_large, right_too_large}
 use Rattle.word_layout.proofs.HeldLemmas.{three_parts}
 use Rattle.word_layout.proofs.held.+walk.Goals as goal
-use Rattle.word_layout.proofs.held.+walk.Goals.{then-link-capacity-via-then-link-capacity}
-use Rattle.word_layout.proofs.held.+walk.Goals.{then-link-capacity-via-else-link-capacity+then-left-eq0}
 
 pub returns-then-link-capacity-clause-none : goal.returns-then-link-capacity-clause-none
 returns-then-link-capacity-clause-none t c =
     elim c.then-link-capacity.branch [
-      | then-link-capacity-via-then-link-capacity w ↦ λ t' h.
+      | goal.then-link-capacity-via-then-link-capacity w ↦ λ t' h.
           absurd (past_no_tree c.args.words.now (capacity_of c.args.l) (copy_number c.args.copy)
           c.args.link t' (omega (arith, w.if-link-capacity.true, c.capacity.ensures.is)) h)
-      | then-link-capacity-via-else-link-capacity+then-left-eq0 w ↦ λ t' h.
+      | goal.then-link-capacity-via-else-link-capacity+then-left-eq0 w ↦ λ t' h.
           omega (
             arith,
             some_visit c.args.words.now (capacity_of c.args.l) (copy_number c.args.copy) c.args.link
@@ -39,8 +38,8 @@ returns-in_default-clause-none t c =
     λ t' h. left_too_large m n copy c.args.link (c.args.link - 1) is_node c.args.left
     (omega (arith, c.if-left-eq0.false)) large t' h
 
-pub returns-clause-tree : goal.returns-clause-tree
-returns-clause-tree t c =
+pub returns : goal.returns
+returns t c =
     let m = c.args.words.now in
     let n = capacity_of c.args.l in
     let copy = copy_number c.args.copy in
@@ -64,6 +63,7 @@ returns-clause-tree t c =
     } in
     let pushed : c.push.new.self.items ≡ c.walk.new.found.items ++ item_at m node ∷ [] =
     c.in_ok-push.ensures.items ∙ ap (λ i. c.walk.new.found.items ++ i ∷ []) is_item in
+    let next_tree =
     IfSome-weaker c.walk-2.result
     (λ rest. (r : Nodes) × Leads m n copy (at m c.right_of.result) r
     × (c.walk-2.new.found.items ≡ c.push.new.self.items ++ items m r)
@@ -86,27 +86,15 @@ returns-clause-tree t c =
         length-append (listed less.0) (node ∷ listed r),
       ),
     ))
-    c.walk-2.ensures.tree
-
-pub returns-clause-none : goal.returns-clause-none
-returns-clause-none t c =
-    let m = c.args.words.now in
-    let n = capacity_of c.args.l in
-    let copy = copy_number c.args.copy in
-    let is_node : c.args.link ≡ suc (c.args.link - 1) = omega (arith, c.if-link-eq0.false) in
-    let less : (l : Nodes) × Leads m n copy (at m c.left_of.result) l
-    × (c.walk.new.found.items ≡ c.args.found.now.items ++ items m l)
-    × (c.in-Some.rest + length (listed l) ≡ c.args.left - 1) =
-    subst (λ o. IfSome o (λ rest. (l : Nodes) × Leads m n copy (at m c.left_of.result) l
-    × (c.walk.new.found.items ≡ c.args.found.now.items ++ items m l)
-    × (rest + length (listed l) ≡ c.args.left - 1))) c.in-Some.is c.in_ok-rest.ensures.tree in
-    let leads_left = subst (λ w. Leads m n copy (at m w) less.0) c.left_of.ensures less.1 in
+    c.walk-2.ensures.tree in
+    let next_none =
     IfNone-weaker c.walk-2.result
     ((u : Nodes) → Leads m n copy (at m c.right_of.result) u → c.in-Some.rest < length (listed u))
     ((u : Nodes) → Leads m n copy c.args.link u → c.args.left < length (listed u))
     (λ large u h.
-    right_too_large m n copy c.args.link (c.args.link - 1) is_node c.args.left c.in-Some.rest less.0
+    right_too_large m n copy c.args.link node is_node c.args.left c.in-Some.rest less.0
     (omega (arith, c.if-left-eq0.false)) leads_left less.3
     (subst (λ w. (v : Nodes) → Leads m n copy (at m w) v → c.in-Some.rest < length (listed v))
     c.right_of.ensures large) u h)
-    c.walk-2.ensures.none
+    c.walk-2.ensures.none in
+    record { tree = next_tree; none = next_none; fewer = search rules }

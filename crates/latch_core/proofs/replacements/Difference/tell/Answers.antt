@@ -2,8 +2,6 @@ use Rattle.latch_core.proofs.Words.{◌≡◌, ◌<◌, false, get_or, length, s
 use Rattle.latch_core.proofs.Words.{Difference, is_same}
 use Rattle.latch_core.proofs.ReplacementLemmas.{compared, met_at, gone_at, same_is_one}
 use Rattle.latch_core.proofs.replacements.Difference.tell.Goals as goal
-use Rattle.latch_core.proofs.replacements.Difference.tell.Goals.{else-self-items-via-then-self-items+else-eq}
-use Rattle.latch_core.proofs.replacements.Difference.tell.Goals.{else-self-items-via-else-self-items}
 
 pub returns-then-eq : goal.returns-then-eq
 returns-then-eq g c =
@@ -28,10 +26,10 @@ returns g c =
     → is_same c.args.item (get_or c.args.items.now s.place none) ≡ false =
     λ lt.
     elim c.else-self-items.branch [
-      | else-self-items-via-then-self-items+else-eq w ↦ sym
+      | goal.else-self-items-via-then-self-items+else-eq w ↦ sym
           (compared (get_or c.args.items.now s.place none) c.args.item) ∙ sym w.eq.ensures
           ∙ w.if-eq.false
-      | else-self-items-via-else-self-items w ↦ absurd (omega (arith, w.if-self-items.false))
+      | goal.else-self-items-via-else-self-items w ↦ absurd (omega (arith, w.if-self-items.false))
     ] in
     gone_at o g.met.O.TreeOrder.lawful s.erase.items s.insert.items c.args.items.now s.place none
     c.args.item more c.push.new.self.items c.in_ok-push.ensures.items

@@ -1,21 +1,17 @@
-use Rattle.latch_core.proofs.Words.{◌≡◌, ◌≤◌, ◌+◌, ◌++◌, length, take, sym, ◌∙◌, ap, subst, arith}
+use Rattle.latch_core.proofs.Words.{◌≡◌, ◌≤◌, ◌+◌, ◌++◌, length, take, ◌∙◌, ap, subst, arith}
 use Rattle.latch_core.proofs.Words.{capacity_of, limit_of, mirror_stores, Batch, size_of}
-use Rattle.latch_core.proofs.Words.{update_stores, stores_of_placed, InsertsItems, WriterView}
+use Rattle.latch_core.proofs.Words.{update_stores, stores_of_placed, InsertsItems}
+use Rattle.latch_core.proofs.Words.{common_steps}
 use Rattle.std.proofs.Common.{◌*◌}
 use Rattle.latch_core.proofs.WriterLemmas.{rests_before}
 use Rattle.latch_core.proofs.BeginLemmas.{batch_is_small, with_room, PlansUpdate, batch_planned}
 use Rattle.latch_core.proofs.BeginLemmas.{planned_step, planned_begun}
-use Rattle.latch_core.proofs.writers.WriterCore.batch.Given.{Over}
 use Rattle.latch_core.proofs.writers.WriterCore.batch.Goals as goal
+use Rattle.latch_core.proofs.writers.WriterCore.batch.Given.{Over}
 use Rattle.latch_core.proofs.writers.WriterCore.batch.Goals.{After-drop-links-2}
 
 pub reserve-requires-clause-size : goal.reserve-requires-clause-size
-reserve-requires-clause-size g c =
-    let small = subst (λ (v : WriterView). (length c.args.erase.now ≤ length v.table)
-    × (length v.table + length c.args.insert.now ≤ v.capacity)) (sym c.self.view_is)
-    (batch_is_small g.O.TreeOrder.order c.args.self.now c.args.erase.now c.args.insert.now
-    c.requires.accepted) in
-    omega (arith, small.0, small.1, c.self.inside.layout.most)
+reserve-requires-clause-size g c = grind (arith, common_steps, batch_is_small)
 
 planned : (g : Over) (c : After-drop-links-2 g)
     → PlansUpdate g.O.TreeOrder.order (capacity_of c.self.inside.layout)

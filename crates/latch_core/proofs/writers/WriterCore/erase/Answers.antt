@@ -3,8 +3,8 @@ use Rattle.latch_core.proofs.Words.{IfSome, is_some, capacity_of, limit_of, Eras
 use Rattle.latch_core.proofs.Words.{Erase, update_stores, AreInStep}
 use Rattle.latch_core.proofs.BeginLemmas.{with_room, PlansUpdate, erase_planned, planned_step}
 use Rattle.latch_core.proofs.BeginLemmas.{planned_begun}
-use Rattle.latch_core.proofs.writers.WriterCore.erase.Given.{Over}
 use Rattle.latch_core.proofs.writers.WriterCore.erase.Goals as goal
+use Rattle.latch_core.proofs.writers.WriterCore.erase.Given.{Over}
 use Rattle.latch_core.proofs.writers.WriterCore.erase.Goals.{After-close}
 
 -- what was planned

@@ -3,8 +3,8 @@ use Rattle.latch_core.proofs.Words.{Contains, capacity_of, limit_of, listed, Pic
 use Rattle.latch_core.proofs.Words.{Insert, update_stores}
 use Rattle.latch_core.proofs.BeginLemmas.{taken_node, with_room, PlansUpdate, insert_planned}
 use Rattle.latch_core.proofs.BeginLemmas.{planned_step, planned_begun}
-use Rattle.latch_core.proofs.writers.WriterCore.insert.Given.{Over}
 use Rattle.latch_core.proofs.writers.WriterCore.insert.Goals as goal
+use Rattle.latch_core.proofs.writers.WriterCore.insert.Given.{Over}
 use Rattle.latch_core.proofs.writers.WriterCore.insert.Goals.{After-close}
 
 pub plan_links_apart-met-requires-clause-free : goal.plan_links_apart-met-requires-clause-free

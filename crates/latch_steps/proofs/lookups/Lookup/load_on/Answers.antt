@@ -2,7 +2,6 @@ use Rattle.latch_steps.proofs.Definitions.{refl, ◌+◌, subst, sym, arith, Rea
 use Rattle.latch_steps.proofs.Definitions.{Retried, Outcome, Goes, Retries}
 use Rattle.latch_steps.proofs.ReportLemmas.{Loading, loads_more, load_ends, all_loaded}
 use Rattle.latch_steps.proofs.lookups.Lookup.load_on.Goals as goal
-use Rattle.latch_steps.proofs.lookups.Lookup.load_on.Goals.{in-Going, in-Retrying}
 
 pub loop-turn-preserved : goal.loop-turn-preserved
 loop-turn-preserved g c = λ n limit w words is e.
@@ -17,14 +16,14 @@ loop-turn-preserved g c = λ n limit w words is e.
     λ (lk : Lookup g.row.O.Denot g.row.O-Key.Denot). Loading o n limit reports w c.args.reader
     c.args.most c.args.to.now (c.loop-turn._turn + 1) lk next c.report-in-loop-turn.new.to in
     elim c.match-load.branch [
-      | in-Going x ↦ subst made (sym x.lookup-is)
+      | goal.in-Going x ↦ subst made (sym x.lookup-is)
           (loads_more o n limit reports w c.args.reader c.args.most c.args.to.now old
           c.loop-turn.events next c.loop-turn._turn c.loop-turn.to c.report-in-loop-turn.new.to
           h c.counted_up-events.ensures c.args.words.now words c.next_load.result
           c.next_load.ensures c.word_at.result c.word_at.ensures Goes x.in-Going.next Loaded
           (x.in-Going.ensures n) (λ l. refl) (λ v. refl)
           (subst told x.outcome-is c.report-in-loop-turn.ensures))
-      | in-Retrying x ↦ subst made (sym x.lookup-is)
+      | goal.in-Retrying x ↦ subst made (sym x.lookup-is)
           (loads_more o n limit reports w c.args.reader c.args.most c.args.to.now old
           c.loop-turn.events next c.loop-turn._turn c.loop-turn.to c.report-in-loop-turn.new.to
           h c.counted_up-events.ensures c.args.words.now words c.next_load.result

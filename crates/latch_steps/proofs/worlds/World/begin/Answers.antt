@@ -1,7 +1,6 @@
 use Rattle.latch_steps.proofs.Definitions.{sym, subst, Begin, Refused, MayDo}
 use Rattle.latch_steps.proofs.WorldLemmas.{begins, refused, given_up}
 use Rattle.latch_steps.proofs.worlds.World.begin.Goals as goal
-use Rattle.latch_steps.proofs.worlds.World.begin.Goals.{in-OutOfMemory, in_default}
 
 pub returns-in-Ok-clause-steps : goal.returns-in-Ok-clause-steps
 returns-in-Ok-clause-steps g c =
@@ -14,11 +13,11 @@ returns-after-why-clause-steps g c =
     let o = g.O.TreeOrder.order in
     let err = c.in-Err.ensures in
     elim c.match-why.branch [
-      | in-OutOfMemory w ↦ subst
+      | goal.in-OutOfMemory w ↦ subst
           (MayDo o c.args.self.now (Begin c.args.update.now) (Refused c.in-Err.why)) (sym w.self-is)
           (given_up o c.args.self.now c.args.update.now c.in-Err.why c.begin.new.self err.unchanged
           err.refusal w.in-OutOfMemory.is)
-      | in_default w ↦ subst
+      | goal.in_default w ↦ subst
           (MayDo o c.args.self.now (Begin c.args.update.now) (Refused c.in-Err.why)) (sym w.self-is)
           (refused o c.args.self.now c.args.update.now c.in-Err.why _ c.begin.new.self err.unchanged
           err.refusal w.in_default.not-OutOfMemory w.counted_up-self-in_default.ensures)

@@ -1,5 +1,5 @@
 use Rattle.latch_steps.proofs.Definitions.{◌∙◌, refl, sym, arith, None-from_is_none}
-use Rattle.latch_steps.proofs.AtOnceLemmas.{look_found, look_right, look_near, look_never}
+use Rattle.latch_steps.proofs.AtOnceLemmas.{look_found, look_told, look_never}
 use Rattle.latch_steps.proofs.AtOnceLemmas.{after_found}
 use Rattle.latch_steps.proofs.worlds.World.find_now.Goals as goal
 
@@ -20,15 +20,15 @@ returns-clause-finds g c =
 
 pub returns-clause-found : goal.returns-clause-found
 returns-clause-found g c = λ start us h.
-    look_right g.O.TreeOrder.order g.met.O.TreeOrder.lawful c.args.self.now c.args.reader c.args.key
+    (look_told g.O.TreeOrder.order g.met.O.TreeOrder.lawful c.args.self.now c.args.reader c.args.key
     start us h c.in-Some.answer c.in-Some.generation c.in-Some.loads
-    c.counted_up-first.result c.saturating_add-self.result c.in-Some.ensures.found
+    c.counted_up-first.result c.saturating_add-self.result c.in-Some.ensures.found).0
 
 pub returns-clause-near : goal.returns-clause-near
 returns-clause-near g c = λ start us h.
-    look_near g.O.TreeOrder.order g.met.O.TreeOrder.lawful c.args.self.now c.args.reader c.args.key
+    (look_told g.O.TreeOrder.order g.met.O.TreeOrder.lawful c.args.self.now c.args.reader c.args.key
     start us h c.in-Some.answer c.in-Some.generation c.in-Some.loads
-    c.counted_up-first.result c.saturating_add-self.result c.in-Some.ensures.found
+    c.counted_up-first.result c.saturating_add-self.result c.in-Some.ensures.found).1
 
 pub returns-clause-after : goal.returns-clause-after
 returns-clause-after g c =

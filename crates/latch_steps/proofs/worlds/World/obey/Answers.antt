@@ -2,7 +2,6 @@ use Rattle.latch_steps.proofs.Definitions.{cond, ◌∙◌, ap, false, true, ref
 use Rattle.latch_steps.proofs.ReportLemmas.{obeyed_writing}
 use Rattle.latch_steps.proofs.RunLemmas.{within_is}
 use Rattle.latch_steps.proofs.worlds.World.obey.Goals as goal
-use Rattle.latch_steps.proofs.worlds.World.obey.Goals.{then-is_writing, else-is_writing}
 
 pub returns-after-is_writing-clause-obeyed : goal.returns-after-is_writing-clause-obeyed
 returns-after-is_writing-clause-obeyed g c =
@@ -10,10 +9,10 @@ returns-after-is_writing-clause-obeyed g c =
     c.write_on.new.self c.args.to.now c.write_on.new.to false c.if-is_writing.most
     c.args.command.now _ c.in-Write.is (refl, λ reply w. refl)
     (λ w s. elim c.if-is_writing.branch [
-      | then-is_writing b ↦ b.most-is
+      | goal.then-is_writing b ↦ b.most-is
           ∙ ap (λ x. cond x c.in-Write.most 0) (sym b.if-is_writing.true ∙ c.is_writing.ensures w s)
           ∙ within_is w.latch.pending c.in-Write.most
-      | else-is_writing b ↦ b.most-is ∙ ap (λ x. cond x c.in-Write.most 0)
+      | goal.else-is_writing b ↦ b.most-is ∙ ap (λ x. cond x c.in-Write.most 0)
           (sym b.if-is_writing.false ∙ c.is_writing.ensures w s)
           ∙ within_is w.latch.pending c.in-Write.most
     ])

@@ -1,10 +1,8 @@
 use Rattle.latch_table.proofs.Words.{◌≡◌, refl, sym, ◌∙◌, ap, subst, inl, inr, capacity_of}
 use Rattle.latch_table.proofs.Words.{generation_of, outcome_of, reader_of, Tried, IsRecalled}
-use Rattle.latch_table.proofs.Words.{Recalled, MemoryHolds}
+use Rattle.latch_table.proofs.Words.{Recalled, MemoryHolds, IsPrefix, ◌++◌, ◌∷◌, []}
 use Rattle.latch_table.proofs.MemoryLemmas.{recalls_now, remembers_tried}
-use Rattle.latch_table.proofs.WalkLemmas.{begun_now, outcome_of_try, ready_now, table_now}
-use Rattle.latch_table.proofs.WalkLemmas.{tried_now}
-use Rattle.latch_table.proofs.readers.attempts.look.Goals.{in-Answered, in-Failed}
+use Rattle.latch_table.proofs.WalkLemmas.{outcome_of_try, ready_now, walk_now}
 use Rattle.latch_table.proofs.readers.attempts.look.Given as given
 use Rattle.latch_table.proofs.readers.attempts.look.Goals as goal
 
@@ -32,34 +30,34 @@ came_to : (g : given.Over) (c : goal.After-remember g)
     → outcome_of_try c.match-attempt_from.tried ≡ outcome_of c.attempt_from.result.0
 came_to g c =
     elim c.match-attempt_from.branch [
-      | in-Answered w ↦ ap outcome_of_try w.tried-is ∙ sym (ap outcome_of w.in-Answered.is)
-      | in-Failed w ↦ ap outcome_of_try w.tried-is ∙ sym (ap outcome_of w.in-Failed.is)
+      | goal.in-Answered w ↦ ap outcome_of_try w.tried-is ∙ sym (ap outcome_of w.in-Answered.is)
+      | goal.in-Failed w ↦ ap outcome_of_try w.tried-is ∙ sym (ap outcome_of w.in-Failed.is)
     ]
 
-tried : (g : given.Over) (c : goal.After-remember g)
-    → Tried g.O.TreeOrder.order c.args.k (reader_of c.args.seat.now.me.0)
+-- what the attempt says
+walk : (g : given.Over) (c : goal.After-remember g)
+    → (c.attempt_from.new.seat.table_id ≡ c.args.words.words.now.table_id)
+    × IsPrefix ((reader_of c.args.seat.now.me.0).seen ++ c.sequence-begun.result ∷ [])
+    (reader_of c.attempt_from.new.seat.me.0).seen
+    × Tried g.O.TreeOrder.order c.args.k (reader_of c.args.seat.now.me.0)
     (reader_of c.attempt_from.new.seat.me.0) c.match-attempt_from.tried
-tried g c =
-    tried_now (λ s. s.table_id) (λ s. s.me) g.O.TreeOrder.order (capacity_of c.args.l) c.args.k
-    c.args.words.words.now.table_id (reader_of c.args.seat.now.me.0) c.requires.capacity
+walk g c =
+    let now = walk_now (λ s. s.table_id) (λ s. s.me) g.O.TreeOrder.order (capacity_of c.args.l)
+    c.args.k c.args.words.words.now.table_id (reader_of c.args.seat.now.me.0) c.requires.capacity
     c.sequence-begun.result c.sequence-begun.new.seat
     (c.sequence-begun.ensures.0 ∙ c.requires.table) c.sequence-begun.ensures.1
     c.attempt_from.new.seat (outcome_of c.attempt_from.result.0) c.attempt_from.result.1
-    c.attempt_from.ensures c.match-attempt_from.tried (came_to g c)
+    c.attempt_from.ensures in
+    (now.0, now.1, now.2 c.match-attempt_from.tried (came_to g c))
 
 pub returns-clause-looked : goal.returns-clause-looked
 returns-clause-looked g c =
     inr (
       c.sequence-begun.result,
-      begun_now (λ s. s.table_id) (λ s. s.me) g.O.TreeOrder.order (capacity_of c.args.l) c.args.k
-          c.args.words.words.now.table_id (reader_of c.args.seat.now.me.0) c.requires.capacity
-          c.sequence-begun.result c.sequence-begun.new.seat
-          (c.sequence-begun.ensures.0 ∙ c.requires.table) c.sequence-begun.ensures.1
-          c.attempt_from.new.seat (outcome_of c.attempt_from.result.0) c.attempt_from.result.1
-          c.attempt_from.ensures,
+      (walk g c).1,
       subst (IsRecalled g.O.TreeOrder.order c.args.k (generation_of c.sequence-begun.result)
           c.args.memory.now) c.in_default.is c.recalled.ensures,
-      tried g c,
+      (walk g c).2,
     )
 
 pub returns-clause-still : goal.returns-clause-still
@@ -68,13 +66,7 @@ returns-clause-still g c =
     (sym c.remember.ensures)
     (remembers_tried g.O.TreeOrder.order c.args.k (reader_of c.args.seat.now.me.0)
     (reader_of c.attempt_from.new.seat.me.0) c.args.memory.now c.match-attempt_from.tried
-    (tried g c) c.requires.memory)
+    (walk g c).2 c.requires.memory)
 
 pub returns-clause-table : goal.returns-clause-table
-returns-clause-table g c =
-    table_now (λ s. s.table_id) (λ s. s.me) g.O.TreeOrder.order (capacity_of c.args.l) c.args.k
-    c.args.words.words.now.table_id (reader_of c.args.seat.now.me.0) c.requires.capacity
-    c.sequence-begun.result c.sequence-begun.new.seat
-    (c.sequence-begun.ensures.0 ∙ c.requires.table) c.sequence-begun.ensures.1
-    c.attempt_from.new.seat (outcome_of c.attempt_from.result.0) c.attempt_from.result.1
-    c.attempt_from.ensures ∙ sym c.requires.table
+returns-clause-table g c = (walk g c).0 ∙ sym c.requires.table

@@ -4,7 +4,6 @@ use Rattle.latch_table.proofs.Words.{IsTied, Steps, kind_of_store}
 use Rattle.latch_table.proofs.WriterLemmas.{allows_next, tied_after, steps_next, did_flip}
 use Rattle.latch_table.proofs.WriterLemmas.{did_store}
 use Rattle.latch_table.proofs.writers.Writer.step.Goals as goal
-use Rattle.latch_table.proofs.writers.Writer.step.Goals.{then-store-eq0, else-store-eq0}
 
 pub store-requires : goal.store-requires
 store-requires g c =
@@ -52,8 +51,8 @@ returns g c =
     let s = c.in_ok-store.store in
     let next = sym c.in_ok-store.ensures.which in
     let did : c.if-store-eq0.result ≡ kind_of_store s = elim c.if-store-eq0.branch [
-      | then-store-eq0 b ↦ did_flip s c.if-store-eq0.result b.if-store-eq0.true b.result-is
-      | else-store-eq0 b ↦ did_store s c.if-store-eq0.result b.if-store-eq0.false b.result-is
+      | goal.then-store-eq0 b ↦ did_flip s c.if-store-eq0.result b.if-store-eq0.true b.result-is
+      | goal.else-store-eq0 b ↦ did_store s c.if-store-eq0.result b.if-store-eq0.false b.result-is
     ] in
     let steps = steps_next g.O.TreeOrder.order w.seat.table_id w.readers w.seat.me w.core
     c.self.invariant.2 s next c.if-store-eq0.result did in

@@ -2,7 +2,7 @@ use Rattle.latch_table.proofs.Words.{◌≡◌, refl, ◌-◌, ◌∷◌, [], su
 use Rattle.latch_table.proofs.Words.{TableId, capacity_of, at, item_at, left_word, right_word}
 use Rattle.latch_table.proofs.Words.{items, Tells, writer_of}
 use Rattle.std.proofs.lemmas.Result.{on_ok_weaker}
-use Rattle.latch_table.proofs.ReplacingLemmas.{no_tree, few_below, few_there, still_writes}
+use Rattle.latch_table.proofs.ReplacingLemmas.{no_tree, few_here, few_there, still_writes}
 use Rattle.latch_table.proofs.ReplacingLemmas.{tells_fork, tells_there}
 use Rattle.latch_table.proofs.writers.replacements.+note_tree.Goals as goal
 
@@ -18,32 +18,28 @@ returns-then-link-eq0-clause-told g t c =
 pub overflow_cast-node : goal.overflow_cast-node
 overflow_cast-node g t c =
     let m = (writer_of c.args.seat.now.me.0).picture in
-    let is : c.args.link ≡ suc (c.args.link - 1) = omega (arith, c.if-link-eq0.false) in
-    let below = few_below m (capacity_of c.args.l) c.args.link (c.args.link - 1) is c.args.most
+    let below = few_here m (capacity_of c.args.l) c.args.link c.args.most c.if-link-eq0.false
     c.requires.tree in
     omega (arith, below.0, c.args.l.most)
 
 pub copied_word-left-requires-clause-within : goal.copied_word-left-requires-clause-within
 copied_word-left-requires-clause-within g t c =
     let m = (writer_of c.args.seat.now.me.0).picture in
-    let is : c.args.link ≡ suc (c.args.link - 1) = omega (arith, c.if-link-eq0.false) in
-    let below = few_below m (capacity_of c.args.l) c.args.link (c.args.link - 1) is c.args.most
+    let below = few_here m (capacity_of c.args.l) c.args.link c.args.most c.if-link-eq0.false
     c.requires.tree in
     omega (arith, below.0, c.left_of.ensures, c.requires.sized)
 
 pub overflow_sub-most : goal.overflow_sub-most
 overflow_sub-most g t c =
     let m = (writer_of c.args.seat.now.me.0).picture in
-    let is : c.args.link ≡ suc (c.args.link - 1) = omega (arith, c.if-link-eq0.false) in
-    (few_below m (capacity_of c.args.l) c.args.link (c.args.link - 1) is c.args.most
+    (few_here m (capacity_of c.args.l) c.args.link c.args.most c.if-link-eq0.false
     c.requires.tree).1
 
 pub note_tree-requires : goal.note_tree-requires
 note_tree-requires g t c κs within =
     let m = (writer_of c.args.seat.now.me.0).picture in
     let n = capacity_of c.args.l in
-    let is : c.args.link ≡ suc (c.args.link - 1) = omega (arith, c.if-link-eq0.false) in
-    let below = few_below m n c.args.link (c.args.link - 1) is c.args.most c.requires.tree in
+    let below = few_here m n c.args.link c.args.most c.if-link-eq0.false c.requires.tree in
     let of = c.copied_word-left.ensures in
     let left : c.copied_word-left.result ≡ at m (left_word 0 (c.args.link - 1)) =
     of.value ∙ ap (at m) c.left_of.ensures in (
@@ -73,15 +69,13 @@ note_tree-requires g t c κs within =
 pub copied_item-item-requires-clause-within : goal.copied_item-item-requires-clause-within
 copied_item-item-requires-clause-within g t c =
     let m = (writer_of c.args.seat.now.me.0).picture in
-    let is : c.args.link ≡ suc (c.args.link - 1) = omega (arith, c.if-link-eq0.false) in
-    (few_below m (capacity_of c.args.l) c.args.link (c.args.link - 1) is c.args.most
+    (few_here m (capacity_of c.args.l) c.args.link c.args.most c.if-link-eq0.false
     c.requires.tree).0
 
 pub copied_word-right-requires-clause-within : goal.copied_word-right-requires-clause-within
 copied_word-right-requires-clause-within g t c =
     let m = (writer_of c.args.seat.now.me.0).picture in
-    let is : c.args.link ≡ suc (c.args.link - 1) = omega (arith, c.if-link-eq0.false) in
-    let below = few_below m (capacity_of c.args.l) c.args.link (c.args.link - 1) is c.args.most
+    let below = few_here m (capacity_of c.args.l) c.args.link c.args.most c.if-link-eq0.false
     c.requires.tree in
     let table = c.copied_item-item.ensures.table ∙ c.in_ok-note_tree.ensures.table
     ∙ c.copied_word-left.ensures.table in
@@ -91,16 +85,14 @@ copied_word-right-requires-clause-within g t c =
 pub overflow_sub-most-2 : goal.overflow_sub-most-2
 overflow_sub-most-2 g t c =
     let m = (writer_of c.args.seat.now.me.0).picture in
-    let is : c.args.link ≡ suc (c.args.link - 1) = omega (arith, c.if-link-eq0.false) in
-    (few_below m (capacity_of c.args.l) c.args.link (c.args.link - 1) is c.args.most
+    (few_here m (capacity_of c.args.l) c.args.link c.args.most c.if-link-eq0.false
     c.requires.tree).1
 
 pub note_tree-requires-2 : goal.note_tree-requires-2
 note_tree-requires-2 g t c κs within =
     let m = (writer_of c.args.seat.now.me.0).picture in
     let n = capacity_of c.args.l in
-    let is : c.args.link ≡ suc (c.args.link - 1) = omega (arith, c.if-link-eq0.false) in
-    let below = few_below m n c.args.link (c.args.link - 1) is c.args.most c.requires.tree in
+    let below = few_here m n c.args.link c.args.most c.if-link-eq0.false c.requires.tree in
     let of = c.copied_word-right.ensures in
     let before = c.copied_item-item.ensures.view ∙ c.in_ok-note_tree.ensures.view
     ∙ c.copied_word-left.ensures.view in

@@ -1,8 +1,6 @@
-use Rattle.logs.proofs.Definitions.{◌∙◌, [], ◌++◌, ℕ, List, refl, sym, ap, subst, append_assoc}
-use Rattle.logs.proofs.Definitions.{Adds, Passes}
+use Rattle.logs.proofs.Definitions.{◌∙◌, [], ◌++◌, ℕ, List, refl, sym, ap, append_assoc}
 use Rattle.logs.proofs.KernelReportLemmas.{part_says_at_most}
 use Rattle.logs.proofs.LineLemmas.{adds_nothing, then_adds}
-use Rattle.logs.specs.KernelReports.{SaysAtMost}
 use Rattle.logs.proofs.annotator.Annotator.pass_bytes.Goals as goal
 
 pub loop-line-init : goal.loop-line-init
@@ -18,8 +16,7 @@ pub pass_line-requires-clause-said : goal.pass_line-requires-clause-said
 pass_line-requires-clause-said g c =
     let (said, done, parts, adds) = c.loop-line.invariant in
     part_says_at_most c.of-said.result done c.in-Some.line.now c.in-Some.more.now
-    (subst (SaysAtMost c.of-said.result)
-    (parts ∙ ap (λ (l : List ℕ). done ++ l) c.in-Some.ensures.parts) said)
+    (rw (parts ∙ ap (λ (l : List ℕ). done ++ l) c.in-Some.ensures.parts) at said)
 
 pub loop-line-preserved : goal.loop-line-preserved
 loop-line-preserved g c =
@@ -36,6 +33,4 @@ pub returns-in-None : goal.returns-in-None
 returns-in-None g c =
     let answer = g.A.Answers.answering c.args.answers.now in
     let (_, done, parts, adds) = c.loop-line.invariant in
-    subst (λ (l : List ℕ). Adds c.args.out.now.items c.hold.new.out.items
-    (Passes answer c.args.self.now c.hold.new.self l)) (sym parts)
-    (then_adds answer _ _ _ _ _ _ _ _ adds (c.in_ok-hold-in-None.ensures answer))
+    rw parts (then_adds answer _ _ _ _ _ _ _ _ adds (c.in_ok-hold-in-None.ensures answer))

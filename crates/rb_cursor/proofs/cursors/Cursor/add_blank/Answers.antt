@@ -1,13 +1,11 @@
 use Rattle.rb_cursor.proofs.Words.{ℕ, ◌+◌, refl, sym, ap, ◌∙◌, arith, subst, Some, OnErr-from, Slab}
-use Rattle.rb_cursor.proofs.Words.{slab_len, Updates, Node}
+use Rattle.rb_cursor.proofs.Words.{slab_len, Updates, Node, common_steps}
 use Rattle.rb_cursor.proofs.BlankLemmas.{grows, blank_node, blanked}
 use Rattle.rb_cursor.proofs.FieldLemmas.{Moved}
 use Rattle.rb_cursor.proofs.cursors.Cursor.add_blank.Goals as goal
 
 pub invariant_of-self : goal.invariant_of-self
-invariant_of-self c =
-    (grows c.self.inside c.reserve.new.self c.args.self.now c.self.invariant c.self.view_is
-    c.reserve.ensures.rest_kept c.reserve.ensures.capacity).is
+invariant_of-self c = grind (arith, common_steps, grows)
 
 pub returns-in_err-reserve-clause-unchanged : goal.returns-in_err-reserve-clause-unchanged
 returns-in_err-reserve-clause-unchanged c =
@@ -16,9 +14,7 @@ returns-in_err-reserve-clause-unchanged c =
     OnErr-from c.from_residual.result m.shows
 
 pub invariant_of-self-then-key : goal.invariant_of-self-then-key
-invariant_of-self-then-key c =
-    (grows c.self.inside c.reserve.new.self c.args.self.now c.self.invariant c.self.view_is
-    c.reserve.ensures.rest_kept c.reserve.ensures.capacity).is
+invariant_of-self-then-key c = grind (arith, common_steps, grows)
 
 pub returns-then-key-clause-unchanged : goal.returns-then-key-clause-unchanged
 returns-then-key-clause-unchanged c =

@@ -1,5 +1,4 @@
-use Rattle.rb_cursor.proofs.Words.{◌-◌, refl, sym, ap, ◌∙◌, arith, with_value, closed_zipper}
-use Rattle.rb_cursor.proofs.Words.{step_at}
+use Rattle.rb_cursor.proofs.Words.{◌-◌, sym, ap, ◌∙◌, arith, with_value, closed_zipper, step_at}
 use Rattle.rb_cursor.proofs.ChangeLemmas.{closes, not_closed, no_path, last_leads, last_there}
 use Rattle.rb_cursor.proofs.FieldLemmas.{Moved}
 use Rattle.std.specs.Option.{option_copied_mut}
@@ -13,16 +12,12 @@ returns-then-self-eq0 c =
 pub overflow_sub-link : goal.overflow_sub-link
 overflow_sub-link c =
     last_leads c.self.inside c.args.self.now c.self.invariant c.self.view_is
-    (omega (arith, c.if-self-eq0.false)) (step_at c.self.inside.steps (c.self.inside.depth - 1))
-    refl
+    (omega (arith, c.if-self-eq0.false))
 
 pub unreachable-requires : goal.unreachable-requires
 unreachable-requires c =
-    let step = step_at c.self.inside.steps (c.self.inside.depth - 1) in
-    let some = last_leads c.self.inside c.args.self.now c.self.invariant c.self.view_is
-    (omega (arith, c.if-self-eq0.false)) step refl in
     last_there c.self.inside c.args.self.now c.self.invariant c.self.view_is
-    (omega (arith, c.if-self-eq0.false)) step (step.link - 1) refl (omega arith)
+    (omega (arith, c.if-self-eq0.false))
     (sym c.get_mut.ensures.value ∙ ap option_copied_mut c.in_default.is)
 
 there : (c : goal.After-self-3-1) →
@@ -34,12 +29,8 @@ there : (c : goal.After-self-3-1) →
       depth = c.self.inside.depth - 1;
     }) (closed_zipper c.args.red c.args.self.now.tree c.args.self.now.path c.args.self.now.room)
 there c =
-    let step = step_at c.self.inside.steps (c.self.inside.depth - 1) in
-    let some = last_leads c.self.inside c.args.self.now c.self.invariant c.self.view_is
-    (omega (arith, c.if-self-eq0.false)) step refl in
-    closes c.self.inside c.args.self.now step (step.link - 1) c.args.red c.in-Some.node.now
-    c.self.invariant c.self.view_is
-    (omega (arith, c.if-self-eq0.false)) refl (omega arith) (sym c.in-Some.ensures.value)
+    closes c.self.inside c.args.self.now c.args.red c.in-Some.node.now c.self.invariant
+    c.self.view_is (omega (arith, c.if-self-eq0.false)) (sym c.in-Some.ensures.value)
 
 pub invariant_of-self : goal.invariant_of-self
 invariant_of-self c = (there c).is

@@ -1,11 +1,9 @@
-use Rattle.rb_cursor.proofs.Words.{refl, step_at}
+use Rattle.rb_cursor.proofs.Words.{refl, step_at, common_steps, arith}
 use Rattle.rb_cursor.proofs.ChangeLemmas.{closes_to, not_closed_to}
 use Rattle.rb_cursor.proofs.cursors.Cursor.close_to.Goals as goal
 
 pub invariant_of-self : goal.invariant_of-self
-invariant_of-self c =
-    (closes_to c.self.inside c.args.self.now c.args.depth (step_at c.self.inside.steps c.args.depth)
-    c.self.invariant c.self.view_is c.if-depth-self.true refl).is
+invariant_of-self c = grind (arith, common_steps, closes_to)
 
 pub returns-then-depth-self : goal.returns-then-depth-self
 returns-then-depth-self c =

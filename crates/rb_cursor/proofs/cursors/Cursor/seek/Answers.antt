@@ -3,8 +3,8 @@ use Rattle.rb_cursor.proofs.Words.{side_by, record_of, Equal-from_is_eq}
 use Rattle.rb_cursor.proofs.FieldLemmas.{show, with_step, written_back}
 use Rattle.rb_cursor.proofs.SeekLemmas.{Went, step_fits, seen_way, seen_goes, seen_ends}
 use Rattle.rb_cursor.proofs.SeekLemmas.{seen_misses}
-use Rattle.rb_cursor.proofs.cursors.Cursor.seek.Given.{Over}
 use Rattle.rb_cursor.proofs.cursors.Cursor.seek.Goals as goal
+use Rattle.rb_cursor.proofs.cursors.Cursor.seek.Given.{Over}
 
 pub set_step-requires : goal.set_step-requires
 set_step-requires g c =

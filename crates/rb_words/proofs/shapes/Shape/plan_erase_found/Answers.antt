@@ -1,7 +1,7 @@
 use Rattle.rb_words.proofs.Words.{refl, sym, subst, arith, capacity_of, copy_number}
 use Rattle.rb_words.proofs.PlanLemmas.{AfterErase, after_erase, few_steps}
-use Rattle.rb_words.proofs.shapes.Shape.plan_erase_found.Given.{Over}
 use Rattle.rb_words.proofs.shapes.Shape.plan_erase_found.Goals as goal
+use Rattle.rb_words.proofs.shapes.Shape.plan_erase_found.Given.{Over}
 
 pub without_word-requires-clause-steps : goal.without_word-requires-clause-steps
 without_word-requires-clause-steps g c =

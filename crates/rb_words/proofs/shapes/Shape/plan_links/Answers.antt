@@ -1,7 +1,7 @@
 use Rattle.rb_words.proofs.Words.{arith, capacity_of, copy_number}
 use Rattle.rb_words.proofs.PlanLemmas.{AfterInsert, shown_insert, few_steps}
-use Rattle.rb_words.proofs.shapes.Shape.plan_links.Given.{Over}
 use Rattle.rb_words.proofs.shapes.Shape.plan_links.Goals as goal
+use Rattle.rb_words.proofs.shapes.Shape.plan_links.Given.{Over}
 
 pub insert-requires-clause-steps : goal.insert-requires-clause-steps
 insert-requires-clause-steps g c =

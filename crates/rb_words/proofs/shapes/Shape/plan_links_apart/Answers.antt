@@ -1,24 +1,17 @@
-use Rattle.rb_words.proofs.Words.{◌≡◌, ◌∙◌, false, sym, ap, arith, meets, without_none, capacity_of}
-use Rattle.rb_words.proofs.Words.{copy_number}
+use Rattle.rb_words.proofs.Words.{◌≡◌, ◌∙◌, false, sym, arith, meets, without_none, capacity_of}
+use Rattle.rb_words.proofs.Words.{copy_number, common_steps}
 use Rattle.rb_words.proofs.PlanLemmas.{AfterInsert, shown_insert, few_steps, met_none}
-use Rattle.rb_words.proofs.shapes.Shape.plan_links_apart.Given.{Over}
 use Rattle.rb_words.proofs.shapes.Shape.plan_links_apart.Goals as goal
+use Rattle.rb_words.proofs.shapes.Shape.plan_links_apart.Given.{Over}
 
 pub returns-then-meets-clause-met : goal.returns-then-meets-clause-met
-returns-then-meets-clause-met g c =
-    sym c.if-meets.true ∙ c.meets.ensures
-    ∙ ap (meets g.O.TreeOrder.order c.args.item) (without_none c.args.self.now.table)
+returns-then-meets-clause-met g c = grind (arith, common_steps, without_none)
 
 pub plan_links-requires-clause-apart : goal.plan_links-requires-clause-apart
-plan_links-requires-clause-apart g c =
-    sym (c.meets.ensures
-    ∙ ap (meets g.O.TreeOrder.order c.args.item) (without_none c.args.self.now.table))
-    ∙ c.if-meets.false
+plan_links-requires-clause-apart g c = grind (arith, common_steps, without_none)
 
 pub returns-then-not-in_line-clause-met : goal.returns-then-not-in_line-clause-met
-returns-then-not-in_line-clause-met g c =
-    sym c.if-meets.false ∙ c.meets.ensures
-    ∙ ap (meets g.O.TreeOrder.order c.args.item) (without_none c.args.self.now.table)
+returns-then-not-in_line-clause-met g c = grind (arith, common_steps, without_none)
 
 pub insert_apart-requires-clause-steps : goal.insert_apart-requires-clause-steps
 insert_apart-requires-clause-steps g c =

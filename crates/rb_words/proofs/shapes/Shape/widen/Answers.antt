@@ -1,8 +1,8 @@
 use Rattle.rb_words.proofs.Words.{◌≤◌, sym, subst, capacity_of, copy_number, Picture, picture_of}
-use Rattle.rb_words.specs.Wider.{IsPicturedWider}
+use Rattle.rb_words.proofs.Words.{arith, common_steps}
 use Rattle.rb_words.proofs.WiderLemmas.{pictured_wider}
-use Rattle.rb_words.proofs.shapes.Shape.widen.Given.{Over}
 use Rattle.rb_words.proofs.shapes.Shape.widen.Goals as goal
+use Rattle.rb_words.proofs.shapes.Shape.widen.Given.{Over}
 
 -- the picture as it was
 abbrev before : (g : Over) → goal.After-l-1 g → Picture
@@ -15,7 +15,4 @@ more g c =
     subst (λ (q : Picture). q.capacity ≤ capacity_of c.args.l) (sym c.self.view_is) c.requires
 
 pub returns-clause-pictures : goal.returns-clause-pictures
-returns-clause-pictures g c =
-    let n = capacity_of c.args.l in
-    subst (λ (q : Picture). IsPicturedWider q (record (before g c) { capacity = n })) c.self.view_is
-    (λ m is. pictured_wider (before g c) n m (more g c) is)
+returns-clause-pictures g c = grind (arith, common_steps, pictured_wider, more)
