@@ -228,16 +228,45 @@ static inline struct latchsym_place latchsym_place_nonnull(struct latchsym_place
     const struct latchsym_place none = LATCHSYM_PLACE_INIT;
     return place.len ? place : none;
 }
-static inline uint32_t latchsym_catalog_open(const struct latchsym_listings *listings,
-                                             struct latchsym_catalog *out,
-                                             struct latchsym_counts *counts, uint64_t *bad_line) {
-    struct latchsym_listings given = *listings;
+static inline struct latchsym_listings latchsym_listings_nonnull(struct latchsym_listings given) {
     given.kallsyms = latchsym_place_nonnull(given.kallsyms);
     given.modules = latchsym_place_nonnull(given.modules);
     given.regions = latchsym_place_nonnull(given.regions);
     given.start = latchsym_place_nonnull(given.start);
     given.end = latchsym_place_nonnull(given.end);
+    return given;
+}
+static inline uint32_t latchsym_catalog_open(const struct latchsym_listings *listings,
+                                             struct latchsym_catalog *out,
+                                             struct latchsym_counts *counts, uint64_t *bad_line) {
+    const struct latchsym_listings given = latchsym_listings_nonnull(*listings);
     return latchsym_catalog_open_nonnull(&given, out, counts, bad_line);
+}
+
+/* Opens in a closed handle the catalog of what a change leaves of a catalog's listing of symbols:
+ * the listing without the lines of each module that the change names, and with the change's own
+ * lines behind the others. Since 1.3.
+ *
+ * `change.kallsyms` has a change as a history has it (docs/FORMATS.md): lines of modules in the
+ * form of /proc/kallsyms, and lines "gone NAME". It names the modules of both. Nothing else of
+ * `change` is read but its size. A change without a byte opens the same catalog again.
+ *
+ * Both catalogs share what did not change, so a change of one module takes little time and memory.
+ * Keep the bytes of the listings and of the change until both catalogs are closed, or forgotten by
+ * their follower.
+ *
+ * Returns 0; LATCHSYM_BAD_HANDLE, also if the catalog was opened with a listing of modules;
+ * LATCHSYM_BAD_LISTINGS if the size is not that of this version, or if there are modules or
+ * regions; LATCHSYM_BAD_LINE, with the number of the first line of the change that is not
+ * understood in bad_line, as one of the kernel itself; or LATCHSYM_OUT_OF_MEMORY. */
+uint32_t latchsym_catalog_change_nonnull(struct latchsym_catalog *,
+                                         const struct latchsym_listings *change,
+                                         struct latchsym_catalog *out, uint64_t *bad_line);
+static inline uint32_t latchsym_catalog_change(struct latchsym_catalog *catalog,
+                                               const struct latchsym_listings *change,
+                                               struct latchsym_catalog *out, uint64_t *bad_line) {
+    const struct latchsym_listings given = latchsym_listings_nonnull(*change);
+    return latchsym_catalog_change_nonnull(catalog, &given, out, bad_line);
 }
 
 /* The symbol of an address, as `latchsym lookup` prints it, without a copy. Returns 0,

@@ -176,6 +176,21 @@ public:
         detail::check(number);
     }
 
+    /* The catalog of what a change leaves of this one's listing of symbols: without the lines of the
+     * modules that it names, and with its own lines. Its text is lines of modules as in
+     * /proc/kallsyms, and lines "gone NAME". Both catalogs share what did not change. Keep the bytes
+     * of the listings and of the change while either is open. counts() stays as it is. */
+    catalog change(std::string_view text) {
+        latchsym_listings given = LATCHSYM_LISTINGS_INIT;
+        given.kallsyms = detail::place(text);
+        std::uint64_t line = 0;
+        catalog other(counts_);
+        const std::uint32_t number = latchsym_catalog_change(get(), &given, other.get(), &line);
+        if (number == LATCHSYM_BAD_LINE) throw bad_line(line);
+        detail::check(number);
+        return other;
+    }
+
     /* The same catalog for another thread. */
     catalog share() {
         catalog other(counts_);

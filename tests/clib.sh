@@ -4,7 +4,7 @@
 # several threads, the table on threads, beside signals and at each stop of its writer, calls inside
 # calls, readers that are added and taken back, readers that calls share, each order of such calls' steps,
 # each request for memory refused, files that are read and each call for that refused, which polls read a
-# listing, items replaced, code that is sampled
+# listing, items replaced, what changes leave of a listing, code that is sampled
 # while it comes and goes, a listing that is followed while it changes and named by its time, a table that
 # such a listing outgrows, code that is noted beside it, the listings of examples/ as
 # `latchsym lookup` answers, its logs as `latchsym annotate` writes them, and addresses of this
@@ -22,7 +22,7 @@ compile() {
     gcc -std=gnu11 -Wall -Wextra -Werror -O2 -I"$top/include" "$top/tests/c/$1.c" "$library" -lpthread -o "$work/$1" "${@:2}"
 }
 
-for name in numbers nulls order find view table adding placements claims pool stops nested replace refused following outgrown noted polls; do
+for name in numbers nulls order find changing view table adding placements claims pool stops nested replace refused following outgrown noted polls; do
     compile $name
     "$work/$name"
 done
@@ -67,14 +67,14 @@ if compile claims -g -fsanitize=thread 2>/dev/null; then
 fi
 [ -z "$unseen" ] || { echo "$unseen"; exit 1; }
 if has 'command -v valgrind' valgrind; then
-    for name in nulls view refused; do
+    for name in nulls changing view refused; do
         valgrind -q --error-exitcode=1 --leak-check=full "$work/$name"
     done
     valgrind -q --error-exitcode=1 --leak-check=full "$work/read" "$work/file"
 fi
 compile table -g
 compile adding -g
-for name in nulls find view following outgrown noted polls; do
+for name in nulls find changing view following outgrown noted polls; do
     if compile $name -g -fsanitize=address,undefined 2>/dev/null; then
         "$work/$name"
     fi

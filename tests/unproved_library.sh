@@ -11,7 +11,7 @@ if [ ! -e "$library" ] || is_older "$library" "$top"/crates/*/src; then
     "$top/tests/lib/build.py" library "$library.new"
     mv "$library.new" "$library"
 fi
-for name in numbers nulls find view adding placements claims nested replace following outgrown noted polls; do
+for name in numbers nulls find changing view adding placements claims nested replace following outgrown noted polls; do
     gcc -std=gnu11 -Wall -Wextra -Werror -O2 -I"$top/include" "$top/tests/c/$name.c" "$library" -lpthread -o "$work/$name"
     "$work/$name"
 done

@@ -276,6 +276,19 @@ class Opening(unittest.TestCase):
 
 
 class Threads(unittest.TestCase):
+    def test_a_change_leaves_the_other_modules(self):
+        with latchsym.Catalog(SYMBOLS) as first:
+            second = first.change(bytearray(b"gone ext4\nffffffffc0004000 t xfs_a\t[xfs]\n"))
+            self.assertIsNotNone(first.find(0xFFFFFFFFC0000018))
+        self.assertIsNone(second.find(0xFFFFFFFFC0000018))
+        self.assertEqual(second.find(0xFFFFFFFFC0004010).name, "xfs_a")
+        self.assertEqual(second.find(0xFFFFFFFF81000108).name, "do_one")
+        with self.assertRaises(latchsym.BadListing) as raised:
+            second.change(b"gone xfs\nffffffff81000010 T of_the_kernel\n")
+        self.assertEqual(raised.exception.line, 2)
+        second.close()
+        self.assertRaises(latchsym.Closed, second.change, b"")
+
     def test_a_shared_catalog_outlives_the_first(self):
         first = Catalog(SYMBOLS)
         second = first.share()

@@ -1,6 +1,7 @@
 # SPDX-License-Identifier: MIT OR Apache-2.0
 import os
 import pathlib
+import random
 import tempfile
 import threading
 import time
@@ -46,6 +47,29 @@ class Following(unittest.TestCase):
             self.assertEqual(follower.name(other).module, f"other{load}")
             self.assertIsNone(none.item)
             self.assertIsNone(follower.name(none))
+
+    def test_a_listing_in_which_modules_alone_change_is_named_as_one_that_is_opened(self):
+        pick = random.Random(1)
+        kernel = [f"ffffffff8100{place:02x}00 T k{place}\n" for place in range(100)]
+        kernel = ["ffffffff81000000 T _stext\n", *kernel[1:], "ffffffff81010000 T _end\n"]
+        places = [START + page * PAGE // 2 + 8 for page in range(32)] + [0xFFFFFFFF81000108]
+        self.put(*kernel, line(0, "m0"))
+        follower, changes = self.follower(nodes=4096), 0
+        for _ in range(300):
+            names = pick.sample("m0 m1 m2 m3 m4".split(), pick.randint(0, 5))
+            free = pick.sample(range(16), 16)  # (no two modules are at one address)
+            lines = [line(free.pop(), name) for name in names for _ in range(pick.randint(1, 3))]
+            if pick.random() < 0.1:
+                pick.shuffle(lines)
+            text = [*kernel, *lines, *["no line\n"] * (pick.random() < 0.1)]
+            self.put(*(text if pick.random() < 0.9 else [text[0], *text[2:]]))
+            follower.poll()
+            changes += follower._changed > 0
+            with latchsym.Catalog(self.file.read_bytes()) as wanted:
+                found = [follower.name(follower.find(place)) for place in places]
+                self.assertEqual(list(map(str, found)), [str(wanted.find(place)) for place in places])
+            follower.forget_below(follower.find(START).generation)
+        self.assertGreater(changes, 100)
 
     def test_a_listing_that_outgrows_the_table_is_shown_once_it_is_enlarged(self):
         self.put(line(0, "first"))

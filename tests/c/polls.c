@@ -79,10 +79,12 @@ static void list_as(const char *names, const char *users) {
 }
 static void list(const char *names) { list_as(names, "0 -"); }
 
-/* Gives each of these modules a symbol of its name, in a page of its own. */
+/* Gives each of these modules a symbol of its name, in a page of its own, and the kernel itself enough of them. */
 static void show(const char *names) {
     char word[64];
-    size_t len = (size_t)sprintf(symbols.text, "ffffffff81000000 T _stext\nffffffff81000100 T one\nffffffff81000200 T _end\n");
+    size_t len = (size_t)sprintf(symbols.text, "ffffffff81000000 T _stext\n");
+    for (int i = 1; i <= 40; i++) len += (size_t)sprintf(symbols.text + len, "ffffffff810000%02x T of_the_kernel_%d\n", i, i);
+    len += (size_t)sprintf(symbols.text + len, "ffffffff81000200 T _end\n");
     for (int at = 0, place = 0, step; sscanf(names + at, "%63s%n", word, &step) == 1; at += step, place++)
         len += (size_t)sprintf(symbols.text + len, "%llx t %s\t[%s]\n", (unsigned long long)page + 4096u * (unsigned)place, word, word);
 }
@@ -144,6 +146,41 @@ static void polls_of_modules(void) {
     CHECK(reads() == 1);
     strcpy(watched.text, "first 8192 0 - Live 0xffffffffc0009000\nsecond 4096 0 - Live 0xffffffffc0000000\n");
     CHECK(reads() == 1);
+    end();
+}
+
+/* Whether the listing that is shown was opened whole. */
+static int is_whole(void) { return !files.shown->before; }
+
+static void polls_of_changes(void) {
+    load("first second");
+    begin("watched");
+    CHECK(!poll_once() && is_whole());
+    load("first third");
+    CHECK(!poll_once() && !is_whole() && shows("first third "));
+    CHECK(files.shown->bytes[0].len == strlen("gone second\nffffffffc0001000 t third\t[third]\n"));
+    load("third first"); /* each at the other's place */
+    CHECK(!poll_once() && !is_whole() && shows("third first "));
+    load("");
+    CHECK(!poll_once() && is_whole() && shows("")); /* without a module there is nothing to compare */
+    load("first second first"); /* whose lines do not lie side by side */
+    CHECK(!poll_once() && is_whole());
+    load("first second");
+    CHECK(!poll_once() && is_whole());
+    load("first"), memcpy(strstr(symbols.text, "of_the"), "OF", 2); /* a kernel of another boot */
+    CHECK(!poll_once() && is_whole() && shows("first "));
+    load("second"), strcat(symbols.text, "no line of a module\n");
+    CHECK(!poll_once() && is_whole() && shows("second "));
+    load("first second");
+    CHECK(!poll_once() && is_whole());
+    symbols.text[strlen(symbols.text) - 1] = 0, now += MINUTE; /* without the end of its last line */
+    CHECK(!poll_once() && is_whole() && shows("first second "));
+    load("first");
+    CHECK(!poll_once() && is_whole());
+    for (int i = 0, whole = 0; i < 100; i++, whole += is_whole()) { /* and often anew */
+        load(i % 2 ? "first second" : "first third");
+        CHECK(!poll_once() && (i < 99 || (whole > 5 && whole < 50)));
+    }
     end();
 }
 
@@ -307,6 +344,7 @@ int main(void) {
     setvbuf(stdout, NULL, _IONBF, 0);
     const long had = blocks;
     polls_of_modules();
+    polls_of_changes();
     polls_of_time();
     polls_beside_modules();
     polls_that_take_nothing();

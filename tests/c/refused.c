@@ -62,6 +62,13 @@ static uint32_t open_catalog(void) {
     }
     return latchsym_catalog_open(&listings, &catalog, &counts, &bad_line);
 }
+static uint32_t change(void) {
+    static const char text[] = "gone xfs\nffffffffc0000020 t ext4_b\t[ext4]\n";
+    struct latchsym_listings listings = LATCHSYM_LISTINGS_INIT;
+    uint64_t bad_line;
+    listings.kallsyms = (struct latchsym_place){(const uint8_t *)text, strlen(text)};
+    return latchsym_catalog_change(&catalog, &listings, &other, &bad_line);
+}
 static uint32_t share(void) { return latchsym_catalog_share(&catalog, &other); }
 static uint32_t open_table(void) { return latchsym_table_open(4, &writer, readers, 3); }
 static uint32_t enlarge(void) { return latchsym_table_enlarge(8, &writer, readers, 3); }
@@ -199,6 +206,10 @@ int main(void) {
     setvbuf(stdout, NULL, _IONBF, 0);
     long had = blocks;
     each_request("catalog_open from the symbols", open_catalog, close_catalog);
+    each_request("catalog_change", change, close_other);
+    latchsym_catalog_close(&other);
+    each_request("catalog_share of such", share, close_other);
+    latchsym_catalog_close(&other);
     latchsym_catalog_close(&catalog);
     CHECK(blocks == had);
     with_modules = 1;

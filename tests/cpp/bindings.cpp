@@ -90,6 +90,24 @@ static void refuses_listings() {
     CHECK(refused([&] { latchsym::catalog catalog(bad); }) == LATCHSYM_BAD_LISTINGS);
 }
 
+static void changes() {
+    latchsym::listings alone = listed();
+    alone.modules.reset();
+    alone.regions = {};
+    latchsym::catalog first(alone);
+    latchsym::catalog second = first.change("gone ext4\nffffffffc0100000 t xfs_a\t[xfs]\n");
+    CHECK(first.find(ext4_a)->name == "ext4_a" && !second.find(ext4_a));
+    CHECK(second.find(0xffffffffc0100010)->name == "xfs_a");
+    try {
+        first.change("gone a\nchange 1.5\n");
+        CHECK(false);
+    } catch (const latchsym::bad_line &error) {
+        CHECK(error.line() == 2);
+    }
+    latchsym::catalog with_modules(listed());
+    CHECK(refused([&] { with_modules.change(""); }) == LATCHSYM_BAD_HANDLE);
+}
+
 static void moves_and_shares() {
     latchsym::catalog first(listed());
     latchsym::catalog second = std::move(first);
@@ -364,6 +382,7 @@ int main() {
     finds();
     finds_in_a_view();
     refuses_listings();
+    changes();
     moves_and_shares();
     updates();
     shares_readers();

@@ -22,10 +22,10 @@ impl<'l> Listings<'l> {
         Listings { kallsyms, ..Listings::default() }
     }
 
-    /// Opens the catalog of the listings.
-    pub fn open(&self) -> Result<Catalog<'l>, Error> {
+    /// The struct of the library's.
+    fn given(&self) -> sys::Listings {
         let (start, end) = self.kernel.unwrap_or_default();
-        let given = sys::Listings {
+        sys::Listings {
             size: size_of::<sys::Listings>(),
             kallsyms: sys::Place::of(self.kallsyms),
             modules: sys::Place::of(self.modules.unwrap_or_default()),
@@ -33,7 +33,12 @@ impl<'l> Listings<'l> {
             start: sys::Place::of(start),
             end: sys::Place::of(end),
             has_modules: self.modules.is_some().into(),
-        };
+        }
+    }
+
+    /// Opens the catalog of the listings.
+    pub fn open(&self) -> Result<Catalog<'l>, Error> {
+        let given = self.given();
         let mut catalog = Catalog::closed();
         let mut line = 0;
         // SAFETY: the listings stay for 'l, which the catalog borrows, and its handle is closed.
@@ -210,6 +215,28 @@ impl<'l> Catalog<'l> {
 
     pub(crate) fn handle(&self) -> *mut sys::Handle {
         self.handle.get()
+    }
+
+    /// The catalog of what a change leaves of this one's listing of symbols: without the lines of
+    /// each module that it names, and with its own lines behind the others.
+    ///
+    /// The change is lines of modules in the form of /proc/kallsyms, and lines `gone NAME`. Both
+    /// catalogs share what did not change, so a change of one module takes little time and memory.
+    /// Their counts are those of the listings that were opened.
+    pub fn change(&self, text: &'l [u8]) -> Result<Catalog<'l>, Error> {
+        let given = Listings::new(text).given();
+        let mut other = Catalog::closed();
+        other.counts = self.counts;
+        let mut line = 0;
+        // SAFETY: the change and what this catalog borrows stay for 'l, which the other one borrows.
+        // This handle is in no other call: a catalog is not `Sync`. The other is closed.
+        let number = unsafe {
+            sys::latchsym_catalog_change(self.handle(), &given, other.handle(), &mut line)
+        };
+        match number {
+            sys::BAD_LINE => Err(Error::BadLine(line)),
+            _ => Error::check(number).map(|()| other),
+        }
     }
 
     /// The same catalog for another thread.

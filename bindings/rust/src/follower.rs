@@ -1,6 +1,8 @@
 // SPDX-License-Identifier: MIT OR Apache-2.0
-use crate::{catalog::symbol_found, sys, Catalog, Error, Listings, Readers, Symbol};
-use std::{cell::UnsafeCell, collections::BTreeMap, fmt};
+use crate::{
+    catalog::symbol_found, changes::change_of, sys, Catalog, Error, Listings, Readers, Symbol,
+};
+use std::{cell::UnsafeCell, collections::BTreeMap, fmt, slice, sync::Arc};
 
 /// Opens a follower without a listing over an empty table of 1 to 65536 nodes with 1 to 64 readers.
 ///
@@ -33,10 +35,68 @@ pub fn follower_with_room(
 pub struct Follower {
     handle: Box<UnsafeCell<sys::Handle>>,
     /// The bytes of each listing, by its tag: its catalog points into them.
-    shown: BTreeMap<u64, (Vec<u8>, Option<Vec<u8>>)>,
+    shown: BTreeMap<u64, Arc<Texts>>,
     newest: u64,
+    /// The listing that was shown last. It is closed before its bytes are freed.
+    current: Option<Current>,
     /// The names of noted code, which the library points to.
     noted: Vec<Noted>,
+}
+
+/// The bytes of a listing, or of a change and of the listing that it was made of: the catalog of the
+/// change points into both.
+struct Texts {
+    kallsyms: Vec<u8>,
+    modules: Option<Vec<u8>>,
+    _before: Option<Arc<Texts>>,
+}
+
+/// A listing that is shown, to be changed.
+struct Current {
+    catalog: Catalog<'static>,
+    texts: Arc<Texts>,
+    /// The listing's own bytes, if `texts` has a change.
+    whole: Option<Vec<u8>>,
+    /// How many bytes of changes there are since a listing was opened whole.
+    changed: usize,
+}
+
+impl Current {
+    fn kallsyms(&self) -> &[u8] {
+        self.whole.as_deref().unwrap_or(&self.texts.kallsyms)
+    }
+
+    /// What a change to another listing leaves, if modules alone differ and not much has changed since
+    /// a listing was opened whole; else that listing.
+    fn change(&self, kallsyms: Vec<u8>) -> Result<Current, Vec<u8>> {
+        let Some(change) = change_of(self.kallsyms(), &kallsyms) else { return Err(kallsyms) };
+        let changed = self.changed + change.len();
+        if changed > kallsyms.len() / 4 {
+            return Err(kallsyms);
+        }
+        let before = Some(self.texts.clone());
+        let texts = Arc::new(Texts { kallsyms: change, modules: None, _before: before });
+        // SAFETY: the catalog is closed before `texts` is freed: both go in this order.
+        match self.catalog.change(unsafe { kept(&texts.kallsyms) }) {
+            Ok(catalog) => Ok(Current { catalog, texts, whole: Some(kallsyms), changed }),
+            Err(_) => Err(kallsyms),
+        }
+    }
+
+    /// Opens a listing.
+    fn open(kallsyms: Vec<u8>, modules: Option<Vec<u8>>) -> Result<Current, Error> {
+        let texts = Arc::new(Texts { kallsyms, modules, _before: None });
+        // SAFETY: as above.
+        let mut listings = Listings::new(unsafe { kept(&texts.kallsyms) });
+        listings.modules = texts.modules.as_deref().map(|it| unsafe { kept(it) });
+        Ok(Current { catalog: listings.open()?, texts, whole: None, changed: 0 })
+    }
+}
+
+/// Bytes for as long as whoever calls keeps them where they are.
+unsafe fn kept(bytes: &[u8]) -> &'static [u8] {
+    // SAFETY: as the caller says.
+    unsafe { slice::from_raw_parts(bytes.as_ptr(), bytes.len()) }
 }
 
 /// Code that the caller knows of itself, such as a program that was loaded.
@@ -70,7 +130,8 @@ impl Follower {
         count: usize,
     ) -> Result<Follower, Error> {
         let handle = Box::new(UnsafeCell::new(sys::Handle::CLOSED));
-        let follower = Follower { handle, shown: BTreeMap::new(), newest: 0, noted: Vec::new() };
+        let (shown, noted) = (BTreeMap::new(), Vec::new());
+        let follower = Follower { handle, shown, newest: 0, current: None, noted };
         // SAFETY: the handles are closed, and as many as are told.
         Error::check(unsafe {
             sys::latchsym_follower_open(nodes, follower.handle(), readers, count)
@@ -101,32 +162,37 @@ impl Follower {
         since: u64,
         look: impl FnOnce(&Catalog<'_>) -> Result<T, E>,
     ) -> Result<(u64, T), E> {
-        let mut listings = Listings::new(&kallsyms);
-        listings.modules = modules.as_deref();
-        let catalog = listings.open()?;
-        let looked = look(&catalog)?;
+        let next = self.opened(kallsyms, modules)?;
+        let looked = look(&next.catalog)?;
+        let shared = next.catalog.share()?;
         let (tag, mut generation) = (self.newest + 1, 0);
         // SAFETY: both handles are in no other call. The bytes stay where they are until their tag
-        // is told: a vector that is moved keeps its place in memory.
+        // is told.
         Error::check(unsafe {
-            sys::latchsym_follower_show(
-                self.handle(),
-                catalog.handle(),
-                since,
-                tag,
-                &mut generation,
-            )
+            sys::latchsym_follower_show(self.handle(), shared.handle(), since, tag, &mut generation)
         })?;
-        drop(catalog);
-        self.shown.insert(tag, (kallsyms, modules));
+        self.shown.insert(tag, next.texts.clone());
         self.newest = tag;
+        self.current = Some(next);
         Ok((generation, looked))
+    }
+
+    /// The catalog of a listing: of its change, if modules alone have changed, so that little of it
+    /// is kept.
+    fn opened(&self, kallsyms: Vec<u8>, modules: Option<Vec<u8>>) -> Result<Current, Error> {
+        match &self.current {
+            Some(current) if modules.is_none() && current.texts.modules.is_none() => {
+                current.change(kallsyms).or_else(|kallsyms| Current::open(kallsyms, None))
+            }
+            _ => Current::open(kallsyms, modules),
+        }
     }
 
     /// Whether these bytes are those of the listing that was shown last.
     pub(crate) fn shows(&self, kallsyms: &[u8], modules: Option<&[u8]>) -> bool {
-        let newest = self.shown.get(&self.newest);
-        newest.map_or(false, |it| (&it.0[..], it.1.as_deref()) == (kallsyms, modules))
+        let current = self.current.as_ref();
+        current
+            .map_or(false, |it| (it.kallsyms(), it.texts.modules.as_deref()) == (kallsyms, modules))
     }
 
     /// Notes that code is there, from a stamp on and from the generation returned on. Until it is
@@ -249,6 +315,7 @@ impl Follower {
 impl Drop for Follower {
     fn drop(&mut self) {
         let mut tag = 0;
+        self.current = None;
         // SAFETY: the handle is in no other call, and the listings are freed after it is closed.
         while unsafe { sys::latchsym_follower_close(self.handle(), &mut tag) } == sys::DONE {}
     }

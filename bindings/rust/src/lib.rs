@@ -52,6 +52,7 @@
 #![deny(unsafe_op_in_unsafe_fn)]
 
 mod catalog;
+mod changes;
 mod error;
 mod files;
 mod follower;

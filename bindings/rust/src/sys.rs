@@ -59,6 +59,7 @@ extern "C" {
     pub fn latchsym_place_of_text(number: u32, out: *mut Place);
     pub fn latchsym_version() -> u32;
     #[link_name = "latchsym_catalog_open_nonnull"] pub fn latchsym_catalog_open(listings: *const Listings, out: *mut Handle, counts: *mut Counts, bad_line: *mut u64) -> u32;
+    #[link_name = "latchsym_catalog_change_nonnull"] pub fn latchsym_catalog_change(catalog: *mut Handle, change: *const Listings, out: *mut Handle, bad_line: *mut u64) -> u32;
     pub fn latchsym_catalog_find(catalog: *mut Handle, addr: u64, out: *mut Symbol) -> u32;
     pub fn latchsym_catalog_find_caller(catalog: *mut Handle, addr: u64, out: *mut Symbol) -> u32;
     #[link_name = "latchsym_catalog_find_many_nonnull"] pub fn latchsym_catalog_find_many(catalog: *mut Handle, addresses: *const u64, addresses_len: usize, out: *mut Told, out_len: usize) -> u32;

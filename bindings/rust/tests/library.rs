@@ -134,6 +134,41 @@ fn listings_are_refused() {
 }
 
 #[test]
+fn a_change_leaves_the_other_modules() {
+    let first = Listings { modules: None, ..listings() }.open().unwrap();
+    let second = first.change(b"gone ext4\nffffffffc0100000 t xfs_a\t[xfs]\n").unwrap();
+    drop(first);
+    assert_eq!(second.find(EXT4_A).unwrap().map(|found| found.to_string()), None);
+    assert_eq!(shown(&second, 0xffffffffc0100010), "xfs_a+0x10/0x1000 [xfs]");
+    assert_eq!(second.change(b"gone a\nchange 1.5\n").unwrap_err(), Error::BadLine(2));
+    assert_eq!(opened().change(b"").unwrap_err(), Error::BadHandle);
+}
+
+#[test]
+fn listings_whose_modules_change_are_named_at_each_moment() {
+    let kernel: String = (1..200).map(|it| format!("ffffffff8100{it:02x}00 T k{it}\n")).collect();
+    let listing = |name: &str, page: u64| {
+        let addr = 0xffffffffc0000000_u64 + page * 4096;
+        let module = format!("{addr:x} t {name}\t[{name}]\nffffffffd0000000 t stays\t[stays]\n");
+        format!("ffffffff81000000 T _stext\n{kernel}ffffffff81100000 T _end\n{module}").into_bytes()
+    };
+    let (mut follower, _readers) = latchsym::follower(64, 1).unwrap();
+    for step in 0..100 {
+        follower.show(listing(&format!("m{step}"), step % 7), None, step).unwrap();
+        if step == 50 {
+            follower.forget(40);
+        }
+    }
+    for step in 45..100 {
+        let named = |addr| follower.find_since(step, addr).unwrap().map(|it| it.to_string());
+        let own = 0xffffffffc0000008 + step % 7 * 4096;
+        assert_eq!(named(own), Some(format!("m{step}+0x8/0x1000 [m{step}]")));
+        assert_eq!(named(0xffffffffd0000010).as_deref(), Some("stays+0x10/0x1000 [stays]"));
+        assert_eq!(named(0xffffffffc0000008 + (step + 1) % 7 * 4096), None);
+    }
+}
+
+#[test]
 fn a_shared_catalog_goes_to_a_thread() {
     let first = opened();
     let second = first.share().unwrap();
@@ -384,7 +419,8 @@ fn code_that_is_noted_goes_before_the_listing_until_it_is_gone() {
 
 #[test]
 fn a_name_is_found_in_all_modules() {
-    let text = b"ffffffffc0000010 t one\t[a]\nffffffffc0001010 t two\t[b]\nffffffffc0001020 t one\t[b]\n";
+    let text =
+        b"ffffffffc0000010 t one\t[a]\nffffffffc0001010 t two\t[b]\nffffffffc0001020 t one\t[b]\n";
     let catalog = Listings::new(text).open().unwrap();
     let places: Vec<_> = (0..).map_while(|from| catalog.find_name(b"one", from).unwrap()).collect();
     assert_eq!(places, [(1, 0), (2, 1)]);

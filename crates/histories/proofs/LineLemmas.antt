@@ -50,20 +50,11 @@ sole_line xs h none =
 -- one line more that is no header
 body_here : (line : List ℕ) (ls : List (List ℕ)) → header_of (without_end line) ≡ None
     → body_of (line ∷ ls) ≡ line ++ body_of ls
-body_here line ls none = ap (λ h. elim h [ None ↦ line ++ body_of ls | Some header ↦ [] ]) none
+body_here line ls none = rw (none, body_of)
 
 parts_here : (line : List ℕ) (ls : List (List ℕ)) → header_of (without_end line) ≡ None
     → parts_of (line ∷ ls) ≡ parts_of ls
-parts_here line ls none = ap (λ h. elim h [
-  | None ↦ parts_of ls
-  | Some
-      header ↦ record {
-        header = header;
-        time_text = time_text (without_end line);
-        text = body_of ls;
-      }
-      ∷ parts_of ls
-]) none
+parts_here line ls none = rw (none, parts_of)
 
 pub body_more : (text rest : List ℕ) (i n : ℕ) → rest ≡ drop i text
     → lines rest ≡ take n rest ∷ lines (drop n rest) → header_of (without_end (take n rest)) ≡ None
@@ -123,23 +114,7 @@ pub part_here : (header : Header) (text rest : List ℕ) (n : ℕ) → rest ≡ 
       time_text = time_text (without_end (take n text));
       text = body_of (lines rest);
     } ∷ parts_of (lines rest)
-part_here header text rest n here is some =
-    let line = take n text in
-    let more = lines (drop n text) in
-    ap parts_of is
-    ∙ ap (λ h. elim h [
-      | None ↦ parts_of more
-      | Some
-          header ↦ record {
-            header = header;
-            time_text = time_text (without_end line);
-            text = body_of more;
-          }
-          ∷ parts_of more
-    ]) some
-    ∙ ap (λ (r : List ℕ).
-    record { header = header; time_text = time_text (without_end line); text = body_of (lines r) }
-    ∷ parts_of (lines r)) (sym here)
+part_here header text rest n here is some = rw (is, some, parts_of, here)
 
 pub bad_after : (before : Option Header) (header : Header) (number : ℕ) (text rest : List ℕ) (n : ℕ)
     → rest ≡ drop n text → lines text ≡ take n text ∷ lines (drop n text)

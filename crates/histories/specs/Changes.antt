@@ -1,12 +1,13 @@
 -- What a change makes of a listing.
-use Rattle.std.specs.Prelude.{ℕ, not, Bool, true, false, if◌then◌else◌}
-use Rattle.std.specs.Prelude.{List, [], ◌++◌, Option, is_some}
+use Rattle.std.specs.Prelude.{ℕ, ◌+◌, not, Bool, true, false, if◌then◌else◌}
+use Rattle.std.specs.Prelude.{List, [], ◌∷◌, ◌++◌, Option, Some, None, is_some}
 use Rattle.std.specs.List.{flat_map, list_any}
 use Rattle.std.specs.Option.{option_map_or, option_or}
 use Rattle.std.specs.Str.{bytes_eq}
 use Rattle.modules.specs.Names.{with_name}
 use Rattle.logs.specs.Lines.{lines}
-use Rattle.histories.specs.Grammar.{gone_of}
+use Rattle.histories.specs.Grammar.{gone_of, is_understood_after}
+use Rattle.histories.specs.declared.grammar.Header.{Header}
 use Rattle.histories.specs.ListingLines.{module_of, without_end}
 
 -- the module that a line of a change names: the one that is gone, or its own
@@ -35,6 +36,22 @@ added_lines change =
 abbrev pub changed_by : List ℕ → List ℕ → List ℕ
 changed_by change listing =
     kept_lines (is_named change) (lines listing) ++ added_lines (lines change)
+
+-- ---- which lines a change may have
+
+-- the header of a change at any time
+abbrev pub in_change : Header
+in_change = record { is_change = true; time = 0 }
+
+-- the number of the first line that is not understood in a change, if the first has this number
+abbrev pub bad_line_from : ℕ → List (List ℕ) → Option ℕ
+bad_line_from number [] = None
+bad_line_from number (line ∷ more) =
+    if is_understood_after in_change (without_end line) then bad_line_from (number + 1) more
+    else Some number
+
+abbrev pub bad_line_of : List ℕ → Option ℕ
+bad_line_of change = bad_line_from 1 (lines change)
 
 -- ---- names that are collected
 

@@ -13,10 +13,11 @@
 ghost use Rattle.std.specs.Prelude.{◌≡◌, ◌++◌, IfOk, OnOk};
 ghost use Rattle.std.specs.Option.{option_copied};
 ghost use Rattle.logs.specs.Lines.{lines};
-ghost use Rattle.histories.specs.Changes.{added_lines, changed_by, is_among, is_kept, kept_lines};
+ghost use Rattle.histories.specs.Changes.{added_lines, bad_line_of, changed_by, is_among, is_kept};
+ghost use Rattle.histories.specs.Changes.{kept_lines};
 ghost use Rattle.histories.specs.Changes.{is_named, named_module, with_named};
 
-use crate::grammar::gone_in;
+use crate::grammar::{Header, gone_in, is_understood_after};
 use crate::lines::{line_length, without_end};
 use crate::listing_lines::module_in;
 use modules::Names;
@@ -42,9 +43,9 @@ fn put_name<'a>(names: &mut Names<'a>, name: Option<&'a [u8]>) -> Result<(), All
     }
 }
 
-/// The modules that a change names, each once.
+/// The modules that a change names, each once: of its lines, and of its lines `gone NAME`.
 #[tactic(auto, using(crate::proofs::NameLemmas::collected))]
-fn names_in<'a>(alloc: Global, change: &'a [u8]) -> Result<Names<'a>, AllocError>
+pub fn names_in<'a>(alloc: Global, change: &'a [u8]) -> Result<Names<'a>, AllocError>
     ensures { IfOk result (λ names. is_among names ≡ is_named change.now) }
 {
     let mut names = Names::new(alloc);
@@ -55,6 +56,28 @@ fn names_in<'a>(alloc: Global, change: &'a [u8]) -> Result<Names<'a>, AllocError
         rest = &rest[end..];
     }
     Ok(names)
+}
+
+/// The number of the first line of a change that is not understood, from 1 on: a line of the kernel
+/// itself, or one that begins with a word of a history and is not `gone NAME`.
+pub fn bad_line_of(change: &[u8]) -> Option<u64>
+    ensures { result ≡ bad_line_of change.now }
+{
+    let in_change = Header {
+        is_change: true,
+        time: 0,
+    };
+    let mut number = 1;
+    let mut rest = change;
+    while !rest.is_empty() {
+        let end = line_length(rest);
+        if !is_understood_after(in_change, without_end(&rest[..end])) {
+            return Some(number);
+        }
+        number += 1;
+        rest = &rest[end..];
+    }
+    None
 }
 
 /// Whether a line is kept under a change that names these modules.

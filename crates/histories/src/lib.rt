@@ -20,7 +20,7 @@
 //! of this line.
 #![tactic(auto)]
 
-mod changes;
+pub mod changes;
 mod grammar;
 mod history;
 mod line_times;
@@ -29,6 +29,7 @@ mod listing_lines;
 mod listings_at;
 mod times;
 
+pub use changes::{bad_line_of, names_in};
 pub use grammar::Header;
 pub use history::{History, Part, PartCounts, read_history};
 pub use line_times::{LogTime, line_time};

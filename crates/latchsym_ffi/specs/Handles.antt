@@ -2,13 +2,13 @@
 use Rattle.std.specs.Prelude.{◌≡◌, ◌≢◌, ℕ, Some}
 use Rattle.latch_table.specs.Readers.{ReaderState}
 use Rattle.latch_table.specs.Writers.{WriterState}
-use Rattle.modules.specs.Entries.{CatalogEntries}
 use Rattle.follower.specs.Following.{Followed}
+use Rattle.latchsym_ffi.specs.HeldCatalogs.{HeldCatalog}
 use Rattle.latchsym_ffi.specs.declared.contents.Content.TheVariants.{Catalog, Follower, Reader}
 use Rattle.latchsym_ffi.specs.declared.contents.Content.TheVariants.{Writer}
 use Rattle.latchsym_ffi.specs.declared.handles.Handle.{Handle}
 
-abbrev pub HoldsCatalog : CatalogEntries → Handle → Type 0
+abbrev pub HoldsCatalog : HeldCatalog → Handle → Type 0
 HoldsCatalog c h = h.pointer.content ≡ Some (Catalog c)
 
 abbrev pub HoldsWriter : WriterState → Handle → Type 0

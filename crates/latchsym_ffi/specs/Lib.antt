@@ -7,6 +7,8 @@ pub mod AnswerTexts
 pub mod Kinds
 -- what a handle owns
 pub mod Owning
+-- what a handle of a catalog holds
+pub mod HeldCatalogs
 -- what a handle holds
 pub mod Handles
 -- what the bytes of the listings say
@@ -29,6 +31,8 @@ pub mod Viewing
 pub mod Flattening
 -- what the calls on catalogs return
 pub mod Catalogs
+-- what a change of a catalog's listing leaves
+pub mod Changing
 -- the numbers that calls on a writer return
 pub mod Updates
 -- the items of a table replaced by others

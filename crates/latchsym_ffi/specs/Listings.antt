@@ -28,6 +28,10 @@ is_understood l =
     nat_eq l.size size_of_listings
     && (not (nat_eq l.has_modules 0) || is_empty l.modules.now && is_empty l.regions.now)
 
+-- it has a change of a listing of symbols, and no listing of modules
+abbrev pub is_change : CatalogListings → Bool
+is_change l = is_understood l && nat_eq l.has_modules 0
+
 -- the texts that it has
 abbrev pub texts_in : CatalogListings → Given
 texts_in l = record {

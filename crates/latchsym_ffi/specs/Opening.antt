@@ -12,10 +12,11 @@ use Rattle.texts.specs.declared.faults.LineFault.{LineFault}
 use Rattle.texts.specs.declared.faults.LineFault.TheVariants as line
 use Rattle.listing.specs.ModuleListing.{module_place}
 use Rattle.listing.specs.Opening.{Given, Listed, Say, lines_beside, listings_of, notes_of}
-use Rattle.listing.specs.Opening.{skipped_modules_of}
+use Rattle.listing.specs.Opening.{parts_alone, skipped_modules_of, symbols_of}
 use Rattle.listing.specs.SymbolListing.{symbol_counts, symbol_place}
 use Rattle.modules.specs.Entries.{CatalogEntries}
 use Rattle.modules.specs.Listed.{BoundNames}
+use Rattle.modules.specs.ListingParts.{ListingParts}
 use Rattle.modules.specs.Placed.{are_few}
 use Rattle.modules.specs.declared.catalog.BuildCounts.{BuildCounts}
 use Rattle.latchsym_ffi.specs.Answers.{number_if_noted}
@@ -73,6 +74,11 @@ IsCounted kernel c counts l =
 abbrev pub AreRead : CatalogListings → CatalogEntries → CatalogCounts → Type 0
 AreRead given c counts =
     IsOkAnd (listings_of (texts_in given)) (IsCounted (kernel_in given) c counts)
+
+-- the parts of the listing of symbols that C gives, if no listing of modules is beside it
+abbrev pub IsListedFor : CatalogListings → Option ListingParts → Type 0
+IsListedFor given listing = IsOkAnd (listings_of (texts_in given)) (λ l.
+    listing ≡ parts_alone (kernel_in given) (symbols_of false l.kallsyms) l.modules)
 
 -- why no catalog is opened if the listing of regions is not read
 abbrev pub fault_of : LineFault → CatalogFault

@@ -4,11 +4,11 @@
 ghost use Rattle.std.specs.Prelude.{◌≡◌, ◌≢◌, ◌<◌, IfSome, length, position};
 ghost use Rattle.std.specs.Str.{bytes_eq};
 ghost use Rattle.modules.specs.Catalogs.{module_of};
-ghost use Rattle.modules.specs.Entries.{CatalogEntries};
 ghost use Rattle.latchsym_ffi.specs.ByNumber.{TellsBoth, TellsModule, TellsPlace, TellsRegion};
 ghost use Rattle.latchsym_ffi.specs.ByNumber.{TellsSymbol, named_from, part_at, place_named};
 ghost use Rattle.latchsym_ffi.specs.ByNumber.{place_of_name, region_at};
 ghost use Rattle.latchsym_ffi.specs.ByNumber.{symbol_at_place};
+ghost use Rattle.latchsym_ffi.specs.HeldCatalogs.{HeldCatalog};
 ghost use Rattle.latchsym_ffi.specs.Handles.{HoldsCatalog, RefusesOther, Stays};
 ghost use Rattle.latchsym_ffi.specs.Kinds.{catalog_kind};
 
@@ -157,8 +157,8 @@ fn write_named(
 #[unsafe(no_mangle)]
 pub extern "C" fn latchsym_catalog_modules(catalog: &mut Handle, out: &mut u64) -> u32
     ensures stays { Stays catalog.old catalog.new }
-    ensures told { (c : CatalogEntries) → HoldsCatalog c catalog.old
-        → (result ≡ 0) × (out.new ≡ length c.modules) }
+    ensures told { (c : HeldCatalog) → HoldsCatalog c catalog.old
+        → (result ≡ 0) × (out.new ≡ length c.entries.modules) }
     ensures other { RefusesOther catalog_kind catalog.old catalog.new out.old out.new result }
 {
     with_catalog!(catalog, |open| {
@@ -175,8 +175,8 @@ pub extern "C" fn latchsym_catalog_module(
     out: &mut CatalogModule,
 ) -> u32
     ensures stays { Stays catalog.old catalog.new }
-    ensures told { (c : CatalogEntries) → HoldsCatalog c catalog.old
-        → TellsModule (module_of c number) result out.old out.new }
+    ensures told { (c : HeldCatalog) → HoldsCatalog c catalog.old
+        → TellsModule (module_of c.entries number) result out.old out.new }
     ensures other { RefusesOther catalog_kind catalog.old catalog.new out.old out.new result }
 {
     with_catalog!(catalog, |open| write_module(open.catalog(), number, out))
@@ -191,8 +191,8 @@ pub extern "C" fn latchsym_catalog_region(
     out: &mut CatalogRegion,
 ) -> u32
     ensures stays { Stays catalog.old catalog.new }
-    ensures told { (c : CatalogEntries) → HoldsCatalog c catalog.old
-        → TellsRegion (region_at c number place) (part_at c number place)
+    ensures told { (c : HeldCatalog) → HoldsCatalog c catalog.old
+        → TellsRegion (region_at c.entries number place) (part_at c.entries number place)
         result out.old out.new }
     ensures other { RefusesOther catalog_kind catalog.old catalog.new out.old out.new result }
 {
@@ -211,8 +211,8 @@ pub extern "C" fn latchsym_catalog_symbol(
     out: &mut CatalogEntry,
 ) -> u32
     ensures stays { Stays catalog.old catalog.new }
-    ensures told { (c : CatalogEntries) → HoldsCatalog c catalog.old
-        → TellsSymbol (symbol_at_place c number place) result out.old out.new }
+    ensures told { (c : HeldCatalog) → HoldsCatalog c catalog.old
+        → TellsSymbol (symbol_at_place c.entries number place) result out.old out.new }
     ensures other { RefusesOther catalog_kind catalog.old catalog.new out.old out.new result }
 {
     with_catalog!(
@@ -231,8 +231,8 @@ pub extern "C" fn latchsym_catalog_place_of_name_nonnull(
     out: &mut usize,
 ) -> u32
     ensures stays { Stays catalog.old catalog.new }
-    ensures told { (c : CatalogEntries) → HoldsCatalog c catalog.old
-        → TellsPlace (place_named c number name.now from) result out.old out.new }
+    ensures told { (c : HeldCatalog) → HoldsCatalog c catalog.old
+        → TellsPlace (place_named c.entries number name.now from) result out.old out.new }
     ensures other { RefusesOther catalog_kind catalog.old catalog.new out.old out.new result }
 {
     with_catalog!(
@@ -251,7 +251,7 @@ fn write_place_of(
     place: &mut usize,
 ) -> u32
     ensures same { catalog.new ≡ catalog.old }
-    ensures told { result ≢ 7 → TellsBoth (place_of_name catalog.old name.now from) result
+    ensures told { result ≢ 7 → TellsBoth (place_of_name catalog.old.entries name.now from) result
         (number.old, place.old) (number.new, place.new) }
     ensures refused { result ≡ 7 → (number.new ≡ number.old) × (place.new ≡ place.old) }
 {
@@ -278,8 +278,8 @@ pub extern "C" fn latchsym_catalog_find_name_nonnull(
     place: &mut usize,
 ) -> u32
     ensures stays { Stays catalog.old catalog.new }
-    ensures told { (c : CatalogEntries) → HoldsCatalog c catalog.old → result ≢ 7
-        → TellsBoth (place_of_name c name.now from) result (number.old, place.old)
+    ensures told { (c : HeldCatalog) → HoldsCatalog c catalog.old → result ≢ 7
+        → TellsBoth (place_of_name c.entries name.now from) result (number.old, place.old)
         (number.new, place.new) }
     ensures refused { result ≡ 7 → (number.new ≡ number.old) × (place.new ≡ place.old) }
     ensures other { catalog.old.kind ≢ catalog_kind → (result ≡ 101) × (catalog.new ≡ catalog.old)

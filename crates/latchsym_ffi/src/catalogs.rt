@@ -1,12 +1,12 @@
 //! What C calls, of catalogs.
 
 ghost use Rattle.std.specs.Prelude.{◌≡◌, ◌≢◌, true, false, IfOk, length, map};
-ghost use Rattle.modules.specs.Entries.{CatalogEntries};
 ghost use Rattle.latchsym_ffi.specs.declared.contents.Content.TheVariants as content;
 ghost use Rattle.latchsym_ffi.specs.Batches.{told_at};
 ghost use Rattle.latchsym_ffi.specs.Catalogs.{OpensCatalog, RefusesCatalog};
 ghost use Rattle.latchsym_ffi.specs.Finding.{answer_of, copied, known_at, known_code, owner_named};
 ghost use Rattle.latchsym_ffi.specs.Finding.{known_call, symbol_named};
+ghost use Rattle.latchsym_ffi.specs.HeldCatalogs.{HeldCatalog};
 ghost use Rattle.latchsym_ffi.specs.Handles.{HoldsCatalog, RefusesOther, Stays};
 ghost use Rattle.latchsym_ffi.specs.Kinds.{catalog_kind};
 ghost use Rattle.latchsym_ffi.specs.Listings.{is_understood, texts_in};
@@ -100,8 +100,8 @@ pub extern "C" fn latchsym_catalog_find(
     out: &mut CatalogSymbol,
 ) -> u32
     ensures stays { Stays catalog.old catalog.new }
-    ensures told { (c : CatalogEntries) → HoldsCatalog c catalog.old
-        → IsTold c (known_at c addr) result out.new }
+    ensures told { (c : HeldCatalog) → HoldsCatalog c catalog.old
+        → IsTold c.entries (known_at c.entries addr) result out.new }
     ensures other { RefusesOther catalog_kind catalog.old catalog.new out.old out.new result }
 {
     with_catalog!(
@@ -118,8 +118,8 @@ pub extern "C" fn latchsym_catalog_find_caller(
     out: &mut CatalogSymbol,
 ) -> u32
     ensures stays { Stays catalog.old catalog.new }
-    ensures told { (c : CatalogEntries) → HoldsCatalog c catalog.old
-        → IsTold c (known_call c addr) result out.new }
+    ensures told { (c : HeldCatalog) → HoldsCatalog c catalog.old
+        → IsTold c.entries (known_call c.entries addr) result out.new }
     ensures other { RefusesOther catalog_kind catalog.old catalog.new out.old out.new result }
 {
     with_catalog!(
@@ -136,11 +136,11 @@ pub extern "C" fn latchsym_catalog_find_many_nonnull(
     out: &mut [CodedAnswer],
 ) -> u32
     ensures stays { Stays catalog.old catalog.new }
-    ensures told { (c : CatalogEntries) → HoldsCatalog c catalog.old → result ≡ 0
-        → out.new ≡ map (told_at c) addrs.now }
-    ensures done { (c : CatalogEntries) → HoldsCatalog c catalog.old
+    ensures told { (c : HeldCatalog) → HoldsCatalog c catalog.old → result ≡ 0
+        → out.new ≡ map (told_at c.entries) addrs.now }
+    ensures done { (c : HeldCatalog) → HoldsCatalog c catalog.old
         → length out.old ≡ length addrs.now → result ≡ 0 }
-    ensures room { (c : CatalogEntries) → HoldsCatalog c catalog.old
+    ensures room { (c : HeldCatalog) → HoldsCatalog c catalog.old
         → length out.old ≢ length addrs.now → result ≡ 102 }
     ensures refused { result ≢ 0 → out.new ≡ out.old }
     ensures other { catalog.old.kind ≢ catalog_kind → (result ≡ 101) × (catalog.new ≡ catalog.old) }
@@ -158,14 +158,14 @@ pub extern "C" fn latchsym_catalog_name_nonnull(
     owner: &mut [u8],
 ) -> u32
     ensures stays { Stays catalog.old catalog.new }
-    ensures code { (c : CatalogEntries) → HoldsCatalog c catalog.old
-        → result ≡ known_code (known_at c addr) }
-    ensures answer { (c : CatalogEntries) → HoldsCatalog c catalog.old
-        → out.new ≡ answer_of c (known_at c addr) }
-    ensures name { (c : CatalogEntries) → HoldsCatalog c catalog.old
-        → name.new ≡ copied (symbol_named (known_at c addr)) name.old }
-    ensures owner { (c : CatalogEntries) → HoldsCatalog c catalog.old
-        → owner.new ≡ copied (owner_named c (known_at c addr)) owner.old }
+    ensures code { (c : HeldCatalog) → HoldsCatalog c catalog.old
+        → result ≡ known_code (known_at c.entries addr) }
+    ensures answer { (c : HeldCatalog) → HoldsCatalog c catalog.old
+        → out.new ≡ answer_of c.entries (known_at c.entries addr) }
+    ensures name { (c : HeldCatalog) → HoldsCatalog c catalog.old
+        → name.new ≡ copied (symbol_named (known_at c.entries addr)) name.old }
+    ensures owner { (c : HeldCatalog) → HoldsCatalog c catalog.old
+        → owner.new ≡ copied (owner_named c.entries (known_at c.entries addr)) owner.old }
     ensures other { catalog.old.kind ≢ catalog_kind → (result ≡ 101) × (catalog.new ≡ catalog.old)
         × (out.new ≡ out.old) × (name.new ≡ name.old) × (owner.new ≡ owner.old) }
 {

@@ -4,11 +4,11 @@ ghost use Rattle.std.specs.Prelude.{◌≡◌, ◌≢◌, ◌⊎◌, [], Some};
 ghost use Rattle.follower.specs.declared.catalogs.Moment.TheVariants.{Generation, Stamp};
 ghost use Rattle.follower.specs.Catalogs.{DropsOldest};
 ghost use Rattle.follower.specs.Following.{Followed, Shows};
-ghost use Rattle.modules.specs.Entries.{CatalogEntries};
 ghost use Rattle.std.specs.Option.{option_copied};
 ghost use Rattle.latchsym_ffi.specs.declared.finding.AddressUse.TheVariants.{AsItIs, AsReturn};
 ghost use Rattle.latchsym_ffi.specs.Following.{FindsAt, ForgetsBy, IsToldOf, RefusesShowing};
 ghost use Rattle.latchsym_ffi.specs.Following.{TellsTag, noted_as};
+ghost use Rattle.latchsym_ffi.specs.HeldCatalogs.{HeldCatalog};
 ghost use Rattle.latchsym_ffi.specs.Handles.{FollowerGoes, HoldsCatalog, HoldsFollower};
 ghost use Rattle.latchsym_ffi.specs.Handles.{RefusesOther, Stays};
 ghost use Rattle.latchsym_ffi.specs.Kinds.{catalog_kind, follower_kind};
@@ -73,14 +73,14 @@ pub extern "C" fn latchsym_follower_show(
     tag: u64,
     generation: &mut u64,
 ) -> u32
-    ensures shown { (c : CatalogEntries) → HoldsCatalog c catalog.old → result ≡ 0
-        → FollowerGoes (λ f f'. Shows c since tag f f' generation.new) follower.old follower.new }
+    ensures shown { (c : HeldCatalog) → HoldsCatalog c catalog.old → result ≡ 0
+        → FollowerGoes (λ f f'. Shows c.entries since tag f f' generation.new) follower.old follower.new }
     ensures taken { result ≡ 0 → (follower.old.kind ≡ follower_kind)
         × (catalog.old.kind ≡ catalog_kind) × (catalog.new.kind ≡ 0) }
     ensures refused { result ≢ 0 → Stays follower.old follower.new
         × Stays catalog.old catalog.new × (generation.new ≡ generation.old) }
-    ensures why { (f : Followed) → HoldsFollower f follower.old → (c : CatalogEntries)
-        → HoldsCatalog c catalog.old → result ≢ 0 → RefusesShowing c since f result }
+    ensures why { (f : Followed) → HoldsFollower f follower.old → (c : HeldCatalog)
+        → HoldsCatalog c catalog.old → result ≢ 0 → RefusesShowing c.entries since f result }
     ensures other { (follower.old.kind ≢ follower_kind) ⊎ (catalog.old.kind ≢ catalog_kind)
         → result ≡ 101 }
 {

@@ -24,6 +24,7 @@ mod batches;
 mod by_number;
 mod calls;
 mod catalogs;
+mod changing;
 mod contents;
 mod enlarging;
 mod finding;

@@ -5,7 +5,8 @@ ghost use Rattle.std.specs.Option.{option_copied};
 ghost use Rattle.texts.specs.Said.{GivesInGrammar};
 ghost use Rattle.modules.specs.Lines.{region_fits};
 ghost use Rattle.listing.specs.Opening.{listed_in, listings_of};
-ghost use Rattle.latchsym_ffi.specs.Listings.{bounds_if_any, is_understood, kernel_in};
+ghost use Rattle.latchsym_ffi.specs.Listings.{bounds_if_any, is_change, is_understood};
+ghost use Rattle.latchsym_ffi.specs.Listings.{kernel_in};
 ghost use Rattle.latchsym_ffi.specs.Listings.{text_if_any, texts_in};
 
 use listing::Listings;
@@ -58,6 +59,14 @@ impl CatalogListings {
     {
         self.size == SIZE
             && (self.has_modules != 0 || self.modules.is_empty() && self.regions.is_empty())
+    }
+
+    /// Whether it has a change of a listing of symbols: it is understood, and has no listing of
+    /// modules.
+    pub(crate) fn is_change(&self) -> bool
+        ensures { result ≡ is_change self.now }
+    {
+        self.is_understood() && self.has_modules == 0
     }
 
     /// The names of both bounds of the kernel, if they are given.

@@ -5,7 +5,7 @@ ghost use Rattle.order_laws.specs.declared.items.Item.{Item};
 ghost use Rattle.order_laws.specs.Orders.{half_open};
 ghost use Rattle.latch_table.specs.declared.readers.Try.{Try};
 ghost use Rattle.latch_table.specs.Writers.{Finds};
-ghost use Rattle.modules.specs.Entries.{CatalogEntries};
+ghost use Rattle.latchsym_ffi.specs.HeldCatalogs.{HeldCatalog};
 ghost use Rattle.latchsym_ffi.specs.Handles.{HoldsCatalog, ReaderGoes, RefusesOther, Stays};
 ghost use Rattle.latchsym_ffi.specs.Handles.{WriterGoes};
 ghost use Rattle.latchsym_ffi.specs.Kinds.{catalog_kind, reader_kind, writer_kind};
@@ -135,11 +135,11 @@ fn name_in(
     requires kind { catalog.old.kind ≡ catalog_kind }
     requires there { IfSome item (λ i. (i.a ≤ addr) × (addr < i.b)) }
     ensures stays { Stays catalog.old catalog.new }
-    ensures told { (c : CatalogEntries) → HoldsCatalog c catalog.old
-        → (result ≡ known_code (known_in c addr item))
-        × (out.new ≡ told_of c (known_in c addr item))
-        × (name.new ≡ copied (symbol_named (known_in c addr item)) name.old)
-        × (owner.new ≡ copied (owner_named c (known_in c addr item)) owner.old) }
+    ensures told { (c : HeldCatalog) → HoldsCatalog c catalog.old
+        → (result ≡ known_code (known_in c.entries addr item))
+        × (out.new ≡ told_of c.entries (known_in c.entries addr item))
+        × (name.new ≡ copied (symbol_named (known_in c.entries addr item)) name.old)
+        × (owner.new ≡ copied (owner_named c.entries (known_in c.entries addr item)) owner.old) }
 {
     with_catalog!(catalog, |open| {
         let seen = seen_in(open.catalog(), item, addr);
@@ -160,11 +160,11 @@ pub extern "C" fn latchsym_reader_find_name_nonnull(
     owner: &mut [u8],
 ) -> u32
     ensures stays { Stays catalog.old catalog.new }
-    ensures found { (c : CatalogEntries) → HoldsCatalog c catalog.old
+    ensures found { (c : HeldCatalog) → HoldsCatalog c catalog.old
         → ReaderGoes (λ r r'. (t : Try) × LooksUp addr r r' t
-        × (result ≡ name_code c addr t) × Shows t item.old item.new
-        × Names c addr t out.old out.new
-        × Copies c addr t name.old name.new owner.old owner.new) reader.old reader.new }
+        × (result ≡ name_code c.entries addr t) × Shows t item.old item.new
+        × Names c.entries addr t out.old out.new
+        × Copies c.entries addr t name.old name.new owner.old owner.new) reader.old reader.new }
     ensures other { (reader.old.kind ≢ reader_kind) ⊎ (catalog.old.kind ≢ catalog_kind)
         → (result ≡ 101) × (reader.new ≡ reader.old) × (catalog.new ≡ catalog.old)
         × (item.new ≡ item.old) × (out.new ≡ out.old) × (name.new ≡ name.old)

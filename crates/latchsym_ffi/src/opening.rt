@@ -2,10 +2,11 @@
 
 ghost use Rattle.std.specs.Prelude.{◌≡◌, IfErr, IfOk};
 ghost use Rattle.std.specs.Option.{option_map};
-ghost use Rattle.modules.specs.Entries.{CatalogEntries};
+ghost use Rattle.latchsym_ffi.specs.HeldCatalogs.{HeldCatalog};
 ghost use Rattle.latchsym_ffi.specs.declared.contents.Content.TheVariants as content;
 ghost use Rattle.latchsym_ffi.specs.Listings.{texts_in};
-ghost use Rattle.latchsym_ffi.specs.Opening.{AreRead, RefusesTexts, counts_of, skipped_for};
+ghost use Rattle.latchsym_ffi.specs.Opening.{AreRead, IsListedFor, RefusesTexts, counts_of};
+ghost use Rattle.latchsym_ffi.specs.Opening.{skipped_for};
 
 use crate::answers::number_if_noted;
 use crate::contents::Content;
@@ -138,8 +139,9 @@ fn counts_of(opened: &OpenedCatalog) -> CatalogCounts
 fn catalog_of(
     alloc: Global,
     given: &CatalogListings,
-) -> Result<(IndexedCatalog<'static>, CatalogCounts), CatalogFault>
-    ensures opened { IfOk result (λ r. AreRead given.now r.0 r.1) }
+) -> Result<(OpenCatalog, CatalogCounts), CatalogFault>
+    ensures opened { IfOk result (λ r. AreRead given.now r.0.entries r.1
+        × IsListedFor given.now r.0.listing) }
     ensures fault { IfErr result (RefusesTexts (texts_in given.now)) }
 {
     let listings = given.listings(alloc)?;
@@ -152,7 +154,8 @@ fn catalog_of(
         ExpectedLookups::Any,
     )?;
     let counts = counts_of(&opened);
-    Ok((IndexedCatalog::new(alloc, opened.catalog)?, counts))
+    let catalog = IndexedCatalog::new(alloc, opened.catalog)?;
+    Ok((OpenCatalog::new(alloc, catalog, opened.listing)?, counts))
 }
 
 /// The catalog of what is given, as a handle holds it.
@@ -160,11 +163,11 @@ pub(crate) fn open_content(
     alloc: Global,
     given: &CatalogListings,
 ) -> Result<(Box<Content, Global>, CatalogCounts), CatalogFault>
-    ensures opened { IfOk result (λ r. (c : CatalogEntries)
-        × (r.0.value ≡ content.Catalog c) × AreRead given.now c r.1) }
+    ensures opened { IfOk result (λ r. (c : HeldCatalog)
+        × (r.0.value ≡ content.Catalog c) × AreRead given.now c.entries r.1
+        × IsListedFor given.now c.listing) }
     ensures fault { IfErr result (RefusesTexts (texts_in given.now)) }
 {
     let (catalog, counts) = catalog_of(alloc, given)?;
-    let content = Content::Catalog(OpenCatalog::new(alloc, catalog)?);
-    Ok((Box::new(alloc, content)?, counts))
+    Ok((Box::new(alloc, Content::Catalog(catalog))?, counts))
 }

@@ -5,7 +5,7 @@ ghost use Rattle.order_laws.specs.Orders.{half_open};
 ghost use Rattle.latch_table.specs.Replacing.{BeginsReplacing};
 ghost use Rattle.latch_table.specs.Writers.{WriterState};
 ghost use Rattle.modules.specs.Catalogs.{regions_of};
-ghost use Rattle.modules.specs.Entries.{CatalogEntries};
+ghost use Rattle.latchsym_ffi.specs.HeldCatalogs.{HeldCatalog};
 ghost use Rattle.latchsym_ffi.specs.Handles.{HoldsCatalog, HoldsWriter, Stays, WriterGoes};
 ghost use Rattle.latchsym_ffi.specs.Kinds.{catalog_kind, writer_kind};
 ghost use Rattle.latchsym_ffi.specs.Replacing.{RefusesReplacingAs, TellsItems, item_told};
@@ -55,12 +55,12 @@ fn write_items(catalog: &IndexedCatalog<'static>, out: &mut [TableItem]) -> u32
 #[unsafe(no_mangle)]
 pub extern "C" fn latchsym_catalog_items_nonnull(catalog: &mut Handle, out: &mut [TableItem]) -> u32
     ensures stays { Stays catalog.old catalog.new }
-    ensures told { (c : CatalogEntries) → HoldsCatalog c catalog.old → result ≡ 0
-        → TellsItems c out.new }
-    ensures done { (c : CatalogEntries) → HoldsCatalog c catalog.old
-        → length out.old ≡ length (regions_of c) → result ≡ 0 }
-    ensures room { (c : CatalogEntries) → HoldsCatalog c catalog.old
-        → length out.old ≢ length (regions_of c) → result ≡ 102 }
+    ensures told { (c : HeldCatalog) → HoldsCatalog c catalog.old → result ≡ 0
+        → TellsItems c.entries out.new }
+    ensures done { (c : HeldCatalog) → HoldsCatalog c catalog.old
+        → length out.old ≡ length (regions_of c.entries) → result ≡ 0 }
+    ensures room { (c : HeldCatalog) → HoldsCatalog c catalog.old
+        → length out.old ≢ length (regions_of c.entries) → result ≡ 102 }
     ensures refused { result ≢ 0 → out.new ≡ out.old }
     ensures other { catalog.old.kind ≢ catalog_kind → (result ≡ 101) × (catalog.new ≡ catalog.old) }
 {

@@ -3,6 +3,7 @@
 ghost use Rattle.std.specs.Prelude.{◌≡◌, ◌≢◌, ◌↔◌, IsTrue};
 ghost use Rattle.modules.specs.Entries.{CatalogEntries};
 ghost use Rattle.latchsym_ffi.specs.Finding.{known_at, known_call};
+ghost use Rattle.latchsym_ffi.specs.HeldCatalogs.{HeldCatalog};
 ghost use Rattle.latchsym_ffi.specs.Handles.{HoldsCatalog, RefusesOther, Stays};
 ghost use Rattle.latchsym_ffi.specs.Kinds.{catalog_kind};
 ghost use Rattle.latchsym_ffi.specs.Named.{IsTold};
@@ -86,8 +87,8 @@ fn flatten_into<'c, 's>(
 #[unsafe(no_mangle)]
 pub extern "C" fn latchsym_catalog_sizes(catalog: &mut Handle, out: &mut ViewSizes) -> u32
     ensures stays { Stays catalog.old catalog.new }
-    ensures told { (c : CatalogEntries) → HoldsCatalog c catalog.old
-        → TellsSizes c result out.old out.new }
+    ensures told { (c : HeldCatalog) → HoldsCatalog c catalog.old
+        → TellsSizes c.entries result out.old out.new }
     ensures other { RefusesOther catalog_kind catalog.old catalog.new out.old out.new result }
 {
     with_catalog!(catalog, |open| write_sizes(open.catalog(), out))
@@ -103,12 +104,12 @@ pub extern "C" fn latchsym_catalog_flatten_nonnull<'c, 's>(
     out: &mut CatalogView<'c, 's>,
 ) -> u32
     ensures stays { Stays catalog.old catalog.new }
-    ensures flat { (c : CatalogEntries) → HoldsCatalog c catalog.old → result ≡ 0
-        → IsViewOf c out.new.regions.now }
-    ensures done { (c : CatalogEntries) → HoldsCatalog c catalog.old
-        → AreRooms c regions.old symbols.old addresses.old → result ≡ 0 }
-    ensures room { (c : CatalogEntries) → HoldsCatalog c catalog.old
-        → (AreRooms c regions.old symbols.old addresses.old → ⊥) → result ≡ 102 }
+    ensures flat { (c : HeldCatalog) → HoldsCatalog c catalog.old → result ≡ 0
+        → IsViewOf c.entries out.new.regions.now }
+    ensures done { (c : HeldCatalog) → HoldsCatalog c catalog.old
+        → AreRooms c.entries regions.old symbols.old addresses.old → result ≡ 0 }
+    ensures room { (c : HeldCatalog) → HoldsCatalog c catalog.old
+        → (AreRooms c.entries regions.old symbols.old addresses.old → ⊥) → result ≡ 102 }
     ensures unchanged { result ≢ 0 → out.new ≡ out.old }
     ensures other { catalog.old.kind ≢ catalog_kind → (result ≡ 101) × (catalog.new ≡ catalog.old) }
 {

@@ -11,6 +11,7 @@ use Rattle.modules.specs.Entries.{CatalogEntries}
 use Rattle.modules.specs.FromSymbols.{IsFromSymbols}
 use Rattle.modules.specs.Lines.{bounds_for, usual_bounds_of}
 use Rattle.modules.specs.Listed.{BoundNames, ListedRegion, ListedSymbol}
+use Rattle.modules.specs.ListingParts.{ListingParts, parts_of}
 use Rattle.modules.specs.Placed.{are_few}
 use Rattle.modules.specs.declared.catalog.BuildCounts.{BuildCounts}
 use Rattle.listing.specs.ListingNotes.{all_notes, is_of_kallsyms, is_of_modules}
@@ -154,10 +155,17 @@ unlisted_in mapping l =
 abbrev pub skipped_modules_of : Listed → Option (List ℕ)
 skipped_modules_of l = option_map (λ text. module_counts (lines_of text)) l.modules
 
+-- the parts of the listing of symbols, if no listing of modules is beside it
+abbrev pub parts_alone : Option BoundNames → List ListedSymbol → Option (List ℕ)
+    → Option ListingParts
+parts_alone kernel symbols (Some text) = None
+parts_alone kernel symbols None = Some (parts_of kernel symbols)
+
 -- what was built, of symbols that may be kept, is what listings say
 pub record AreBuilt (kernel : Option BoundNames) (mapping : Bool) (l : Listed)
     (symbols : List ListedSymbol) (b : BuiltCatalog) : Type 0 where
   pub said : AreBy kernel l symbols l.modules b.catalog b.counts
+  pub listing : b.listing ≡ parts_alone kernel symbols l.modules
   pub skipped : option_map (λ k. k.by_place) b.skipped ≡ skipped_modules_of l
   pub hidden : b.hidden ≡ hides_modules l
   pub unlisted : b.unlisted ≡ unlisted_in mapping l
@@ -167,6 +175,7 @@ pub record AreBuilt (kernel : Option BoundNames) (mapping : Bool) (l : Listed)
 pub record IsOpened (kernel : Option BoundNames) (mapping : Bool) (l : Listed) (o : OpenedCatalog)
     : Type 0 where
   pub said : Say kernel mapping l o.catalog o.built
+  pub listing : o.listing ≡ parts_alone kernel (symbols_of mapping l.kallsyms) l.modules
   pub skipped_modules : option_map (λ k. k.by_place) o.skipped_modules ≡ skipped_modules_of l
   pub skipped_symbols : o.skipped_symbols.by_place ≡ symbol_counts (lines_of l.kallsyms)
   pub has_regions : o.has_regions ≡ has_regions l

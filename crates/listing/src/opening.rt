@@ -6,9 +6,9 @@
 //!           |             |             |                              |
 //!      read_modules  Listings::of  read_kallsyms                  read_kallsyms
 //!           |             |             |                              |
-//!           +--- Catalog::build --------+                    Catalog::from_symbols
+//!           +--- Catalog::build --------+                       SharedListing::new
 //!                         |                                            |
-//!               catalog, counts, notes                       catalog, counts, note
+//!               catalog, counts, notes                  listing, and its catalog, counts, note
 //! ```
 ghost use Rattle.std.specs.Prelude.{◌≡◌, [], true, unwrap_or, All, IfErr, IfOk};
 ghost use Rattle.std.specs.Option.{option_copied};
@@ -26,7 +26,9 @@ use crate::module_listing::{ModuleCounts, read_modules};
 use crate::owners::{Owner, unlisted_owner};
 use crate::region_listing::read_regions;
 use crate::symbol_listing::{SymbolCounts, read_kallsyms};
-use modules::{BuildCounts, Catalog, ExpectedLookups, KernelBounds, RegionLine, SymbolLines};
+use modules::{
+    BuildCounts, Catalog, ExpectedLookups, KernelBounds, RegionLine, SharedListing, SymbolLines,
+};
 use order_laws::Refusal;
 use std::alloc::Global;
 use texts::LineFault;
@@ -86,6 +88,9 @@ impl<'a> Listings<'a> {
 #[derive(Drop)]
 pub struct OpenedCatalog<'a> {
     pub catalog: Catalog<'a>,
+    /// The listing of symbols in the parts that a change of it leaves, if no listing of modules is
+    /// beside it.
+    pub listing: Option<SharedListing<'a>>,
     /// How many lines are used, and how many are not, by cause.
     pub built: BuildCounts,
     /// How many lines of the listing of modules were skipped, if there is one.
@@ -111,6 +116,7 @@ pub struct OpenedCatalog<'a> {
 #[derive(Drop)]
 struct BuiltCatalog<'a> {
     catalog: Catalog<'a>,
+    listing: Option<SharedListing<'a>>,
     counts: BuildCounts,
     skipped: Option<ModuleCounts>,
     hidden: bool,
@@ -146,9 +152,11 @@ fn build<'a>(
     ensures refusal { IfErr result (IsBuildRefusal (lines_beside (listed_in listings.now))) }
 {
     let Some(text) = listings.modules else {
-        let (catalog, counts) = Catalog::from_symbols(alloc, kernel, symbols, asked)?;
+        let listing = SharedListing::new(alloc, kernel, symbols, asked)?;
+        let (catalog, counts) = listing.catalog(alloc, asked)?;
         return Ok(BuiltCatalog {
             catalog,
+            listing: Some(listing),
             counts,
             skipped: None,
             hidden: false,
@@ -167,6 +175,7 @@ fn build<'a>(
     let note = note_of_modules(text, listings.kallsyms, facts, &catalog);
     Ok(BuiltCatalog {
         catalog,
+        listing: None,
         counts,
         skipped: Some(skipped),
         hidden: facts.hidden,
@@ -209,6 +218,7 @@ pub fn open<'a>(
     };
     Ok(OpenedCatalog {
         catalog: built.catalog,
+        listing: built.listing,
         built: counts,
         skipped_modules: built.skipped,
         skipped_symbols: symbols.skipped,

@@ -12,19 +12,19 @@ pub use Rattle.modules.specs.Entries.{CatalogEntries, ModuleEntry, SymbolEntry}
 pub use Rattle.modules.specs.Found.{Found, IsFound, ReachesUpTo, found_in, symbol_at}
 pub use Rattle.modules.specs.Found.{symbol_found_at, symbols_from}
 pub use Rattle.modules.specs.FromSymbols.{HasItsRegions, IsFromSymbols, is_kept_line, owner_names}
-pub use Rattle.modules.specs.Gathering.{Gathers, HasRoom, Keeps, KeepsRun, lies_for, owner_for}
 pub use Rattle.modules.specs.ByName.{IsCut, IsSortedByName, comes_first}
 pub use Rattle.modules.specs.Grouped.{lines_at}
 pub use Rattle.modules.specs.Index.{IsBorder, IsFirstBorder, IsFirstOf, IsIndex, IsOrdered}
 pub use Rattle.modules.specs.Index.{IsRising, IsSplit, IsSplitBy, comes_before, index_entries_of}
 pub use Rattle.modules.specs.Index.{symbol_of_entry}
 pub use Rattle.modules.specs.Items.{item_of_address, items_at, items_below, items_of}
+pub use Rattle.modules.specs.Gathering.{Gathers}
 pub use Rattle.modules.specs.Kept.{AreDistinctNames, belongs, entry_of, is_built_in, is_kept}
 pub use Rattle.modules.specs.Kept.{is_used, lies_in, symbols_that}
 pub use Rattle.modules.specs.LineMarks.{AreLeft, AreNamed, HasFirstLine, HaveFirstLines}
 pub use Rattle.modules.specs.LineMarks.{is_kept_mark, kept_numbers, kernel_marks, line_marks}
 pub use Rattle.modules.specs.LineMarks.{mark_of, marks_of, modules_numbered, name_of, number_for}
-pub use Rattle.modules.specs.LineMarks.{number_in, symbol_marks, with_number, with_owner}
+pub use Rattle.modules.specs.LineMarks.{number_in, symbol_marks, with_number}
 pub use Rattle.modules.specs.Lines.{built_in_region, first_address, first_owner, fits, is_region}
 pub use Rattle.modules.specs.Lines.{kernel_regions, module_line_region, region_fits}
 pub use Rattle.modules.specs.Lines.{region_line_region, with_apart}
@@ -56,8 +56,8 @@ pub use Rattle.modules.specs.Starts.{first_start, start_at, start_where, starts_
 pub use Rattle.modules.specs.declared.admission.Admission.{Admission}
 pub use Rattle.modules.specs.declared.catalog.BuildCounts.{BuildCounts}
 pub use Rattle.modules.specs.declared.catalog.Held.{Held}
-pub use Rattle.modules.specs.declared.gathering.SymbolLists.{SymbolLists}
-pub use Rattle.modules.specs.declared.gathering.Owner.{Owner}
+pub use Rattle.modules.specs.declared.gathering.GatheredSymbols.{GatheredSymbols}
+pub use Rattle.modules.specs.declared.shared_listings.SharedRun.{SharedRun}
 pub use Rattle.modules.specs.declared.lines.Part.{Part}
 pub use Rattle.modules.specs.declared.lines.Part.TheVariants.{Core}
 pub use Rattle.modules.specs.declared.marks.Mark.{Mark}

@@ -1,21 +1,21 @@
 -- Where a symbol is kept, and one more run of symbol lines.
-use Rattle.modules.proofs.Words.{◌≡◌, ◌≢◌, ℕ, ◌<◌, Bool, false, List, ◌++◌, length, get_or, map}
-use Rattle.modules.proofs.Words.{Some, None, Option, refl, sym, ap, ◌∙◌, ⊎_elim, arith, filter, Bor}
-use Rattle.modules.proofs.Words.{Vec, position_from, option_copied, option_map_or, bytes_eq}
+use Rattle.modules.proofs.Words.{◌≡◌, ◌≢◌, ℕ, ◌<◌, Bool, false, ◌&&◌, List, ◌++◌, length, get_or}
+use Rattle.modules.proofs.Words.{map, Some, None, Option, refl, sym, ap, ◌∙◌, ⊎_elim, arith, filter}
+use Rattle.modules.proofs.Words.{position_from, option_map_or, bytes_eq, is_some, All}
 use Rattle.modules.proofs.Words.{common_steps, nat_tests, [], ◌∷◌, true, bytes_decides}
 use Rattle.modules.proofs.Lemmas.{cases_eq, map-append, append-nil, filter-append, list_any_at}
-use Rattle.modules.proofs.Lemmas.{slice_get-get_or, cases_order, false_from_ne_true, and_left}
+use Rattle.modules.proofs.Lemmas.{cases_order, false_from_ne_true, and_left, flat_map-append}
 use Rattle.modules.proofs.Lemmas.{position_from-zero, get_or-map, length-map, position-Some}
-use Rattle.modules.proofs.Lemmas.{is_some-position_from}
-use Rattle.modules.proofs.Definitions.{Accepted, names_of, SymbolEntry, Gathers, HasRoom, Keeps}
-use Rattle.modules.proofs.Definitions.{KeepsRun, lies_for, owner_for, AreDistinctNames, belongs}
-use Rattle.modules.proofs.Definitions.{is_built_in, symbols_that, entry_of, ListedSymbol}
-use Rattle.modules.proofs.Definitions.{PlacedModule, lines_of_run, line_of, SymbolLists, Owner, Run}
-use Rattle.modules.specs.declared.gathering.Owner.TheVariants as owner
-
-pub not_built_in : (built_in : List (ℕ × ℕ)) (s : ListedSymbol) (name : List ℕ)
-    → s.owner ≡ Some name → is_built_in built_in s ≡ false
-not_built_in built_in s name owner = rw owner
+use Rattle.modules.proofs.Lemmas.{is_some-position_from, get_or-set_at, get_or-set_other, set}
+use Rattle.modules.proofs.Lemmas.{get_or_default, length-set}
+use Rattle.modules.proofs.FilterLemmas.{filter_within}
+use Rattle.modules.proofs.Definitions.{Accepted, names_of, SymbolEntry, AreDistinctNames, belongs}
+use Rattle.modules.proofs.Definitions.{symbols_that, entry_of, lies_in, line_of, ListedSymbol}
+use Rattle.modules.proofs.Definitions.{PlacedModule, GatheredSymbols, SharedRun, Gathers}
+use Rattle.modules.specs.Gathering.{gathered_in, kept_by, KeepsFor, KeepsRun}
+use Rattle.modules.specs.ListingParts.{module_lines}
+use Rattle.modules.specs.SharedRuns.{lines_of_one, lines_of_shared}
+use Rattle.modules.specs.declared.gathering.GatheredSymbols.TheVariants.{Nothing}
 
 name_at : (lines : List PlacedModule) (j : ℕ) (m : PlacedModule) → j < length lines
     → get_or (names_of lines) j [] ≡ (get_or lines j m).name
@@ -86,126 +86,132 @@ that_none p o none (s ∷ ss) = grind (arith, that_none p o none ss)
 pub belongs_there : (a : Accepted) (name : List ℕ) (k : ℕ)
     → position_from (bytes_eq name) 0 (names_of a.modules) ≡ Some k
     → (m : PlacedModule) (s : SymbolEntry)
-    → belongs (get_or a.modules k m) (line_of (Some name) s) ≡ lies_for a (owner.Module k) s.addr
-belongs_there a name k at m s = grind (arith, place_within, slice_get-get_or)
+    → belongs (get_or a.modules k m) (line_of (Some name) s) ≡ lies_in (get_or a.modules k m) s.addr
+belongs_there a name k at m s = grind (arith, place_within)
 
-that-append : (p : ListedSymbol → Bool) (xs ys : List ListedSymbol)
+pub that-append : (p : ListedSymbol → Bool) (xs ys : List ListedSymbol)
     → symbols_that p (xs ++ ys) ≡ symbols_that p xs ++ symbols_that p ys
 that-append p xs ys =
     ap (map entry_of) (filter-append p xs ys) ∙ map-append entry_of (filter p xs) (filter p ys)
 
--- what the lines of a run add to each list
-record Adds (a : Accepted) (n : Option (List ℕ)) (ss : List SymbolEntry) (g h : SymbolLists) : Type
-    0 where
-  pub built_in : h.built_in.items
-      ≡ g.built_in.items ++ symbols_that (is_built_in a.built_in) (map (line_of n) ss)
-  pub lists : length h.modules.items ≡ length g.modules.items
-  pub each : (j : ℕ) (d : Vec SymbolEntry) (m : PlacedModule) → j < length a.modules
-      → (get_or h.modules.items j d).items ≡ (get_or g.modules.items j d).items
-      ++ symbols_that (belongs (get_or a.modules j m)) (map (line_of n) ss)
-
-Gathers-added : (a : Accepted) (n : Option (List ℕ)) (ss : List SymbolEntry)
-    (xs : List ListedSymbol) (g h : SymbolLists) → Gathers a xs g → Adds a n ss g h
-    → Gathers a (xs ++ map (line_of n) ss) h
-Gathers-added a n ss xs g h before adds =
-    let lines : List ListedSymbol = map (line_of n) ss in
-    record {
-      built_in = adds.built_in
-          ∙ ap (λ es. es ++ symbols_that (is_built_in a.built_in) lines) before.built_in
-          ∙ sym (that-append (is_built_in a.built_in) xs lines);
-      lists = adds.lists ∙ before.lists;
-      each = λ j d m lt. adds.each j d m lt ∙ ap
-          (λ es. es ++ symbols_that (belongs (get_or a.modules j m)) lines) (before.each j d m lt)
-          ∙ sym (that-append (belongs (get_or a.modules j m)) xs lines);
-    }
+-- what the lines of a run add to the list of each module
+record Adds (a : Accepted) (name : List ℕ) (ss : List SymbolEntry)
+    (g h : List GatheredSymbols) : Type 0 where
+  pub lists : length h ≡ length g
+  pub each : (j : ℕ) (d : GatheredSymbols) (m : PlacedModule) → j < length a.modules
+      → gathered_in (get_or h j d) ≡ gathered_in (get_or g j d)
+      ++ symbols_that (belongs (get_or a.modules j m)) (map (line_of (Some name)) ss)
 
 -- a list to which nothing is put
-stays : (p : ListedSymbol → Bool) (n : Option (List ℕ)) (ss es fs : List SymbolEntry)
-    → ((s : SymbolEntry) → p (line_of n s) ≡ false) → fs ≡ es
-    → fs ≡ es ++ symbols_that p (map (line_of n) ss)
-stays p n ss es fs none same =
-    same ∙ sym (append-nil es) ∙ ap (λ xs. es ++ xs) (sym (that_none p n none ss))
+stays : (p : ListedSymbol → Bool) (name : List ℕ) (ss es fs : List SymbolEntry)
+    → ((s : SymbolEntry) → p (line_of (Some name) s) ≡ false) → fs ≡ es
+    → fs ≡ es ++ symbols_that p (map (line_of (Some name)) ss)
+stays p name ss es fs none same =
+    same ∙ sym (append-nil es) ∙ ap (λ xs. es ++ xs) (sym (that_none p (Some name) none ss))
 
 -- one to which the kept ones are put
-grows : (p : ListedSymbol → Bool) (q : SymbolEntry → Bool) (n : Option (List ℕ))
-    (ss es fs : List SymbolEntry) → ((s : SymbolEntry) → p (line_of n s) ≡ q s)
-    → fs ≡ es ++ filter q ss → fs ≡ es ++ symbols_that p (map (line_of n) ss)
-grows p q n ss es fs is more = more ∙ ap (λ xs. es ++ xs) (sym (that_run p q n is ss))
+grows : (p : ListedSymbol → Bool) (q : SymbolEntry → Bool) (name : List ℕ)
+    (ss es fs : List SymbolEntry) → ((s : SymbolEntry) → p (line_of (Some name) s) ≡ q s)
+    → fs ≡ es ++ filter q ss → fs ≡ es ++ symbols_that p (map (line_of (Some name)) ss)
+grows p q name ss es fs is more =
+    more ∙ ap (λ xs. es ++ xs) (sym (that_run p q (Some name) is ss))
 
-abbrev lies : Accepted → Owner → SymbolEntry → Bool
-lies a o s = lies_for a o s.addr
-
-kernel_adds : (a : Accepted) (ss : List SymbolEntry) (g h : SymbolLists)
-    → Keeps owner.BuiltIn (filter (lies a owner.BuiltIn) ss) g h → Adds a None ss g h
-kernel_adds a ss g h keeps = grind (
-  arith,
-  common_steps,
-  nat_tests,
-  grows,
-  stays,
-  grows (is_built_in a.built_in) (lies a owner.BuiltIn) None ss g.built_in.items h.built_in.items,
-)
-
-abbrev owner_at : Option ℕ → Owner
-owner_at o = option_map_or (λ place. owner.Module place) o owner.Nobody
-
-named_adds : (a : Accepted) (name : List ℕ) (o : Option ℕ) (ss : List SymbolEntry)
-    (g h : SymbolLists) → AreDistinctNames (names_of a.modules)
-    → position_from (bytes_eq name) 0 (names_of a.modules) ≡ o
-    → Keeps (owner_at o) (filter (lies a (owner_at o)) ss) g h → Adds a (Some name) ss g h
-named_adds a name None ss g h distinct at keeps = record {
-  built_in = stays (is_built_in a.built_in) (Some name) ss g.built_in.items h.built_in.items
-      (λ s. refl) keeps.0;
-  lists = ap length keeps.1;
-  each = λ j d m lt. stays (belongs (get_or a.modules j m)) (Some name) ss
-      (get_or g.modules.items j d).items (get_or h.modules.items j d).items
+run_adds : (a : Accepted) (name : List ℕ) (o : Option ℕ) (ss : List SymbolEntry)
+    (g h : List GatheredSymbols) → AreDistinctNames (names_of a.modules)
+    → position_from (bytes_eq name) 0 (names_of a.modules) ≡ o → KeepsFor a o ss g h
+    → Adds a name ss g h
+run_adds a name None ss g h distinct at keeps = record {
+  lists = ap length keeps;
+  each = λ j d m lt. stays (belongs (get_or a.modules j m)) name ss (gathered_in (get_or g j d))
+      (gathered_in (get_or h j d))
       (λ s. no_home a (line_of (Some name) s) name refl at j m lt)
-      (ap (λ (ls : List (Vec SymbolEntry)). (get_or ls j d).items) keeps.1);
+      (ap (λ (ls : List GatheredSymbols). gathered_in (get_or ls j d)) keeps);
 }
-named_adds a name (Some k) ss g h distinct at keeps = record {
-  built_in = stays (is_built_in a.built_in) (Some name) ss g.built_in.items h.built_in.items
-      (λ s. refl) keeps.0;
-  lists = keeps.1;
+run_adds a name (Some k) ss g h distinct at keeps = record {
+  lists = (keeps (record { name = []; regions = []; parts = [] })).lists;
   each = λ j d m lt. ⊎_elim
-      (λ same. grows (belongs (get_or a.modules j m)) (lies a (owner.Module k)) (Some name) ss
-      (get_or g.modules.items j d).items (get_or h.modules.items j d).items
+      (λ same. grows (belongs (get_or a.modules j m)) (λ s. lies_in (get_or a.modules k m) s.addr)
+      name ss (gathered_in (get_or g j d)) (gathered_in (get_or h j d))
       (λ s. ap (λ (i : ℕ). belongs (get_or a.modules i m) (line_of (Some name) s)) same
       ∙ belongs_there a name k at m s)
-      (ap (λ (i : ℕ). (get_or h.modules.items i d).items) same ∙ keeps.2 d ∙ ap (λ (i : ℕ).
-      (get_or g.modules.items i d).items ++ filter (lies a (owner.Module k)) ss) (sym same)))
-      (λ other. stays (belongs (get_or a.modules j m)) (Some name) ss
-      (get_or g.modules.items j d).items (get_or h.modules.items j d).items
+      (ap (λ (i : ℕ). gathered_in (get_or h i d)) same ∙ (keeps m).put d ∙ ap (λ (i : ℕ).
+      gathered_in (get_or g i d) ++ kept_by (get_or a.modules k m) ss) (sym same)))
+      (λ other. stays (belongs (get_or a.modules j m)) name ss (gathered_in (get_or g j d))
+      (gathered_in (get_or h j d))
       (λ s. only_home a (line_of (Some name) s) name k distinct refl at j m lt other)
-      (ap (λ (v : Vec SymbolEntry). v.items) (keeps.3 j d other)))
+      (ap gathered_in ((keeps m).others j d other)))
       (cases_eq j k);
 }
 
-run_adds : (a : Accepted) (n : Option (List ℕ)) (ss : List SymbolEntry) (g h : SymbolLists)
-    → AreDistinctNames (names_of a.modules)
-    → Keeps (owner_for a n) (filter (lies a (owner_for a n)) ss) g h → Adds a n ss g h
-run_adds a None ss g h distinct keeps = kernel_adds a ss g h keeps
-run_adds a (Some name) ss g h distinct keeps = named_adds a name
-    (position_from (bytes_eq name) 0 (names_of a.modules)) ss g h distinct refl keeps
+-- one run more
+pub Gathers-run : (a : Accepted) (runs : List SharedRun) (r : SharedRun)
+    (g h : List GatheredSymbols) → AreDistinctNames (names_of a.modules)
+    → Gathers a (lines_of_shared runs) (map gathered_in g) → KeepsRun a r g h
+    → Gathers a (lines_of_shared (runs ++ r ∷ [])) (map gathered_in h)
+Gathers-run a runs r g h distinct before keeps =
+    let adds = run_adds a r.module.now
+    (position_from (bytes_eq r.module.now) 0 (names_of a.modules)) r.symbols g h distinct refl
+    keeps in
+    let same : length g ≡ length a.modules = sym (length-map g gathered_in) ∙ before.lists in
+    record {
+      lists = length-map h gathered_in ∙ adds.lists ∙ same;
+      each = λ j d m lt.
+          get_or-map gathered_in h j Nothing d (omega (arith, adds.lists, same))
+          ∙ adds.each j Nothing m lt
+          ∙ ap (λ es. es ++ symbols_that (belongs (get_or a.modules j m)) (lines_of_one r))
+          (sym (get_or-map gathered_in g j Nothing d (omega (arith, same)))
+          ∙ before.each j d m lt)
+          ∙ sym (that-append (belongs (get_or a.modules j m)) (lines_of_shared runs)
+          (lines_of_one r))
+          ∙ ap (symbols_that (belongs (get_or a.modules j m)))
+          (sym (flat_map-append lines_of_one runs (r ∷ [])
+          ∙ ap (λ ls. lines_of_shared runs ++ ls) (append-nil (lines_of_one r))));
+    }
 
-pub Gathers-run : (a : Accepted) (xs : List ListedSymbol) (r : Run) (g h : SymbolLists)
-    → AreDistinctNames (names_of a.modules) → Gathers a xs g → KeepsRun a r g h
-    → Gathers a (xs ++ lines_of_run r) h
-Gathers-run a xs r g h distinct before keeps =
-    Gathers-added a (option_copied r.module) r.symbols.items xs g h before
-    (run_adds a (option_copied r.module) r.symbols.items g h distinct keeps)
+-- the list at a place is written again
+pub kept_at : (a : Accepted) (k : ℕ) (ss : List SymbolEntry) (g : List GatheredSymbols)
+    (before new : GatheredSymbols) (owner : PlacedModule) → k < length g
+    → k < length a.modules → before ≡ get_or g k before → owner ≡ get_or a.modules k owner
+    → gathered_in new ≡ gathered_in before ++ kept_by owner ss
+    → KeepsFor a (Some k) ss g (set g k new)
+kept_at a k ss g before new owner within there was is put m = record {
+  lists = length-set g k new;
+  put = λ d. ap gathered_in (get_or-set_at g k k new d refl within)
+      ∙ put
+      ∙ ap (λ (x : GatheredSymbols). gathered_in x ++ kept_by owner ss)
+      (was ∙ get_or_default g k before d within)
+      ∙ ap (λ (o : PlacedModule). gathered_in (get_or g k d) ++ kept_by o ss)
+      (is ∙ get_or_default a.modules k owner m there);
+  others = λ j d other. get_or-set_other g k j new d other;
+}
 
--- an owner has a list
-room_at : (a : Accepted) (name : List ℕ) (o : Option ℕ) (g : SymbolLists)
-    → length g.modules.items ≡ length a.modules
-    → position_from (bytes_eq name) 0 (names_of a.modules) ≡ o → HasRoom g (owner_at o)
-room_at a name o g lists at = grind (arith, place_within)
+-- no lines leave nothing
+pub Gathers-nothing : (a : Accepted) (g : List GatheredSymbols) → length g ≡ length a.modules
+    → All (λ x. gathered_in x ≡ []) g → Gathers a [] (map gathered_in g)
+Gathers-nothing a g same none = record {
+  lists = length-map g gathered_in ∙ same;
+  each = λ j d m lt. get_or-map gathered_in g j Nothing d (omega (arith, same))
+      ∙ none j Nothing (omega (arith, same));
+}
 
-room_for : (a : Accepted) (n : Option (List ℕ)) (g : SymbolLists)
-    → length g.modules.items ≡ length a.modules → HasRoom g (owner_for a n)
-room_for a None g lists = tt
-room_for a (Some name) g lists =
-    room_at a name (position_from (bytes_eq name) 0 (names_of a.modules)) g lists refl
+-- the module of a name has a list
+pub room_for : (a : Accepted) (name : List ℕ) (k : ℕ) (g : List GatheredSymbols)
+    → length g ≡ length a.modules
+    → position_from (bytes_eq name) 0 (names_of a.modules) ≡ Some k → k < length g
+room_for a name k g same at = grind (arith, place_within)
 
-pub room_of : (a : Accepted) (m : Option (Bor (List ℕ))) (g : SymbolLists) (o : Owner)
-    → o ≡ owner_for a (option_copied m) → length g.modules.items ≡ length a.modules → HasRoom g o
-room_of a m g o is lists = rw is (room_for a (option_copied m) g lists)
+belongs_owned : (o : Option (List ℕ)) (name : List ℕ) (b : Bool)
+    → (option_map_or (λ n. bytes_eq n name) o false && b) ≡ true → is_some o ≡ true
+belongs_owned None name b h = absurd (cc)
+belongs_owned (Some n) name b h = refl
+
+-- the lines of modules leave what all lines do
+pub gathered_all : (a : Accepted) (lines : List ListedSymbol) (g : List (List SymbolEntry))
+    → Gathers a (module_lines lines) g → Gathers a lines g
+gathered_all a lines g gathers = record {
+  lists = gathers.lists;
+  each = λ j d m lt. gathers.each j d m lt
+      ∙ ap (map entry_of) (filter_within (λ (l : ListedSymbol). is_some l.owner)
+      (belongs (get_or a.modules j m)) (λ l passes. belongs_owned l.owner
+      (get_or a.modules j m).name (lies_in (get_or a.modules j m) l.addr) passes) lines);
+}

@@ -9,6 +9,9 @@ pub mod IndexLemmas
 pub mod OrderedLemmas
 pub mod RisingLemmas
 pub mod RunLemmas
+pub mod FilterLemmas
+pub mod ListingPartLemmas
+pub mod SharedRunLemmas
 pub mod GatheringLemmas
 pub mod SoundnessLemmas
 pub mod AbsentLemmas

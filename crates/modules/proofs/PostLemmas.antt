@@ -20,9 +20,12 @@ use Rattle.modules.proofs.Definitions.{IsNextMark, Owns, goes_on, is_in_page, is
 use Rattle.modules.proofs.Definitions.{is_next_line, is_of_one_module, is_outside}
 use Rattle.modules.proofs.Definitions.{module_of_address, post_above, post_below, posts, reach}
 use Rattle.modules.proofs.Definitions.{holds, lies_in_any, Mark}
-use Rattle.modules.proofs.GatheringLemmas.{not_built_in}
 use Rattle.modules.proofs.MarkOrderLemmas.{first_found, found_first, is_at}
 use Rattle.modules.proofs.SpacedLemmas.{is_of, named, inside, within}
+
+not_built_in : (built_in : List (ℕ × ℕ)) (s : ListedSymbol) (name : List ℕ)
+    → s.owner ≡ Some name → is_built_in built_in s ≡ false
+not_built_in built_in s name owner = rw owner
 
 -- ---- what passes a test
 

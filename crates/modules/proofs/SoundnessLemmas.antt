@@ -141,14 +141,20 @@ pub all_placed : (regions : List ListedRegion) (modules : List ListedModule)
 all_placed regions modules fit regions_fit = All-map IsPlaced (placed_line regions) modules
     (λ k d lt. IsPlaced-placed regions (get_or modules k d) (fit k d lt) regions_fit)
 
+pub accepted_beside : (kernel : List (ℕ × ℕ)) (modules : List ListedModule)
+    (regions : List ListedRegion) → AreApart kernel → All (λ l. fits l ≡ true) modules
+    → All (λ l. region_fits l ≡ true) regions → AreSoundModules (accepted_of kernel regions modules)
+accepted_beside kernel modules regions apart fit regions_fit = AreSoundModules-fold
+    (none_yet kernel) (map (placed_line regions) modules) (AreSoundModules-none kernel apart)
+    (all_placed regions modules fit regions_fit)
+
 pub accepted_good : (names : Option BoundNames) (modules : List ListedModule)
     (regions : List ListedRegion) (symbols : List ListedSymbol) → All (λ l. fits l ≡ true) modules
     → All (λ l. region_fits l ≡ true) regions
     → AreSoundModules (accepted_of (kernel_regions names symbols) regions modules)
-accepted_good names modules regions symbols fit regions_fit = AreSoundModules-fold
-    (none_yet (kernel_regions names symbols)) (map (placed_line regions) modules)
-    (AreSoundModules-none (kernel_regions names symbols) (kernel_apart names symbols))
-    (all_placed regions modules fit regions_fit)
+accepted_good names modules regions symbols fit regions_fit =
+    accepted_beside (kernel_regions names symbols) modules regions (kernel_apart names symbols) fit
+    regions_fit
 
 -- ---- of the catalog
 

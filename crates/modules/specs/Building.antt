@@ -1,7 +1,6 @@
 -- Modules made of their places and lists of symbols.
 use Rattle.std.specs.Prelude.{◌≡◌, ℕ, ◌<◌, List, [], ◌∷◌, length, map, slice_index_or}
 use Rattle.std.specs.Prelude.{codes, Option, Some, None}
-use Rattle.std.specs.Global.{Vec}
 use Rattle.modules.specs.Entries.{ModuleEntry, SymbolEntry}
 use Rattle.modules.specs.Placed.{PlacedModule}
 use Rattle.modules.specs.declared.lines.Part.TheVariants.{Core}
@@ -30,13 +29,13 @@ built_in_with [] symbols = None
 built_in_with (r ∷ rs) symbols = Some (module_with (kernel_at (r ∷ rs)) symbols)
 
 -- for each list the module at its place, with the list
-abbrev pub EachMade : List PlacedModule → List (Vec SymbolEntry) → List ModuleEntry → Type 0
-EachMade places lists modules = (j : ℕ) (p : PlacedModule) (d : Vec SymbolEntry) (m : ModuleEntry)
+abbrev pub EachMade : List PlacedModule → List (List SymbolEntry) → List ModuleEntry → Type 0
+EachMade places lists modules = (j : ℕ) (p : PlacedModule) (d : List SymbolEntry) (m : ModuleEntry)
     → j < length lists
     → slice_index_or modules j m
-    ≡ module_with (slice_index_or places j p) (slice_index_or lists j d).items
+    ≡ module_with (slice_index_or places j p) (slice_index_or lists j d)
 
-pub record AreModules (places : List PlacedModule) (lists : List (Vec SymbolEntry))
+pub record AreModules (places : List PlacedModule) (lists : List (List SymbolEntry))
     (modules : List ModuleEntry) : Type 0 where
   pub same : length modules ≡ length lists
   pub each : EachMade places lists modules

@@ -33,6 +33,8 @@ pub mod Found
 pub mod Owners
 -- the modules of such a listing, and their regions
 pub mod FromSymbols
+-- a listing of symbols in the parts that catalogs share, and what a change makes of it
+pub mod ListingParts
 -- the first addresses of a module's regions, by their parts
 pub mod Starts
 -- what a load, an unload, and the end of a module's start change
@@ -54,6 +56,8 @@ pub mod LineMarks
 pub mod FoundNames
 -- lines of symbols that have the name of their module by the number of a run
 pub mod Runs
+-- the lines of modules in runs that catalogs share
+pub mod SharedRuns
 -- what has a name, in the order of names
 pub mod ByName
 -- the region lines by name
@@ -66,6 +70,8 @@ pub mod Admissions
 pub mod Gathering
 -- symbols by rising address
 pub mod Index
+-- what a table of symbols keeps
+pub mod SymbolTables
 -- what a module holds
 pub mod Modules
 -- what a catalog keeps

@@ -12,7 +12,6 @@ use Rattle.order_laws.specs.Tables.{look}
 use Rattle.modules.specs.Entries.{SymbolEntry}
 use Rattle.modules.specs.Listed.{ListedSymbol}
 use Rattle.modules.specs.MarkedModules.{numbered_module, ranges_of}
-use Rattle.modules.specs.Names.{with_name}
 use Rattle.modules.specs.Owners.{is_outside}
 use Rattle.modules.specs.Placed.{PlacedModule}
 use Rattle.modules.specs.Regions.{lies_in_any}
@@ -54,10 +53,6 @@ is_free kernel addr = not (lies_in_any kernel addr) && nat_lt addr (2 ^ 64 - 1)
 abbrev pub symbol_marks : List (ℕ × ℕ) → ℕ → List SymbolEntry → List Mark
 symbol_marks kernel owner symbols =
     map (λ s. record { addr = s.addr; owner = owner }) (filter (λ s. is_free kernel s.addr) symbols)
-
--- the names with the owner's after them, if it is not among them
-abbrev pub with_owner : List (List ℕ) → Option (List ℕ) → List (List ℕ)
-with_owner names owner = option_map_or (with_name names) owner names
 
 -- the region has an address, and a line without a module is at its first
 abbrev pub HasFirstLine : List ListedSymbol → ℕ × ℕ → Type 0

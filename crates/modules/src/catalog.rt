@@ -3,18 +3,16 @@
 ghost use Rattle.std.specs.Prelude.{◌≡◌, ◌↔◌, IsTrue, true, All, length, IfOk};
 ghost use Rattle.std.specs.Prelude.{IfErr};
 ghost use Rattle.std.specs.Option.{option_copied};
-ghost use Rattle.modules.specs.Accepted.{Accepted};
 ghost use Rattle.modules.specs.Lines.{fits, region_fits};
-ghost use Rattle.modules.specs.Catalogs.{catalog_of, catalog_with, counts_of, IsBuildRefusal};
-ghost use Rattle.modules.specs.Catalogs.{build_of_listed, kept_counts, module_of};
+ghost use Rattle.modules.specs.Catalogs.{catalog_of, counts_of, IsBuildRefusal};
+ghost use Rattle.modules.specs.Catalogs.{build_of_listed, module_of};
 ghost use Rattle.modules.specs.Catalogs.{module_number_of, number_for, regions_of, IsNoneAbsent};
 ghost use Rattle.modules.specs.Catalogs.{IsSoundCatalog};
-ghost use Rattle.modules.specs.FromSymbols.{IsFromSymbols};
 ghost use Rattle.modules.specs.Loads.{drop_init_of, GivesOrLacksMemory, GivesSome, load_of};
 ghost use Rattle.modules.specs.Loads.{unload_of};
 ghost use Rattle.modules.specs.Placed.{are_few};
 
-use crate::build::{assemble, assemble_symbols};
+use crate::build::assemble;
 use crate::expected_lookups::ExpectedLookups;
 use crate::lines::{KernelBounds, ModuleLine, RegionLine};
 use crate::loads::{inserting, is_inserting};
@@ -23,7 +21,7 @@ use crate::names::Names;
 use crate::placing::RegionLines;
 use crate::symbol_lines::SymbolLines;
 use order_laws::Refusal;
-use std::alloc::{AllocError, Global};
+use std::alloc::Global;
 use std::marker::Model;
 use table_updates::Update;
 
@@ -140,35 +138,6 @@ impl<'a> Catalog<'a> {
             return Err(Refusal::TooManyRegions);
         }
         Ok(assemble(alloc, names, modules, &regions, symbols, expected)?)
-    }
-
-    /// Builds the catalog of a listing of symbols alone.
-    ///
-    /// The kernel's region is between the two symbols of `names`, or else its regions are the usual
-    /// ones ([`SymbolLines::kernel_regions`]). The lines that count are the lines without a module
-    /// inside of them, and the lines of modules outside of them and below the greatest address. Of
-    /// the nearest of these lines at or below an address the first listed is asked: if it is a
-    /// module's, the address is that module's if it lies in the page of the line, or if the first
-    /// listed of the nearest lines above is this module's, too, and less than 1048576 above the
-    /// line. The regions of a module are the longest runs of addresses that are its own, by rising
-    /// address, all of its core.
-    ///
-    /// A line of a module is kept if its own address is its module's, and one without a module
-    /// if it lies in a region of the kernel; the rest are stray. The modules are those that have
-    /// a kept line, in the order of their first ones.
-    ///
-    /// Refused only when out of memory.
-    pub fn from_symbols(
-        alloc: Global,
-        names: Option<&KernelBounds>,
-        symbols: SymbolLines<'a>,
-        expected: ExpectedLookups<'_>,
-    ) -> Result<(Catalog<'a>, BuildCounts), AllocError>
-        ensures built { IfOk result (λ r. (a : Accepted)
-            × IsFromSymbols (option_copied names.entry) symbols.entry a
-            × (r.0 ≡ catalog_with a symbols.entry) × (r.1 ≡ kept_counts a symbols.entry)) }
-    {
-        assemble_symbols(alloc, names, symbols, expected)
     }
 
     /// The module of a number.

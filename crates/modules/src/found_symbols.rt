@@ -41,7 +41,7 @@ pub fn symbol_in<'c, 'a>(
     requires below { addr < end }
     ensures { result ≡ found_in (symbols_from owner.now.symbols start end) end addr }
 {
-    symbol_around(owner, owner.place_of(addr), start, end, addr)
+    symbol_around(owner, owner.table().place_of(addr), start, end, addr)
 }
 
 /// As [`symbol_in`]. The place `near` by rising address is tried first.
@@ -58,7 +58,7 @@ pub(crate) fn symbol_around<'c, 'a>(
     requires below { addr < end }
     ensures { result ≡ found_in (symbols_from owner.now.symbols start end) end addr }
 {
-    let (below, above) = owner.around_near(near, addr);
+    let (below, above) = owner.table().around_near(near, addr);
     let symbol = below?;
     if symbol.addr < start {
         return None;

@@ -10,13 +10,13 @@
 //! modules: ext4, nfs                                  no line of bpf is kept
 //! ```
 
-ghost use Rattle.std.specs.Prelude.{◌≡◌, ◌<◌, ◌≤◌, ◌-◌, ◌^◌, [], All, IfOk, length, Option};
+ghost use Rattle.std.specs.Prelude.{◌≡◌, ◌<◌, ◌≤◌, ◌-◌, ◌^◌, [], All, IfOk, length, List, Option};
 ghost use Rattle.std.specs.List.{flat_map};
 ghost use Rattle.modules.specs.Accepted.{accepted_with};
 ghost use Rattle.modules.specs.FromSymbols.{IsFromSymbols};
 ghost use Rattle.modules.specs.LineMarks.{AreLeft, is_kept_mark, kept_numbers, modules_numbered};
-ghost use Rattle.modules.specs.Lines.{kernel_regions};
-ghost use Rattle.modules.specs.Listed.{BoundNames};
+ghost use Rattle.modules.specs.Listed.{BoundNames, ListedSymbol};
+ghost use Rattle.modules.specs.ListingParts.{parts_of};
 ghost use Rattle.modules.specs.Marks.{AreLaid};
 
 use crate::gathering::empty_lists;
@@ -25,7 +25,7 @@ use crate::marks::{Mark, region_at, regions_of_marks};
 use crate::names::Names;
 use crate::placing::PlacedModule;
 use crate::regions::Region;
-use crate::symbol_lines::SymbolLines;
+use crate::shared_listings::SharedListing;
 use order_laws::Item;
 use std::alloc::{AllocError, Global};
 use std::mem;
@@ -86,18 +86,16 @@ fn modules_in_order<'a>(
 /// The modules that the lines have, in the order of their first kept lines.
 pub(crate) fn modules_of<'a>(
     alloc: Global,
-    kernel: &[Region],
-    lines: &SymbolLines<'a>,
+    listing: &SharedListing<'a>,
 ) -> Result<Vec<PlacedModule<'a>>, AllocError>
-    ensures found { IfOk result (λ v. (names : Option BoundNames)
-        → kernel.now ≡ kernel_regions names lines.now
-        → IsFromSymbols names lines.now (accepted_with kernel.now v.items)) }
+    ensures found { IfOk result (λ v. (names : Option BoundNames) (lines : List ListedSymbol)
+        → listing.now ≡ parts_of names lines
+        → IsFromSymbols names lines (accepted_with listing.now.kernel v.items)) }
     ensures few { IfOk result
         (λ v. length (flat_map (λ m. m.regions) v.items) < 2 ^ 64 - 2) }
 {
-    let runs = lines.runs.as_slice();
-    let numbers = Names::of_runs(alloc, runs, &lines.last)?;
-    let marks = marks_of(alloc, kernel, runs, &lines.last, &numbers)?;
+    let numbers = Names::of_runs(alloc, &listing.runs)?;
+    let marks = marks_of(alloc, &listing.kernel, &listing.runs, &numbers)?;
     let items = regions_of_marks(alloc, Vec::from_slice(alloc, marks.as_slice())?)?;
     modules_in_order(alloc, &numbers, marks.as_slice(), items.as_slice())
 }

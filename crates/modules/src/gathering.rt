@@ -4,47 +4,41 @@
 //! address lies in a region of its run's module, and is stray otherwise:
 //!
 //! ```text
-//! runs:    none     "ext4"     "bpf"
-//! owners:  BuiltIn  Module(0)  Nobody
-//! lines:   in, out  in, out    any
-//! kept:    in       in
+//! runs:    "ext4"     "nfs"      "bpf"
+//! module:  place 0    place 1    none
+//! lines:   in, out    in, in     any
+//! kept:    in         in, in
+//! tables:  a new one  the run's
 //! ```
 //!
-//! The strays are taken out of the list of a run, and the first list of a module becomes the
-//! module's own; so no symbol is copied if the lines of each module lie side by side.
+//! A module whose one run is kept whole shares the table of the run; so no symbol is copied if the
+//! lines of each module lie side by side and none is stray.
 
-ghost use Rattle.std.specs.Prelude.{◌≡◌, ◌++◌, ◌∷◌, [], All, IfOk, OnOk, filter, length};
-ghost use Rattle.std.specs.Option.{option_copied};
+ghost use Rattle.std.specs.Prelude.{◌≡◌, ◌++◌, [], All, IfOk, OnOk, length, map, true};
+ghost use Rattle.std.specs.List.{list_all};
 ghost use Rattle.modules.specs.Accepted.{names_of};
-ghost use Rattle.modules.specs.Kept.{AreDistinctNames};
-ghost use Rattle.modules.specs.Gathering.{owner_for, lies_for, HasRoom, Keeps};
-ghost use Rattle.modules.specs.Gathering.{KeepsRun, Gathers};
-ghost use Rattle.modules.specs.Runs.{lines_of_all};
+ghost use Rattle.modules.specs.Gathering.{gathered_in, Gathers, kept_by, KeepsRun};
+ghost use Rattle.modules.specs.Kept.{AreDistinctNames, lies_in};
+ghost use Rattle.modules.specs.SharedRuns.{lines_of_shared};
 
+use crate::expected_lookups::ExpectedLookups;
 use crate::placed_modules::PlacedModules;
-use crate::placing::lies_in_any;
-use crate::symbol_lines::{Run, SymbolLines};
+use crate::placing::PlacedModule;
+use crate::shared_listings::SharedRun;
+use crate::symbol_tables::SharedSymbols;
 use crate::symbols::Symbol;
 use std::alloc::{AllocError, Global};
+use std::mem;
 
-/// Whose symbols the lines of a run are.
-#[derive(Clone, Copy, Debug, Drop)]
-enum Owner {
-    /// The symbols of the kernel itself.
-    BuiltIn,
-    /// The symbols of the module at this place among the accepted modules.
-    Module(usize),
-    /// The symbols of a module that was not accepted.
-    Nobody,
-}
-
-/// The symbols kept so far, in the order listed.
+/// The symbols of a module that are kept so far, in the order listed.
 #[derive(Drop)]
-pub(crate) struct SymbolLists<'a> {
-    /// The symbols of the kernel itself.
-    pub(crate) built_in: Vec<Symbol<'a>>,
-    /// The symbols of the accepted modules, by place.
-    pub(crate) modules: Vec<Vec<Symbol<'a>>>,
+pub(crate) enum GatheredSymbols<'a> {
+    /// No symbols.
+    Nothing,
+    /// The table of a run.
+    Run(SharedSymbols<'a>),
+    /// Copies of several runs' symbols, or of a part of them.
+    Copies(Vec<Symbol<'a>>),
 }
 
 /// `count` lists with nothing in them.
@@ -59,115 +53,170 @@ pub(crate) fn empty_lists<T: Drop>(alloc: Global, count: usize) -> Result<Vec<Ve
     Ok(lists)
 }
 
-impl<'a> SymbolLists<'a> {
-    /// Puts symbols after the others of their owner.
-    fn put(&mut self, owner: Owner, symbols: Vec<Symbol<'a>>) -> Result<(), AllocError>
-        requires room { HasRoom self.old owner }
-        ensures { OnOk result (Keeps owner symbols.entry.items self.old self.new) }
+/// Nothing for each of so many modules.
+fn nothing_for<'a>(alloc: Global, count: usize) -> Result<Vec<GatheredSymbols<'a>>, AllocError>
+    ensures { IfOk result
+        (λ v. (length v.items ≡ count) × All (λ g. gathered_in g ≡ []) v.items) }
+{
+    let mut lists = Vec::with_capacity(alloc, count)?;
+    for _ in 0..count {
+        lists.push(GatheredSymbols::Nothing)?;
+    }
+    Ok(lists)
+}
+
+/// Whether all symbols lie in the module's regions.
+fn are_kept(owner: &PlacedModule, symbols: &[Symbol]) -> bool
+    ensures { result ≡ list_all (λ s. lies_in owner.now s.addr) symbols.now }
+{
+    symbols.iter().all(|symbol| owner.lies_at(symbol.addr))
+}
+
+/// Puts copies of the symbols that lie in the module's regions after others.
+fn push_kept<'a>(
+    list: &mut Vec<Symbol<'a>>,
+    owner: &PlacedModule,
+    symbols: &[Symbol<'a>],
+) -> Result<(), AllocError>
+    ensures { OnOk result
+        (list.new.items ≡ list.old.items ++ kept_by owner.now symbols.now) }
+{
+    for symbol in symbols {
+        if owner.lies_at(symbol.addr) {
+            list.push(symbol.copied())?;
+        }
+    }
+    Ok(())
+}
+
+/// Puts copies of symbols after others.
+fn push_copies<'a>(list: &mut Vec<Symbol<'a>>, symbols: &[Symbol<'a>]) -> Result<(), AllocError>
+    ensures { OnOk result (list.new.items ≡ list.old.items ++ symbols.now) }
+{
+    for symbol in symbols {
+        list.push(symbol.copied())?;
+    }
+    Ok(())
+}
+
+impl<'a> GatheredSymbols<'a> {
+    /// Whether there are no symbols yet.
+    fn is_nothing(&self) -> bool
+        ensures { result ≡ true → gathered_in self.now ≡ [] }
     {
-        match owner {
-            Owner::BuiltIn => join(&mut self.built_in, symbols),
-            Owner::Module(place) => {
-                let list = &mut self.modules[place];
-                join(list, symbols)
+        matches!(self, GatheredSymbols::Nothing)
+    }
+
+    /// The symbols in a list that may grow.
+    fn into_list(self, alloc: Global) -> Result<Vec<Symbol<'a>>, AllocError>
+        ensures { IfOk result (λ v. v.items ≡ gathered_in self.entry) }
+    {
+        match self {
+            GatheredSymbols::Nothing => Ok(Vec::new(alloc)),
+            GatheredSymbols::Run(symbols) => {
+                let mut list = Vec::new(alloc);
+                push_copies(&mut list, symbols.table().as_slice())?;
+                Ok(list)
             }
-            Owner::Nobody => Ok(()),
+            GatheredSymbols::Copies(list) => Ok(list),
         }
     }
 
-    /// Goes through the lines of a run.
-    fn keep_run(&mut self, placed: &PlacedModules, run: Run<'a>) -> Result<(), AllocError>
-        requires { length self.old.modules.items ≡ length placed.now.modules }
-        ensures { OnOk result (KeepsRun placed.now run.entry self.old self.new) }
+    /// The symbols as a module has them.
+    fn into_table(
+        self,
+        alloc: Global,
+        expected: ExpectedLookups<'_>,
+    ) -> Result<SharedSymbols<'a>, AllocError>
+        ensures { IfOk result (λ s. s ≡ gathered_in self.entry) }
     {
-        let owner = owner_of(placed, run.module);
-        self.put(owner, without_strays(placed, owner, run.symbols))
+        match self {
+            GatheredSymbols::Nothing => SharedSymbols::new(alloc, Vec::new(alloc), expected),
+            GatheredSymbols::Run(symbols) => Ok(symbols),
+            GatheredSymbols::Copies(list) => SharedSymbols::new(alloc, list, expected),
+        }
+    }
+
+    /// Puts the symbols of a run that the module keeps after these.
+    fn put(
+        &mut self,
+        alloc: Global,
+        owner: &PlacedModule,
+        symbols: &SharedSymbols<'a>,
+    ) -> Result<(), AllocError>
+        ensures { OnOk result
+            (gathered_in self.new ≡ gathered_in self.old ++ kept_by owner.now symbols.now) }
+    {
+        let listed = symbols.table().as_slice();
+        if self.is_nothing() && are_kept(owner, listed) {
+            *self = GatheredSymbols::Run(symbols.share()?);
+            return Ok(());
+        }
+        let mut list = mem::replace(self, GatheredSymbols::Nothing).into_list(alloc)?;
+        push_kept(&mut list, owner, listed)?;
+        *self = GatheredSymbols::Copies(list);
+        Ok(())
     }
 }
 
-/// Puts symbols after others. If there are no others, the list is taken over as it is.
-fn join<'a>(list: &mut Vec<Symbol<'a>>, symbols: Vec<Symbol<'a>>) -> Result<(), AllocError>
-    ensures { OnOk result (list.new.items ≡ list.old.items ++ symbols.entry.items) }
-{
-    if list.is_empty() {
-        *list = symbols;
-        return Ok(());
-    }
-    let mut symbols = symbols;
-    list.append(&mut symbols)
-}
-
-/// Whose symbols the lines of a module of this name are.
-fn owner_of(placed: &PlacedModules, name: Option<&[u8]>) -> Owner
-    ensures { result ≡ owner_for placed.now (option_copied name.entry) }
-{
-    let Some(name) = name else {
-        return Owner::BuiltIn;
-    };
-    match placed.place_of(name) {
-        Some(place) => Owner::Module(place),
-        None => Owner::Nobody,
-    }
-}
-
-/// Whether a symbol of this owner is kept at this address.
-fn lies_at(placed: &PlacedModules, owner: Owner, addr: u64) -> bool
-    ensures { result ≡ lies_for placed.now owner addr }
-{
-    match owner {
-        Owner::BuiltIn => lies_in_any(placed.built_in.as_slice(), addr),
-        Owner::Module(place) => match placed.modules.get(place) {
-            Some(module) => module.lies_at(addr),
-            None => false,
-        },
-        Owner::Nobody => false,
-    }
-}
-
-/// The symbols of this owner that are kept.
-fn without_strays<'a>(
+/// Goes through the lines of a run.
+fn keep_run<'a>(
+    alloc: Global,
+    lists: &mut Vec<GatheredSymbols<'a>>,
     placed: &PlacedModules,
-    owner: Owner,
-    symbols: Vec<Symbol<'a>>,
-) -> Vec<Symbol<'a>>
-    ensures { result.items ≡ filter (λ s. lies_for placed.now owner s.addr) symbols.entry.items }
+    run: &SharedRun<'a>,
+) -> Result<(), AllocError>
+    requires { length lists.old.items ≡ length placed.now.modules }
+    ensures { OnOk result (KeepsRun placed.now run.now lists.old.items lists.new.items) }
 {
-    let mut kept = symbols;
-    kept.retain(|symbol| lies_at(placed, owner, symbol.addr));
-    kept
+    match placed.place_of(run.module) {
+        Some(place) => lists[place].put(alloc, &placed.modules[place], &run.symbols),
+        None => Ok(()),
+    }
 }
 
 /// Goes through the lines of runs in their order.
 fn gather_runs<'a>(
     alloc: Global,
     placed: &PlacedModules,
-    runs: Vec<Run<'a>>,
-    last: Run<'a>,
-) -> Result<SymbolLists<'a>, AllocError>
+    runs: &[SharedRun<'a>],
+) -> Result<Vec<GatheredSymbols<'a>>, AllocError>
     requires { AreDistinctNames (names_of placed.now.modules) }
     ensures { IfOk result
-        (Gathers placed.now (lines_of_all (runs.entry.items ++ last.entry ∷ []))) }
+        (λ v. Gathers placed.now (lines_of_shared runs.now) (map gathered_in v.items)) }
 {
-    let mut gathered = SymbolLists {
-        built_in: Vec::new(alloc),
-        modules: empty_lists(alloc, placed.len())?,
-    };
+    let mut lists = nothing_for(alloc, placed.len())?;
     for run in runs {
-        gathered.keep_run(placed, run)?;
+        keep_run(alloc, &mut lists, placed, run)?;
     }
-    gathered.keep_run(placed, last)?;
-    Ok(gathered)
+    Ok(lists)
 }
 
-/// Goes through the lines of a listing in their order.
+/// Makes a table of each list.
+fn tables_of<'a>(
+    alloc: Global,
+    lists: Vec<GatheredSymbols<'a>>,
+    expected: ExpectedLookups<'_>,
+) -> Result<Vec<SharedSymbols<'a>>, AllocError>
+    ensures { IfOk result (λ v. v.items ≡ map gathered_in lists.entry.items) }
+{
+    let mut tables = Vec::with_capacity(alloc, lists.len())?;
+    for list in lists {
+        tables.push(list.into_table(alloc, expected)?)?;
+    }
+    Ok(tables)
+}
+
+/// The symbols of each module that are kept, by the lines of runs.
 pub(crate) fn gather<'a>(
     alloc: Global,
     placed: &PlacedModules,
-    symbols: SymbolLines<'a>,
-) -> Result<SymbolLists<'a>, AllocError>
+    runs: &[SharedRun<'a>],
+    expected: ExpectedLookups<'_>,
+) -> Result<Vec<SharedSymbols<'a>>, AllocError>
     requires { AreDistinctNames (names_of placed.now.modules) }
-    ensures { IfOk result (Gathers placed.now symbols.entry) }
+    ensures { IfOk result (λ v. Gathers placed.now (lines_of_shared runs.now) v.items) }
 {
-    let SymbolLines { runs, last, .. } = symbols;
-    gather_runs(alloc, placed, runs, last)
+    let lists = gather_runs(alloc, placed, runs)?;
+    tables_of(alloc, lists, expected)
 }

@@ -67,7 +67,9 @@ fn begin_all(guesses: &mut [Guess], catalog: &IndexedCatalog, addrs: &[u64]) {
     for (guess, addr) in guesses.iter_mut().zip(addrs) {
         let region = catalog.region_near(last.region, *addr);
         last.go_to(catalog, region);
-        let place = last.module.map_or(0, |module| module.start_of(*addr));
+        let place = last
+            .module
+            .map_or(0, |module| module.table().start_of(*addr));
         *guess = Guess { region, place };
     }
 }
@@ -80,7 +82,7 @@ fn step_all(guesses: &mut [Guess], catalog: &IndexedCatalog, addrs: &[u64]) {
         let from = guess.place;
         guess.place = last
             .module
-            .map_or(0, |module| module.place_from(from, *addr));
+            .map_or(0, |module| module.table().place_from(from, *addr));
     }
 }
 
@@ -89,7 +91,7 @@ fn guess_near(catalog: &IndexedCatalog, region: usize, addr: u64) -> Guess {
     let region = catalog.region_near(region, addr);
     let place = catalog
         .module_at(region)
-        .map_or(0, |module| module.place_of(addr));
+        .map_or(0, |module| module.table().place_of(addr));
     Guess { region, place }
 }
 
@@ -159,12 +161,12 @@ impl Guesses {
         let place = self.taken;
         self.pass();
         if self.rising {
-            self.last.place = module.next_place(self.last.place, addr);
+            self.last.place = module.table().next_place(self.last.place, addr);
             return self.last.place;
         }
         match self.all.get(place) {
             Some(guess) => guess.place,
-            None => module.place_of(addr),
+            None => module.table().place_of(addr),
         }
     }
 }

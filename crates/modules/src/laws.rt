@@ -11,6 +11,7 @@ ghost use Rattle.modules.specs.FromSymbols.{HasItsRegions, is_kept_line, IsFromS
 ghost use Rattle.modules.specs.Kept.{belongs};
 ghost use Rattle.modules.specs.Lines.{fits, region_fits};
 ghost use Rattle.modules.specs.Listed.{BoundNames, ListedModule, ListedRegion, ListedSymbol};
+ghost use Rattle.modules.specs.ListingParts.{changed_lines, changed_parts, parts_of};
 ghost use Rattle.modules.specs.Placed.{are_few, PlacedModule};
 
 /// Each line of each listing is counted once.
@@ -107,4 +108,15 @@ pub fn a_line_is_kept_by_its_own_address()
     ensures { (lines : List ListedSymbol) (m : PlacedModule) (l : ListedSymbol)
         → HasItsRegions lines m → l.addr < 2 ^ 64 - 1 → l.owner ≡ Some m.name
         → belongs m l ≡ is_kept_line lines l }
+{}
+
+/// A change of the parts of a listing leaves the parts of the listing after the change. So the
+/// catalog after it is the catalog of what the change makes of the listing, whichever listing it was
+/// that has these parts.
+#[tactic(auto, using(crate::proofs::ListingPartLemmas::parts_changed))]
+pub fn changed_parts_are_of_the_changed_listing()
+    ensures { (names : Option BoundNames) (named : List (List ℕ))
+        (added lines : List ListedSymbol)
+        → changed_parts named added (parts_of names lines)
+        ≡ parts_of names (changed_lines named added lines) }
 {}

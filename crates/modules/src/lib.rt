@@ -26,8 +26,10 @@ mod placing;
 mod presort;
 pub mod region_index;
 mod regions;
+pub mod shared_listings;
 pub mod symbol_lines;
 pub mod symbol_names;
+mod symbol_tables;
 mod symbol_texts;
 pub mod symbols;
 
@@ -40,6 +42,7 @@ pub use module::{MOST_REGIONS, Module};
 pub use names::Names;
 pub use region_index::IndexedCatalog;
 pub use regions::Region;
+pub use shared_listings::SharedListing;
 pub use symbol_lines::{NameTest, SymbolLines};
 pub use symbol_names::{NamedSymbol, SymbolNames};
 pub use symbols::{IndexEntry, Symbol, is_rising};

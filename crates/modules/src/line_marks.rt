@@ -13,13 +13,13 @@
 ghost use Rattle.std.specs.Prelude.{◌≡◌, ◌++◌, ◌∷◌, [], IfOk, OnOk};
 ghost use Rattle.modules.specs.LineMarks.{is_free, kernel_marks, line_marks, marks_of};
 ghost use Rattle.modules.specs.LineMarks.{symbol_marks};
-ghost use Rattle.modules.specs.Runs.{lines_of_all, lines_of_run};
+ghost use Rattle.modules.specs.SharedRuns.{lines_of_one, lines_of_shared};
 
 use crate::marks::Mark;
 use crate::names::Names;
 use crate::placing::lies_in_any;
 use crate::regions::Region;
-use crate::symbol_lines::Run;
+use crate::shared_listings::SharedRun;
 use crate::symbols::Symbol;
 use std::alloc::{AllocError, Global};
 
@@ -51,23 +51,20 @@ fn push_marks(
     Ok(())
 }
 
-/// Puts the marks of a run after these. The lines of the kernel itself have none.
+/// Puts the marks of a run after these.
 fn push_run(
     marks: &mut Vec<Mark>,
     kernel: &[Region],
-    run: &Run,
+    run: &SharedRun,
     numbers: &Names,
 ) -> Result<(), AllocError>
     ensures { OnOk result (marks.new.items
-        ≡ marks.old.items ++ line_marks kernel.now numbers.now (lines_of_run run.now)) }
+        ≡ marks.old.items ++ line_marks kernel.now numbers.now (lines_of_one run.now)) }
 {
-    if run.module.is_none() {
-        return Ok(());
-    }
     push_marks(
         marks,
         kernel,
-        run.symbols.as_slice(),
+        run.symbols.table().as_slice(),
         numbers.number_of(run.module),
     )
 }
@@ -90,17 +87,15 @@ fn kernel_marks(alloc: Global, kernel: &[Region]) -> Result<Vec<Mark>, AllocErro
 pub(crate) fn marks_of(
     alloc: Global,
     kernel: &[Region],
-    runs: &[Run],
-    last: &Run,
+    runs: &[SharedRun],
     numbers: &Names,
 ) -> Result<Vec<Mark>, AllocError>
     ensures { IfOk result (λ v. v.items
-        ≡ marks_of kernel.now numbers.now (lines_of_all (runs.now ++ last.now ∷ []))) }
+        ≡ marks_of kernel.now numbers.now (lines_of_shared runs.now)) }
 {
     let mut marks = kernel_marks(alloc, kernel)?;
     for run in runs {
         push_run(&mut marks, kernel, run, numbers)?;
     }
-    push_run(&mut marks, kernel, last, numbers)?;
     Ok(marks)
 }

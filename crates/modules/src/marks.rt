@@ -23,7 +23,7 @@ use order_laws::Item;
 use std::alloc::{AllocError, Global};
 
 /// How many addresses a page has.
-const PAGE: u64 = 4096;
+pub(crate) const PAGE: u64 = 4096;
 
 /// How far apart two marks of one owner lie at least if nothing between them is the owner's.
 const REACH: u64 = 1048576;

@@ -1,37 +1,28 @@
 //! A module: its name, its regions, and its symbols.
 
-ghost use Rattle.std.specs.Prelude.{◌≡◌, [], position, IfOk, Ok};
+ghost use Rattle.std.specs.Prelude.{◌≡◌, [], position, Ok};
 ghost use Rattle.std.specs.List.{list_any};
-ghost use Rattle.std.specs.Option.{option_copied};
-ghost use Rattle.modules.specs.Around.{symbol_below, address_above};
 ghost use Rattle.modules.specs.AtAddress.{lists_symbol};
-ghost use Rattle.modules.specs.Index.{HasOrdered};
 ghost use Rattle.modules.specs.Building.{module_with, placed_module_of};
 ghost use Rattle.modules.specs.Loads.{GivesOrLacksMemory, is_erasing, update_of};
 ghost use Rattle.modules.specs.Parts.{is_core, is_init};
 ghost use Rattle.modules.specs.Placed.{IsPlaced};
 ghost use Rattle.modules.specs.Starts.{first_start, start_at, start_where, starts_of};
 
-use crate::at_address::{lists_in_any_order, lists_in_order};
-use crate::buckets::{Buckets, place_near};
-use crate::expected_lookups::ExpectedLookups;
 use crate::lines::Part;
 use crate::loads::{erasing, is_erasing};
 use crate::placing::PlacedModule;
 use crate::regions::Region;
-use crate::symbols::{Symbol, around_in_list, around_in_order, is_rising, ordered};
+use crate::symbol_tables::{SharedSymbols, SymbolTable};
+use crate::symbols::Symbol;
 use order_laws::Refusal;
-use std::alloc::{AllocError, Global};
+use std::alloc::Global;
 use std::marker::Model;
 use table_updates::Update;
 
 /// The greatest number of region lines of one module, as the kernel's `enum mod_mem_type` has seven
 /// kinds of memory.
 pub const MOST_REGIONS: usize = 7;
-
-/// Among how many symbols the one of the next of many rising addresses mostly is: with 4 a quarter
-/// of them were sought from anew in the kernel itself, and to count 8 takes longer.
-const MOST_NEXT: usize = 6;
 
 /// A module of the kernel, or the kernel itself.
 #[derive(Drop)]
@@ -41,13 +32,7 @@ pub struct Module<'a> {
     regions: Vec<Region>,
     /// The part that each of them is.
     parts: Vec<Part>,
-    symbols: Vec<Symbol<'a>>,
-    /// Whether the symbols are known to be listed by rising address.
-    rising: bool,
-    /// Copies of them by rising address, if they do not rise and it pays.
-    by_address: Option<Vec<Symbol<'a>>>,
-    /// The buckets of the copies, or else of the symbols.
-    buckets: Buckets,
+    symbols: SharedSymbols<'a>,
 }
 
 impl<'a> Model for Module<'a> {
@@ -97,62 +82,18 @@ fn init_start(regions: &[Region], parts: &[Part]) -> Option<u64>
     start_at(regions, place)
 }
 
-/// The buckets of symbols by rising address, if they pay for what is asked.
-fn buckets_of(
-    alloc: Global,
-    symbols: &[Symbol],
-    expected: ExpectedLookups<'_>,
-) -> Result<Buckets, AllocError> {
-    if expected.pays_buckets(symbols.len()) {
-        Buckets::of(alloc, symbols)
-    } else {
-        Ok(Buckets::none(alloc))
-    }
-}
-
-/// Copies of the symbols by rising address, if they do not rise and it pays for what is
-/// asked; and the buckets of the copies, or else of the symbols.
-fn order_of<'a>(
-    alloc: Global,
-    symbols: &[Symbol<'a>],
-    rising: bool,
-    regions: &[Region],
-    expected: ExpectedLookups<'_>,
-) -> Result<(Option<Vec<Symbol<'a>>>, Buckets), AllocError>
-    ensures { IfOk result (λ r. HasOrdered symbols.now r.0) }
-{
-    if rising {
-        return Ok((None, buckets_of(alloc, symbols, expected)?));
-    }
-    if !expected.pays_copies(regions, symbols.len()) {
-        return Ok((None, Buckets::none(alloc)));
-    }
-    let (copies, buckets) = ordered(alloc, symbols)?;
-    Ok((Some(copies), buckets))
-}
-
 impl<'a> Module<'a> {
-    /// The module in this place with these symbols, made ready for what is asked of them.
-    pub(crate) fn new(
-        alloc: Global,
-        placed: PlacedModule<'a>,
-        symbols: Vec<Symbol<'a>>,
-        expected: ExpectedLookups<'_>,
-    ) -> Result<Module<'a>, AllocError>
+    /// The module in this place with these symbols.
+    pub(crate) fn new(placed: PlacedModule<'a>, symbols: SharedSymbols<'a>) -> Module<'a>
         requires { IsPlaced placed }
-        ensures { IfOk result (λ m. m ≡ module_with placed.entry symbols.entry.items) }
+        ensures { result ≡ module_with placed.entry symbols.entry }
     {
-        let rising = is_rising(&symbols);
-        let (by_address, buckets) = order_of(alloc, &symbols, rising, &placed.regions, expected)?;
-        Ok(Module {
+        Module {
             name: placed.name,
             regions: placed.regions,
             parts: placed.parts,
             symbols,
-            rising,
-            by_address,
-            buckets,
-        })
+        }
     }
 
     /// The module's name; `-` for the kernel itself.
@@ -232,7 +173,7 @@ impl<'a> Module<'a> {
     pub fn symbols(&self) -> &[Symbol<'a>]
         ensures { result.now ≡ self.now.symbols }
     {
-        self.symbols.as_slice()
+        self.symbols.table().as_slice()
     }
 
     /// Whether one of the symbols has this address and this name. If they rise, or have copies
@@ -240,64 +181,14 @@ impl<'a> Module<'a> {
     pub fn lists(&self, addr: u64, name: &[u8]) -> bool
         ensures { result ≡ lists_symbol self.now.symbols addr name.now }
     {
-        match &self.by_address {
-            Some(ordered) => lists_in_order(ordered.as_slice(), self.place_of(addr), addr, name),
-            None if self.rising => {
-                lists_in_order(self.symbols.as_slice(), self.place_of(addr), addr, name)
-            }
-            None => lists_in_any_order(self.symbols.as_slice(), addr, name),
-        }
+        self.symbols.table().lists(addr, name)
     }
 
-    /// The symbol of the greatest address that is not above `addr`, the first listed among equal
-    /// addresses; and the least address of a symbol above `addr`. The place `near` by rising
-    /// address is tried first.
+    /// The symbols as they are searched.
     #[inline(always)]
-    pub(crate) fn around_near(&self, near: usize, addr: u64) -> (Option<&Symbol<'a>>, Option<u64>)
-        ensures below { option_copied result.0 ≡ symbol_below self.now.symbols addr }
-        ensures above { result.1 ≡ address_above self.now.symbols addr }
+    pub(crate) fn table(&self) -> &SymbolTable<'a>
+        ensures { result.now ≡ self.now.symbols }
     {
-        match &self.by_address {
-            None => around_in_list(self.symbols.as_slice(), self.rising, near, addr),
-            Some(ordered) => around_in_order(ordered.as_slice(), near, addr),
-        }
-    }
-
-    /// The symbols by rising address, if they rise or have copies that do.
-    #[inline(always)]
-    fn by_address(&self) -> &[Symbol<'a>] {
-        match &self.by_address {
-            Some(copies) => copies.as_slice(),
-            None => self.symbols.as_slice(),
-        }
-    }
-
-    /// How many symbols by rising address may be not above the address.
-    #[inline(always)]
-    pub(crate) fn place_of(&self, addr: u64) -> usize {
-        self.buckets.place_of(self.by_address(), addr)
-    }
-
-    /// As [`Module::place_of`], if the first symbol above the address is to be sought from this
-    /// place on.
-    #[inline(always)]
-    pub(crate) fn place_from(&self, from: usize, addr: u64) -> usize {
-        self.buckets.place_from(self.by_address(), from, addr)
-    }
-
-    /// As [`Module::place_of`], if the symbols below a place are not above the address. The next
-    /// few symbols are tried first.
-    #[inline(always)]
-    pub(crate) fn next_place(&self, from: usize, addr: u64) -> usize {
-        match place_near::<Symbol<'a>, MOST_NEXT>(self.by_address(), from, addr) {
-            Some(place) => place,
-            None => self.place_of(addr),
-        }
-    }
-
-    /// From which place on the first symbol above the address is to be sought.
-    #[inline(always)]
-    pub(crate) fn start_of(&self, addr: u64) -> usize {
-        self.buckets.start_of(addr)
+        self.symbols.table()
     }
 }

@@ -12,13 +12,12 @@
 ghost use Rattle.std.specs.Prelude.{◌≡◌, ◌<◌, ◌≤◌, ◌+◌, ◌^◌, ◌++◌, ◌∷◌, [], false, length, IfOk};
 ghost use Rattle.std.specs.Prelude.{IfSome, OnErr, OnOk};
 ghost use Rattle.std.specs.List.{list_any, position_from};
-ghost use Rattle.std.specs.Option.{option_copied};
 ghost use Rattle.std.specs.Str.{bytes_eq};
-ghost use Rattle.modules.specs.LineMarks.{AreNamed, name_of, number_for, with_owner};
+ghost use Rattle.modules.specs.LineMarks.{AreNamed, name_of, number_in};
 ghost use Rattle.modules.specs.Names.{with_name};
-ghost use Rattle.modules.specs.Runs.{lines_of_all};
+ghost use Rattle.modules.specs.SharedRuns.{lines_of_shared};
 
-use crate::symbol_lines::Run;
+use crate::shared_listings::SharedRun;
 use std::alloc::{AllocError, Global};
 use std::collections::BTreeMap;
 use std::marker::Model;
@@ -53,18 +52,13 @@ impl<'a> Names<'a> {
     }
 
     /// The names of the modules that these lines are of.
-    pub(crate) fn of_runs(
-        alloc: Global,
-        runs: &[Run<'a>],
-        last: &Run<'a>,
-    ) -> Result<Names<'a>, AllocError>
-        ensures { IfOk result (λ n. AreNamed n (lines_of_all (runs.now ++ last.now ∷ []))) }
+    pub(crate) fn of_runs(alloc: Global, runs: &[SharedRun<'a>]) -> Result<Names<'a>, AllocError>
+        ensures { IfOk result (λ n. AreNamed n (lines_of_shared runs.now)) }
     {
         let mut names = Names::new(alloc);
         for run in runs {
-            names.take(run.module)?;
+            names.put(run.module)?;
         }
-        names.take(last.module)?;
         Ok(names)
     }
 
@@ -106,16 +100,6 @@ impl<'a> Names<'a> {
         self.push(name)
     }
 
-    /// Puts the name of the module of a run, if it is of a module.
-    fn take(&mut self, owner: Option<&'a [u8]>) -> Result<(), AllocError>
-        ensures { OnOk result (self.new ≡ with_owner self.old (option_copied owner.entry)) }
-    {
-        match owner {
-            Some(name) => self.put(name),
-            None => Ok(()),
-        }
-    }
-
     /// How many numbers there are, the kernel's own among them.
     pub(crate) fn count(&self) -> usize
         ensures { result ≡ length self.now + 1 }
@@ -123,13 +107,10 @@ impl<'a> Names<'a> {
         self.listed.len() + 1
     }
 
-    /// The number of the module of a run: 0 for the kernel itself.
-    pub(crate) fn number_of(&self, owner: Option<&[u8]>) -> u64
-        ensures { result ≡ number_for self.now (option_copied owner.entry) }
+    /// The number of the module of this name, from 1 on; 0 if there is none.
+    pub(crate) fn number_of(&self, name: &[u8]) -> u64
+        ensures { result ≡ number_in self.now name.now }
     {
-        let Some(name) = owner else {
-            return 0;
-        };
         match self.place_of(name) {
             Some(place) => place as u64 + 1,
             None => 0,

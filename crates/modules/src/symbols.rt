@@ -69,6 +69,16 @@ impl<'a> Symbol<'a> {
     {
         name_in(self.text)
     }
+
+    /// The same symbol.
+    pub(crate) fn copied(&self) -> Symbol<'a>
+        ensures { result ≡ self.now }
+    {
+        Symbol {
+            addr: self.addr,
+            text: self.text,
+        }
+    }
 }
 
 impl<'a> Addressed for Symbol<'a> {
@@ -127,11 +137,7 @@ fn copy_of<'a>(symbols: &[Symbol<'a>], entry: &IndexEntry) -> Symbol<'a>
     requires { entry.now.place < length symbols.now }
     ensures { result ≡ symbol_of_entry symbols.now entry.now }
 {
-    let symbol = &symbols[entry.place];
-    Symbol {
-        addr: symbol.addr,
-        text: symbol.text,
-    }
+    symbols[entry.place].copied()
 }
 
 /// Copies of the symbols in the order of an index of them.

@@ -369,6 +369,36 @@ class Catalog(Closing):
         warn_of(catalog.counts, paths, 3)
         return catalog
 
+    def change(self, text: Any) -> Catalog:
+        """The catalog of what a change leaves of this one's listing of symbols: without the lines of
+        each module that it names, and with its own lines behind the others.
+
+        The change is lines of modules in the form of /proc/kallsyms, and lines `gone NAME`. Both
+        catalogs share what did not change, so a change of one module takes little time and memory.
+        `counts` stays as it is.
+
+        >>> import latchsym
+        >>> symbols = b'ffffffff81000000 T _stext\\nffffffff81002000 T _end\\n'
+        >>> with latchsym.Catalog(symbols + b'ffffffffc0000010 t ext4_a\\t[ext4]\\n') as before:
+        ...     with before.change(b'gone ext4\\nffffffffc0000000 t xfs_a\\t[xfs]\\n') as after:
+        ...         print(before.find(0xffffffffc0000018), after.find(0xffffffffc0000018))
+        ext4_a+0x8/0xff0 [ext4] xfs_a+0x18/0x1000 [xfs]
+        """
+        pinned = listing(text or b"", "change")
+        none = [it.Place(place.at, place.len) for place in [listing(b"", "change")] * 4]
+        given = it.Listings(
+            ctypes.sizeof(it.Listings), it.Place(pinned.at, pinned.len), *none, False
+        )
+        handle, bad_line = it.Handle(), c_uint64()
+        with self._lock:
+            number = lib.latchsym_catalog_change(self._handle, given, handle, bad_line)
+            if number == it.BAD_LINE:
+                raise BadListing(number, it.text_of(number), bad_line.value)
+            check(number, self)
+            other = type(self).__new__(type(self))
+            other._keep(handle, [*self._listings, pinned], self.counts)
+        return other
+
     def share(self) -> Catalog:
         """Another handle of the same catalog, for another thread: nothing is read again."""
         handle = it.Handle()

@@ -8,6 +8,7 @@ import threading
 import time
 from contextlib import ExitStack
 from ctypes import addressof, c_uint64, create_string_buffer
+from itertools import groupby
 from pathlib import Path
 from typing import Any, Iterable, List, NamedTuple, Tuple
 
@@ -30,6 +31,29 @@ def _loads(modules: bytes) -> Loads:
     and go while it stays loaded."""
     lines = (line.split() for line in modules.splitlines())
     return [(*words[:2], *words[4:]) for words in lines]
+
+
+def _runs(lines: bytes) -> dict[bytes, bytes] | None:
+    """The lines of each module, by what ends them; none where a line is no module's, or where those of
+    one do not lie side by side."""
+    runs: dict[bytes, bytes] = {}
+    if not lines.endswith(b"]\n"):
+        return None
+    for end, run in groupby(lines.splitlines(True), lambda line: line[line.rfind(b"\t") :]):
+        if end in runs or not end.startswith(b"\t[") or not end.endswith(b"]\n") or len(end) < 5:
+            return None
+        runs[end] = b"".join(run)
+    return runs
+
+
+def _change_of(old: bytes, new: bytes) -> bytes | None:
+    """What changes one listing of symbols to another, where modules alone differ."""
+    kernel = new.rfind(b"\n", 0, max(new.find(b"\t"), 0)) + 1
+    was, runs = _runs(old[kernel:]), _runs(new[kernel:])
+    if old[:kernel] != new[:kernel] or was is None or runs is None:
+        return None
+    gone = [b"gone " + end[2:-2] + b"\n" for end in was if end not in runs]
+    return b"".join(gone + [run for end, run in runs.items() if was.get(end) != run])
 
 
 def _stamp(time_ns: int | None) -> int:
@@ -93,6 +117,8 @@ class Follower(Closing):
         self._due = 0.0  # when it reads the listings all the same
         self._owners: set[str] = set()  # the modules that own symbols of the listing that is shown
         self._texts: list[bytes | None] = []
+        self._current: Catalog | None = None  # what is shown, to be changed
+        self._changed = 0
         self._polling = threading.RLock()
         self._lock = threading.RLock()
         self._shown: dict[int, Catalog] = {}  # by their tags; each keeps the bytes of its listings
@@ -125,8 +151,10 @@ class Follower(Closing):
             if texts == self._texts:
                 self._settle(seen, is_as_seen)
                 return False
-            catalog = Catalog(*texts)
+            catalog, changed = self._open(texts)
             refused.callback(catalog.close)
+            current = catalog.share()
+            refused.callback(current.close)
             if self._shown and has_new_note(catalog.counts, self._shown[self._newest].counts):
                 warn_of(catalog.counts, self._paths, 3)
                 return False
@@ -139,9 +167,22 @@ class Follower(Closing):
                 )
                 self._shown[tag], self._newest = catalog, tag
             refused.pop_all()
+            if self._current is not None:
+                self._current.close()
+            self._current, self._changed = current, changed
             self._texts, self._owners = texts, owners
             self._settle(seen, False)
             return True
+
+    def _open(self, texts: list[bytes | None]) -> tuple[Catalog, int]:
+        """The catalog of the files, and how many bytes of changes it was made by since a listing was
+        opened whole: by the change where modules alone have changed, of which little is kept."""
+        if self._current is not None and texts[1] is None:
+            change = _change_of(self._texts[0] or b"", texts[0] or b"")
+            changed = self._changed + len(change or b"")
+            if change is not None and changed * 4 < len(texts[0] or b""):
+                return self._current.change(change), changed
+        return Catalog(*texts), 0
 
     def _watch(self) -> Loads | None:
         """What the watched file says of each module: of none where it is missing. None where it
@@ -252,6 +293,8 @@ class Follower(Closing):
     def close(self) -> None:
         """Closes the table and all listings."""
         self._reader.close()
+        if self._current is not None:
+            self._current.close()
         self._close_each(lib.latchsym_follower_close)
 
     def _close_each(self, call: it.Call, *words: int) -> None:

@@ -49,6 +49,7 @@ CALLS = {
     "latchsym_place_of_text": ([c_uint32, POINTER(Place)], False),
     "latchsym_version": ([], True),
     "latchsym_catalog_open": ([POINTER(Listings), POINTER(Handle), POINTER(Counts), POINTER(c_uint64)], True),
+    "latchsym_catalog_change": ([POINTER(Handle), POINTER(Listings), POINTER(Handle), POINTER(c_uint64)], True),
     "latchsym_catalog_find": ([POINTER(Handle), c_uint64, POINTER(Symbol)], True),
     "latchsym_catalog_find_caller": ([POINTER(Handle), c_uint64, POINTER(Symbol)], True),
     "latchsym_catalog_find_many": ([POINTER(Handle), POINTER(c_uint64), c_size_t, POINTER(Told), c_size_t], True),
@@ -97,7 +98,7 @@ CALLS = {
 }
 # those that have names in _nonnull, and take no null pointers
 NONNULL = set("""
-latchsym_catalog_open latchsym_catalog_find_many latchsym_catalog_name
+latchsym_catalog_open latchsym_catalog_change latchsym_catalog_find_many latchsym_catalog_name
 latchsym_catalog_place_of_name latchsym_catalog_find_name latchsym_catalog_flatten
 latchsym_catalog_close latchsym_table_open latchsym_writer_begin_batch latchsym_writer_begin_replace
 latchsym_catalog_items latchsym_table_enlarge latchsym_writer_close latchsym_reader_find_name

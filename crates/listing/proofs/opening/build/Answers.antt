@@ -3,6 +3,7 @@ use Rattle.listing.proofs.Words.{option_copied, option_map, option_map_or, lines
 use Rattle.listing.proofs.Words.{is_of_modules, module_counts, modules_in, symbols_of}
 use Rattle.listing.proofs.Words.{unlisted_owner, are_modules_hidden, AreBy, AreByModules, listed_in}
 use Rattle.listing.proofs.Words.{catalog_of, counts_of}
+use Rattle.listing.specs.Opening.{parts_alone}
 use Rattle.listing.proofs.opening.build.Goals as goal
 
 pub returns-clause-built : goal.returns-clause-built
@@ -28,6 +29,7 @@ returns-clause-built c =
       said = subst (λ m. AreBy kernel l symbols m catalog c.in_ok-catalog-2.counts) (sym of_text)
           (subst (λ r. AreByModules kernel text r symbols catalog c.in_ok-catalog-2.counts) lines
           by);
+      listing = ap (parts_alone kernel symbols) (sym of_text);
       skipped = ap Some c.in_ok-lines.ensures.counts
           ∙ sym (ap (option_map (λ t. module_counts (lines_of t))) of_text);
       hidden = c.are_modules_hidden.ensures (lines_of text)

@@ -6,6 +6,7 @@ use Rattle.std.proofs.Common.{Option}
 use Rattle.listing.specs.declared.listing_notes.ListingNote.{ListingNote}
 use Rattle.listing.specs.declared.listing_notes.ListingNotes.{ListingNotes}
 use Rattle.listing.proofs.ListingNoteLemmas.{bounds_are, copied_none, kernel_named}
+use Rattle.listing.specs.Opening.{parts_alone}
 use Rattle.listing.proofs.opening.open.Goals as goal
 
 pub note_of_kallsyms-requires-clause-kernel : goal.note_of_kallsyms-requires-clause-kernel
@@ -45,6 +46,7 @@ returns-clause-opened c =
         counts = c.of_listed-counts.ensures
             ∙ ap (λ n. build_of_listed n b.counts) c.in_ok-symbols.ensures.listed;
       };
+      listing = built.listing ∙ ap (λ s. parts_alone kernel s l.modules) symbols;
       skipped_modules = built.skipped;
       skipped_symbols = c.in_ok-symbols.ensures.skipped;
       has_regions = c.has_regions.ensures;

@@ -19,8 +19,8 @@ new-requires c =
 pub loop-symbols-preserved : goal.loop-symbols-preserved
 loop-symbols-preserved c = grind (arith, common_steps, nil_from_length, length-append)
 
-pub loop-symbols-preserved-in_ok-push : goal.loop-symbols-preserved-in_ok-push
-loop-symbols-preserved-in_ok-push c =
+pub loop-symbols-preserved-in-Continue-1 : goal.loop-symbols-preserved-in-Continue-1
+loop-symbols-preserved-in-Continue-1 c =
     let i = c.loop-symbols.invariant in
     let done = c.loop-symbols.yielded in
     let places = c.args.places.items in

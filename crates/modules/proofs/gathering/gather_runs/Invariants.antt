@@ -1,11 +1,9 @@
-use Rattle.modules.proofs.Words.{◌≡◌, ◌++◌, into_iter_items}
-use Rattle.modules.proofs.Definitions.{Gathers, lines_of_all}
+use Rattle.modules.proofs.Words.{map, take}
+use Rattle.modules.proofs.Definitions.{Gathers}
+use Rattle.modules.specs.Gathering.{gathered_in}
+use Rattle.modules.specs.SharedRuns.{lines_of_shared}
 use Rattle.modules.proofs.gathering.gather_runs.Given as goal
 
 abbrev pub invariant-loop-run : goal.invariant-loop-run
-invariant-loop-run l = record {
-  can_next : (goal.iterator-loop-run).can_next l.run-iterator;
-  finite : (goal.iterator-loop-run).is_finite l.run-iterator;
-  gone : l.fn.runs.items ≡ l.yielded ++ into_iter_items l.run-iterator;
-  gathers : Gathers l.placed (lines_of_all l.yielded) l.gathered;
-}
+invariant-loop-run l =
+    Gathers l.placed (lines_of_shared (take l.run-index l.runs)) (map gathered_in l.lists.items)

@@ -27,7 +27,7 @@ core_starts m placed none = grind (arith, start_by, position_from-zero, is_some-
 pub unreachable-requires : goal.unreachable-requires
 unreachable-requires c =
     let m = module_view c.self.inside in
-    core_starts m c.self.invariant.placed
+    core_starts m c.self.invariant
     (ap (λ (rs : List (ℕ × ℕ)). start_where is_core rs m.parts) (sym c.as_slice.ensures.value)
     ∙ ap (λ (ps : List Part). start_where is_core c.as_slice.result.now ps)
     (sym c.as_slice-2.ensures.value)
