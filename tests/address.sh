@@ -8,12 +8,6 @@ set -euo pipefail
 command -v python3 >/dev/null || { echo "address: python3 is not installed"; exit 1; }
 build latchsym
 cd "$top/examples/listings"
-failed=0
-
-fail() {
-    echo "address: $1"
-    failed=1
-}
 
 # writes LINES ARGUMENT..: the program writes these lines, and nothing on standard error, with status
 # 1 if no name has an address

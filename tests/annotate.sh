@@ -8,12 +8,6 @@ set -euo pipefail
 . "$(dirname "$0")/lib/program.sh"
 build latchsym
 cd "$top/examples/logs"
-failed=0
-
-fail() {
-    echo "annotate: $1"
-    failed=1
-}
 
 # writes WANTED ARGUMENT..: these arguments write what the file has, and nothing on standard error
 writes() {
@@ -118,15 +112,6 @@ if [ -z "${EMULATED:-}" ]; then
     (ulimit -v 32768 && exec "$program" annotate --kallsyms "$work/kallsyms" "$work/long") 2>"$work/err" | cmp -s - "$work/long" || fail "a line of 50000000 bytes: $(cat "$work/err")"
 fi
 
-# waits FILE WANTED: until the file has what is wanted
-waits() {
-    local turn
-    for turn in $(seq 1 300); do
-        cmp -s "$1" "$2" && return
-        sleep 0.1
-    done
-    fail "a log that goes on: $(cat "$1")"
-}
 # a log that goes on: what is noted is told before it is begun, and each line comes as it is read
 mkfifo "$work/pipe"
 echo "latchsym: note: $work/other: has no symbol _stext" >"$work/note"

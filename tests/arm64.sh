@@ -15,18 +15,13 @@ set -euo pipefail
 . "$top/tests/lib/tools.sh"
 arm=aarch64-linux-gnu-
 
-fail() {
-    echo "arm64: $1"
-    exit 1
-}
-
 has "command -v ${arm}gcc && command -v qemu-aarch64" \
     gcc-aarch64-linux-gnu libc6-dev-arm64-cross qemu-user || exit 0
 build_library aarch64
 cp "$library" "$work/liblatchsym.a"
 cp "$shared" "$work/liblatchsym.so.1"
 runs_on_old_glibc $arm "$shared" ||
-    fail "the library asks for $(${arm}objdump -T "$shared" | grep GLIBC)"
+    stop "the library asks for $(${arm}objdump -T "$shared" | grep GLIBC)"
 
 # run PROGRAM ARGUMENT..: by the emulator, with the cross compiler's C library
 run() { timeout 300 qemu-aarch64 -L /usr/aarch64-linux-gnu "$@"; }
@@ -75,9 +70,9 @@ steps() {
 loads=$(steps try_find ldar)
 for name in step finish; do
     [ "$(steps "latchsym_writer_$name" 'stlr|stlxr|swpal')" -ge 1 ] ||
-        fail "the writer's $name has no store by stlr"
+        stop "the writer's $name has no store by stlr"
 done
-[ "$loads" -ge 7 ] || fail "an attempt has $loads loads by ldar"
+[ "$loads" -ge 7 ] || stop "an attempt has $loads loads by ldar"
 echo "arm64: an attempt loads by ldar, in $loads places, and a step of the writer stores by stlr"
 
 if [ "${1:-}" = --share ] && [ $(($(date +%s) / 86400 % 7)) != 0 ]; then
@@ -86,14 +81,14 @@ if [ "${1:-}" = --share ] && [ $(($(date +%s) / 86400 % 7)) != 0 ]; then
 fi
 
 # the program: the tests of its traces and logs, and a release with all that is made of it
-"$top/release.sh" --target aarch64 "$work" >"$work/out" 2>&1 || fail "$(cat "$work/out")"
+"$top/release.sh" --target aarch64 "$work" >"$work/out" 2>&1 || stop "$(cat "$work/out")"
 version=$(cat "$top/VERSION")
 name=latchsym-$version-aarch64
 tar -C "$work" -xf "$work/$name.tar.xz"
 release=$work/$name
 for file in bin/latchsym lib/liblatchsym.so.1 bindings/rust/lib/aarch64/liblatchsym.a \
     share/man/man1/latchsym.1 share/man/man3/latchsym.3 include/latchsym.h latchsym.spdx.json; do
-    [ -s "$release/$file" ] || fail "the release has no $file"
+    [ -s "$release/$file" ] || stop "the release has no $file"
 done
 mkdir "$work/emulated"
 printf '#!/bin/sh\nexec qemu-aarch64 %s "$@"\n' "$release/bin/latchsym" >"$work/emulated/latchsym"
@@ -104,7 +99,7 @@ done
 timeout 60 "$work/emulated/latchsym" run --modules basic.modules --kallsyms basic.kallsyms --readers 1 \
     ../scripts/loads.script >"$work/lines"
 cmp -s "$work/lines" ../scripts/loads.before || cmp -s "$work/lines" ../scripts/loads.after ||
-    fail "a writer beside a reader: $(cat "$work/lines")"
+    stop "a writer beside a reader: $(cat "$work/lines")"
 
 # shellcheck disable=SC2016
 if has 'python3 -m venv "$work/venv"' python3-venv; then
@@ -114,6 +109,6 @@ if has 'python3 -m venv "$work/venv"' python3-venv; then
 fi
 if has 'command -v dpkg-buildpackage && command -v dh' dpkg-dev debhelper; then
     (cd "$release" && dpkg-buildpackage --build=binary --no-sign -d -aarm64) >"$work/out" 2>&1 ||
-        fail "$(cat "$work/out")"
+        stop "$(cat "$work/out")"
     (cd "$work" && stat -c 'arm64: %n: %s bytes' ./*_arm64.deb)
 fi

@@ -5,12 +5,6 @@ set -euo pipefail
 . "$(dirname "$0")/lib/program.sh"
 build latchsym
 cd "$top/examples/listings"
-failed=0
-
-fail() {
-    echo "checks: $1"
-    failed=1
-}
 
 # checked STATUS ARGUMENT..: the check ends so, and says nothing on standard error
 checked() {

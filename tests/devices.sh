@@ -14,13 +14,7 @@ set -euo pipefail
 build latchsym
 cc -O1 -shared -fPIC -o "$work/fail.so" "$top/tests/devices/fail.c"
 cd "$work"
-failed=0
 calls=0
-
-fail() {
-    echo "devices: $1"
-    failed=1
-}
 
 # once VARIABLE=NUMBER ARGUMENT..: a run in which that call fails
 once() {

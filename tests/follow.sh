@@ -7,12 +7,6 @@ set -euo pipefail
 . "$(dirname "$0")/lib/program.sh"
 build latchsym
 cd "$work"
-failed=0
-
-fail() {
-    echo "follow: $1"
-    failed=1
-}
 
 for log in "$top"/examples/logs/*.log; do
     name=${log%.log}
@@ -28,15 +22,6 @@ for log in "$top"/examples/logs/*.log; do
     done
 done
 
-# waits FILE WANTED: until the file has what is wanted
-waits() {
-    local turn
-    for turn in $(seq 1 300); do
-        cmp -s "$1" "$2" && return
-        sleep 0.1
-    done
-    fail "$1 is $(cat "$1")"
-}
 # lists NAME..: the listing has these names of modules for one address
 lists() {
     printf 'ffffffff81000000 T _stext\nffffffff81001000 T _etext\n' >new

@@ -9,11 +9,6 @@ set -euo pipefail
 . "$(dirname "$0")/lib/program.sh"
 . "$top/tests/lib/tools.sh"
 
-fail() {
-    echo "install: $1"
-    exit 1
-}
-
 # installed FOLDER: what lies under it
 installed() { (cd "$1" && find . ! -type d | LC_ALL=C sort | tr '\n' ' '); }
 version=$(cat "$top/VERSION")
@@ -30,24 +25,24 @@ run() {
 }
 
 run --help
-[ $status = 0 ] && [ -s "$work/out" ] && [ ! -s "$work/err" ] || fail '--help: not on standard output'
+[ $status = 0 ] && [ -s "$work/out" ] && [ ! -s "$work/err" ] || stop '--help: not on standard output'
 for words in '' '--prefix' 'a b' '--target' '--target arm64 a'; do
     # shellcheck disable=SC2086
     run $words
-    [ $status = 2 ] && [ ! -s "$work/out" ] && [ -s "$work/err" ] || fail "install.sh $words: status $status"
+    [ $status = 2 ] && [ ! -s "$work/out" ] && [ -s "$work/err" ] || stop "install.sh $words: status $status"
 done
 
 # (sh is another shell on Debian)
 # shellcheck disable=SC2016
 [ -n "$(sh -c 'echo "${BASH_VERSION:-}"')" ] || {
-    sh "$top/install.sh" "$work/prefix" 2>"$work/err" && fail 'sh: status 0'
-    grep -q 'a script of bash' "$work/err" || fail "sh: $(cat "$work/err")"
+    sh "$top/install.sh" "$work/prefix" 2>"$work/err" && stop 'sh: status 0'
+    grep -q 'a script of bash' "$work/err" || stop "sh: $(cat "$work/err")"
 }
 
 prefix=$work/prefix
 run "$prefix"
-[ $status = 0 ] || fail "$(cat "$work/err")"
-[ "$(installed "$prefix")" = "$whole" ] || fail "installed: $(installed "$prefix")"
+[ $status = 0 ] || stop "$(cat "$work/err")"
+[ "$(installed "$prefix")" = "$whole" ] || stop "installed: $(installed "$prefix")"
 cmp "$top/docs/latchsym.1" "$prefix/share/man/man1/latchsym.1"
 cmp "$top/docs/latchsym-record.1" "$prefix/share/man/man1/latchsym-record.1"
 cmp "$top/scripts/latchsym-record" "$prefix/bin/latchsym-record"
@@ -58,13 +53,13 @@ cmp "$top/completions/_latchsym" "$prefix/share/zsh/site-functions/_latchsym"
 
 # the shared library: its name, that it is bound when it is loaded, and the calls of the header alone
 so=$prefix/lib/liblatchsym.so.$version
-readelf -dW "$so" | grep -q "SONAME.*\[liblatchsym\.so\.${version%%.*}\]" || fail "the library's name is $(readelf -dW "$so" | grep SONAME)"
-readelf -dW "$so" | grep -q BIND_NOW || fail 'the library is bound late'
+readelf -dW "$so" | grep -q "SONAME.*\[liblatchsym\.so\.${version%%.*}\]" || stop "the library's name is $(readelf -dW "$so" | grep SONAME)"
+readelf -dW "$so" | grep -q BIND_NOW || stop 'the library is bound late'
 nm -D --defined-only "$so" | sed -nE 's/.* T ([^@]*).*/\1/p' | sort >"$work/shown"
 nm -g --defined-only "$prefix/lib/liblatchsym.a" | sed -n 's/.* T //p' | sort | diff - "$work/shown" ||
-    fail 'the two libraries show other names'
+    stop 'the two libraries show other names'
 grep -oE '^(uint32_t|void) latchsym_[a-z_]+' "$top/include/latchsym.h" | cut -d' ' -f2 | sort | diff - "$work/shown" ||
-    fail 'the library shows other names than the header'
+    stop 'the library shows other names than the header'
 
 # both wait for a file while all is installed once more
 read -ra flags <<<"-I$prefix/include -L$prefix/lib -Wl,-rpath,$prefix/lib -llatchsym"
@@ -80,27 +75,27 @@ waits=$!
 looks_up=$!
 exec 3>"$work/file" 4>"$work/modules"
 run "$prefix"
-[ $status = 0 ] || fail "while they are in use: $(cat "$work/err")"
-[ "$(installed "$prefix")" = "$whole" ] || fail "installed again: $(installed "$prefix")"
+[ $status = 0 ] || stop "while they are in use: $(cat "$work/err")"
+[ "$(installed "$prefix")" = "$whole" ] || stop "installed again: $(installed "$prefix")"
 cat basic.modules >&4
 exec 3>&- 4>&-
-wait $waits || fail "a program that uses the library died"
-wait $looks_up || fail "the program died"
+wait $waits || stop "a program that uses the library died"
+wait $looks_up || stop "the program died"
 cmp "$work/lines" basic.expected
 
 # a prefix with blanks, with a program without shared libraries
 prefix="$work/a prefix"
 run --static "$prefix"
-[ $status = 0 ] && [ "$(installed "$prefix")" = "$whole" ] || fail "a prefix with blanks: $(cat "$work/err")"
-! readelf -lW "$prefix/bin/latchsym" | grep -q INTERP || fail 'the program wants an interpreter'
-! readelf -dW "$prefix/bin/latchsym" | grep -q NEEDED || fail 'the program wants shared libraries'
+[ $status = 0 ] && [ "$(installed "$prefix")" = "$whole" ] || stop "a prefix with blanks: $(cat "$work/err")"
+! readelf -lW "$prefix/bin/latchsym" | grep -q INTERP || stop 'the program wants an interpreter'
+! readelf -dW "$prefix/bin/latchsym" | grep -q NEEDED || stop 'the program wants shared libraries'
 "$prefix/bin/latchsym" lookup --modules basic.modules --kallsyms basic.kallsyms --addresses basic.addresses |
     cmp - basic.expected
 if command -v pkg-config >/dev/null; then
     export PKG_CONFIG_PATH=$prefix/lib/pkgconfig
-    [ "$(pkg-config --modversion latchsym)" = "$version" ] || fail "latchsym.pc is of another version"
+    [ "$(pkg-config --modversion latchsym)" = "$version" ] || stop "latchsym.pc is of another version"
     eval "gcc -std=gnu11 $top/tests/c/waits.c $(pkg-config --cflags --libs latchsym) -o $work/waits"
-    "$work/waits" /dev/null || fail "a program of $(pkg-config --libs latchsym)"
+    "$work/waits" /dev/null || stop "a program of $(pkg-config --libs latchsym)"
 fi
 
 # by_cmake PREFIX LANGUAGE SOURCE VERSION: makes `built` the program of the source, by a project that
@@ -116,43 +111,43 @@ by_cmake() {
         cmake --build "$work/project/built" >>"$work/out" 2>&1
 }
 if has 'command -v cmake && command -v make && command -v g++' cmake make g++; then
-    by_cmake "$prefix" C "$top/tests/c/waits.c" "${version%.*}" && "$built" /dev/null || fail "CMake, C: $(cat "$work/out")"
-    ! readelf -d "$built" | grep -q liblatchsym || fail 'a program by CMake wants the shared library'
+    by_cmake "$prefix" C "$top/tests/c/waits.c" "${version%.*}" && "$built" /dev/null || stop "CMake, C: $(cat "$work/out")"
+    ! readelf -d "$built" | grep -q liblatchsym || stop 'a program by CMake wants the shared library'
     by_cmake "$prefix" CXX "$top/examples/cpp/lookup.cpp" "$version" &&
-        "$built" alone.kallsyms 0xffffffff81000108 | grep -qx '0xffffffff81000108 do_one+0x8/0x1f00' || fail "CMake, C++: $(cat "$work/out")"
+        "$built" alone.kallsyms 0xffffffff81000108 | grep -qx '0xffffffff81000108 do_one+0x8/0x1f00' || stop "CMake, C++: $(cat "$work/out")"
     for other in "${version%%.*}.99" $((${version%%.*} + 1)); do
-        ! by_cmake "$prefix" C "$top/tests/c/waits.c" "$other" || fail "CMake takes it for version $other"
+        ! by_cmake "$prefix" C "$top/tests/c/waits.c" "$other" || stop "CMake takes it for version $other"
     done
 fi
 run --uninstall "$prefix"
-[ $status = 0 ] && [ -z "$(installed "$prefix")" ] || fail "uninstalled: $(installed "$prefix")"
+[ $status = 0 ] && [ -z "$(installed "$prefix")" ] || stop "uninstalled: $(installed "$prefix")"
 prefix=$work/prefix
 
 DESTDIR=$work/stage run /opt/latchsym
-[ $status = 0 ] && [ "$(installed "$work/stage/opt/latchsym")" = "$whole" ] || fail "DESTDIR: $(cat "$work/err")"
-[ "$(head -n 1 "$work/stage/opt/latchsym/lib/pkgconfig/latchsym.pc")" = 'prefix=/opt/latchsym' ] || fail 'DESTDIR: another prefix'
+[ $status = 0 ] && [ "$(installed "$work/stage/opt/latchsym")" = "$whole" ] || stop "DESTDIR: $(cat "$work/err")"
+[ "$(head -n 1 "$work/stage/opt/latchsym/lib/pkgconfig/latchsym.pc")" = 'prefix=/opt/latchsym' ] || stop 'DESTDIR: another prefix'
 
 # the system's own folders: a folder for the library, and no path to it in programs
 export LIBDIR=lib/x86_64-linux-gnu
 DESTDIR=$work/system run /usr
 [ $status = 0 ] && [ "$(installed "$work/system/usr" | sed 's,lib/x86_64-linux-gnu,lib,g')" = "$whole" ] ||
-    fail "LIBDIR: $(cat "$work/err") $(installed "$work/system/usr")"
-[ ! -e "$work/system/usr/lib/liblatchsym.a" ] || fail 'LIBDIR: the library lies in lib'
+    stop "LIBDIR: $(cat "$work/err") $(installed "$work/system/usr")"
+[ ! -e "$work/system/usr/lib/liblatchsym.a" ] || stop 'LIBDIR: the library lies in lib'
 if command -v pkg-config >/dev/null; then
     export PKG_CONFIG_PATH=$work/system/usr/$LIBDIR/pkgconfig
     words=$(PKG_CONFIG_ALLOW_SYSTEM_LIBS=1 pkg-config --libs latchsym)
-    [ "${words% }" = '-L/usr/lib/x86_64-linux-gnu -llatchsym' ] || fail "LIBDIR: $words"
+    [ "${words% }" = '-L/usr/lib/x86_64-linux-gnu -llatchsym' ] || stop "LIBDIR: $words"
 fi
 [ ! -d "$work/project" ] || { by_cmake "$work/system/usr" C "$top/tests/c/waits.c" '' && "$built" /dev/null; } ||
-    fail "LIBDIR: CMake: $(cat "$work/out")"
+    stop "LIBDIR: CMake: $(cat "$work/out")"
 LIBDIR='' DESTDIR=$work/system run --uninstall /usr
 [ $status = 1 ] && [ "$(grep -c "^install.sh: left, .*: $work/system/usr/$LIBDIR/liblatchsym" "$work/err")" = 4 ] ||
-    fail "another LIBDIR: status $status, $(cat "$work/err")"
+    stop "another LIBDIR: status $status, $(cat "$work/err")"
 DESTDIR=$work/system run --uninstall /usr
-[ $status = 0 ] && [ -z "$(installed "$work/system")" ] || fail "LIBDIR: left: $(installed "$work/system")"
+[ $status = 0 ] && [ -z "$(installed "$work/system")" ] || stop "LIBDIR: left: $(installed "$work/system")"
 for LIBDIR in /usr/lib64 ../lib lib/../..; do
     run "$work/none"
-    [ $status = 2 ] && [ ! -e "$work/none" ] || fail "LIBDIR=$LIBDIR: status $status"
+    [ $status = 2 ] && [ ! -e "$work/none" ] || stop "LIBDIR=$LIBDIR: status $status"
 done
 unset LIBDIR
 
@@ -160,9 +155,9 @@ unset LIBDIR
 mkdir "$work/narrow"
 echo kept >"$work/narrow/include"
 run "$work/narrow"
-[ $status = 1 ] && [ "$(installed "$work/narrow")" = './include ' ] || fail "without a folder: $(installed "$work/narrow")"
+[ $status = 1 ] && [ "$(installed "$work/narrow")" = './include ' ] || stop "without a folder: $(installed "$work/narrow")"
 
 echo kept >"$prefix/lib/other"
 run --uninstall "$prefix"
-[ $status = 0 ] && [ "$(installed "$prefix")" = './lib/other ' ] || fail "uninstalled: $(installed "$prefix")"
+[ $status = 0 ] && [ "$(installed "$prefix")" = './lib/other ' ] || stop "uninstalled: $(installed "$prefix")"
 echo "install: by rename beside running programs, behind a DESTDIR, below blanks, and away again"

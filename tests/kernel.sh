@@ -21,11 +21,6 @@ fi
 INSTALL='' has "$is_there" linux-image-cloud-amd64 || exit 0
 build latchsym
 
-fail() {
-    echo "kernel: $1"
-    exit 1
-}
-
 image=$(compgen -G "${KERNEL:-}/boot/vmlinuz-*-cloud-amd64" | sort -V | tail -n 1)
 release=${image##*/vmlinuz-}
 root=$work/root
@@ -40,7 +35,7 @@ for module in virtio_ring virtio virtio_pci_modern_dev virtio_pci_legacy_dev vir
     case $found in
         *.ko) cp "$found" "$root/modules" ;;
         *.xz) xz -dc "$found" >"$root/modules/$module.ko" ;;
-        *) fail "there is no module $module of $release" ;;
+        *) stop "there is no module $module of $release" ;;
     esac
 done
 (cd "$root" && find . | cpio --quiet -o -H newc | gzip -1) >"$work/initrd"
@@ -49,7 +44,7 @@ truncate -s 64M "$work/disk"
 timeout "${SECONDS_OF_BOOT:-220}" qemu-system-x86_64 -accel tcg,thread=multi -cpu max -m 512 -smp 2 -display none -monitor none -no-reboot \
     -kernel "$image" -initrd "$work/initrd" -append 'console=ttyS0 panic=-1 quiet loglevel=7' -serial "file:$work/console" \
     -drive "file=$work/disk,format=raw,if=virtio" </dev/null >"$work/qemu" 2>&1 ||
-    fail "the kernel was not booted to its end: $(tail -n 3 "$work/qemu" "$work/console")"
+    stop "the kernel was not booted to its end: $(tail -n 3 "$work/qemu" "$work/console")"
 mkdir "$work/out"
-tar -C "$work/out" -xf "$work/disk" || fail "it has left nothing: $(tail -n 5 "$work/console")"
+tar -C "$work/out" -xf "$work/disk" || stop "it has left nothing: $(tail -n 5 "$work/console")"
 python3 "$top/tests/kernel/named.py" "$program" "$work/out" "$work/console"

@@ -10,13 +10,7 @@ set -euo pipefail
 build latchsym
 rows=$top/tests/lines
 cd "$work"
-failed=0
 count=0
-
-fail() {
-    echo "lines: $1"
-    failed=1
-}
 
 # ends NAME STATUS ERROR ARGUMENT..: the program ends so, with this on standard error
 ends() {

@@ -6,12 +6,6 @@ set -euo pipefail
 . "$(dirname "$0")/lib/program.sh"
 build latchsym
 cd "$top/examples/listings"
-failed=0
-
-fail() {
-    echo "lookups: $1"
-    failed=1
-}
 
 for modules in *.modules; do
     name=${modules%.modules}

@@ -10,23 +10,18 @@ set -euo pipefail
 . "$(dirname "$0")/lib/program.sh"
 . "$top/tests/lib/tools.sh"
 
-fail() {
-    echo "packages: $1"
-    exit 1
-}
-
 version=$(cat "$top/VERSION")
 name=latchsym-$version-x86_64
-"$top/release.sh" "$work" >"$work/out" 2>&1 || fail "$(cat "$work/out")"
+"$top/release.sh" "$work" >"$work/out" 2>&1 || stop "$(cat "$work/out")"
 tar -C "$work" -xf "$work/$name.tar.xz"
 release=$work/$name
 python3 -m json.tool "$release/latchsym.spdx.json" >/dev/null
 runs_on_old_glibc '' "$release/lib/liblatchsym.so.1" ||
-    fail "the library asks for $(objdump -T "$release/lib/liblatchsym.so.1" | grep GLIBC)"
+    stop "the library asks for $(objdump -T "$release/lib/liblatchsym.so.1" | grep GLIBC)"
 
 # said WORDS: the command of its README that begins so
 said() {
-    grep -oE "\`[^\`]*\`" "$release/README.md" | tr -d '\`' | grep -F -- "$1" || fail "its README has no $1"
+    grep -oE "\`[^\`]*\`" "$release/README.md" | tr -d '\`' | grep -F -- "$1" || stop "its README has no $1"
 }
 
 # the wheel
@@ -37,17 +32,17 @@ if has 'python3 -m venv "$work/venv"' python3-venv; then
     makes=("$work/venv/bin/python" "${pip[@]}" wheel --no-index --no-deps --wheel-dir)
     "${makes[@]}" "$work" "$release/python"
     "${makes[@]}" "$work/named" --config-settings release="$release" "$top/python"
-    cmp "$work/$wheel" "$work/named/$wheel" || fail 'a wheel of a release that is named is another one'
+    cmp "$work/$wheel" "$work/named/$wheel" || stop 'a wheel of a release that is named is another one'
     (cd "$release" && ! "${makes[@]}" "$work/none" --config-settings release=. ./python) >"$work/out" 2>&1 &&
-        grep -q 'latchsym: \. is no unpacked release' "$work/out" || fail "a release that is none: $(cat "$work/out")"
+        grep -q 'latchsym: \. is no unpacked release' "$work/out" || stop "a release that is none: $(cat "$work/out")"
     wheel=$work/$wheel
     alone=(env -i PATH=/none "$work/venv/bin/python")
     "${alone[@]}" "${pip[@]}" install --no-index "$wheel"
     library=$("${alone[@]}" -c 'import latchsym; print(latchsym._library.lib._name)')
     cmp "$library" "$release/lib/liblatchsym.so.1"
-    [[ $library == "$work"/venv/* ]] || fail "the wheel's package has loaded $library"
+    [[ $library == "$work"/venv/* ]] || stop "the wheel's package has loaded $library"
     (cd "$release/python" && "${alone[@]}" -W error -m unittest --quiet) >"$work/out" 2>&1 ||
-        fail "$(cat "$work/out")"
+        stop "$(cat "$work/out")"
     echo "packages: the wheel: $(stat -c %s "$wheel") bytes, with the library, by pip alone"
 fi
 
@@ -56,12 +51,12 @@ if has 'command -v cargo' cargo; then
     export CARGO_TARGET_DIR=$work/target
     unset LATCHSYM_LIB_DIR
     (cd "$release" && eval "$(said 'cargo package')") >"$work/out" 2>&1 ||
-        fail "$(cat "$work/out")"
+        stop "$(cat "$work/out")"
     crate=$work/target/package/latchsym-$version.crate
     tar -C "$work" -xf "$crate"
     cd "$work/latchsym-$version"
     for file in lib/x86_64/{liblatchsym.a,latchsym.spdx.json,licences/memchr/LICENSE-MIT}; do
-        [ -s "$file" ] || fail "the crate has no $file"
+        [ -s "$file" ] || stop "the crate has no $file"
     done
     mapfile -t words < <(grep -oE '^0x[0-9a-f]+' "$top/examples/listings/alone.addresses")
     cargo run --quiet --offline --example lookup "$top/examples/listings/alone.kallsyms" "${words[@]}" |
@@ -75,17 +70,17 @@ has "$tools" dpkg-dev debhelper lintian || exit 0
 mkdir "$work/debian"
 cp -r "$release" "$work/debian"
 (cd "$work/debian/$name" && eval "$(said dpkg-buildpackage)") >"$work/out" 2>&1 ||
-    fail "$(cat "$work/out")"
+    stop "$(cat "$work/out")"
 lintian --no-cfg --allow-root --fail-on error "$work"/debian/*.changes >"$work/out" 2>&1 ||
-    fail "$(cat "$work/out")"
+    stop "$(cat "$work/out")"
 debs=("$work"/debian/*.deb)
-[ ${#debs[@]} = 3 ] || fail "${debs[*]} are not three packages"
+[ ${#debs[@]} = 3 ] || stop "${debs[*]} are not three packages"
 for deb in "${debs[@]}"; do
     dpkg-deb -x "$deb" "$work/unpacked"
 done
 # (a page's links lead to what is beside it, in a package on its own too)
 for folder in "$work"/unpacked/usr/share/doc/*; do
-    [ -z "$(find "$folder" -name '*.md*')" ] || python3 "$top/tests/lib/links.py" "$folder" || fail "dead links in $folder"
+    [ -z "$(find "$folder" -name '*.md*')" ] || python3 "$top/tests/lib/links.py" "$folder" || stop "dead links in $folder"
 done
 triplet=$(dpkg-architecture -q DEB_HOST_MULTIARCH)
 libraries=$work/unpacked/usr/lib/$triplet
@@ -106,19 +101,19 @@ if [ "$(id -u)" = 0 ] && has 'command -v debootstrap' debootstrap &&
     files >"$work/before"
     mkdir "$root/debs"
     cp "${debs[@]}" "$root/debs"
-    chroot "$root" bash -c 'dpkg -i debs/*.deb' >"$work/out" 2>&1 || fail "$(cat "$work/out")"
+    chroot "$root" bash -c 'dpkg -i debs/*.deb' >"$work/out" 2>&1 || stop "$(cat "$work/out")"
     rm -r "$root/debs"
-    chroot "$root" latchsym lookup "${lookup[@]}" | cmp - "$wanted" || fail 'the installed program'
-    chroot "$root" /waits /basic.modules || fail 'a program over the installed library'
+    chroot "$root" latchsym lookup "${lookup[@]}" | cmp - "$wanted" || stop 'the installed program'
+    chroot "$root" /waits /basic.modules || stop 'a program over the installed library'
     for file in /usr/share/{man/man1/latchsym{,-record}.1.gz,bash-completion/completions/latchsym}; do
-        [ "$(chroot "$root" dpkg -S "$file")" = "latchsym: $file" ] || fail "no package has $file"
+        [ "$(chroot "$root" dpkg -S "$file")" = "latchsym: $file" ] || stop "no package has $file"
     done
     chroot "$root" dpkg --purge latchsym liblatchsym-dev liblatchsym1 >"$work/out" 2>&1 ||
-        fail "$(cat "$work/out")"
-    files | diff "$work/before" - || fail 'these stay behind'
+        stop "$(cat "$work/out")"
+    files | diff "$work/before" - || stop 'these stay behind'
     echo "packages: for Debian: $sizes bytes, installed, used and removed in a Debian of their own"
 else
     "$work/unpacked/usr/bin/latchsym" lookup "${lookup[@]/#\//$top/examples/listings/}" | cmp - "$wanted"
-    LD_LIBRARY_PATH=$libraries "$work/waits" "$wanted" || fail 'a program over the unpacked library'
+    LD_LIBRARY_PATH=$libraries "$work/waits" "$wanted" || stop 'a program over the unpacked library'
     echo "packages: for Debian: $sizes bytes, unpacked and used; there is no other Debian to be had here"
 fi

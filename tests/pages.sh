@@ -15,12 +15,6 @@ done
 build latchsym
 page=$top/docs/latchsym.1
 completions=$top/completions
-failed=0
-
-fail() {
-    echo "pages: $1"
-    failed=1
-}
 
 # same WHAT WANTED GOT: both have the same lines
 same() {

@@ -13,32 +13,24 @@ python3 "$top/tests/recordings/compared.py" "$program" "${RUNS:-6000}" "${SEED:-
 build latchsym
 cd "$work"
 
-fail() {
-    echo "recordings: $1"
-    exit 1
-}
 # lists NAME..: the listing has these modules now
 lists() {
     printf 'ffffffff81000000 T _stext\n' >new
     for name; do printf 'ffffffffc0000010 t %s_a\t[%s]\n' "$name" "$name" >>new; done
     mv new kallsyms
 }
-# waits FILE: until `got` is the file
-waits() {
-    local turn
-    for turn in $(seq 1 500); do
-        cmp -s got "$1" && return
-        sleep 0.02
-    done
-    fail "written is $(cat got)"
+# writes: ends the script unless `got` comes to be what is wanted
+writes() {
+    waits got wanted
+    [ $failed = 0 ] || exit 1
 }
 # ends STATUS ERRORS: so the command ends that was begun
 ends() {
     local status=0
     wait $recorder || status=$?
-    [ $status = "$1" ] || fail "status $status in place of $1: $(cat err)"
-    [ "$(cat err)" = "$2" ] || fail "said: $(cat err)"
-    waits wanted
+    [ $status = "$1" ] || stop "status $status in place of $1: $(cat err)"
+    [ "$(cat err)" = "$2" ] || stop "said: $(cat err)"
+    writes
 }
 said='   sh-1 [000] ..... '
 
@@ -49,18 +41,18 @@ mkfifo events
 recorder=$!
 exec 3>events
 printf 'latchhistory 1\n' >wanted
-waits wanted
+writes
 printf '%s1.5: tracing_mark_write: latchsym\n' "$said" >&3
 printf 'listing 1.5\nffffffff81000000 T _stext\n' >>wanted
-waits wanted
+writes
 lists xfs
 printf '%s2.5: module_load: xfs OE\n%s2.7: module_fr' "$said" "$said" >&3
 printf 'change 2.5\nffffffffc0000010 t xfs_a\t[xfs]\n' >>wanted
-waits wanted
+writes
 lists
 printf 'ee: xfs\n' >&3
 printf 'change 2.7\ngone xfs\n' >>wanted
-waits wanted
+writes
 # a listing that cannot be read ends it, and what was written stays
 rm kallsyms
 printf '%s3.5: module_load: xfs OE\n' "$said" >&3
@@ -80,7 +72,7 @@ lists ext4
 printf '%s1.5: tracing_mark_write: latchsym' "$said" |
     "$program" record --append --kallsyms kallsyms - >got 2>err
 printf 'listing 1.5\nffffffff81000000 T _stext\nffffffffc0000010 t ext4_a\t[ext4]\n' >wanted
-cmp got wanted || fail "of the standard input: $(cat got err)"
+cmp got wanted || stop "of the standard input: $(cat got err)"
 
 # events that cannot be read, an output that cannot be written, and one that nobody reads
 "$program" record none >got 2>err &
@@ -88,8 +80,8 @@ recorder=$!
 printf 'latchhistory 1\n' >wanted
 ends 1 'latchsym: none: cannot be read (No such file or directory)'
 : >wanted
-"$program" record --kallsyms kallsyms lines >/dev/full 2>err && fail 'a full device'
-[ "$(cat err)" = 'latchsym: cannot write (No space left on device)' ] || fail "a full device: $(cat err)"
+"$program" record --kallsyms kallsyms lines >/dev/full 2>err && stop 'a full device'
+[ "$(cat err)" = 'latchsym: cannot write (No space left on device)' ] || stop "a full device: $(cat err)"
 mkfifo gone
 "$program" record --kallsyms kallsyms events >gone 2>err &
 recorder=$!
@@ -103,12 +95,12 @@ ends 1 ''
 # the script's own command line
 usage='usage: latchsym-record FILE'
 for word in -h --help; do
-    [ "$("$top/scripts/latchsym-record" $word 2>err)" = "$usage" ] || fail "latchsym-record $word: $(cat err)"
+    [ "$("$top/scripts/latchsym-record" $word 2>err)" = "$usage" ] || stop "latchsym-record $word: $(cat err)"
 done
 for words in '' '--boot' 'a b'; do
     status=0
     "$top/scripts/latchsym-record" $words >got 2>err || status=$?
-    [ "$status $(cat err)" = "2 latchsym-record: $usage" ] || fail "latchsym-record $words: $status $(cat err)"
+    [ "$status $(cat err)" = "2 latchsym-record: $usage" ] || stop "latchsym-record $words: $status $(cat err)"
 done
 
 timeout 120 python3 "$top/tests/recordings/script.py" "$top/scripts/latchsym-record" "$program"

@@ -6,12 +6,6 @@ set -eu
 . "$(dirname "$0")/lib/program.sh"
 build latchsym
 cd "$top/examples/scripts"
-failed=0
-
-fail() {
-    echo "runs: $1"
-    failed=1
-}
 
 basic=(--modules ../listings/basic.modules --kallsyms ../listings/basic.kallsyms)
 regions=(--modules ../listings/regions.modules --kallsyms ../listings/regions.kallsyms --regions ../listings/regions.regions)

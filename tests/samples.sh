@@ -24,15 +24,9 @@ cp "$library" "$work/lib/liblatchsym.a"
 cp "$shared" "$work/lib/liblatchsym.so.1"
 export HOME=$work/home CARGO_TARGET_DIR=$work/target PYTHONDONTWRITEBYTECODE=1 CARGO_HOME=${CARGO_HOME:-$HOME/.cargo} RUSTUP_HOME=${RUSTUP_HOME:-$HOME/.rustup}
 chmod -R a+rX "$work"
-failed=0
 samples=0
 users=(me)
 [ "$(id -u)" != 0 ] || users+=(nobody)
-
-fail() {
-    echo "samples: $1"
-    failed=1
-}
 
 # block PAGE TEXT [BEHIND]: the first indented block of the page that has the text, or the one so many
 # behind it

@@ -14,12 +14,6 @@ set -eu
 . "$(dirname "$0")/lib/program.sh"
 build latchsym
 cd "$top/examples/traces"
-failed=0
-
-fail() {
-    echo "traces: $1"
-    failed=1
-}
 
 # agree WANTED GOT: whether the lines are the wanted ones, a `*` among their words standing for any
 # number

@@ -6,11 +6,10 @@ set -euo pipefail
 build latchsym
 version=$(cat "$top/VERSION")
 IFS=. read -r major minor patch <<<"$version"
-failed=0
 
 # has FILE LINE: the file has a line of this version
 has() {
-    grep -qxF -- "$2" "$top/$1" || { echo "versions: $1 has no line: $2"; failed=1; }
+    grep -qxF -- "$2" "$top/$1" || fail "$1 has no line: $2"
 }
 
 has include/latchsym.h "#define LATCHSYM_VERSION $((major * 10000 + minor * 100 + patch))"
@@ -22,13 +21,13 @@ has bindings/rust/Cargo.lock "version = \"$version\""
 has packaging/debian/changelog "latchsym ($version-1) unstable; urgency=medium"
 for page in 1 3; do
     grep -q "^\.TH LATCHSYM $page [0-9-]* \"latchsym $version\" " "$top/docs/latchsym.$page" ||
-        { echo "versions: docs/latchsym.$page is of another version"; failed=1; }
+        fail "docs/latchsym.$page is of another version"
 done
 for licence in LICENSE-MIT LICENSE-APACHE; do
     for folder in python bindings/rust; do
-        cmp -s "$top/$licence" "$top/$folder/$licence" || { echo "versions: $folder has another $licence"; failed=1; }
+        cmp -s "$top/$licence" "$top/$folder/$licence" || fail "$folder has another $licence"
     done
 done
-[ "$("$program" --version)" = "latchsym $version" ] || { echo "versions: the program is $("$program" --version)"; failed=1; }
+[ "$("$program" --version)" = "latchsym $version" ] || fail "the program is $("$program" --version)"
 [ $failed = 1 ] || echo "versions: all are $version"
 exit $failed

@@ -7,6 +7,30 @@ top=$(cd "$(dirname "${BASH_SOURCE[0]}")/../.." && pwd)
 work=$(mktemp -d)
 trap 'rm -rf "$work"' EXIT
 
+failed=0
+# fail TEXT: says what is wrong; the script goes on, and ends with `exit $failed`
+fail() {
+    local script=${0##*/}
+    echo "${script%.sh}: $1"
+    failed=1
+}
+
+# stop TEXT: says what is wrong, and ends the script
+stop() {
+    fail "$1"
+    exit 1
+}
+
+# waits FILE WANTED: waits up to 30 seconds until the file has what is wanted
+waits() {
+    local turn
+    for turn in $(seq 1 1500); do
+        cmp -s "$1" "$2" && return
+        sleep 0.02
+    done
+    fail "$1 is $(cat "$1")"
+}
+
 # is_older FILE FOLDER..: whether FILE is older than something in a FOLDER, or than crates.txt
 is_older() {
     [ -n "$(find "${@:2}" "$top/crates.txt" -newer "$1" -print -quit)" ]
