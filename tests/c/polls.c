@@ -7,37 +7,10 @@
 #include <stdio.h>
 #include <string.h>
 
-extern void *__libc_malloc(size_t size);
-extern void *__libc_calloc(size_t count, size_t size);
-extern void *__libc_realloc(void *block, size_t size);
-extern void __libc_free(void *block);
+#include "refusing.h"
 
 #define CHECK(x) do { if (!(x)) { printf("polls: line %d: %s\n", __LINE__, #x); exit(1); } } while (0)
 enum { ROOM = 4096, MINUTE = 60 };
-
-static long refused, requests, blocks;
-
-static int is_refused(void) { return ++requests == refused; }
-
-void *malloc(size_t size) {
-    void *block = is_refused() ? NULL : __libc_malloc(size);
-    blocks += block != NULL;
-    return block;
-}
-void *calloc(size_t count, size_t size) {
-    void *block = is_refused() ? NULL : __libc_calloc(count, size);
-    blocks += block != NULL;
-    return block;
-}
-void *realloc(void *old, size_t size) {
-    void *block = is_refused() ? NULL : __libc_realloc(old, size);
-    blocks += block && !old;
-    return block;
-}
-void free(void *block) {
-    blocks -= block != NULL;
-    __libc_free(block);
-}
 
 /* A file: its text, the reason why it cannot be read, or 0, and how often it was read. */
 struct file { const char *name; char text[ROOM]; int why; long reads; };
@@ -328,9 +301,9 @@ static int is_refused_at(long request) {
     begin("watched");
     CHECK(!poll_once());
     load("first second");
-    requests = 0, refused = request;
+    requests = 0, refused_request = request;
     answer = poll_once();
-    refused = 0;
+    refused_request = 0;
     if (requests < request) CHECK(!answer);
     /* (where the watched file is not read, the listing is) */
     else if (answer) CHECK((answer == -1 ? errno == ENOMEM : answer == LATCHSYM_OUT_OF_MEMORY) && shows("first ") && !poll_once());

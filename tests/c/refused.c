@@ -1,39 +1,13 @@
 /* Refuses each request for memory of each call in turn: the call does without, or answers
  * LATCHSYM_OUT_OF_MEMORY and changes nothing; and all memory is given back at the end. */
-#include <errno.h>
 #include <latchsym.h>
 #include <stdio.h>
 #include <stdlib.h>
 #include <string.h>
 
-extern void *__libc_malloc(size_t size);
-extern void *__libc_realloc(void *block, size_t size);
-extern void __libc_free(void *block);
+#include "refusing.h"
 
 #define CHECK(x) do { if (!(x)) { printf("refused: line %d: %s\n", __LINE__, #x); exit(1); } } while (0)
-
-static long refused_request, requests, blocks;
-
-static int is_refused(void) {
-    if (!refused_request || ++requests != refused_request) return 0;
-    errno = ENOMEM;
-    return 1;
-}
-
-void *malloc(size_t size) {
-    void *block = is_refused() ? NULL : __libc_malloc(size);
-    blocks += block != NULL;
-    return block;
-}
-void *realloc(void *old, size_t size) {
-    void *block = is_refused() ? NULL : __libc_realloc(old, size);
-    blocks += block && !old;
-    return block;
-}
-void free(void *block) {
-    blocks -= block != NULL;
-    __libc_free(block);
-}
 
 static const char modules[] = "ext4 8192 1 - Live 0xffffffffc0000000\n";
 static const char kallsyms[] = "ffffffff81000000 T _stext\nffffffff81002000 T _end\nffffffffc0000010 t ext4_a\t[ext4]\n";
