@@ -50,7 +50,7 @@ OFFSET = re.compile(rb".*\+0x([0-9a-f]+)/0x", re.DOTALL)
 
 # what a line says of the kernel that wrote it: where it lay, and how long a function is
 LAY = re.compile(rb"Kernel Offset: 0x([0-9a-fA-F]{1,16}) from 0x([0-9a-fA-F]{1,16})(?![0-9a-fA-F])")
-FUNCTION = re.compile(rb"[0-9A-Za-z_.$]+\Z")
+IN_NAMES = b"0123456789ABCDEFGHIJKLMNOPQRSTUVWXYZabcdefghijklmnopqrstuvwxyz_.$"
 SIZE = re.compile(rb"\+0x[0-9a-fA-F]+/0x([0-9a-fA-F]+)")
 MODULE = re.compile(rb" \[[0-9A-Za-z_]")
 STEP = 0x200000
@@ -170,11 +170,13 @@ def report_line(written, line, plain):
     lay = LAY.search(line)
     if lay and not written.lay:
         written.lay = tuple(int(number, 16) for number in lay.groups())
-    for at in (i for i, byte in enumerate(line) if byte == ord("+")):
-        name, size = FUNCTION.search(line[:at]), SIZE.match(line[at:])
-        if not name or not size or len(size[1]) > 16 or MODULE.match(line[at + size.end() :]):
+    for size in SIZE.finditer(line):
+        # (a search for a name up to the size would begin at each byte of a long word)
+        before = line[: size.start()]
+        name = before[len(before.rstrip(IN_NAMES)) :]
+        if not name or len(size[1]) > 16 or MODULE.match(line[size.end() :]):
             continue
-        sizes = plain.sizes(name[0])
+        sizes = plain.sizes(name)
         written.functions += bool(sizes)
         written.resized += bool(sizes) and int(size[1], 16) not in sizes
 
