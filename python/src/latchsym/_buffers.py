@@ -63,8 +63,8 @@ _release.restype = None
 _SIMPLE = 0
 
 
-class Pinned:
-    """A buffer that stays where it is until it is released: `at` is where, `len` its bytes."""
+class Pinned(Closing):
+    """A buffer that stays where it is until it is closed: `at` is where, `len` its bytes."""
 
     def __init__(self, buffer: Any) -> None:
         self._view = _PyBuffer()
@@ -74,23 +74,12 @@ class Pinned:
         self.at: int = self._view.buf or EMPTY_AT
         self.len: int = self._view.len
 
-    def release(self) -> None:
+    def close(self) -> None:
         if self._is_held:
             self._is_held = False
             _release(self._view)
 
-    def __enter__(self) -> Pinned:
-        return self
-
-    def __exit__(
-        self,
-        kind: Type[BaseException] | None,
-        error: BaseException | None,
-        trace: TracebackType | None,
-    ) -> None:
-        self.release()
-
-    __del__ = release
+    __del__ = close
 
 
 def listing(buffer: Any, name: str) -> Pinned:
