@@ -14,7 +14,8 @@
  *
  * A listing in which modules alone have changed is shown as latchsym_catalog_change makes it of the
  * one before: of both only the lines of these modules are kept. So the first listing takes some 15
- * MB, and one after it 0.1 MB.
+ * MB, and one after it 0.1 MB. Of two modules with symbols at one address, which no kernel has, it
+ * may name another one than the listing read whole.
  *
  * A module that comes or goes while the listing is read may stand in one of the two files alone. So
  * the watched file is read again behind the listing. Unless it says what it said before, and has
