@@ -187,8 +187,7 @@ opened i now side key n f is some found room within =
             parts.here,
             parts.far,
             subst (λ (l : ℕ). IsPath i.nodes l f.path)
-                (link-joined side v.red v.near key v.row v.far)
-                p.path_linked,
+                (link-joined side v.red v.near key v.row v.far) p.path_linked,
           );
           chained = p.chained;
           apart = λ e. (let all = p.apart e in

@@ -216,7 +216,6 @@ module _ {copy : ℕ} {x : Record} {start : List Above} {first : List Store} whe
           few = omega (
             arith,
             longer,
-            is.few,
             not_moved (link (shape (plugged near.rest (there is.was))))
                 (link (shape (plugged near.rest (there here.tree)))) k.1,
           );
@@ -246,12 +245,8 @@ module _ {copy : ℕ} {x : Record} {start : List Above} {first : List Store} whe
         replaced = g.replaced;
         good = grown_good g;
         stores = is.stores;
-        few = omega (
-          arith,
-          is.few,
-          ap (λ b. moved b after) is.from,
-          ap (moved (link (shape is.was))) is.linked,
-        );
+        few = omega
+            (arith, ap (λ b. moved b after) is.from, ap (moved (link (shape is.was))) is.linked);
       })
 
   -- with the top black, and the root's link

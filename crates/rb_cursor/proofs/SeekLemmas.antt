@@ -70,12 +70,8 @@ module _ {seen : Record → Ordering} {i : Inside} {start : Zipper} (s : SeekSta
     pub step_fits : i.depth < 64
     step_fits =
         let r = rewrites i (show i) key n.red (record_of n) n s.is refl some found in
-        omega (
-          arith,
-          ap (λ (t : ColouredTree). depth (shape t)) r.was,
-          depth_is i (show i) s.is refl,
-          s.fits,
-        )
+        omega
+        (arith, ap (λ (t : ColouredTree). depth (shape t)) r.was, depth_is i (show i) s.is refl)
 
     -- the node that was read stands there again
     pub seen_ends : seen (record_of n) ≡ Equal →
@@ -103,7 +99,6 @@ module _ {seen : Record → Ordering} {i : Inside} {start : Zipper} (s : SeekSta
                 ∙ ap (λ z. seen_way seen z (show i).path) (sym o.opens.was) ∙ s.way;
             fits = omega (
               arith,
-              s.fits,
               ap (λ z. depth (shape z)) o.opens.was,
               depth_sided side n.red t o.opens.row o.opens.other,
               ap (λ p. length p) o.opens.path,

@@ -159,9 +159,7 @@ module _ (copy : ℕ) {old opened : Zipper} {top : Top} (is : OpensSide Right ol
   longer : length (links ++ two) ≡ length links + 2
   longer = length-append links two
 
-  pub next_taken : short ≡ false → TakesTop copy old.tree (branch top.red is.other next taken) false
-      (links ++ (set_link Left copy next.node (link (shape is.other))
-      ∷ set_link Right copy next.node (link (shape taken)) ∷ []))
+  pub next_taken : short ≡ false → TakesTop copy old.tree replaced false (links ++ two)
   next_taken whole =
       subst (λ v. TakesTop copy v replaced false (links ++ two)) (sym is.was) (record {
         row = is.row;
@@ -176,12 +174,8 @@ module _ (copy : ℕ) {old opened : Zipper} {top : Top} (is : OpensSide Right ol
         fewer = λ e. absurd (cc);
       })
 
-  pub next_filled_up : short ≡ true
-      → TakesTop copy old.tree (filled Right (branch top.red is.other next taken)).tree
-      (filled Right (branch top.red is.other next taken)).short
-      ((links ++ (set_link Left copy next.node (link (shape is.other))
-      ∷ set_link Right copy next.node (link (shape taken)) ∷ []))
-      ++ fill_links Right copy (branch top.red is.other next taken))
+  pub next_filled_up : short ≡ true → TakesTop copy old.tree (filled Right replaced).tree
+      (filled Right replaced).short ((links ++ two) ++ fill_links Right copy replaced)
   next_filled_up full =
       let v = filled Right replaced in
       let ts = fill_links Right copy replaced in

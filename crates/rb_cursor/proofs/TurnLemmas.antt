@@ -216,7 +216,6 @@ turn_at i side u now hue red a b other x y path blanks nk ck link child_red node
           let after' = uses-joined e beyond node_red b nk y other in omega arith);
       counted = omega (
         arith,
-        p.counted,
         size-joined beyond red inner nk y other,
         size-joined side hue b ck x a,
         size-joined side child_red sunk ck x a,

@@ -20,15 +20,8 @@ fill-short-requires-clause-list c =
     omega (
       arith,
       fill_fits inv.rises near more full c.rise.ensures,
-      longer,
-      now,
       relink_fits inv.rises near more,
       ap most_on_climb (inv.rises.was_short full),
-      c.requires.list,
-      inv.capacity,
-      c.relink.ensures.capacity,
-      c.relink.new.out.ok.0,
-      c.args.out.now.ok.0,
     )
 
 pub loop-copy-preserved : goal.loop-copy-preserved

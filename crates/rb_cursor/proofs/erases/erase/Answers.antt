@@ -46,11 +46,6 @@ relink_root-requires g c =
       ap length (stored g c),
       length-append c.args.out.now.items
           ((c.take_node-short.ensures.takes).0 ++ (c.climb.ensures.climbs).0),
-      c.requires.list,
-      c.climb.ensures.capacity,
-      c.take_node-short.ensures.capacity,
-      c.climb.new.out.ok.0,
-      c.args.out.now.ok.0,
     )
 
 pub returns-clause-row : goal.returns-clause-row

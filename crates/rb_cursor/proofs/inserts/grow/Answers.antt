@@ -79,16 +79,8 @@ roots c = grind (arith, common_steps)
 pub relink_root-requires : goal.relink_root-requires
 relink_root-requires c =
     let e = ends c in
-    omega (
-      arith,
-      ends_few e,
-      ap length (roots c),
-      simp length-append at (ap length e.stores),
-      c.requires.list,
-      c.match-above.out.ok.0,
-      c.args.out.now.ok.0,
-      kept c,
-    )
+    omega
+    (arith, ends_few e, ap length (roots c), simp length-append at (ap length e.stores), kept c)
 
 pub returns-clause-balanced : goal.returns-clause-balanced
 returns-clause-balanced c =
@@ -119,7 +111,4 @@ returns-clause-few c =
       ap length (roots c.before),
       simp length-append at (ap length e.stores),
       simp length-append at (ap length c.relink_root.ensures.items),
-      c.match-above.out.ok.0,
-      c.args.out.now.ok.0,
-      c.relink_root.new.out.ok.0,
     )

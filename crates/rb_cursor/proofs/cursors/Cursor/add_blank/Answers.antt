@@ -31,12 +31,7 @@ there c =
     blanked c.self.inside c.reserve.new.self c.insert_reserved.new.self c.args.self.now
     c.vacant_key-key.result (blank_node c.self.inside.blank) c.self.invariant c.self.view_is
     c.reserve.ensures.rest_kept c.reserve.ensures.capacity c.in_ok-reserve.ensures.room
-    (omega (
-      arith,
-      c.if-len.false,
-      c.len.ensures,
-      ap (λ (z : Slab Node). slab_len z) c.reserve.ensures.rest_kept,
-    ))
+    (omega (arith, ap (λ (z : Slab Node). slab_len z) c.reserve.ensures.rest_kept))
     c.vacant_key-key.ensures.vacant
     (subst (λ (k : ℕ). Updates c.reserve.new.self c.insert_reserved.new.self k
     (Some (blank_node c.self.inside.blank))) (c.insert_reserved.ensures.key

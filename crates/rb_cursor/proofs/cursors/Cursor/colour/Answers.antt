@@ -6,8 +6,7 @@ use Rattle.rb_cursor.proofs.cursors.Cursor.colour.Goals as goal
 pub returns-then-self-eq0 : goal.returns-then-self-eq0
 returns-then-self-eq0 c =
     unchanged (coloured c.args.red) refl c.self.inside c.args.self.now c.self.invariant
-    c.self.view_is
-    c.if-self-eq0.true
+    c.self.view_is c.if-self-eq0.true
 
 there : (c : goal.After-self-1) →
     Rewritten c.self.inside c.args.self.now (c.self.inside.tree - 1) c.args.red

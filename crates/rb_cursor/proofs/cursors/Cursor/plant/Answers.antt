@@ -16,11 +16,7 @@ index_mut-node-requires c =
 
 pub overflow_sub-self : goal.overflow_sub-self
 overflow_sub-self c =
-    omega (
-      arith,
-      room_is c.self.inside c.args.self.now c.self.invariant c.self.view_is,
-      c.requires.room,
-    )
+    omega (arith, room_is c.self.inside c.args.self.now c.self.invariant c.self.view_is)
 
 there : (c : goal.After-lead) →
     Moved (record c.self.inside {
