@@ -237,7 +237,6 @@ filling c s red near y (branch true l x r) =
       arith,
       length-append ts (ss ++ rs),
       length-append ss rs,
-      f.few,
       relink_moved s c x.node (suc y.node) (link (shape u)),
       moved_one (suc y.node) (link (shape u)),
     ))
@@ -276,10 +275,7 @@ module _ (n c : ℕ) (small : c ≤ 1) where
         let q = in_far n c small P below s red red near y far within sep u
         (turn_links (opposite s) c far) (λ w p. turn_relinks n c small (Among (shape far))
         (λ i h. below i (w i h)) (opposite s) false false far (λ i h. h) p) in
-        then n c small P (shape (sided s red near y far)) (shape (sided s red near y u))
-        (shape (turned s red false (sided s red near y u))) (turn_links (opposite s) c far
-        ++ relink (opposite s) c y.node (link (shape far)) (link (shape u)))
-        (turn_links s c (sided s red near y u)) q
+        then n c small P _ _ _ _ _ q
         (turn_relinks n c small P below s red false (sided s red near y u) q.within q.separate)
 
     by_relinks : (s : Side) (red k : Bool) (near : ColouredTree) (y : Record) (inner : ColouredTree)
@@ -350,11 +346,8 @@ module _ (n c : ℕ) (small : c ≤ 1) where
         let i = branch true near y a in
         let u = (filled_over_black Left true near y a).tree in
         let q = turn_relinks n c small P below Left false true t within sep in
-        then n c small P (shape t) (shape (branch false i x b)) (shape (branch false u x b))
-        (turn_links Left c t) (fill_links_over_black Left c y a
-        ++ relink Left c x.node (suc y.node) (link (shape u))) q
-        (in_sided n c small P below Left false false i x b q.within q.separate u
-        (fill_links_over_black Left c y a)
+        then n c small P _ _ _ _ _ q
+        (in_sided n c small P below Left false false i x b q.within q.separate u _
         (fill_black_relinks (Among (shape i)) (λ j h. below j (q.within j (inr (inl h)))) Left true
         near y a (λ j h. h) q.separate.3))
     fill_relinks Right red near y (branch true a x b) within sep =
@@ -362,11 +355,8 @@ module _ (n c : ℕ) (small : c ≤ 1) where
         let i = branch true b y near in
         let u = (filled_over_black Right true near y b).tree in
         let q = turn_relinks n c small P below Right false true t within sep in
-        then n c small P (shape t) (shape (branch false a x i)) (shape (branch false a x u))
-        (turn_links Right c t) (fill_links_over_black Right c y b
-        ++ relink Right c x.node (suc y.node) (link (shape u))) q
-        (in_sided n c small P below Right false false i x a q.within q.separate u
-        (fill_links_over_black Right c y b)
+        then n c small P _ _ _ _ _ q
+        (in_sided n c small P below Right false false i x a q.within q.separate u _
         (fill_black_relinks (Among (shape i)) (λ j h. below j (q.within j (inr (inr h)))) Right true
         near y b (λ j h. h) q.separate.4))
 

@@ -153,8 +153,7 @@ module _ (n c : ℕ) (small : c ≤ 1) (P : ℕ → Type 0) (below : (i : ℕ) �
             (turn_relinks n c small (Among (shape near))
             (λ i a. below i (within i (among_near s false near y far i a))) s true true near
             (λ i a. a) (separate_near s false near y far sep)) in
-            then n c small P (shape t) (shape v) (shape (turned (opposite s) false true v))
-            (ss ++ rs) (turn_links (opposite s) c v) q
+            then n c small P _ _ _ _ _ q
             (turn_relinks n c small P below (opposite s) false true v q.within q.separate)
       ]
 

@@ -116,8 +116,7 @@ module _ (n c : ℕ) (small : c ≤ 1) where
               (link_kept n c R m ss q.owns y (link_word s c y) off (is_link s c y) ∙ h.near)
               (link_kept n c R m ss q.owns y (link_word (opposite s) c y) off
               (is_link (opposite s) c y) ∙ h.far)
-              (q.leads m sized h.in_near)
-              (inner_kept n c R m ss q.owns r apart h.in_far)
+              (q.leads m sized h.in_near) (inner_kept n c R m ss q.owns r apart h.in_far)
               fits nu nr);
         }
 
@@ -138,7 +137,6 @@ module _ (n c : ℕ) (small : c ≤ 1) where
             arith,
             word_in Right n c y small (below y own),
             length-set m (left_word c y) (link l),
-            sized,
           )),
           inner_kept n c (λ i. i ≡ y) m ss owns l (away l nl) il,
           inner_kept n c (λ i. i ≡ y) m ss owns r (away r nr) ir,

@@ -36,11 +36,9 @@ module _ (n c : ℕ) (small : c ≤ 1) (others gone : ℕ → Type 0) where
       step n c small (Own others gone (forked s l y r)) (λ i h. room.below i h.0) y
       (inr (here y (inl refl)), λ g. a.not_near (was y g)) s (Own others gone l)
       (λ i h. (⊎_elim (λ e. inl e) (λ b. inr (here i (inr (inl b)))) h.0, h.1))
-      (λ h. ⊎_elim (λ e. room.free y e (here y (inl refl))) (λ b. a.not_near b) h.0)
-      l u r ss
+      (λ h. ⊎_elim (λ e. room.free y e (here y (inl refl))) (λ b. a.not_near b) h.0) l u r ss
       (λ i b h. ⊎_elim (λ e. room.free i e (here i (inr (inr b)))) (λ d. a.apart i d b) h.0)
-      (λ i b. (inr (here i (inr (inr b))), λ g. a.apart i (was i g) b))
-      a.not_far a.far q
+      (λ i b. (inr (here i (inr (inr b))), λ g. a.apart i (was i g) b)) a.not_far a.far q
 
   -- one step up
   rise_relinks : (s : Side) (j k : Bool) (l : ColouredTree) (y : Record) (r u : ColouredTree)
@@ -66,8 +64,7 @@ module _ {c : ℕ} {others gone : ℕ → Type 0} {whole : ColouredTree} {rs : L
     gone_here = λ i g. among_near a.side a.red was a.row a.other i (r.gone_here i g);
     links = λ n small room.
         rise_relinks n c small others gone a.side a.red a.red was a.row a.other t ss room
-        r.gone_here
-        (r.links n small (room_near n others a.side a.red was a.row a.other room));
+        r.gone_here (r.links n small (room_near n others a.side a.red was a.row a.other room));
   }
 
   -- a change of the tree itself

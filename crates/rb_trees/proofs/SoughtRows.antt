@@ -141,8 +141,7 @@ module _ {K : Type 0} (o : Order K) (law : IsLawful o) (i : Item) where
       let e : (y.item.a == i.a) ≡ false = differs o law i y.item after.0 in
       let lack : Lacks i.a (items_of_records (rows r)) =
       all_weaker (Precedes o i) (λ (z : Item). (z.a == i.a) ≡ false) (differs o law i)
-      (items_of_records (rows r))
-      after.1 in
+      (items_of_records (rows r)) after.1 in
       rw (e, less) (to_left e lack (tl, is))
 
   at_here : (l : ColouredTree) (y : Record) (r : ColouredTree) →

@@ -107,8 +107,7 @@ lone_lost c red l x = record {
 
 -- the next node takes the place of a top that has a right subtree
 module _ (c : ℕ) (red : Bool) (l : ColouredTree) (x : Record) (r : ColouredTree) (f : Record)
-    (u : ColouredTree) (ss : List Store)
-    (first : rows r ≡ f ∷ rows u) where
+    (u : ColouredTree) (ss : List Store) (first : rows r ≡ f ∷ rows u) where
   next_relinks : (n : ℕ) → c ≤ 1 → HasRoom n Nothing (fork (shape l) x.node (shape r))
       → Among (shape r) f.node
       → Relinks n c (Own Nothing (In (f.node ∷ [])) (shape r)) (shape r) (shape u) ss

@@ -53,11 +53,9 @@ lowered false (branch red l x r) = record { tree = branch false l x r; short = n
 abbrev pub filled_over_black : Side → Bool → ColouredTree → Record → ColouredTree → Remainder
 filled_over_black s red near y tip = whole (sided s red near y tip)
 filled_over_black s red near y (branch k l x r) =
-    if is_red (on (opposite s) l r) then
-    whole
+    if is_red (on (opposite s) l r) then whole
     (sided s red (sided s false near y (on s l r)) x (blackened (on (opposite s) l r)))
-    else if is_red (on s l r) then
-    whole
+    else if is_red (on s l r) then whole
     (turned s red false
     (sided s red near y (turned (opposite s) false false (branch k l x r))))
     else record { tree = sided s false near y (branch true l x r); short = not red }
@@ -76,8 +74,7 @@ fill_links_over_black s copy y (branch k l x r) =
     (turn_links (opposite s) copy (branch k l x r)
     ++ relink (opposite s) copy y.node (suc x.node)
     (link (shape (turned (opposite s) false false (branch k l x r)))))
-    ++ turn_links_over s copy y (turned (opposite s) false false (branch k l x r))
-    else []
+    ++ turn_links_over s copy y (turned (opposite s) false false (branch k l x r)) else []
 
 abbrev pub fill_links_black : Side → ℕ → ColouredTree → List Store
 fill_links_black s copy tip = []
@@ -87,8 +84,7 @@ fill_links_black s copy (branch red l y r) = fill_links_over_black s copy y (on 
 abbrev pub filled_over : Side → Bool → ColouredTree → Record → ColouredTree → Remainder
 filled_over s red near y tip = whole (sided s red near y tip)
 filled_over s red near y (branch k l x r) =
-    if k then
-    whole
+    if k then whole
     (sided s false (filled_over_black s true near y (on s l r)).tree x (on (opposite s) l r))
     else filled_over_black s red near y (branch k l x r)
 
@@ -100,8 +96,7 @@ filled s (branch red l y r) = filled_over s red (on s l r) y (on (opposite s) l 
 abbrev pub fill_links_over : Side → ℕ → ColouredTree → Record → ColouredTree → List Store
 fill_links_over s copy near y tip = []
 fill_links_over s copy near y (branch k l x r) =
-    if k then
-    turn_links_over s copy y (branch k l x r)
+    if k then turn_links_over s copy y (branch k l x r)
     ++ (fill_links_over_black s copy y (on s l r)
     ++ relink s copy x.node (suc y.node)
     (link (shape (filled_over_black s true near y (on s l r)).tree)))
