@@ -70,8 +70,7 @@ item_put m n node i lt sized = grind (arith, nat_tests, length-set, at_other, at
 
 -- the whole of a planned insert, as a shape shows it
 pub record AfterInsert {K : Type 0} (o : Order K) (n c : ℕ) (t u : ColouredTree) (room : ℕ)
-    (x : Record)
-    (links : List Store) (shown : Picture) : Type 0 where
+    (x : Record) (links : List Store) (shown : Picture) : Type 0 where
   pub picture : IsPicture o (picture_of n c u room)
   pub count : length (rows u) ≡ suc (length (rows t))
   pub inserts : Inserts o shown (picture_of n c u room) x.node x.item
@@ -85,11 +84,43 @@ pub record AfterErase {K : Type 0} (o : Order K) (n c : ℕ) (t u : ColouredTree
   pub erases : Erases shown (picture_of n c u room) a node
   pub leads : LeadsByLinks shown (picture_of n c u room) links
 
+-- another tree of the same nodes and items, or of one more or less
+module _ {K : Type 0} (o : Order K) (n c : ℕ) (t u : ColouredTree) (old room : ℕ)
+    (is : IsPicture o (picture_of n c t old)) where
+  can_be_pictured : IsRedBlack u → IsTable o (items_of_records (rows u)) → (nodes : List ℕ)
+      → listed (shape u) ≡ nodes → AllByRecursion (λ i. i < n) nodes → AreDistinct nodes
+      → IsPicture o (picture_of n c u room)
+  can_be_pictured good is_table nodes same below distinct =
+      let below_new = subst (AllByRecursion (λ i. i < n)) (sym same) below in
+      let distinct_new = subst AreDistinct (sym same) distinct in
+      let many = as_many_rows u in
+      record {
+        one_copy = is.one_copy;
+        is_table = is_table;
+        below = below_new;
+        distinct = distinct_new;
+        as_many = many;
+        fits = omega (arith, many, distinct_fit (listed (shape u)) n distinct_new below_new);
+        balanced = (u, good, refl);
+      }
+
+  -- stores that lead to it, where its items are in their places
+  leads_to : (links : List Store) → LeadLinks n c (shape t) (shape u) links → (m : List ℕ)
+      → IsPictured m (picture_of n c t old) → Stored m (rows u)
+      → IsPictured (words_after_all m links) (picture_of n c u room)
+  leads_to links led m shown stored = record {
+    sized = length_after m links ∙ shown.sized;
+    holds = record {
+      leads = led.leads m shown.sized shown.holds.leads;
+      listed_items = stored_items (words_after_all m links) u
+          (stored_kept m n c links (rows u) is.one_copy led.words stored);
+    };
+  }
+
 -- a record more
 module _ {K : Type 0} (o : Order K) (law : IsLawful o) (n c : ℕ) (t u : ColouredTree) (old room : ℕ)
     (more : room + 1 ≡ old) (is : IsPicture o (picture_of n c t old)) (x : Record)
-    (links : List Store)
-    (puts : PutsIn o x (rows t) (rows u)) (good : IsRedBlack u)
+    (links : List Store) (puts : PutsIn o x (rows t) (rows u)) (good : IsRedBlack u)
     (lead : Lead (λ i. i ≡ x.node) c (shape t) (shape u) links)
     (lt : x.node < n) (free : Contains (listed (shape t)) x.node → ⊥)
     (valid : o.valid x.item ≡ true)
@@ -112,25 +143,14 @@ module _ {K : Type 0} (o : Order K) (law : IsLawful o) (n c : ℕ) (t u : Colour
   picture_with : IsPicture o (picture_of n c u room)
   picture_with =
       let p = place_for o x.item (items_of_records (rows t)) in
-      let below_new : AllByRecursion (λ i. i < n) (listed (shape u)) =
-      subst (AllByRecursion (λ i. i < n)) (sym listed_with)
-      (all_insert (λ i. i < n) (listed (shape t)) p x.node is.below lt) in
-      let distinct_new : AreDistinct (listed (shape u)) =
-      subst AreDistinct (sym listed_with)
+      can_be_pictured o n c t u old room is good
+      (subst (IsTable o) (sym items_with)
+      (with_item_table o law x.item (items_of_records (rows t)) valid
+      (not_meeting o x.item (items_of_records (rows t)) apart) is.is_table))
+      (insert (listed (shape t)) p x.node) listed_with
+      (all_insert (λ i. i < n) (listed (shape t)) p x.node is.below lt)
       (distinct_insert (listed (shape t)) p x.node is.distinct
-      (all_differ (listed (shape t)) x.node free)) in
-      let many = as_many_rows u in
-      record {
-        one_copy = is.one_copy;
-        is_table = subst (IsTable o) (sym items_with)
-            (with_item_table o law x.item (items_of_records (rows t)) valid
-            (not_meeting o x.item (items_of_records (rows t)) apart) is.is_table);
-        below = below_new;
-        distinct = distinct_new;
-        as_many = many;
-        fits = omega (arith, many, distinct_fit (listed (shape u)) n distinct_new below_new);
-        balanced = (u, good, refl);
-      }
+      (all_differ (listed (shape t)) x.node free))
 
   inserts_with : Inserts o (picture_of n c t old) (picture_of n c u room) x.node x.item
   inserts_with =
@@ -153,18 +173,9 @@ module _ {K : Type 0} (o : Order K) (law : IsLawful o) (n c : ℕ) (t u : Colour
       IsPictured (words_after_all m links) (picture_of n c u room)
   alone_with m shown has_item =
       let p = place_for o x.item (items_of_records (rows t)) in
-      let stored : Stored m (rows u) =
-      subst (Stored m) (sym puts)
+      leads_to o n c t u old room is links led_with m shown (subst (Stored m) (sym puts)
       (all_insert (λ r. item_at m r.node ≡ r.item) (rows t) p x
-      (items_stored m t shown.holds.listed_items) has_item) in
-      record {
-        sized = length_after m links ∙ shown.sized;
-        holds = record {
-          leads = led_with.leads m shown.sized shown.holds.leads;
-          listed_items = stored_items (words_after_all m links) u
-              (stored_kept m n c links (rows u) is.one_copy led_with.words stored);
-        };
-      }
+      (items_stored m t shown.holds.listed_items) has_item))
 
   words_with : (m : List ℕ) → IsPictured m (picture_of n c t old) →
       IsPictured (words_after_all m (item_stores x.node x.item ++ links)) (picture_of n c u room)
@@ -222,8 +233,7 @@ shown_insert o law n c t u old room more is x links puts good lead view can0 =
 -- a record less
 module _ {K : Type 0} (o : Order K) (law : IsLawful o) (n c : ℕ) (t u : ColouredTree) (old room : ℕ)
     (more : room ≡ old + 1) (is : IsPicture o (picture_of n c t old)) (a node : ℕ)
-    (links : List Store)
-    (loses : LosesWord a t u node) (good : IsRedBlack u)
+    (links : List Store) (loses : LosesWord a t u node) (good : IsRedBlack u)
     (lead : Lead Nothing c (shape t) (shape u) links)
     (there : has a (items_of_records (rows t)) ≡ true)
   where
@@ -259,40 +269,21 @@ module _ {K : Type 0} (o : Order K) (law : IsLawful o) (n c : ℕ) (t u : Colour
     picture_without : IsPicture o (picture_of n c u room)
     picture_without =
         let p = place_of a (items_of_records (rows t)) in
-        let below_new : AllByRecursion (λ i. i < n) (listed (shape u)) =
-        subst (AllByRecursion (λ i. i < n)) (sym listed_without)
-        (all_remove (λ i. i < n) (listed (shape t)) p is.below) in
-        let distinct_new : AreDistinct (listed (shape u)) =
-        subst AreDistinct (sym listed_without) (distinct_remove (listed (shape t)) p is.distinct)
-        in
-        let many = as_many_rows u in
-        record {
-          one_copy = is.one_copy;
-          is_table = subst (IsTable o) (sym items_without)
-              (without_table o a (items_of_records (rows t)) is.is_table);
-          below = below_new;
-          distinct = distinct_new;
-          as_many = many;
-          fits = omega (arith, many, distinct_fit (listed (shape u)) n distinct_new below_new);
-          balanced = (u, good, refl);
-        }
+        can_be_pictured o n c t u old room is good
+        (subst (IsTable o) (sym items_without)
+        (without_table o a (items_of_records (rows t)) is.is_table))
+        (remove (listed (shape t)) p) listed_without
+        (all_remove (λ i. i < n) (listed (shape t)) p is.below)
+        (distinct_remove (listed (shape t)) p is.distinct)
 
     alone_without : (m : List ℕ) → IsPictured m (picture_of n c t old) →
         IsPictured (words_after_all m links) (picture_of n c u room)
     alone_without m shown =
         let p = place_of a (items_of_records (rows t)) in
-        let stored : Stored m (rows u) =
-        subst (Stored m) places.0
+        leads_to o n c t u old room is links led_without m shown
+        (subst (Stored m) places.0
         (all_remove (λ r. item_at m r.node ≡ r.item) (rows t) p
-        (items_stored m t shown.holds.listed_items)) in
-        record {
-          sized = length_after m links ∙ shown.sized;
-          holds = record {
-            leads = led_without.leads m shown.sized shown.holds.leads;
-            listed_items = stored_items (words_after_all m links) u
-                (stored_kept m n c links (rows u) is.one_copy led_without.words stored);
-          };
-        }
+        (items_stored m t shown.holds.listed_items)))
 
     erases_without : Erases (picture_of n c t old) (picture_of n c u room) a loses.row.node
     erases_without =
@@ -352,5 +343,4 @@ few_steps o n c t room small is =
     ⊎_elim
     (λ deep. let power : 2 ^ 65 ≤ 2 ^ d = pow-le-pow_right (omega arith) deep in
     absurd (omega (arith, power, square, balanced_depth (shape t) is.balanced)))
-    (λ le. le)
-    (cases_lt 64 d)
+    (λ le. le) (cases_lt 64 d)

@@ -27,8 +27,7 @@ empty_picture n copy = record { capacity = n; copy = copy; table = []; tree = no
 -- a picture is stored as the tuple of its fields
 abbrev pub picture_code : Coded Picture
 picture_code =
-    code_by
-    (ℕ × (ℕ × (List Item × (Nodes × ℕ))))
+    code_by (ℕ × (ℕ × (List Item × (Nodes × ℕ))))
     (coded× coded_ℕ (coded× coded_ℕ (coded× (coded_list item_code) (coded× nodes_code coded_ℕ))))
     (λ p. (p.capacity, (p.copy, (p.table, (p.tree, p.room)))))
     (λ t. record {

@@ -6,8 +6,7 @@ use Rattle.rb_words.proofs.shapes.Shape.plan_erase_found.Given.{Over}
 pub without_word-requires-clause-steps : goal.without_word-requires-clause-steps
 without_word-requires-clause-steps g c =
     few_steps g.O.TreeOrder.order (capacity_of c.self.inside.layout)
-    (copy_number c.self.inside.copy)
-    c.self.inside.cursor.tree c.self.inside.cursor.room
+    (copy_number c.self.inside.copy) c.self.inside.cursor.tree c.self.inside.cursor.room
     (omega (arith, c.self.inside.layout.most)) c.self.invariant.0
 
 -- what the shape shows without the item
