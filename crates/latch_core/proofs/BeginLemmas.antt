@@ -1,22 +1,21 @@
 -- An update that begins: what was tested; an update whose items are placed in free nodes, and whose
 -- links lead both copies: the stores that are planned for it carry it out.
 use Rattle.latch_core.proofs.Words.{◌≡◌, ℕ, ◌+◌, ◌<◌, ◌≤◌, List, [], ◌∷◌, ◌++◌, length, None, ap}
-use Rattle.latch_core.proofs.Words.{subst, arith, length-append, ◌≢◌, take, refl, sym, ◌∙◌}
-use Rattle.latch_core.proofs.Words.{All, insert, Contains, ltb-false, or_parts, All-append}
-use Rattle.latch_core.proofs.Words.{All-cons, All-from_recursion, Contains-append_right, Item}
-use Rattle.latch_core.proofs.Words.{Order, place_for, place_of, Store, words_for, Nodes, listed, at}
-use Rattle.latch_core.proofs.Words.{Holds, IsUnreached, AreLinkStores}
-use Rattle.latch_core.proofs.Words.{words_after_all, IsItemWord, Picture, IsPictured}
-use Rattle.latch_core.proofs.Words.{links_in_range, same_item, Update, Batch, Insert, Erase, after}
-use Rattle.latch_core.proofs.Words.{size_of, with_items, Latch, flip_to}
+use Rattle.latch_core.proofs.Words.{subst, arith, length-append, ◌≢◌, take, refl, sym, ◌∙◌, All}
+use Rattle.latch_core.proofs.Words.{insert, Contains, ltb-false, or_parts, All-append, All-cons}
+use Rattle.latch_core.proofs.Words.{All-from_recursion, Contains-append_right, Item, Order}
+use Rattle.latch_core.proofs.Words.{place_for, place_of, Store, words_for, Nodes, listed, at, Holds}
+use Rattle.latch_core.proofs.Words.{IsUnreached, AreLinkStores, words_after_all, IsItemWord}
+use Rattle.latch_core.proofs.Words.{Picture, IsPictured, links_in_range, same_item, Update, Batch}
+use Rattle.latch_core.proofs.Words.{Insert, Erase, after, size_of, with_items, Latch, flip_to}
 use Rattle.latch_core.proofs.Words.{update_stores, AreAllNodes, WriterView, IsMemoryAtRest}
-use Rattle.latch_core.proofs.Words.{HasBegun, AreInStep, why_refused, AllByRecursion}
-use Rattle.latch_core.proofs.Words.{length-map, take-append-le, take_all, all_append, all_weaker}
-use Rattle.latch_core.proofs.Words.{one_item, item_place, length_after, untouched, tree_untouched}
-use Rattle.latch_core.proofs.Words.{IsBalanced, Inserts, Erases, LeadsWithItem, LeadsByLinks}
-use Rattle.latch_core.proofs.Words.{item_stores, mirror_stores, mirror_store, second_picture}
-use Rattle.latch_core.proofs.Words.{AreDistinct, stable_copy_of, PlacedItems, stores_of_placed}
-use Rattle.latch_core.proofs.Words.{AreInPlace, RelinksBoth, ErasesWords, InsertsItems, nat_tests}
+use Rattle.latch_core.proofs.Words.{HasBegun, AreInStep, why_refused, AllByRecursion, length-map}
+use Rattle.latch_core.proofs.Words.{take-append-le, take_all, all_append, all_weaker, one_item}
+use Rattle.latch_core.proofs.Words.{item_place, length_after, untouched, tree_untouched, IsBalanced}
+use Rattle.latch_core.proofs.Words.{Inserts, Erases, LeadsWithItem, LeadsByLinks, item_stores}
+use Rattle.latch_core.proofs.Words.{mirror_stores, mirror_store, second_picture, AreDistinct}
+use Rattle.latch_core.proofs.Words.{stable_copy_of, PlacedItems, stores_of_placed, AreInPlace}
+use Rattle.latch_core.proofs.Words.{RelinksBoth, ErasesWords, InsertsItems, nat_tests}
 use Rattle.std.proofs.Common.{◌*◌}
 use Rattle.std.specs.Prelude.{map}
 use Rattle.std.proofs.Math.Nat.{mul-le-mul_right}
@@ -36,10 +35,10 @@ batch_is_small o w erase insert e =
     grind (arith, nat_tests, all_tests, none_holds, or_parts, few_words, ltb-false)
 
 -- the free node that an insert takes
-pub taken_node : (n : ℕ) (zero : Picture) (free rest : List ℕ) (node : ℕ) (left : List Store)
-    → AreInStep n zero free left → free ≡ rest ++ node ∷ []
+pub taken_node : {n : ℕ} {zero : Picture} {free : List ℕ} {left : List Store} (rest : List ℕ)
+    (node : ℕ) → AreInStep n zero free left → free ≡ rest ++ node ∷ []
     → (node < n) × (Contains (listed zero.tree) node → ⊥)
-taken_node n zero free rest node left step e = grind (arith, nat_tests, last_is_free)
+taken_node rest node step e = grind (arith, nat_tests, last_is_free)
 
 -- the stores lie in the memory
 update_in_range : (n seq : ℕ) (items links0 links1 : List Store)
@@ -160,8 +159,8 @@ pub record PlansUpdate {K : Type 0} (o : Order K) (n : ℕ) (old new : Picture) 
   pub table : new.table ≡ after o old.table u
   pub nodes : AreAllNodes n (free' ++ listed new.tree)
 
-module _ {K : Type 0} (o : Order K) (n : ℕ) (zero new : Picture) (r : ℕ) (u : Update)
-    (free free' : List ℕ) (placed : PlacedItems) (seq : ℕ) (stores left : List Store)
+module _ {K : Type 0} {o : Order K} {n : ℕ} {zero new : Picture} {r : ℕ} {u : Update}
+    {free free' : List ℕ} {placed : PlacedItems} {seq : ℕ} {stores left : List Store}
     (step : AreInStep n zero free left)
     (planned : PlansUpdate o n (with_room zero r) new u free free' placed seq stores) where
   links_zero : AreLinkStores n 0 planned.links
@@ -234,8 +233,7 @@ module _ {K : Type 0} (o : Order K) (n : ℕ) (zero new : Picture) (r : ℕ) (u 
             (both.zero.capacity ∙ step.capacity) (both.zero.copy ∙ step.copy) planned.table then0;
         leads_one =
             unpictured (words_after_all m1 (mirror_stores planned.links)) n 1 (after o zero.table u)
-            (second_picture new)
-            (both.one.capacity ∙ step.capacity) refl planned.table then1;
+            (second_picture new) (both.one.capacity ∙ step.capacity) refl planned.table then1;
       }
 
 -- what a core shows whose copies have one table in one tree
@@ -251,16 +249,16 @@ shown n limit seq table tree left = record {
 }
 
 -- the core has the pending update
-pub planned_begun : {K : Type 0} (o : Order K) (n limit seq : ℕ) (zero z new : Picture) (r : ℕ)
-    (u : Update)
-    (free free' : List ℕ) (placed : PlacedItems) (stores left : List Store) (w : WriterView)
+pub planned_begun : {K : Type 0} {o : Order K} {n limit seq : ℕ} {zero z new : Picture} {r : ℕ}
+    {u : Update} {free free' : List ℕ} {placed : PlacedItems} {stores left : List Store}
+    {w : WriterView}
     → shown n limit seq zero.table zero.tree left ≡ w → w.stores_left ≡ []
     → AreInStep n zero free left → z ≡ with_room zero r
     → PlansUpdate o n (with_room zero r) new u free free' placed seq stores
     → IsBalanced z.tree → IsBalanced new.tree
     → HasBegun o w u (shown n limit seq new.table new.tree stores)
-planned_begun o n limit seq zero z new r u free free' placed stores left w is idle step kept planned
-    red red' =
+planned_begun {o = o} {n = n} {limit = limit} {seq = seq} {zero = zero} {new = new} {u = u}
+    {placed = placed} {stores = stores} {left = left} {w = w} is idle step kept planned red red' =
     let links = planned.links in
     let before = shown n limit seq zero.table zero.tree left in
     let good : IsBalanced zero.tree = subst (λ (p : Picture). IsBalanced p.tree) kept red in
@@ -268,8 +266,7 @@ planned_begun o n limit seq zero z new r u free free' placed stores left w is id
     new.tree (ap (λ (v : WriterView). v.stores_left) is ∙ idle)
     (omega (arith, planned.few, length-map links mirror_store))
     (λ l rest.
-    leading o n zero new r u free free' placed seq stores left step planned l.words rest.sized
-    rest.even rest.zero rest.one
+    leading step planned l.words rest.sized rest.even rest.zero rest.one
     (λ node off. unlisted before l.words node rest refl off) (good, red')) in
     subst (λ v. HasBegun o v u (shown n limit seq new.table new.tree stores)) is
     (subst (λ ss. HasBegun o before u (shown n limit seq new.table new.tree ss))
@@ -279,15 +276,14 @@ planned_begun o n limit seq zero z new r u free free' placed stores left w is id
     (sym planned.table) begun))
 
 -- an insert
-pub insert_planned : {K : Type 0} (o : Order K) (n : ℕ) (zero z new : Picture) (r node : ℕ)
-    (item : Item)
-    (free free' : List ℕ) (seq : ℕ) (stores left links : List Store)
+pub insert_planned : {K : Type 0} {o : Order K} {n : ℕ} {zero z new : Picture} {r node : ℕ}
+    {item : Item} {free free' : List ℕ} {seq : ℕ} {stores left links : List Store}
     → AreInStep n zero free left → free ≡ free' ++ node ∷ [] → z ≡ with_room zero r
     → Inserts o z new node item → LeadsWithItem z new node item links → length links ≤ 13
     → stores ≡ update_stores seq (item_stores node item) links (mirror_stores links)
     → PlansUpdate o n (with_room zero r) new (Insert item) free free' ((node, item) ∷ []) seq stores
-insert_planned o n zero z new r node item free free' seq stores left links step taken is ins leads
-    few listed_stores =
+insert_planned {o = o} {n = n} {zero = zero} {new = new} {r = r} {node = node} {item = item}
+    {free' = free'} {links = links} step taken is ins leads few listed_stores =
     let inserts : Inserts o (with_room zero r) new node item =
     subst (λ p. Inserts o p new node item) is ins in
     let in_order : AreAllNodes n ((free' ++ node ∷ []) ++ listed zero.tree) =
@@ -310,14 +306,14 @@ insert_planned o n zero z new r node item free free' seq stores left links step 
     }
 
 -- an erase
-pub erase_planned : {K : Type 0} (o : Order K) (n : ℕ) (zero z new : Picture) (r a node : ℕ)
-    (free : List ℕ) (seq : ℕ) (stores left links : List Store)
+pub erase_planned : {K : Type 0} {o : Order K} {n : ℕ} {zero z new : Picture} {r a node : ℕ}
+    {free : List ℕ} {seq : ℕ} {stores left links : List Store}
     → AreInStep n zero free left → z ≡ with_room zero r
     → Erases z new a node → LeadsByLinks z new links → length links ≤ 16
     → stores ≡ update_stores seq [] links (mirror_stores links)
     → PlansUpdate o n (with_room zero r) new (Erase a) free (free ++ node ∷ []) [] seq stores
-erase_planned o n zero z new r a node free seq stores left links step is er leads few
-    listed_stores =
+erase_planned {o = o} {n = n} {zero = zero} {new = new} {r = r} {a = a} {node = node} {free = free}
+    {links = links} step is er leads few listed_stores =
     let erases : Erases (with_room zero r) new a node = subst (λ p. Erases p new a node) is er in
     record {
       links = links;
@@ -334,17 +330,18 @@ erase_planned o n zero z new r a node free seq stores left links step is er lead
     }
 
 -- a batch: erases, and then inserts in nodes that were free before them
-pub batch_planned : {K : Type 0} (o : Order K) (n : ℕ) (zero z0 z1 z2 : Picture) (r : ℕ)
-    (erase : List ℕ) (insert : List Item) (placed : PlacedItems)
-    (xs ys : List Store) (free free1 free2 : List ℕ) (seq : ℕ) (stores left : List Store)
+pub batch_planned : {K : Type 0} {o : Order K} {n : ℕ} {zero z0 z1 z2 : Picture} {r : ℕ}
+    {erase : List ℕ} {insert : List Item} {placed : PlacedItems} {xs ys : List Store}
+    {free free1 free2 : List ℕ} {seq : ℕ} {stores left : List Store}
     → AreInStep n zero free left → z0 ≡ with_room zero r
     → ErasesWords z0 z1 erase xs free free1
     → InsertsItems o z1 z2 insert placed ys (take (length free) free1) free2
     → length (stores_of_placed placed) + length (xs ++ ys) ≤ 16 * size_of (Batch erase insert)
     → stores ≡ update_stores seq (stores_of_placed placed) (xs ++ ys) (mirror_stores (xs ++ ys))
     → PlansUpdate o n (with_room zero r) z2 (Batch erase insert) free free2 placed seq stores
-batch_planned o n zero z0 z1 z2 r erase insert placed xs ys free free1 free2 seq stores left step is
-    erases inserts few listed_stores =
+batch_planned {o = o} {n = n} {zero = zero} {z1 = z1} {z2 = z2} {r = r} {erase = erase}
+    {insert = insert} {placed = placed} {xs = xs} {ys = ys} {free = free} {free1 = free1}
+    {free2 = free2} step is erases inserts few listed_stores =
     let erased : ErasesWords (with_room zero r) z1 erase xs free free1 =
     subst (λ p. ErasesWords p z1 erase xs free free1) is erases in
     let fresh : take (length free) free1 ≡ free = ap (take (length free)) erased.behind

@@ -277,8 +277,7 @@ pub taken_out : (n : ℕ) (free nodes : List ℕ) (i node : ℕ) → i < length 
 taken_out n free nodes i node lt is are =
     let rest = swap_remove free i node in
     let moved = IsPermutation-trans free (node ∷ rest) (rest ++ node ∷ [])
-    (IsPermutation-swap_remove free i node lt is)
-    (IsPermutation-append_comm (node ∷ []) rest) in
+    (IsPermutation-swap_remove free i node lt is) (IsPermutation-append_comm (node ∷ []) rest) in
     moved_nodes n (free ++ nodes) ((rest ++ node ∷ []) ++ nodes)
     (IsPermutation-append_left nodes free (rest ++ node ∷ []) moved) are
 

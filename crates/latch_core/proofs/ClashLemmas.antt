@@ -1,16 +1,14 @@
 -- Entries of a batch that stand against each other are neighbours in a sorted list.
 use Rattle.latch_core.proofs.Words.{◌≡◌, ◌≢◌, ℕ, suc, zero, ◌+◌, ◌<◌, ◌≤◌, true, false, List, []}
 use Rattle.latch_core.proofs.Words.{◌∷◌, length, drop, get_or, refl, sym, ◌∙◌, ap, subst, arith}
-use Rattle.latch_core.proofs.Words.{Bool, not, ◌||◌, ◌==◌, AllByRecursion, list_any}
-use Rattle.latch_core.proofs.Words.{IsPermutation, IsNonDecreasingBy, ne_eqb, or_parts}
-use Rattle.latch_core.proofs.Words.{IsPermutation-sym, IsNonDecreasingBy-drop}
-use Rattle.latch_core.proofs.Words.{list_any-IsPermutation, IsDistinct-IsPermutation, drop_more}
-use Rattle.latch_core.proofs.Words.{Item, Order, IsLawful, IsInLine, meets}
-use Rattle.latch_core.proofs.Words.{same_by_false, all_drop, all_not_below}
+use Rattle.latch_core.proofs.Words.{Bool, not, ◌||◌, ◌==◌, AllByRecursion, list_any, IsPermutation}
+use Rattle.latch_core.proofs.Words.{IsNonDecreasingBy, ne_eqb, or_parts, IsPermutation-sym}
+use Rattle.latch_core.proofs.Words.{IsNonDecreasingBy-drop, list_any-IsPermutation}
+use Rattle.latch_core.proofs.Words.{IsDistinct-IsPermutation, drop_more, Item, Order, IsLawful}
+use Rattle.latch_core.proofs.Words.{IsInLine, meets, same_by_false, all_drop, all_not_below}
 use Rattle.latch_core.proofs.Words.{all_weaker, rest_in_order, all_fail, list_any-all_fail}
-use Rattle.latch_core.proofs.Words.{eqb-flip, no_meeting, Batch, failed_test}
-use Rattle.latch_core.proofs.Words.{some_twice, some_overlap, all_apart}
-use Rattle.latch_core.proofs.Words.{nat_tests}
+use Rattle.latch_core.proofs.Words.{eqb-flip, no_meeting, Batch, failed_test, some_twice}
+use Rattle.latch_core.proofs.Words.{some_overlap, all_apart, nat_tests}
 use Rattle.std.specs.List.{IsDistinct}
 use Rattle.std.proofs.Common.{◌-◌}
 use Rattle.order_laws.proofs.LeftOutLemmas.{without_moved}

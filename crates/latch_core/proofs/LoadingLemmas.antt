@@ -86,11 +86,15 @@ moved o n n' k k' values r r' en ek h er =
     (λ i. rest_after (attempt o (en i) (ek i)) values) ∙ h ∙ ap Some (sym er)
 
 -- a core that goes on itself, or as one to which a followed link led
-pub goes_on : {K : Type 0} (o : Order K) (n : ℕ) (k : K) (values : List ℕ) (w : ℕ)
-    (go : ℕ → Reading) → rest_after (attempt o n k) values ≡ Some (Load w go)
-    → (n ≡ n) × (k ≡ k) × (rest_after (attempt o n k) values ≡ Some (Load w go))
-    × (length values ≤ 4 * n + 2)
-goes_on o n k values w go h = (refl, refl, h, values_before o n k values w go h)
+pub goes_on : {O K : Type 0} (o : Order K) (c : ReaderCore O K) (p : AwaitedValue) (w v : ℕ)
+    (go go' : ℕ → Reading) (x : ℕ) (values : List ℕ) → c.progress.awaited ≡ p
+    → rest_of_attempt o c.key c.progress p ≡ Load w go → HasTaken o values c
+    → go x ≡ Load v go' → (c.progress.capacity ≡ c.progress.capacity) × (c.key ≡ c.key)
+    × (rest_after (attempt o c.progress.capacity c.key) (values ++ x ∷ []) ≡ Some (Load v go'))
+    × (length (values ++ x ∷ []) ≤ 4 * c.progress.capacity + 2)
+goes_on o c p w v go go' x values is shape leads more =
+    let h = next_from o c p w go x values is shape leads ∙ ap Some more in
+    (refl, refl, h, values_before o c.progress.capacity c.key (values ++ x ∷ []) v go' h)
 
 pub follows : {O K : Type 0} (o : Order K) (n : ℕ) (k : K) (c : ReaderCore O K) (values : List ℕ)
     (r : Reading) → c.progress.capacity ≡ n → c.key ≡ k
@@ -109,12 +113,9 @@ pub turned : {K : Type 0} (o : Order K) (k : K) (s : AttemptProgress) (r : Order
     (p : AwaitedValue) → q ≡ r → p ≡ side q
     → after_item s.first s.node (record { a = s.a; b = s.b; tag = s.tag })
     (walk o s.capacity k s.first s.visits_left) r ≡ rest_of_attempt o k s p
-turned o k s r Less p e f =
-    ap (after_item s.first s.node _ _) (sym e) ∙ ap (rest_of_attempt o k s) (sym f)
-turned o k s r Equal p e f =
-    ap (after_item s.first s.node _ _) (sym e) ∙ ap (rest_of_attempt o k s) (sym f)
-turned o k s r Greater p e f =
-    ap (after_item s.first s.node _ _) (sym e) ∙ ap (rest_of_attempt o k s) (sym f)
+turned o k s r Less p e f = grind (arith, nat_tests)
+turned o k s r Equal p e f = grind (arith, nat_tests)
+turned o k s r Greater p e f = grind (arith, nat_tests)
 
 abbrev pub item_of : ℕ → ℕ → ℕ → Item
 item_of a b t = record { a = a; b = b; tag = t }
@@ -252,8 +253,7 @@ few gives o n k first s m found loads h =
     let before =
     values_before o n k (first ∷ h.values) 0 (λ t. Ends (outcome first t found)) (leads_rest
     gives s (attempt_after o n k first) h.values m (last_load first found) h.leads) in
-    let counted = h.counted in
-    omega arith
+    omega (arith, h.counted)
 
 pub comes_to : {S K : Type 0} (o : Order K) (n : ℕ) (k : K) (words : List ℕ) (s s' : S)
     (out : Outcome) (loads : ℕ)

@@ -1,18 +1,17 @@
 -- What a difference finds of a table and a list of items; and a table whose items were replaced by
 -- a list that rises is that list.
-use Rattle.latch_core.proofs.Words.{◌≡◌, ℕ, ◌+◌, ◌<◌, ◌≤◌, true, false, cond, List, []}
-use Rattle.latch_core.proofs.Words.{◌∷◌, ◌++◌, length, take, drop, get_or, None, Some, refl, sym}
-use Rattle.latch_core.proofs.Words.{◌∙◌, ap, subst, inl, inr, ⊎_elim, arith, append_assoc, Bool}
-use Rattle.latch_core.proofs.Words.{not, ◌&&◌, ◌||◌, ◌==◌, ◌⊎◌, slice_get, Contains, filter}
-use Rattle.latch_core.proofs.Words.{list_all, list_any, and_parts, and_from, cases_lt, eqb-true}
-use Rattle.latch_core.proofs.Words.{or_parts, false_from_ne_true, true_from_ne_false, nat_tests}
-use Rattle.latch_core.proofs.Words.{drop_all, drop_more, take-append-drop, All-contains}
-use Rattle.latch_core.proofs.Words.{All-contains_itself, All-filter, All-from_recursion, All-weaker}
-use Rattle.latch_core.proofs.Words.{filter_passes, slice_get-get_or, Item, Order, Precedes}
-use Rattle.latch_core.proofs.Words.{IsLawful, IsTable, without_all, false_by_contrary, all_at}
-use Rattle.latch_core.proofs.Words.{all_from, all_weaker, pushed_before, Update, Batch, after}
-use Rattle.latch_core.proofs.Words.{refusal_for, is_same, not_among, replacement, is_rising}
-use Rattle.latch_core.proofs.Words.{Tells, Difference}
+use Rattle.latch_core.proofs.Words.{◌≡◌, ℕ, ◌+◌, ◌<◌, ◌≤◌, true, false, cond, List, [], ◌∷◌, ◌++◌}
+use Rattle.latch_core.proofs.Words.{length, take, drop, get_or, None, Some, refl, sym, ◌∙◌, ap}
+use Rattle.latch_core.proofs.Words.{subst, inl, inr, ⊎_elim, arith, append_assoc, Bool, not, ◌&&◌}
+use Rattle.latch_core.proofs.Words.{◌||◌, ◌==◌, ◌⊎◌, slice_get, Contains, filter, list_all}
+use Rattle.latch_core.proofs.Words.{list_any, and_parts, and_from, cases_lt, eqb-true, or_parts}
+use Rattle.latch_core.proofs.Words.{false_from_ne_true, true_from_ne_false, nat_tests, drop_all}
+use Rattle.latch_core.proofs.Words.{drop_more, take-append-drop, All-contains, All-contains_itself}
+use Rattle.latch_core.proofs.Words.{All-filter, All-from_recursion, All-weaker, filter_passes}
+use Rattle.latch_core.proofs.Words.{slice_get-get_or, Item, Order, Precedes, IsLawful, IsTable}
+use Rattle.latch_core.proofs.Words.{without_all, false_by_contrary, all_at, all_from, all_weaker}
+use Rattle.latch_core.proofs.Words.{pushed_before, Update, Batch, after, refusal_for, is_same}
+use Rattle.latch_core.proofs.Words.{not_among, replacement, is_rising, Tells, Difference}
 use Rattle.std.proofs.Common.{map, append-nil}
 use Rattle.std.proofs.lemmas.Bool.{eq-eqb}
 use Rattle.std.proofs.lemmas.List.Folds.{Any-from_list_any, list_any_at}
@@ -236,8 +235,7 @@ module _ {K : Type 0} (o : Order K) (law : IsLawful o) (erase : List ℕ) (inser
           ∙ not_in_rising o law x (get_or items k d) (drop (k + 1) items)
           (stops (get_or items k d) (slice_get-get_or items k d lt)) (differs lt)
           (ap (is_rising o) (sym here) ∙ rising_drop o items k rises))
-          (λ ge. ap (is_among x) (drop_all k items ge))
-          (cases_lt k (length items))
+          (λ ge. ap (is_among x) (drop_all k items ge)) (cases_lt k (length items))
 
 -- two items are compared word by word
 pub compared : (x y : Item) → (x.a == y.a && (x.b == y.b && x.tag == y.tag)) ≡ is_same y x
@@ -369,8 +367,7 @@ module _ {K : Type 0} (o : Order K) (law : IsLawful o) where
       let table' =
       (accepted_table o law n limit table seq (replacement table items) free is fits).0 in
       same_items o law (after o table (replacement table items)) items
-      table' (rising_table (after o table (replacement table items)) table' items rises to) from
-      to
+      table' (rising_table (after o table (replacement table items)) table' items rises to) from to
     where
       from : (x : Item) → Contains (after o table (replacement table items)) x → Contains items x
       from x m =

@@ -226,8 +226,7 @@ sound_step o n start us l h s ok in_hand may =
             flips_made = flips_after h.flips_made s;
             steps_left = h.steps_left - 1;
           })))) [
-            | true ↦ λ e. omega
-                (arith, left.sequence, pending.count, (may.at_end (eqb-true h.steps_left 1 e)).0)
+            | true ↦ λ e. omega (arith, (may.at_end (eqb-true h.steps_left 1 e)).0)
             | false ↦ λ e. record {
               count = omega (arith, left.sequence, pending.count);
               flips = left.flips;
@@ -305,10 +304,7 @@ gen_within o n start us l ok = by l.pending ok.in_hand
         → generation_of (at l.words 0) - generation_of start ≤ length us
     by None e = let ev : start % 2 ≡ 0 = ok.even in omega arith
     by (Some h) e = let ev : start % 2 ≡ 0 = ok.even in
-        let c = e.count in
-        let f = e.flips in
-        let p = e.last in
-        omega arith
+        omega (arith, e.count, e.flips, e.last)
 
 -- with nothing pending the sequence names all accepted updates
 pub sequence_at_rest : {K : Type 0} (o : Order K) (n start : ℕ) (us : List Update) (l : Latch)

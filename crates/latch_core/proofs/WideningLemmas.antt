@@ -1,11 +1,8 @@
 -- A latch that has more nodes is pictured and sound as it was.
-use Rattle.latch_core.proofs.Words.{◌≡◌, ℕ, ◌≤◌, List, [], None, sym, subst, arith}
-use Rattle.latch_core.proofs.Words.{length-append, ltb-false, or_parts}
-use Rattle.latch_core.proofs.Words.{Order, nil-from_length, Layout}
-use Rattle.latch_core.proofs.Words.{capacity_of, limit_of, at, Holds}
-use Rattle.latch_core.proofs.Words.{Update, stable_copy_of, Latch}
-use Rattle.latch_core.proofs.Words.{IsSound, IsLatched, WriterView, IsShallow}
-use Rattle.latch_core.proofs.Words.{why_not_widened}
+use Rattle.latch_core.proofs.Words.{◌≡◌, ℕ, ◌≤◌, List, [], None, sym, subst, arith, length-append}
+use Rattle.latch_core.proofs.Words.{ltb-false, or_parts, Order, nil-from_length, Layout}
+use Rattle.latch_core.proofs.Words.{capacity_of, limit_of, at, Holds, Update, stable_copy_of, Latch}
+use Rattle.latch_core.proofs.Words.{IsSound, IsLatched, WriterView, IsShallow, why_not_widened}
 use Rattle.latch_core.proofs.Words.{widened_writer, widened_latch, RepresentsWidened, nat_tests}
 use Rattle.word_layout.specs.Wider.{wider_words}
 use Rattle.word_layout.proofs.WiderLemmas.{at_wider, length_wider, holds_wider, table_wider}

@@ -1,11 +1,10 @@
 -- One step of a plan, and what the writer's core pictures, from one call to the next.
-use Rattle.latch_core.proofs.Words.{◌≡◌, ℕ, suc, ◌%◌, ◌<◌, cond, List, [], ◌∷◌}
-use Rattle.latch_core.proofs.Words.{length, drop, Some, None, sym, ◌∙◌, ap, subst}
-use Rattle.latch_core.proofs.Words.{arith, get_or-set_other, get_or-set_same, ◌==◌, MatchOption}
-use Rattle.latch_core.proofs.Words.{is_some, nat_lt, slice_get, Contains, nat_tests}
-use Rattle.latch_core.proofs.Words.{lt-ltb, cases_eq, ne_eqb, Order, first_and_rest}
-use Rattle.latch_core.proofs.Words.{nil-from_length, get_or-replicate, length-replicate, Layout}
-use Rattle.latch_core.proofs.Words.{capacity_of, Store, at, Nodes, Holds}
+use Rattle.latch_core.proofs.Words.{◌≡◌, ℕ, suc, ◌%◌, ◌<◌, cond, List, [], ◌∷◌, length, drop, Some}
+use Rattle.latch_core.proofs.Words.{None, sym, ◌∙◌, ap, subst, arith, get_or-set_other}
+use Rattle.latch_core.proofs.Words.{get_or-set_same, ◌==◌, MatchOption, is_some, nat_lt, slice_get}
+use Rattle.latch_core.proofs.Words.{Contains, nat_tests, lt-ltb, cases_eq, ne_eqb, Order}
+use Rattle.latch_core.proofs.Words.{first_and_rest, nil-from_length, get_or-replicate}
+use Rattle.latch_core.proofs.Words.{length-replicate, Layout, capacity_of, Store, at, Nodes, Holds}
 use Rattle.latch_core.proofs.Words.{IsUnreached, listed, words_after, words_after_all, length_after}
 use Rattle.latch_core.proofs.Words.{Update, stable_copy_of, refusal_for, after, PendingUpdate}
 use Rattle.latch_core.proofs.Words.{Latch, IsWriterStep, latch_after_step, latch_with_update}

@@ -5,8 +5,7 @@ use Rattle.word_layout.specs.Words.{left_word, right_word}
 use Rattle.latch_core.specs.Sequences.{stable_copy_of}
 use Rattle.latch_core.specs.Attempts.{Answer, Again, Reading, Load, AtItem, AtEmptyLink, last_load}
 use Rattle.latch_core.specs.Attempts.{after_a, after_b, visit, walk, attempt_after, attempt}
-use Rattle.latch_core.specs.Attempts.{rest_after, IsAttempt}
-use Rattle.latch_core.specs.Attempts.{Stuck as AtStuck}
+use Rattle.latch_core.specs.Attempts.{rest_after, IsAttempt, Stuck as AtStuck}
 use Rattle.latch_core.specs.Whole.{Wants}
 use Rattle.latch_core.specs.declared.readers.ReaderCore.{ReaderCore}
 use Rattle.latch_core.specs.declared.readers.Taken.{Taken}
@@ -14,9 +13,8 @@ use Rattle.latch_core.specs.declared.readers.Taken.TheVariants.{Going, Retrying,
 use Rattle.latch_core.specs.declared.progress.AttemptProgress.{AttemptProgress}
 use Rattle.latch_core.specs.declared.progress.AwaitedValue.{AwaitedValue}
 use Rattle.latch_core.specs.declared.progress.AwaitedValue.TheVariants.{First, Root, WordA, WordB}
-use Rattle.latch_core.specs.declared.progress.AwaitedValue.TheVariants.{Tag}
-use Rattle.latch_core.specs.declared.progress.AwaitedValue.TheVariants.{Left, Right, Found, Missing}
-use Rattle.latch_core.specs.declared.progress.AwaitedValue.TheVariants.{Stuck}
+use Rattle.latch_core.specs.declared.progress.AwaitedValue.TheVariants.{Tag, Left, Right, Found}
+use Rattle.latch_core.specs.declared.progress.AwaitedValue.TheVariants.{Missing, Stuck}
 
 -- the number of nodes, and the key
 abbrev pub capacity_of_core : {O K : Type 0} → ReaderCore O K → ℕ

@@ -25,8 +25,7 @@ AreTables o n us =
 -- a pending update is the last that was accepted; with none pending the sequence counts two for
 -- each
 pub record IsPendingUpdate {K : Type 0} (o : Order K) (start seq : ℕ) (us : List Update)
-    (h : PendingUpdate)
-    : Type 0 where
+    (h : PendingUpdate) : Type 0 where
   pub count : seq + 2 ≡ start + 2 * length us + h.flips_made
   pub flips : h.flips_made ≤ 2
   pub last : 0 < length us

@@ -35,16 +35,14 @@ is_rising o (x ∷ xs) = list_all (λ y. o.less x y) xs && is_rising o xs
 abbrev pub replacing_refusal : {K : Type 0} → Order K → ℕ → ℕ → Bool → List Item → ℕ → List Item
     → Option Refusal
 replacing_refusal o n limit busy table seq items =
-    if not busy && not (is_rising o items)
-    then Some Overlap
+    if not busy && not (is_rising o items) then Some Overlap
     else refusal_for o n limit busy table seq (replacement table items)
 
 -- the update that is found, while these items of the table are still to be given
 abbrev pub update_found : Difference → List Item → List Item → Update
 update_found d items table =
     let rest = drop d.place items in
-    Batch
-    (d.erase.items ++ map (λ x. x.a) (not_among rest table))
+    Batch (d.erase.items ++ map (λ x. x.a) (not_among rest table))
     (d.insert.items ++ not_among table rest)
 
 -- a difference from these items was given the next items of a table

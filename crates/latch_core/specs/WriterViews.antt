@@ -15,18 +15,14 @@ pub record PlanView : Type 0 where
 -- a store and a view are stored as the tuples of their fields
 abbrev pub store_code : Coded Store
 store_code =
-    code_by
-    (ℕ × ℕ)
-    (coded× coded_ℕ coded_ℕ)
+    code_by (ℕ × ℕ) (coded× coded_ℕ coded_ℕ)
     (λ s. (s.word, s.value))
     (λ p. record { word = p.0; value = p.1 })
     (λ _. refl)
 
 abbrev pub plan_code : Coded PlanView
 plan_code =
-    code_by
-    (List Store × ℕ)
-    (coded× (coded_list store_code) coded_ℕ)
+    code_by (List Store × ℕ) (coded× (coded_list store_code) coded_ℕ)
     (λ p. (p.stores_left, p.room))
     (λ p. record { stores_left = p.0; room = p.1 })
     (λ _. refl)
@@ -50,8 +46,7 @@ pub record WriterView : Type 0 where
 -- a view is stored as the tuple of its fields
 abbrev pub writer_code : Coded WriterView
 writer_code =
-    code_by
-    (ℕ × (ℕ × (ℕ × (List Item × (Nodes × (Nodes × List Store))))))
+    code_by (ℕ × (ℕ × (ℕ × (List Item × (Nodes × (Nodes × List Store))))))
     (coded× coded_ℕ (coded× coded_ℕ (coded× coded_ℕ (coded× (coded_list item_code)
     (coded× nodes_code (coded× nodes_code (coded_list store_code)))))))
     (λ w. (

@@ -407,8 +407,10 @@ impl<O: TreeOrder> WriterCore<O> {
         self.plan.next()
     }
 
-    /// Passes over the store that [`next`](WriterCore::next) returned, which was made.
+    /// Passes over the store that [`next`](WriterCore::next) returned, which was made, and keeps the
+    /// sequence that it makes.
     #[inline(always)]
+    #[tactic(auto, using(crate::proofs::WriterLemmas::did_pictures))]
     pub fn did(&mut self)
         requires { IsSome (next_store self.old) }
         ensures same { (self.new.capacity ≡ self.old.capacity)
@@ -418,7 +420,10 @@ impl<O: TreeOrder> WriterCore<O> {
             → self.new ≡ writer_after_step self.old s }
         ensures pictures { StoresNext self.old self.new }
     {
-        self.step_on();
+        let store = self.plan.advance();
+        if store.word == 0 {
+            self.sequence = store.value;
+        }
     }
 
     /// The next store, which counts as made: [`next`](WriterCore::next) and
@@ -440,22 +445,6 @@ impl<O: TreeOrder> WriterCore<O> {
         let store = self.next()?;
         self.did();
         Some(store)
-    }
-
-    /// Passes over the next store, and keeps the sequence that it makes.
-    #[inline(always)]
-    fn step_on(&mut self)
-        requires { IsSome (next_store self.old) }
-        ensures same { (self.new.capacity ≡ self.old.capacity)
-            × (self.new.limit ≡ self.old.limit) × (self.new.table ≡ self.old.table) }
-        ensures left { length self.new.stores_left + 1 ≡ length self.old.stores_left }
-        ensures stepped { (s : Store) → next_store self.old ≡ Some s
-            → self.new ≡ writer_after_step self.old s }
-    {
-        let store = self.plan.advance();
-        if store.word == 0 {
-            self.sequence = store.value;
-        }
     }
 
     /// The stores that are left, in the order in which they are made; each word lies in the memory.

@@ -24,10 +24,9 @@ loop-link-init g c =
     let n : ℕ = capacity_of c.args.l in
     let s = c.args.first in
     let gives = g.W.Loads.load_gives c.args.words.now in
-    let copy = c.stable_copy-copy.ensures in
     let root = c.root_of.ensures in
     record {
-      left = c.left_of-left.ensures ∙ ap (λ p. left_word p 0) copy;
+      left = c.left_of-left.ensures ∙ ap (λ p. left_word p 0) c.stable_copy-copy.ensures;
       on =
           walk_starts gives o n c.args.key s c.args.seat.now c.load-link.new.seat c.load-link.result
           (loads_on gives c.args.seat.now (attempt_after o n c.args.key s) c.args.seat.now
@@ -50,12 +49,9 @@ node : (g : Over) (c : After-a_of g)
 node g c =
     let n : ℕ = capacity_of c.args.l in
     let link = c.loop-link.link in
-    let some : link ≢ 0 = λ e. omega arith in
-    let low : link ≤ n = omega arith in
-    let room : c.loop-link.loads < 4 * n + 2 = omega arith in
     enters (g.W.Loads.load_gives c.args.words.now) g.O.TreeOrder.order n c.args.key c.args.first
-    c.args.seat.now c.loop-link.seat c.loop-link.loads link c.loop-link.invariant.on some low
-    room
+    c.args.seat.now c.loop-link.seat c.loop-link.loads link c.loop-link.invariant.on
+    (λ e. omega arith) (omega arith) (omega arith)
 
 -- and has loaded its a
 with_a : (g : Over) (c : After-load-a g)
@@ -155,8 +151,6 @@ loop-link-preserved g c =
     let link = c.loop-link.link in
     let kept = c.loop-link.invariant in
     let h = kept.left in
-    let some : link ≢ 0 = λ e. omega arith in
-    let room : c.loop-link.loads < 4 * n + 2 = omega arith in
     let compares = c.comp-compared.ensures in
     let aside = c.words_aside.ensures in
     let p4 = loads_on gives c.args.seat.now (attempt_after o n k s) c.load-tag.new.seat
@@ -168,8 +162,9 @@ loop-link-preserved g c =
     c.load-link-in-loop-link.new.seat c.load-link-in-loop-link.ensures in
     record {
       left = kept.left;
-      on = leaves gives o n k s c.args.seat.now c.loop-link.seat c.loop-link.loads link kept.on some
-          room c.load-link-in-loop-link.new.seat c.load-link-in-loop-link.result p4;
+      on = leaves gives o n k s c.args.seat.now c.loop-link.seat c.loop-link.loads link kept.on
+          (λ e. omega arith) (omega arith) c.load-link-in-loop-link.new.seat
+          c.load-link-in-loop-link.result p4;
     }
 
 pub returns-then-is_equal : goal.returns-then-is_equal

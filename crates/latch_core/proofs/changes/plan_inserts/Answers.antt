@@ -84,8 +84,7 @@ loop-taken-preserved g c =
           c.args.links.now.items c.loop-taken.links.items c.plan_links.new.out.items
           c.args.free.now.items c.loop-taken.free.items c.swap_remove-node.new.self.items p.0
           c.requires.first_copy c.loop-taken-test.true next within refl
-          c.swap_remove-node.ensures.value inv.state
-          c.plan_links.ensures.pictures p.2
+          c.swap_remove-node.ensures.value inv.state c.plan_links.ensures.pictures p.2
           left p.1 c.swap_remove-node.ensures.items;
       few = omega (arith, inv.few, longer, c.plan_links.ensures.few);
       links_len = omega (arith, inv.links_len, c.plan_links.ensures.few);

@@ -8,9 +8,8 @@ use Rattle.latch_core.proofs.readers.ReaderCore.take.Goals as goal
 
 pub returns-in-First-clause-leads : goal.returns-in-First-clause-leads
 returns-in-First-clause-leads g c = λ values leads.
-    goes_on g.O.TreeOrder.order c.args.self.progress.capacity c.args.self.key _ _ _
-    (next_from g.O.TreeOrder.order c.args.self First _ _ c.args.value values c.in-First.is refl
-    leads)
+    goes_on g.O.TreeOrder.order c.args.self First _ _ _ _ c.args.value values c.in-First.is refl
+    leads refl
 
 pub returns-in-Root-clause-leads : goal.returns-in-Root-clause-leads
 returns-in-Root-clause-leads g c = λ values leads.
@@ -21,15 +20,13 @@ returns-in-Root-clause-leads g c = λ values leads.
 
 pub returns-in-WordA-clause-leads : goal.returns-in-WordA-clause-leads
 returns-in-WordA-clause-leads g c = λ values leads.
-    goes_on g.O.TreeOrder.order c.args.self.progress.capacity c.args.self.key _ _ _
-    (next_from g.O.TreeOrder.order c.args.self WordA _ _ c.args.value values c.in-WordA.is refl
-    leads)
+    goes_on g.O.TreeOrder.order c.args.self WordA _ _ _ _ c.args.value values c.in-WordA.is refl
+    leads refl
 
 pub returns-in-WordB-clause-leads : goal.returns-in-WordB-clause-leads
 returns-in-WordB-clause-leads g c = λ values leads.
-    goes_on g.O.TreeOrder.order c.args.self.progress.capacity c.args.self.key _ _ _
-    (next_from g.O.TreeOrder.order c.args.self WordB _ _ c.args.value values c.in-WordB.is refl
-    leads)
+    goes_on g.O.TreeOrder.order c.args.self WordB _ _ _ _ c.args.value values c.in-WordB.is refl
+    leads refl
 
 pub returns-after-comp-clause-leads : goal.returns-after-comp-clause-leads
 returns-after-comp-clause-leads g c = λ values leads.

@@ -1,7 +1,6 @@
 use Rattle.latch_core.proofs.Words.{◌≡◌, ◌≤◌, ◌+◌, ◌++◌, length, take, ◌∙◌, ap, subst, arith}
 use Rattle.latch_core.proofs.Words.{capacity_of, limit_of, mirror_stores, Batch, size_of}
-use Rattle.latch_core.proofs.Words.{update_stores, stores_of_placed, InsertsItems}
-use Rattle.latch_core.proofs.Words.{common_steps}
+use Rattle.latch_core.proofs.Words.{update_stores, stores_of_placed, InsertsItems, common_steps}
 use Rattle.std.proofs.Common.{◌*◌}
 use Rattle.latch_core.proofs.WriterLemmas.{rests_before}
 use Rattle.latch_core.proofs.BeginLemmas.{batch_is_small, with_room, PlansUpdate, batch_planned}
@@ -33,50 +32,20 @@ planned g c =
     i.2 ∙ ap (λ xs. xs ++ stores_of_placed i.0) c.reserve.ensures.plan_kept in
     let links : c.deref.result.now ≡ e.0 ++ i.1 = c.deref.ensures.value ∙ i.3
     ∙ ap (λ xs. xs ++ i.1) (e.1 ∙ ap (λ xs. xs ++ e.0) c.in_ok-reserve.ensures.links.0) in
-    let few : length (stores_of_placed i.0) + length (e.0 ++ i.1)
-    ≤ 16 * size_of (Batch c.args.erase.now insert) =
-    omega (
-      arith,
-      ap length items,
-      ap length links,
-      c.deref.ensures.len,
-      c.plan_inserts.ensures.few,
-      c.plan_erases.ensures.few,
-      ap length c.reserve.ensures.plan_kept,
-      c.in_ok-reserve.ensures.links.1,
-    ) in
-    batch_planned o (capacity_of s.layout) s.shape c.reserve.new.shape c.plan_erases.new.shape
-    c.plan_inserts.new.shape c.reserve.new.shape.room c.args.erase.now insert i.0 e.0 i.1
-    s.free.items free1 free2 s.sequence
-    c.close.new.self.stores_left s.plan.stores_left c.self.invariant.0 c.reserve.ensures.kept e.2
-    inserts few
+    let kept = ap length c.reserve.ensures.plan_kept in
+    let room = c.in_ok-reserve.ensures.links.1 in
+    let few = c.plan_inserts.ensures.few in
+    batch_planned c.self.invariant.0 c.reserve.ensures.kept e.2 inserts
+    (omega (arith, ap length items, ap length links, c.plan_erases.ensures.few))
     (c.close.ensures
     ∙ (λ k. update_stores s.sequence (items k) (links k) (mirror_stores (links k))))
 
 pub invariant_of-self-2 : goal.invariant_of-self-2
-invariant_of-self-2 g c =
-    let s = c.self.inside in (
-      planned_step g.O.TreeOrder.order (capacity_of s.layout) s.shape c.plan_inserts.new.shape
-          c.reserve.new.shape.room (Batch c.args.erase.now c.args.insert.now) s.free.items
-          c.plan_inserts.new.free.items c.plan_inserts.ensures.plan.0 s.sequence
-          c.close.new.self.stores_left s.plan.stores_left c.self.invariant.0 (planned g c),
-      omega (
-        arith,
-        c.plan_inserts.ensures.free_capacity,
-        c.plan_erases.ensures.free_capacity,
-        c.self.invariant.1,
-      ),
-    )
+invariant_of-self-2 g c = (planned_step c.self.invariant.0 (planned g c), omega arith)
 
 pub returns-clause-begun : goal.returns-clause-begun
 returns-clause-begun g c =
-    let s = c.self.inside in
-    planned_begun g.O.TreeOrder.order (capacity_of s.layout) (limit_of s.layout) s.sequence s.shape
-    c.reserve.new.shape c.plan_inserts.new.shape c.reserve.new.shape.room
-    (Batch c.args.erase.now c.args.insert.now) s.free.items
-    c.plan_inserts.new.free.items c.plan_inserts.ensures.plan.0 c.close.new.self.stores_left
-    s.plan.stores_left c.args.self.now c.self.view_is (rests_before g.O.TreeOrder.order
-    c.args.self.now (Batch c.args.erase.now c.args.insert.now) c.requires.accepted)
-    c.self.invariant.0
+    planned_begun c.self.view_is (rests_before g.O.TreeOrder.order c.args.self.now
+    (Batch c.args.erase.now c.args.insert.now) c.requires.accepted) c.self.invariant.0
     c.reserve.ensures.kept (planned g c) c.stays_sound.ensures.balanced
     c.stays_sound-2.ensures.balanced

@@ -22,37 +22,22 @@ planned g c =
     let erases =
     subst (λ r. IfSome r (Erases c.reserve.new.shape c.plan_erase_found.new.self c.args.a))
     c.in-Some.is found.pictures in
-    let few : length p.0 ≤ 16 =
-    omega (arith, ap length links, c.deref.ensures.len, found.few, c.in-Ok.ensures.links.1) in
-    erase_planned g.O.TreeOrder.order (capacity_of s.layout) s.shape c.reserve.new.shape
-    c.plan_erase_found.new.self c.reserve.new.shape.room c.args.a c.in-Some.node s.free.items
-    s.sequence c.close.new.self.stores_left s.plan.stores_left p.0 c.self.invariant.0
-    c.reserve.ensures.kept erases p.2 few
+    erase_planned c.self.invariant.0 c.reserve.ensures.kept erases p.2
+    (omega (arith, ap length links, c.deref.ensures.len, found.few, c.in-Ok.ensures.links.1))
     (c.close.ensures ∙ (λ i. update_stores s.sequence (c.reserve.ensures.plan_kept i) (links i)
     (mirror_stores (links i))))
 
 pub invariant_of-self-2 : goal.invariant_of-self-2
 invariant_of-self-2 g c =
-    let s = c.self.inside in
-    let new = c.plan_erase_found.new.self in
     let stores = c.close.new.self.stores_left in (
-      subst (λ xs. AreInStep (capacity_of s.layout) new xs stores)
-          (sym c.push_reserved.ensures.items)
-          (planned_step g.O.TreeOrder.order (capacity_of s.layout) s.shape new
-          c.reserve.new.shape.room (Erase c.args.a) s.free.items
-          (s.free.items ++ c.in-Some.node ∷ []) [] s.sequence stores s.plan.stores_left
-          c.self.invariant.0 (planned g c)),
+      subst
+          (λ xs. AreInStep (capacity_of c.self.inside.layout) c.plan_erase_found.new.self xs stores)
+          (sym c.push_reserved.ensures.items) (planned_step c.self.invariant.0 (planned g c)),
       omega (arith, c.push_reserved.ensures.capacity, c.self.invariant.1),
     )
 
 pub returns-clause-begun : goal.returns-clause-begun
 returns-clause-begun g c = λ _.
-    let s = c.self.inside in
-    planned_begun g.O.TreeOrder.order (capacity_of s.layout) (limit_of s.layout) s.sequence s.shape
-    c.reserve.new.shape c.plan_erase_found.new.self c.reserve.new.shape.room (Erase c.args.a)
-    s.free.items
-    (s.free.items ++ c.in-Some.node ∷ []) [] c.close.new.self.stores_left s.plan.stores_left
-    c.args.self.now c.self.view_is (c.is_ready.ensures c.if-not-is_ready.false).0
-    c.self.invariant.0
+    planned_begun c.self.view_is (c.is_ready.ensures c.if-not-is_ready.false).0 c.self.invariant.0
     c.reserve.ensures.kept (planned g c) c.stays_sound.ensures.balanced
     c.stays_sound-2.ensures.balanced
