@@ -14,8 +14,8 @@ use Rattle.latch_core.proofs.WideningLemmas.{may_widen, widened_sound, latched_w
 use Rattle.latch_table.proofs.RuleLemmas.{opens}
 use Rattle.latch_table.proofs.WriterLemmas.{latched_now}
 
-module _ {S K : Type 0} (o : Order K) (place : TableId) (readers : ℕ) (m : Me S Knowledge)
-    (core : WriterView) (tied : IsTied o m core (writer_state place readers m.0 core)) (l : Layout)
+module _ {S K : Type 0} {o : Order K} {place : TableId} {readers : ℕ} {m : Me S Knowledge}
+    {core : WriterView} (tied : IsTied o m core (writer_state place readers m.0 core)) (l : Layout)
     (accepted : why_not_widened core l ≡ None) where
   abbrev here : WriterState
   here = writer_state place readers m.0 core
@@ -36,11 +36,11 @@ module _ {S K : Type 0} (o : Order K) (place : TableId) (readers : ℕ) (m : Me 
   hand_rests = ap (λ ss. pending_of ss p) idle
 
   -- the wider words keep the rule, with what the seat then knows
-  pub opens_wider : (seat : Me S Knowledge) (words given : List ℕ) → seat ≡ m → words ≡ wider
+  pub opens_wider : {seat : Me S Knowledge} {words given : List ℕ} → seat ≡ m → words ≡ wider
       → given ≡ words
       → KnowledgeHolds {S = S} o (capacity_of l) (writer_of seat.0).base (opening given []
       (writer_knowledge (moved_writer (capacity_of l) words (writer_of seat.0))))
-  opens_wider seat words given same is passed =
+  opens_wider same is passed =
       subst (λ (z : Me S Knowledge × List ℕ × List ℕ).
       KnowledgeHolds {S = S} o (capacity_of l) (writer_of z.0.0).base
       (opening z.1 [] (writer_knowledge (moved_writer (capacity_of l) z.2 (writer_of z.0.0)))))
@@ -103,8 +103,8 @@ module _ {S K : Type 0} (o : Order K) (place : TableId) (readers : ℕ) (m : Me 
     }
 
   -- so are a core and a seat that are equal to these
-  module _ (place' : TableId) (core' : WriterView) (widened : core' ≡ widened_writer core l)
-      (pictured : RepresentsWidened core core') (seat : Me S Knowledge) (words : List ℕ)
+  module _ {core' : WriterView} (widened : core' ≡ widened_writer core l)
+      (pictured : RepresentsWidened core core') {seat : Me S Knowledge} {words : List ℕ}
       (same : seat ≡ m) (is : words ≡ wider) where
     abbrev first : Knowledge
     first = writer_knowledge (moved_writer (capacity_of l) words (writer_of seat.0))
@@ -115,18 +115,18 @@ module _ {S K : Type 0} (o : Order K) (place : TableId) (readers : ℕ) (m : Me 
     pictured_wider : RepresentsWidened core (widened_writer core l)
     pictured_wider = subst (RepresentsWidened core) widened pictured
 
-    pub tied_there : (m' : Me S Knowledge) → m' ≡ (first, [])
+    pub tied_there : {place' : TableId} {m' : Me S Knowledge} → m' ≡ (first, [])
         → IsTied o m' core' (writer_state place' readers m'.0 core')
-    tied_there m' there =
+    tied_there {place' = place'} there =
         subst (λ (z : Me S Knowledge × WriterView).
         IsTied o z.0 z.1 (writer_state place' readers z.0.0 z.1))
         (λ i. (sym (there ∙ (λ j. (first_is j, []))) i, sym widened i))
         (tied_wider place' pictured_wider)
 
-    pub enlarges : (m' : Me S Knowledge) → m' ≡ (first, []) → (all : List ReaderState)
-        → length all ≡ readers → All (λ x. x ≡ new_reader place' first) all
+    pub enlarges : {place' : TableId} {m' : Me S Knowledge} {all : List ReaderState}
+        → m' ≡ (first, []) → length all ≡ readers → All (λ x. x ≡ new_reader place' first) all
         → Enlarges here l (writer_state place' readers m'.0 core') all
-    enlarges m' there all count new =
+    enlarges {place' = place'} {all = all} there count new =
         subst (λ (w : WriterState). Enlarges here l w all)
         (λ i.
         writer_state place' readers (sym (there ∙ (λ j. (first_is j, []))) i).0 (sym widened i))

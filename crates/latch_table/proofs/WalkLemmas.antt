@@ -168,8 +168,7 @@ module _ {K : Type 0} (o : Order K) (k : K) (before begun e : ReaderKnowledge) (
       right_now same =
           let tail : values ++ t ∷ [] ≡ s ∷ (walk_is.values ++ s ∷ []) =
           ap (λ z. values ++ z ∷ []) same in
-          looks.right k s walk_is.values out
-          (subst (λ v. IsAttempt o n k v out) tail whole)
+          looks.right k s walk_is.values out (subst (λ v. IsAttempt o n k v out) tail whole)
           (subst (λ v. e'.ended ≡ loads_of (attempt o n k) v) tail loads_now)
 
     pub answers_now : (a : Option Item) (g : ℕ) → t ≡ s → outcome s t (found) ≡ Answer a g

@@ -458,9 +458,8 @@ steps_down w w' did s = omega (arith, s.0)
 pub on_the_way : (w a b : WriterState) (did : Did) → OnTheWay w a → Steps a b (Some did)
     → OnTheWay w b
 on_the_way w a b did way s =
-    let is = s.1.5 in
     let there : b ≡ record a { latch = b.latch } =
-    subst (λ (z : WriterState). z ≡ record a { latch = z.latch }) (sym is) refl in
+    subst (λ (z : WriterState). z ≡ record a { latch = z.latch }) (sym s.1.5) refl in
     there ∙ (λ i. record (way i) { latch = b.latch })
 
 pub finishes : (w a b : WriterState) (g : ℕ) → OnTheWay w a → Steps a b None

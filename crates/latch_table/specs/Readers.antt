@@ -1,6 +1,5 @@
 -- A reader, and what its calls promise.
-use Rattle.std.specs.Prelude.{◌≡◌, ◌≢◌, ℕ, ◌+◌, ◌*◌, ◌≤◌, List, [], ◌∷◌, ◌++◌, length, Option}
-use Rattle.std.specs.Prelude.{None}
+use Rattle.std.specs.Prelude.{◌≡◌, ◌≢◌, ℕ, ◌+◌, ◌*◌, ◌≤◌, List, [], ◌∷◌, ◌++◌, length, Option, None}
 use mathlib.Core.List.{IsPrefix}
 use Rattle.atomic_table.specs.Seated.{TableId}
 use Rattle.order_laws.specs.declared.items.Item.{Item}
@@ -46,8 +45,7 @@ pub record EndedAttempt {K : Type 0} (o : Order K) (k : K) (e : ReaderKnowledge)
 -- the answer is what the key lies in, in the table after the updates that the reader now knows,
 -- which are the updates of the generation g
 pub record Answers {K : Type 0} (o : Order K) (k : K) (e : ReaderKnowledge) (x : Option Item)
-    (g : ℕ)
-    : Type 0 where
+    (g : ℕ) : Type 0 where
   pub floored : KnowsFloor e
   pub counted : e.base + length e.known ≡ g
   pub found : x ≡ look o k (replay o [] e.known)

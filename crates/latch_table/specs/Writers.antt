@@ -14,8 +14,7 @@ use Rattle.word_layout.specs.Layouts.{capacity_of, limit_of}
 use Rattle.word_layout.specs.Words.{at}
 use Rattle.table_updates.specs.declared.updates.Update.{Update}
 use Rattle.latch_core.specs.Sequences.{generation_of}
-use Rattle.table_updates.specs.Updates.{most_steps}
-use Rattle.table_updates.specs.Updates.{replay}
+use Rattle.table_updates.specs.Updates.{most_steps, replay}
 use Rattle.latch_core.specs.Attempts.{Answer, attempt, IsAttempt}
 use Rattle.latch_core.specs.Latches.{PendingUpdate, Latch, IsWriterStep, latch_after_step}
 use Rattle.latch_core.specs.Latches.{latch_with_update, opening_latch}

@@ -7,10 +7,9 @@ use Rattle.latch_table.proofs.readers.attempts.attempt.Goals.{After-attempt_from
 
 pub attempt_from-requires-clause-ready : goal.attempt_from-requires-clause-ready
 attempt_from-requires-clause-ready g c =
-    ready_now (λ s. s.table_id) (λ s. s.me) g.O.TreeOrder.order (capacity_of c.args.l) c.args.k
-    c.args.words.words.now.table_id (reader_of c.args.seat.now.me.0) c.requires.capacity
-    c.sequence-first.result c.sequence-first.new.seat
-    (c.sequence-first.ensures.0 ∙ c.requires.table) c.sequence-first.ensures.1
+    ready_now (λ s. s.table_id) (λ s. s.me) _ _ c.args.k _ _ c.requires.capacity _
+    c.sequence-first.new.seat (c.sequence-first.ensures.0 ∙ c.requires.table)
+    c.sequence-first.ensures.1
 
 -- what the attempt says
 walk : (g : given.Over) (c : After-attempt_from g)
@@ -21,12 +20,9 @@ walk : (g : given.Over) (c : After-attempt_from g)
     → Tried g.O.TreeOrder.order c.args.k (reader_of c.args.seat.now.me.0)
     (reader_of c.attempt_from.new.seat.me.0) t)
 walk g c =
-    walk_now (λ s. s.table_id) (λ s. s.me) g.O.TreeOrder.order (capacity_of c.args.l) c.args.k
-    c.args.words.words.now.table_id (reader_of c.args.seat.now.me.0) c.requires.capacity
-    c.sequence-first.result c.sequence-first.new.seat
-    (c.sequence-first.ensures.0 ∙ c.requires.table) c.sequence-first.ensures.1
-    c.attempt_from.new.seat (outcome_of c.attempt_from.result.0) c.attempt_from.result.1
-    c.attempt_from.ensures
+    walk_now (λ s. s.table_id) (λ s. s.me) _ _ c.args.k _ _ c.requires.capacity _
+    c.sequence-first.new.seat (c.sequence-first.ensures.0 ∙ c.requires.table)
+    c.sequence-first.ensures.1 c.attempt_from.new.seat _ _ c.attempt_from.ensures
 
 pub returns-in-Answered-clause-tried : goal.returns-in-Answered-clause-tried
 returns-in-Answered-clause-tried g c =

@@ -20,10 +20,9 @@ returns-in-Some-clause-looked g c =
 
 pub attempt_from-requires-clause-ready : goal.attempt_from-requires-clause-ready
 attempt_from-requires-clause-ready g c =
-    ready_now (λ s. s.table_id) (λ s. s.me) g.O.TreeOrder.order (capacity_of c.args.l) c.args.k
-    c.args.words.words.now.table_id (reader_of c.args.seat.now.me.0) c.requires.capacity
-    c.sequence-begun.result c.sequence-begun.new.seat
-    (c.sequence-begun.ensures.0 ∙ c.requires.table) c.sequence-begun.ensures.1
+    ready_now (λ s. s.table_id) (λ s. s.me) _ _ c.args.k _ _ c.requires.capacity _
+    c.sequence-begun.new.seat (c.sequence-begun.ensures.0 ∙ c.requires.table)
+    c.sequence-begun.ensures.1
 
 -- what the attempt came to
 came_to : (g : given.Over) (c : goal.After-remember g)
@@ -42,12 +41,9 @@ walk : (g : given.Over) (c : goal.After-remember g)
     × Tried g.O.TreeOrder.order c.args.k (reader_of c.args.seat.now.me.0)
     (reader_of c.attempt_from.new.seat.me.0) c.match-attempt_from.tried
 walk g c =
-    let now = walk_now (λ s. s.table_id) (λ s. s.me) g.O.TreeOrder.order (capacity_of c.args.l)
-    c.args.k c.args.words.words.now.table_id (reader_of c.args.seat.now.me.0) c.requires.capacity
-    c.sequence-begun.result c.sequence-begun.new.seat
-    (c.sequence-begun.ensures.0 ∙ c.requires.table) c.sequence-begun.ensures.1
-    c.attempt_from.new.seat (outcome_of c.attempt_from.result.0) c.attempt_from.result.1
-    c.attempt_from.ensures in
+    let now = walk_now (λ s. s.table_id) (λ s. s.me) _ _ c.args.k _ _ c.requires.capacity _
+    c.sequence-begun.new.seat (c.sequence-begun.ensures.0 ∙ c.requires.table)
+    c.sequence-begun.ensures.1 c.attempt_from.new.seat _ _ c.attempt_from.ensures in
     (now.0, now.1, now.2 c.match-attempt_from.tried (came_to g c))
 
 pub returns-clause-looked : goal.returns-clause-looked

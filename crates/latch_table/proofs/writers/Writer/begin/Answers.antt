@@ -14,8 +14,8 @@ invariant_of-self-2 g c =
       subst (λ (z : TableId × Me (Unit {0}) Knowledge). IsTied g.O.TreeOrder.order z.1
           c.begin.new.self (writer_state z.0 w.readers z.1.0 c.begin.new.self))
           (λ i. (sym table i, sym view i))
-          (tied_begun g.O.TreeOrder.order g.met.O.TreeOrder.lawful w.seat.table_id w.readers
-          w.seat.me w.core c.self.invariant.2 c.args.u of.accepted c.begin.new.self of.begun.1),
+          (tied_begun _ g.met.O.TreeOrder.lawful _ _ _ _ c.self.invariant.2 _ of.accepted _
+          of.begun.1),
     )
 
 pub returns : goal.returns
@@ -24,8 +24,8 @@ returns g c =
     let of = c.in_ok-begin.ensures in
     let table = c.load_ahead.ensures.table ∙ c.take_update.ensures.table in
     let view = c.load_ahead.ensures.view ∙ c.take_update.ensures.view in
-    let begun = begins g.O.TreeOrder.order g.met.O.TreeOrder.lawful w.seat.table_id w.readers
-    w.seat.me w.core c.self.invariant.2 c.args.u of.accepted c.begin.new.self of.begun.1 in
+    let begun =
+    begins _ g.met.O.TreeOrder.lawful _ _ _ _ c.self.invariant.2 _ of.accepted _ of.begun.1 in
     let there = subst
     (λ (z : WriterState × WriterState). Begins g.O.TreeOrder.order z.0 c.args.u z.1)
     (λ i. (

@@ -9,15 +9,14 @@ look_up-requires-clause-latched g c =
     let w = c.self.inside in
     let p : WriterKnowledge = writer_of w.seat.me.0 in
     subst (λ n. IsLatched g.O.TreeOrder.order n p.base p.picture p.known)
-    (sym c.layout-layout.ensures.capacity)
-    (latched_now g.O.TreeOrder.order w.seat.table_id w.readers w.seat.me w.core c.self.invariant.2)
+    (sym c.layout-layout.ensures.capacity) (latched_now _ _ _ _ _ c.self.invariant.2)
 
 pub invariant_of-self : goal.invariant_of-self
 invariant_of-self g c =
     let w = c.self.inside in
     let m' = c.look_up.new.seat.me in
-    let tied = tied_loads g.O.TreeOrder.order w.seat.table_id w.readers w.seat.me w.core
-    m' (writer_of m'.0).loads c.self.invariant.2 c.look_up.ensures.view in (
+    let tied = tied_loads _ _ _ _ _ m' (writer_of m'.0).loads c.self.invariant.2
+    c.look_up.ensures.view in (
       search rules,
       search rules,
       subst (λ (z : TableId). IsTied g.O.TreeOrder.order m' w.core
@@ -29,12 +28,12 @@ returns g c =
     let o = g.O.TreeOrder.order in
     let w = c.self.inside in
     let m' = c.look_up.new.seat.me in
-    let tied = tied_loads o w.seat.table_id w.readers w.seat.me w.core m' (writer_of m'.0).loads
-    c.self.invariant.2 c.look_up.ensures.view in
+    let tied =
+    tied_loads _ _ _ _ _ m' (writer_of m'.0).loads c.self.invariant.2 c.look_up.ensures.view in
     let new : WriterState = writer_state c.look_up.new.seat.table_id w.readers m'.0 w.core in
     let same : new ≡ writer_state w.seat.table_id w.readers m'.0 w.core =
     λ i. writer_state (c.look_up.ensures.table i) w.readers m'.0 w.core in
     subst (λ (z : WriterState). Finds o z c.args.k new c.look_up.result) c.self.view_is
-    (finds_state o w.seat.table_id w.readers w.seat.me w.core c.self.invariant.2
-    (capacity_of c.layout-layout.result) c.args.k (writer_of m'.0).loads c.look_up.result
-    c.layout-layout.ensures.capacity c.look_up.ensures.found new (same ∙ tied.1))
+    (finds_state _ _ _ _ _ c.self.invariant.2 (capacity_of c.layout-layout.result) c.args.k
+    (writer_of m'.0).loads c.look_up.result c.layout-layout.ensures.capacity
+    c.look_up.ensures.found new (same ∙ tied.1))

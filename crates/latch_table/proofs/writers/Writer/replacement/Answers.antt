@@ -11,8 +11,7 @@ note_tree-requires-clause-tree g c =
     let o = g.O.TreeOrder.order in
     let idle : w.core.stores_left ≡ [] = nil_from_length w.core.stores_left
     (omega (arith, c.remaining.ensures.count, c.if-remaining-gt0.false)) in
-    let few = leads_to_few o g.met.O.TreeOrder.lawful w.seat.table_id w.readers w.seat.me w.core
-    c.self.invariant.2 idle in
+    let few = leads_to_few _ g.met.O.TreeOrder.lawful _ _ _ _ c.self.invariant.2 idle in
     let m : List ℕ = (writer_of w.seat.me.0).picture in
     let of = c.copied_word-root.ensures in
     let root : c.copied_word-root.result ≡ at m (root_word 0) =
@@ -43,8 +42,7 @@ returns-clause-found g c =
     (subst (λ n. TellsTree o list (writer_of c.copied_word-root.new.seat.me.0).picture n
     c.copied_word-root.result new told) c.layout-layout.ensures.capacity
     c.in_ok-note_tree.ensures.told) in
-    let is = c.in_ok-into_update.ensures ∙ all_told o law w.seat.table_id w.readers w.seat.me w.core
-    c.self.invariant.2 idle list rises new told c.difference-difference.ensures there in
+    let is = c.in_ok-into_update.ensures ∙ all_told _ law _ _ _ _ c.self.invariant.2 idle list rises
+    new told c.difference-difference.ensures there in
     subst (λ (s : WriterState). IsReplacement o s list c.in_ok-into_update.field-0) c.self.view_is
-    (is_replacement o law w.seat.table_id w.readers w.seat.me w.core c.self.invariant.2 idle list
-    c.in_ok-into_update.field-0 rises is)
+    (is_replacement _ law _ _ _ _ c.self.invariant.2 idle list c.in_ok-into_update.field-0 rises is)

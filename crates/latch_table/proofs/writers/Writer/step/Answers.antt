@@ -11,8 +11,7 @@ store-requires g c =
     let s = c.in_ok-store.store in (
       search rules,
       search rules,
-      allows_next g.O.TreeOrder.order w.seat.table_id w.readers w.seat.me w.core c.self.invariant.2
-          s (sym c.in_ok-store.ensures.which) _ _ _ _,
+      allows_next _ _ _ _ _ c.self.invariant.2 s (sym c.in_ok-store.ensures.which) _ _ _ _,
     )
 
 -- at the end of the update nothing has changed
@@ -30,10 +29,8 @@ invariant_of-self g c =
 pub invariant_of-self-2 : goal.invariant_of-self-2
 invariant_of-self-2 g c =
     let w = c.self.inside in
-    let s = c.in_ok-store.store in
     let next = sym c.in_ok-store.ensures.which in
-    let tied = tied_after g.O.TreeOrder.order w.seat.table_id w.readers w.seat.me w.core
-    c.self.invariant.2 s next in (
+    let tied = tied_after _ _ _ _ _ c.self.invariant.2 c.in_ok-store.store next in (
       search rules,
       search rules,
       subst (λ (z : TableId × Me (Unit {0}) Knowledge × WriterView).
@@ -54,8 +51,7 @@ returns g c =
       | goal.then-store-eq0 b ↦ did_flip s c.if-store-eq0.result b.if-store-eq0.true b.result-is
       | goal.else-store-eq0 b ↦ did_store s c.if-store-eq0.result b.if-store-eq0.false b.result-is
     ] in
-    let steps = steps_next g.O.TreeOrder.order w.seat.table_id w.readers w.seat.me w.core
-    c.self.invariant.2 s next c.if-store-eq0.result did in
+    let steps = steps_next _ _ _ _ _ c.self.invariant.2 s next c.if-store-eq0.result did in
     subst (λ (z : WriterState × WriterState). Steps z.0 z.1 (Some c.if-store-eq0.result))
     (λ i. (
       c.self.view_is i,

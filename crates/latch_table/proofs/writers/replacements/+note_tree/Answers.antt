@@ -79,8 +79,7 @@ copied_word-right-requires-clause-within g t c =
     c.requires.tree in
     let table = c.copied_item-item.ensures.table ∙ c.in_ok-note_tree.ensures.table
     ∙ c.copied_word-left.ensures.table in
-    omega
-    (arith, below.0, c.right_of.ensures, c.requires.sized, ap (λ (z : TableId). z.words) table)
+    omega (arith, ap (λ (z : TableId). z.words) table)
 
 pub overflow_sub-most-2 : goal.overflow_sub-most-2
 overflow_sub-most-2 g t c =

@@ -8,10 +8,9 @@ pub load-requires : goal.load-requires
 load-requires g c =
     let inv = c.loop-place.invariant in
     let stores : List Store = c.args.stores.now in
-    let near : c.loop-place.place < length stores =
-    omega (arith, c.loop-place-test.true, c.min-ahead.ensures) in
     let within = All-get_or (λ (s : Store). s.word < c.args.seat.now.table_id.words) stores
-    c.loop-place.place (record { word = 0; value = 0 }) near c.requires.within in (
+    c.loop-place.place (record { word = 0; value = 0 })
+    (omega (arith, c.loop-place-test.true, c.min-ahead.ensures)) c.requires.within in (
       inv.0 ∙ c.requires.table,
       subst (λ (t : TableId).
           (get_or stores c.loop-place.place (record { word = 0; value = 0 })).word < t.words)
