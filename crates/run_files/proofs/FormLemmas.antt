@@ -7,33 +7,24 @@ use Rattle.run_files.proofs.Words.{write_of}
 use Rattle.facts.proofs.Options.{cond-None}
 
 pub insert_other : (words : Words) → length words ≢ 3 → insert_of (map (λ w. w.now) words) ≡ None
-insert_other [] other = refl
-insert_other (a ∷ []) other = refl
-insert_other (a ∷ b ∷ []) other = refl
 insert_other (a ∷ b ∷ c ∷ []) other = absurd (other refl)
-insert_other (a ∷ b ∷ c ∷ d ∷ words) other = refl
+insert_other _ other = refl
 
 pub erase_other : (words : Words) → length words ≢ 1 → erase_of (map (λ w. w.now) words) ≡ None
-erase_other [] other = refl
 erase_other (a ∷ []) other = absurd (other refl)
-erase_other (a ∷ b ∷ words) other = refl
+erase_other _ other = refl
 
 pub write_other : (words : Words) → length words ≢ 1 → write_of (map (λ w. w.now) words) ≡ None
-write_other [] other = refl
 write_other (a ∷ []) other = absurd (other refl)
-write_other (a ∷ b ∷ words) other = refl
+write_other _ other = refl
 
 pub start_other : (words : Words) → length words ≢ 2 → start_of (map (λ w. w.now) words) ≡ None
-start_other [] other = refl
-start_other (a ∷ []) other = refl
 start_other (a ∷ b ∷ []) other = absurd (other refl)
-start_other (a ∷ b ∷ c ∷ words) other = refl
+start_other _ other = refl
 
 pub read_other : (words : Words) → length words ≢ 2 → read_of (map (λ w. w.now) words) ≡ None
-read_other [] other = refl
-read_other (a ∷ []) other = refl
 read_other (a ∷ b ∷ []) other = absurd (other refl)
-read_other (a ∷ b ∷ c ∷ words) other = refl
+read_other _ other = refl
 
 pub verb_alone : (batches : Bool) (verb : List ℕ) → command_with batches (verb ∷ []) ≡ None
 verb_alone batches verb =
@@ -56,13 +47,9 @@ command_long verb _ many = absurd (omega arith)
 
 pub header_other : (words : Words) → length words ≢ 4 → length words ≢ 5
     → header_of_words (map (λ w. w.now) words) ≡ None
-header_other [] four five = refl
-header_other (a ∷ []) four five = refl
-header_other (a ∷ b ∷ []) four five = refl
-header_other (a ∷ b ∷ c ∷ []) four five = refl
 header_other (a ∷ b ∷ c ∷ d ∷ []) four five = absurd (four refl)
 header_other (a ∷ b ∷ c ∷ d ∷ e ∷ []) four five = absurd (five refl)
-header_other (a ∷ b ∷ c ∷ d ∷ e ∷ f ∷ words) four five = refl
+header_other _ four five = refl
 
 pub header_too_long : (words : List (List ℕ)) → 5 < length words → header_of_words words ≡ None
 header_too_long (a ∷ b ∷ c ∷ d ∷ e ∷ f ∷ words) many = refl
@@ -73,10 +60,5 @@ pub header_five : (words : Words) (d : Bor (List ℕ)) (start : Option ℕ)
     → header_with (slice_index_or words 0 d).now (slice_index_or words 1 d).now
     (slice_index_or words 2 d).now (slice_index_or words 3 d).now start
     ≡ header_of_words (map (λ w. w.now) words)
-header_five [] d start e many few = absurd (omega arith)
-header_five (a ∷ []) d start e many few = absurd (omega arith)
-header_five (a ∷ b ∷ []) d start e many few = absurd (omega arith)
-header_five (a ∷ b ∷ c ∷ []) d start e many few = absurd (omega arith)
-header_five (a ∷ b ∷ c ∷ f ∷ []) d start e many few = absurd (omega arith)
 header_five (a ∷ b ∷ c ∷ f ∷ g ∷ []) d start e many few = ap (header_with a.now b.now c.now f.now) e
-header_five (a ∷ b ∷ c ∷ f ∷ g ∷ h ∷ words) d start e many few = absurd (omega arith)
+header_five _ d start e many few = absurd (omega arith)

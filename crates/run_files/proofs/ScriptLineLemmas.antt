@@ -21,11 +21,8 @@ use Rattle.texts.specs.Understood.{entry_by, AreSaidBy, IsFirstBadFrom}
 
 pub line_other : (readers : ℕ) (words : Words) → length words ≢ 3
     → script_line_of readers (map (λ w. w.now) words) ≡ None
-line_other readers [] other = refl
-line_other readers (a ∷ []) other = refl
-line_other readers (a ∷ b ∷ []) other = refl
 line_other readers (a ∷ b ∷ c ∷ []) other = absurd (other refl)
-line_other readers (a ∷ b ∷ c ∷ d ∷ words) other = refl
+line_other readers _ other = refl
 
 pub line_too_long : (readers : ℕ) (words : List (List ℕ)) → 3 < length words
     → script_line_of readers words ≡ None
@@ -75,9 +72,8 @@ module _ (readers : ℕ) where
 
   looked_if : (b : Bool) (reader : ℕ) (address : Option ℕ) → lies_between 1 readers reader ≡ b
       → HasActor (look_with (cond b (Some reader) None) address)
-  looked_if true reader None is = nobody
   looked_if true reader (Some address) is = some_has (Look reader address) is
-  looked_if false reader address is = nobody
+  looked_if _ reader _ is = nobody
 
   looked : (reader address : Option ℕ) → HasActor (look_with (between 1 readers reader) address)
   looked None address = nobody
@@ -88,13 +84,10 @@ module _ (readers : ℕ) where
   either false x y p q = q
 
   words_have : (words : List (List ℕ)) → HasActor (script_line_of readers words)
-  words_have [] = nobody
-  words_have (a ∷ []) = nobody
-  words_have (a ∷ b ∷ []) = nobody
   words_have (verb ∷ actor ∷ what ∷ []) =
       either (bytes_eq verb (codes "look")) _ _ (looked (number_of actor) (number_of what))
       (changed verb what (number_of actor))
-  words_have (a ∷ b ∷ c ∷ d ∷ words) = nobody
+  words_have _ = nobody
 
   entry_in : LineMeaning ScriptLine → Option ScriptLine
   entry_in said = elim said [ Nothing ↦ None | One entry ↦ Some entry | Bad ↦ None ]
@@ -103,10 +96,8 @@ module _ (readers : ℕ) where
       → HasActor (entry_in
       (cond long Bad (cond passed Nothing (option_map_or (λ entry. One entry) o Bad))))
   unfolding entry_in
-  said_has true passed o has = nobody
-  said_has false true o has = nobody
-  said_has false false None has = nobody
   said_has false false (Some x) has = has
+  said_has _ _ _ has = nobody
 
   entry_has : (line : List ℕ) → HasActor (entry_by (script_line_by readers) line)
   unfolding entry_in
