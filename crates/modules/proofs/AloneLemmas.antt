@@ -3,7 +3,7 @@ use Rattle.modules.proofs.Words.{◌≡◌, ◌≢◌, ℕ, count_by, sum_by, �
 use Rattle.modules.proofs.Words.{◌||◌, nat_le, nat_lt, cond, List, [], ◌∷◌, ◌++◌, length, get_or}
 use Rattle.modules.proofs.Words.{map, Option, Some, None, refl, sym, ap, subst, ◌∙◌, arith, All}
 use Rattle.modules.proofs.Words.{filter, fold, first_so, second_so, AllPairs, flat_map, list_any}
-use Rattle.modules.proofs.Words.{option_to_list, bytes_eq, rules, common_steps, nat_tests}
+use Rattle.modules.proofs.Words.{option_to_list, bytes_eq, rules, nat_tests}
 use Rattle.modules.proofs.Lemmas.{and_parts, cases_lt, le-leb, leb-true, ltb-true, or_cases}
 use Rattle.modules.proofs.Lemmas.{or_left, get_or-map, length-map, All-append, All-contains}
 use Rattle.modules.proofs.Lemmas.{All-filter, All-head, All-nil, All-cons, All-push, All-tail}
@@ -18,7 +18,8 @@ use Rattle.modules.proofs.Definitions.{posts, is_core, IsPlaced, PlacedModule, A
 use Rattle.modules.proofs.Definitions.{AreApart, holds, is_apart, lies_in_any, Core}
 use Rattle.modules.proofs.KeptOrderLemmas.{first_lines}
 use Rattle.modules.proofs.SpacedLemmas.{is_of, Range, inside, pairs_first, pairs_rest, within}
-use Rattle.modules.proofs.PostLemmas.{all_of_passing, found_outside, owned}
+use Rattle.modules.proofs.FilterLemmas.{all_of_passing}
+use Rattle.modules.proofs.PostLemmas.{found_outside, owned}
 use Rattle.modules.proofs.SoundnessLemmas.{AreDistinct-push, kernel_apart}
 use Rattle.modules.proofs.CountLemmas.{kept_in_one_of}
 
@@ -65,8 +66,6 @@ kernel_owns kernel lines k d addr name has lt in' h =
     (λ u. (nat_le u.addr l.addr || nat_lt addr u.addr) ≡ true) lines clear) there start in
     grind (
       arith,
-      common_steps,
-      nat_tests,
       Range,
       find-passes,
       find-has,

@@ -2,7 +2,7 @@
 use Rattle.modules.proofs.Words.{◌≢◌, ◌⊎◌, length, ◌≡◌, ℕ, ◌-◌, ◌<◌, ◌≤◌, true, ◌&&◌, ◌||◌, nat_lt}
 use Rattle.modules.proofs.Words.{nat_le, List, get_or, Some, None, Option, refl, ap, ◌∙◌, false}
 use Rattle.modules.proofs.Words.{arith, All, find, unwrap_or, list_all, option_map, first_so}
-use Rattle.modules.proofs.Words.{second_so, inl, inr, ⊎_elim, list_any, common_steps, nat_tests}
+use Rattle.modules.proofs.Words.{second_so, inl, inr, ⊎_elim, list_any}
 use Rattle.modules.proofs.Lemmas.{AllPass-from_list_all, leb-true, ltb-true, le-leb, lt-ltb}
 use Rattle.modules.proofs.Lemmas.{le_or_past_below, least_above_below, le_unless_past}
 use Rattle.modules.proofs.Lemmas.{least_above_past, find-agree, find-passes, list_all-agree}
@@ -78,13 +78,8 @@ pub one_next : (symbols : List SymbolEntry) (addr : ℕ) (s : SymbolEntry)
     → All (λ x. is_next symbols addr x ≡ true → x.addr ≡ s.addr) symbols
 one_next symbols addr s is = grind (
   arith,
-  common_steps,
-  nat_tests,
-  next_parts,
-  find-passes,
   le_antisymm,
   least_above_past,
-  find-has,
   next_parts symbols addr s (find-passes (is_next symbols addr) symbols s is),
   find-passes (is_next symbols addr) symbols s is,
   next_parts symbols addr,

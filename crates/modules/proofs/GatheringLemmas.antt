@@ -27,9 +27,6 @@ pub no_home : (a : Accepted) (s : ListedSymbol) (name : List ℕ) → s.owner �
     → j < length a.modules → belongs (get_or a.modules j m) s ≡ false
 no_home a s name owner absent j m lt = grind (
   arith,
-  common_steps,
-  nat_tests,
-  is_some-position_from,
   false_from_ne_true,
   list_any_at,
   length-map,
@@ -57,8 +54,6 @@ only_home a s name k distinct owner at j m lt other =
     (position_from-zero (bytes_eq name) (names_of a.modules) ∙ at) in
     grind (
       arith,
-      common_steps,
-      nat_tests,
       position-Some,
       position_from-zero,
       bytes_decides,

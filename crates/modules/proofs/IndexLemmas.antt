@@ -3,7 +3,6 @@ use Rattle.modules.proofs.Words.{◌≡◌, ℕ, zero, suc, subst, ◌+◌, ◌-
 use Rattle.modules.proofs.Words.{nat_le, List, [], ◌∷◌, length, get_or, map, Some, None, sym, ap}
 use Rattle.modules.proofs.Words.{◌∙◌, arith, IsStrictWeakOrder, All, slice_get, enumerate_from}
 use Rattle.modules.proofs.Words.{option_map, IsNonDecreasingBy, IsPartitionPoint, common_steps}
-use Rattle.modules.proofs.Words.{nat_tests}
 use Rattle.modules.proofs.Lemmas.{slice_get_cases, length-map, get_or_default}
 use Rattle.modules.proofs.Lemmas.{length-enumerate_from, All-permutation, IsPermutation-sym}
 use Rattle.modules.proofs.Lemmas.{IsPermutation-trans, sorted_far, cases_lt, leb-false, leb-true}
@@ -170,11 +169,6 @@ pub above_at : (symbols : List SymbolEntry) (index : List IndexEntry) → IsInde
     → option_map (λ e. e.addr) (slice_get index split) ≡ address_above symbols addr
 above_at symbols index is addr split parts = grind (
   arith,
-  common_steps,
-  nat_tests,
-  first_above,
-  none_above,
-  slice_get_cases,
   first_above symbols index is addr split parts,
   none_above symbols index is addr split parts,
   slice_get_cases index split,

@@ -40,14 +40,5 @@ regions_from c (m ∷ ms) s h =
     grind (arith, common_steps, nat_tests, map-append, regions_at, regions_from c ms (s + 1))
 
 pub all_regions : (c : CatalogEntries) → map region_of (items_of c) ≡ regions_of c
-all_regions c = grind (
-  arith,
-  add-one,
-  map-append,
-  regions_from,
-  flat_map-append,
-  common_steps,
-  nat_tests,
-  regions_again,
-  append-nil,
-)
+all_regions c =
+    grind (arith, add-one, map-append, regions_from, flat_map-append, regions_again, append-nil)

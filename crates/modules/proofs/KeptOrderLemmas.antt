@@ -19,7 +19,8 @@ use Rattle.modules.proofs.Definitions.{HoldsFor, is_outside, posts, PlacedModule
 use Rattle.modules.proofs.LaidLemmas.{found}
 use Rattle.modules.proofs.MarkedModuleLemmas.{its_regions}
 use Rattle.modules.proofs.SpacedLemmas.{is_of, of_is}
-use Rattle.modules.proofs.PostLemmas.{all_passing, listed_found, marks_stand, number_names}
+use Rattle.modules.proofs.FilterLemmas.{all_passing}
+use Rattle.modules.proofs.PostLemmas.{listed_found, marks_stand, number_names}
 
 -- ---- the first lines of the kernel's regions
 
@@ -54,13 +55,7 @@ IsNumber names n = (n ≢ 0) × (number_in names (name_of names n) ≡ n)
 
 numbered : (names : List (List ℕ)) (name : List ℕ) → list_any (bytes_eq name) names ≡ true
     → number_in names name ≢ 0
-numbered names name some = grind (
-  arith,
-  common_steps,
-  nat_tests,
-  is_some-position_from,
-  is_some-position_from (bytes_eq name) 0 names,
-)
+numbered names name some = grind (arith, is_some-position_from (bytes_eq name) 0 names)
 
 IsNumber-in : (names : List (List ℕ)) (name : List ℕ) → list_any (bytes_eq name) names ≡ true
     → IsNumber names (number_in names name)
@@ -79,10 +74,6 @@ module _ (kernel : List (ℕ × ℕ)) (names : List (List ℕ)) (lines : List Li
       → option_map_or (λ (i : Item). nat_eq i.tag n) (look half_open addr items) false ≡ true
   by_look n addr h = grind (
     arith,
-    common_steps,
-    nat_tests,
-    found,
-    look_is,
     eq-eqb,
     look_is half_open addr items,
     found items regions.laid h.item addr h.there h.from h.below (look half_open addr items)
@@ -216,12 +207,6 @@ module _ (names : List (List ℕ)) where
   fold_names [] acc every all = refl
   fold_names (n ∷ ns) acc every all = grind (
     arith,
-    common_steps,
-    nat_tests,
-    All-head,
-    All-tail,
-    good_more,
-    one_more,
     fold_names ns (with_number acc n) (All-tail (IsNumber names) n ns every),
     All-head (IsNumber names) n ns every,
     All-tail (IsNumber names) n ns every,

@@ -23,21 +23,19 @@ pub starts_more : (core init : Bool) (rs : List (ℕ × ℕ)) (ps : List Part) (
     (p : Part) → i < length rs → i < length ps
     → starts_of core init (take (i + 1) rs) (take (i + 1) ps) ≡ starts_of core init (take i rs)
     (take i ps) ++ cond (is_of core init (get_or ps i p)) ((get_or rs i r).0 ∷ []) []
-starts_more core init [] ps i r p lt lp = absurd (omega arith)
-starts_more core init (x ∷ xs) [] i r p lt lp = absurd (omega arith)
 starts_more core init (x ∷ xs) (y ∷ ys) zero r p lt lp = refl
 starts_more core init (x ∷ xs) (y ∷ ys) (suc i) r p lt lp =
     grind (arith, add-one, starts_more core init xs ys i r p (omega arith) (omega arith))
+starts_more core init _ _ i r p lt lp = absurd (omega arith)
 
 -- ---- the items of regions
 
 pub items_from : (number : ℕ) (rs : List (ℕ × ℕ)) (is : List Item) → same_items number rs is ≡ true
     → map (item_of number) rs ≡ is
 items_from number [] [] h = refl
-items_from number [] (i ∷ is) h = absurd (cc)
-items_from number (r ∷ rs) [] h = absurd (cc)
 items_from number (r ∷ rs) (i ∷ is) h =
     grind (arith, common_steps, nat_tests, and_parts, eqb-true, items_from number rs is)
+items_from number _ _ h = absurd (cc)
 
 pub items_same : (number : ℕ) (rs : List (ℕ × ℕ))
     → same_items number rs (map (item_of number) rs) ≡ true
@@ -60,10 +58,9 @@ same_end number rs is n le less = grind (arith, common_steps, nat_tests)
 pub other_length : (number : ℕ) (rs : List (ℕ × ℕ)) (is : List Item) → (length rs ≡ length is → ⊥)
     → false ≡ same_items number rs is
 other_length number [] [] other = absurd (other refl)
-other_length number [] (i ∷ is) other = refl
-other_length number (r ∷ rs) [] other = refl
 other_length number (r ∷ rs) (i ∷ is) other =
     grind (arith, common_steps, nat_tests, other_length number rs is)
+other_length number _ _ other = refl
 
 -- ---- the updates
 
@@ -242,15 +239,10 @@ pub starts_split : (core init : Bool) (rs : List (ℕ × ℕ)) (ps : List Part) 
     (p : Part) → i < length rs → i < length ps → is_of core init (get_or ps i p) ≡ true
     → starts_of core init rs ps ≡ starts_of core init (take i rs) (take i ps) ++ (get_or rs i r).0
     ∷ starts_of core init (drop (suc i) rs) (drop (suc i) ps)
-starts_split core init [] ps i r p lt lp is = absurd (omega arith)
-starts_split core init (x ∷ xs) [] i r p lt lp is = absurd (omega arith)
 starts_split core init (x ∷ xs) (y ∷ ys) zero r p lt lp is = rw is refl
-starts_split core init (x ∷ xs) (y ∷ ys) (suc i) r p lt lp is = grind (
-  arith,
-  common_steps,
-  nat_tests,
-  starts_split core init xs ys i r p (omega arith) (omega arith) is,
-)
+starts_split core init (x ∷ xs) (y ∷ ys) (suc i) r p lt lp is =
+    grind (arith, starts_split core init xs ys i r p (omega arith) (omega arith) is)
+starts_split core init _ _ i r p lt lp is = absurd (omega arith)
 
 -- words that begin with the first addresses so far, and have another one next or none, are not all
 pub other_words : (words starts more : List ℕ) (start count : ℕ) → starts ≡ take count words
@@ -258,12 +250,6 @@ pub other_words : (words starts more : List ℕ) (start count : ℕ) → starts 
     → bytes_eq (starts ++ start ∷ more) words ≡ false
 other_words words starts more start count is bound other = grind (
   arith,
-  common_steps,
-  nat_tests,
-  bytes_decides,
-  length-take-le,
-  length-append,
-  get_or-append_seam,
   bytes_decides (starts ++ start ∷ more) words,
   length-take-le count words bound,
   length-append starts (start ∷ more),
@@ -272,14 +258,5 @@ other_words words starts more start count is bound other = grind (
 
 pub all_words : (words starts : List ℕ) (count : ℕ) → starts ≡ take count words
     → count ≤ length words → nat_eq count (length words) ≡ bytes_eq starts words
-all_words words starts count is bound = grind (
-  arith,
-  common_steps,
-  nat_tests,
-  eqb-true,
-  bytes_decides,
-  length-take-le,
-  take-length,
-  eq-eqb,
-  cases_lt,
-)
+all_words words starts count is bound =
+    grind (arith, eqb-true, bytes_decides, length-take-le, take-length, eq-eqb, cases_lt)

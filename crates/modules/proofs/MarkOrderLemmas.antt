@@ -1,7 +1,7 @@
 -- A stable sort by address leaves the nearest mark.
 use Rattle.modules.proofs.Words.{◌≡◌, ℕ, Bool, ◌&&◌, nat_eq, List, get_or, Some, sym, ◌∙◌, arith}
 use Rattle.modules.proofs.Words.{All, filter, find, IsPermutation, IsStableByKey, ties, is_lt}
-use Rattle.modules.proofs.Words.{nat_cmp, rules, nat_tests, common_steps}
+use Rattle.modules.proofs.Words.{nat_cmp, rules, nat_tests}
 use Rattle.modules.proofs.Lemmas.{eq-eqb, eqb-false, ne_eqb, All-contains, filter_agree}
 use Rattle.modules.proofs.Lemmas.{Contains-permutation, IsPermutation-sym, get_or_default}
 use Rattle.modules.proofs.Lemmas.{get_or_from_slice_get, slice_get_within, find-first, find_place}
@@ -50,15 +50,7 @@ module _ (xs ys : List Mark) (moved : IsPermutation xs ys)
   goes_on_moved x l on = search (rules, first_moved, all_moved)
 
   owns_moved : (m x : ℕ) → Owns ys m x → Owns xs m x
-  owns_moved m x o = grind (
-    arith,
-    common_steps,
-    nat_tests,
-    nearest_moved,
-    goes_on_moved,
-    nearest_moved x o.mark o.nearest,
-    goes_on_moved x o.mark,
-  )
+  owns_moved m x o = grind (arith, nearest_moved x o.mark o.nearest, goes_on_moved x o.mark)
 
 -- the regions of the sorted marks are those of the marks
 pub regions_moved : (xs ys : List Mark) (items : List Item) → IsPermutation xs ys

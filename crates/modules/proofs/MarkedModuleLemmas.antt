@@ -1,7 +1,6 @@
 -- Regions by the numbers of their modules.
 use Rattle.modules.proofs.Words.{◌≡◌, ℕ, ◌<◌, ◌≤◌, true, false, cond, nat_eq, List, [], ◌∷◌, map}
-use Rattle.modules.proofs.Words.{refl, arith, All, Contains, filter, AllPairs, common_steps}
-use Rattle.modules.proofs.Words.{nat_tests}
+use Rattle.modules.proofs.Words.{refl, arith, All, Contains, filter, AllPairs}
 use Rattle.modules.proofs.Lemmas.{cases_lt, or_cases, or_left, or_right, eqb-true, eq-eqb, All-head}
 use Rattle.modules.proofs.Lemmas.{All-tail, All-cons, All-filter, All-map, All-nil, AllPairs-cons}
 use Rattle.modules.proofs.Lemmas.{Contains-cons_cases, Contains-head, Contains-rest}
@@ -57,17 +56,8 @@ module _ (n : ℕ) where
   pub from_holds : (items : List Item) (x : ℕ) (i : Item) → Contains items i → i.tag ≡ n → i.a ≤ x
       → x < i.b → lies (ranges_of n items) x ≡ true
   from_holds [] x i there its from below = absurd (omega (arith, there.1))
-  from_holds (j ∷ js) x i there its from below = grind (
-    arith,
-    common_steps,
-    nat_tests,
-    or_left,
-    within,
-    or_right,
-    Contains-cons_cases,
-    eq-eqb,
-    from_holds js x i,
-  )
+  from_holds (j ∷ js) x i there its from below =
+      grind (arith, or_left, within, or_right, Contains-cons_cases, eq-eqb, from_holds js x i)
 
 pub its_regions : (marks : List Mark) (items : List Item) (lines : List ListedSymbol) (n : ℕ)
     (name : List ℕ) → AreRegions marks items → StandsFor marks lines n name

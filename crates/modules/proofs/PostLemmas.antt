@@ -7,8 +7,8 @@ use Rattle.modules.proofs.Words.{position_from, option_and_then, option_map, opt
 use Rattle.modules.proofs.Words.{bytes_eq, bytes_decides, rules, common_steps, nat_tests}
 use Rattle.modules.proofs.Lemmas.{and_from, and_parts, cases_lt, eq-eqb, eqb-true, le-leb, leb-true}
 use Rattle.modules.proofs.Lemmas.{lt-ltb, ltb-true, ne_eqb, or_cases, or_left, or_parts, or_right}
-use Rattle.modules.proofs.Lemmas.{position_from-zero, All-append, All-cons, All-map, All-contains}
-use Rattle.modules.proofs.Lemmas.{All-head, All-nil, All-tail, list_any_at, position-Some}
+use Rattle.modules.proofs.Lemmas.{position_from-zero, All-append, All-map, All-contains}
+use Rattle.modules.proofs.Lemmas.{All-head, All-tail, list_any_at, position-Some}
 use Rattle.modules.proofs.Lemmas.{Contains-append_left, Contains-append_right, Contains-get_or}
 use Rattle.modules.proofs.Lemmas.{Contains-map, AllPass-from_list_all, list_all-from_AllPass}
 use Rattle.modules.proofs.Lemmas.{Contains-slice_get, find-agree, find-filter, find-has}
@@ -20,6 +20,7 @@ use Rattle.modules.proofs.Definitions.{IsNextMark, Owns, goes_on, is_in_page, is
 use Rattle.modules.proofs.Definitions.{is_next_line, is_of_one_module, is_outside}
 use Rattle.modules.proofs.Definitions.{module_of_address, post_above, post_below, posts, reach}
 use Rattle.modules.proofs.Definitions.{holds, lies_in_any, Mark}
+use Rattle.modules.proofs.FilterLemmas.{all_of_passing, all_passing}
 use Rattle.modules.proofs.MarkOrderLemmas.{first_found, found_first, is_at}
 use Rattle.modules.proofs.SpacedLemmas.{is_of, named, inside, within}
 
@@ -27,36 +28,10 @@ not_built_in : (built_in : List (ℕ × ℕ)) (s : ListedSymbol) (name : List �
     → s.owner ≡ Some name → is_built_in built_in s ≡ false
 not_built_in built_in s name owner = rw owner
 
--- ---- what passes a test
-
-pub all_passing : {X : Type 0} (p : X → Bool) (Q : X → Type 0) (xs : List X)
-    → All (λ x. p x ≡ true → Q x) xs → All Q (filter p xs)
-all_passing p Q [] all = All-nil Q
-all_passing p Q (x ∷ xs) all =
-    elim (p x) as (λ b. (b ≡ true → Q x) → All Q (cond b (x ∷ filter p xs) (filter p xs))) [
-      | true ↦ λ here. All-cons Q x (filter p xs) (here refl)
-          (all_passing p Q xs (All-tail (λ y. p y ≡ true → Q y) x xs all))
-      | false ↦ λ _. all_passing p Q xs (All-tail (λ y. p y ≡ true → Q y) x xs all)
-    ] (All-head (λ y. p y ≡ true → Q y) x xs all)
-
-pub all_of_passing : {X : Type 0} (p : X → Bool) (Q : X → Type 0) (xs : List X)
-    → All Q (filter p xs) → All (λ x. p x ≡ true → Q x) xs
-all_of_passing p Q [] all = All-nil (λ x. p x ≡ true → Q x)
-all_of_passing p Q (x ∷ xs) all =
-    elim (p x) as (λ b. p x ≡ b → All Q (cond b (x ∷ filter p xs) (filter p xs))
-    → All (λ y. p y ≡ true → Q y) (x ∷ xs)) [
-      | true ↦ λ _ both.
-          All-cons (λ y. p y ≡ true → Q y) x xs (λ _. All-head Q x (filter p xs) both)
-          (all_of_passing p Q xs (All-tail Q x (filter p xs) both))
-      | false ↦ λ fails rest.
-          All-cons (λ y. p y ≡ true → Q y) x xs (λ passes. absurd (cc)) (all_of_passing p Q xs rest)
-    ] refl all
-
 all_of_mapped : {X Y : Type 0} (f : X → Y) (Q : Y → Type 0) (xs : List X) → All Q (map f xs)
     → All (λ x. Q (f x)) xs
-all_of_mapped f Q [] all = All-nil (λ x. Q (f x))
-all_of_mapped f Q (x ∷ xs) all = All-cons (λ y. Q (f y)) x xs (All-head Q (f x) (map f xs) all)
-    (all_of_mapped f Q xs (All-tail Q (f x) (map f xs) all))
+all_of_mapped f Q xs all = λ k d lt. All-contains Q (map f xs) (f (get_or xs k d)) all
+    (Contains-map f xs (get_or xs k d) (Contains-get_or xs k d lt))
 
 find_mapped : {X Y : Type 0} (p : Y → Bool) (f : X → Y) (xs : List X)
     → find p (map f xs) ≡ option_map f (find (λ x. p (f x)) xs)
@@ -397,10 +372,6 @@ module _ (names : List (List ℕ)) (lines : List ListedSymbol) where
       → IsFirstMark (marks_of kernel names lines) m → (l : ListedSymbol) × IsLineOf kernel m l
   line_of_first kernel m some first = grind (
     arith,
-    common_steps,
-    nat_tests,
-    mark_found,
-    found_first,
     outside_not_inside,
     passes_outside,
     posts_at,
@@ -473,17 +444,7 @@ module _ (names : List (List ℕ)) (lines : List ListedSymbol) where
       let (t, at, its, near) = next_near kernel x l name own h in
       grind (
         arith,
-        common_steps,
-        nat_tests,
         next_near,
-        next_line_is,
-        find-passes,
-        next_by_address,
-        listed_found,
-        mark_next,
-        next_marks,
-        mark_of_first,
-        found_outside,
         next_line_is ps x t (find-passes (is_next_line ps x) ps t at),
         find-passes (is_next_line ps x) ps t at,
         next_by_address ps x t (listed_found (is_next_line ps x) ps t at),
@@ -509,16 +470,7 @@ module _ (names : List (List ℕ)) (lines : List ListedSymbol) where
       (record { below = o.nearest.below; clear = o.nearest.clear }) in
       grind (
         arith,
-        common_steps,
-        nat_tests,
         line_of_first,
-        nearest_by_address,
-        listed_found,
-        near_posts,
-        or_left,
-        or_right,
-        to_goes_on,
-        owner_of_line,
         nearest_by_address ps x l (listed_found (is_line_at l.addr) ps l line.first)
             (near_posts kernel x l.addr line.out near),
         listed_found (is_line_at l.addr) ps l line.first,
@@ -539,19 +491,9 @@ module _ (names : List (List ℕ)) (lines : List ListedSymbol) where
       nearest_line_is ps x l (find-passes (is_nearest_line ps x) ps l at) in
       grind (
         arith,
-        common_steps,
-        nat_tests,
         owned,
         nearest_line_is,
         find-passes,
-        nearest_by_address,
-        listed_found,
-        found_outside,
-        mark_nearest,
-        near_marks,
-        mark_of_first,
-        from_goes_on,
-        or_cases,
         nearest_by_address ps x l (listed_found (is_nearest_line ps x) ps l at) near,
         listed_found (is_nearest_line ps x) ps l at,
         found_outside kernel (is_nearest_line ps x) l name at own,

@@ -1,6 +1,6 @@
 -- What a search of the list by rising first address finds.
 use Rattle.modules.proofs.Words.{◌≡◌, ℕ, ◌-◌, ◌<◌, ◌≤◌, ⊎_elim, List, length, get_or, Some, None}
-use Rattle.modules.proofs.Words.{ap, ◌∙◌, arith, Contains, common_steps, nat_tests}
+use Rattle.modules.proofs.Words.{ap, ◌∙◌, arith, Contains, common_steps}
 use Rattle.modules.proofs.Lemmas.{cases_lt, get_or_default, Contains-permutation, IsPermutation-sym}
 use Rattle.modules.proofs.Lemmas.{look_is}
 use Rattle.modules.proofs.Definitions.{Item, half_open, IsSoundCatalog, CatalogEntries, items_of}
@@ -18,14 +18,8 @@ module _ (c : CatalogEntries) (sound : IsSoundCatalog c) where
     -- an item that holds the address stands below the place
     stands_below : (y : Item) → Contains (items_of c) y → y.a ≤ addr
         → (k : ℕ) × (k < split) × (k < length items) × (get_or items k y ≡ y)
-    stands_below y m le = grind (
-      arith,
-      common_steps,
-      nat_tests,
-      Contains-permutation,
-      cases_lt,
-      Contains-permutation (items_of c) items y index.same m,
-    )
+    stands_below y m le =
+        grind (arith, cases_lt, Contains-permutation (items_of c) items y index.same m)
 
     pub nothing_below : split ≡ 0 → None ≡ item_of_address c addr
     nothing_below e =

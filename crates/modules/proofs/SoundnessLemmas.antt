@@ -38,16 +38,8 @@ pub beside_more : (taken_regions : List (ℕ × ℕ)) (r : ℕ × ℕ) (rs : Lis
     → are_beside taken_regions rs ≡ true → list_all (is_apart r) rs ≡ true
     → are_beside (taken_regions ++ r ∷ []) rs ≡ true
 beside_more taken_regions r [] h k = refl
-beside_more taken_regions r (x ∷ xs) h k = grind (
-  arith,
-  common_steps,
-  nat_tests,
-  and_parts,
-  list_all-append,
-  and_from,
-  turned,
-  beside_more taken_regions r xs,
-)
+beside_more taken_regions r (x ∷ xs) h k =
+    grind (arith, and_parts, list_all-append, and_from, turned, beside_more taken_regions r xs)
 
 -- regions that lie apart, and beside those taken, are taken too
 pub AreApart-append : (taken_regions rs : List (ℕ × ℕ)) → AreApart taken_regions

@@ -46,12 +46,6 @@ module _ (r : Range) (rs : List Range) (s : Range) (ss : List Range) (r_valid : 
   first_ge : s.0 ≤ r.0
   first_ge = grind (
     arith,
-    common_steps,
-    nat_tests,
-    inside,
-    above,
-    or_cases,
-    in_first,
     inside s r.0,
     above ss s.1 r.0 s_last,
     or_cases (holds s r.0) (lies ss r.0) (in_first r.0 (omega arith) r_valid),
@@ -61,13 +55,6 @@ module _ (r : Range) (rs : List Range) (s : Range) (ss : List Range) (r_valid : 
   end_le : r.0 ≡ s.0 → r.1 ≤ s.1
   end_le same = grind (
     arith,
-    common_steps,
-    nat_tests,
-    inside,
-    above,
-    or_cases,
-    in_first,
-    cases_lt,
     inside s s.1,
     above ss s.1 s.1 s_last,
     or_cases (holds s s.1) (lies ss s.1),
@@ -122,15 +109,8 @@ one_module lines m n p q name =
 pub same_modules : (lines : List ListedSymbol) (ms ns : List PlacedModule) → map (λ m. m.name) ms
     ≡ map (λ m. m.name) ns → All (HasItsRegions lines) ms → All (HasItsRegions lines) ns → ms ≡ ns
 same_modules lines [] [] e p q = refl
-same_modules lines [] (n ∷ ns) e p q = absurd (cc)
-same_modules lines (m ∷ ms) [] e p q = absurd (cc)
 same_modules lines (m ∷ ms) (n ∷ ns) e p q = grind (
   arith,
-  common_steps,
-  nat_tests,
-  one_module,
-  All-head,
-  All-tail,
   same_modules lines ms ns,
   one_module lines m n (All-head (HasItsRegions lines) m ms p)
       (All-head (HasItsRegions lines) n ns q),
@@ -139,6 +119,7 @@ same_modules lines (m ∷ ms) (n ∷ ns) e p q = grind (
   All-tail (HasItsRegions lines) m ms p,
   All-tail (HasItsRegions lines) n ns q,
 )
+same_modules lines _ _ e p q = absurd (cc)
 
 pub same_accepted : (names : Option BoundNames) (lines : List ListedSymbol) (a b : Accepted)
     → IsFromSymbols names lines a → IsFromSymbols names lines b → a ≡ b

@@ -65,15 +65,7 @@ kept_ranges : (items : List Item) (m : Mark) → All (λ i. i.a < i.b) items
     → is_kept_mark items m ≡ true → ranges_of m.owner items ≢ []
 kept_ranges items m valid kept none =
     let (i, there, its) = kept_item items m kept in
-    grind (
-      arith,
-      common_steps,
-      nat_tests,
-      kept_item,
-      All-contains,
-      from_holds,
-      from_holds m.owner items i.a i there its (omega arith),
-    )
+    grind (arith, kept_item, All-contains, from_holds m.owner items i.a i there its (omega arith))
 
 -- ---- what a kept mark takes
 

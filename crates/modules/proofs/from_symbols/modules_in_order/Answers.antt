@@ -1,5 +1,5 @@
 use Rattle.modules.proofs.Words.{◌≡◌, ◌≢◌, ℕ, ◌+◌, true, false, cond, nat_eq, [], List, length}
-use Rattle.modules.proofs.Words.{get_or, take, sym, ap, ◌∙◌, arith, Vec, list_any, common_steps}
+use Rattle.modules.proofs.Words.{get_or, take, sym, ap, ◌∙◌, arith, Vec, list_any}
 use Rattle.modules.proofs.Lemmas.{eqb-false, eqb-true, nil_from_length}
 use Rattle.modules.proofs.Definitions.{is_kept_mark, kept_numbers, with_number, ranges_of, Mark}
 use Rattle.modules.proofs.TakenLemmas.{kept_number, left_rising, left_taken, kept_numbers_more}
@@ -56,7 +56,6 @@ loop-mark-preserved c =
           rw (w.lists-is, w.modules-is, numbered) (record {
             modules = grind (
               arith,
-              common_steps,
               own_ranges numbers items taken m own.items left some,
               taken_now numbers items taken m own.items left some,
             );

@@ -1,4 +1,4 @@
-use Rattle.modules.proofs.Words.{◌∙◌, sym, append_assoc, arith, common_steps, nat_tests}
+use Rattle.modules.proofs.Words.{◌∙◌, sym, append_assoc, arith}
 use Rattle.facts.proofs.Options.{option_copied-same}
 use Rattle.modules.proofs.RunLemmas.{lines_of-more, lines_of_all-last}
 use Rattle.modules.proofs.symbol_lines.put_line.Goals as goal
@@ -11,12 +11,4 @@ returns-then-eq-clause-pushed c =
     c.args.symbol
     (option_copied-same last.module c.args.owner (sym c.eq.ensures ∙ c.if-eq.true))
     c.in_ok-push.ensures.items in
-    grind (
-      arith,
-      common_steps,
-      nat_tests,
-      lines_of-more,
-      option_copied-same,
-      lines_of_all-last,
-      append_assoc,
-    )
+    grind (arith, lines_of-more, option_copied-same, lines_of_all-last, append_assoc)

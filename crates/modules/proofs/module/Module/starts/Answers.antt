@@ -1,5 +1,5 @@
 use Rattle.modules.proofs.Words.{◌≡◌, ℕ, ◌∙◌, true, List, length, Some, None, Option, sym, ap}
-use Rattle.modules.proofs.Words.{arith, is_some, position, option_and_then, common_steps, nat_tests}
+use Rattle.modules.proofs.Words.{arith, is_some, position, option_and_then}
 use Rattle.modules.proofs.Lemmas.{position_from-zero, position-Some, slice_get-get_or, Some_ne_None}
 use Rattle.modules.proofs.Lemmas.{is_some-position_from}
 use Rattle.modules.proofs.Definitions.{placed_module_of, ModuleEntry, IsPlaced, first_start}
@@ -12,10 +12,6 @@ start_by : (o : Option ℕ) (regions : List (ℕ × ℕ)) (parts : List Part) �
 start_by None regions parts is some same none = absurd (cc)
 start_by (Some k) regions parts is some same none = grind (
   arith,
-  common_steps,
-  nat_tests,
-  position-Some,
-  slice_get-get_or,
   Some_ne_None,
   position-Some is_core parts k Core is,
   slice_get-get_or regions k (0, 0),
