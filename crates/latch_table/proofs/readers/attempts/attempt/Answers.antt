@@ -1,4 +1,4 @@
-use Rattle.latch_table.proofs.Words.{◌≡◌, sym, ◌∙◌, ap, capacity_of, outcome_of, Answered, Retry}
+use Rattle.latch_table.proofs.Words.{◌≡◌, sym, ◌∙◌, ap, outcome_of, Answered, Retry}
 use Rattle.latch_table.proofs.Words.{IsPrefix, ◌++◌, ◌∷◌, [], Try, Tried, reader_of}
 use Rattle.latch_table.proofs.WalkLemmas.{outcome_of_try, ready_now, walk_now}
 use Rattle.latch_table.proofs.readers.attempts.attempt.Given as given

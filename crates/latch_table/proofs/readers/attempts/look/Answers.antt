@@ -1,4 +1,4 @@
-use Rattle.latch_table.proofs.Words.{◌≡◌, refl, sym, ◌∙◌, ap, subst, inl, inr, capacity_of}
+use Rattle.latch_table.proofs.Words.{◌≡◌, refl, sym, ◌∙◌, ap, subst, inl, inr}
 use Rattle.latch_table.proofs.Words.{generation_of, outcome_of, reader_of, Tried, IsRecalled}
 use Rattle.latch_table.proofs.Words.{Recalled, MemoryHolds, IsPrefix, ◌++◌, ◌∷◌, []}
 use Rattle.latch_table.proofs.MemoryLemmas.{recalls_now, remembers_tried}

@@ -1,5 +1,4 @@
-use Rattle.latch_table.proofs.Words.{ap, subst, ◌∙◌, ◌<◌, List, length, arith, get_or, TableId}
-use Rattle.latch_table.proofs.Words.{Store}
+use Rattle.latch_table.proofs.Words.{ap, subst, ◌∙◌, ◌<◌, List, arith, get_or, TableId, Store}
 use Rattle.std.proofs.lemmas.List.Elements.{All-get_or}
 use Rattle.latch_table.proofs.RuleLemmas.{allows_copy}
 use Rattle.latch_table.proofs.writers.steps.load_ahead.Goals as goal
