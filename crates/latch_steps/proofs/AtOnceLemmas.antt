@@ -147,10 +147,10 @@ module _ {O K : Type 0} (o : Order K) (law : IsLawful o) (old new : World O K) (
   step_after (Read q) r s = does_after (Read q) r s
 
 -- the same of an event under another name
-pub event_after : {O K : Type 0} (o : Order K) → IsLawful o → (old new : World O K)
-    → layout_in new ≡ layout_in old → (e e' : Event K) → e ≡ e' → (r : Reply K)
+pub event_after : {O K : Type 0} {o : Order K} → IsLawful o → {old new : World O K}
+    → layout_in new ≡ layout_in old → {e e' : Event K} → e ≡ e' → (r : Reply K)
     → IsWorldStep o old e' r new → StaysAfter o old e r new
-event_after {K = K} o law old new lay e e' is r s = λ start us h.
+event_after {K = K} {o = o} law {old} {new} lay {e} is r s = λ start us h.
     step_after o law old new lay start us h e r
     (subst (λ (x : Event K). IsWorldStep o old x r new) (sym is) s)
 
@@ -231,22 +231,26 @@ module _ {K : Type 0} (o : Order K) (n limit : ℕ) (m : List ℕ) (r : ℕ) whe
         others = λ q ne. h.others q ne ∙ get-insert_other w.lookups q r l' ne;
       }
 
+-- what a lookup returns at its first attempt
+abbrev pub found_once : {K : Type 0} → ℕ → K → Option Item → ℕ → ℕ → ℕ → ℕ → Returned K
+found_once r k answer g first last loads = record {
+  reader = r;
+  key = k;
+  answer = answer;
+  generation = g;
+  first = first;
+  last = last;
+  loads = loads;
+  attempts = 1;
+}
+
 module _ {O K : Type 0} (o : Order K) (law : IsLawful o) (old : World O K) (r : ℕ) (k : K) where
   -- the whole lookup, where the reader has none pending
   pub look_found : (answer : Option Item) (g loads first last : ℕ) → loads ≤ 18446744073709551615
       → lookup_at old.lookups r ≡ None → LooksUp o old k answer g loads
       → first ≡ counted_up old.events → last ≡ min (first + loads) 18446744073709551615
       → (w : Moment K) → RepresentsMoment o old w
-      → FindsNow o old w r k (record {
-        reader = r;
-        key = k;
-        answer = answer;
-        generation = g;
-        first = first;
-        last = last;
-        loads = loads;
-        attempts = 1;
-      })
+      → FindsNow o old w r k (found_once r k answer g first last loads)
       (record old { events = last })
   look_found answer g loads first last most free found ef el w s =
       let n = capacity_of old.layout in
@@ -272,16 +276,8 @@ module _ {O K : Type 0} (o : Order K) (law : IsLawful o) (old : World O K) (r : 
         steps = (
           ap (start_done w r k) none_there,
           subst (λ x. Run (machine o n (limit_of old.layout))
-              w' (h.run ++ step_done (Read r) (ReturnedReply x) h.done ∷ [])) (λ i. record {
-                reader = r;
-                key = k;
-                answer = answer;
-                generation = g;
-                first = sym count i;
-                last = end i;
-                loads = few i;
-                attempts = 1;
-              }) h.steps,
+              w' (h.run ++ step_done (Read r) (ReturnedReply x) h.done ∷ []))
+              (λ i. found_once r k answer g (sym count i) (end i) (few i)) h.steps,
         );
         shows = record {
           capacity = s.capacity;
@@ -328,16 +324,8 @@ module _ {O K : Type 0} (o : Order K) (law : IsLawful o) (old : World O K) (r : 
         )
 
     pub look_told : (answer : Option Item) (g loads first last : ℕ) → LooksUp o old k answer g loads
-        → (let x : Returned K = record {
-          reader = r;
-          key = k;
-          answer = answer;
-          generation = g;
-          first = first;
-          last = last;
-          loads = loads;
-          attempts = 1;
-        } in IsFoundNow o (table_in h) (generation_of (at h.moment.latch.words 0)) r k x
+        → (let x : Returned K = found_once r k answer g first last loads in
+        IsFoundNow o (table_in h) (generation_of (at h.moment.latch.words 0)) r k x
         × IsNear (table_in h) x)
     look_told answer g loads first last found =
         let same = sym found.comes_to ∙ right_answer in
@@ -373,8 +361,7 @@ module _ {O K : Type 0} (o : Order K) (law : IsLawful o) (old : World O K) (r : 
         ⊎_elim
         (λ short. short (ap length h.shows.words ∙ sym (length_after h.moment.latch.words
         old.writer.stores_left) ∙ h.shows.writer.at_rest.sized ∙ ap words_for h.shows.capacity))
-        (λ again. let f = sym again ∙ right_answer in cc)
-        none
+        (λ again. let f = sym again ∙ right_answer in cc) none
 
   pub after_found : (new : World O K) (x : Returned K)
       → ((w : Moment K) → RepresentsMoment o old w → FindsNow o old w r k x new)

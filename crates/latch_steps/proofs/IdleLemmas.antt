@@ -131,5 +131,4 @@ module _ {K : Type 0} (r : ℕ) where
   none_at_end w v x none h q =
       ⊎_elim
       (λ same. subst (λ j. get v.lookups j ≡ None) (sym same) h.ends)
-      (λ ne. h.differs.others q ne ∙ none q)
-      (cases_eq q r)
+      (λ ne. h.differs.others q ne ∙ none q) (cases_eq q r)

@@ -59,12 +59,12 @@ all_kept o n keeps w (d ∷ run) a b (mid, one, more) whole =
     )
 
 -- from the opening on
-pub trace_of : {O K : Type 0} (o : Order K) (l : Layout) (start : ℕ) (old new : World O K)
-    (a b : Recording K) (run : List (Done K)) (t : Trace O K) → layout_in old ≡ l → IsEmpty a
+pub trace_of : {O K : Type 0} {o : Order K} (l : Layout) (start : ℕ) {old new : World O K}
+    {a b : Recording K} {run : List (Done K)} (t : Trace O K) → layout_in old ≡ l → IsEmpty a
     → b.ran_out ≡ false → IsWhole o new b t
     → IsReportedRun o (Keeps true) old new a b (opening (capacity_of l) start) run
     → IsTraceOf o l start t run
-trace_of o l start old new a b run t lay empty sound whole h =
+trace_of {o = o} l start {old = old} {a = a} {b = b} {run = run} t lay empty sound whole h =
     let all = all_kept o (capacity_of (layout_in old)) true (opening (capacity_of l) start) run a b
     h.reported sound in
     record {
@@ -82,50 +82,49 @@ few_done o l start t run h few = omega (arith, events_length run, ap length h.ev
 
 -- a world did what these commands ask for, and reported it
 pub record Obeyed {O K T : Type 0} (o : Order K) (reports : T → Event K → Outcome K → T → Type 0)
-    (w : Moment K) (old new : World O K) (a b : T)
-    (commands : List (Command K)) : Type 0 where
+    (w : Moment K) (old new : World O K) (a b : T) (commands : List (Command K)) : Type 0 where
   pub run : List (Done K)
   pub reported : IsReportedRun o reports old new a b w run
   pub expands : Expand w commands run
 
-module _ {O K T : Type 0} (o : Order K) (reports : T → Event K → Outcome K → T → Type 0)
-    (w : Moment K) (old : World O K) (a : T) where
+module _ {O K T : Type 0} {o : Order K} {reports : T → Event K → Outcome K → T → Type 0}
+    {w : Moment K} {old : World O K} {a : T} where
   pub obeyed_none : RepresentsMoment o old w → Obeyed o reports w old old a a []
-  obeyed_none s = record { run = []; reported = none_reported o reports old a w s; expands = refl }
+  obeyed_none s = record { run = []; reported = none_reported s; expands = refl }
 
   -- one command more of a list
-  pub obeyed_more : (now new : World O K) (b b' : T) (commands : List (Command K)) (i : ℕ)
-      (c : Command K)
+  pub obeyed_more : {now new : World O K} {b b' : T} (commands : List (Command K)) (i : ℕ)
+      {c : Command K}
       → i < length commands → c ≡ get_or commands i c
       → Obeyed o reports w old now a b (take i commands)
       → ObeysFromAny o reports c now new b b'
       → Obeyed o reports w old new a b' (take (i + 1) commands)
-  obeyed_more now new b b' commands i c there is h obeys =
+  obeyed_more commands i {c = c} there is h obeys =
       let (next, done, repeats) = obeys (last_of w h.run) h.reported.shows in
       let more = expand_push w (take i commands) c h.run next h.expands repeats in
       record {
         run = h.run ++ next;
-        reported = runs_reported o reports old now new a b b' w h.run next h.reported done;
+        reported = runs_reported h.reported done;
         expands = subst (λ cs. Expand w cs (h.run ++ next)) (take_push commands i c there is) more;
       }
 
-module _ {O K : Type 0} (o : Order K) (law : IsLawful o) (l : Layout) (start : ℕ)
-    (opened : MayOpen l start) where
-  pub safe_trace : (t : Trace O K) → length t.events.items < 2 ^ 64 → IsSafeTrace o l start t
-  safe_trace t few = λ run h.
+module _ {O K : Type 0} {o : Order K} (law : IsLawful o) {l : Layout} {start : ℕ}
+    (opened : MayOpen l start) {t : Trace O K} where
+  pub safe_trace : length t.events.items < 2 ^ 64 → IsSafeTrace o l start t
+  safe_trace few = λ run h.
       safe o law (capacity_of l) (limit_of l) start opened.0 run (few_done o l start t run h few)
       h.steps
 
-  pub quiet_trace : (t : Trace O K) → length t.events.items < 2 ^ 64 → IsQuietTrace o l start t
-  quiet_trace t few = λ run h.
+  pub quiet_trace : length t.events.items < 2 ^ 64 → IsQuietTrace o l start t
+  quiet_trace few = λ run h.
       quiet o law (capacity_of l) (limit_of l) start opened.0 run (few_done o l start t run h few)
       h.steps
 
   -- the trees were red-black at each moment
-  pub near_trace : (t : Trace O K) → length t.events.items < 2 ^ 64 → (run : List (Done K))
+  pub near_trace : length t.events.items < 2 ^ 64 → {run : List (Done K)}
       → IsTraceOf o l start t run
       → AreShallow (capacity_of l) run → IsNearTrace o l start t
-  near_trace t few run told low = (
+  near_trace few {run = run} told low = (
     run,
     told,
     near o law (capacity_of l) (limit_of l) start opened.0 run (few_done o l start t run told few)

@@ -38,17 +38,18 @@ module _ {K T : Type 0} (o : Order K) (reports : T → Event K → Outcome K →
   reported_append n w (d ∷ run) next a b c h k =
       (h.0, h.1, reported_append n d.after run next h.0 b c h.2 k)
 
-module _ {O K T : Type 0} (o : Order K) (reports : T → Event K → Outcome K → T → Type 0) where
-  pub none_reported : (c : World O K) (a : T) (w : Moment K) → RepresentsMoment o c w
+module _ {O K T : Type 0} {o : Order K} {reports : T → Event K → Outcome K → T → Type 0} where
+  pub none_reported : {c : World O K} {a : T} {w : Moment K} → RepresentsMoment o c w
       → IsReportedRun o reports c c a a w []
-  none_reported c a w s =
+  none_reported s =
       record { layout = refl; steps = tt; shows = s; shallow = tt; reported = refl }
 
-  pub runs_reported : (old mid new : World O K) (a b c : T) (w : Moment K)
-      (run next : List (Done K)) → IsReportedRun o reports old mid a b w run
+  pub runs_reported : {old mid new : World O K} {a b c : T} {w : Moment K}
+      {run next : List (Done K)} → IsReportedRun o reports old mid a b w run
       → IsReportedRun o reports mid new b c (last_of w run) next
       → IsReportedRun o reports old new a c w (run ++ next)
-  runs_reported old mid new a b c w run next x y =
+  runs_reported {old = old} {new = new} {a = a} {b = b} {c = c} {w = w} {run = run} {next = next}
+      x y =
       let n = capacity_of (layout_in old) in
       record {
         layout = y.layout ∙ x.layout;
@@ -62,14 +63,15 @@ module _ {O K T : Type 0} (o : Order K) (reports : T → Event K → Outcome K �
       }
 
   -- one event, by what its report is given
-  pub event_reported : (old new : World O K) (e : Event K) (r : Reply K)
-      (load : Option (NextLoad K)) (number sequence : ℕ) (a b : T)
+  pub event_reported : {old new : World O K} {e : Event K} {r : Reply K}
+      {load : Option (NextLoad K)} {number sequence : ℕ} {a b : T}
       → IsWorldStep o old e r new → is_refused_for_memory r ≡ false → layout_in new ≡ layout_in old
       → IsLoadBy o old e load
       → HasEvents o new number → HasSequence o new sequence
       → reports a e (record { number = number; load = load; reply = r; sequence = sequence }) b
       → ReportsEvent o reports e old new a b r
-  event_reported old new e r load number sequence a b steps stays lay loads events reads told w s =
+  event_reported {old = old} {new = new} {e = e} {r = r} {load = load} {number = number}
+      {sequence = sequence} {a = a} {b = b} steps stays lay loads events reads told w s =
       let d = does o old new e r steps stays w s in
       let n = capacity_of (layout_in old) in
       let low =
@@ -127,17 +129,16 @@ pub record Writing {O K T : Type 0} (o : Order K) (reports : T → Event K → O
   pub unended : IsUnended c run
   pub turns : length run ≡ turn
 
-module _ {O K T : Type 0} (o : Order K) (reports : T → Event K → Outcome K → T → Type 0)
-    (c : Command K) (old : World O K) (a : T) where
-  pub writing_all : (now : World O K) (b : T) (turn most : ℕ) (w : Moment K)
+module _ {O K T : Type 0} {o : Order K} {reports : T → Event K → Outcome K → T → Type 0}
+    {c : Command K} {old : World O K} {a : T} where
+  pub writing_all : {now : World O K} {b : T} {turn most : ℕ} {w : Moment K}
       → Writing o reports c old now a b turn w → turn ≡ most → Obeys o reports c old now a b w most
-  writing_all now b turn most w h e =
+  writing_all {most = most} h e =
       (h.run, h.reported, repeats_full c h.run most h.unended (h.turns ∙ e))
 
   -- one step more, and whether it ends them
-  module _ (now new : World O K) (b b' : T) (r : Reply K) (whether : Bool) (turn : ℕ) (w : Moment K)
-      (h : Writing o reports c old now a b turn w)
-      (steps : IsWorldStep o now Write r new)
+  module _ {now new : World O K} {b b' : T} {r : Reply K} {whether : Bool} {turn : ℕ} {w : Moment K}
+      (h : Writing o reports c old now a b turn w) (steps : IsWorldStep o now Write r new)
       (told : is_refused_for_memory r ≡ false → ReportsEvent o reports Write now new b b' r)
       (same : Write ≡ event_of c)
       (tests : (v : Moment K) → RepresentsMoment o new v → whether ≡ ends c r v) where
@@ -149,8 +150,7 @@ module _ {O K T : Type 0} (o : Order K) (reports : T → Event K → Outcome K �
         let stays = write_stays (capacity_of (layout_in now)) v done.0 v.latch.pending r done.1 in
         let d = told stays v h.reported.shows in (
           d.0,
-          runs_reported o reports old now new a b b' w h.run (step_done Write r d.0 ∷ []) h.reported
-              d.1,
+          runs_reported h.reported d.1,
         )
 
     tested : whether ≡ ends c r one.0
@@ -177,13 +177,14 @@ module _ {O K T : Type 0} (o : Order K) (reports : T → Event K → Outcome K �
     )
 
 -- the writer's steps, as this command asks for them
-pub obeyed_writing : {O K T : Type 0} (o : Order K) (reports : T → Event K → Outcome K → T → Type 0)
-    (old new : World O K) (a b : T) (to_flip : Bool) (most : ℕ) (c d : Command K) → c ≡ d
+pub obeyed_writing : {O K T : Type 0} {o : Order K} {reports : T → Event K → Outcome K → T → Type 0}
+    {old new : World O K} {a b : T} (to_flip : Bool) (most : ℕ) {c d : Command K} → c ≡ d
     → IsWriting to_flip d
     → ((w : Moment K) → RepresentsMoment o old w → most ≡ most_of w d)
     → ((x : Command K) → IsWriting to_flip x → (w : Moment K) → RepresentsMoment o old w
     → Obeys o reports x old new a b w most) → ObeysFromAny o reports c old new a b
-obeyed_writing o reports old new a b to_flip most c d same is count obeys w s =
+obeyed_writing {o = o} {reports = reports} {old = old} {new = new} {a = a} {b = b} to_flip most
+    {d = d} same is count obeys w s =
     subst (λ y. Obeys o reports y old new a b w (most_of w y)) (sym same)
     (subst (Obeys o reports d old new a b w) (count w s) (obeys d is w s))
 
@@ -198,13 +199,13 @@ pub record Loading {O K T : Type 0} (o : Order K) (n limit : ℕ)
   pub reported : AreReported o n reports w run a b
   pub holding : ChangesOneLookup o n w (last_of w run) r (Some c) count
 
-module _ {O K T : Type 0} (o : Order K) (n limit : ℕ)
-    (reports : T → Event K → Outcome K → T → Type 0) (w : Moment K) (r most : ℕ) (a : T) where
+module _ {O K T : Type 0} {o : Order K} {n limit : ℕ}
+    {reports : T → Event K → Outcome K → T → Type 0} {w : Moment K} {r most : ℕ} {a : T} where
   -- the next load, by the reply and the moment that it leads to
-  module _ (c : Lookup O K) (count next turn : ℕ) (b b' : T)
+  module _ {c : Lookup O K} {count next turn : ℕ} {b : T}
       (h : Loading o n limit reports w r most a turn c count b) (counts : next ≡ counted_up count)
-      (words : List ℕ) (same : w.latch.words ≡ words) (load : NextLoad K)
-      (loads_next : LoadsNextFrom o c words load) (sequence : ℕ)
+      {words : List ℕ} (same : w.latch.words ≡ words) {load : NextLoad K}
+      (loads_next : LoadsNextFrom o c words load) {sequence : ℕ}
       (reads : sequence ≡ at words 0) where
     abbrev v : Moment K
     v = last_of w h.run
@@ -241,9 +242,10 @@ module _ {O K T : Type 0} (o : Order K) (n limit : ℕ)
           reads ∙ ap (λ ws. at ws 0) (sym here) ∙ ap (λ (l : Latch). at l.words 0) (sym el) in
           λ i. record { number = counted i; load = loaded i; reply = reply; sequence = first i }
 
-      reported_on : reports b (Read r) (given reply) b'
+      reported_on : {b' : T} → reports b (Read r) (given reply) b'
           → AreReported o n reports w (h.run ++ new_load ∷ []) a b'
-      reported_on told = reported_append o reports n w h.run (new_load ∷ []) a b b' h.reported
+      reported_on {b' = b'} told =
+          reported_append o reports n w h.run (new_load ∷ []) a b b' h.reported
           (b', subst (λ x. reports b (Read r) x b') is_given told, refl)
 
       holds_on : (c' : Option (Lookup O K)) → IsPendingLookup o n c' (get v'.lookups r)
@@ -259,7 +261,8 @@ module _ {O K T : Type 0} (o : Order K) (n limit : ℕ)
             events = counted;
           })
 
-    pub loads_more : (becomes : PendingLookup K → AfterLoad K) (c' : Lookup O K) (reply : Reply K)
+    pub loads_more : (becomes : PendingLookup K → AfterLoad K) {c' : Lookup O K} (reply : Reply K)
+        {b' : T}
         → ((l : PendingLookup K) → IsLookupOf o n c l → (l' : PendingLookup K) × IsLookupOf o n
         c' l' × ((x : Moment K) → x.latch.words ≡ words → after_load o n x r l ≡ becomes l'))
         → ((l' : PendingLookup K)
@@ -267,7 +270,7 @@ module _ {O K T : Type 0} (o : Order K) (n limit : ℕ)
         → ((x : Moment K) → ends (ReadCommand r most) reply x ≡ false)
         → reports b (Read r) (given reply) b'
         → Loading o n limit reports w r most a (turn + 1) c' next b'
-    loads_more becomes c' reply loads leads goes told =
+    loads_more becomes {c' = c'} reply loads leads goes told =
         let (l', is, loaded) = loads in_hand.0 in_hand.2 in
         let v' = with_lookups v (insert v.lookups r l') in
         record {
@@ -282,7 +285,8 @@ module _ {O K T : Type 0} (o : Order K) (n limit : ℕ)
               (λ q ne. get-insert_other v.lookups q r l' ne);
         }
 
-    pub load_ends : (x : Returned K) → turn < most → ((l : PendingLookup K) → IsLookupOf o n c l
+    pub load_ends : (x : Returned K) {b' : T} → turn < most
+        → ((l : PendingLookup K) → IsLookupOf o n c l
         → LoadsTo {O = O} o n words r next l (ReturnedLoad x))
         → reports b (Read r) (given (ReturnedReply x)) b'
         → LoadsOn {O = O} (machine o n limit) reports w r most a
@@ -302,10 +306,10 @@ module _ {O K T : Type 0} (o : Order K) (n limit : ℕ)
               (λ q ne. get-remove_other v.lookups q r ne);
         }
 
-  pub all_loaded : (c : Lookup O K) (count turn : ℕ) (b : T)
+  pub all_loaded : {c : Lookup O K} {count turn : ℕ} {b : T}
       → Loading o n limit reports w r most a turn c count b → turn ≡ most → LoadsOn
       (machine o n limit) reports w r most a (record { lookup = Some c; events = count }) b
-  all_loaded c count turn b h e =
+  all_loaded h e =
       record {
         run = h.run;
         steps = h.steps;

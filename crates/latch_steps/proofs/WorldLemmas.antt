@@ -49,8 +49,7 @@ module _ {O K : Type 0} (o : Order K) (n : ℕ) where
       (cases_eq q r)
 
   pub in_hand_set : (cs ds : ℕ → Option (Lookup O K)) (ls : FinMap nat_cmp (PendingLookup K))
-      (r : ℕ)
-      (new : Lookup O K) (l : PendingLookup K) → ArePendingLookups o n cs ls
+      (r : ℕ) (new : Lookup O K) (l : PendingLookup K) → ArePendingLookups o n cs ls
       → ((q : ℕ) → ds q ≡ cond (is_at (nat_cmp r) q) (Some new) (cs q)) → IsLookupOf o n new l
       → ArePendingLookups o n ds (insert ls r l)
   in_hand_set cs ds ls r new l h e is =
@@ -167,8 +166,7 @@ module _ {O K : Type 0} (o : Order K) (c : World O K) where
 
   pub begins : (u : Update) (left y : ℕ) (wr : WriterView) → why_refused o c.writer u ≡ None
       → left ≡ length wr.stores_left → HasBegun o c.writer u wr → y ≡ counted_up c.events
-      → MayDo o c (Begin u)
-      (Begun left) (record c { writer = wr; events = y })
+      → MayDo o c (Begin u) (Begun left) (record c { writer = wr; events = y })
   begins u left y wr accepted count h e =
       inl (λ w s.
       let next = with_latch w (latch_with_update o w.latch u left) in
@@ -217,8 +215,7 @@ module _ {O K : Type 0} (o : Order K) (c : World O K) where
       ⊎_elim
       (λ right. absurd (never_for_memory o c.writer.capacity c.writer.limit (has_pending c.writer)
       c.writer.table c.writer.sequence u (right ∙ ap Some out)))
-      (λ rest. rest.0)
-      err in
+      (λ rest. rest.0) err in
       inr (
         ap Refused out,
         λ w s. (

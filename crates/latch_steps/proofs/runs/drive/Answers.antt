@@ -1,4 +1,4 @@
-use Rattle.latch_steps.proofs.Definitions.{true, subst, arith, take_all, capacity_of, Keeps}
+use Rattle.latch_steps.proofs.Definitions.{subst, arith, take_all, capacity_of}
 use Rattle.latch_steps.proofs.Definitions.{opening, Expand, AreShallow}
 use Rattle.latch_steps.proofs.RecordingLemmas.{obeyed_none, obeyed_more, safe_trace, quiet_trace}
 use Rattle.latch_steps.proofs.RecordingLemmas.{near_trace, trace_of}
@@ -6,19 +6,14 @@ use Rattle.latch_steps.proofs.runs.drive.Goals as goal
 
 pub loop-command-init : goal.loop-command-init
 loop-command-init g c = record {
-  obeyed =
-      obeyed_none g.O.TreeOrder.order (Keeps true) (opening (capacity_of c.args.l) c.args.start)
-      c.in_ok-world.world c.in_ok-recording.recording c.in_ok-world.ensures.shows;
+  obeyed = obeyed_none c.in_ok-world.ensures.shows;
   whole = c.in_ok-recording.ensures.whole;
 }
 
 pub loop-command-preserved : goal.loop-command-preserved
 loop-command-preserved g c = record {
   obeyed =
-      obeyed_more g.O.TreeOrder.order (Keeps true) (opening (capacity_of c.args.l) c.args.start)
-      c.in_ok-world.world c.in_ok-recording.recording c.loop-command.world c.obey.new.self
-      c.loop-command.recording c.obey.new.to c.args.commands.now
-      c.loop-command.command-index c.command-item.result (omega arith) c.command-item.is
+      obeyed_more c.args.commands.now c.loop-command.command-index (omega arith) c.command-item.is
       c.loop-command.invariant.obeyed c.in_ok-obey.ensures.obeyed;
   whole = c.in_ok-unless_ran_out.ensures.whole;
 }
@@ -28,28 +23,23 @@ returns-clause-expands g c =
     let h = c.loop-command.invariant.obeyed in
     let all = take_all c.loop-command.command-index c.args.commands.now (omega arith) in (
       h.run,
-      trace_of g.O.TreeOrder.order c.args.l c.args.start c.in_ok-world.world c.loop-command.world
-          c.in_ok-recording.recording c.loop-command.recording h.run c.of.result
-          c.in_ok-world.ensures.layout c.in_ok-recording.ensures c.loop-command.invariant.whole
-          c.of.ensures h.reported,
+      trace_of c.args.l c.args.start c.of.result c.in_ok-world.ensures.layout
+          c.in_ok-recording.ensures c.loop-command.invariant.whole c.of.ensures h.reported,
       subst (λ cs. Expand (opening (capacity_of c.args.l) c.args.start) cs h.run) all h.expands,
     )
 
 pub returns-clause-safe : goal.returns-clause-safe
 returns-clause-safe g c =
-    safe_trace g.O.TreeOrder.order g.met.O.TreeOrder.lawful c.args.l c.args.start
-    c.in_ok-world.ensures.may c.of.result c.of.ensures.few
+    safe_trace g.met.O.TreeOrder.lawful c.in_ok-world.ensures.may c.of.ensures.few
 
 pub returns-clause-quiet : goal.returns-clause-quiet
 returns-clause-quiet g c =
-    quiet_trace g.O.TreeOrder.order g.met.O.TreeOrder.lawful c.args.l c.args.start
-    c.in_ok-world.ensures.may c.of.result c.of.ensures.few
+    quiet_trace g.met.O.TreeOrder.lawful c.in_ok-world.ensures.may c.of.ensures.few
 
 pub returns-clause-near : goal.returns-clause-near
 unfolding returns-clause-expands
 returns-clause-near g c =
     let (run, told, expands) = returns-clause-expands g c in
-    near_trace g.O.TreeOrder.order g.met.O.TreeOrder.lawful c.args.l c.args.start
-    c.in_ok-world.ensures.may c.of.result c.of.ensures.few run told
+    near_trace g.met.O.TreeOrder.lawful c.in_ok-world.ensures.may c.of.ensures.few told
     (subst (λ k. AreShallow (capacity_of k) run) c.in_ok-world.ensures.layout
     c.loop-command.invariant.obeyed.reported.shallow)

@@ -1,5 +1,5 @@
-use Rattle.latch_steps.proofs.Definitions.{true, ◌∙◌, ◌++◌, ◌∷◌, [], refl, sym, ap, subst, arith}
-use Rattle.latch_steps.proofs.Definitions.{take_all, take_push, capacity_of, Keeps, AreShallow}
+use Rattle.latch_steps.proofs.Definitions.{◌∙◌, ◌++◌, ◌∷◌, [], refl, sym, ap, subst, arith}
+use Rattle.latch_steps.proofs.Definitions.{take_all, take_push, capacity_of, AreShallow}
 use Rattle.latch_steps.proofs.Definitions.{step_done, last_of, opening}
 use Rattle.latch_steps.proofs.RecordingLemmas.{safe_trace, quiet_trace, near_trace, trace_of}
 use Rattle.latch_steps.proofs.ReportLemmas.{none_reported, runs_reported}
@@ -8,18 +8,12 @@ use Rattle.latch_steps.proofs.runs.run.Goals as goal
 
 pub loop-event-init : goal.loop-event-init
 loop-event-init g c = record {
-  done = (
-    [],
-    none_reported g.O.TreeOrder.order (Keeps true) c.in_ok-world.world c.in_ok-recording.recording
-        (opening (capacity_of c.args.l) c.args.start) c.in_ok-world.ensures.shows,
-    refl,
-  );
+  done = ([], none_reported c.in_ok-world.ensures.shows, refl);
   whole = c.in_ok-recording.ensures.whole;
 }
 
 pub loop-event-preserved : goal.loop-event-preserved
 loop-event-preserved g c =
-    let o = g.O.TreeOrder.order in
     let w0 = opening (capacity_of c.args.l) c.args.start in
     let (run, done, events) = c.loop-event.invariant.done in
     let (next, one) = c.step_reported-reply.ensures.reported (sym c.is_refused_for_memory.ensures
@@ -28,9 +22,7 @@ loop-event-preserved g c =
     record {
       done = (
         run ++ d ∷ [],
-        runs_reported o (Keeps true) c.in_ok-world.world c.loop-event.world
-            c.step_reported-reply.new.self c.in_ok-recording.recording c.loop-event.recording
-            c.step_reported-reply.new.to w0 run (d ∷ []) done one,
+        runs_reported done one,
         events_append run (d ∷ []) ∙ ap (λ es. es ++ c.event-item.result ∷ []) events
             ∙ take_push c.args.events.now c.loop-event.event-index c.event-item.result (omega arith)
             c.event-item.is,
@@ -42,10 +34,8 @@ pub returns-clause-traces : goal.returns-clause-traces
 returns-clause-traces g c =
     let h = c.loop-event.invariant.done in (
       h.0,
-      trace_of g.O.TreeOrder.order c.args.l c.args.start c.in_ok-world.world c.loop-event.world
-          c.in_ok-recording.recording c.loop-event.recording h.0 c.of.result
-          c.in_ok-world.ensures.layout c.in_ok-recording.ensures c.loop-event.invariant.whole
-          c.of.ensures h.1,
+      trace_of c.args.l c.args.start c.of.result c.in_ok-world.ensures.layout
+          c.in_ok-recording.ensures c.loop-event.invariant.whole c.of.ensures h.1,
     )
 
 pub returns-clause-events : goal.returns-clause-events
@@ -56,19 +46,16 @@ returns-clause-events g c =
 
 pub returns-clause-safe : goal.returns-clause-safe
 returns-clause-safe g c =
-    safe_trace g.O.TreeOrder.order g.met.O.TreeOrder.lawful c.args.l c.args.start
-    c.in_ok-world.ensures.may c.of.result c.of.ensures.few
+    safe_trace g.met.O.TreeOrder.lawful c.in_ok-world.ensures.may c.of.ensures.few
 
 pub returns-clause-quiet : goal.returns-clause-quiet
 returns-clause-quiet g c =
-    quiet_trace g.O.TreeOrder.order g.met.O.TreeOrder.lawful c.args.l c.args.start
-    c.in_ok-world.ensures.may c.of.result c.of.ensures.few
+    quiet_trace g.met.O.TreeOrder.lawful c.in_ok-world.ensures.may c.of.ensures.few
 
 pub returns-clause-near : goal.returns-clause-near
 unfolding returns-clause-traces
 returns-clause-near g c =
     let (run, told) = returns-clause-traces g c in
-    near_trace g.O.TreeOrder.order g.met.O.TreeOrder.lawful c.args.l c.args.start
-    c.in_ok-world.ensures.may c.of.result c.of.ensures.few run told
+    near_trace g.met.O.TreeOrder.lawful c.in_ok-world.ensures.may c.of.ensures.few told
     (subst (λ k. AreShallow (capacity_of k) run) c.in_ok-world.ensures.layout
     c.loop-event.invariant.done.1.shallow)

@@ -7,7 +7,6 @@ pub loop-turn-preserved : goal.loop-turn-preserved
 loop-turn-preserved g c = λ n limit w words is e.
     let o = g.O.TreeOrder.order in
     let reports = g.R.Report.reports c.args.report.now in
-    let old = c.loop-turn.lookup in
     let next = c.counted_up-events.result in
     let h = c.loop-turn.invariant n limit w words is e in
     let told = λ (x : Outcome g.row.O-Key.Denot).
@@ -17,32 +16,21 @@ loop-turn-preserved g c = λ n limit w words is e.
     c.args.most c.args.to.now (c.loop-turn._turn + 1) lk next c.report-in-loop-turn.new.to in
     elim c.match-load.branch [
       | goal.in-Going x ↦ subst made (sym x.lookup-is)
-          (loads_more o n limit reports w c.args.reader c.args.most c.args.to.now old
-          c.loop-turn.events next c.loop-turn._turn c.loop-turn.to c.report-in-loop-turn.new.to
-          h c.counted_up-events.ensures c.args.words.now words c.next_load.result
-          c.next_load.ensures c.word_at.result c.word_at.ensures Goes x.in-Going.next Loaded
-          (x.in-Going.ensures n) (λ l. refl) (λ v. refl)
+          (loads_more h c.counted_up-events.ensures words c.next_load.ensures c.word_at.ensures Goes
+          Loaded (x.in-Going.ensures n) (λ l. refl) (λ v. refl)
           (subst told x.outcome-is c.report-in-loop-turn.ensures))
       | goal.in-Retrying x ↦ subst made (sym x.lookup-is)
-          (loads_more o n limit reports w c.args.reader c.args.most c.args.to.now old
-          c.loop-turn.events next c.loop-turn._turn c.loop-turn.to c.report-in-loop-turn.new.to
-          h c.counted_up-events.ensures c.args.words.now words c.next_load.result
-          c.next_load.ensures c.word_at.result c.word_at.ensures Retries x.in-Retrying.next
-          Retried (x.in-Retrying.ensures n) (λ l. refl) (λ v. refl)
+          (loads_more h c.counted_up-events.ensures words c.next_load.ensures c.word_at.ensures
+          Retries Retried (x.in-Retrying.ensures n) (λ l. refl) (λ v. refl)
           (subst told x.outcome-is c.report-in-loop-turn.ensures))
     ]
 
 pub returns-in-Returned : goal.returns-in-Returned
 returns-in-Returned g c = λ n limit w words is e.
-    load_ends g.O.TreeOrder.order n limit (g.R.Report.reports c.args.report.now) w c.args.reader
-    c.args.most c.args.to.now c.loop-turn.lookup c.loop-turn.events
-    c.counted_up-events.result c.loop-turn._turn c.loop-turn.to c.report.new.to
-    (c.loop-turn.invariant n limit w words is e) c.counted_up-events.ensures c.args.words.now
-    words c.next_load.result c.next_load.ensures c.word_at.result c.word_at.ensures
-    c.in-Returned.returned (omega arith) (c.in-Returned.ensures n) c.report.ensures
+    load_ends (c.loop-turn.invariant n limit w words is e) c.counted_up-events.ensures words
+    c.next_load.ensures c.word_at.ensures c.in-Returned.returned (omega arith)
+    (c.in-Returned.ensures n) c.report.ensures
 
 pub returns : goal.returns
 returns g c = λ n limit w words is e.
-    all_loaded g.O.TreeOrder.order n limit (g.R.Report.reports c.args.report.now) w c.args.reader
-    c.args.most c.args.to.now c.loop-turn.lookup c.loop-turn.events c.loop-turn._turn
-    c.loop-turn.to (c.loop-turn.invariant n limit w words is e) (omega arith)
+    all_loaded (c.loop-turn.invariant n limit w words is e) (omega arith)

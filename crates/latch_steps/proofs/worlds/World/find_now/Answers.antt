@@ -1,6 +1,5 @@
 use Rattle.latch_steps.proofs.Definitions.{◌∙◌, refl, sym, arith, None-from_is_none}
-use Rattle.latch_steps.proofs.AtOnceLemmas.{look_found, look_told, look_never}
-use Rattle.latch_steps.proofs.AtOnceLemmas.{after_found}
+use Rattle.latch_steps.proofs.AtOnceLemmas.{look_found, look_told, look_never, after_found}
 use Rattle.latch_steps.proofs.worlds.World.find_now.Goals as goal
 
 pub returns-in_default-clause-refusal : goal.returns-in_default-clause-refusal

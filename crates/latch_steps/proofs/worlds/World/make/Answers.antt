@@ -9,5 +9,4 @@ returns-clause-made g c =
     c.in_ok-store.ensures.may
     (λ l h pictures pending. c.did.ensures.pictures l h c.in_ok-store.store pictures pending
     (sym c.in_ok-store.ensures.which))
-    c.put.ensures
-    c.counted_up-self.ensures
+    c.put.ensures c.counted_up-self.ensures

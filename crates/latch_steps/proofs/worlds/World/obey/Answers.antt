@@ -5,9 +5,7 @@ use Rattle.latch_steps.proofs.worlds.World.obey.Goals as goal
 
 pub returns-after-is_writing-clause-obeyed : goal.returns-after-is_writing-clause-obeyed
 returns-after-is_writing-clause-obeyed g c =
-    obeyed_writing g.O.TreeOrder.order (g.R.Report.reports c.args.report.now) c.args.self.now
-    c.write_on.new.self c.args.to.now c.write_on.new.to false c.if-is_writing.most
-    c.args.command.now _ c.in-Write.is (refl, λ reply w. refl)
+    obeyed_writing false c.if-is_writing.most c.in-Write.is (refl, λ reply w. refl)
     (λ w s. elim c.if-is_writing.branch [
       | goal.then-is_writing b ↦ b.most-is
           ∙ ap (λ x. cond x c.in-Write.most 0) (sym b.if-is_writing.true ∙ c.is_writing.ensures w s)
@@ -20,17 +18,11 @@ returns-after-is_writing-clause-obeyed g c =
 
 pub returns-in-WriteFlip-clause-obeyed : goal.returns-in-WriteFlip-clause-obeyed
 returns-in-WriteFlip-clause-obeyed g c =
-    obeyed_writing g.O.TreeOrder.order (g.R.Report.reports c.args.report.now) c.args.self.now
-    c.write_on-in-WriteFlip.new.self c.args.to.now c.write_on-in-WriteFlip.new.to true
-    c.writes_left-left.result c.args.command.now _ c.in-WriteFlip.is (refl, λ reply w. refl)
-    c.writes_left-left.ensures
-    c.write_on-in-WriteFlip.ensures.written
+    obeyed_writing true c.writes_left-left.result c.in-WriteFlip.is (refl, λ reply w. refl)
+    c.writes_left-left.ensures c.write_on-in-WriteFlip.ensures.written
 
 pub returns-in-WriteEnd-clause-obeyed : goal.returns-in-WriteEnd-clause-obeyed
 returns-in-WriteEnd-clause-obeyed g c =
-    obeyed_writing g.O.TreeOrder.order (g.R.Report.reports c.args.report.now) c.args.self.now
-    c.write_on-in-WriteEnd.new.self c.args.to.now c.write_on-in-WriteEnd.new.to false
-    c.writes_left-left-in-WriteEnd.result c.args.command.now _ c.in-WriteEnd.is
-    (refl, λ reply w. refl)
-    c.writes_left-left-in-WriteEnd.ensures
+    obeyed_writing false c.writes_left-left-in-WriteEnd.result c.in-WriteEnd.is
+    (refl, λ reply w. refl) c.writes_left-left-in-WriteEnd.ensures
     c.write_on-in-WriteEnd.ensures.written

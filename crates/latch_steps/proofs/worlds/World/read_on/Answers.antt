@@ -10,8 +10,7 @@ returns-clause-reads g c =
     let left = c.load_on-lookup.result.lookup in
     held_obeys g.O.TreeOrder.order (g.R.Report.reports c.args.report.now) c.args.self.now
     c.args.reader c.args.most c.in-Some-take.lookup there c.as_slice-words.result.now
-    c.as_slice-words.ensures.value c.args.to.now c.load_on-lookup.new.to c.load_on-lookup.result
-    _
+    c.as_slice-words.ensures.value c.args.to.now c.load_on-lookup.new.to c.load_on-lookup.result _
     (lookup_set c.args.self.now.lookups (c.get_mut.follows.lender left) c.args.reader left
     ((c.get_mut.follows.holds left).3 (subst IsSome c.in-Some.ensures.value refl)).0)
     c.load_on-lookup.ensures

@@ -4,23 +4,23 @@ use Rattle.latch_steps.proofs.worlds.World.step_from.Goals as goal
 
 pub returns-in-Begin-clause-after : goal.returns-in-Begin-clause-after
 returns-in-Begin-clause-after g c =
-    event_after g.O.TreeOrder.order g.met.O.TreeOrder.lawful c.args.self.now c.begin.new.self
-    c.begin.ensures.layout c.args.event.now _ c.in-Begin.is c.begin.result c.begin.ensures.steps
+    event_after g.met.O.TreeOrder.lawful c.begin.ensures.layout c.in-Begin.is c.begin.result
+    c.begin.ensures.steps
 
 pub returns-in-Write-clause-after : goal.returns-in-Write-clause-after
 returns-in-Write-clause-after g c =
-    event_after g.O.TreeOrder.order g.met.O.TreeOrder.lawful c.args.self.now c.write.new.self
-    c.write.ensures.layout c.args.event.now _ c.in-Write.is c.write.result c.write.ensures.steps
+    event_after g.met.O.TreeOrder.lawful c.write.ensures.layout c.in-Write.is c.write.result
+    c.write.ensures.steps
 
 pub returns-in-Start-clause-after : goal.returns-in-Start-clause-after
 returns-in-Start-clause-after g c =
-    event_after g.O.TreeOrder.order g.met.O.TreeOrder.lawful c.args.self.now c.start.new.self
-    c.start.ensures.layout c.args.event.now _ c.in-Start.is c.start.result c.start.ensures.steps
+    event_after g.met.O.TreeOrder.lawful c.start.ensures.layout c.in-Start.is c.start.result
+    c.start.ensures.steps
 
 pub returns-in-Read-clause-after : goal.returns-in-Read-clause-after
 returns-in-Read-clause-after g c =
-    event_after g.O.TreeOrder.order g.met.O.TreeOrder.lawful c.args.self.now c.read.new.self
-    c.read.ensures.layout c.args.event.now _ c.in-Read.is c.read.result c.read.ensures.steps
+    event_after g.met.O.TreeOrder.lawful c.read.ensures.layout c.in-Read.is c.read.result
+    c.read.ensures.steps
 
 pub returns-in-Start-clause-steps : goal.returns-in-Start-clause-steps
 returns-in-Start-clause-steps g c =

@@ -6,26 +6,17 @@ pub loop-turn-preserved : goal.loop-turn-preserved
 loop-turn-preserved g c = record {
   layout = c.step_reported-reply.ensures.layout ∙ c.loop-turn.invariant.layout;
   writes = λ d is w s.
-      writing_more g.O.TreeOrder.order (g.R.Report.reports c.args.report.now) d c.args.self.now
-      c.args.to.now c.loop-turn.self c.step_reported-reply.new.self c.loop-turn.to
-      c.step_reported-reply.new.to c.step_reported-reply.result c.ends.result c.loop-turn._turn
-      w
-      (c.loop-turn.invariant.writes d is w s) c.step_reported-reply.ensures.steps
+      writing_more (c.loop-turn.invariant.writes d is w s) c.step_reported-reply.ensures.steps
       c.step_reported-reply.ensures.reported (sym is.0)
       (λ v t. c.ends.ensures v t ∙ sym (is.1 c.step_reported-reply.result v)) c.if-ends.false;
 }
 
 pub returns-after-loop-turn-clause-written : goal.returns-after-loop-turn-clause-written
 returns-after-loop-turn-clause-written g c = λ d is w s.
-    writing_all g.O.TreeOrder.order (g.R.Report.reports c.args.report.now) d c.args.self.now
-    c.args.to.now c.loop-turn.self c.loop-turn.to c.loop-turn._turn c.args.most w
-    (c.loop-turn.invariant.writes d is w s) (omega arith)
+    writing_all (c.loop-turn.invariant.writes d is w s) (omega arith)
 
 pub returns-then-ends-clause-written : goal.returns-then-ends-clause-written
 returns-then-ends-clause-written g c = λ d is w s.
-    writing_last g.O.TreeOrder.order (g.R.Report.reports c.args.report.now) d c.args.self.now
-    c.args.to.now c.loop-turn.self c.step_reported-reply.new.self c.loop-turn.to
-    c.step_reported-reply.new.to c.step_reported-reply.result c.ends.result c.loop-turn._turn w
-    (c.loop-turn.invariant.writes d is w s) c.step_reported-reply.ensures.steps
+    writing_last (c.loop-turn.invariant.writes d is w s) c.step_reported-reply.ensures.steps
     c.step_reported-reply.ensures.reported (sym is.0) (λ v t. c.ends.ensures v t
     ∙ sym (is.1 c.step_reported-reply.result v)) c.args.most (omega arith) c.if-ends.true
