@@ -12,8 +12,7 @@ loop-store-init g c = (
       c.in_ok-begin.ensures.begun.1 c.begin.ensures.same.0 c.begin.ensures.same.1,
   (
     [],
-    carrying_begun g.O.TreeOrder.order _ c.args.update.now c.begin.new.self
-        c.in_ok-begin.ensures.begun.1,
+    carrying_begun _ _ _ _ c.in_ok-begin.ensures.begun.1,
     sym (append-nil _),
   ),
 )
@@ -25,16 +24,15 @@ loop-store-preserved g c =
     let (made, carrying, all) = c.loop-store.invariant.1 in (
       λ n limit start us before.
           let us' = us ++ c.args.update.now ∷ [] in
-          let more = made_stored o n limit start us' c.loop-store.stores.items c.loop-store.writer
-          c.step.new.self (c.loop-store.invariant.0 n limit start us before) c.in-Some.store
-          next c.in-Some.ensures.may c.step.ensures.pictures
-          c.step.ensures.same.0 c.step.ensures.same.1 in
+          let more = made_stored o n limit start us' _ _ _
+          (c.loop-store.invariant.0 n limit start us before) c.in-Some.store next
+          c.in-Some.ensures.may c.step.ensures.pictures c.step.ensures.same.0
+          c.step.ensures.same.1 in
           subst (λ ss. HasMade o n limit start us' ss c.step.new.self)
           (sym c.in_ok-push.ensures.items) more,
       (
         made ++ c.in-Some.store ∷ [],
-        carrying_stored o _ c.args.update.now made c.loop-store.writer c.step.new.self
-            c.in-Some.store carrying next c.in-Some.ensures.stepped,
+        carrying_stored _ _ _ _ _ _ _ carrying next c.in-Some.ensures.stepped,
         c.in_ok-push.ensures.items ∙ ap (λ x. x ++ c.in-Some.store ∷ []) all
             ∙ append_assoc _ made (c.in-Some.store ∷ []),
       ),

@@ -59,23 +59,21 @@ returns-clause-stores g c =
 
 pub returns-clause-core : goal.returns-clause-core
 returns-clause-core g c =
-    let o = g.O.TreeOrder.order in
     let all : take c.loop-update.update-index c.args.updates.now ≡ c.args.updates.now =
     take_all c.loop-update.update-index c.args.updates.now c.loop-update-test.false in (
       c.loop-update.writer,
-      subst (λ us. CarriesOutAll o (opening_writer c.args.l c.args.start) us
+      subst (λ us. CarriesOutAll g.O.TreeOrder.order (opening_writer c.args.l c.args.start) us
           c.loop-update.stores.items c.loop-update.writer) all c.loop-update.invariant.1,
     )
 
 pub returns-in_err-carry_out-clause-refused : goal.returns-in_err-carry_out-clause-refused
 returns-in_err-carry_out-clause-refused g c =
-    let o = g.O.TreeOrder.order in
-    let l = c.args.l in
     let us = c.args.updates.now in
     let i = c.loop-update.update-index in
     let u = c.update-item.result in
     passed_on c.from_residual-in_err-carry_out.result c.in_err-carry_out.field-0.0
-    (RefusesRecording o l c.args.start us) c.from_residual-in_err-carry_out.ensures.1
+    (RefusesRecording g.O.TreeOrder.order c.args.l c.args.start us)
+    c.from_residual-in_err-carry_out.ensures.1
     (inr (record {
       before = take i us;
       stopper = u;

@@ -7,13 +7,7 @@ use Rattle.latch_weak.proofs.attempts.Moments.look.Goals as goal
 
 pub ordered_before-before-requires : goal.ordered_before-before-requires
 ordered_before-before-requires g c =
-    omega (
-      arith,
-      c.last_store-seen.ensures,
-      last_at_most c.args.self.now.stores.now c.args.word c.glance-glance.result.moment,
-      c.glance-glance.ensures.stored,
-      c.glance-glance.ensures.exists,
-    )
+    omega (arith, last_at_most c.args.self.now.stores.now c.args.word c.glance-glance.result.moment)
 
 pub returns : goal.returns
 returns g c =
@@ -31,8 +25,7 @@ returns g c =
     c.args.reader.now.last y (length c.args.self.now.stores.now) c.glance-glance.result)
     (c.max-least.ensures ∙ ap (λ x. max x c.args.reader.now.floor) held)
     c.glance-glance.ensures.chosen)
-    refl
-    (omega (arith, held, c.max-least.ensures, c.glance-glance.ensures.seen))
+    refl (omega (arith, held, c.max-least.ensures, c.glance-glance.ensures.seen))
     c.glance-glance.ensures.stored c.glance-glance.ensures.later c.glance-glance.ensures.exists
     (ap (set least w) (c.max.ensures ∙ (λ i. max (held_again i) (c.last_store-seen.ensures i))))
     refl

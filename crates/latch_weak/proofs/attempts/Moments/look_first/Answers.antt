@@ -5,23 +5,14 @@ use Rattle.latch_weak.proofs.attempts.Moments.look_first.Goals as goal
 
 pub ordered_before-requires : goal.ordered_before-requires
 ordered_before-requires g c =
-    omega (
-      arith,
-      c.last_store-seen.ensures,
-      last_at_most c.args.self.now.stores.now 0 c.look-first.new.reader.last.moment,
-      c.look-first.ensures.may.stored,
-      c.look-first.ensures.still.made,
-    )
+    omega (arith, last_at_most c.args.self.now.stores.now 0 c.look-first.new.reader.last.moment)
 
 pub returns-then-self : goal.returns-then-self
 returns-then-self g c =
     let b = c.args.self.now.barriers in
     let ss = c.args.self.now.stores.now in
     let moment = c.look-first.new.reader.last.moment in
-    looked_first (g.S.LoadSchedule.chooses c.args.self.now.schedule.now) b
-    c.args.self.now.opening.now ss c.args.reader.now c.look-first.new.reader c.raise.new.self
-    c.look-first.result c.ordered_before.result
-    c.look-first.ensures
+    looked_first _ b _ _ _ _ _ _ _ c.look-first.ensures
     (c.ordered_before.ensures ∙ ap (ordered_before b ss) c.last_store-seen.ensures
     ∙ ap (λ d. cond d (ordered_before b ss (last_store ss 0 moment)) 0) (sym c.if-self.true))
     c.raise.ensures.view c.raise.ensures.words c.raise.ensures.barrier c.raise.ensures.last
@@ -29,6 +20,4 @@ returns-then-self g c =
 
 pub returns-else-self : goal.returns-else-self
 returns-else-self g c =
-    looked_alone (g.S.LoadSchedule.chooses c.args.self.now.schedule.now) c.args.self.now.barriers
-    c.args.self.now.opening.now c.args.self.now.stores.now c.args.reader.now
-    c.look-first.new.reader c.look-first.result c.look-first.ensures c.if-self.false
+    looked_alone _ c.args.self.now.barriers _ _ _ _ _ c.look-first.ensures c.if-self.false
