@@ -78,13 +78,7 @@ returns t c =
       three_parts c.args.found.now.items (items m less.0) (items m r) (item_at m node)
           c.walk.new.found.items c.push.new.self.items c.walk-2.new.found.items less.2 pushed
           appended,
-      omega (
-        arith,
-        count,
-        less.3,
-        c.if-left-eq0.false,
-        length-append (listed less.0) (node ∷ listed r),
-      ),
+      omega (arith, length-append (listed less.0) (node ∷ listed r)),
     ))
     c.walk-2.ensures.tree in
     let next_none =
