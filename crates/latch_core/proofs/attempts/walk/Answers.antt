@@ -1,9 +1,9 @@
-use Rattle.latch_core.proofs.Words.{◌≡◌, ◌≢◌, ◌≤◌, ◌<◌, ℕ, ◌+◌, IsTrue, false, arith, inr, refl}
+use Rattle.latch_core.proofs.Words.{◌≡◌, ◌≢◌, ℕ, ◌+◌, IsTrue, false, arith, inr, refl}
 use Rattle.latch_core.proofs.Words.{sym, ◌∙◌, ap, subst, Less, Equal, Greater, capacity_of}
 use Rattle.latch_core.proofs.Words.{root_word, a_word, b_word, tag_word, left_word, stable_copy_of}
 use Rattle.latch_core.proofs.Words.{Load, after_item, after_a, after_b, visit, walk, last_load}
 use Rattle.latch_core.proofs.Words.{attempt_after, AtItem, HasLoaded}
-use Rattle.std.proofs.Common.{◌-◌, ◌*◌}
+use Rattle.std.proofs.Common.{◌-◌}
 use Rattle.latch_core.proofs.LoadingLemmas.{item_of, starts, may_load, loads_on, goes_aside}
 use Rattle.latch_core.proofs.LoadingLemmas.{walk_starts, enters, turns, leaves}
 use Rattle.latch_core.proofs.attempts.walk.Goals as goal

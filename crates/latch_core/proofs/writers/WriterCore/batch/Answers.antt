@@ -1,7 +1,6 @@
-use Rattle.latch_core.proofs.Words.{◌≡◌, ◌≤◌, ◌+◌, ◌++◌, length, take, ◌∙◌, ap, subst, arith}
-use Rattle.latch_core.proofs.Words.{capacity_of, limit_of, mirror_stores, Batch, size_of}
+use Rattle.latch_core.proofs.Words.{◌≡◌, ◌+◌, ◌++◌, length, take, ◌∙◌, ap, subst, arith}
+use Rattle.latch_core.proofs.Words.{capacity_of, mirror_stores, Batch}
 use Rattle.latch_core.proofs.Words.{update_stores, stores_of_placed, InsertsItems, common_steps}
-use Rattle.std.proofs.Common.{◌*◌}
 use Rattle.latch_core.proofs.WriterLemmas.{rests_before}
 use Rattle.latch_core.proofs.BeginLemmas.{batch_is_small, with_room, PlansUpdate, batch_planned}
 use Rattle.latch_core.proofs.BeginLemmas.{planned_step, planned_begun}

@@ -1,5 +1,5 @@
-use Rattle.latch_core.proofs.Words.{◌≡◌, ◌≤◌, ◌++◌, ◌∷◌, [], length, sym, ◌∙◌, ap, subst, arith}
-use Rattle.latch_core.proofs.Words.{IfSome, is_some, capacity_of, limit_of, Erases, mirror_stores}
+use Rattle.latch_core.proofs.Words.{◌≡◌, ◌++◌, ◌∷◌, [], length, sym, ◌∙◌, ap, subst, arith}
+use Rattle.latch_core.proofs.Words.{IfSome, is_some, capacity_of, Erases, mirror_stores}
 use Rattle.latch_core.proofs.Words.{Erase, update_stores, AreInStep}
 use Rattle.latch_core.proofs.BeginLemmas.{with_room, PlansUpdate, erase_planned, planned_step}
 use Rattle.latch_core.proofs.BeginLemmas.{planned_begun}

@@ -1,5 +1,5 @@
 use Rattle.latch_core.proofs.Words.{◌≡◌, ◌≤◌, ◌++◌, ◌∷◌, [], length, ◌∙◌, ap, subst, arith}
-use Rattle.latch_core.proofs.Words.{Contains, capacity_of, limit_of, listed, Picture, mirror_stores}
+use Rattle.latch_core.proofs.Words.{Contains, capacity_of, listed, Picture, mirror_stores}
 use Rattle.latch_core.proofs.Words.{Insert, update_stores}
 use Rattle.latch_core.proofs.BeginLemmas.{taken_node, with_room, PlansUpdate, insert_planned}
 use Rattle.latch_core.proofs.BeginLemmas.{planned_step, planned_begun}
