@@ -9,8 +9,7 @@ use Rattle.latch_table.specs.Enlarging.{Enlarges}
 use Rattle.shared_lookup.specs.Enlarging.{enlarged_ledger}
 
 module _ (w : WriterState) (l : Layout) (w' : WriterState) (readers : List ReaderState)
-    (e : Enlarges w l w' readers)
-    (resting : HasNothingPending w)
+    (e : Enlarges w l w' readers) (resting : HasNothingPending w)
     (sound : IsSound half_open w.capacity (2 * w.base) w.history w.latch) where
   -- the ledger is the same, but for its words
   pub same_ledger : ledger_of w' ≡ enlarged_ledger w'.place l (ledger_of w)

@@ -256,8 +256,7 @@ pub served_now : (c : CatalogEntries) (log now : List Update) (l o : LedgerState
 served_now c log now l o fresh is logged = record {
   logged = logged;
   base = ap (λ (x : LedgerState). x.base) is ∙ fresh.base;
-  room = (let e = ap (λ (x : LedgerState). x.capacity) is in let r = fresh.room in
-      omega (arith, e, r));
+  room = (let e = ap (λ (x : LedgerState). x.capacity) is in omega (arith, e, fresh.room));
   limit = ap (λ (x : LedgerState). x.limit) is ∙ fresh.limit;
 }
 

@@ -52,6 +52,5 @@ found_more log log' answers a p f count is =
       All-push (IsFoundIn log') answers a before.0 last,
       IsNonDecreasingBy-push (λ (x : Answer). x.generation) answers a f.1
           (λ d some. let g = before.0 (length answers - 1) d (omega (arith, some)) in
-          let few = g.0 in
-          omega (arith, few, count)),
+          omega (arith, g.0, count)),
     )

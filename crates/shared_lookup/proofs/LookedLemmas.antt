@@ -82,8 +82,7 @@ not_without : (memory : Option (Item × ℕ)) (item : Option Item) (g : ℕ) (lo
 not_without memory item g loads (s, is, how) none =
     ⊎_elim
     (λ (more, all, retries). (let n : more ++ s ∷ s ∷ [] ≡ [] = sym all ∙ none in not_nil more n))
-    (λ (all, x). (let n : s ∷ [] ≡ [] = sym all ∙ none in absurd (cc)))
-    how
+    (λ (all, x). (let n : s ∷ [] ≡ [] = sym all ∙ none in absurd (cc))) how
   where
     not_nil : (more : List ℕ) → more ++ s ∷ s ∷ [] ≡ [] → ⊥
     not_nil [] e = absurd (cc)

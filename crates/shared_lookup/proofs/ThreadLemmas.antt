@@ -35,8 +35,7 @@ room_left lists all done left rest x made gone next whole same long =
     let m =
     ap length (next_yielded all done left rest x gone next) ∙ length-append done (x ∷ rest) in
     let t = length-take-le (length done) lists (omega (arith, whole, m)) in
-    let k = made.ok.0 in
-    omega (arith, whole, m, t, same, long, k)
+    omega (arith, whole, m, t, same, long, made.ok.0)
 
 -- one list with its answers more
 pub answered_more : (keys : List (Vec ℕ)) (list : Vec ℕ) (answers : List (Vec Answer))

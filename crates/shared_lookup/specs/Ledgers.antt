@@ -12,8 +12,7 @@ use Rattle.word_layout.specs.Layouts.{capacity_of, limit_of}
 use Rattle.table_updates.specs.declared.updates.Update.{Update}
 use Rattle.latch_core.specs.Sequences.{generation_of}
 use Rattle.latch_core.specs.Writers.{MayOpen}
-use Rattle.table_updates.specs.Updates.{refusal_for}
-use Rattle.table_updates.specs.Updates.{replay}
+use Rattle.table_updates.specs.Updates.{refusal_for, replay}
 use Rattle.latch_table.specs.Writers.{WriterState, shown_updates, writer_refusal}
 
 -- A ledger, as clauses see it: its table, how many readers came with it, the opening generation,

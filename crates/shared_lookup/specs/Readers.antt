@@ -1,6 +1,5 @@
 -- What the readers of lists of keys know, and what they loaded for their answers.
-use Rattle.std.specs.Prelude.{◌≡◌, ◌⊎◌, ℕ, Bool, List, [], ◌∷◌, ◌++◌}
-use Rattle.std.specs.Prelude.{Option, Some, None, IfSome}
+use Rattle.std.specs.Prelude.{◌≡◌, ◌⊎◌, ℕ, Bool, List, [], ◌∷◌, ◌++◌, Option, Some, None, IfSome}
 use Rattle.std.specs.Global.{Vec}
 use Rattle.atomic_table.specs.Seated.{TableId}
 use Rattle.order_laws.specs.declared.items.Item.{Item}
@@ -52,8 +51,7 @@ AreLookedUp memory (a ∷ rest) loads =
 -- a list of keys has its answers, all found in what the reader knows that came back with them, and
 -- for each of them the reader looked
 pub record IsHeard (table : Option TableId) (reader : ℕ) (keys : List ℕ) (answers : List Answer)
-    (ended : Bool) (back : Option ReaderState)
-    : Type 0 where
+    (ended : Bool) (back : Option ReaderState) : Type 0 where
   pub answered : AreAnswered reader keys answers ended
   pub reads : IfSome back (IsReaderOf table)
   pub found : AreFoundIn (known_by back) answers

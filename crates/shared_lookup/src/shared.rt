@@ -133,26 +133,6 @@ impl<K: NamesTable> SharedWriter<K> {
         self.ledger.lock(rt).change(g, who, c, ch)
     }
 
-    /// One [`Ledger::change`] in one taking of the lock, beside a reader of the table, which meets
-    /// the writer before and after it.
-    pub(crate) fn change_beside<R: Wait, G: Gate>(
-        &self,
-        rt: &R,
-        g: &G,
-        who: u32,
-        seat: Reader<HalfOpen>,
-        c: &Catalog<'_>,
-        ch: Change,
-    ) -> (Result<u64, Refusal>, Reader<HalfOpen>)
-        requires { K.table ≡ Some seat.place }
-        ensures outcome { IsOutcomeOf c.now ch result.0 }
-        ensures place { result.1.place ≡ seat.place }
-        ensures made { IsMadeBeside c.now K.opened ch seat.knowledge.known
-            result.1.knowledge.known result.0 }
-    {
-        self.ledger.lock(rt).change_beside(g, who, seat, c, ch)
-    }
-
     /// The ledger, which nobody else shares any more.
     pub fn into_ledger(self) -> Ledger
         ensures table { IsNamed K.table result.place }
@@ -220,6 +200,8 @@ impl<'a, 'c, K: NamesTable> Changer for CatalogWriter<'a, 'c, K> {
         ch: Change,
     ) -> (Result<u64, Refusal>, Reader<HalfOpen>) {
         self.shared
-            .change_beside(rt, g, who, seat, self.catalog, ch)
+            .ledger
+            .lock(rt)
+            .change_beside(g, who, seat, self.catalog, ch)
     }
 }

@@ -12,14 +12,12 @@ loop-reader-preserved g c =
     let keys = c.args.keys.now in
     let changer = c.args.changer.now in
     let table = g.W.Changer.table in
-    let left = into_iter_items c.loop-reader.reader-iterator in
-    let step = c.in-Some.ensures.steps.0 in
-    let all = next_yielded c.args.readers.items done left rest r i.gone step in
+    let all = next_yielded _ done _ rest r i.gone c.in-Some.ensures.steps.0 in
     let more =
     heard_more table changer keys done rest r c.loop-reader.heard.items c.join_reader.result
     (subst (AreReading changer keys) all c.requires.reading) i.heard c.join_reader.ensures in
     record {
-      gone = one_yielded c.args.readers.items done left rest r i.gone step;
+      gone = one_yielded _ done _ rest r i.gone c.in-Some.ensures.steps.0;
       heard = subst (AreHeard (table changer) (take (length (done ++ r ∷ [])) keys))
           (sym c.push_reserved.ensures.items) more;
       long = let l = i.long in let k = c.push_reserved.ensures.capacity in omega (arith, l, k);

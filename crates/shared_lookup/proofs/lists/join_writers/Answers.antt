@@ -10,15 +10,13 @@ loop-writer-preserved g c =
     let rest = into_iter_items c.next.new.self in
     let w = c.in-Some.writer in
     let changes = c.args.changes.now in
-    let left = into_iter_items c.loop-writer.writer-iterator in
-    let step = c.in-Some.ensures.steps.0 in
-    let all = next_yielded c.args.writers.items done left rest w i.gone step in
+    let all = next_yielded _ done _ rest w i.gone c.in-Some.ensures.steps.0 in
     let more = made_more g.W.Changer.table g.W.Changer.opened g.W.Changer.catalog c.args.changer.now
     changes done rest w c.loop-writer.made.items c.join_writer.result
     (subst (AreChanging c.args.changer.now changes) all c.requires.changing) i.made
     c.join_writer.ensures in
     record {
-      gone = one_yielded c.args.writers.items done left rest w i.gone step;
+      gone = one_yielded _ done _ rest w i.gone c.in-Some.ensures.steps.0;
       made = subst
           (AreAllMade (g.W.Changer.table c.args.changer.now) (g.W.Changer.opened c.args.changer.now)
           (g.W.Changer.catalog c.args.changer.now) (take (length (done ++ w ∷ [])) changes))

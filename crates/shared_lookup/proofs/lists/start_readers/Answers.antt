@@ -23,18 +23,14 @@ loop-list-preserved g c =
       seats = (All-pop (IsNewReaderOf (g.W.Changer.table c.args.changer.now))
           c.loop-list.seats.items c.pop.new.self.items (Some c.in-Some.seat) c.in-Some.ensures.items
           c.loop-list.invariant.seats).0;
-      left = let a = c.in-Some.ensures.len in
-          let b = c.loop-list.invariant.left in
-          omega (arith, a, b);
+      left = omega (arith, c.in-Some.ensures.len, c.loop-list.invariant.left);
       reading =
           subst (AreReading c.args.changer.now (take (i + 1) keys))
           (sym c.push_reserved.ensures.items)
           (pair_taken _ keys i _ c.list-item.result c.loop-list.readers.items
           c.start_reader-thread.result less c.list-item.is all
           (started.0, started.1 ∙ place, started.2 ∙ c.as_slice.ensures.value));
-      long = let l = c.loop-list.invariant.long in
-          let k = c.push_reserved.ensures.capacity in
-          omega (arith, l, k);
+      long = omega (arith, c.loop-list.invariant.long, c.push_reserved.ensures.capacity);
     }
 
 pub push_reserved-requires : goal.push_reserved-requires

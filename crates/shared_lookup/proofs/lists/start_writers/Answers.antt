@@ -10,15 +10,13 @@ loop-list-preserved g c =
     let rest = into_iter_items c.next.new.self in
     let l = c.in-Some.list in
     let changes = c.args.changes.now in
-    let left = into_iter_items c.loop-list.list-iterator in
-    let step = c.in-Some.ensures.steps.0 in
-    let all = next_yielded c.args.lists.items done left rest l i.gone step in
+    let all = next_yielded _ done _ rest l i.gone c.in-Some.ensures.steps.0 in
     let w = c.start_writer.result in
     let e = c.start_writer.ensures in
     let more = changing_more c.args.changer.now changes done rest l c.loop-list.writers.items w
     (subst (HaveRoom changes) all c.requires.room) i.started e.0 e.1 in
     record {
-      gone = one_yielded c.args.lists.items done left rest l i.gone step;
+      gone = one_yielded _ done _ rest l i.gone c.in-Some.ensures.steps.0;
       started = subst (AreChanging c.args.changer.now (take (length (done ++ l ∷ [])) changes))
           (sym c.push_reserved.ensures.items) more;
       seats = (All-pop (λ (r : ReaderState). g.W.Changer.table c.args.changer.now ≡ Some r.place)

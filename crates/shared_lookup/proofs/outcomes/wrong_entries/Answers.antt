@@ -11,17 +11,14 @@ loop-from-preserved c =
     let times = c.loop-from.times in
     let n = c.min-length.result in
     let least = c.min-length.ensures in
-    let less = c.loop-from-test.true in
     let before = c.loop-from.invariant in
     let here = c.wrong_behind-here.ensures in
     let taken : length (take n times) ≡ n = length-take-le n times (omega (arith, least)) in
-    let same = here.length in
     let left = length-drop n times in
     let all = length-append c.wrong_behind-here.new.times (drop n times) in
-    let whole = before.length in
     record {
-      within = omega (arith, least, less);
-      length = all ∙ omega (arith, same, taken, left, whole, least);
+      within = omega (arith, least, c.loop-from-test.true);
+      length = all ∙ omega (arith, here.length, taken, left, before.length, least);
       counted =
           subst (λ xs. CountsUpTo P xs c.saturating_add-wrong.result)
           (sym (range-append_from_zero from n))

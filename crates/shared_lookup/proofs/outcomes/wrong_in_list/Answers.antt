@@ -13,8 +13,7 @@ loop-place-preserved c =
     let ys = c.args.outcomes.now in
     let i = c.loop-place.place in
     let less = c.loop-place-test.true in
-    let same = c.requires in
-    let step = take-zip_more xs ys i _ _ less (omega (arith, less, same)) in
+    let step = take-zip_more xs ys i _ _ less (omega (arith, less, c.requires)) in
     subst (λ zs. CountsUpTo P zs c.if-is_wrong.wrong) (sym step)
     (elim c.if-is_wrong.branch [
       | then-is_wrong w ↦ up_to_yes P (take i (zip xs ys)) _ c.loop-place.wrong c.if-is_wrong.wrong
@@ -22,7 +21,7 @@ loop-place-preserved c =
           (w.wrong-is ∙ w.saturating_add-wrong.ensures)
       | else-is_wrong w ↦ up_to_no P (take i (zip xs ys)) _ c.loop-place.wrong c.if-is_wrong.wrong
           c.loop-place.invariant (λ h.
-          absurd (let e = c.is_wrong.ensures.1 h in let f = w.if-is_wrong.false in cc)) w.wrong-is
+          absurd (let e = c.is_wrong.ensures.1 h in cc (w.if-is_wrong.false))) w.wrong-is
     ])
 
 pub returns : goal.returns
@@ -31,8 +30,7 @@ returns c =
     let xs = c.args.changes.now in
     let ys = c.args.outcomes.now in
     let i = c.loop-place.place in
-    let past = c.loop-place-test.false in
     let all : length (zip xs ys) ≤ i =
-    (let n = length-zip xs ys in let s = c.requires in omega (arith, n, s, past)) in
+    (let n = length-zip xs ys in omega (arith, n, c.requires, c.loop-place-test.false)) in
     subst (λ zs. CountsUpTo P zs c.loop-place.wrong) (take_all i (zip xs ys) all)
     c.loop-place.invariant

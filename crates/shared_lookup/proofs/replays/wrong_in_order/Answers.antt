@@ -18,15 +18,14 @@ loop-answer-preserved c =
       table = e.done.2.1 ∙ ap (λ (t : LedgerState). with_log (take c.in_ok-here.now log) t)
           c.loop-answer.invariant.table;
       further = λ k l h. let rises = c.requires.ordered i k no_reference (omega (arith, l)) h in
-          let now = e.done.1 in
-          omega (arith, rises, now);
+          omega (arith, rises, e.done.1);
       count =
           elim c.if-here.branch [
             | then-here w ↦ let n = count_by_more_yes f answers i no_reference
                 c.loop-answer-test.true (sym e.wrong ∙ w.if-here.true) in
-                let is = w.wrong-is in omega (arith, n, is, more)
+                omega (arith, n, w.wrong-is, more)
             | else-here w ↦ let n = count_by_more_no f answers i no_reference
                 c.loop-answer-test.true (sym e.wrong ∙ w.if-here.false) in
-                let is = w.wrong-is in omega (arith, n, is, more)
+                omega (arith, n, w.wrong-is, more)
           ];
     }

@@ -28,6 +28,5 @@ stays w w' log l start (Err e) added same is =
 
 pub invariant_of-self : goal.invariant_of-self
 invariant_of-self c =
-    stays c.self.inside.writer c.add_reader.new.self c.self.inside.log.items c.self.inside.layout
-    c.self.inside.start c.add_reader.result c.add_reader.ensures.added
-    c.add_reader.ensures.unchanged c.self.invariant
+    stays _ _ _ _ _ c.add_reader.result c.add_reader.ensures.added c.add_reader.ensures.unchanged
+    c.self.invariant

@@ -9,7 +9,5 @@ invariant_of-self c =
 
 pub invariant_of-self-2 : goal.invariant_of-self-2
 invariant_of-self-2 c =
-    ledger_enlarged c.self.inside.writer c.args.l c.enlarge.new.self c.in_ok-readers.readers.items
-    c.in_ok-readers.ensures.enlarged c.self.invariant.rests
-    c.generation-generation.ensures.sound
-    c.self.inside.log.items c.self.inside.layout c.self.inside.start c.self.invariant
+    ledger_enlarged _ _ _ _ c.in_ok-readers.ensures.enlarged c.self.invariant.rests
+    c.generation-generation.ensures.sound _ _ _ c.self.invariant

@@ -13,8 +13,7 @@ returns-clause-made g c =
     let second = c.meet-ledger-2.ensures.reader.1 in
     made_beside c.args.c.now g.K.NamesTable.opened c.args.ch c.args.seat.knowledge.known
     c.meet-ledger.result.1.knowledge.known c.meet-ledger-2.result.1.knowledge.known l
-    c.change-outcome.new.self c.change-outcome.result
-    held.1 first.3.known
+    c.change-outcome.new.self c.change-outcome.result held.1 first.3.known
     (first.2 ∙ ap (λ (x : LedgerState). x.log) (sym c.meet-ledger.ensures.ledger))
     second.3.known second.2 changed.changed changed.refused changed.unchanged
 
