@@ -3,7 +3,5 @@ use Rattle.follower.proofs.follower.Follower.note.Goals as goal
 
 pub invariant_of-self-2 : goal.invariant_of-self-2
 invariant_of-self-2 c =
-    passes_on c.self.inside.writer c.begin_moment.new.writer c.finish.new.self
-    c.in_ok-previous.previous c.finish.result c.self.inside.catalogs.items
-    c.in_ok-previous.ensures.begun c.finish.ensures
+    passes_on _ _ _ _ _ _ c.in_ok-previous.ensures.begun c.finish.ensures
     (record { rests = c.self.invariant.rests; stands = c.self.invariant.stands })

@@ -6,9 +6,7 @@ use Rattle.follower.proofs.follower.Follower.note_gone.Goals as goal
 
 pub invariant_of-self-2 : goal.invariant_of-self-2
 invariant_of-self-2 c =
-    passes_on c.self.inside.writer c.begin_moment.new.writer c.finish.new.self
-    c.in_ok-previous.previous c.finish.result c.self.inside.catalogs.items
-    c.in_ok-previous.ensures.begun c.finish.ensures
+    passes_on _ _ _ _ _ _ c.in_ok-previous.ensures.begun c.finish.ensures
     (record { rests = c.self.invariant.rests; stands = c.self.invariant.stands })
 
 pub returns-clause-gone : goal.returns-clause-gone
@@ -26,8 +24,7 @@ returns-clause-gone c =
     subst (λ (f : Followed). NotesGone c.args.start c.args.since f new c.finish.result)
     c.self.view_is
     (record {
-      passed = passes_moment c.self.inside.writer c.begin_moment.new.writer c.finish.new.self
-          c.in_ok-previous.previous c.finish.result c.in_ok-previous.ensures.begun c.finish.ensures;
+      passed = passes_moment _ _ _ _ _ c.in_ok-previous.ensures.begun c.finish.ensures;
       ended = record {
         place = c.in-Some.place;
         code = code;
