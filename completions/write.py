@@ -33,7 +33,7 @@ Command = namedtuple("Command", "about rows options")
 def commands():
     """Each command with what the help says of it and its rows, in the order of the help."""
     text = (TOP / "crates/command_line/src/rows.rt").read_text().replace("\\\n", "")
-    conflicts = dict(re.findall(r'const (\w+): Option<Conflict> = Some\(Conflict \{\s+other: "([\w-]+)"', text))
+    conflicts = dict(re.findall(r'const (\w+): Option<Conflict> = conflict!\("([\w-]+)"', text))
     row = r'row!\((\w+) "([\w-]+)" \[(.*?)\]:\s+"(.*?)"((?:,\s+\w+: [\w"/-]+)*)\)'
 
     def read(kind, name, values, help, fields):

@@ -79,6 +79,13 @@ macro_rules! row {
     };
 }
 
+/// The name of another argument, and what is said if the two do not go together.
+macro_rules! conflict {
+    ($other:literal, $message:expr) => {
+        Some(Conflict { other: $other, message: $message })
+    };
+}
+
 // what is said of arguments that do not go together
 const SYMBOLS_HAVE_MODULES: &str =
     "--modules-from-symbols cannot be used with --modules or --regions";
@@ -99,49 +106,25 @@ const HISTORY_OR_FOLLOW: &str = "--history and --follow exclude each other";
 const CALLERS_OR_EXACT: &str = "--callers and --exact exclude each other";
 
 /// The modules come from the symbols, so none are listed.
-const FROM_SYMBOLS: Option<Conflict> = Some(Conflict {
-    other: "modules-from-symbols",
-    message: SYMBOLS_HAVE_MODULES,
-});
+const FROM_SYMBOLS: Option<Conflict> = conflict!("modules-from-symbols", SYMBOLS_HAVE_MODULES);
 
-const NEEDS_MODULES: Option<Conflict> = Some(Conflict {
-    other: "modules",
-    message: REGIONS_NEED_MODULES,
-});
+const NEEDS_MODULES: Option<Conflict> = conflict!("modules", REGIONS_NEED_MODULES);
 
 /// A word that is no option names the listing of symbols.
-const INSTEAD_OF_KALLSYMS: Option<Conflict> = Some(Conflict {
-    other: "kallsyms",
-    message: SYMBOLS_TWICE,
-});
+const INSTEAD_OF_KALLSYMS: Option<Conflict> = conflict!("kallsyms", SYMBOLS_TWICE);
 
 /// A history has the listings, so none are named.
-const FROM_HISTORY: Option<Conflict> = Some(Conflict {
-    other: "history",
-    message: HISTORY_HAS_LISTINGS,
-});
+const FROM_HISTORY: Option<Conflict> = conflict!("history", HISTORY_HAS_LISTINGS);
 
 /// A word that is no option names a listing of symbols as well.
-const INSTEAD_OF_LISTING: Option<Conflict> = Some(Conflict {
-    other: "listing",
-    message: HISTORY_OR_FILE,
-});
+const INSTEAD_OF_LISTING: Option<Conflict> = conflict!("listing", HISTORY_OR_FILE);
 
 /// A history is read once, so it is not followed.
-const NOT_BY_HISTORY: Option<Conflict> = Some(Conflict {
-    other: "history",
-    message: HISTORY_OR_FOLLOW,
-});
+const NOT_BY_HISTORY: Option<Conflict> = conflict!("history", HISTORY_OR_FOLLOW);
 
-const NEEDS_HISTORY: Option<Conflict> = Some(Conflict {
-    other: "history",
-    message: AT_NEEDS_HISTORY,
-});
+const NEEDS_HISTORY: Option<Conflict> = conflict!("history", AT_NEEDS_HISTORY);
 
-const NOT_EXACT: Option<Conflict> = Some(Conflict {
-    other: "exact",
-    message: CALLERS_OR_EXACT,
-});
+const NOT_EXACT: Option<Conflict> = conflict!("exact", CALLERS_OR_EXACT);
 
 /// Rows of several commands, or with a default.
 const MODULES: Argument = row!(Valued "modules" ["FILE"]:
