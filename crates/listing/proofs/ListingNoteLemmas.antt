@@ -27,9 +27,8 @@ both_named : (start end : Option ℕ) → is_some {T = ℕ × ℕ}
     (option_and_then (λ s. option_and_then (λ e. cond (nat_lt s e) (Some (s, e)) None) end) start)
     ≡ true
     → (is_some start ≡ true) × (is_some end ≡ true)
-both_named None end some = absurd (cc)
-both_named (Some s) None some = absurd (cc)
 both_named (Some s) (Some e) some = (refl, refl)
+both_named _ _ some = absurd (cc)
 
 -- what is listed without mapping symbols is listed
 any_passing : (p q : ListedSymbol → Bool) (symbols : List ListedSymbol)
@@ -66,10 +65,9 @@ kernel_named with_mapping names symbols some =
 -- what is missing is missing as a copy
 pub copied_none : {T : Type 0} (o : Option (Bor T)) (missing : Bool) → is_some o ≡ not missing
     → missing ≡ is_none (option_copied o)
-copied_none None true is = refl
 copied_none None false is = absurd (cc)
 copied_none (Some t) true is = absurd (cc)
-copied_none (Some t) false is = refl
+copied_none _ _ is = refl
 
 -- what is there is there as a copy
 pub copied_some : {T : Type 0} (o : Option (Bor T)) → is_some o ≡ is_some (option_copied o)

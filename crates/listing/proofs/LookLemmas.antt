@@ -38,12 +38,8 @@ some_of_three zero zero c =
 
 hidden_module : (r : Result ListedModule SkippedModule)
     → is_hidden_module r ≡ is_skipped_for module_place module_cause.Hidden r
-hidden_module (Ok m) = refl
-hidden_module (Err module_cause.Hidden) = refl
-hidden_module (Err module_cause.Empty) = refl
-hidden_module (Err module_cause.Wraps) = refl
-hidden_module (Err module_cause.Long) = refl
 hidden_module (Err module_cause.Malformed) = refl
+hidden_module _ = refl
 
 abbrev pub skipped_modules : SkippedModule → List (List ℕ) → ℕ
 skipped_modules cause lines = skipped_for module_place module_of_line lines cause
@@ -53,12 +49,8 @@ shown_first : (r : Result ListedModule SkippedModule) (ms : List ListedModule)
     ≡ length (cons_option (result_ok r) ms)
     + cond (is_skipped_for module_place module_cause.Empty r) 1 0
     + cond (is_skipped_for module_place module_cause.Wraps r) 1 0
-shown_first (Ok m) ms = omega arith
-shown_first (Err module_cause.Hidden) ms = omega arith
-shown_first (Err module_cause.Empty) ms = omega arith
-shown_first (Err module_cause.Wraps) ms = omega arith
-shown_first (Err module_cause.Long) ms = omega arith
 shown_first (Err module_cause.Malformed) ms = omega arith
+shown_first _ ms = omega arith
 
 -- the lines that are shown are those of modules, the empty ones and those that wrap
 shown_counted : (lines : List (List ℕ))
@@ -105,10 +97,8 @@ modules_hidden lines h l e w is_hidden is_listed is_empty is_wrapping =
 
 hidden_symbol : (r : Result ListedSymbol SkippedSymbol)
     → is_hidden_symbol r ≡ is_skipped_for symbol_place symbol_cause.Hidden r
-hidden_symbol (Ok s) = refl
-hidden_symbol (Err symbol_cause.Hidden) = refl
-hidden_symbol (Err symbol_cause.Long) = refl
 hidden_symbol (Err symbol_cause.Malformed) = refl
+hidden_symbol _ = refl
 
 first_taken : (r : Result ListedSymbol SkippedSymbol) (rest : Bool) (symbols : List ListedSymbol)
     → rest ≡ nat_lt 0 (length symbols)

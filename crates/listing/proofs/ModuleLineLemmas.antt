@@ -11,10 +11,8 @@ use Rattle.listing.specs.declared.module_listing.SkippedModule.TheVariants.{Wrap
 tests : (zero empty within : Bool) (x m : ListedModule)
     → cond zero (Err Hidden) (cond empty (Err Empty) (cond within (Ok x) (Err Wraps))) ≡ Ok m
     → (x ≡ m) × ((not zero && not empty && within) ≡ true)
-tests true empty within x m e = absurd (cc)
-tests false true within x m e = absurd (cc)
 tests false false true x m e = (cc, refl)
-tests false false false x m e = absurd (cc)
+tests _ _ _ x m e = absurd (cc)
 
 formed_fits : (o : Option ListedModule) (m : ListedModule) → checked_module o ≡ Ok m → fits m ≡ true
 formed_fits None m e = absurd (cc)
@@ -43,10 +41,5 @@ modules_fit (line ∷ lines) =
 
 -- only the first six words are looked at
 pub six_words : (words : List (List ℕ)) → module_of_words (take 6 words) ≡ module_of_words words
-six_words [] = refl
-six_words (a ∷ []) = refl
-six_words (a ∷ b ∷ []) = refl
-six_words (a ∷ b ∷ c ∷ []) = refl
-six_words (a ∷ b ∷ c ∷ d ∷ []) = refl
-six_words (a ∷ b ∷ c ∷ d ∷ e ∷ []) = refl
 six_words (a ∷ b ∷ c ∷ d ∷ e ∷ f ∷ words) = refl
+six_words _ = refl

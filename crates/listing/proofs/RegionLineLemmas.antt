@@ -20,19 +20,12 @@ use Rattle.texts.proofs.UnderstoodLemmas.{are_entries}
 
 pub region_short : (words : Words) → length words < 4
     → region_of_words (map (λ w. w.now) words) ≡ None
-region_short [] few = refl
-region_short (a ∷ []) few = refl
-region_short (a ∷ b ∷ []) few = refl
-region_short (a ∷ b ∷ c ∷ []) few = refl
 region_short (a ∷ b ∷ c ∷ d ∷ words) few = absurd (omega arith)
+region_short _ few = refl
 
 pub regions_too_long : (words : List (List ℕ)) → 4 < length words → region_of_words words ≡ None
-regions_too_long [] many = refl
-regions_too_long (a ∷ []) many = refl
-regions_too_long (a ∷ b ∷ []) many = refl
-regions_too_long (a ∷ b ∷ c ∷ []) many = refl
 regions_too_long (a ∷ b ∷ c ∷ d ∷ []) many = absurd (omega arith)
-regions_too_long (a ∷ b ∷ c ∷ d ∷ e ∷ words) many = refl
+regions_too_long _ many = refl
 
 -- ---- what is read is a region
 
@@ -48,27 +41,21 @@ placed_if false x is r e = absurd (cc)
 
 parts_fit : (name : List ℕ) (part : Option Part) (base size : Option ℕ)
     → IsFit (region_of_parts name part base size)
-parts_fit name None base size = none_fits
-parts_fit name (Some part) None size = none_fits
-parts_fit name (Some part) (Some base) None = none_fits
 parts_fit name (Some part) (Some base) (Some size) =
     let x : ListedRegion = record { name = name; part = part; base = base; size = size } in
     placed_if (region_fits x) x refl
+parts_fit name _ _ _ = none_fits
 
 named_fits : (b : Bool) (o : Option ListedRegion) → IsFit o → IsFit (cond b o None)
 named_fits true o fit = fit
 named_fits false o fit = none_fits
 
 words_fit : (words : List (List ℕ)) → IsFit (region_of_words words)
-words_fit [] = none_fits
-words_fit (a ∷ []) = none_fits
-words_fit (a ∷ b ∷ []) = none_fits
-words_fit (a ∷ b ∷ c ∷ []) = none_fits
 words_fit (name ∷ part ∷ base ∷ size ∷ []) =
     named_fits (nat_lt 0 (length name))
     (region_of_parts name (part_of part) (number_of base) (number_of size))
     (parts_fit name (part_of part) (number_of base) (number_of size))
-words_fit (a ∷ b ∷ c ∷ d ∷ e ∷ words) = none_fits
+words_fit _ = none_fits
 
 entry_in : LineMeaning ListedRegion → Option ListedRegion
 entry_in said = elim said [ Nothing ↦ None | One entry ↦ Some entry | Bad ↦ None ]
@@ -77,10 +64,8 @@ said_fits : (long passed : Bool) (o : Option ListedRegion) → IsFit o
     → IsFit
     (entry_in (cond long Bad (cond passed Nothing (option_map_or (λ entry. One entry) o Bad))))
 unfolding entry_in
-said_fits true passed o fit = none_fits
-said_fits false true o fit = none_fits
-said_fits false false None fit = none_fits
 said_fits false false (Some x) fit = fit
+said_fits _ _ _ fit = none_fits
 
 entry_fits : (line : List ℕ) → IsFit (entry_by region_by line)
 unfolding entry_in
