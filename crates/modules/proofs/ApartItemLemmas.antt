@@ -41,8 +41,6 @@ module _ (c : CatalogEntries) (sound : IsSoundCatalog c) where
     common_steps,
     nat_tests,
     All-contains,
-    all_regions,
-    Contains-map,
     all_regions c,
     Contains-map region_of (items_of c) x m,
   )
@@ -54,9 +52,6 @@ module _ (c : CatalogEntries) (sound : IsSoundCatalog c) where
     arith,
     common_steps,
     nat_tests,
-    begins,
-    ends,
-    same_or_apart,
     same_or_apart i y m h.0,
     begins addr y h.1,
     ends addr y h.1,

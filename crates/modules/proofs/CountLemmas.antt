@@ -6,13 +6,13 @@ use Rattle.modules.proofs.Words.{option_to_list, bytes_eq, first_so, rules, comm
 use Rattle.modules.proofs.Lemmas.{and_left, length-map, get_or-map, length-filter, sum_by-cons}
 use Rattle.modules.proofs.Lemmas.{list_any_none, count-and_false, count-or, count-or_apart}
 use Rattle.modules.proofs.Lemmas.{count_by-either, bytes_eq-one_name}
-use Rattle.modules.proofs.Definitions.{Accepted, accepted_of, after_module, names_of, none_yet}
+use Rattle.modules.proofs.Definitions.{Accepted, accepted_of, after_module, names_of}
 use Rattle.modules.proofs.Definitions.{built_in_of, catalog_of, catalog_with, counts_of, entries_of}
 use Rattle.modules.proofs.Definitions.{entry_for, ModuleEntry, AreDistinctNames, belongs, entry_of}
 use Rattle.modules.proofs.Definitions.{is_built_in, is_kept, lies_in, symbols_that, fits}
 use Rattle.modules.proofs.Definitions.{kernel_regions, region_fits, BoundNames, ListedModule}
 use Rattle.modules.proofs.Definitions.{ListedRegion, ListedSymbol, PlacedModule, are_few}
-use Rattle.modules.proofs.Definitions.{placed_line, lies_in_any}
+use Rattle.modules.proofs.Definitions.{lies_in_any}
 use Rattle.modules.proofs.AdmissionLemmas.{total, total-after_module}
 use Rattle.modules.proofs.SoundnessLemmas.{accepted_good}
 
@@ -25,11 +25,7 @@ pub modules_counted : (names : Option BoundNames) (modules : List ListedModule)
     (regions : List ListedRegion) (symbols : List ListedSymbol) → let n =
     counts_of names modules regions symbols in
     n.modules + n.double + n.overlap ≡ length modules
-modules_counted names modules regions symbols = omega (
-  arith,
-  total-fold (none_yet (kernel_regions names symbols)) (map (placed_line regions) modules),
-  length-map modules (placed_line regions),
-)
+modules_counted names modules regions symbols = grind (arith, total-fold, length-map)
 
 -- ---- each kept line is in one module
 
@@ -48,13 +44,7 @@ zero_for_all (x ∷ xs) = omega (arith, zero_for_all xs, sum_by-cons (homes []) 
 sum_of_both : (p : ListedSymbol → Bool) (n : ListedSymbol → ℕ) (xs : List ListedSymbol)
     → sum_by (λ x. cond (p x) 1 0 + n x) xs ≡ count_by p xs + sum_by n xs
 sum_of_both p n [] = omega arith
-sum_of_both p n (x ∷ xs) = omega (
-  arith,
-  sum_of_both p n xs,
-  sum_by-cons (λ y. cond (p y) 1 0 + n y) x xs,
-  sum_by-cons (λ y. cond (p y) 1 0) x xs,
-  sum_by-cons n x xs,
-)
+sum_of_both p n (x ∷ xs) = grind (arith, common_steps, sum_by-cons, sum_of_both p n xs)
 
 sum_agree : (f g : ListedSymbol → ℕ) (xs : List ListedSymbol) → ((x : ListedSymbol) → f x ≡ g x)
     → sum_by f xs ≡ sum_by g xs
@@ -124,9 +114,6 @@ kept_by_home built_in a (s ∷ symbols) same distinct = grind (
   arith,
   common_steps,
   nat_tests,
-  one_home,
-  unowned,
-  first_so,
   count-or_apart,
   sum_by-cons,
   kept_by_home built_in a symbols same distinct,
@@ -139,14 +126,8 @@ sum_of_modules : (symbols : List ListedSymbol) (lines : List PlacedModule)
     → sum_by (λ (m : ModuleEntry). length m.symbols) (map (entry_for symbols) lines)
     ≡ sum_by (λ m. count_by (belongs m) symbols) lines
 sum_of_modules symbols [] = refl
-sum_of_modules symbols (m ∷ ms) = omega (
-  arith,
-  length-symbols_that (belongs m) symbols,
-  sum_of_modules symbols ms,
-  sum_by-cons (λ (e : ModuleEntry). length e.symbols) (entry_for symbols m)
-      (map (entry_for symbols) ms),
-  sum_by-cons (λ n. count_by (belongs n) symbols) m ms,
-)
+sum_of_modules symbols (m ∷ ms) =
+    grind (arith, common_steps, sum_by-cons, length-symbols_that, sum_of_modules symbols ms)
 
 -- so that the lists have as many symbols as are kept
 pub kept_in_lists : (a : Accepted) (symbols : List ListedSymbol)
@@ -154,22 +135,13 @@ pub kept_in_lists : (a : Accepted) (symbols : List ListedSymbol)
     → length (symbols_that (is_built_in a.built_in) symbols)
     + sum_by (λ (m : ModuleEntry). length m.symbols) (map (entry_for symbols) a.modules)
     ≡ count_by (is_kept a) symbols
-kept_in_lists a symbols distinct = omega (
-  arith,
-  length-symbols_that (is_built_in a.built_in) symbols,
-  sum_of_modules symbols a.modules,
-  symbols_by_home a.modules symbols,
-  kept_by_home a.built_in a symbols refl distinct,
-)
+kept_in_lists a symbols distinct =
+    grind (arith, length-symbols_that, sum_of_modules, symbols_by_home, kept_by_home)
 
 none_built_in : (symbols : List ListedSymbol) → count_by (is_built_in []) symbols ≡ 0
 none_built_in [] = refl
-none_built_in (s ∷ symbols) = omega (
-  arith,
-  none_built_in symbols,
-  count-and_false (is_none s.owner),
-  sum_by-cons (λ x. cond (is_built_in [] x) 1 0) s symbols,
-)
+none_built_in (s ∷ symbols) =
+    grind (arith, common_steps, sum_by-cons, count-and_false, none_built_in symbols)
 
 sum_of_entries : (built_in : List (ℕ × ℕ)) (symbols : List ListedSymbol) (lines : List PlacedModule)
     → sum_by (λ (m : ModuleEntry). length m.symbols)

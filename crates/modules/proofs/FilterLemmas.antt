@@ -1,6 +1,6 @@
 -- Lists that are filtered twice, and the first element that passes.
 use Rattle.modules.proofs.Words.{◌≡◌, Bool, true, false, cond, List, [], ◌∷◌, refl, get_or}
-use Rattle.modules.proofs.Words.{arith, filter, find, slice_get, Some, All}
+use Rattle.modules.proofs.Words.{arith, filter, find, slice_get, All}
 use Rattle.std.specs.List.{list_all}
 use Rattle.modules.proofs.Lemmas.{All-cons, All-filter, All-head, All-nil, All-tail, and_left}
 use Rattle.modules.proofs.Lemmas.{and_parts, filter_passes}
@@ -31,10 +31,7 @@ filter_whole p (x ∷ xs) all = grind (arith, filter_whole p xs, and_left, and_p
 -- the first that passes is the first of those that pass
 pub find_first : {X : Type 0} (p : X → Bool) (xs : List X) → find p xs ≡ slice_get (filter p xs) 0
 find_first p [] = refl
-find_first p (x ∷ xs) =
-    elim (p x) as (λ b. cond b (Some x) (find p xs)
-    ≡ slice_get (cond b (x ∷ filter p xs) (filter p xs)) 0)
-    [ true ↦ refl | false ↦ find_first p xs ]
+find_first p (x ∷ xs) = grind (arith, find_first p xs)
 
 -- what follows from a test holds of all that pass it
 pub all_passing : {X : Type 0} (p : X → Bool) (Q : X → Type 0) (xs : List X)
