@@ -1,5 +1,5 @@
 -- What is said of the bytes of a text, where these are all that its reader had.
-use Rattle.texts.proofs.Words.{◌≡◌, ℕ, List, Option, Some, None, Result, Ok, Err, IfSome, subst}
+use Rattle.texts.proofs.Words.{◌≡◌, ℕ, List, Option, Some, None, Result, Err, IfSome, subst}
 use Rattle.texts.proofs.Words.{LineFault, Gives, GivesInGrammar}
 use Rattle.texts.specs.declared.faults.LineFault.TheVariants as line
 
@@ -12,10 +12,8 @@ of_read (Some l) bytes P read holds = subst P read holds
 module _ {V C : Type 0} (view : V → C) where
   gives : (r : Result V LineFault) (said : Result C ℕ) → GivesInGrammar view r said
       → Gives view r said
-  gives (Ok v) said is = is
-  gives (Err line.OutOfMemory) said is = is
   gives (Err line.Read) said is = absurd is
-  gives (Err (line.BadLine n)) said is = is
+  gives _ said is = is
 
   pub gives_read : (said : List ℕ → Result C ℕ) (left : Option (List ℕ)) (bytes : List ℕ)
       (r : Result V LineFault)

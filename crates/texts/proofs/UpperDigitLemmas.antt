@@ -7,13 +7,12 @@ use Rattle.std.specs.Prelude.{codes, nat_eq}
 pub starts_whole : (text other : List ℕ) → starts_with nat_eq text other ≡ true
     → length text ≡ length other → text ≡ other
 starts_whole [] [] e same = refl
-starts_whole [] (n ∷ other) e same = absurd (omega (arith, same))
-starts_whole (t ∷ text) [] e same = absurd (omega (arith, same))
 starts_whole (t ∷ text) (n ∷ other) e same =
     let parts = and_parts (nat_eq n t) (starts_with nat_eq text other) e in
     let first : n ≡ t = eqb-true n t parts.0 in
     ap (λ x. x ∷ text) (sym first)
     ∙ ap (λ (l : List ℕ). n ∷ l) (starts_whole text other parts.1 (omega (arith, same)))
+starts_whole _ _ e same = absurd (omega (arith, same))
 
 pub value_of_f : (text : List ℕ) → starts_with nat_eq text (codes "ffffffff") ≡ true
     → length text ≡ 8 → 4294967295 ≡ digits_value 16 text
