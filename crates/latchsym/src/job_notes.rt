@@ -88,25 +88,7 @@ fn put_run_note<W: Write>(
 fn is_overlap(note: Option<ListingNote>) -> bool
     ensures { result ≡ is_overlap note }
 {
-    match note {
-        Some(ListingNote::ModulesOverlap) => true,
-        None
-        | Some(
-            ListingNote::Empty
-            | ListingNote::Gzip
-            | ListingNote::Utf16
-            | ListingNote::AllHidden
-            | ListingNote::LooksLikeSymbols
-            | ListingNote::LooksLikeModules
-            | ListingNote::LinesEndInCrLf
-            | ListingNote::NoStart
-            | ListingNote::NoEnd
-            | ListingNote::OtherBoot
-            | ListingNote::NoModuleLine
-            | ListingNote::NoSymbolLine
-            | ListingNote::UnlistedOwner(_),
-        ) => false,
-    }
+    matches!(note, Some(ListingNote::ModulesOverlap))
 }
 
 /// Writes that modules overlap, and what a run is to be given.
