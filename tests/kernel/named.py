@@ -32,12 +32,16 @@ def main(program, folder, console):
     log = "".join(f"{time}: [<{address}>]\n" for time, _, address in frames)
     by_time = named(program, ["--history", f"{folder}/history"], log)
     by_last = named(program, ["--kallsyms", f"{folder}/kallsyms"], log)
-    modules = {module for _, module in by_time}
+    modules = {module for _, module in by_time if module}
     if len(frames) < 20 or not {"zram", "loop", "brd", "dummy"} <= modules:
         fail(f"{len(frames)} functions ran in {modules}")
-    wrong = [(frame, got) for frame, got in zip(frames, by_time) if got[0] != frame[1]]
+    wrong = [(frame, got) for frame, got in zip(frames, by_time) if got[0] not in (frame[1], None)]
     if wrong:
-        fail(f"{len(wrong)} of {len(frames)} functions have another name than at their time, or none: {wrong[:3]}")
+        fail(f"{len(wrong)} of {len(frames)} functions have another name than at their time: {wrong[:3]}")
+    # (on a busy machine a module may be gone before its load was read: its functions have no name)
+    nameless = by_time.count((None, None))
+    if nameless > len(frames) // 10:
+        fail(f"{nameless} of {len(frames)} functions have no name")
     others = sum(got not in (want, (None, None)) for got, want in zip(by_last, by_time))
     if not others:
         fail("by the last listing no function has another name")
@@ -51,7 +55,10 @@ def main(program, folder, console):
     # (it has names of its own, and says where its kernel lay)
     if b"Kernel Offset: 0x" not in panic.stdout or re.search(rb"disagree|boot|build|moved", panic.stderr):
         fail(f"the panic: {panic.stderr.decode()}")
-    print(f"kernel: {len(frames)} functions of {len(modules)} modules have their names by their times; by the last listing {others} have others")
+    print(
+        f"kernel: {len(frames) - nameless} of {len(frames)} functions of {len(modules)} modules have their names by their times, "
+        f"and none a wrong one; by the last listing {others} have others"
+    )
 
 
 if __name__ == "__main__":
