@@ -25,6 +25,25 @@ def named(program, words, log):
     return [NAMED.search(line).groups()[1:] for line in ran.stdout.splitlines()]
 
 
+def late_loads(history):
+    """When a module was there whose load was read too late, as on a busy machine: from a change that has it
+    as gone, though it did not stand, up to the next one that names it."""
+    standing, begun, spans = set(), {}, []
+    parts = iter(re.split(r"^(listing|change) (\S+)\n", history, flags=re.M)[1:])
+    for kind, time, body in zip(parts, parts, parts):
+        listed = set(re.findall(r"\t\[(\w+)\]$", body, re.M))
+        gone = set(re.findall(r"^gone (\S+)$", body, re.M))
+        ended = set(begun) if kind == "listing" else set(begun) & (listed | gone)
+        spans += [(begun.pop(module), float(time)) for module in ended]
+        begun.update((module, float(time)) for module in gone - standing)
+        standing = listed if kind == "listing" else standing - gone | listed
+    return spans + [(begin, float("inf")) for begin in begun.values()]
+
+
+def is_within(time, spans):
+    return any(begin <= time < end for begin, end in spans)
+
+
 def main(program, folder, console):
     if read(folder, "record.err") or read(folder, "record.status") != "0\n" or read(folder, "instances"):
         fail(f"recorded: {read(folder, 'record.err')} status {read(folder, 'record.status')} {read(folder, 'instances')}")
@@ -38,10 +57,11 @@ def main(program, folder, console):
     wrong = [(frame, got) for frame, got in zip(frames, by_time) if got[0] not in (frame[1], None)]
     if wrong:
         fail(f"{len(wrong)} of {len(frames)} functions have another name than at their time: {wrong[:3]}")
-    # (on a busy machine a module may be gone before its load was read: its functions have no name)
     nameless = by_time.count((None, None))
-    if nameless > len(frames) // 10:
-        fail(f"{nameless} of {len(frames)} functions have no name")
+    late = late_loads(read(folder, "history"))
+    lost = [frame for frame, got in zip(frames, by_time) if got[0] is None and not is_within(float(frame[0]), late)]
+    if lost or nameless > len(frames) // 10:
+        fail(f"{nameless} of {len(frames)} functions have no name, and {len(lost)} of them ran in a module that was read: {lost[:3]}")
     others = sum(got not in (want, (None, None)) for got, want in zip(by_last, by_time))
     if not others:
         fail("by the last listing no function has another name")
